@@ -1,0 +1,19 @@
+-- How the fields of an instruction lie in its word: the CPU instruction formats of MD00086.
+-- A field is stated by its place: `word / 2 ^ 21 % 32` are the five bits 25..21.
+use Rattle.std.specs.Prelude.{◌≡◌, ℕ, ◌/◌, ◌%◌, ◌^◌}
+
+-- the R-type format: opcode 31..26, rs 25..21, rt 20..16, rd 15..11, sa 10..6, function 5..0
+pub record RType (word opcode rs rt rd sa funct : ℕ) : Type 0 where
+  pub opcode_is : word / 2 ^ 26 ≡ opcode
+  pub rs_is : word / 2 ^ 21 % 2 ^ 5 ≡ rs
+  pub rt_is : word / 2 ^ 16 % 2 ^ 5 ≡ rt
+  pub rd_is : word / 2 ^ 11 % 2 ^ 5 ≡ rd
+  pub sa_is : word / 2 ^ 6 % 2 ^ 5 ≡ sa
+  pub funct_is : word % 2 ^ 6 ≡ funct
+
+-- the I-type format: opcode 31..26, rs 25..21, rt 20..16, immediate or offset 15..0
+pub record IType (word opcode rs rt low : ℕ) : Type 0 where
+  pub opcode_is : word / 2 ^ 26 ≡ opcode
+  pub rs_is : word / 2 ^ 21 % 2 ^ 5 ≡ rs
+  pub rt_is : word / 2 ^ 16 % 2 ^ 5 ≡ rt
+  pub low_is : word % 2 ^ 16 ≡ low

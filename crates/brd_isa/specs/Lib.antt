@@ -1,0 +1,4 @@
+pub mod Fields
+pub mod Codes
+pub mod Table
+pub mod Decoding

@@ -1,0 +1,14 @@
+//! The instructions of MIPS32 Release 1 (MD00086) that the board executes: a decoder, an encoder and their table.
+//!
+//! `specs/Table.antt` relates a word to the instruction that it stands for; `decode` and `encode` follow it both ways.
+#![tactic(auto)]
+
+mod decoder;
+mod encoder;
+mod fields;
+mod instruction;
+
+pub use decoder::decode;
+pub use encoder::encode;
+pub use fields::{Register, ShiftAmount};
+pub use instruction::{BranchOp, ImmediateOp, Insn, LoadOp, RegisterOp, ShiftOp, StoreOp};

@@ -1,0 +1,26 @@
+-- What a fetch, a load and a store do (own choice where MD00086 leaves it): alignment is tested first, by an address
+-- error, then whether RAM has the address, by a bus error.
+use Rattle.std.specs.Prelude.{◌≡◌, ℕ, ◌-◌, ◌%◌, ◌==◌, if◌then◌else◌, List, length, Result, Ok, Err}
+use Rattle.brd_mem.specs.Memory.{base, contains, word_at, put_word}
+use Rattle.brd_mem.specs.declared.fault.Exc.{Exc}
+use Rattle.brd_mem.specs.declared.fault.Exc.TheVariants.{AdEL, AdES, IBE, DBE}
+
+-- the instruction word at an address
+abbrev pub fetched : List ℕ → ℕ → Result ℕ Exc
+fetched memory address =
+    if address % 4 == 0 then (if contains (length memory) address 4 then Ok (word_at memory (address - base)) else Err IBE) else Err AdEL
+
+-- the data word at an address
+abbrev pub loaded32 : List ℕ → ℕ → Result ℕ Exc
+loaded32 memory address =
+    if address % 4 == 0 then (if contains (length memory) address 4 then Ok (word_at memory (address - base)) else Err DBE) else Err AdEL
+
+-- the memory with a data word stored at an address
+abbrev pub stored32 : List ℕ → ℕ → ℕ → Result (List ℕ) Exc
+stored32 memory address word =
+    if address % 4 == 0 then (if contains (length memory) address 4 then Ok (put_word memory (address - base) word) else Err DBE) else Err AdES
+
+-- A store that succeeds leaves the stored memory; one that is refused leaves memory as it was.
+abbrev pub Stores : Result (List ℕ) Exc → List ℕ → Result Unit Exc → List ℕ → Type 0
+Stores stored old (Ok x) new = stored ≡ Ok new
+Stores stored old (Err exc) new = (stored ≡ Err exc) × (new ≡ old)
