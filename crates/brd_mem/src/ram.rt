@@ -118,7 +118,8 @@ impl Ram {
     /// Writes these bytes from an address on.
     pub fn copy_in(&mut self, address: u32, bytes: &[u8])
         requires { contains (length self.old) address (length bytes.now) ≡ true }
-        ensures { self.new ≡ copied self.old address bytes.now }
+        ensures is { self.new ≡ copied self.old address bytes.now }
+        ensures same_size { length self.new ≡ length self.old }
     {
         let at = (address - BASE) as usize;
         self.bytes[at..at + bytes.len()].copy_from_slice(bytes);

@@ -1,0 +1,52 @@
+-- Boot: the board that an image makes. RAM has 64 KiB; task 1 is started at the image's first address with priority 1 and its
+-- stack at the end of RAM.
+use Rattle.std.specs.Prelude.{◌≡◌, ℕ, ◌+◌, ◌^◌, Bool, true, false, ◌&&◌, if◌then◌else◌, List, [], ◌∷◌, length, replicate, None, Result, Ok, Err}
+use Rattle.brd_mem.specs.declared.image.Image.{Image}
+use Rattle.brd_mem.specs.declared.image.Segment.{Segment}
+use Rattle.brd_mem.specs.Memory.{base, contains, copied}
+use Rattle.brd_mem.specs.Image.{image_of_words}
+use Rattle.brd_exec.specs.State.{opening}
+use Rattle.brd_board.specs.Board.{BoardState}
+use Rattle.brd_board.specs.declared.boot.BootFault.{BootFault}
+use Rattle.brd_board.specs.declared.boot.BootFault.TheVariants.{NoMemory, UnknownSymbol, Outside}
+use Rattle.brd_board.specs.declared.task.TaskState.TheVariants.{Ready}
+
+abbrev pub ram_size : ℕ
+ram_size = 2 ^ 16
+
+-- each segment lies inside a RAM of that size
+abbrev pub are_inside : ℕ → List Segment → Bool
+are_inside size [] = true
+are_inside size (segment ∷ others) = contains size segment.address (length segment.bytes) && are_inside size others
+
+-- the memory with the segments' bytes in their places
+abbrev pub loaded : List ℕ → List Segment → List ℕ
+loaded memory [] = memory
+loaded memory (segment ∷ others) = loaded (copied memory segment.address segment.bytes) others
+
+-- a board that starts over a memory: on, at count 0, its task about to run
+abbrev pub started : List ℕ → BoardState
+started memory = record {
+  off = false;
+  count = 0;
+  memory = memory;
+  state = Ready;
+  context = opening base 0 (base + ram_size);
+  fault = None;
+}
+
+-- the board that an image makes: its bytes, and zero elsewhere; or what keeps it from starting
+abbrev pub boot : Image → Result BoardState BootFault
+boot image =
+    if are_inside ram_size image.segments then Ok (started (loaded (replicate ram_size 0) image.segments)) else Err Outside
+
+-- the board of a list of words
+unfoldable pub boot_words : List ℕ → Result BoardState BootFault
+boot_words words = boot (image_of_words words)
+
+-- A function that boots answers this, or want of memory.
+abbrev pub Boots : Result BoardState BootFault → Result BoardState BootFault → Type 0
+Boots meant (Ok board) = meant ≡ Ok board
+Boots meant (Err NoMemory) = Unit {0}
+Boots meant (Err UnknownSymbol) = meant ≡ Err UnknownSymbol
+Boots meant (Err Outside) = meant ≡ Err Outside

@@ -1,0 +1,200 @@
+//! The board.
+
+ghost use Rattle.std.specs.Prelude.{◌≡◌, option_map};
+ghost use Rattle.brd_board.specs.Board.{happens, stepped, ticked, after, standing_of, registers_of, fault_of, task_of};
+ghost use Rattle.brd_board.specs.Boot.{boot, boot_words, Boots};
+ghost use Rattle.brd_mem.specs.Memory.{byte_at};
+
+use crate::boot::BootFault;
+use crate::event::{Event, Report};
+use crate::load::{empty_ram, load};
+use crate::task::{TaskState, TaskView};
+use crate::view::{Fault, Standing};
+use brd_exec::{Context, Outcome, run};
+use brd_mem::{BASE, Image, Ram};
+use std::alloc::Global;
+use std::marker::Model;
+
+/// The address behind RAM, where the task's stack begins.
+const STACK: u32 = 0x8001_0000;
+
+/// The last tick that is counted.
+const LAST_COUNT: u64 = 9_223_372_036_854_775_807;
+
+/// The board.
+#[derive(Drop)]
+pub struct Board {
+    off: bool,
+    count: u64,
+    ram: Ram,
+    state: TaskState,
+    context: Context,
+    fault: Option<Fault>,
+}
+
+impl Model for Board {
+    ghost use Rattle.brd_board.specs.Board.{BoardState};
+
+    ghost Value = { BoardState };
+
+    ghost view = { λ b. record { off = b.off; count = b.count; memory = b.ram; state = b.state; context = b.context; fault = b.fault } };
+}
+
+impl Board {
+    /// The board of these words: they lie from 0x80000000 on in 64 KiB of RAM, and task 1 is about to run at the first of them,
+    /// with its stack at the end of RAM. More than 16,384 words are `Outside`.
+    #[tactic(auto, unfolding(crate::specs::Boot::boot_words))]
+    pub fn from_words(alloc: Global, words: &[u32]) -> Result<Board, BootFault>
+        ensures { Boots (boot_words words.now) result }
+    {
+        let image = Image::from_words(alloc, words)?;
+        Board::boot(alloc, &image)
+    }
+
+    /// The board of an image.
+    fn boot(alloc: Global, image: &Image) -> Result<Board, BootFault>
+        ensures { Boots (boot image.now) result }
+    {
+        let mut ram = empty_ram(alloc)?;
+        if !load(&mut ram, image.segments.as_slice()) {
+            return Err(BootFault::Outside);
+        }
+        Ok(Board {
+            off: false,
+            count: 0,
+            ram,
+            state: TaskState::Ready,
+            context: Context::opening(BASE, 0, STACK),
+            fault: None,
+        })
+    }
+
+    /// Does one event. It takes no memory.
+    #[tactic(auto, unfolding(crate::specs::Board::happens))]
+    pub fn event(&mut self, event: Event) -> Report
+        ensures { record { board = self.new; report = result } ≡ happens self.old event }
+    {
+        if self.off {
+            return Report::Off;
+        }
+        match event {
+            Event::Step(cpu) => {
+                if cpu == 1 {
+                    self.step()
+                } else {
+                    Report::NoSuch
+                }
+            }
+            Event::Tick => self.tick(),
+            Event::Raise(_) => Report::NoSuch,
+        }
+    }
+
+    /// Does the events of a list, one after the other.
+    pub fn play(&mut self, events: &[Event])
+        ensures { self.new ≡ after self.old events.now }
+    {
+        for event in events {
+            let _ = self.event(*event);
+        }
+    }
+
+    /// The processor executes one instruction of the running task.
+    fn step(&mut self) -> Report
+        ensures { record { board = self.new; report = result } ≡ stepped self.old }
+    {
+        if self.state != TaskState::Ready {
+            return Report::Idle;
+        }
+        let address = self.context.pc();
+        match run(&mut self.context, &mut self.ram) {
+            Outcome::Done => Report::Ran(address),
+            Outcome::Exception { code, epc, bd } => {
+                self.state = TaskState::Dormant;
+                self.fault = Some(Fault { code, epc, bd });
+                Report::Faulted(address)
+            }
+        }
+    }
+
+    /// A tick passes.
+    fn tick(&mut self) -> Report
+        ensures { record { board = self.new; report = result } ≡ ticked self.old }
+    {
+        if self.count >= LAST_COUNT {
+            return Report::TimeOver;
+        }
+        self.count += 1;
+        Report::Ticked
+    }
+
+    /// What a processor is doing, where there is one of that number.
+    pub fn standing(&self, cpu: u8) -> Option<Standing>
+        ensures { result ≡ standing_of self.now cpu }
+    {
+        if cpu != 1 {
+            return None;
+        }
+        match self.state {
+            TaskState::Ready => Some(Standing::Task(1)),
+            _ => Some(Standing::Idle),
+        }
+    }
+
+    /// The context of the task that runs on a processor; None where none does.
+    pub fn registers(&self, cpu: u8) -> Option<Context>
+        ensures { result ≡ registers_of self.now cpu }
+    {
+        if cpu != 1 || self.state != TaskState::Ready {
+            return None;
+        }
+        Some(self.context)
+    }
+
+    /// The byte at an address, where RAM has one.
+    pub fn memory(&self, address: u32) -> Option<u8>
+        ensures { result ≡ byte_at self.now.memory address }
+    {
+        self.ram.byte(address)
+    }
+
+    /// A task as it stands, where there is one of that number.
+    pub fn task(&self, id: u16) -> Option<TaskView>
+        ensures { result ≡ task_of self.now id }
+    {
+        if id != 1 {
+            return None;
+        }
+        Some(TaskView {
+            state: self.state,
+            priority: 1,
+            cpu: 1,
+            waiting: None,
+            due: None,
+            activations: 0,
+            wakeups: 0,
+            context: self.context,
+        })
+    }
+
+    /// The last exception that a processor's task raised.
+    pub fn last_fault(&self, cpu: u8) -> Option<Fault>
+        ensures { result ≡ fault_of self.now cpu }
+    {
+        if cpu == 1 { self.fault } else { None }
+    }
+
+    /// How many ticks have passed.
+    pub fn now(&self) -> u64
+        ensures { result ≡ self.now.count }
+    {
+        self.count
+    }
+
+    /// Whether the board is off.
+    pub fn is_off(&self) -> bool
+        ensures { result ≡ self.now.off }
+    {
+        self.off
+    }
+}

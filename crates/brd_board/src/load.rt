@@ -1,0 +1,36 @@
+//! Putting an image into memory.
+
+ghost use Rattle.std.specs.Prelude.{◌≡◌, length, replicate, IfOk, true, false, MatchBool};
+ghost use Rattle.brd_board.specs.Boot.{are_inside, loaded, ram_size};
+
+use crate::boot::BootFault;
+use brd_mem::{NoMemory, Ram, Segment};
+use std::alloc::Global;
+
+/// How many bytes of RAM the board has.
+const RAM_SIZE: u32 = 0x1_0000;
+
+/// The RAM, all zero.
+pub fn empty_ram(alloc: Global) -> Result<Ram, NoMemory>
+    ensures { IfOk result (λ ram. ram ≡ replicate ram_size 0) }
+{
+    match Ram::new(alloc, RAM_SIZE) {
+        Ok(ram) => Ok(ram),
+        Err(_) => Err(NoMemory),
+    }
+}
+
+/// Puts each segment into its place. Answers whether all of them are inside RAM.
+pub fn load(ram: &mut Ram, segments: &[Segment]) -> bool
+    ensures inside { result ≡ are_inside (length ram.old) segments.now }
+    ensures is { result ≡ true → ram.new ≡ loaded ram.old segments.now }
+{
+    for segment in segments {
+        let bytes = segment.bytes.as_slice();
+        if !ram.contains(segment.address, bytes.len()) {
+            return false;
+        }
+        ram.copy_in(segment.address, bytes);
+    }
+    true
+}

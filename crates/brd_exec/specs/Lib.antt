@@ -1,0 +1,6 @@
+pub mod State
+pub mod Values
+pub mod Exception
+pub mod Step
+pub use Rattle.brd_mem.specs.Memory
+pub use Rattle.brd_mem.specs.Access

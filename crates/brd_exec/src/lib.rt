@@ -1,0 +1,13 @@
+//! What one instruction does to a processor's context and to memory.
+//!
+//! The definition is `specs/Step.antt`; `run` does exactly that, and takes no memory.
+#![tactic(auto)]
+
+mod context;
+mod execute;
+mod outcome;
+mod value;
+
+pub use context::Context;
+pub use execute::run;
+pub use outcome::{ExceptionCode, Outcome};
