@@ -1,9 +1,10 @@
 //! The board.
 
-ghost use Rattle.std.specs.Prelude.{◌≡◌, option_map};
+ghost use Rattle.std.specs.Prelude.{◌≡◌};
 ghost use Rattle.brd_board.specs.Board.{happens, stepped, ticked, after, standing_of, registers_of, fault_of, task_of};
 ghost use Rattle.brd_board.specs.Boot.{boot, boot_words, Boots};
 ghost use Rattle.brd_mem.specs.Memory.{byte_at};
+ghost use Rattle.brd_mem.specs.Image.{image_of_words};
 
 use crate::boot::BootFault;
 use crate::event::{Event, Report};
@@ -43,15 +44,16 @@ impl Model for Board {
 impl Board {
     /// The board of these words: they lie from 0x80000000 on in 64 KiB of RAM, and task 1 is about to run at the first of them,
     /// with its stack at the end of RAM. More than 16,384 words are `Outside`.
-    #[tactic(auto, unfolding(crate::specs::Boot::boot_words))]
     pub fn from_words(alloc: Global, words: &[u32]) -> Result<Board, BootFault>
-        ensures { Boots (boot_words words.now) result }
+        ensures image { Boots (boot (image_of_words words.now)) result }
+        ensures words { Boots (boot_words words.now) result }
     {
         let image = Image::from_words(alloc, words)?;
         Board::boot(alloc, &image)
     }
 
-    /// The board of an image.
+    /// The board of an image, as `from_words` says.
+    #[tactic(auto, unfolding(crate::specs::Boot::ram_size))]
     fn boot(alloc: Global, image: &Image) -> Result<Board, BootFault>
         ensures { Boots (boot image.now) result }
     {
@@ -177,7 +179,7 @@ impl Board {
         })
     }
 
-    /// The last exception that a processor's task raised.
+    /// The last exception on a processor.
     pub fn last_fault(&self, cpu: u8) -> Option<Fault>
         ensures { result ≡ fault_of self.now cpu }
     {

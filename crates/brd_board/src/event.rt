@@ -3,7 +3,7 @@
 /// One thing that happens to the board.
 #[derive(Clone, Copy, Debug, PartialEq, Eq)]
 pub enum Event {
-    /// A processor, counted from 1, executes one instruction.
+    /// A processor, counted from 1, does its next step: mostly one instruction.
     Step(u8),
     /// A tick passes.
     Tick,

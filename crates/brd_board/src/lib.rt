@@ -15,3 +15,6 @@ pub use boot::BootFault;
 pub use event::{Event, Report};
 pub use task::{TaskState, TaskView, WaitReason};
 pub use view::{Fault, Standing};
+
+#[cfg(test)]
+mod tests;

@@ -1,6 +1,6 @@
 //! Putting an image into memory.
 
-ghost use Rattle.std.specs.Prelude.{◌≡◌, length, replicate, IfOk, true, false, MatchBool};
+ghost use Rattle.std.specs.Prelude.{◌≡◌, length, replicate, IfOk, true};
 ghost use Rattle.brd_board.specs.Boot.{are_inside, loaded, ram_size};
 
 use crate::boot::BootFault;
@@ -11,6 +11,7 @@ use std::alloc::Global;
 const RAM_SIZE: u32 = 0x1_0000;
 
 /// The RAM, all zero.
+#[tactic(auto, unfolding(crate::specs::Boot::ram_size))]
 pub fn empty_ram(alloc: Global) -> Result<Ram, NoMemory>
     ensures { IfOk result (λ ram. ram ≡ replicate ram_size 0) }
 {

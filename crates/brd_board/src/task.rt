@@ -2,7 +2,7 @@
 
 use brd_exec::Context;
 
-/// A task's state (uITRON 4.0 specification, section 2.2.1, "Task States").
+/// A task's state (uITRON 4.0 specification, "Task States").
 #[derive(Clone, Copy, Debug, PartialEq, Eq)]
 pub enum TaskState {
     /// Not started, or ended.
@@ -11,13 +11,13 @@ pub enum TaskState {
     Ready,
     /// Waits for something.
     Waiting,
-    /// Kept from running by another task.
+    /// Kept from running by sus_tsk.
     Suspended,
     /// Both.
     WaitingSuspended,
 }
 
-/// What a task waits for (uITRON 4.0 specification, section 4.1, `tskwait`).
+/// What a task waits for (uITRON 4.0 specification, the `tskwait` of ref_tsk).
 #[derive(Clone, Copy, Debug, PartialEq, Eq)]
 pub enum WaitReason {
     /// A wake-up.

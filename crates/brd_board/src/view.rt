@@ -15,7 +15,7 @@ pub enum Standing {
     Handler(u8),
 }
 
-/// An exception that ended a task.
+/// An exception as a processor keeps it.
 #[derive(Clone, Copy, Debug, PartialEq, Eq)]
 pub struct Fault {
     /// Which one.

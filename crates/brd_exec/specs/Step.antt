@@ -78,8 +78,8 @@ of_fetch s memory (Ok word) = of_word s memory (decoded word)
 unfoldable pub effect : State → List ℕ → Effect
 effect s memory = of_fetch s memory (fetched memory s.pc)
 
--- The exception program counter: the instruction's address; in a delay slot that of the branch before it, so that
--- both are done again.
+-- The exception program counter (MD00090, the EPC register): the instruction's address; in a delay slot that of the branch before it,
+-- from which a handler would have both done again.
 abbrev pub epc_of : State → ℕ
 epc_of s = if s.slot then (s.pc + (2 ^ 32 - 4)) % 2 ^ 32 else s.pc
 

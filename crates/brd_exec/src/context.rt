@@ -1,6 +1,6 @@
 //! The context of a processor.
 
-ghost use Rattle.std.specs.Prelude.{◌≡◌, ◌%◌, ◌+◌, ◌^◌};
+ghost use Rattle.std.specs.Prelude.{◌≡◌};
 ghost use Rattle.brd_exec.specs.State.{State, opening, read, write, advanced, branched, address_of};
 
 use brd_isa::Register;
@@ -8,8 +8,8 @@ use brd_word::sign16;
 use std::marker::Model;
 
 /// 32 registers, of which register 0 is always 0, HI, LO, the addresses of the next instruction and of the one after it,
-/// and whether the next one is in a delay slot (MD00086, "CPU Registers"; own choice: `npc` and `slot` in place of a
-/// pending branch).
+/// and whether the next one is in a delay slot (the programming model of MIPS32, MD00082; own choice: `npc` and `slot` in place
+/// of a pending branch).
 #[derive(Clone, Copy, Debug, PartialEq, Eq)]
 pub struct Context {
     registers: [u32; 32],
@@ -56,6 +56,13 @@ impl Context {
         ensures { result ≡ read self.now register }
     {
         self.registers[register.number() as usize]
+    }
+
+    /// The words of the registers, in the order of their numbers.
+    pub fn registers(&self) -> &[u32]
+        ensures { result.now ≡ self.now.registers }
+    {
+        self.registers.as_slice()
     }
 
     /// The HI register.

@@ -1,6 +1,6 @@
 //! What the instructions compute.
 
-ghost use Rattle.std.specs.Prelude.{◌≡◌, ◌<◌};
+ghost use Rattle.std.specs.Prelude.{◌≡◌};
 ghost use Rattle.brd_exec.specs.Values.{shift_gives, register_gives, immediate_gives, is_taken};
 
 use brd_isa::{BranchOp, ImmediateOp, RegisterOp, ShiftAmount, ShiftOp};

@@ -1,5 +1,5 @@
 -- The instruction that a word stands for, as a function: what the meaning of a step is stated with. That it is the
--- one of the table, and nothing where the table has none, is what `decode` promises.
+-- table's, and nothing where the table has none, is proved as `laws::follows_the_table`.
 use Rattle.std.specs.Prelude.{ℕ, ◌/◌, ◌%◌, ◌^◌, ◌==◌, if◌then◌else◌, Option, None, Some}
 use Rattle.brd_isa.specs.declared.instruction.Insn.{Insn}
 use Rattle.brd_isa.specs.declared.instruction.Insn.TheVariants.{Shift, ThreeRegisters, Branch, Immediate, LoadUpper, Load, Store}

@@ -1,4 +1,5 @@
--- How the fields of an instruction lie in its word: the CPU instruction formats of MD00086.
+-- How the fields of an instruction lie in its word: the formats R-type and I-type of the CPU instructions (MD00086, the encoding at the
+-- head of each entry).
 -- A field is stated by its place: `word / 2 ^ 21 % 32` are the five bits 25..21.
 use Rattle.std.specs.Prelude.{◌≡◌, ℕ, ◌/◌, ◌%◌, ◌^◌}
 

@@ -1,6 +1,6 @@
 //! From an instruction to the word that stands for it.
 
-ghost use Rattle.std.specs.Prelude.{◌≡◌, ◌<◌, Some};
+ghost use Rattle.std.specs.Prelude.{◌≡◌, ◌<◌};
 ghost use Rattle.brd_isa.specs.Fields.{RType, IType};
 ghost use Rattle.brd_isa.specs.Codes.{
   shift_funct,
@@ -11,7 +11,6 @@ ghost use Rattle.brd_isa.specs.Codes.{
   store_opcode,
 };
 ghost use Rattle.brd_isa.specs.Table.{StandsFor};
-ghost use Rattle.brd_isa.specs.Decoding.{decoded};
 
 use crate::fields::{Register, ShiftAmount};
 use crate::instruction::{BranchOp, ImmediateOp, Insn, LoadOp, RegisterOp, ShiftOp, StoreOp};

@@ -1,4 +1,4 @@
-//! The instructions, by the form of their operands. Operands stand in the order of the assembler's.
+//! The instructions, by the form of their operands.
 
 use crate::fields::{Register, ShiftAmount};
 

@@ -7,6 +7,7 @@ mod decoder;
 mod encoder;
 mod fields;
 mod instruction;
+pub mod laws;
 
 pub use decoder::decode;
 pub use encoder::encode;

@@ -5,15 +5,18 @@ use Rattle.brd_mem.specs.Memory.{base, contains, word_at, put_word}
 use Rattle.brd_mem.specs.declared.fault.Exc.{Exc}
 use Rattle.brd_mem.specs.declared.fault.Exc.TheVariants.{AdEL, AdES, IBE, DBE}
 
+-- the word at an address, or what is raised outside RAM
+abbrev pub found_word : Exc → List ℕ → ℕ → Result ℕ Exc
+found_word outside memory address =
+    if address % 4 == 0 then (if contains (length memory) address 4 then Ok (word_at memory (address - base)) else Err outside) else Err AdEL
+
 -- the instruction word at an address
 abbrev pub fetched : List ℕ → ℕ → Result ℕ Exc
-fetched memory address =
-    if address % 4 == 0 then (if contains (length memory) address 4 then Ok (word_at memory (address - base)) else Err IBE) else Err AdEL
+fetched memory address = found_word IBE memory address
 
 -- the data word at an address
 abbrev pub loaded32 : List ℕ → ℕ → Result ℕ Exc
-loaded32 memory address =
-    if address % 4 == 0 then (if contains (length memory) address 4 then Ok (word_at memory (address - base)) else Err DBE) else Err AdEL
+loaded32 memory address = found_word DBE memory address
 
 -- the memory with a data word stored at an address
 abbrev pub stored32 : List ℕ → ℕ → ℕ → Result (List ℕ) Exc

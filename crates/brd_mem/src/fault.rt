@@ -31,7 +31,7 @@ pub enum RamFault {
     BadSize,
 }
 
-/// The exception that a memory access raises (MD00090, "Exception Processing": address error and bus error).
+/// The exception that a memory access raises (MD00090, "Address Error Exception" and "Bus Error Exception").
 #[derive(Clone, Copy, Debug, PartialEq, Eq)]
 pub enum Exc {
     /// Address error, load or fetch: the address isn't aligned.

@@ -3,7 +3,6 @@
 ghost use Rattle.std.specs.Prelude.{◌≡◌, ℕ, List, [], ◌∷◌, ◌++◌, ◌↔◌, length, IfOk, OnOk, OnErr, IsTrue};
 
 use crate::fault::NoMemory;
-use crate::plain::{are_ascending, are_named};
 use crate::ram::BASE;
 use crate::words::bytes_of_words;
 use std::alloc::Global;
@@ -12,13 +11,13 @@ use std::marker::Model;
 /// A list of bytes.
 #[derive(Drop)]
 pub struct Bytes {
-    items: Vec<u8>,
+    bytes: Vec<u8>,
 }
 
 impl Model for Bytes {
     ghost Value = { List ℕ };
 
-    ghost view = { λ bytes. bytes.items.items };
+    ghost view = { λ list. list.bytes.items };
 }
 
 impl Bytes {
@@ -27,7 +26,7 @@ impl Bytes {
         ensures { result ≡ [] }
     {
         Bytes {
-            items: Vec::new(alloc),
+            bytes: Vec::new(alloc),
         }
     }
 
@@ -36,7 +35,7 @@ impl Bytes {
         ensures ok { OnOk result (self.new ≡ self.old ++ more.now) }
         ensures err { OnErr result (self.new ≡ self.old) }
     {
-        self.items.extend_from_slice(more)?;
+        self.bytes.extend_from_slice(more)?;
         Ok(())
     }
 
@@ -44,21 +43,21 @@ impl Bytes {
     pub fn len(&self) -> usize
         ensures { result ≡ length self.now }
     {
-        self.items.len()
+        self.bytes.len()
     }
 
     /// Whether there are none.
     pub fn is_empty(&self) -> bool
         ensures { IsTrue result ↔ (self.now ≡ []) }
     {
-        self.items.is_empty()
+        self.bytes.is_empty()
     }
 
     /// The bytes.
     pub fn as_slice(&self) -> &[u8]
         ensures { result.now ≡ self.now }
     {
-        self.items.as_slice()
+        self.bytes.as_slice()
     }
 }
 
@@ -83,7 +82,7 @@ pub struct Symbol {
 /// A list of segments.
 #[derive(Drop)]
 pub struct Segments {
-    items: Vec<Segment>,
+    segments: Vec<Segment>,
 }
 
 impl Model for Segments {
@@ -92,7 +91,7 @@ impl Model for Segments {
 
     ghost Value = { List Segment };
 
-    ghost view = { λ segments. segments.items.items };
+    ghost view = { λ list. list.segments.items };
 }
 
 impl Segments {
@@ -101,7 +100,7 @@ impl Segments {
         ensures { result ≡ [] }
     {
         Segments {
-            items: Vec::new(alloc),
+            segments: Vec::new(alloc),
         }
     }
 
@@ -110,7 +109,7 @@ impl Segments {
         ensures ok { OnOk result (self.new ≡ self.old ++ segment ∷ []) }
         ensures err { OnErr result (self.new ≡ self.old) }
     {
-        self.items.push(segment)?;
+        self.segments.push(segment)?;
         Ok(())
     }
 
@@ -118,14 +117,14 @@ impl Segments {
     pub fn as_slice(&self) -> &[Segment]
         ensures { result.now ≡ self.now }
     {
-        self.items.as_slice()
+        self.segments.as_slice()
     }
 }
 
 /// A list of symbols.
 #[derive(Drop)]
 pub struct Symbols {
-    items: Vec<Symbol>,
+    symbols: Vec<Symbol>,
 }
 
 impl Model for Symbols {
@@ -134,7 +133,7 @@ impl Model for Symbols {
 
     ghost Value = { List Symbol };
 
-    ghost view = { λ symbols. symbols.items.items };
+    ghost view = { λ list. list.symbols.items };
 }
 
 impl Symbols {
@@ -143,7 +142,7 @@ impl Symbols {
         ensures { result ≡ [] }
     {
         Symbols {
-            items: Vec::new(alloc),
+            symbols: Vec::new(alloc),
         }
     }
 
@@ -152,7 +151,7 @@ impl Symbols {
         ensures ok { OnOk result (self.new ≡ self.old ++ symbol ∷ []) }
         ensures err { OnErr result (self.new ≡ self.old) }
     {
-        self.items.push(symbol)?;
+        self.symbols.push(symbol)?;
         Ok(())
     }
 
@@ -160,7 +159,7 @@ impl Symbols {
     pub fn as_slice(&self) -> &[Symbol]
         ensures { result.now ≡ self.now }
     {
-        self.items.as_slice()
+        self.symbols.as_slice()
     }
 }
 
@@ -176,7 +175,7 @@ pub struct Image {
 }
 
 impl Image {
-    ghost use Rattle.brd_mem.specs.Image.{image_of_words, IsPlain};
+    ghost use Rattle.brd_mem.specs.Image.{image_of_words};
 
     /// The image of these words: one segment at the first address of RAM, or none for no words.
     pub fn from_words(alloc: Global, words: &[u32]) -> Result<Image, NoMemory>
@@ -195,13 +194,5 @@ impl Image {
             segments,
             symbols: Symbols::new(alloc),
         })
-    }
-
-    /// Whether the segments have bytes, ascend, don't overlap and lie in 0x80000000 to 0x80FFFFFF, and whether the names aren't empty, have no byte 0 and
-    /// are distinct. It takes a time of the square of the number of symbols.
-    pub fn is_plain(&self) -> bool
-        ensures { IsTrue result ↔ IsPlain self.now }
-    {
-        are_ascending(self.segments.as_slice()) && are_named(self.symbols.as_slice())
     }
 }

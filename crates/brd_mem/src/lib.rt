@@ -9,4 +9,8 @@ mod words;
 
 pub use fault::{Exc, NoMemory, RamFault};
 pub use image::{Bytes, Image, Segment, Segments, Symbol, Symbols};
+pub use plain::is_plain;
 pub use ram::{BASE, Ram};
+
+#[cfg(test)]
+mod tests;

@@ -1,18 +1,26 @@
-//! Whether an image is as the assembler makes it.
+//! Whether an image can be written to a file and read back as itself.
 
-ghost use Rattle.std.specs.Prelude.{◌≡◌, ◌≢◌, ◌↔◌, IsTrue};
+ghost use Rattle.std.specs.Prelude.{◌≢◌, ◌↔◌, IsTrue};
 ghost use Rattle.std.specs.List.{AllByRecursion};
 ghost use Rattle.brd_mem.specs.Memory.{base};
-ghost use Rattle.brd_mem.specs.Image.{AreAscending, AreNamed, IsName};
+ghost use Rattle.brd_mem.specs.Image.{AreAscending, AreNamed, IsName, IsPlain};
 
-use crate::image::{Segment, Symbol};
+use crate::image::{Image, Segment, Symbol};
 use crate::ram::BASE;
 
 /// One more than the last address that a segment may have.
 const TOP: u64 = 0x8100_0000;
 
+/// Whether the segments have bytes, ascend, don't overlap and lie in 0x80000000 to 0x80FFFFFF, and whether the names aren't empty, have no
+/// byte 0 and are distinct. It takes no memory, and a time of the square of the number of symbols.
+pub fn is_plain(image: &Image) -> bool
+    ensures { IsTrue result ↔ IsPlain image.now }
+{
+    are_ascending(image.segments.as_slice()) && are_named(image.symbols.as_slice())
+}
+
 /// Whether the segments have bytes and follow one another, none over another, within 0x80000000 to 0x80FFFFFF.
-pub fn are_ascending(segments: &[Segment]) -> bool
+fn are_ascending(segments: &[Segment]) -> bool
     ensures { IsTrue result ↔ AreAscending base segments.now }
 {
     let mut low = BASE as u64;
@@ -30,7 +38,7 @@ pub fn are_ascending(segments: &[Segment]) -> bool
 }
 
 /// Whether each symbol has a name, and no later one has the same.
-pub fn are_named(symbols: &[Symbol]) -> bool
+fn are_named(symbols: &[Symbol]) -> bool
     ensures { IsTrue result ↔ AreNamed symbols.now }
 {
     let mut left = symbols;

@@ -2,7 +2,7 @@
 
 ghost use Rattle.std.specs.Prelude.{◌≡◌, ℕ, ◌+◌, ◌<◌, List, ◌↔◌, length, replicate, true, IfOk, IsErrOf};
 ghost use Rattle.brd_mem.specs.Memory.{IsRamSize, contains, copied, byte_at, word_at};
-ghost use Rattle.brd_mem.specs.Access.{fetched, loaded32, stored32, Stores};
+ghost use Rattle.brd_mem.specs.Access.{found_word, fetched, loaded32, stored32, Stores};
 
 use crate::fault::{Exc, RamFault};
 use brd_word::{bytes_of, word_of};
@@ -72,26 +72,26 @@ impl Ram {
     pub fn fetch(&self, address: u32) -> Result<u32, Exc>
         ensures { result ≡ fetched self.now address }
     {
-        if address % 4 != 0 {
-            return Err(Exc::AdEL);
-        }
-        let at = address.wrapping_sub(BASE) as usize;
-        if at >= self.bytes.len() {
-            return Err(Exc::IBE);
-        }
-        Ok(word_from(&self.bytes, at))
+        self.word(address, Exc::IBE)
     }
 
     /// The data word at an address: AdEL where it isn't aligned, then DBE where it isn't in RAM.
     pub fn load32(&self, address: u32) -> Result<u32, Exc>
         ensures { result ≡ loaded32 self.now address }
     {
+        self.word(address, Exc::DBE)
+    }
+
+    /// The word at an address: AdEL where it isn't aligned, then `outside` where it isn't in RAM.
+    fn word(&self, address: u32, outside: Exc) -> Result<u32, Exc>
+        ensures { result ≡ found_word outside self.now address }
+    {
         if address % 4 != 0 {
             return Err(Exc::AdEL);
         }
         let at = address.wrapping_sub(BASE) as usize;
         if at >= self.bytes.len() {
-            return Err(Exc::DBE);
+            return Err(outside);
         }
         Ok(word_from(&self.bytes, at))
     }

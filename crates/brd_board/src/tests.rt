@@ -1,0 +1,93 @@
+use super::*;
+use brd_exec::ExceptionCode;
+use brd_isa::Register;
+use std::test::Fail;
+
+#[test]
+fn words_that_fit(rt: HostRuntime) -> Result<(), Fail> {
+    let alloc = rt.alloc();
+    for (count, fits) in [
+        (0, true),
+        (1, true),
+        (16_384, true),
+        (16_385, false),
+        (20_000, false),
+    ] {
+        let words = vec![in alloc; 0x3c01_1234; count]?;
+        match Board::from_words(alloc, &words) {
+            Ok(board) => {
+                assert!(rt; fits, "{count}");
+                let last = if count == 0 { 0 } else { 0x3c };
+                assert_eq!(rt; board.memory(0x8000_0000), Some(last), "{count}");
+                let end = if count == 16_384 { 0x34 } else { 0 };
+                assert_eq!(rt; board.memory(0x8000_ffff), Some(end), "{count}");
+            }
+            Err(fault) => {
+                assert!(rt; !fits, "{count}");
+                assert_eq!(rt; fault, BootFault::Outside, "{count}");
+            }
+        }
+    }
+    Ok(())
+}
+
+/// A branch with its slot, then a word that stands for nothing.
+#[test]
+fn what_events_report(rt: HostRuntime) -> Result<(), Fail> {
+    let mut board = Board::from_words(rt.alloc(), &[0x1000_0001, 0x2408_0007, 0xffff_ffff])?;
+    assert_eq!(rt; board.standing(1), Some(Standing::Task(1)));
+    for (event, report) in [
+        (Event::Step(0), Report::NoSuch),
+        (Event::Step(2), Report::NoSuch),
+        (Event::Raise(0), Report::NoSuch),
+        (Event::Raise(32), Report::NoSuch),
+        (Event::Step(1), Report::Ran(0x8000_0000)),
+        (Event::Tick, Report::Ticked),
+        (Event::Step(1), Report::Ran(0x8000_0004)),
+        (Event::Tick, Report::Ticked),
+        (Event::Step(1), Report::Faulted(0x8000_0008)),
+        (Event::Step(1), Report::Idle),
+        (Event::Tick, Report::Ticked),
+    ] {
+        assert_eq!(rt; board.event(event), report, "{event:?}");
+    }
+    assert_eq!(rt; board.now(), 3);
+    assert!(rt; !board.is_off());
+    assert_eq!(rt; board.standing(1), Some(Standing::Idle));
+    assert_eq!(rt; board.standing(2), None);
+    assert_eq!(rt; board.registers(1), None);
+    let fault = Fault {
+        code: ExceptionCode::RI,
+        epc: 0x8000_0008,
+        bd: false,
+    };
+    assert_eq!(rt; board.last_fault(1), Some(fault));
+    assert_eq!(rt; board.last_fault(2), None);
+    assert_eq!(rt; board.task(0), None);
+    assert_eq!(rt; board.task(2), None);
+    let task = board.task(1).ok_or("no task")?;
+    assert_eq!(rt; task.state, TaskState::Dormant);
+    assert_eq!(rt; task.context.read(Register::low(8)), 7);
+    Ok(())
+}
+
+#[test]
+fn lists_of_events(rt: HostRuntime) -> Result<(), Fail> {
+    let words = [0x2508_0001, 0x1000_fffe, 0x2529_0002];
+    let mut board = Board::from_words(rt.alloc(), &words)?;
+    board.play(&[
+        Event::Step(1),
+        Event::Tick,
+        Event::Step(1),
+        Event::Step(1),
+        Event::Step(1),
+    ]);
+    let context = board.registers(1).ok_or("no task runs")?;
+    assert_eq!(rt; context.read(Register::low(8)), 2);
+    assert_eq!(rt; context.read(Register::low(9)), 2);
+    assert_eq!(rt; context.pc(), 0x8000_0004);
+    assert_eq!(rt; context.npc(), 0x8000_0008);
+    assert!(rt; !context.slot());
+    assert_eq!(rt; board.now(), 1);
+    Ok(())
+}

@@ -1,0 +1,51 @@
+-- What the commands write for what they read.
+use Rattle.std.specs.Prelude.{◌≡◌, ◌≢◌, ℕ, List, replicate, Option, Result, Ok, Err, IsOk}
+use Rattle.std.specs.Io.KnownBytes.{Keeps}
+use Rattle.brd_board.specs.declared.event.Event.TheVariants.{Step}
+use Rattle.brd_board.specs.Board.{after}
+use Rattle.brd_board.specs.Boot.{started, memory_of_words}
+use Rattle.brd_cli.specs.WordText.{words_of_text}
+use Rattle.brd_cli.specs.Shown.{board_shown}
+use Rattle.brd_cli.specs.declared.word_text.WordsFault.{WordsFault}
+use Rattle.brd_cli.specs.declared.word_text.WordsFault.TheVariants as words_fault
+use Rattle.brd_cli.specs.declared.fault.CommandFault.{CommandFault}
+use Rattle.brd_cli.specs.declared.fault.CommandFault.TheVariants.{NoMemory, Words, Read, TooLong, TooManyReads, Write}
+
+-- the board of these words after so many steps of processor 1
+abbrev pub words_shown : List ℕ → ℕ → List ℕ
+words_shown words steps = board_shown (after (started (memory_of_words words)) (replicate steps (Step 1)))
+
+abbrev pub shown_or_fault : Result (List ℕ) WordsFault → ℕ → Result (List ℕ) WordsFault
+shown_or_fault (Ok words) steps = Ok (words_shown words steps)
+shown_or_fault (Err fault) steps = Err fault
+
+-- what `words` writes for a text, or the text's first fault
+abbrev pub words_output : List ℕ → ℕ → Result (List ℕ) WordsFault
+words_output text steps = shown_or_fault (words_of_text text) steps
+
+-- the status that the program ends with
+abbrev pub status_of : CommandFault → ℕ
+status_of NoMemory = 3
+status_of (Words fault) = 1
+status_of (Read error) = 4
+status_of TooLong = 4
+status_of TooManyReads = 4
+status_of (Write error) = 4
+
+-- what may keep an input from being read
+abbrev pub IsReadFault : CommandFault → Type 0
+IsReadFault NoMemory = Unit {0}
+IsReadFault (Read error) = Unit {0}
+IsReadFault TooLong = Unit {0}
+IsReadFault TooManyReads = Unit {0}
+IsReadFault (Words fault) = ⊥
+IsReadFault (Write error) = ⊥
+
+-- A fault of the input is the input's first, and comes before anything is written.
+abbrev pub Refuses : CommandFault → Result (List ℕ) WordsFault → Option (List ℕ) → Option (List ℕ) → Type 0
+Refuses NoMemory output old new = Keeps old new
+Refuses (Words fault) output old new = (output ≡ Err fault) × (fault ≢ words_fault.NoMemory) × Keeps old new
+Refuses (Read error) output old new = Keeps old new
+Refuses TooLong output old new = Keeps old new
+Refuses TooManyReads output old new = Keeps old new
+Refuses (Write error) output old new = IsOk output

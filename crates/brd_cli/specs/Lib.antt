@@ -1,0 +1,4 @@
+pub mod Bytes
+pub mod WordText
+pub mod Shown
+pub mod Command

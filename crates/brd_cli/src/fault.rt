@@ -1,0 +1,75 @@
+//! Why a command ends with a status that isn't 0.
+
+ghost use Rattle.std.specs.Prelude.{◌≡◌};
+ghost use Rattle.brd_cli.specs.declared.fault.CommandFault.TheVariants.{NoMemory as no_memory};
+
+use crate::word_text::WordsFault;
+use brd_mem::NoMemory;
+use std::alloc::{AllocError, AllocFailed};
+use std::io;
+use thiserror::Error;
+
+/// Why a command ends with a status that isn't 0.
+#[derive(Debug, Drop, Error)]
+pub enum CommandFault {
+    /// A growth was refused.
+    #[error("out of memory")]
+    NoMemory,
+    /// The words on standard input have a fault.
+    #[error("standard input: {0}")]
+    Words(WordsFault),
+    /// Input couldn't be read.
+    #[error("can't read the input: {0}")]
+    Read(io::Error),
+    /// Input goes on past the limit.
+    #[error("the input is longer than 134,217,728 bytes")]
+    TooLong,
+    /// Input came in so small pieces that the limit of reads was reached.
+    #[error("the input didn't end within 268,435,456 reads")]
+    TooManyReads,
+    /// Output couldn't be written.
+    #[error("can't write the output: {0}")]
+    Write(io::Error),
+}
+
+impl CommandFault {
+    ghost use Rattle.brd_cli.specs.Command.{status_of};
+
+    /// The status that the program ends with: 1 for a fault of the input, 3 for want of memory, 4 where reading or writing failed.
+    pub fn status(&self) -> u8
+        ensures { result ≡ status_of self.now }
+    {
+        match self {
+            CommandFault::Words(_) => 1,
+            CommandFault::NoMemory => 3,
+            CommandFault::Read(_)
+            | CommandFault::TooLong
+            | CommandFault::TooManyReads
+            | CommandFault::Write(_) => 4,
+        }
+    }
+}
+
+impl From<NoMemory> for CommandFault {
+    ghost from_gives = { λ _ fault. fault ≡ no_memory };
+
+    fn from(_e: NoMemory) -> Self {
+        CommandFault::NoMemory
+    }
+}
+
+impl From<AllocError> for CommandFault {
+    ghost from_gives = { λ _ fault. fault ≡ no_memory };
+
+    fn from(_e: AllocError) -> Self {
+        CommandFault::NoMemory
+    }
+}
+
+impl<T: Drop> From<AllocFailed<T>> for CommandFault {
+    ghost from_gives = { λ _ fault. fault ≡ no_memory };
+
+    fn from(_e: AllocFailed<T>) -> Self {
+        CommandFault::NoMemory
+    }
+}

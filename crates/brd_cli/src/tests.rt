@@ -1,0 +1,160 @@
+use crate::fault::CommandFault;
+use crate::words::words;
+use std::io::{self, ErrorKind, Read, Write};
+use std::test::Fail;
+
+const INPUT: &[u8] = b"24080005\n01084821\n";
+
+const OUTPUT: &[u8] = b"pc 80000008\n$8 00000005\n$9 0000000a\n$29 80010000\n";
+
+/// Gives a byte a read. The read of this number fails, or each read before it is interrupted once.
+#[derive(Drop)]
+struct Bytewise<'a> {
+    left: &'a [u8],
+    reads: usize,
+    fails_at: usize,
+    interrupts: bool,
+}
+
+impl<'a> Read for Bytewise<'a> {
+    fn read(&mut self, buf: &mut [u8]) -> io::Result<usize> {
+        self.reads = self.reads.wrapping_add(1);
+        if self.reads == self.fails_at {
+            return Err(io::Error::from(ErrorKind::ConnectionReset));
+        }
+        if self.interrupts && self.reads % 2 == 1 {
+            return Err(io::Error::from(ErrorKind::Interrupted));
+        }
+        match (self.left.split_first(), buf.first_mut()) {
+            (Some((byte, rest)), Some(place)) => {
+                *place = *byte;
+                self.left = rest;
+                Ok(1)
+            }
+            _ => Ok(0),
+        }
+    }
+}
+
+/// Takes a byte a write. The write of this number fails.
+#[derive(Drop)]
+struct Taking {
+    taken: Vec<u8>,
+    writes: usize,
+    fails_at: usize,
+}
+
+impl Write for Taking {
+    fn write(&mut self, buf: &[u8]) -> io::Result<usize> {
+        self.writes = self.writes.wrapping_add(1);
+        if self.writes == self.fails_at {
+            return Err(io::Error::from(ErrorKind::BrokenPipe));
+        }
+        match buf.first() {
+            Some(byte) => {
+                self.taken.push(*byte)?;
+                Ok(1)
+            }
+            None => Ok(0),
+        }
+    }
+
+    fn flush(&mut self) -> io::Result<()> {
+        self.writes = self.writes.wrapping_add(1);
+        if self.writes == self.fails_at {
+            return Err(io::Error::from(ErrorKind::BrokenPipe));
+        }
+        Ok(())
+    }
+}
+
+#[test]
+fn bytes_in_and_out(rt: HostRuntime) -> Result<(), Fail> {
+    let alloc = rt.alloc();
+    let mut reader = INPUT;
+    let mut writer = Vec::new(alloc);
+    match words(alloc, &mut reader, &mut writer, 2) {
+        Ok(()) => {}
+        Err(fault) => assert!(rt; false, "{fault}"),
+    }
+    assert_eq!(rt; writer.as_slice(), OUTPUT);
+    Ok(())
+}
+
+/// 18 bytes take 19 reads, the last of which finds the end.
+#[test]
+fn each_read_fails(rt: HostRuntime) {
+    let alloc = rt.alloc();
+    for fails_at in 1..=20 {
+        let mut reader = Bytewise {
+            left: INPUT,
+            reads: 0,
+            fails_at,
+            interrupts: false,
+        };
+        let mut writer = Vec::new(alloc);
+        match words(alloc, &mut reader, &mut writer, 2) {
+            Ok(()) => {
+                assert_eq!(rt; fails_at, 20);
+                assert_eq!(rt; writer.as_slice(), OUTPUT);
+            }
+            Err(fault) => {
+                assert!(rt;
+                    matches!(fault, CommandFault::Read(_)),
+                    "at read {fails_at}: {fault}"
+                );
+                assert_eq!(rt; fault.status(), 4);
+                assert!(rt; fails_at < 20);
+                assert!(rt; writer.is_empty());
+            }
+        }
+    }
+}
+
+#[test]
+fn reads_are_interrupted(rt: HostRuntime) {
+    let alloc = rt.alloc();
+    let mut reader = Bytewise {
+        left: INPUT,
+        reads: 0,
+        fails_at: 0,
+        interrupts: true,
+    };
+    let mut writer = Vec::new(alloc);
+    match words(alloc, &mut reader, &mut writer, 2) {
+        Ok(()) => assert_eq!(rt; writer.as_slice(), OUTPUT),
+        Err(fault) => assert!(rt; false, "{fault}"),
+    }
+}
+
+/// 49 bytes take 49 writes; then the writer is flushed.
+#[test]
+fn each_write_fails(rt: HostRuntime) {
+    let alloc = rt.alloc();
+    for fails_at in 1..=51 {
+        let mut reader = INPUT;
+        let mut writer = Taking {
+            taken: Vec::new(alloc),
+            writes: 0,
+            fails_at,
+        };
+        match words(alloc, &mut reader, &mut writer, 2) {
+            Ok(()) => {
+                assert_eq!(rt; fails_at, 51);
+                assert_eq!(rt; writer.taken.as_slice(), OUTPUT);
+            }
+            Err(fault) => {
+                assert!(rt;
+                    matches!(fault, CommandFault::Write(_)),
+                    "at write {fails_at}: {fault}"
+                );
+                assert_eq!(rt; fault.status(), 4);
+                assert!(rt; fails_at < 51);
+                assert_eq!(rt;
+                    writer.taken.len(),
+                    if fails_at < 50 { fails_at - 1 } else { 49 }
+                );
+            }
+        }
+    }
+}

@@ -1,0 +1,6 @@
+-- The law is a lemma on each form.
+use Rattle.brd_isa.proofs.WordLemmas.{one_word}
+use Rattle.brd_isa.proofs.laws.has_one_word.Goals as goal
+
+pub returns : goal.returns
+returns c = one_word

@@ -1,0 +1,30 @@
+//! What the decoder, the encoder and the table say together.
+
+ghost use Rattle.std.specs.Prelude.{◌≡◌, ℕ, ◌↔◌, Some};
+ghost use Rattle.brd_isa.specs.Table.{StandsFor};
+ghost use Rattle.brd_isa.specs.Decoding.{decoded};
+ghost use Rattle.brd_isa.specs.declared.instruction.Insn.{Insn};
+
+use crate::decoder::decode;
+use crate::encoder::encode;
+use crate::instruction::Insn;
+
+/// An instruction's word is decoded to that instruction.
+pub fn decoded_again(insn: Insn) -> Option<Insn>
+    ensures { result ≡ Some insn }
+{
+    decode(encode(insn))
+}
+
+/// The function that the meaning of a step is stated with is the table: it gives an instruction exactly where the word stands
+/// for that one.
+pub fn follows_the_table(word: u32)
+    ensures { (insn : Insn) → (decoded word ≡ Some insn) ↔ StandsFor word insn }
+{
+    let _ = decode(word);
+}
+
+/// No two words stand for one instruction.
+pub fn has_one_word()
+    ensures { (v w : ℕ) (insn : Insn) → StandsFor v insn → StandsFor w insn → v ≡ w }
+{}
