@@ -1,12 +1,12 @@
 -- What a vector of eight lanes has in each lane, and what a mask of it says.
-use Rattle.std.proofs.Common.{◌≡◌, ℕ, ◌+◌, ◌-◌, ◌*◌, ◌/◌, ◌%◌, ◌^◌, ◌<◌, ◌≤◌, Bool, true, false, cond, eqb, ltb, leb, List, [], ◌∷◌, map, length, get_or, replicate, Option, Some, None, refl, sym, ap, ◌∙◌, subst, arith, inl, inr, w64}
+use Rattle.std.proofs.Common.{◌≡◌, ℕ, ◌+◌, ◌-◌, ◌/◌, ◌%◌, ◌^◌, ◌<◌, ◌≤◌, Bool, true, false, not, cond, eqb, List, map, length, get_or, replicate, Option, Some, None, refl, sym, ap, ◌∙◌, subst, arith, inl, inr, w64}
 use Rattle.std.specs.Int.{bit_at, trailing_zeros}
 use Rattle.std.proofs.lemmas.Bool.{cases_lt}
 use Rattle.std.proofs.lemmas.Nat.Bits.{bit_at-trailing_zeros, bit_at_above}
 use Rattle.std.proofs.lemmas.Simd.{length-chunk, get_or-chunk, length-zip2, get_or-zip2, length-replicate, get_or-replicate, mask_l-lt, mask_l-mod, bit_mask_l}
 use Rattle.std.proofs.lemmas.List.{length-map, get_or-map}
 use lib.Lanes.{chunk, zip2, mask_l, top}
-use Rattle.brd_lanes.specs.Scan.{NoneBetween, IsLeast}
+use Rattle.brd_lanes.specs.Scan.{IsLeast}
 
 -- v has eight lanes, and f k is lane k
 pub record HasLanes (v : List ℕ) (f : ℕ → ℕ) : Type 0 where
@@ -56,6 +56,13 @@ pub least_from_mask : (test : ℕ → Bool) (at mask : ℕ) → IsMaskOf (λ k. 
 least_from_mask test at mask is None none = λ k from to. sym (tested test at mask is k from to) ∙ none k from to
 least_from_mask test at mask is (Some i) found =
     (found.0, found.1, sym (tested test at mask is i found.0 found.1) ∙ found.2, λ k from to. sym (tested test at mask is k from (omega (arith, found.1))) ∙ found.3 k from to)
+
+-- one lane of `simd_eq` and of `simd_ne`, at 32 bits
+abbrev pub eq_lane : ℕ → ℕ → ℕ
+eq_lane a b = cond (eqb a b) (2 ^ 32 - 1) 0
+
+abbrev pub ne_lane : ℕ → ℕ → ℕ
+ne_lane a b = cond (not (eqb a b)) (2 ^ 32 - 1) 0
 
 -- a lane of a comparison is all ones or 0
 pub top_of_mask : (h ones : ℕ) → top h ones ≡ true → top h 0 ≡ false → (b : Bool) → top h (cond b ones 0) ≡ b

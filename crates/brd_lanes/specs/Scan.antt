@@ -32,3 +32,8 @@ is_word_at words word i = slice_index words i == word
 -- the word's address lies in the 16 bytes from `block` on
 abbrev pub is_in_block : ℕ → ℕ → Bool
 is_in_block block word = nat_le block word && nat_lt word (block + 16)
+
+-- bit j goes: its word lies in the block, and it isn't `except`
+abbrev pub is_broken_at : List ℕ → ℕ → ℕ → ℕ → Bool
+is_broken_at words block except j =
+    is_in_block block (slice_index words j) && not (j == except)

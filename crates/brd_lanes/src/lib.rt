@@ -3,12 +3,14 @@
 //! Each takes no memory and answers on every input that meets its conditions.
 #![tactic(auto)]
 
-ghost use Rattle.std.specs.Prelude.{◌≡◌, ℕ, ◌+◌, ◌%◌, ◌<◌, ◌≤◌, ◌↔◌, not, ◌&&◌, ◌==◌, if◌then◌else◌, IsTrue, length, slice_index, Contains};
+ghost use Rattle.std.specs.Prelude.{◌≡◌, ℕ, ◌+◌, ◌%◌, ◌<◌, ◌≤◌, ◌↔◌, if◌then◌else◌, IsTrue, length, Contains};
 ghost use Rattle.std.specs.Int.{bit_at};
-ghost use Rattle.brd_lanes.specs.Scan.{IsLeast, is_satisfied_at, is_due_at, is_in_block};
+ghost use Rattle.brd_lanes.specs.Scan.{IsLeast, is_satisfied_at, is_due_at, is_broken_at};
 
 mod eight;
 mod plain;
+#[cfg(test)]
+mod tests;
 
 use eight::LANES;
 
@@ -53,7 +55,8 @@ pub fn next_due(dues: &[u64], now: u64, from: usize) -> Option<usize>
 pub fn break_links(words: &[u32; 8], valid: u8, block: u32, except: u8) -> u8
     requires aligned { block % 16 ≡ 0 }
     requires processor { except < 8 }
-    ensures { (j : ℕ) → j < 8 → bit_at result j ≡ (if is_in_block block (slice_index words.now j) && not (j == except) then 0 else bit_at valid j) }
+    ensures { (j : ℕ) → j < 8 →
+        bit_at result j ≡ (if is_broken_at words.now block except j then 0 else bit_at valid j) }
 {
     valid & (!eight::in_block(words, block) | (1 << except))
 }

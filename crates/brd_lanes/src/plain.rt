@@ -25,7 +25,11 @@ fn is_satisfied(wanted: u32, or_mode: u32, current: u32) -> bool
     ensures { result ≡ is_satisfied current or_mode wanted }
 {
     let shared = current & wanted;
-    if or_mode == 0 { shared == wanted } else { shared != 0 }
+    if or_mode == 0 {
+        shared == wanted
+    } else {
+        shared != 0
+    }
 }
 
 pub(crate) fn first_due(dues: &[u64], now: u64, from: usize) -> Option<usize>

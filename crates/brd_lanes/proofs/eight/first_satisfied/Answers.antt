@@ -1,19 +1,17 @@
 use Rattle.std.proofs.Common.{◌≡◌, ℕ, ◌+◌, ◌-◌, ◌%◌, ◌^◌, ◌≤◌, Bool, true, false, not, List, cond, eqb, map, length, replicate, get_or, refl}
 use lib.Bits.{bit_and, bit_or}
 use lib.Lanes.{chunk, zip2, mask_l, top}
-use Rattle.brd_lanes.proofs.LaneLemmas.{IsMaskOf, loaded, splatted, combined, masked, least_from_mask}
+use Rattle.brd_lanes.proofs.LaneLemmas.{IsMaskOf, loaded, splatted, combined, eq_lane, ne_lane, masked, least_from_mask}
 use Rattle.brd_lanes.specs.Scan.{is_satisfied, is_satisfied_at}
 use Rattle.brd_lanes.proofs.eight.first_satisfied.Goals as goal
 
--- one lane of `simd_eq` and of `simd_ne`
-abbrev eq_lane : ℕ → ℕ → ℕ
-eq_lane a b = cond (eqb a b) (2 ^ 32 - 1) 0
-
-abbrev ne_lane : ℕ → ℕ → ℕ
-ne_lane a b = cond (not (eqb a b)) (2 ^ 32 - 1) 0
+-- a lane of a mask
+abbrev ones_if : Bool → ℕ
+ones_if b = cond b (2 ^ 32 - 1) 0
 
 -- one lane of the result: all bits in mode 0, and some bit in the others
-chosen : (mode0 all none : Bool) → top 31 (bit_or (bit_and (cond mode0 (2 ^ 32 - 1) 0) (cond all (2 ^ 32 - 1) 0)) (bit_and (cond (not mode0) (2 ^ 32 - 1) 0) (cond (not none) (2 ^ 32 - 1) 0))) ≡ cond mode0 all (not none)
+chosen : (mode0 all none : Bool)
+    → top 31 (bit_or (bit_and (ones_if mode0) (ones_if all)) (bit_and (ones_if (not mode0)) (ones_if (not none)))) ≡ cond mode0 all (not none)
 chosen true true true = refl
 chosen true true false = refl
 chosen true false true = refl
@@ -23,11 +21,29 @@ chosen false true false = refl
 chosen false false true = refl
 chosen false false false = refl
 
-lane_is : (current mode wanted : ℕ) → top 31 (bit_or (bit_and (eq_lane mode 0) (eq_lane (bit_and current wanted) wanted)) (bit_and (ne_lane mode 0) (ne_lane (bit_and current wanted) 0))) ≡ is_satisfied current mode wanted
+lane_is : (current mode wanted : ℕ)
+    → top 31 (bit_or (bit_and (eq_lane mode 0) (eq_lane (bit_and current wanted) wanted)) (bit_and (ne_lane mode 0) (ne_lane (bit_and current wanted) 0))) ≡ is_satisfied current mode wanted
 unfolding is_satisfied
 lane_is current mode wanted = chosen (eqb mode 0) (eqb (bit_and current wanted) wanted) (eqb (bit_and current wanted) 0)
 
-satisfied_mask : (patterns modes : List ℕ) (current at : ℕ) → at + 8 ≤ length patterns → at + 8 ≤ length modes → IsMaskOf (λ k. is_satisfied_at patterns modes current (at + k)) (mask_l (map (top 31) (zip2 bit_or (zip2 bit_and (zip2 eq_lane (chunk at 8 modes) (replicate 8 0)) (zip2 eq_lane (zip2 bit_and (replicate 8 current) (chunk at 8 patterns)) (chunk at 8 patterns))) (zip2 bit_and (zip2 ne_lane (chunk at 8 modes) (replicate 8 0)) (zip2 ne_lane (zip2 bit_and (replicate 8 current) (chunk at 8 patterns)) (replicate 8 0))))) % 2 ^ 64)
+-- the vectors of the code, and the mask that they end in
+abbrev shared_lanes : List ℕ → ℕ → List ℕ
+shared_lanes wanted current = zip2 bit_and (replicate 8 current) wanted
+
+abbrev all_set_lanes : List ℕ → List ℕ → ℕ → List ℕ
+all_set_lanes wanted modes current =
+    zip2 bit_and (zip2 eq_lane modes (replicate 8 0)) (zip2 eq_lane (shared_lanes wanted current) wanted)
+
+abbrev some_set_lanes : List ℕ → List ℕ → ℕ → List ℕ
+some_set_lanes wanted modes current =
+    zip2 bit_and (zip2 ne_lane modes (replicate 8 0)) (zip2 ne_lane (shared_lanes wanted current) (replicate 8 0))
+
+abbrev mask_of : List ℕ → List ℕ → ℕ → ℕ
+mask_of wanted modes current =
+    mask_l (map (top 31) (zip2 bit_or (all_set_lanes wanted modes current) (some_set_lanes wanted modes current))) % 2 ^ 64
+
+satisfied_mask : (patterns modes : List ℕ) (current at : ℕ) → at + 8 ≤ length patterns → at + 8 ≤ length modes
+    → IsMaskOf (λ k. is_satisfied_at patterns modes current (at + k)) (mask_of (chunk at 8 patterns) (chunk at 8 modes) current)
 satisfied_mask patterns modes current at room more_room =
     let wanted = loaded patterns at room in
     let mode = loaded modes at more_room in

@@ -1,4 +1,4 @@
-use Rattle.std.proofs.Common.{◌≡◌, ℕ, ◌+◌, ◌-◌, ◌%◌, ◌^◌, ◌<◌, ◌≤◌, Bool, true, false, not, List, cond, eqb, map, length, replicate, get_or, refl, ap, sym, ◌∙◌, subst, arith, inl, inr, w64, Contains}
+use Rattle.std.proofs.Common.{◌≡◌, ℕ, ◌+◌, ◌-◌, ◌%◌, ◌^◌, ◌≤◌, true, not, List, eqb, map, length, replicate, get_or, refl, ap, sym, ◌∙◌, arith, inl, inr, w64, Contains}
 use Rattle.std.specs.Prelude.{MatchBool}
 use Rattle.std.specs.Int.{bit_at, trailing_zeros}
 use Rattle.std.proofs.lemmas.Bool.{cases_eq, eq-eqb, eqb-true, ne_eqb}
@@ -6,12 +6,8 @@ use Rattle.std.proofs.lemmas.Nat.Bits.{bit_at-zero}
 use Rattle.std.proofs.lemmas.List.{get_or_default}
 use lib.Lanes.{chunk, zip2, mask_l, top}
 use Rattle.brd_lanes.specs.Scan.{NoneBetween, is_word_at}
-use Rattle.brd_lanes.proofs.LaneLemmas.{IsMaskOf, loaded, splatted, combined, masked, top_of_mask, tested, lowest}
+use Rattle.brd_lanes.proofs.LaneLemmas.{IsMaskOf, loaded, splatted, combined, eq_lane, masked, top_of_mask, tested, lowest}
 use Rattle.brd_lanes.proofs.eight.has.Goals as goal
-
--- one lane of `simd_eq`
-abbrev eq_lane : ℕ → ℕ → ℕ
-eq_lane a b = cond (eqb a b) (2 ^ 32 - 1) 0
 
 same_mask : (words : List ℕ) (word at : ℕ) → at + 8 ≤ length words → IsMaskOf (λ k. is_word_at words word (at + k)) (mask_l (map (top 31) (zip2 eq_lane (chunk at 8 words) (replicate 8 word))) % 2 ^ 64)
 same_mask words word at room = masked 31 (λ k. is_word_at words word (at + k)) _ (combined eq_lane _ _ (loaded words at room) (splatted word)) (λ k lt. top_of_mask 31 (2 ^ 32 - 1) refl refl (is_word_at words word (at + k)))

@@ -1,13 +1,10 @@
-use Rattle.std.proofs.Common.{◌≡◌, ℕ, ◌+◌, ◌*◌, ◌/◌, ◌%◌, ◌-◌, ◌^◌, ◌<◌, ◌≤◌, Bool, true, false, ◌&&◌, List, cond, eqb, leb, ltb, map, length, replicate, get_or, refl, ap, sym, ◌∙◌, arith}
+use Rattle.std.proofs.Common.{◌≡◌, ℕ, ◌/◌, ◌%◌, ◌-◌, ◌^◌, List, eqb, map, length, replicate, get_or, refl, ◌∙◌, arith}
 use lib.Lanes.{zip2, mask_l, top}
 use Rattle.brd_lanes.specs.Scan.{is_in_block}
-use Rattle.brd_lanes.proofs.LaneLemmas.{HasLanes, IsMaskOf, splatted, combined, masked, top_of_mask}
+use Rattle.brd_lanes.proofs.LaneLemmas.{HasLanes, IsMaskOf, splatted, combined, eq_lane, masked, top_of_mask}
 use Rattle.brd_lanes.proofs.eight.in_block.Goals as goal
 
--- one lane of `simd_eq`, and one of the shift
-abbrev eq_lane : ℕ → ℕ → ℕ
-eq_lane a b = cond (eqb a b) (2 ^ 32 - 1) 0
-
+-- one lane of `>>`
 abbrev shr_lane : ℕ → ℕ → ℕ
 shr_lane a k = a / 2 ^ k
 
