@@ -54,8 +54,12 @@ tested test at mask is k from to =
 -- from the least bit to the least index
 pub least_from_mask : (test : ℕ → Bool) (at mask : ℕ) → IsMaskOf (λ k. test (at + k)) mask → (r : Option ℕ) → IsLeast (λ k. eqb (bit_at mask (k - at)) 1) at (at + 8) r → IsLeast test at (at + 8) r
 least_from_mask test at mask is None none = λ k from to. sym (tested test at mask is k from to) ∙ none k from to
-least_from_mask test at mask is (Some i) found =
-    (found.0, found.1, sym (tested test at mask is i found.0 found.1) ∙ found.2, λ k from to. sym (tested test at mask is k from (omega (arith, found.1))) ∙ found.3 k from to)
+least_from_mask test at mask is (Some i) found = record {
+  started = found.started;
+  within = found.within;
+  holds = sym (tested test at mask is i found.started found.within) ∙ found.holds;
+  none_before = λ k from to. sym (tested test at mask is k from (omega (arith, found.within))) ∙ found.none_before k from to;
+}
 
 -- one lane of `simd_eq` and of `simd_ne`, at 32 bits
 abbrev pub eq_lane : ℕ → ℕ → ℕ

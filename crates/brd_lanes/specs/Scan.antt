@@ -5,11 +5,17 @@ use Rattle.std.specs.Prelude.{ℕ, ◌+◌, ◌<◌, ◌≤◌, Bool, not, ◌&&
 abbrev pub NoneBetween : (ℕ → Bool) → ℕ → ℕ → Type 0
 NoneBetween test start end = (k : ℕ) → start ≤ k → k < end → IsFalse (test k)
 
--- the least index from `start` on and below `end` at which the test holds, and `None` exactly where there is none
+-- the least index from `start` on and below `end` at which the test holds
+pub record IsLeastAt (test : ℕ → Bool) (start end i : ℕ) : Type 0 where
+  pub started : start ≤ i
+  pub within : i < end
+  pub holds : IsTrue (test i)
+  pub none_before : NoneBetween test start i
+
+-- the answer is that index, and `None` exactly where there is none
 abbrev pub IsLeast : (ℕ → Bool) → ℕ → ℕ → Option ℕ → Type 0
 IsLeast test start end None = NoneBetween test start end
-IsLeast test start end (Some i) =
-    (start ≤ i) × (i < end) × IsTrue (test i) × NoneBetween test start i
+IsLeast test start end (Some i) = IsLeastAt test start end i
 
 -- a wait for the bits of `wanted` is satisfied by `current`: in mode 0, AND, where all of them are set, in any other, OR, where one is
 unfoldable pub is_satisfied : ℕ → ℕ → ℕ → Bool
