@@ -7,6 +7,7 @@ use std::simd::prelude::*;
 
 pub(crate) const LANES: usize = 8;
 
+/// The least of the eight indices from `at` on whose wait is satisfied.
 #[inline(always)]
 pub(crate) fn first_satisfied(
     pats: &[u32],
@@ -27,6 +28,7 @@ pub(crate) fn first_satisfied(
     first_lane((all_set | some_set).to_bitmask(), at)
 }
 
+/// The least of the eight indices from `at` on whose tick has come.
 #[inline(always)]
 pub(crate) fn first_due(dues: &[u64], now: u64, at: usize) -> Option<usize>
     requires { at + LANES ≤ length dues.now }
@@ -40,26 +42,33 @@ pub(crate) fn first_due(dues: &[u64], now: u64, at: usize) -> Option<usize>
 #[inline(always)]
 pub(crate) fn in_block(words: &[u32; 8], block: u32) -> u8
     requires { block % 16 ≡ 0 }
-    ensures { (j : ℕ) → j < 8 → bit_at result j ≡ (if is_in_block block (slice_index words.now j) then 1 else 0) }
+    ensures { (j : ℕ) → j < 8 →
+        bit_at result j ≡ (if is_in_block block (slice_index words.now j) then 1 else 0) }
 {
     let blocks = u32x8::from_array(*words) >> u32x8::splat(4);
     blocks.simd_eq(u32x8::splat(block >> 4)).to_bitmask() as u8
 }
 
+/// Whether the eight words from `at` on are the same.
 #[inline(always)]
 pub(crate) fn are_same(a: &[u32], b: &[u32], at: usize) -> bool
     requires first { at + LANES ≤ length a.now }
     requires second { at + LANES ≤ length b.now }
-    ensures { MatchBool result (slice_range a.now at (at + LANES) ≡ slice_range b.now at (at + LANES)) (a.now ≢ b.now) }
+    ensures { MatchBool result
+        (slice_range a.now at (at + LANES) ≡ slice_range b.now at (at + LANES))
+        (a.now ≢ b.now) }
 {
     let differ = u32x8::from_slice(&a[at..]).simd_ne(u32x8::from_slice(&b[at..]));
     differ.to_bitmask() == 0
 }
 
+/// Whether `address` is one of the eight from `at` on.
 #[inline(always)]
 pub(crate) fn has(addresses: &[u32], address: u32, at: usize) -> bool
     requires { at + LANES ≤ length addresses.now }
-    ensures { MatchBool result (Contains addresses.now address) (NoneBetween (is_word_at addresses.now address) at (at + LANES)) }
+    ensures { MatchBool result
+        (Contains addresses.now address)
+        (NoneBetween (is_word_at addresses.now address) at (at + LANES)) }
 {
     let same = u32x8::from_slice(&addresses[at..]).simd_eq(u32x8::splat(address));
     same.to_bitmask() != 0

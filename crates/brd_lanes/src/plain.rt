@@ -59,7 +59,9 @@ pub(crate) fn are_same(a: &[u32], b: &[u32], from: usize) -> bool
 
 pub(crate) fn has(addresses: &[u32], address: u32, from: usize) -> bool
     requires { from ≤ length addresses.now }
-    ensures { MatchBool result (Contains addresses.now address) (NoneBetween (is_word_at addresses.now address) from (length addresses.now)) }
+    ensures { MatchBool result
+        (Contains addresses.now address)
+        (NoneBetween (is_word_at addresses.now address) from (length addresses.now)) }
 {
     for i in from..addresses.len() {
         if addresses[i] == address {
