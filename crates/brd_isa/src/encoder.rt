@@ -1,43 +1,117 @@
 //! From an instruction to the word that stands for it.
 
-ghost use Rattle.std.specs.Prelude.{◌≡◌, ◌<◌};
-ghost use Rattle.brd_isa.specs.Fields.{RType, IType};
+ghost use Rattle.std.specs.Prelude.{◌≡◌, ◌<◌, ◌^◌};
+ghost use Rattle.brd_isa.specs.Fields.{RType, IType, JType, LongCodeType, ShortCodeType};
 ghost use Rattle.brd_isa.specs.Codes.{
   shift_funct,
+  shift_variable_funct,
   register_funct,
+  move_from_funct,
+  move_to_funct,
+  product_funct,
+  trap_funct,
+  branch_zero_rt,
+  trap_immediate_rt,
+  accumulate_funct,
+  count_funct,
+  jump_opcode,
   branch_opcode,
+  branch_sign_opcode,
   immediate_opcode,
   load_opcode,
   store_opcode,
 };
-ghost use Rattle.brd_isa.specs.Table.{StandsFor};
+ghost use Rattle.brd_isa.specs.Table.{StandsFor, IgnoresSa};
+ghost use Rattle.brd_isa.specs.Decoding.{sa_of};
 
-use crate::fields::{Register, ShiftAmount};
-use crate::instruction::{BranchOp, ImmediateOp, Insn, LoadOp, RegisterOp, ShiftOp, StoreOp};
+use crate::fields::{JumpIndex, LongCode, Register, ShiftAmount, ShortCode};
+use crate::instruction::{
+    AccumulateOp, BranchOp, BranchSignOp, BranchZeroOp, CountOp, ImmediateOp, Insn, JumpOp, LoadOp,
+    MoveFromOp, MoveToOp, ProductOp, RegisterOp, ShiftOp, ShiftVariableOp, StoreOp,
+    TrapImmediateOp, TrapOp,
+};
 
-/// The word that stands for an instruction.
+/// The opcode under which the function field names the instruction.
+const SPECIAL: u32 = 0x00;
+
+/// The opcode under which the field rt names the instruction.
+const REGIMM: u32 = 0x01;
+
+/// The second opcode under which the function field names the instruction.
+const SPECIAL2: u32 = 0x1c;
+
+/// The word that stands for an instruction; a field that the table ignores is 0.
 pub fn encode(insn: Insn) -> u32
-    ensures { StandsFor result insn }
+    ensures related { StandsFor result insn }
+    ensures plain { IgnoresSa insn → sa_of result ≡ 0 }
 {
+    let none = Register::low(0);
+    let no_sa = ShiftAmount::low(0);
     match insn {
-        Insn::Shift(op, rd, rt, sa) => special(Register::low(0), rt, rd, sa, shift_code(op)),
-        Insn::ThreeRegisters(op, rd, rs, rt) => {
-            special(rs, rt, rd, ShiftAmount::low(0), register_code(op))
+        Insn::Shift(op, rd, rt, sa) => r_type(SPECIAL, none, rt, rd, sa, shift_code(op)),
+        Insn::ShiftVariable(op, rd, rt, rs) => r_type(
+            SPECIAL,
+            rs,
+            rt,
+            rd,
+            no_sa,
+            shift_variable_code(op),
+        ),
+        Insn::ThreeRegisters(op, rd, rs, rt) => r_type(
+            SPECIAL,
+            rs,
+            rt,
+            rd,
+            no_sa,
+            register_code(op),
+        ),
+        Insn::Multiply(rd, rs, rt) => r_type(SPECIAL2, rs, rt, rd, no_sa, 0x02),
+        Insn::JumpRegister(rs) => r_type(SPECIAL, rs, none, none, no_sa, 0x08),
+        Insn::JumpLinkRegister(rd, rs) => r_type(SPECIAL, rs, none, rd, no_sa, 0x09),
+        Insn::Syscall(code) => long_code(code, 0x0c),
+        Insn::Break(code) => long_code(code, 0x0d),
+        Insn::Sync => r_type(SPECIAL, none, none, none, no_sa, 0x0f),
+        Insn::MoveFrom(op, rd) => r_type(SPECIAL, none, none, rd, no_sa, move_from_code(op)),
+        Insn::MoveTo(op, rs) => r_type(SPECIAL, rs, none, none, no_sa, move_to_code(op)),
+        Insn::Product(op, rs, rt) => r_type(SPECIAL, rs, rt, none, no_sa, product_code(op)),
+        Insn::Accumulate(op, rs, rt) => r_type(SPECIAL2, rs, rt, none, no_sa, accumulate_code(op)),
+        Insn::Count(op, rd, rs) => r_type(SPECIAL2, rs, rd, rd, no_sa, count_code(op)),
+        Insn::Trap(op, rs, rt, code) => short_code(rs, rt, code, trap_code(op)),
+        Insn::TrapImmediate(op, rs, immediate) => {
+            i_type(
+                REGIMM,
+                rs,
+                Register::low(trap_immediate_code(op)),
+                immediate,
+            )
         }
-        Insn::Branch(op, rs, rt, offset) => low_half(branch_code(op), rs, rt, offset),
-        Insn::Immediate(op, rt, rs, immediate) => low_half(immediate_code(op), rs, rt, immediate),
-        Insn::LoadUpper(rt, immediate) => low_half(0x0f, Register::low(0), rt, immediate),
-        Insn::Load(op, rt, base, offset) => low_half(load_code(op), base, rt, offset),
-        Insn::Store(op, rt, base, offset) => low_half(store_code(op), base, rt, offset),
+        Insn::Jump(op, index) => j_type(jump_code(op), index),
+        Insn::Branch(op, rs, rt, offset) => i_type(branch_code(op), rs, rt, offset),
+        Insn::BranchSign(op, rs, offset) => i_type(branch_sign_code(op), rs, none, offset),
+        Insn::BranchZero(op, rs, offset) => i_type(
+            REGIMM,
+            rs,
+            Register::low(branch_zero_code(op)),
+            offset,
+        ),
+        Insn::Immediate(op, rt, rs, immediate) => i_type(immediate_code(op), rs, rt, immediate),
+        Insn::LoadUpper(rt, immediate) => i_type(0x0f, none, rt, immediate),
+        Insn::Load(op, rt, base, offset) => i_type(load_code(op), base, rt, offset),
+        Insn::Store(op, rt, base, offset) => i_type(store_code(op), base, rt, offset),
+        Insn::Prefetch(hint, base, offset) => {
+            i_type(0x33, base, Register::low(u32::from(hint.number())), offset)
+        }
     }
 }
 
-/// A word of the R-type format under the opcode SPECIAL.
-fn special(rs: Register, rt: Register, rd: Register, sa: ShiftAmount, funct: u32) -> u32
-    requires { funct < 64 }
-    ensures { RType result 0x00 rs rt rd sa funct }
+/// A word of the R-type format.
+fn r_type(opcode: u32, rs: Register, rt: Register, rd: Register, sa: ShiftAmount, funct: u32) -> u32
+    requires opcode_fits { opcode < 64 }
+    requires funct_fits { funct < 64 }
+    ensures { RType result opcode rs rt rd sa funct }
 {
-    (u32::from(rs.number()) << 21)
+    (opcode << 26)
+        + (u32::from(rs.number()) << 21)
         + (u32::from(rt.number()) << 16)
         + (u32::from(rd.number()) << 11)
         + (u32::from(sa.bits()) << 6)
@@ -45,7 +119,7 @@ fn special(rs: Register, rt: Register, rd: Register, sa: ShiftAmount, funct: u32
 }
 
 /// A word of the I-type format.
-fn low_half(opcode: u32, rs: Register, rt: Register, low: u16) -> u32
+fn i_type(opcode: u32, rs: Register, rt: Register, low: u16) -> u32
     requires { opcode < 64 }
     ensures { IType result opcode rs rt low }
 {
@@ -55,12 +129,52 @@ fn low_half(opcode: u32, rs: Register, rt: Register, low: u16) -> u32
         + u32::from(low)
 }
 
+/// A word of the J-type format.
+fn j_type(opcode: u32, index: JumpIndex) -> u32
+    requires { opcode < 64 }
+    ensures { JType result opcode index }
+{
+    (opcode << 26) + index.words()
+}
+
+/// A word with a code of 20 bits under the opcode SPECIAL.
+fn long_code(code: LongCode, funct: u32) -> u32
+    requires { funct < 64 }
+    ensures { LongCodeType result 0x00 code funct }
+{
+    (code.code() << 6) + funct
+}
+
+/// A word with two registers and a code of 10 bits under the opcode SPECIAL.
+fn short_code(rs: Register, rt: Register, code: ShortCode, funct: u32) -> u32
+    requires { funct < 64 }
+    ensures { ShortCodeType result 0x00 rs rt code funct }
+{
+    (u32::from(rs.number()) << 21)
+        + (u32::from(rt.number()) << 16)
+        + (u32::from(code.code()) << 6)
+        + funct
+}
+
 fn shift_code(op: ShiftOp) -> u32
     ensures is { result ≡ shift_funct op }
     ensures below { result < 64 }
 {
     match op {
         ShiftOp::Sll => 0x00,
+        ShiftOp::Srl => 0x02,
+        ShiftOp::Sra => 0x03,
+    }
+}
+
+fn shift_variable_code(op: ShiftVariableOp) -> u32
+    ensures is { result ≡ shift_variable_funct op }
+    ensures below { result < 64 }
+{
+    match op {
+        ShiftVariableOp::Sllv => 0x04,
+        ShiftVariableOp::Srlv => 0x06,
+        ShiftVariableOp::Srav => 0x07,
     }
 }
 
@@ -69,10 +183,126 @@ fn register_code(op: RegisterOp) -> u32
     ensures below { result < 64 }
 {
     match op {
+        RegisterOp::Movz => 0x0a,
+        RegisterOp::Movn => 0x0b,
+        RegisterOp::Add => 0x20,
         RegisterOp::Addu => 0x21,
+        RegisterOp::Sub => 0x22,
         RegisterOp::Subu => 0x23,
+        RegisterOp::And => 0x24,
         RegisterOp::Or => 0x25,
+        RegisterOp::Xor => 0x26,
+        RegisterOp::Nor => 0x27,
+        RegisterOp::Slt => 0x2a,
         RegisterOp::Sltu => 0x2b,
+    }
+}
+
+fn move_from_code(op: MoveFromOp) -> u32
+    ensures is { result ≡ move_from_funct op }
+    ensures below { result < 64 }
+{
+    match op {
+        MoveFromOp::Mfhi => 0x10,
+        MoveFromOp::Mflo => 0x12,
+    }
+}
+
+fn move_to_code(op: MoveToOp) -> u32
+    ensures is { result ≡ move_to_funct op }
+    ensures below { result < 64 }
+{
+    match op {
+        MoveToOp::Mthi => 0x11,
+        MoveToOp::Mtlo => 0x13,
+    }
+}
+
+fn product_code(op: ProductOp) -> u32
+    ensures is { result ≡ product_funct op }
+    ensures below { result < 64 }
+{
+    match op {
+        ProductOp::Mult => 0x18,
+        ProductOp::Multu => 0x19,
+        ProductOp::Div => 0x1a,
+        ProductOp::Divu => 0x1b,
+    }
+}
+
+fn trap_code(op: TrapOp) -> u32
+    ensures is { result ≡ trap_funct op }
+    ensures below { result < 64 }
+{
+    match op {
+        TrapOp::Tge => 0x30,
+        TrapOp::Tgeu => 0x31,
+        TrapOp::Tlt => 0x32,
+        TrapOp::Tltu => 0x33,
+        TrapOp::Teq => 0x34,
+        TrapOp::Tne => 0x36,
+    }
+}
+
+fn branch_zero_code(op: BranchZeroOp) -> u32
+    ensures is { result ≡ branch_zero_rt op }
+    ensures below { result < 32 }
+{
+    match op {
+        BranchZeroOp::Bltz => 0x00,
+        BranchZeroOp::Bgez => 0x01,
+        BranchZeroOp::Bltzl => 0x02,
+        BranchZeroOp::Bgezl => 0x03,
+        BranchZeroOp::Bltzal => 0x10,
+        BranchZeroOp::Bgezal => 0x11,
+        BranchZeroOp::Bltzall => 0x12,
+        BranchZeroOp::Bgezall => 0x13,
+    }
+}
+
+fn trap_immediate_code(op: TrapImmediateOp) -> u32
+    ensures is { result ≡ trap_immediate_rt op }
+    ensures below { result < 32 }
+{
+    match op {
+        TrapImmediateOp::Tgei => 0x08,
+        TrapImmediateOp::Tgeiu => 0x09,
+        TrapImmediateOp::Tlti => 0x0a,
+        TrapImmediateOp::Tltiu => 0x0b,
+        TrapImmediateOp::Teqi => 0x0c,
+        TrapImmediateOp::Tnei => 0x0e,
+    }
+}
+
+fn accumulate_code(op: AccumulateOp) -> u32
+    ensures is { result ≡ accumulate_funct op }
+    ensures below { result < 64 }
+{
+    match op {
+        AccumulateOp::Madd => 0x00,
+        AccumulateOp::Maddu => 0x01,
+        AccumulateOp::Msub => 0x04,
+        AccumulateOp::Msubu => 0x05,
+    }
+}
+
+fn count_code(op: CountOp) -> u32
+    ensures is { result ≡ count_funct op }
+    ensures below { result < 64 }
+{
+    match op {
+        CountOp::Clz => 0x20,
+        CountOp::Clo => 0x21,
+    }
+}
+
+fn jump_code(op: JumpOp) -> u32
+    ensures is { result ≡ jump_opcode op }
+    ensures below { result < 64 }
+{
+    match op {
+        JumpOp::J => 0x02,
+        JumpOp::Jal => 0x03,
     }
 }
 
@@ -83,6 +313,20 @@ fn branch_code(op: BranchOp) -> u32
     match op {
         BranchOp::Beq => 0x04,
         BranchOp::Bne => 0x05,
+        BranchOp::Beql => 0x14,
+        BranchOp::Bnel => 0x15,
+    }
+}
+
+fn branch_sign_code(op: BranchSignOp) -> u32
+    ensures is { result ≡ branch_sign_opcode op }
+    ensures below { result < 64 }
+{
+    match op {
+        BranchSignOp::Blez => 0x06,
+        BranchSignOp::Bgtz => 0x07,
+        BranchSignOp::Blezl => 0x16,
+        BranchSignOp::Bgtzl => 0x17,
     }
 }
 
@@ -91,8 +335,13 @@ fn immediate_code(op: ImmediateOp) -> u32
     ensures below { result < 64 }
 {
     match op {
+        ImmediateOp::Addi => 0x08,
         ImmediateOp::Addiu => 0x09,
+        ImmediateOp::Slti => 0x0a,
+        ImmediateOp::Sltiu => 0x0b,
+        ImmediateOp::Andi => 0x0c,
         ImmediateOp::Ori => 0x0d,
+        ImmediateOp::Xori => 0x0e,
     }
 }
 
@@ -101,7 +350,13 @@ fn load_code(op: LoadOp) -> u32
     ensures below { result < 64 }
 {
     match op {
+        LoadOp::Lb => 0x20,
+        LoadOp::Lh => 0x21,
+        LoadOp::Lwl => 0x22,
         LoadOp::Lw => 0x23,
+        LoadOp::Lbu => 0x24,
+        LoadOp::Lhu => 0x25,
+        LoadOp::Lwr => 0x26,
     }
 }
 
@@ -110,6 +365,10 @@ fn store_code(op: StoreOp) -> u32
     ensures below { result < 64 }
 {
     match op {
+        StoreOp::Sb => 0x28,
+        StoreOp::Sh => 0x29,
+        StoreOp::Swl => 0x2a,
         StoreOp::Sw => 0x2b,
+        StoreOp::Swr => 0x2e,
     }
 }

@@ -1,6 +1,6 @@
 //! The fields of an instruction that are narrower than a machine number. Each keeps its range.
 
-ghost use Rattle.std.specs.Prelude.{◌≡◌, ℕ, ◌%◌, ◌<◌};
+ghost use Rattle.std.specs.Prelude.{◌≡◌, ℕ, ◌%◌, ◌^◌, ◌<◌};
 
 use std::marker::Model;
 
@@ -13,9 +13,9 @@ pub struct Register {
 impl Model for Register {
     ghost Value = { ℕ };
 
-    ghost view = { λ r. r.number };
+    ghost view = { λ field. field.number };
 
-    ghost invariant = { λ r. r.number < 32 };
+    ghost invariant = { λ field. field.number < 2 ^ 5 };
 
     ghost inverse = { λ n. record { number = n } };
 }
@@ -23,17 +23,17 @@ impl Model for Register {
 impl Register {
     /// The register that the low five bits name.
     pub fn low(bits: u32) -> Self
-        ensures { result ≡ bits % 32 }
+        ensures { result ≡ bits % 2 ^ 5 }
     {
         Register {
-            number: (bits % 32) as u8,
+            number: (bits % 0x20) as u8,
         }
     }
 
     /// Its number, 0 to 31.
     pub fn number(self) -> u8
         ensures is { result ≡ self }
-        ensures below { result < 32 }
+        ensures below { result < 2 ^ 5 }
     {
         self.number
     }
@@ -48,9 +48,9 @@ pub struct ShiftAmount {
 impl Model for ShiftAmount {
     ghost Value = { ℕ };
 
-    ghost view = { λ s. s.bits };
+    ghost view = { λ field. field.bits };
 
-    ghost invariant = { λ s. s.bits < 32 };
+    ghost invariant = { λ field. field.bits < 2 ^ 5 };
 
     ghost inverse = { λ n. record { bits = n } };
 }
@@ -58,18 +58,158 @@ impl Model for ShiftAmount {
 impl ShiftAmount {
     /// The amount in the low five bits.
     pub fn low(bits: u32) -> Self
-        ensures { result ≡ bits % 32 }
+        ensures { result ≡ bits % 2 ^ 5 }
     {
         ShiftAmount {
-            bits: (bits % 32) as u8,
+            bits: (bits % 0x20) as u8,
         }
     }
 
     /// The amount, 0 to 31.
     pub fn bits(self) -> u8
         ensures is { result ≡ self }
-        ensures below { result < 32 }
+        ensures below { result < 2 ^ 5 }
     {
         self.bits
+    }
+}
+
+/// A prefetch's hint, 0 to 31.
+#[derive(Clone, Copy, Debug, PartialEq, Eq)]
+pub struct Hint {
+    number: u8,
+}
+
+impl Model for Hint {
+    ghost Value = { ℕ };
+
+    ghost view = { λ field. field.number };
+
+    ghost invariant = { λ field. field.number < 2 ^ 5 };
+
+    ghost inverse = { λ n. record { number = n } };
+}
+
+impl Hint {
+    /// The hint in the low five bits.
+    pub fn low(bits: u32) -> Self
+        ensures { result ≡ bits % 2 ^ 5 }
+    {
+        Hint {
+            number: (bits % 0x20) as u8,
+        }
+    }
+
+    /// Its number, 0 to 31.
+    pub fn number(self) -> u8
+        ensures is { result ≡ self }
+        ensures below { result < 2 ^ 5 }
+    {
+        self.number
+    }
+}
+
+/// A trap's code of 10 bits.
+#[derive(Clone, Copy, Debug, PartialEq, Eq)]
+pub struct ShortCode {
+    code: u16,
+}
+
+impl Model for ShortCode {
+    ghost Value = { ℕ };
+
+    ghost view = { λ field. field.code };
+
+    ghost invariant = { λ field. field.code < 2 ^ 10 };
+
+    ghost inverse = { λ n. record { code = n } };
+}
+
+impl ShortCode {
+    /// The code in the low 10 bits.
+    pub fn low(bits: u32) -> Self
+        ensures { result ≡ bits % 2 ^ 10 }
+    {
+        ShortCode {
+            code: (bits % 0x400) as u16,
+        }
+    }
+
+    /// The code, below 2^10.
+    pub fn code(self) -> u16
+        ensures is { result ≡ self }
+        ensures below { result < 2 ^ 10 }
+    {
+        self.code
+    }
+}
+
+/// The code of 20 bits of a SYSCALL or a BREAK.
+#[derive(Clone, Copy, Debug, PartialEq, Eq)]
+pub struct LongCode {
+    code: u32,
+}
+
+impl Model for LongCode {
+    ghost Value = { ℕ };
+
+    ghost view = { λ field. field.code };
+
+    ghost invariant = { λ field. field.code < 2 ^ 20 };
+
+    ghost inverse = { λ n. record { code = n } };
+}
+
+impl LongCode {
+    /// The code in the low 20 bits.
+    pub fn low(bits: u32) -> Self
+        ensures { result ≡ bits % 2 ^ 20 }
+    {
+        LongCode {
+            code: (bits % 0x100000) as u32,
+        }
+    }
+
+    /// The code, below 2^20.
+    pub fn code(self) -> u32
+        ensures is { result ≡ self }
+        ensures below { result < 2 ^ 20 }
+    {
+        self.code
+    }
+}
+
+/// A jump's index of 26 bits, which counts words.
+#[derive(Clone, Copy, Debug, PartialEq, Eq)]
+pub struct JumpIndex {
+    words: u32,
+}
+
+impl Model for JumpIndex {
+    ghost Value = { ℕ };
+
+    ghost view = { λ field. field.words };
+
+    ghost invariant = { λ field. field.words < 2 ^ 26 };
+
+    ghost inverse = { λ n. record { words = n } };
+}
+
+impl JumpIndex {
+    /// The index in the low 26 bits.
+    pub fn low(bits: u32) -> Self
+        ensures { result ≡ bits % 2 ^ 26 }
+    {
+        JumpIndex {
+            words: (bits % 0x4000000) as u32,
+        }
+    }
+
+    /// The index, below 2^26.
+    pub fn words(self) -> u32
+        ensures is { result ≡ self }
+        ensures below { result < 2 ^ 26 }
+    {
+        self.words
     }
 }

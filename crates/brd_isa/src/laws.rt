@@ -1,8 +1,8 @@
 //! What the decoder, the encoder and the table say together.
 
 ghost use Rattle.std.specs.Prelude.{◌≡◌, ℕ, ◌↔◌, Some};
-ghost use Rattle.brd_isa.specs.Table.{StandsFor};
-ghost use Rattle.brd_isa.specs.Decoding.{decoded};
+ghost use Rattle.brd_isa.specs.Table.{StandsFor, IgnoresSa};
+ghost use Rattle.brd_isa.specs.Decoding.{decoded, sa_of};
 ghost use Rattle.brd_isa.specs.declared.instruction.Insn.{Insn};
 
 use crate::decoder::decode;
@@ -24,7 +24,7 @@ pub fn follows_the_table(word: u32)
     let _ = decode(word);
 }
 
-/// No two words stand for one instruction.
+/// Two words that stand for one instruction are the same word; where the instruction ignores the field sa, if they agree in it.
 pub fn has_one_word()
-    ensures { (v w : ℕ) (insn : Insn) → StandsFor v insn → StandsFor w insn → v ≡ w }
+    ensures { (v w : ℕ) (insn : Insn) → StandsFor v insn → StandsFor w insn → (IgnoresSa insn → sa_of v ≡ sa_of w) → v ≡ w }
 {}

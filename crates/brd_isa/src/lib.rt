@@ -11,5 +11,9 @@ pub mod laws;
 
 pub use decoder::decode;
 pub use encoder::encode;
-pub use fields::{Register, ShiftAmount};
-pub use instruction::{BranchOp, ImmediateOp, Insn, LoadOp, RegisterOp, ShiftOp, StoreOp};
+pub use fields::{Hint, JumpIndex, LongCode, Register, ShiftAmount, ShortCode};
+pub use instruction::{
+    AccumulateOp, BranchOp, BranchSignOp, BranchZeroOp, CountOp, ImmediateOp, Insn, JumpOp, LoadOp,
+    MoveFromOp, MoveToOp, ProductOp, RegisterOp, ShiftOp, ShiftVariableOp, StoreOp,
+    TrapImmediateOp, TrapOp,
+};

@@ -1,10 +1,60 @@
 -- Words: numbers below 2 ^ 32. Read as signed, a word of 2 ^ 31 or above stands for itself less 2 ^ 32; a halfword of 2 ^ 15 or
--- above for itself less 2 ^ 16 (two's complement, as everywhere in MD00086).
-use Rattle.std.specs.Prelude.{ℕ, ◌+◌, ◌-◌, ◌*◌, ◌/◌, ◌%◌, ◌^◌, nat_lt, if◌then◌else◌, List, [], ◌∷◌, slice_index}
+-- above for itself less 2 ^ 16, a byte of 2 ^ 7 or above for itself less 2 ^ 8 (two's complement, as everywhere in MD00086).
+use Rattle.std.specs.Prelude.{ℕ, ◌+◌, ◌-◌, ◌*◌, ◌/◌, ◌%◌, ◌^◌, ◌==◌, nat_lt, Bool, ◌&&◌, not, if◌then◌else◌, List, [], ◌∷◌, slice_index, ℤ, pos, negsuc, ◌+ℤ◌, ◌-ℤ◌, ◌*ℤ◌, int_div, int_rem}
+use Rattle.std.specs.Int.{w32, w64, cast_signed, cast_unsigned}
+
+-- the signed reading of a word
+abbrev pub signed : ℕ → ℤ
+signed word = cast_signed w32 word
+
+-- the word of a signed number, modulo 2 ^ 32
+abbrev pub word_of_signed : ℤ → ℕ
+word_of_signed number = cast_unsigned w32 number
+
+-- the word with the signed reading of a byte
+abbrev pub sign_extended8 : ℕ → ℕ
+sign_extended8 byte = if nat_lt byte (2 ^ 7) then byte else byte + (2 ^ 32 - 2 ^ 8)
 
 -- the word with the signed reading of a halfword: `sign_extend(immediate)` in the operations of MD00086
 abbrev pub sign_extended16 : ℕ → ℕ
 sign_extended16 half = if nat_lt half (2 ^ 15) then half else half + (2 ^ 32 - 2 ^ 16)
+
+-- whether a number is the signed reading of a word: from -2 ^ 31 to 2 ^ 31 - 1
+abbrev pub is_signed_word : ℤ → Bool
+is_signed_word (pos n) = nat_lt n (2 ^ 31)
+is_signed_word (negsuc n) = nat_lt n (2 ^ 31)
+
+abbrev pub sum_overflows : ℕ → ℕ → Bool
+sum_overflows a b = not (is_signed_word (signed a +ℤ signed b))
+
+abbrev pub difference_overflows : ℕ → ℕ → Bool
+difference_overflows a b = not (is_signed_word (signed a -ℤ signed b))
+
+-- the product of 64 bits
+abbrev pub signed_product : ℕ → ℕ → ℕ
+signed_product a b = cast_unsigned w64 (signed a *ℤ signed b)
+
+abbrev pub unsigned_product : ℕ → ℕ → ℕ
+unsigned_product a b = a * b
+
+-- a quotient, rounded toward zero, and the remainder
+pub record Quotient : Type 0 where
+  pub quotient : ℕ
+  pub remainder : ℕ
+
+-- own choice: what is divided by 0 gives all ones, and is the remainder
+abbrev pub divided_by_zero : ℕ → Quotient
+divided_by_zero a = record { quotient = 2 ^ 32 - 1; remainder = a }
+
+abbrev pub unsigned_quotient : ℕ → ℕ → Quotient
+unsigned_quotient a b = if b == 0 then divided_by_zero a else record { quotient = a / b; remainder = a % b }
+
+-- own choice: the least number by -1, whose quotient isn't a word, gives itself, with remainder 0
+abbrev pub signed_quotient : ℕ → ℕ → Quotient
+signed_quotient a b =
+    if b == 0 then divided_by_zero a
+    else if (a == 2 ^ 31) && (b == 2 ^ 32 - 1) then record { quotient = 2 ^ 31; remainder = 0 }
+    else record { quotient = word_of_signed (int_div (signed a) (signed b)); remainder = word_of_signed (int_rem (signed a) (signed b)) }
 
 -- the four bytes of a word, the most significant first
 abbrev pub big_endian_bytes : ℕ → List ℕ
