@@ -1,5 +1,5 @@
 -- The context of a processor: what a task takes along when it is interrupted or moved.
-use Rattle.std.specs.Prelude.{ℕ, ◌+◌, ◌*◌, ◌%◌, ◌^◌, ◌==◌, Bool, true, false, if◌then◌else◌, List, slice_index, slice_set, replicate}
+use Rattle.std.specs.Prelude.{ℕ, ◌+◌, ◌*◌, ◌/◌, ◌%◌, ◌^◌, ◌==◌, Bool, true, false, if◌then◌else◌, List, slice_index, slice_set, replicate}
 use Rattle.brd_word.specs.Words.{sign_extended16}
 
 pub record State : Type 0 where
@@ -30,15 +30,45 @@ abbrev pub write : State → ℕ → ℕ → State
 write s register word =
     if register == 0 then s else record s { registers = slice_set s.registers register word }
 
+-- a number of 64 bits written to HI, its high half, and LO
+abbrev pub write_product : State → ℕ → State
+write_product s product = record s { hi = product / 2 ^ 32; lo = product % 2 ^ 32 }
+
+-- the number of 64 bits in HI and LO
+abbrev pub product_in : State → ℕ
+product_in s = s.hi * 2 ^ 32 + s.lo
+
 -- on to the next instruction
 abbrev pub advanced : State → State
 advanced s = record s { pc = s.npc; npc = (s.npc + 4) % 2 ^ 32; slot = false }
 
--- on to the delay slot of a branch; then to its target where it is taken, else past the slot. The offset counts
--- words from the slot.
+-- on to the delay slot of a jump, and from there to its target
+abbrev pub jumped : State → ℕ → State
+jumped s target = record s { pc = s.npc; npc = target; slot = true }
+
+-- a branch's target: the offset counts words from the delay slot
+abbrev pub target_of : State → ℕ → ℕ
+target_of s offset = (s.npc + 4 * sign_extended16 offset) % 2 ^ 32
+
+-- on to the delay slot of a branch; from there to its target where it is taken, else past the slot
 abbrev pub branched : State → Bool → ℕ → State
-branched s taken offset =
-    record s { pc = s.npc; npc = (s.npc + (if taken then 4 * sign_extended16 offset else 4)) % 2 ^ 32; slot = true }
+branched s taken offset = jumped s (if taken then target_of s offset else (s.npc + 4) % 2 ^ 32)
+
+-- past the delay slot
+abbrev pub skipped : State → State
+skipped s = record s { pc = (s.npc + 4) % 2 ^ 32; npc = (s.npc + 8) % 2 ^ 32; slot = false }
+
+-- a branch-likely that isn't taken does without its delay slot
+abbrev pub branched_likely : State → Bool → ℕ → State
+branched_likely s taken offset = if taken then branched s true offset else skipped s
+
+-- the address of the instruction behind the delay slot, to which a call returns
+abbrev pub link_of : State → ℕ
+link_of s = (s.pc + 8) % 2 ^ 32
+
+-- a jump's target: the top four bits are those of the delay slot's address, the index counts words
+abbrev pub jump_target : State → ℕ → ℕ
+jump_target s index = s.npc / 2 ^ 28 * 2 ^ 28 + 4 * index
 
 -- the address that a load or a store names
 abbrev pub address_of : State → ℕ → ℕ → ℕ

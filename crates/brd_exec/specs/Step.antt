@@ -1,78 +1,154 @@
--- One instruction: what it does to a context and to memory, or which exception it raises.
+-- One instruction: what it does to a context and to memory, or what it stops at.
 use Rattle.std.specs.Prelude.{◌≡◌, ℕ, ◌+◌, ◌-◌, ◌*◌, ◌%◌, ◌^◌, Bool, ◌&&◌, true, false, if◌then◌else◌, List, Option, Some, None, Result, Ok, Err}
 use Rattle.brd_isa.specs.declared.instruction.Insn.{Insn}
-use Rattle.brd_isa.specs.declared.instruction.Insn.TheVariants.{Shift, ThreeRegisters, Branch, Immediate, LoadUpper, Load, Store}
+use Rattle.brd_isa.specs.declared.instruction.Insn.TheVariants.{Shift, ShiftVariable, ThreeRegisters, Multiply, JumpRegister, JumpLinkRegister, Syscall, Break, Sync, MoveFrom, MoveTo, Product, Accumulate, Count, Trap, TrapImmediate, Jump, Branch, BranchSign, BranchZero, Immediate, LoadUpper, Load, Store, Prefetch}
 use Rattle.brd_isa.specs.declared.instruction.LoadOp.{LoadOp}
-use Rattle.brd_isa.specs.declared.instruction.LoadOp.TheVariants.{Lw}
+use Rattle.brd_isa.specs.declared.instruction.LoadOp.TheVariants.{Lb, Lh, Lwl, Lw, Lbu, Lhu, Lwr}
 use Rattle.brd_isa.specs.declared.instruction.StoreOp.{StoreOp}
-use Rattle.brd_isa.specs.declared.instruction.StoreOp.TheVariants.{Sw}
+use Rattle.brd_isa.specs.declared.instruction.StoreOp.TheVariants.{Sb, Sh, Swl, Sw, Swr}
+use Rattle.brd_isa.specs.declared.instruction.MoveFromOp.{MoveFromOp}
+use Rattle.brd_isa.specs.declared.instruction.MoveFromOp.TheVariants.{Mfhi, Mflo}
+use Rattle.brd_isa.specs.declared.instruction.MoveToOp.{MoveToOp}
+use Rattle.brd_isa.specs.declared.instruction.MoveToOp.TheVariants.{Mthi, Mtlo}
+use Rattle.brd_isa.specs.declared.instruction.JumpOp.{JumpOp}
+use Rattle.brd_isa.specs.declared.instruction.JumpOp.TheVariants.{J, Jal}
 use Rattle.brd_isa.specs.Decoding.{decoded}
+use Rattle.brd_word.specs.Words.{sign_extended8, sign_extended16}
 use Rattle.brd_mem.specs.declared.fault.Exc.{Exc}
-use Rattle.brd_mem.specs.Access.{fetched, loaded32, stored32}
+use Rattle.brd_mem.specs.Access.{fetched, loaded8, loaded16, loaded32, stored8, stored16, stored32}
 use Rattle.brd_exec.specs.declared.outcome.ExceptionCode.{ExceptionCode}
-use Rattle.brd_exec.specs.declared.outcome.ExceptionCode.TheVariants.{RI}
+use Rattle.brd_exec.specs.declared.outcome.ExceptionCode.TheVariants.{Bp, RI, Tr}
 use Rattle.brd_exec.specs.declared.outcome.Outcome.{Outcome}
-use Rattle.brd_exec.specs.declared.outcome.Outcome.TheVariants.{Done, Exception}
-use Rattle.brd_exec.specs.State.{State, read, write, advanced, branched, address_of}
-use Rattle.brd_exec.specs.Values.{shift_gives, register_gives, immediate_gives, is_taken}
+use Rattle.brd_exec.specs.declared.outcome.Outcome.TheVariants.{Done, Syscall as syscall, Exception}
+use Rattle.brd_exec.specs.declared.outcome.Stop.{Stop}
+use Rattle.brd_exec.specs.declared.outcome.Stop.TheVariants.{Call, Raise}
+use Rattle.brd_exec.specs.State.{State, read, write, write_product, product_in, advanced, jumped, branched, branched_likely, link_of, jump_target, address_of}
+use Rattle.brd_exec.specs.Values.{shift_gives, shift_variable_gives, register_gives, immediate_gives, multiply_gives, product_gives, accumulate_gives, count_gives, traps, traps_immediate, is_taken, is_likely, is_taken_by_sign, is_likely_by_sign, is_taken_by_zero, is_likely_by_zero, links}
+use Rattle.brd_exec.specs.Unaligned.{loaded_left, loaded_right, stored_left, stored_right}
 use Rattle.brd_exec.specs.Exception.{code_of}
 
--- An instruction leads to a new context and memory, or raises an exception, which changes neither.
+-- An instruction leads to a new context and memory, or stops: at a service call, or by an exception. Stopping changes neither.
 pub data Effect : Type 0 where
   Goes : State → List ℕ → Effect
-  Raises : ExceptionCode → Effect
+  Stops : Stop → Effect
+
+abbrev pub raises : ExceptionCode → Effect
+raises code = Stops (Raise code)
 
 -- a word for a register, and on to the next instruction
-abbrev pub sets : State → List ℕ → ℕ → ℕ → Effect
-sets s memory register word = Goes (write (advanced s) register word) memory
+abbrev pub with_register : State → ℕ → ℕ → State
+with_register s register word = write (advanced s) register word
 
--- what a load finds at an address
-abbrev pub load_gives : LoadOp → List ℕ → ℕ → Result ℕ Exc
-load_gives Lw memory address = loaded32 memory address
+-- the same, unless there was an exception
+abbrev pub sets : State → List ℕ → ℕ → Result ℕ ExceptionCode → Effect
+sets s memory register (Ok word) = Goes (with_register s register word) memory
+sets s memory register (Err code) = raises code
 
-abbrev pub loads : State → List ℕ → ℕ → Result ℕ Exc → Effect
-loads s memory register (Ok word) = sets s memory register word
-loads s memory register (Err exc) = Raises (code_of exc)
+-- what an access raises
+abbrev pub with_code : {A : Type 0} → Result A Exc → Result A ExceptionCode
+with_code (Ok x) = Ok x
+with_code (Err exc) = Err (code_of exc)
 
--- the memory that a store leaves
+abbrev pub extended : (ℕ → ℕ) → Result ℕ Exc → Result ℕ Exc
+extended extend (Ok x) = Ok (extend x)
+extended extend (Err exc) = Err exc
+
+-- what a load finds at an address, from what the register was
+abbrev pub load_gives : LoadOp → List ℕ → ℕ → ℕ → Result ℕ Exc
+load_gives Lb memory address old = extended sign_extended8 (loaded8 memory address)
+load_gives Lh memory address old = extended sign_extended16 (loaded16 memory address)
+load_gives Lwl memory address old = loaded_left memory address old
+load_gives Lw memory address old = loaded32 memory address
+load_gives Lbu memory address old = loaded8 memory address
+load_gives Lhu memory address old = loaded16 memory address
+load_gives Lwr memory address old = loaded_right memory address old
+
+-- the memory that a store of a register's word leaves
 abbrev pub store_gives : StoreOp → List ℕ → ℕ → ℕ → Result (List ℕ) Exc
+store_gives Sb memory address word = stored8 memory address (word % 2 ^ 8)
+store_gives Sh memory address word = stored16 memory address (word % 2 ^ 16)
+store_gives Swl memory address word = stored_left memory address word
 store_gives Sw memory address word = stored32 memory address word
+store_gives Swr memory address word = stored_right memory address word
 
 abbrev pub stores : State → Result (List ℕ) Exc → Effect
 stores s (Ok memory) = Goes (advanced s) memory
-stores s (Err exc) = Raises (code_of exc)
+stores s (Err exc) = raises (code_of exc)
 
--- what an instruction does, one line a form of operands
+-- on to the next instruction, unless there is a trap
+abbrev pub unless_trap : State → List ℕ → Bool → Effect
+unless_trap s memory trap = if trap then raises Tr else Goes (advanced s) memory
+
+-- a branch, which may be likely
+abbrev pub after_branch : State → Bool → Bool → ℕ → State
+after_branch s likely taken offset = if likely then branched_likely s taken offset else branched s taken offset
+
+-- the link in register 31, where there is one
+abbrev pub linked_if : State → Bool → State
+linked_if s link = if link then write s 31 (link_of s) else s
+
+abbrev pub moved_from : MoveFromOp → State → ℕ
+moved_from Mfhi s = s.hi
+moved_from Mflo s = s.lo
+
+abbrev pub moved_to : MoveToOp → State → ℕ → State
+moved_to Mthi s word = record s { hi = word }
+moved_to Mtlo s word = record s { lo = word }
+
+abbrev pub jump_links : JumpOp → Bool
+jump_links J = false
+jump_links Jal = true
+
+-- What an instruction does, one line a form of operands. A branch that links reads its register first, and links whether taken or not.
 abbrev pub meaning : Insn → State → List ℕ → Effect
-meaning (Shift op rd rt sa) s memory = sets s memory rd (shift_gives op (read s rt) sa)
-meaning (ThreeRegisters op rd rs rt) s memory = sets s memory rd (register_gives op (read s rs) (read s rt))
-meaning (Branch op rs rt offset) s memory = Goes (branched s (is_taken op (read s rs) (read s rt)) offset) memory
+meaning (Shift op rd rt sa) s memory = Goes (with_register s rd (shift_gives op (read s rt) sa)) memory
+meaning (ShiftVariable op rd rt rs) s memory = Goes (with_register s rd (shift_variable_gives op (read s rt) (read s rs % 2 ^ 5))) memory
+meaning (ThreeRegisters op rd rs rt) s memory = sets s memory rd (register_gives op (read s rd) (read s rs) (read s rt))
+meaning (Multiply rd rs rt) s memory = Goes (with_register s rd (multiply_gives (read s rs) (read s rt))) memory
+meaning (JumpRegister rs) s memory = Goes (jumped s (read s rs)) memory
+meaning (JumpLinkRegister rd rs) s memory = Goes (jumped (write s rd (link_of s)) (read s rs)) memory
+meaning (Syscall code) s memory = Stops Call
+meaning (Break code) s memory = raises Bp
+meaning Sync s memory = Goes (advanced s) memory
+meaning (MoveFrom op rd) s memory = Goes (with_register s rd (moved_from op s)) memory
+meaning (MoveTo op rs) s memory = Goes (moved_to op (advanced s) (read s rs)) memory
+meaning (Product op rs rt) s memory = Goes (write_product (advanced s) (product_gives op (read s rs) (read s rt))) memory
+meaning (Accumulate op rs rt) s memory = Goes (write_product (advanced s) (accumulate_gives op (product_in s) (read s rs) (read s rt))) memory
+meaning (Count op rd rs) s memory = Goes (with_register s rd (count_gives op (read s rs))) memory
+meaning (Trap op rs rt code) s memory = unless_trap s memory (traps op (read s rs) (read s rt))
+meaning (TrapImmediate op rs immediate) s memory = unless_trap s memory (traps_immediate op (read s rs) immediate)
+meaning (Jump op index) s memory = Goes (jumped (linked_if s (jump_links op)) (jump_target s index)) memory
+meaning (Branch op rs rt offset) s memory = Goes (after_branch s (is_likely op) (is_taken op (read s rs) (read s rt)) offset) memory
+meaning (BranchSign op rs offset) s memory = Goes (after_branch s (is_likely_by_sign op) (is_taken_by_sign op (read s rs)) offset) memory
+meaning (BranchZero op rs offset) s memory =
+    Goes (after_branch (linked_if s (links op)) (is_likely_by_zero op) (is_taken_by_zero op (read s rs)) offset) memory
 meaning (Immediate op rt rs immediate) s memory = sets s memory rt (immediate_gives op (read s rs) immediate)
-meaning (LoadUpper rt immediate) s memory = sets s memory rt (immediate * 2 ^ 16)
-meaning (Load op rt base offset) s memory = loads s memory rt (load_gives op memory (address_of s base offset))
+meaning (LoadUpper rt immediate) s memory = Goes (with_register s rt (immediate * 2 ^ 16)) memory
+meaning (Load op rt base offset) s memory = sets s memory rt (with_code (load_gives op memory (address_of s base offset) (read s rt)))
 meaning (Store op rt base offset) s memory = stores s (store_gives op memory (address_of s base offset) (read s rt))
+meaning (Prefetch hint base offset) s memory = Goes (advanced s) memory
 
 -- whether an instruction is a branch or a jump, which has a delay slot
 abbrev pub has_slot : Insn → Bool
+has_slot (JumpRegister rs) = true
+has_slot (JumpLinkRegister rd rs) = true
+has_slot (Jump op index) = true
 has_slot (Branch op rs rt offset) = true
-has_slot (Shift op rd rt sa) = false
-has_slot (ThreeRegisters op rd rs rt) = false
-has_slot (Immediate op rt rs immediate) = false
-has_slot (LoadUpper rt immediate) = false
-has_slot (Load op rt base offset) = false
-has_slot (Store op rt base offset) = false
+has_slot (BranchSign op rs offset) = true
+has_slot (BranchZero op rs offset) = true
+has_slot _ = false
 
 -- The order of cases: first the fetch may be refused; then a word that stands for no instruction is reserved; then (own
 -- choice where the manual says UNPREDICTABLE) so is a branch or a jump in a delay slot; then the instruction is done.
 abbrev pub of_instruction : State → List ℕ → Insn → Effect
-of_instruction s memory insn = if s.slot && has_slot insn then Raises RI else meaning insn s memory
+of_instruction s memory insn = if s.slot && has_slot insn then raises RI else meaning insn s memory
 
 abbrev pub of_word : State → List ℕ → Option Insn → Effect
-of_word s memory None = Raises RI
+of_word s memory None = raises RI
 of_word s memory (Some insn) = of_instruction s memory insn
 
 abbrev pub of_fetch : State → List ℕ → Result ℕ Exc → Effect
-of_fetch s memory (Err exc) = Raises (code_of exc)
+of_fetch s memory (Err exc) = raises (code_of exc)
 of_fetch s memory (Ok word) = of_word s memory (decoded word)
 
 unfoldable pub effect : State → List ℕ → Effect
@@ -89,16 +165,27 @@ pub record Ran : Type 0 where
   pub memory : List ℕ
   pub outcome : Outcome
 
--- An exception leaves context and memory as they were, and tells its code, its address and whether that is a branch's.
+-- A service call leaves context and memory as they were; so does an exception, which tells its code, its address and whether that is a branch's.
 abbrev pub ended : Effect → State → List ℕ → Ran
 ended (Goes after stored) s memory = record { state = after; memory = stored; outcome = Done }
-ended (Raises code) s memory = record { state = s; memory = memory; outcome = Exception code (epc_of s) s.slot }
+ended (Stops Call) s memory = record { state = s; memory = memory; outcome = syscall }
+ended (Stops (Raise code)) s memory = record { state = s; memory = memory; outcome = Exception code (epc_of s) s.slot }
 
 -- one instruction of a context over a memory
 unfoldable pub ran : State → List ℕ → Ran
 ran s memory = ended (effect s memory) s memory
 
--- What a function that does an effect leaves: all of it, or nothing and the exception.
-abbrev pub Does : Effect → State → List ℕ → Result Unit ExceptionCode → State → List ℕ → Type 0
+-- What a function that does an effect leaves: all of it, or nothing and where it stopped.
+abbrev pub Does : Effect → State → List ℕ → Result Unit Stop → State → List ℕ → Type 0
 Does (Goes after stored) s memory result new_state new_memory = (result ≡ Ok tt) × (new_state ≡ after) × (new_memory ≡ stored)
-Does (Raises code) s memory result new_state new_memory = (result ≡ Err code) × (new_state ≡ s) × (new_memory ≡ memory)
+Does (Stops stop) s memory result new_state new_memory = (result ≡ Err stop) × (new_state ≡ s) × (new_memory ≡ memory)
+
+-- What a function that sets a register leaves: its word, or nothing and the exception.
+abbrev pub Sets : Result ℕ ExceptionCode → State → ℕ → Result Unit Stop → State → Type 0
+Sets (Ok word) s register result new_state = (result ≡ Ok tt) × (new_state ≡ with_register s register word)
+Sets (Err code) s register result new_state = (result ≡ Err (Raise code)) × (new_state ≡ s)
+
+-- What a function that may trap leaves: the next instruction, or nothing and the trap.
+abbrev pub TrapsIf : Bool → State → Result Unit Stop → State → Type 0
+TrapsIf true s result new_state = (result ≡ Err (Raise Tr)) × (new_state ≡ s)
+TrapsIf false s result new_state = (result ≡ Ok tt) × (new_state ≡ advanced s)

@@ -1,9 +1,22 @@
 //! The context of a processor.
 
 ghost use Rattle.std.specs.Prelude.{◌≡◌};
-ghost use Rattle.brd_exec.specs.State.{State, opening, read, write, advanced, branched, address_of};
+ghost use Rattle.brd_isa.specs.declared.instruction.MoveToOp.TheVariants.{Mthi, Mtlo};
+ghost use Rattle.brd_exec.specs.State.{
+  opening,
+  read,
+  write,
+  write_product,
+  product_in,
+  advanced,
+  jumped,
+  link_of,
+  jump_target,
+  address_of,
+};
+ghost use Rattle.brd_exec.specs.Step.{with_register, after_branch, linked_if, moved_to};
 
-use brd_isa::Register;
+use brd_isa::{JumpIndex, Register};
 use brd_word::sign16;
 use std::marker::Model;
 
@@ -118,19 +131,97 @@ impl Context {
         self.slot = false;
     }
 
-    /// Goes on to the delay slot of a branch, which is followed by its target where it is taken. The offset counts words
-    /// from the slot.
-    pub fn branch(&mut self, taken: bool, offset: u16)
-        ensures { self.new ≡ branched self.old taken offset }
+    /// Goes on to the next instruction with this word in a register.
+    pub fn set(&mut self, register: Register, word: u32)
+        ensures { self.new ≡ with_register self.old register word }
     {
-        let step = if taken {
-            sign16(offset).wrapping_mul(4)
-        } else {
-            4
-        };
+        self.advance();
+        self.write(register, word);
+    }
+
+    /// Writes a number of 64 bits to HI, its high half, and LO, and goes on to the next instruction.
+    pub fn set_product(&mut self, product: u64)
+        ensures { self.new ≡ write_product (advanced self.old) product }
+    {
+        self.advance();
+        self.hi = (product >> 32) as u32;
+        self.lo = (product % 0x1_0000_0000) as u32;
+    }
+
+    /// The number of 64 bits in HI and LO.
+    pub fn product(&self) -> u64
+        ensures { result ≡ product_in self.now }
+    {
+        (u64::from(self.hi) << 32) + u64::from(self.lo)
+    }
+
+    /// Writes HI and goes on to the next instruction.
+    pub fn set_hi(&mut self, word: u32)
+        ensures { self.new ≡ moved_to Mthi (advanced self.old) word }
+    {
+        self.advance();
+        self.hi = word;
+    }
+
+    /// Writes LO and goes on to the next instruction.
+    pub fn set_lo(&mut self, word: u32)
+        ensures { self.new ≡ moved_to Mtlo (advanced self.old) word }
+    {
+        self.advance();
+        self.lo = word;
+    }
+
+    /// Goes on to the delay slot of a jump, which is followed by its target.
+    pub fn jump(&mut self, target: u32)
+        ensures { self.new ≡ jumped self.old target }
+    {
         self.pc = self.npc;
-        self.npc = self.npc.wrapping_add(step);
+        self.npc = target;
         self.slot = true;
+    }
+
+    /// The target of a jump by an index.
+    pub fn jump_target(&self, index: JumpIndex) -> u32
+        ensures { result ≡ jump_target self.now index }
+    {
+        ((self.npc >> 28) << 28) + (index.words() << 2)
+    }
+
+    /// The address behind the delay slot, to which a call returns.
+    pub fn link(&self) -> u32
+        ensures { result ≡ link_of self.now }
+    {
+        self.pc.wrapping_add(8)
+    }
+
+    /// Writes the link to register 31, where there is one.
+    pub fn link_if(&mut self, links: bool)
+        ensures { self.new ≡ linked_if self.old links }
+    {
+        if links {
+            let link = self.link();
+            self.write(Register::low(31), link);
+        }
+    }
+
+    /// Goes on to the delay slot of a branch, which is followed by its target where it is taken; a branch-likely that isn't taken goes on behind its delay
+    /// slot.
+    pub fn branch(&mut self, likely: bool, taken: bool, offset: u16)
+        ensures { self.new ≡ after_branch self.old likely taken offset }
+    {
+        if taken {
+            let target = self.npc.wrapping_add(sign16(offset).wrapping_mul(4));
+            self.jump(target);
+            return;
+        }
+        let behind = self.npc.wrapping_add(4);
+        if likely {
+            self.npc = self.npc.wrapping_add(8);
+            self.pc = behind;
+            self.slot = false;
+            return;
+        }
+        self.jump(behind);
     }
 
     /// The address that a load or a store names.

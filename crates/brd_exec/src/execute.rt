@@ -1,109 +1,81 @@
 //! One instruction.
 
-ghost use Rattle.std.specs.Prelude.{◌≡◌};
-ghost use Rattle.brd_exec.specs.State.{write, advanced};
+ghost use Rattle.std.specs.Prelude.{◌≡◌, ◌%◌, ◌^◌, ◌*◌};
+ghost use Rattle.brd_exec.specs.State.{
+  read,
+  write,
+  write_product,
+  product_in,
+  advanced,
+  jumped,
+  link_of,
+  jump_target,
+  address_of,
+};
+ghost use Rattle.brd_exec.specs.Values.{
+  shift_gives,
+  shift_variable_gives,
+  register_gives,
+  immediate_gives,
+  multiply_gives,
+  product_gives,
+  accumulate_gives,
+  count_gives,
+  is_taken,
+  is_likely,
+  is_taken_by_sign,
+  is_likely_by_sign,
+  is_taken_by_zero,
+  is_likely_by_zero,
+  links,
+};
+ghost use Rattle.brd_exec.specs.Step.{
+  effect,
+  meaning,
+  has_slot,
+  with_register,
+  with_code,
+  load_gives,
+  store_gives,
+  stores,
+  after_branch,
+  linked_if,
+  moved_from,
+  moved_to,
+  jump_links,
+  epc_of,
+  ran,
+  Does,
+  Sets,
+  TrapsIf,
+};
 ghost use Rattle.brd_exec.specs.declared.outcome.Outcome.TheVariants.{Exception};
-ghost use Rattle.brd_exec.specs.Step.{effect, meaning, has_slot, load_gives, store_gives, epc_of, ran, Does};
-ghost use Rattle.brd_mem.specs.Access.{Stores};
 
+use crate::access;
 use crate::context::Context;
-use crate::outcome::{ExceptionCode, Outcome};
-use crate::value::{immediate_value, is_branch_taken, register_value, shift_value};
-use brd_isa::{Insn, LoadOp, Register, StoreOp, decode};
-use brd_mem::{Exc, Ram};
+use crate::outcome::{ExceptionCode, Outcome, Stop};
+use crate::value::{
+    accumulate_value, count_value, immediate_value, is_branch_likely, is_branch_taken,
+    is_immediate_trap, is_sign_branch_likely, is_sign_branch_taken, is_trap, is_zero_branch_likely,
+    is_zero_branch_linking, is_zero_branch_taken, multiply_value, product_value, register_value,
+    shift_value, shift_variable_value,
+};
+use brd_isa::{
+    AccumulateOp, BranchOp, BranchSignOp, BranchZeroOp, CountOp, ImmediateOp, Insn, JumpIndex,
+    JumpOp, LoadOp, MoveFromOp, MoveToOp, ProductOp, Register, RegisterOp, ShiftAmount, ShiftOp,
+    ShiftVariableOp, StoreOp, decode,
+};
+use brd_mem::Ram;
 
-/// Does one instruction of a context over a memory. An exception leaves both as they were.
+/// Does one instruction of a context over a memory. A SYSCALL and an exception leave both as they were.
 #[tactic(auto, unfolding(crate::specs::Step::ran))]
 pub fn run(context: &mut Context, ram: &mut Ram) -> Outcome
     ensures { record { state = context.new; memory = ram.new; outcome = result } ≡ ran context.old ram.old }
 {
     match step(context, ram) {
         Ok(()) => Outcome::Done,
-        Err(code) => raised(context, code),
-    }
-}
-
-/// Fetches, decodes and does one instruction.
-#[tactic(auto, unfolding(crate::specs::Step::effect))]
-fn step(context: &mut Context, ram: &mut Ram) -> Result<(), ExceptionCode>
-    ensures { Does (effect context.old ram.old) context.old ram.old result context.new ram.new }
-{
-    let word = ram.fetch(context.pc())?;
-    match decode(word) {
-        None => Err(ExceptionCode::RI),
-        Some(insn) => {
-            if context.slot() && is_with_slot(&insn) {
-                return Err(ExceptionCode::RI);
-            }
-            execute(context, ram, &insn)
-        }
-    }
-}
-
-/// Whether an instruction is a branch or a jump, which has a delay slot.
-fn is_with_slot(insn: &Insn) -> bool
-    ensures { result ≡ has_slot insn.now }
-{
-    matches!(insn, Insn::Branch(_, _, _, _))
-}
-
-/// Does an instruction that may stand here.
-fn execute(context: &mut Context, ram: &mut Ram, insn: &Insn) -> Result<(), ExceptionCode>
-    ensures { Does (meaning insn.now context.old ram.old) context.old ram.old result context.new ram.new }
-{
-    match *insn {
-        Insn::Shift(op, rd, rt, sa) => {
-            let word = shift_value(op, context.read(rt), sa);
-            set(context, rd, word);
-        }
-        Insn::ThreeRegisters(op, rd, rs, rt) => {
-            let word = register_value(op, context.read(rs), context.read(rt));
-            set(context, rd, word);
-        }
-        Insn::Branch(op, rs, rt, offset) => {
-            let taken = is_branch_taken(op, context.read(rs), context.read(rt));
-            context.branch(taken, offset);
-        }
-        Insn::Immediate(op, rt, rs, immediate) => {
-            let word = immediate_value(op, context.read(rs), immediate);
-            set(context, rt, word);
-        }
-        Insn::LoadUpper(rt, immediate) => set(context, rt, u32::from(immediate) << 16),
-        Insn::Load(op, rt, base, offset) => {
-            let word = load(op, ram, context.address(base, offset))?;
-            set(context, rt, word);
-        }
-        Insn::Store(op, rt, base, offset) => {
-            store(op, ram, context.address(base, offset), context.read(rt))?;
-            context.advance();
-        }
-    }
-    Ok(())
-}
-
-/// Writes a register and goes on to the next instruction.
-fn set(context: &mut Context, register: Register, word: u32)
-    ensures { context.new ≡ write (advanced context.old) register word }
-{
-    context.advance();
-    context.write(register, word);
-}
-
-/// What a load finds.
-fn load(op: LoadOp, ram: &Ram, address: u32) -> Result<u32, Exc>
-    ensures { result ≡ load_gives op ram.now address }
-{
-    match op {
-        LoadOp::Lw => ram.load32(address),
-    }
-}
-
-/// Does a store.
-fn store(op: StoreOp, ram: &mut Ram, address: u32, word: u32) -> Result<(), Exc>
-    ensures { Stores (store_gives op ram.old address word) ram.old result ram.new }
-{
-    match op {
-        StoreOp::Sw => ram.store32(address, word),
+        Err(Stop::Call) => Outcome::Syscall,
+        Err(Stop::Raise(code)) => raised(context, code),
     }
 }
 
@@ -118,4 +90,270 @@ fn raised(context: &Context, code: ExceptionCode) -> Outcome
         context.pc()
     };
     Outcome::Exception { code, epc, bd }
+}
+
+/// Fetches, decodes and does one instruction.
+#[tactic(auto, unfolding(crate::specs::Step::effect))]
+fn step(context: &mut Context, ram: &mut Ram) -> Result<(), Stop>
+    ensures { Does (effect context.old ram.old) context.old ram.old result context.new ram.new }
+{
+    let word = ram.fetch(context.pc())?;
+    match decode(word) {
+        None => Err(Stop::Raise(ExceptionCode::RI)),
+        Some(insn) => {
+            if context.slot() && is_with_slot(&insn) {
+                return Err(Stop::Raise(ExceptionCode::RI));
+            }
+            execute(context, ram, &insn)
+        }
+    }
+}
+
+/// Whether an instruction is a branch or a jump, which has a delay slot.
+fn is_with_slot(insn: &Insn) -> bool
+    ensures { result ≡ has_slot insn.now }
+{
+    matches!(
+        insn,
+        Insn::JumpRegister(_)
+            | Insn::JumpLinkRegister(_, _)
+            | Insn::Jump(_, _)
+            | Insn::Branch(_, _, _, _)
+            | Insn::BranchSign(_, _, _)
+            | Insn::BranchZero(_, _, _)
+    )
+}
+
+/// Does an instruction that may stand here, one line a form of operands.
+fn execute(context: &mut Context, ram: &mut Ram, insn: &Insn) -> Result<(), Stop>
+    ensures { Does (meaning insn.now context.old ram.old) context.old ram.old result context.new ram.new }
+{
+    match *insn {
+        Insn::Shift(op, rd, rt, sa) => shift(context, op, rd, rt, sa),
+        Insn::ShiftVariable(op, rd, rt, rs) => shift_variable(context, op, rd, rt, rs),
+        Insn::ThreeRegisters(op, rd, rs, rt) => three_registers(context, op, rd, rs, rt)?,
+        Insn::Multiply(rd, rs, rt) => multiply(context, rd, rs, rt),
+        Insn::JumpRegister(rs) => jump_register(context, rs),
+        Insn::JumpLinkRegister(rd, rs) => jump_link_register(context, rd, rs),
+        Insn::Syscall(_) => return Err(Stop::Call),
+        Insn::Break(_) => return Err(Stop::Raise(ExceptionCode::Bp)),
+        Insn::Sync => context.advance(),
+        Insn::MoveFrom(op, rd) => move_from(context, op, rd),
+        Insn::MoveTo(op, rs) => move_to(context, op, rs),
+        Insn::Product(op, rs, rt) => product(context, op, rs, rt),
+        Insn::Accumulate(op, rs, rt) => accumulate(context, op, rs, rt),
+        Insn::Count(op, rd, rs) => count(context, op, rd, rs),
+        Insn::Trap(op, rs, rt, _) => trap_if(
+            context,
+            is_trap(op, context.read(rs), context.read(rt)),
+        )?,
+        Insn::TrapImmediate(op, rs, immediate) => {
+            trap_if(context, is_immediate_trap(op, context.read(rs), immediate))?
+        }
+        Insn::Jump(op, index) => jump(context, op, index),
+        Insn::Branch(op, rs, rt, offset) => branch(context, op, rs, rt, offset),
+        Insn::BranchSign(op, rs, offset) => branch_sign(context, op, rs, offset),
+        Insn::BranchZero(op, rs, offset) => branch_zero(context, op, rs, offset),
+        Insn::Immediate(op, rt, rs, immediate) => with_immediate(context, op, rt, rs, immediate)?,
+        Insn::LoadUpper(rt, immediate) => context.set(rt, u32::from(immediate) << 16),
+        Insn::Load(op, rt, base, offset) => load(context, ram, op, rt, base, offset)?,
+        Insn::Store(op, rt, base, offset) => store(context, ram, op, rt, base, offset)?,
+        Insn::Prefetch(_, _, _) => context.advance(),
+    }
+    Ok(())
+}
+
+fn shift(context: &mut Context, op: ShiftOp, rd: Register, rt: Register, sa: ShiftAmount)
+    ensures { context.new ≡ with_register context.old rd (shift_gives op (read context.old rt) sa) }
+{
+    let word = shift_value(op, context.read(rt), sa);
+    context.set(rd, word);
+}
+
+fn shift_variable(
+    context: &mut Context,
+    op: ShiftVariableOp,
+    rd: Register,
+    rt: Register,
+    rs: Register,
+)
+    ensures { context.new ≡
+        with_register context.old rd (shift_variable_gives op (read context.old rt) (read context.old rs % 2 ^ 5)) }
+{
+    let amount = ShiftAmount::low(context.read(rs));
+    let word = shift_variable_value(op, context.read(rt), amount);
+    context.set(rd, word);
+}
+
+fn three_registers(
+    context: &mut Context,
+    op: RegisterOp,
+    rd: Register,
+    rs: Register,
+    rt: Register,
+) -> Result<(), Stop>
+    ensures { Sets (register_gives op (read context.old rd) (read context.old rs) (read context.old rt))
+        context.old rd result context.new }
+{
+    let word = register_value(op, context.read(rd), context.read(rs), context.read(rt))?;
+    context.set(rd, word);
+    Ok(())
+}
+
+fn multiply(context: &mut Context, rd: Register, rs: Register, rt: Register)
+    ensures { context.new ≡ with_register context.old rd (multiply_gives (read context.old rs) (read context.old rt)) }
+{
+    let word = multiply_value(context.read(rs), context.read(rt));
+    context.set(rd, word);
+}
+
+fn jump_register(context: &mut Context, rs: Register)
+    ensures { context.new ≡ jumped context.old (read context.old rs) }
+{
+    let target = context.read(rs);
+    context.jump(target);
+}
+
+/// The target is what the register was before the link was written.
+fn jump_link_register(context: &mut Context, rd: Register, rs: Register)
+    ensures { context.new ≡ jumped (write context.old rd (link_of context.old)) (read context.old rs) }
+{
+    let target = context.read(rs);
+    let link = context.link();
+    context.write(rd, link);
+    context.jump(target);
+}
+
+fn move_from(context: &mut Context, op: MoveFromOp, rd: Register)
+    ensures { context.new ≡ with_register context.old rd (moved_from op context.old) }
+{
+    let word = match op {
+        MoveFromOp::Mfhi => context.hi(),
+        MoveFromOp::Mflo => context.lo(),
+    };
+    context.set(rd, word);
+}
+
+fn move_to(context: &mut Context, op: MoveToOp, rs: Register)
+    ensures { context.new ≡ moved_to op (advanced context.old) (read context.old rs) }
+{
+    let word = context.read(rs);
+    match op {
+        MoveToOp::Mthi => context.set_hi(word),
+        MoveToOp::Mtlo => context.set_lo(word),
+    }
+}
+
+fn product(context: &mut Context, op: ProductOp, rs: Register, rt: Register)
+    ensures { context.new ≡
+        write_product (advanced context.old) (product_gives op (read context.old rs) (read context.old rt)) }
+{
+    let product = product_value(op, context.read(rs), context.read(rt));
+    context.set_product(product);
+}
+
+fn accumulate(context: &mut Context, op: AccumulateOp, rs: Register, rt: Register)
+    ensures { context.new ≡ write_product (advanced context.old)
+        (accumulate_gives op (product_in context.old) (read context.old rs) (read context.old rt)) }
+{
+    let product = accumulate_value(op, context.product(), context.read(rs), context.read(rt));
+    context.set_product(product);
+}
+
+fn count(context: &mut Context, op: CountOp, rd: Register, rs: Register)
+    ensures { context.new ≡ with_register context.old rd (count_gives op (read context.old rs)) }
+{
+    let word = count_value(op, context.read(rs));
+    context.set(rd, word);
+}
+
+/// Raises a trap, or goes on to the next instruction.
+fn trap_if(context: &mut Context, traps: bool) -> Result<(), Stop>
+    ensures { TrapsIf traps context.old result context.new }
+{
+    if traps {
+        return Err(Stop::Raise(ExceptionCode::Tr));
+    }
+    context.advance();
+    Ok(())
+}
+
+fn jump(context: &mut Context, op: JumpOp, index: JumpIndex)
+    ensures { context.new ≡ jumped (linked_if context.old (jump_links op)) (jump_target context.old index) }
+{
+    let target = context.jump_target(index);
+    context.link_if(op == JumpOp::Jal);
+    context.jump(target);
+}
+
+fn branch(context: &mut Context, op: BranchOp, rs: Register, rt: Register, offset: u16)
+    ensures { context.new ≡
+        after_branch context.old (is_likely op) (is_taken op (read context.old rs) (read context.old rt)) offset }
+{
+    let taken = is_branch_taken(op, context.read(rs), context.read(rt));
+    context.branch(is_branch_likely(op), taken, offset);
+}
+
+fn branch_sign(context: &mut Context, op: BranchSignOp, rs: Register, offset: u16)
+    ensures { context.new ≡
+        after_branch context.old (is_likely_by_sign op) (is_taken_by_sign op (read context.old rs)) offset }
+{
+    let taken = is_sign_branch_taken(op, context.read(rs));
+    context.branch(is_sign_branch_likely(op), taken, offset);
+}
+
+/// The register is read before the link is written.
+fn branch_zero(context: &mut Context, op: BranchZeroOp, rs: Register, offset: u16)
+    ensures { context.new ≡ after_branch (linked_if context.old (links op)) (is_likely_by_zero op)
+        (is_taken_by_zero op (read context.old rs)) offset }
+{
+    let taken = is_zero_branch_taken(op, context.read(rs));
+    context.link_if(is_zero_branch_linking(op));
+    context.branch(is_zero_branch_likely(op), taken, offset);
+}
+
+fn with_immediate(
+    context: &mut Context,
+    op: ImmediateOp,
+    rt: Register,
+    rs: Register,
+    immediate: u16,
+) -> Result<(), Stop>
+    ensures { Sets (immediate_gives op (read context.old rs) immediate) context.old rt result context.new }
+{
+    let word = immediate_value(op, context.read(rs), immediate)?;
+    context.set(rt, word);
+    Ok(())
+}
+
+fn load(
+    context: &mut Context,
+    ram: &Ram,
+    op: LoadOp,
+    rt: Register,
+    base: Register,
+    offset: u16,
+) -> Result<(), Stop>
+    ensures { Sets (with_code (load_gives op ram.now (address_of context.old base offset) (read context.old rt)))
+        context.old rt result context.new }
+{
+    let word = access::load(op, ram, context.address(base, offset), context.read(rt))?;
+    context.set(rt, word);
+    Ok(())
+}
+
+fn store(
+    context: &mut Context,
+    ram: &mut Ram,
+    op: StoreOp,
+    rt: Register,
+    base: Register,
+    offset: u16,
+) -> Result<(), Stop>
+    ensures { Does (stores context.old (store_gives op ram.old (address_of context.old base offset) (read context.old rt)))
+        context.old ram.old result context.new ram.new }
+{
+    access::store(op, ram, context.address(base, offset), context.read(rt))?;
+    context.advance();
+    Ok(())
 }

@@ -3,6 +3,7 @@
 //! The definition is `specs/Step.antt`; `run` does exactly that, and takes no memory.
 #![tactic(auto)]
 
+mod access;
 mod context;
 mod execute;
 mod outcome;

@@ -16,8 +16,14 @@ pub enum ExceptionCode {
     IBE,
     /// 7: bus error, data.
     DBE,
+    /// 9: breakpoint.
+    Bp,
     /// 10: reserved instruction.
     RI,
+    /// 12: arithmetic overflow.
+    Ov,
+    /// 13: trap.
+    Tr,
 }
 
 impl ExceptionCode {
@@ -30,7 +36,10 @@ impl ExceptionCode {
             ExceptionCode::AdES => 5,
             ExceptionCode::IBE => 6,
             ExceptionCode::DBE => 7,
+            ExceptionCode::Bp => 9,
             ExceptionCode::RI => 10,
+            ExceptionCode::Ov => 12,
+            ExceptionCode::Tr => 13,
         }
     }
 }
@@ -53,6 +62,8 @@ impl From<Exc> for ExceptionCode {
 pub enum Outcome {
     /// It was done.
     Done,
+    /// It was a SYSCALL, and changed nothing.
+    Syscall,
     /// It raised an exception, and changed nothing.
     Exception {
         /// Which one.
@@ -62,4 +73,36 @@ pub enum Outcome {
         /// Whether it was in a delay slot (the BD bit of the Cause register).
         bd: bool,
     },
+}
+
+/// Where an instruction stops.
+#[derive(Clone, Copy, Debug, PartialEq, Eq)]
+pub enum Stop {
+    /// At a service call.
+    Call,
+    /// By an exception.
+    Raise(ExceptionCode),
+}
+
+impl From<ExceptionCode> for Stop {
+    ghost use Rattle.std.specs.Prelude.{◌≡◌};
+    ghost use Rattle.brd_exec.specs.declared.outcome.Stop.TheVariants.{Raise};
+
+    ghost from_gives = { λ code stop. stop ≡ Raise code };
+
+    fn from(code: ExceptionCode) -> Self {
+        Stop::Raise(code)
+    }
+}
+
+impl From<Exc> for Stop {
+    ghost use Rattle.std.specs.Prelude.{◌≡◌};
+    ghost use Rattle.brd_exec.specs.Exception.{code_of};
+    ghost use Rattle.brd_exec.specs.declared.outcome.Stop.TheVariants.{Raise};
+
+    ghost from_gives = { λ exc stop. stop ≡ Raise (code_of exc) };
+
+    fn from(exc: Exc) -> Self {
+        Stop::Raise(ExceptionCode::from(exc))
+    }
 }

@@ -1,10 +1,44 @@
 //! What the instructions compute.
 
 ghost use Rattle.std.specs.Prelude.{◌≡◌};
-ghost use Rattle.brd_exec.specs.Values.{shift_gives, register_gives, immediate_gives, is_taken};
+ghost use Rattle.brd_word.specs.Words.{sum_overflows, difference_overflows};
+ghost use Rattle.brd_exec.specs.Values.{
+  is_negative,
+  is_below,
+  shifted_with_sign,
+  sum_of,
+  difference_of,
+  unless_overflow,
+  in_hi_lo,
+  shift_gives,
+  shift_variable_gives,
+  register_gives,
+  immediate_gives,
+  multiply_gives,
+  product_gives,
+  accumulate_gives,
+  count_gives,
+  trap_of,
+  traps,
+  traps_immediate,
+  is_taken,
+  is_likely,
+  is_taken_by_sign,
+  is_likely_by_sign,
+  is_taken_by_zero,
+  is_likely_by_zero,
+  links,
+};
 
-use brd_isa::{BranchOp, ImmediateOp, RegisterOp, ShiftAmount, ShiftOp};
-use brd_word::sign16;
+use crate::outcome::ExceptionCode;
+use brd_isa::{
+    AccumulateOp, BranchOp, BranchSignOp, BranchZeroOp, CountOp, ImmediateOp, ProductOp,
+    RegisterOp, ShiftAmount, ShiftOp, ShiftVariableOp, TrapImmediateOp, TrapOp,
+};
+use brd_word::{
+    Division, add_overflows, div_signed, div_unsigned, mul_signed, mul_unsigned, sign16,
+    sub_overflows,
+};
 
 /// rd of `op rd, rt, sa`.
 pub fn shift_value(op: ShiftOp, word: u32, amount: ShiftAmount) -> u32
@@ -12,28 +46,182 @@ pub fn shift_value(op: ShiftOp, word: u32, amount: ShiftAmount) -> u32
 {
     match op {
         ShiftOp::Sll => word << amount.bits(),
+        ShiftOp::Srl => word >> amount.bits(),
+        ShiftOp::Sra => shift_with_sign(word, amount),
     }
 }
 
-/// rd of `op rd, rs, rt`.
-pub fn register_value(op: RegisterOp, a: u32, b: u32) -> u32
-    ensures { result ≡ register_gives op a b }
+/// rd of `op rd, rt, rs`; the amount is the low five bits of rs.
+pub fn shift_variable_value(op: ShiftVariableOp, word: u32, amount: ShiftAmount) -> u32
+    ensures { result ≡ shift_variable_gives op word amount }
 {
     match op {
-        RegisterOp::Addu => a.wrapping_add(b),
-        RegisterOp::Subu => a.wrapping_sub(b),
-        RegisterOp::Or => a | b,
-        RegisterOp::Sltu => u32::from(a < b),
+        ShiftVariableOp::Sllv => word << amount.bits(),
+        ShiftVariableOp::Srlv => word >> amount.bits(),
+        ShiftVariableOp::Srav => shift_with_sign(word, amount),
     }
+}
+
+/// A word shifted right, the sign comes in.
+fn shift_with_sign(word: u32, amount: ShiftAmount) -> u32
+    ensures { result ≡ shifted_with_sign word amount }
+{
+    if is_below_zero(word) {
+        !(!word >> amount.bits())
+    } else {
+        word >> amount.bits()
+    }
+}
+
+/// Whether the sign bit is set.
+fn is_below_zero(word: u32) -> bool
+    ensures { result ≡ is_negative word }
+{
+    word >= 0x8000_0000
+}
+
+/// Whether one word is below another, read signed.
+fn is_signed_below(a: u32, b: u32) -> bool
+    ensures { result ≡ is_below a b }
+{
+    a.cast_signed() < b.cast_signed()
+}
+
+/// rd of `op rd, rs, rt`, which was `old`.
+pub fn register_value(op: RegisterOp, old: u32, a: u32, b: u32) -> Result<u32, ExceptionCode>
+    ensures { result ≡ register_gives op old a b }
+{
+    match op {
+        RegisterOp::Movz => Ok(if b == 0 { a } else { old }),
+        RegisterOp::Movn => Ok(if b == 0 { old } else { a }),
+        RegisterOp::Add => sum(a, b),
+        RegisterOp::Addu => Ok(a.wrapping_add(b)),
+        RegisterOp::Sub => difference(a, b),
+        RegisterOp::Subu => Ok(a.wrapping_sub(b)),
+        RegisterOp::And => Ok(a & b),
+        RegisterOp::Or => Ok(a | b),
+        RegisterOp::Xor => Ok(a ^ b),
+        RegisterOp::Nor => Ok(!(a | b)),
+        RegisterOp::Slt => Ok(u32::from(is_signed_below(a, b))),
+        RegisterOp::Sltu => Ok(u32::from(a < b)),
+    }
+}
+
+/// The sum, unless it overflows.
+fn sum(a: u32, b: u32) -> Result<u32, ExceptionCode>
+    ensures { result ≡ unless_overflow (sum_overflows a b) (sum_of a b) }
+{
+    if add_overflows(a, b) {
+        return Err(ExceptionCode::Ov);
+    }
+    Ok(a.wrapping_add(b))
+}
+
+/// The difference, unless it overflows.
+fn difference(a: u32, b: u32) -> Result<u32, ExceptionCode>
+    ensures { result ≡ unless_overflow (difference_overflows a b) (difference_of a b) }
+{
+    if sub_overflows(a, b) {
+        return Err(ExceptionCode::Ov);
+    }
+    Ok(a.wrapping_sub(b))
 }
 
 /// rt of `op rt, rs, immediate`.
-pub fn immediate_value(op: ImmediateOp, a: u32, immediate: u16) -> u32
+pub fn immediate_value(op: ImmediateOp, a: u32, immediate: u16) -> Result<u32, ExceptionCode>
     ensures { result ≡ immediate_gives op a immediate }
 {
     match op {
-        ImmediateOp::Addiu => a.wrapping_add(sign16(immediate)),
-        ImmediateOp::Ori => a | u32::from(immediate),
+        ImmediateOp::Addi => sum(a, sign16(immediate)),
+        ImmediateOp::Addiu => Ok(a.wrapping_add(sign16(immediate))),
+        ImmediateOp::Slti => Ok(u32::from(is_signed_below(a, sign16(immediate)))),
+        ImmediateOp::Sltiu => Ok(u32::from(a < sign16(immediate))),
+        ImmediateOp::Andi => Ok(a & u32::from(immediate)),
+        ImmediateOp::Ori => Ok(a | u32::from(immediate)),
+        ImmediateOp::Xori => Ok(a ^ u32::from(immediate)),
+    }
+}
+
+/// rd of `mul rd, rs, rt`.
+pub fn multiply_value(a: u32, b: u32) -> u32
+    ensures { result ≡ multiply_gives a b }
+{
+    (mul_signed(a, b) % 0x1_0000_0000) as u32
+}
+
+/// HI and LO after `op rs, rt`.
+pub fn product_value(op: ProductOp, a: u32, b: u32) -> u64
+    ensures { result ≡ product_gives op a b }
+{
+    match op {
+        ProductOp::Mult => mul_signed(a, b),
+        ProductOp::Multu => mul_unsigned(a, b),
+        ProductOp::Div => in_halves(div_signed(a, b)),
+        ProductOp::Divu => in_halves(div_unsigned(a, b)),
+    }
+}
+
+/// The remainder in the high half, the quotient in the low one.
+fn in_halves(division: Division) -> u64
+    ensures { result ≡ in_hi_lo (record { quotient = division.quotient; remainder = division.remainder }) }
+{
+    (u64::from(division.remainder) << 32) + u64::from(division.quotient)
+}
+
+/// HI and LO after `op rs, rt`, which were `old`.
+pub fn accumulate_value(op: AccumulateOp, old: u64, a: u32, b: u32) -> u64
+    ensures { result ≡ accumulate_gives op old a b }
+{
+    match op {
+        AccumulateOp::Madd => old.wrapping_add(mul_signed(a, b)),
+        AccumulateOp::Maddu => old.wrapping_add(mul_unsigned(a, b)),
+        AccumulateOp::Msub => old.wrapping_sub(mul_signed(a, b)),
+        AccumulateOp::Msubu => old.wrapping_sub(mul_unsigned(a, b)),
+    }
+}
+
+/// rd of `op rd, rs`.
+pub fn count_value(op: CountOp, word: u32) -> u32
+    ensures { result ≡ count_gives op word }
+{
+    match op {
+        CountOp::Clz => word.leading_zeros(),
+        CountOp::Clo => (!word).leading_zeros(),
+    }
+}
+
+/// Whether `op rs, rt` traps.
+pub fn is_trap(op: TrapOp, a: u32, b: u32) -> bool
+    ensures { result ≡ traps op a b }
+{
+    match op {
+        TrapOp::Tge => !is_signed_below(a, b),
+        TrapOp::Tgeu => a >= b,
+        TrapOp::Tlt => is_signed_below(a, b),
+        TrapOp::Tltu => a < b,
+        TrapOp::Teq => a == b,
+        TrapOp::Tne => a != b,
+    }
+}
+
+/// Whether `op rs, immediate` traps.
+pub fn is_immediate_trap(op: TrapImmediateOp, a: u32, immediate: u16) -> bool
+    ensures { result ≡ traps_immediate op a immediate }
+{
+    is_trap(register_trap(op), a, sign16(immediate))
+}
+
+/// The same comparison on registers.
+fn register_trap(op: TrapImmediateOp) -> TrapOp
+    ensures { result ≡ trap_of op }
+{
+    match op {
+        TrapImmediateOp::Tgei => TrapOp::Tge,
+        TrapImmediateOp::Tgeiu => TrapOp::Tgeu,
+        TrapImmediateOp::Tlti => TrapOp::Tlt,
+        TrapImmediateOp::Tltiu => TrapOp::Tltu,
+        TrapImmediateOp::Teqi => TrapOp::Teq,
+        TrapImmediateOp::Tnei => TrapOp::Tne,
     }
 }
 
@@ -42,7 +230,65 @@ pub fn is_branch_taken(op: BranchOp, a: u32, b: u32) -> bool
     ensures { result ≡ is_taken op a b }
 {
     match op {
-        BranchOp::Beq => a == b,
-        BranchOp::Bne => a != b,
+        BranchOp::Beq | BranchOp::Beql => a == b,
+        BranchOp::Bne | BranchOp::Bnel => a != b,
     }
+}
+
+/// Whether `op rs, rt, target` is likely.
+pub fn is_branch_likely(op: BranchOp) -> bool
+    ensures { result ≡ is_likely op }
+{
+    matches!(op, BranchOp::Beql | BranchOp::Bnel)
+}
+
+/// Whether `op rs, target` is taken.
+pub fn is_sign_branch_taken(op: BranchSignOp, a: u32) -> bool
+    ensures { result ≡ is_taken_by_sign op a }
+{
+    match op {
+        BranchSignOp::Blez | BranchSignOp::Blezl => is_below_zero(a) || a == 0,
+        BranchSignOp::Bgtz | BranchSignOp::Bgtzl => !is_below_zero(a) && a != 0,
+    }
+}
+
+/// Whether `op rs, target` is likely.
+pub fn is_sign_branch_likely(op: BranchSignOp) -> bool
+    ensures { result ≡ is_likely_by_sign op }
+{
+    matches!(op, BranchSignOp::Blezl | BranchSignOp::Bgtzl)
+}
+
+/// Whether `op rs, target` under REGIMM is taken.
+pub fn is_zero_branch_taken(op: BranchZeroOp, a: u32) -> bool
+    ensures { result ≡ is_taken_by_zero op a }
+{
+    match op {
+        BranchZeroOp::Bltz | BranchZeroOp::Bltzl | BranchZeroOp::Bltzal | BranchZeroOp::Bltzall => {
+            is_below_zero(a)
+        }
+        BranchZeroOp::Bgez | BranchZeroOp::Bgezl | BranchZeroOp::Bgezal | BranchZeroOp::Bgezall => {
+            !is_below_zero(a)
+        }
+    }
+}
+
+/// Whether `op rs, target` under REGIMM is likely.
+pub fn is_zero_branch_likely(op: BranchZeroOp) -> bool
+    ensures { result ≡ is_likely_by_zero op }
+{
+    matches!(
+        op,
+        BranchZeroOp::Bltzl | BranchZeroOp::Bgezl | BranchZeroOp::Bltzall | BranchZeroOp::Bgezall
+    )
+}
+
+/// Whether `op rs, target` under REGIMM links.
+pub fn is_zero_branch_linking(op: BranchZeroOp) -> bool
+    ensures { result ≡ links op }
+{
+    matches!(
+        op,
+        BranchZeroOp::Bltzal | BranchZeroOp::Bgezal | BranchZeroOp::Bltzall | BranchZeroOp::Bgezall
+    )
 }

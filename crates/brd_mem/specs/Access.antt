@@ -1,27 +1,43 @@
--- What a fetch, a load and a store do (own choice where MD00086 leaves it): alignment is tested first, by an address
--- error, then whether RAM has the address, by a bus error.
-use Rattle.std.specs.Prelude.{◌≡◌, ℕ, ◌-◌, ◌%◌, ◌==◌, if◌then◌else◌, List, length, Result, Ok, Err}
-use Rattle.brd_mem.specs.Memory.{base, contains, word_at, put_word}
+-- What a fetch, a load and a store do.
+use Rattle.std.specs.Prelude.{◌≡◌, ℕ, ◌-◌, ◌%◌, ◌==◌, if◌then◌else◌, List, length, slice_index, slice_set, Result, Ok, Err}
+use Rattle.brd_mem.specs.Memory.{base, contains, half_at, put_half, word_at, put_word}
 use Rattle.brd_mem.specs.declared.fault.Exc.{Exc}
 use Rattle.brd_mem.specs.declared.fault.Exc.TheVariants.{AdEL, AdES, IBE, DBE}
 
--- the word at an address, or what is raised outside RAM
-abbrev pub found_word : Exc → List ℕ → ℕ → Result ℕ Exc
-found_word outside memory address =
-    if address % 4 == 0 then (if contains (length memory) address 4 then Ok (word_at memory (address - base)) else Err outside) else Err AdEL
+-- The place in RAM of `len` bytes from an address on. Alignment is tested first, then whether RAM has them (own choice where MD00086 leaves
+-- the order open). A byte is always aligned.
+abbrev pub place_of : ℕ → ℕ → ℕ → Exc → Exc → Result ℕ Exc
+place_of size address len unaligned outside =
+    if address % len == 0 then (if contains size address len then Ok (address - base) else Err outside) else Err unaligned
+
+-- what is found at a place, or made there; or what was raised
+abbrev pub at_place : {A : Type 0} → (ℕ → A) → Result ℕ Exc → Result A Exc
+at_place found (Ok at) = Ok (found at)
+at_place found (Err exc) = Err exc
 
 -- the instruction word at an address
 abbrev pub fetched : List ℕ → ℕ → Result ℕ Exc
-fetched memory address = found_word IBE memory address
+fetched memory address = at_place (word_at memory) (place_of (length memory) address 4 AdEL IBE)
 
--- the data word at an address
+-- the data byte, halfword and word at an address
+abbrev pub loaded8 : List ℕ → ℕ → Result ℕ Exc
+loaded8 memory address = at_place (slice_index memory) (place_of (length memory) address 1 AdEL DBE)
+
+abbrev pub loaded16 : List ℕ → ℕ → Result ℕ Exc
+loaded16 memory address = at_place (half_at memory) (place_of (length memory) address 2 AdEL DBE)
+
 abbrev pub loaded32 : List ℕ → ℕ → Result ℕ Exc
-loaded32 memory address = found_word DBE memory address
+loaded32 memory address = at_place (word_at memory) (place_of (length memory) address 4 AdEL DBE)
 
--- the memory with a data word stored at an address
+-- the memory with a data byte, halfword or word stored at an address
+abbrev pub stored8 : List ℕ → ℕ → ℕ → Result (List ℕ) Exc
+stored8 memory address byte = at_place (λ at. slice_set memory at byte) (place_of (length memory) address 1 AdES DBE)
+
+abbrev pub stored16 : List ℕ → ℕ → ℕ → Result (List ℕ) Exc
+stored16 memory address half = at_place (λ at. put_half memory at half) (place_of (length memory) address 2 AdES DBE)
+
 abbrev pub stored32 : List ℕ → ℕ → ℕ → Result (List ℕ) Exc
-stored32 memory address word =
-    if address % 4 == 0 then (if contains (length memory) address 4 then Ok (put_word memory (address - base) word) else Err DBE) else Err AdES
+stored32 memory address word = at_place (λ at. put_word memory at word) (place_of (length memory) address 4 AdES DBE)
 
 -- A store that succeeds leaves the stored memory; one that is refused leaves memory as it was.
 abbrev pub Stores : Result (List ℕ) Exc → List ℕ → Result Unit Exc → List ℕ → Type 0

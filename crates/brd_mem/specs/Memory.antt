@@ -1,5 +1,5 @@
 -- RAM: a map from addresses to bytes, kept as the list of the bytes from address 0x80000000 upward.
-use Rattle.std.specs.Prelude.{◌≡◌, ℕ, ◌+◌, ◌-◌, ◌/◌, ◌%◌, ◌^◌, ◌≤◌, Bool, ◌&&◌, nat_le, if◌then◌else◌, List, [], ◌∷◌, ◌++◌, length, take, drop, slice_get, slice_index, slice_set, Option, None}
+use Rattle.std.specs.Prelude.{◌*◌, ◌≡◌, ℕ, ◌+◌, ◌-◌, ◌/◌, ◌%◌, ◌^◌, ◌≤◌, Bool, ◌&&◌, nat_le, if◌then◌else◌, List, [], ◌∷◌, ◌++◌, length, take, drop, slice_get, slice_index, slice_set, Option, None}
 use Rattle.brd_word.specs.Words.{big_endian_word}
 
 -- the address of the first byte (own choice: kseg0, where MIPS firmware without a TLB runs)
@@ -24,6 +24,14 @@ byte_at memory address = if contains (length memory) address 1 then slice_get me
 abbrev pub word_at : List ℕ → ℕ → ℕ
 word_at memory at =
     big_endian_word (slice_index memory at ∷ slice_index memory (at + 1) ∷ slice_index memory (at + 2) ∷ slice_index memory (at + 3) ∷ [])
+
+-- the halfword in the two bytes from a place on, the most significant first
+abbrev pub half_at : List ℕ → ℕ → ℕ
+half_at memory at = slice_index memory at * 2 ^ 8 + slice_index memory (at + 1)
+
+-- the memory with a halfword in the two bytes from a place on, the most significant first
+abbrev pub put_half : List ℕ → ℕ → ℕ → List ℕ
+put_half memory at half = slice_set (slice_set memory at (half / 2 ^ 8 % 256)) (at + 1) (half % 256)
 
 -- the memory with a word in the four bytes from a place on, the most significant first
 abbrev pub put_word : List ℕ → ℕ → ℕ → List ℕ

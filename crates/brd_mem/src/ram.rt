@@ -1,8 +1,18 @@
 //! The RAM.
 
-ghost use Rattle.std.specs.Prelude.{◌≡◌, ℕ, ◌+◌, ◌<◌, List, ◌↔◌, length, replicate, true, IfOk, IsErrOf};
-ghost use Rattle.brd_mem.specs.Memory.{IsRamSize, contains, copied, byte_at, word_at};
-ghost use Rattle.brd_mem.specs.Access.{found_word, fetched, loaded32, stored32, Stores};
+ghost use Rattle.std.specs.Prelude.{◌≡◌, ℕ, ◌+◌, ◌<◌, ◌≤◌, List, ◌↔◌, length, replicate, true, IfOk, IsErrOf};
+ghost use Rattle.brd_mem.specs.Memory.{IsRamSize, contains, copied, byte_at, half_at, word_at};
+ghost use Rattle.brd_mem.specs.Access.{
+  place_of,
+  fetched,
+  loaded8,
+  loaded16,
+  loaded32,
+  stored8,
+  stored16,
+  stored32,
+  Stores,
+};
 
 use crate::fault::{Exc, RamFault};
 use brd_word::{bytes_of, word_of};
@@ -72,47 +82,81 @@ impl Ram {
     pub fn fetch(&self, address: u32) -> Result<u32, Exc>
         ensures { result ≡ fetched self.now address }
     {
-        self.word(address, Exc::IBE)
+        let at = self.place(address, 4, Exc::AdEL, Exc::IBE)?;
+        Ok(word_from(&self.bytes, at))
+    }
+
+    /// The data byte at an address: DBE where it isn't in RAM.
+    pub fn load8(&self, address: u32) -> Result<u8, Exc>
+        ensures { result ≡ loaded8 self.now address }
+    {
+        let at = self.place(address, 1, Exc::AdEL, Exc::DBE)?;
+        Ok(self.bytes[at])
+    }
+
+    /// The data halfword at an address: AdEL where it isn't aligned, then DBE where it isn't in RAM.
+    pub fn load16(&self, address: u32) -> Result<u16, Exc>
+        ensures { result ≡ loaded16 self.now address }
+    {
+        let at = self.place(address, 2, Exc::AdEL, Exc::DBE)?;
+        Ok(half_from(&self.bytes, at))
     }
 
     /// The data word at an address: AdEL where it isn't aligned, then DBE where it isn't in RAM.
     pub fn load32(&self, address: u32) -> Result<u32, Exc>
         ensures { result ≡ loaded32 self.now address }
     {
-        self.word(address, Exc::DBE)
+        let at = self.place(address, 4, Exc::AdEL, Exc::DBE)?;
+        Ok(word_from(&self.bytes, at))
     }
 
-    /// The word at an address: AdEL where it isn't aligned, then `outside` where it isn't in RAM.
-    fn word(&self, address: u32, outside: Exc) -> Result<u32, Exc>
-        ensures { result ≡ found_word outside self.now address }
+    /// Stores a data byte at an address: DBE where it isn't in RAM.
+    pub fn store8(&mut self, address: u32, byte: u8) -> Result<(), Exc>
+        ensures { Stores (stored8 self.old address byte) self.old result self.new }
     {
-        if address % 4 != 0 {
-            return Err(Exc::AdEL);
-        }
-        let at = address.wrapping_sub(BASE) as usize;
-        if at >= self.bytes.len() {
-            return Err(outside);
-        }
-        Ok(word_from(&self.bytes, at))
+        let at = self.place(address, 1, Exc::AdES, Exc::DBE)?;
+        self.bytes[at] = byte;
+        Ok(())
+    }
+
+    /// Stores a data halfword at an address: AdES where it isn't aligned, then DBE where it isn't in RAM.
+    pub fn store16(&mut self, address: u32, half: u16) -> Result<(), Exc>
+        ensures { Stores (stored16 self.old address half) self.old result self.new }
+    {
+        let at = self.place(address, 2, Exc::AdES, Exc::DBE)?;
+        let [high, low] = half.to_be_bytes();
+        self.bytes[at] = high;
+        self.bytes[at + 1] = low;
+        Ok(())
     }
 
     /// Stores a data word at an address: AdES where it isn't aligned, then DBE where it isn't in RAM.
     pub fn store32(&mut self, address: u32, word: u32) -> Result<(), Exc>
         ensures { Stores (stored32 self.old address word) self.old result self.new }
     {
-        if address % 4 != 0 {
-            return Err(Exc::AdES);
-        }
-        let at = address.wrapping_sub(BASE) as usize;
-        if at >= self.bytes.len() {
-            return Err(Exc::DBE);
-        }
+        let at = self.place(address, 4, Exc::AdES, Exc::DBE)?;
         let [first, second, third, fourth] = bytes_of(word);
         self.bytes[at] = first;
         self.bytes[at + 1] = second;
         self.bytes[at + 2] = third;
         self.bytes[at + 3] = fourth;
         Ok(())
+    }
+
+    /// The place of `len` bytes from an address on: `unaligned` where it is no multiple of `len`, then `outside` where they aren't in RAM.
+    fn place(&self, address: u32, len: u32, unaligned: Exc, outside: Exc) -> Result<usize, Exc>
+        requires some { 0 < len }
+        requires few { len ≤ 4 }
+        ensures { result ≡ place_of (length self.now) address len unaligned outside }
+    {
+        if address % len != 0 {
+            return Err(unaligned);
+        }
+        let at = address.wrapping_sub(BASE) as usize;
+        if at > self.bytes.len() - len as usize {
+            return Err(outside);
+        }
+        Ok(at)
     }
 
     /// Writes these bytes from an address on.
@@ -124,6 +168,14 @@ impl Ram {
         let at = (address - BASE) as usize;
         self.bytes[at..at + bytes.len()].copy_from_slice(bytes);
     }
+}
+
+/// The halfword in the two bytes from a place on.
+fn half_from(bytes: &[u8], at: usize) -> u16
+    requires { at + 1 < length bytes.now }
+    ensures { result ≡ half_at bytes.now at }
+{
+    u16::from_be_bytes([bytes[at], bytes[at + 1]])
 }
 
 /// The word in the four bytes from a place on.

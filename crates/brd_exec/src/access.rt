@@ -1,0 +1,106 @@
+//! Loads and stores.
+
+ghost use Rattle.std.specs.Prelude.{◌≡◌, ◌<◌};
+ghost use Rattle.brd_exec.specs.Step.{load_gives, store_gives};
+ghost use Rattle.brd_exec.specs.Unaligned.{left_merged, right_merged, loaded_left, loaded_right, stored_left, stored_right};
+ghost use Rattle.brd_mem.specs.Access.{Stores};
+
+use brd_isa::{LoadOp, StoreOp};
+use brd_mem::{Exc, Ram};
+use brd_word::{bytes_of, sign8, sign16};
+
+/// What a load finds, for a register that was `old`.
+pub fn load(op: LoadOp, ram: &Ram, address: u32, old: u32) -> Result<u32, Exc>
+    ensures { result ≡ load_gives op ram.now address old }
+{
+    match op {
+        LoadOp::Lb => Ok(sign8(ram.load8(address)?)),
+        LoadOp::Lh => Ok(sign16(ram.load16(address)?)),
+        LoadOp::Lwl => load_left(ram, address, old),
+        LoadOp::Lw => ram.load32(address),
+        LoadOp::Lbu => Ok(u32::from(ram.load8(address)?)),
+        LoadOp::Lhu => Ok(u32::from(ram.load16(address)?)),
+        LoadOp::Lwr => load_right(ram, address, old),
+    }
+}
+
+/// What LWL finds.
+fn load_left(ram: &Ram, address: u32, old: u32) -> Result<u32, Exc>
+    ensures { result ≡ loaded_left ram.now address old }
+{
+    let word = ram.load32(address - address % 4)?;
+    Ok(merge_left(word, old, address % 4))
+}
+
+/// What LWR finds.
+fn load_right(ram: &Ram, address: u32, old: u32) -> Result<u32, Exc>
+    ensures { result ≡ loaded_right ram.now address old }
+{
+    let word = ram.load32(address - address % 4)?;
+    Ok(merge_right(word, old, address % 4))
+}
+
+/// The bytes of a word from this one on, followed by the low ones of `old`.
+fn merge_left(word: u32, old: u32, byte: u32) -> u32
+    requires { byte < 4 }
+    ensures { result ≡ left_merged word old byte }
+{
+    match byte {
+        0 => word,
+        1 => (word << 8) + old % 0x100,
+        2 => (word << 16) + old % 0x1_0000,
+        _ => (word << 24) + old % 0x100_0000,
+    }
+}
+
+/// The bytes of a word up to this one, behind the high ones of `old`.
+fn merge_right(word: u32, old: u32, byte: u32) -> u32
+    requires { byte < 4 }
+    ensures { result ≡ right_merged word old byte }
+{
+    match byte {
+        0 => (word >> 24) + ((old >> 8) << 8),
+        1 => (word >> 16) + ((old >> 16) << 16),
+        2 => (word >> 8) + ((old >> 24) << 24),
+        _ => word,
+    }
+}
+
+/// Does a store of a register's word.
+pub fn store(op: StoreOp, ram: &mut Ram, address: u32, word: u32) -> Result<(), Exc>
+    ensures { Stores (store_gives op ram.old address word) ram.old result ram.new }
+{
+    match op {
+        StoreOp::Sb => ram.store8(address, (word % 0x100) as u8),
+        StoreOp::Sh => ram.store16(address, (word % 0x1_0000) as u16),
+        StoreOp::Swl => store_left(ram, address, word),
+        StoreOp::Sw => ram.store32(address, word),
+        StoreOp::Swr => store_right(ram, address, word),
+    }
+}
+
+/// Does an SWL.
+fn store_left(ram: &mut Ram, address: u32, word: u32) -> Result<(), Exc>
+    ensures { Stores (stored_left ram.old address word) ram.old result ram.new }
+{
+    let byte = (address % 4) as usize;
+    if !ram.contains(address - address % 4, 4) {
+        return Err(Exc::DBE);
+    }
+    let bytes = bytes_of(word);
+    ram.copy_in(address, &bytes[..4 - byte]);
+    Ok(())
+}
+
+/// Does an SWR.
+fn store_right(ram: &mut Ram, address: u32, word: u32) -> Result<(), Exc>
+    ensures { Stores (stored_right ram.old address word) ram.old result ram.new }
+{
+    let byte = (address % 4) as usize;
+    if !ram.contains(address - address % 4, 4) {
+        return Err(Exc::DBE);
+    }
+    let bytes = bytes_of(word);
+    ram.copy_in(address - address % 4, &bytes[3 - byte..]);
+    Ok(())
+}
