@@ -21,6 +21,8 @@ test:
 bench:
 	cd crates/board_bench && rt run >/dev/null
 	crates/board_bench/out/board_bench 100000000
+	cd crates/lanes_bench && rt run >/dev/null
+	crates/lanes_bench/out/lanes_bench time
 
 clean:
 	rm -rf build crates/*/out

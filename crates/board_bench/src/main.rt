@@ -1,5 +1,5 @@
-//! How fast the board runs: `board_bench EVENTS` does so many events of a small loop and prints millions of instructions a second, beside a bare loop of the
-//! same work. Without EVENTS it does 16,000 and prints what the board's registers then hold.
+//! How fast the board runs: `board_bench EVENTS` does so many events of two small loops and prints millions of instructions a second, beside a bare loop of about
+//! the same work. Without EVENTS it does 16,000 of each and prints how often the loops were gone through.
 #![tactic(auto)]
 
 use brd_board::{Board, Event, Report};
@@ -7,7 +7,7 @@ use brd_isa::Register;
 use std::time::Instant;
 
 /// A loop of seven instructions over one word of memory: it loads, adds, stores, counts, and branches with a slot.
-const LOOP: [u32; 11] = [
+const PLAIN: [u32; 11] = [
     0x3c04_8000, // lui $a0, 0x8000
     0x3484_0100, // ori $a0, $a0, 0x100
     0x8c88_0000, // lw $t0, 0($a0)
@@ -21,42 +21,75 @@ const LOOP: [u32; 11] = [
     0x0000_0000, // sll $0, $0, 0
 ];
 
+/// A loop of eight instructions: an unaligned load, a product, a count, and a branch-likely with a slot.
+const WIDE: [u32; 10] = [
+    0x3c04_8000, // lui $a0, 0x8000
+    0x3484_0100, // ori $a0, $a0, 0x100
+    0x8888_0001, // lwl $t0, 1($a0)
+    0x9888_0004, // lwr $t0, 4($a0)
+    0x0128_0018, // mult $t1, $t0
+    0x0000_5012, // mflo $t2
+    0x2529_0001, // addiu $t1, $t1, 1
+    0xa889_0006, // swl $t1, 6($a0)
+    0x5520_fff9, // bnel $t1, $0, -7: to the lwl
+    0x0149_5826, // xor $t3, $t2, $t1, in the slot
+];
+
 fn main(rt: HostRuntime) -> anyhow::Result<()> {
     let mut arguments = std::env::args(&rt)?;
     let _ = arguments.next();
-    let events = match arguments.next() {
-        Some(text) => Some(text.as_str().parse::<u64>()?),
-        None => None,
-    };
-    let mut board = match Board::from_words(rt.alloc(), &LOOP) {
-        Ok(board) => board,
-        Err(fault) => anyhow::bail!("{fault}"),
-    };
-    match events {
+    match arguments.next() {
         None => {
-            let ran = run(&mut board, 16_000);
-            let count = count_of(&board);
-            println!(rt; "{ran} of 16000 events ran an instruction, {count} turns")?;
+            count_turns(&rt, "plain loop", PLAIN.as_slice())?;
+            count_turns(&rt, "wide loop", WIDE.as_slice())
         }
-        Some(events) => {
-            let start = Instant::now(&rt)?;
-            let ran = run(&mut board, events);
-            let board_time = start.elapsed(&rt)?.as_nanos();
-            let start = Instant::now(&rt)?;
-            let sum = bare_loop(events / 7);
-            let bare_time = start.elapsed(&rt)?.as_nanos();
-            let count = count_of(&board);
-            println!(rt; "{ran} instructions, {count} turns of the loop")?;
-            report(&rt, "board", u128::from(ran), board_time)?;
-            report(
-                &rt,
-                "bare loop, seven operations a turn",
-                u128::from(events / 7 * 7),
-                bare_time,
-            )?;
-            println!(rt; "(the bare loop's sum is {sum})")?;
+        Some(text) => {
+            let events = text.as_str().parse::<u64>()?;
+            measure(&rt, "plain loop", PLAIN.as_slice(), events)?;
+            measure(&rt, "wide loop", WIDE.as_slice(), events)?;
+            measure_bare(&rt, events)
         }
     }
+}
+
+/// A board of these words.
+fn board_of(rt: &HostRuntime, words: &[u32]) -> anyhow::Result<Board> {
+    match Board::from_words(rt.alloc(), words) {
+        Ok(board) => Ok(board),
+        Err(fault) => anyhow::bail!("{fault}"),
+    }
+}
+
+/// Does 16,000 events, and prints how often the loop was gone through.
+fn count_turns(rt: &HostRuntime, name: &str, words: &[u32]) -> anyhow::Result<()> {
+    let mut board = board_of(rt, words)?;
+    let ran = run(&mut board, 16_000);
+    let count = count_of(&board);
+    println!(rt; "{name}: {ran} of 16000 events ran an instruction, {count} turns")?;
+    Ok(())
+}
+
+/// Does so many events, and prints how fast.
+fn measure(rt: &HostRuntime, name: &str, words: &[u32], events: u64) -> anyhow::Result<()> {
+    let mut board = board_of(rt, words)?;
+    let start = Instant::now(rt)?;
+    let ran = run(&mut board, events);
+    let time = start.elapsed(rt)?.as_millis();
+    report(rt, name, ran, time)
+}
+
+/// Does the work of as many operations without a board, and prints how fast.
+fn measure_bare(rt: &HostRuntime, events: u64) -> anyhow::Result<()> {
+    let start = Instant::now(rt)?;
+    let last = bare_loop(events / 7);
+    let time = start.elapsed(rt)?.as_millis();
+    report(
+        rt,
+        "bare loop, seven operations a turn",
+        events / 7 * 7,
+        time,
+    )?;
+    println!(rt; "(its last value is {last})")?;
     Ok(())
 }
 
@@ -79,13 +112,13 @@ fn count_of(board: &Board) -> u32 {
     }
 }
 
-/// The loop's work as a loop of this program, with its word in memory.
+/// About the plain loop's work as a loop of this program. Each turn's place in memory depends on the turn before, so that no turns are done at once.
 fn bare_loop(turns: u64) -> u32 {
     let mut memory = [0u32; 64];
     let mut count = 0u32;
     let mut last = 0u32;
-    for i in 0..turns {
-        let at = (i % 64) as usize;
+    for _ in 0..turns {
+        let at = (last % 64) as usize;
         memory[at] = memory[at].wrapping_add(3);
         count = count.wrapping_add(1);
         last = count.wrapping_add(memory[at]) | count;
@@ -94,8 +127,9 @@ fn bare_loop(turns: u64) -> u32 {
 }
 
 /// Prints millions of operations a second.
-fn report(rt: &impl Print, name: &str, operations: u128, nanoseconds: u128) -> anyhow::Result<()> {
-    let rate = (operations as u64).wrapping_mul(1000) / (nanoseconds as u64).max(1);
-    println!(rt; "{name}: {rate} million a second")?;
+fn report(rt: &impl Print, name: &str, operations: u64, milliseconds: u128) -> anyhow::Result<()> {
+    let time = u64::try_from(milliseconds).unwrap_or(u64::MAX).max(1);
+    let rate = operations / time / 1000;
+    println!(rt; "{name}: {rate} million a second ({operations} in {time} ms)")?;
     Ok(())
 }

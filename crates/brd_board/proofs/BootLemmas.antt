@@ -1,9 +1,8 @@
 -- The board of a list of words is the one that their image makes.
-use Rattle.std.proofs.Common.{◌≡◌, ℕ, ◌+◌, ◌-◌, ◌*◌, List, [], ◌∷◌, ◌++◌, length, refl, ap, arith, length-append}
+use Rattle.std.proofs.Common.{◌≡◌, ℕ, ◌+◌, ◌-◌, ◌*◌, List, [], ◌∷◌, ◌++◌, length, refl, arith, length-append}
 use Rattle.std.proofs.lemmas.Bool.Decides.{nat_tests}
 use Rattle.std.specs.Prelude.{Bool, true, ◌&&◌, nat_le, flat_map, replicate, Result, Ok, Err, if◌then◌else◌}
 use Rattle.std.proofs.lemmas.List.{drop-replicate}
-use Rattle.std.proofs.lemmas.Grind.{common_steps}
 use Rattle.brd_word.specs.Words.{big_endian_bytes}
 use Rattle.brd_mem.specs.Memory.{base, contains, copied}
 use Rattle.brd_mem.specs.Image.{image_of_words}

@@ -1,10 +1,10 @@
 -- The board: what it consists of, what one event does to it, and what a list of events does.
 -- It has one processor, number 1, and one task, number 1, which is assigned to it; it has no interrupt handler.
 use Rattle.std.specs.Prelude.{ℕ, ◌+◌, ◌-◌, ◌^◌, ◌==◌, nat_lt, Bool, true, false, if◌then◌else◌, List, [], ◌∷◌, Option, Some, None}
-use Rattle.brd_exec.specs.State.{State}
+use Rattle.brd_exec.specs.State.{State, write, advanced}
 use Rattle.brd_exec.specs.Step.{Ran, ran}
 use Rattle.brd_exec.specs.declared.outcome.Outcome.{Outcome}
-use Rattle.brd_exec.specs.declared.outcome.Outcome.TheVariants.{Done, Exception}
+use Rattle.brd_exec.specs.declared.outcome.Outcome.TheVariants.{Done, Syscall, Exception}
 use Rattle.brd_board.specs.declared.event.Event.{Event}
 use Rattle.brd_board.specs.declared.event.Event.TheVariants.{Step, Tick, Raise}
 use Rattle.brd_board.specs.declared.event.Report.{Report}
@@ -37,10 +37,20 @@ is_running Waiting = false
 is_running Suspended = false
 is_running WaitingSuspended = false
 
+-- E_RSFN of the uITRON 4.0 specification, -10: there is no such service call
+abbrev pub reserved_function : ℕ
+reserved_function = 2 ^ 32 - 10
+
+-- A SYSCALL goes on as an ordinary instruction, and then $v0 takes the answer of the service call. There is none yet.
+abbrev pub answered : State → State
+answered s = write (advanced s) 2 reserved_function
+
 -- What an instruction leaves. An exception makes the task dormant, and is kept as the processor's last fault.
 abbrev pub instruction_done : BoardState → Ran → Outcome → Happened
 instruction_done b after Done =
     record { board = record b { context = after.state; memory = after.memory }; report = report.Ran b.context.pc }
+instruction_done b after Syscall =
+    record { board = record b { context = answered after.state; memory = after.memory }; report = report.Called b.context.pc }
 instruction_done b after (Exception code epc bd) = record {
   board = record b { context = after.state; memory = after.memory; state = Dormant; fault = Some (record { code = code; epc = epc; bd = bd }) };
   report = report.Faulted b.context.pc;

@@ -12,6 +12,7 @@ use crate::load::{empty_ram, load};
 use crate::task::{TaskState, TaskView};
 use crate::view::{Fault, Standing};
 use brd_exec::{Context, Outcome, run};
+use brd_isa::Register;
 use brd_mem::{BASE, Image, Ram};
 use std::alloc::Global;
 use std::marker::Model;
@@ -21,6 +22,9 @@ const STACK: u32 = 0x8001_0000;
 
 /// The last tick that is counted.
 const LAST_COUNT: u64 = 9_223_372_036_854_775_807;
+
+/// E_RSFN of the uITRON 4.0 specification: there is no such service call.
+const RESERVED_FUNCTION: u32 = 0xffff_fff6;
 
 /// The board.
 #[derive(Drop)]
@@ -111,6 +115,10 @@ impl Board {
         let address = self.context.pc();
         match run(&mut self.context, &mut self.ram) {
             Outcome::Done => Report::Ran(address),
+            Outcome::Syscall => {
+                self.context.set(Register::low(2), RESERVED_FUNCTION);
+                Report::Called(address)
+            }
             Outcome::Exception { code, epc, bd } => {
                 self.state = TaskState::Dormant;
                 self.fault = Some(Fault { code, epc, bd });
