@@ -41,17 +41,17 @@ fn main(rt: HostRuntime) -> anyhow::Result<()> {
         Some(events) => {
             let start = Instant::now(&rt)?;
             let ran = run(&mut board, events);
-            let board_time = start.elapsed(&rt)?.as_nanos();
+            let board_time = start.elapsed(&rt)?.as_millis();
             let start = Instant::now(&rt)?;
             let sum = bare_loop(events / 7);
-            let bare_time = start.elapsed(&rt)?.as_nanos();
+            let bare_time = start.elapsed(&rt)?.as_millis();
             let count = count_of(&board);
             println!(rt; "{ran} instructions, {count} turns of the loop")?;
-            report(&rt, "board", u128::from(ran), board_time)?;
+            report(&rt, "board", ran, board_time)?;
             report(
                 &rt,
                 "bare loop, seven operations a turn",
-                u128::from(events / 7 * 7),
+                events / 7 * 7,
                 bare_time,
             )?;
             println!(rt; "(the bare loop's sum is {sum})")?;
@@ -79,13 +79,13 @@ fn count_of(board: &Board) -> u32 {
     }
 }
 
-/// The loop's work as a loop of this program, with its word in memory.
+/// About the loop's work as a loop of this program. Each turn's place in memory depends on the turn before, so that no turns are done at once.
 fn bare_loop(turns: u64) -> u32 {
     let mut memory = [0u32; 64];
     let mut count = 0u32;
     let mut last = 0u32;
-    for i in 0..turns {
-        let at = (i % 64) as usize;
+    for _ in 0..turns {
+        let at = (last % 64) as usize;
         memory[at] = memory[at].wrapping_add(3);
         count = count.wrapping_add(1);
         last = count.wrapping_add(memory[at]) | count;
@@ -94,8 +94,9 @@ fn bare_loop(turns: u64) -> u32 {
 }
 
 /// Prints millions of operations a second.
-fn report(rt: &impl Print, name: &str, operations: u128, nanoseconds: u128) -> anyhow::Result<()> {
-    let rate = (operations as u64).wrapping_mul(1000) / (nanoseconds as u64).max(1);
-    println!(rt; "{name}: {rate} million a second")?;
+fn report(rt: &impl Print, name: &str, operations: u64, milliseconds: u128) -> anyhow::Result<()> {
+    let time = u64::try_from(milliseconds).unwrap_or(u64::MAX).max(1);
+    let rate = operations / time / 1000;
+    println!(rt; "{name}: {rate} million a second ({time} ms)")?;
     Ok(())
 }
