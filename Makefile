@@ -5,7 +5,7 @@ BOARD = build/board
 
 # Proves what has changed and leaves the program at build/board.
 board:
-	cd crates/brd_cli && rt run >/dev/null
+	cd crates/brd_cli && rt run -- words 0 </dev/null >/dev/null
 	mkdir -p build
 	cp crates/brd_cli/out/brd_cli $(BOARD)
 
