@@ -31,10 +31,10 @@ fn words_that_fit(rt: HostRuntime) -> Result<(), Fail> {
     Ok(())
 }
 
-/// A branch with its slot, then a word that stands for nothing.
+/// A branch with its slot, a SYSCALL, then a word that stands for nothing.
 #[test]
 fn what_events_report(rt: HostRuntime) -> Result<(), Fail> {
-    let mut board = Board::from_words(rt.alloc(), &[0x1000_0001, 0x2408_0007, 0xffff_ffff])?;
+    let mut board = Board::from_words(rt.alloc(), &[0x1000_0001, 0x2408_0007, 0x0000_000c, 0xffff_ffff])?;
     assert_eq!(rt; board.standing(1), Some(Standing::Task(1)));
     for (event, report) in [
         (Event::Step(0), Report::NoSuch),
@@ -45,7 +45,8 @@ fn what_events_report(rt: HostRuntime) -> Result<(), Fail> {
         (Event::Tick, Report::Ticked),
         (Event::Step(1), Report::Ran(0x8000_0004)),
         (Event::Tick, Report::Ticked),
-        (Event::Step(1), Report::Faulted(0x8000_0008)),
+        (Event::Step(1), Report::Called(0x8000_0008)),
+        (Event::Step(1), Report::Faulted(0x8000_000c)),
         (Event::Step(1), Report::Idle),
         (Event::Tick, Report::Ticked),
     ] {
@@ -58,7 +59,7 @@ fn what_events_report(rt: HostRuntime) -> Result<(), Fail> {
     assert_eq!(rt; board.registers(1), None);
     let fault = Fault {
         code: ExceptionCode::RI,
-        epc: 0x8000_0008,
+        epc: 0x8000_000c,
         bd: false,
     };
     assert_eq!(rt; board.last_fault(1), Some(fault));

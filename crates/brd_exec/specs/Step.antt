@@ -99,7 +99,8 @@ abbrev pub jump_links : JumpOp → Bool
 jump_links J = false
 jump_links Jal = true
 
--- What an instruction does, one line a form of operands. A branch that links reads its register first, and links whether taken or not.
+-- What an instruction does, one line a form of operands. A branch that links links whether taken or not. JALR and a branch that links read their
+-- register before the link is written (own choice where the manual says UNPREDICTABLE).
 abbrev pub meaning : Insn → State → List ℕ → Effect
 meaning (Shift op rd rt sa) s memory = Goes (with_register s rd (shift_gives op (read s rt) sa)) memory
 meaning (ShiftVariable op rd rt rs) s memory = Goes (with_register s rd (shift_variable_gives op (read s rt) (read s rs % 2 ^ 5))) memory

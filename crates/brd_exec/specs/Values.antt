@@ -104,7 +104,7 @@ immediate_gives Andi a immediate = Ok (bit_and a immediate)
 immediate_gives Ori a immediate = Ok (bit_or a immediate)
 immediate_gives Xori a immediate = Ok (bit_xor a immediate)
 
--- MUL: the low word of the product
+-- MUL: the low word of the product; HI and LO stay (own choice)
 abbrev pub multiply_gives : ℕ → ℕ → ℕ
 multiply_gives a b = signed_product a b % 2 ^ 32
 

@@ -1,7 +1,7 @@
 -- The instruction table: which words stand for an instruction. Each form of operands has one line, with the
 -- code of its mnemonic from Codes and 0 where the manual has a field of zeros (own choice: a word with such a
--- field that isn't 0 stands for nothing). The hints of JR and JALR and the stype of SYNC, in the field sa, are ignored, so several words stand for one
--- of these.
+-- field that isn't 0 stands for nothing, nor does a CLZ or CLO whose rt isn't its rd). The hints of JR and JALR
+-- and the stype of SYNC, in the field sa, are ignored, so several words stand for one of these.
 use Rattle.std.specs.Prelude.{ℕ}
 use Rattle.brd_isa.specs.declared.instruction.Insn.{Insn}
 use Rattle.brd_isa.specs.declared.instruction.Insn.TheVariants.{Shift, ShiftVariable, ThreeRegisters, Multiply, JumpRegister, JumpLinkRegister, Syscall, Break, Sync, MoveFrom, MoveTo, Product, Accumulate, Count, Trap, TrapImmediate, Jump, Branch, BranchSign, BranchZero, Immediate, LoadUpper, Load, Store, Prefetch}

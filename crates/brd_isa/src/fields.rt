@@ -166,7 +166,7 @@ impl LongCode {
         ensures { result ≡ bits % 2 ^ 20 }
     {
         LongCode {
-            code: (bits % 0x100000) as u32,
+            code: bits % 0x100000,
         }
     }
 
@@ -201,7 +201,7 @@ impl JumpIndex {
         ensures { result ≡ bits % 2 ^ 26 }
     {
         JumpIndex {
-            words: (bits % 0x4000000) as u32,
+            words: bits % 0x4000000,
         }
     }
 

@@ -7,7 +7,7 @@ use Rattle.std.specs.Int.{w32, w64, cast_signed, cast_unsigned}
 abbrev pub signed : ℕ → ℤ
 signed word = cast_signed w32 word
 
--- the word of a signed number, modulo 2 ^ 32
+-- the word whose signed reading is this number, which must be one of a word
 abbrev pub word_of_signed : ℤ → ℕ
 word_of_signed number = cast_unsigned w32 number
 
@@ -30,7 +30,7 @@ sum_overflows a b = not (is_signed_word (signed a +ℤ signed b))
 abbrev pub difference_overflows : ℕ → ℕ → Bool
 difference_overflows a b = not (is_signed_word (signed a -ℤ signed b))
 
--- the product of 64 bits
+-- the product of the signed readings as a number of 64 bits, in two's complement; it always fits
 abbrev pub signed_product : ℕ → ℕ → ℕ
 signed_product a b = cast_unsigned w64 (signed a *ℤ signed b)
 
