@@ -10,6 +10,7 @@ ghost use Rattle.std.specs.Prelude.{◌≡◌, ◌≢◌, ℕ, ◌≤◌, ◌<�
 ghost use Rattle.std.specs.Int.{bit_at};
 ghost use Rattle.brd_link.specs.LinkSet.{IsLinkSet, is_linked, word_of, without, with_link, after_store, outside_block};
 
+pub mod laws;
 #[cfg(test)]
 mod tests;
 
