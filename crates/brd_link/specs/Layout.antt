@@ -26,6 +26,7 @@ abbrev pub pairs : (ℕ → Option ℕ) → List ℕ → LinkSet
 pairs word [] = []
 pairs word (cpu ∷ cpus) = before cpu (word cpu) (pairs word cpus)
 
+-- the set that the words and the mask stand for
 unfoldable pub links_of : List ℕ → ℕ → LinkSet
 links_of words mask = pairs (word_at words mask) processors
 
@@ -34,6 +35,7 @@ abbrev pub mask_of : List (Option ℕ) → ℕ
 mask_of [] = 0
 mask_of (place ∷ places) = (if is_some place then 1 else 0) + 2 * mask_of places
 
+-- the word of each processor's link, if it has one
 abbrev pub places_of : LinkSet → List (Option ℕ)
 places_of links = map (word_of links) processors
 
@@ -41,6 +43,7 @@ places_of links = map (word_of links) processors
 unfoldable pub words_in : LinkSet → List ℕ
 words_in links = map (λ place. unwrap_or place 0) (places_of links)
 
+-- the mask of a set: bit j is set where processor j + 1 has a link
 unfoldable pub mask_in : LinkSet → ℕ
 mask_in links = mask_of (places_of links)
 

@@ -23,6 +23,9 @@ const PROCESSORS: usize = 8;
 const BLOCK: u32 = 16;
 
 /// The links of the processors 1 to 8, at most one for each.
+///
+/// Bit j of `mask` says whether processor j + 1 has one, to the address `words[j]`. A word without a
+/// link is 0, so equal sets have equal fields.
 #[derive(Clone, Copy, Debug)]
 pub struct Links {
     words: [u32; PROCESSORS],
