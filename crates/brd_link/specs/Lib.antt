@@ -1,0 +1,4 @@
+pub mod LinkSet
+pub mod Layout
+pub mod LayoutBack
+pub mod LinkEq
