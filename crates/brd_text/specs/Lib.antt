@@ -1,0 +1,6 @@
+pub mod Bytes
+pub mod Words
+pub mod Gaps
+pub mod Numbers
+pub mod Faults
+pub mod Turns
