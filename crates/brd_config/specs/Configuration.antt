@@ -31,7 +31,7 @@ pub record IsTask (processors : ℕ) (t : TaskConfig) : Type 0 where
   pub processor : IsWithin 1 processors t.processor
   pub attributes : t.attributes.0 ≤ 3
   pub priority : IsWithin 1 16 t.priority
-  pub stack_size : IsWithin 1 4294967295 t.stack_size
+  pub stack_size : 1 ≤ t.stack_size
 
 pub record IsSemaphore (s : SemaphoreConfig) : Type 0 where
   pub id : IsWithin 1 255 s.id

@@ -20,3 +20,4 @@ pub use list::List;
 pub use objects::{
     FlagConfig, HandlerConfig, Operand, QueueConfig, SemaphoreConfig, Stack, TaskConfig,
 };
+pub use parser::parse;

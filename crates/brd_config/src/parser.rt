@@ -141,3 +141,36 @@ fn read(alloc: Global, text: &[u8]) -> Result<Draft, ConfigFault>
     let draft = first(alloc, &mut words)?;
     finished(alloc, draft, &mut words)
 }
+
+/// A draft whose values are within their limits is a configuration.
+fn whole(draft: Draft) -> Config
+    requires { IsConfiguration (drafted draft) }
+    ensures { view result ≡ drafted draft }
+{
+    Config {
+        processors: draft.processors,
+        ram: draft.ram,
+        tasks: draft.tasks,
+        semaphores: draft.semaphores,
+        flags: draft.flags,
+        queues: draft.queues,
+        handlers: draft.handlers,
+    }
+}
+
+/// The configuration that a text says, in the language of docs/CONFIGURATION.md.
+///
+/// # Errors
+///
+/// The fault of the first faulty statement: `Syntax` with the line on which the text fails, the others with the line of
+/// the statement's first word. Of the faults of one statement the first in this order: `Syntax`, `BadProcessor`, `BadId`,
+/// `Duplicate`, `BadAttribute`, `BadPriority`, `BadCount`. `NoMemory` where memory runs out, at whatever point.
+pub fn parse(alloc: Global, text: &[u8]) -> Result<Config, ConfigFault>
+    // What the text says, or its first fault.
+    ensures meaning { Gives view result (meaning.config_of text.now) }
+    // Each value is within its limits, and IDs of one kind are distinct.
+    ensures valid { IfOk result (λ c. IsConfiguration (view c)) }
+{
+    let draft = read(alloc, text)?;
+    Ok(whole(draft))
+}

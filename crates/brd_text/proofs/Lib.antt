@@ -1,3 +1,4 @@
 pub mod Numerals
 pub mod Runs
+pub mod FaultLemmas
 pub mod TurnLemmas

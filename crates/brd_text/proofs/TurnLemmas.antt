@@ -1,5 +1,6 @@
 -- A loop that takes a step after the other, against `repeated`.
-use Rattle.std.proofs.Common.{◌≡◌, ℕ, zero, suc, ◌<◌, ◌≤◌, Bool, true, false, Result, Ok, Err, refl, sym, ap, ◌∙◌, arith}
+use Rattle.std.proofs.Common.{◌≡◌, ℕ, zero, suc, ◌<◌, ◌≤◌, Bool, true, false, Result, Ok, Err, refl, sym, ap, subst, ◌∙◌, arith}
+use Rattle.brd_text.proofs.FaultLemmas.{bind_ok, ok_is}
 use Rattle.std.specs.Prelude.{⊤}
 use Rattle.std.specs.Bool.{MatchBool}
 use Rattle.brd_text.specs.Faults.{◌>>=◌, Fails}
@@ -63,3 +64,22 @@ fails_from is_memory e read h = given (is_memory e) h
     given : (b : Bool) → read ≡ Err e → MatchBool b ⊤ (read ≡ Err e)
     given true h = tt
     given false h = h
+
+-- ---- what a whole run keeps
+
+keeps_by : {F S R : Type 0} (spent : F) (step : S → Result (Flow S R) F) (P : S → Type 0) (Q : R → Type 0)
+    → ((s t : S) → step s ≡ Ok (More t) → P s → P t) → ((s : S) (r : R) → step s ≡ Ok (Done r) → P s → Q r)
+    → (n : ℕ) (s : S) (r : R) (flow : Flow S R) → P s → step s ≡ Ok flow → followed (repeated spent step n) flow ≡ Ok r
+    → ((t : S) → P t → repeated spent step n t ≡ Ok r → Q r) → Q r
+keeps_by spent step P Q more done n s r (More t) p h e again = again t (more s t h p) e
+keeps_by spent step P Q more done n s r (Done x) p h e again = subst Q (ok_is x r e) (done s x h p)
+
+-- What holds of the first state, and is kept by a turn, holds of the last: so q holds of the result.
+pub keeps : {F S R : Type 0} (spent : F) (step : S → Result (Flow S R) F) (P : S → Type 0) (Q : R → Type 0)
+    → ((s t : S) → step s ≡ Ok (More t) → P s → P t) → ((s : S) (r : R) → step s ≡ Ok (Done r) → P s → Q r)
+    → (n : ℕ) (s : S) (r : R) → P s → repeated spent step n s ≡ Ok r → Q r
+unfolding repeated
+keeps spent step P Q more done zero s r p e = absurd (cc)
+keeps spent step P Q more done (suc n) s r p e =
+    let b = bind_ok (step s) (followed (repeated spent step n)) r e in
+    keeps_by spent step P Q more done n s r b.0 p b.1 b.2 (λ t q h. keeps spent step P Q more done n t r q h)
