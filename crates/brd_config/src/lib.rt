@@ -21,3 +21,6 @@ pub use objects::{
     FlagConfig, HandlerConfig, Operand, QueueConfig, SemaphoreConfig, Stack, TaskConfig,
 };
 pub use parser::parse;
+
+#[cfg(test)]
+mod tests;
