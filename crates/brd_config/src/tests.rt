@@ -1,7 +1,6 @@
 //! Texts with answers that were worked out by hand.
 
 mod changed;
-mod rows;
 mod values;
 
 use crate::{Config, ConfigFault};

@@ -1,7 +1,7 @@
 //! What the text with every kind of statement says, value by value.
 
 use super::EVERY;
-use crate::{Config, List, Operand, Stack, TaskAttributes, parse};
+use crate::{Config, ConfigFault, Operand, Stack, TaskAttributes, parse};
 use bitflags::Flags;
 use std::process::Abort;
 use std::test::Fail;
@@ -104,4 +104,18 @@ fn handlers(rt: HostRuntime) -> Result<(), Fail> {
 fn names_of_attributes(rt: HostRuntime) {
     assert!(rt; TaskAttributes::from_name("TA_ACT") == Some(TaskAttributes::TA_ACT));
     assert!(rt; TaskAttributes::from_name("TA_CLR").is_none());
+}
+
+#[test]
+fn texts_of_faults(rt: HostRuntime) -> Result<(), Fail> {
+    let bad_id = ConfigFault::BadId { line: 7 };
+    let text = format!(in rt.alloc(); "{bad_id}")?;
+    assert_eq!(rt;
+        text.as_str(),
+        "line 7: found an ID or a line out of range, expected an ID 1 to 255, a line 0 to 31"
+    );
+    let out_of_memory = ConfigFault::NoMemory;
+    let text = format!(in rt.alloc(); "{out_of_memory}")?;
+    assert_eq!(rt; text.as_str(), "out of memory");
+    Ok(())
 }
