@@ -2,3 +2,4 @@ pub mod Numerals
 pub mod Runs
 pub mod FaultLemmas
 pub mod TurnLemmas
+pub mod Spelled

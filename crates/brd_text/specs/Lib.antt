@@ -4,3 +4,4 @@ pub mod Gaps
 pub mod Numbers
 pub mod Faults
 pub mod Turns
+pub mod Spelling

@@ -1,6 +1,8 @@
 //! Bytes to words.
 
-ghost use Rattle.std.specs.Prelude.{◌≡◌};
+ghost use Rattle.std.specs.Prelude.{◌≡◌, ℕ, List};
+ghost use Rattle.brd_text.specs.Words.{Word, words_of as words_of_text};
+ghost use Rattle.brd_text.specs.Spelling.{Spells, bare_words};
 
 use crate::gap::{Gap, after_gap, token_at};
 use crate::token::Token;
@@ -59,3 +61,8 @@ impl<'a> Scanner<'a> {
         }
     }
 }
+
+/// What spells words, with any blanks and comments between them, is scanned as these words.
+pub fn spelled_words_are_scanned()
+    ensures { (bytes : List ℕ) (words : List Word) → Spells bytes words → bare_words (words_of_text bytes) ≡ words }
+{}
