@@ -4,3 +4,4 @@ pub mod Reading
 pub mod Statements
 pub mod Meaning
 pub mod View
+pub mod Grammar
