@@ -184,7 +184,7 @@ class_again n ps t s =
     (others t3, rw (a.0, b.0, c.0, d.0) refl, d.1)
 
 -- ( id , { attributes , fields } ) ; and what follows
-abbrev object_pieces : ℕ → ℕ → List Piece → List Piece → List Piece
+abbrev pub object_pieces : ℕ → ℕ → List Piece → List Piece → List Piece
 object_pieces id attributes fields ps = Sign 40 ∷ Numeral id ∷ Sign 44 ∷ Sign 123 ∷ Attributes attributes ∷ Sign 44 ∷ (fields ++ Sign 125 ∷ Sign 41 ∷ Sign 59 ∷ ps)
 
 task_again : (x : TaskStatement) (ps : List Piece) (t : Text)

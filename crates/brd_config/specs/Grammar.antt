@@ -17,6 +17,10 @@ use Rattle.brd_config.specs.declared.objects.HandlerConfig.{HandlerConfig}
 use Rattle.brd_config.specs.declared.statement.Statement.{Statement}
 use Rattle.brd_config.specs.declared.statement.Statement.TheVariants.{Board, Class, ClassEnd, Task, Semaphore, Flag, Queue, Handler}
 use Rattle.brd_config.specs.declared.statement.TaskStatement.{TaskStatement}
+use Rattle.brd_config.specs.declared.statement.SemaphoreStatement.{SemaphoreStatement}
+use Rattle.brd_config.specs.declared.statement.FlagStatement.{FlagStatement}
+use Rattle.brd_config.specs.declared.statement.QueueStatement.{QueueStatement}
+use Rattle.brd_config.specs.declared.statement.HandlerStatement.{HandlerStatement}
 use Rattle.brd_config.specs.Reading.{attribute_of, class_of, operand_of, stack_of, is_area}
 use Rattle.brd_config.specs.Configuration.{Configuration, IsWithin, IsConfiguration}
 use Rattle.brd_config.specs.Meaning.{processor_of}
@@ -80,13 +84,29 @@ IsText bytes statements = (words : List Word) × Spells bytes words × AreSpelle
 
 -- ---- what statements say
 
+-- what a statement says of its object
+abbrev pub task_said : ℕ → TaskStatement → TaskConfig
+task_said processor t = record { id = t.id; processor = processor; attributes = record { 0 = t.attributes }; exinf = t.exinf; address = t.address; priority = t.priority; stack_size = t.stack_size; stack = t.stack }
+
+abbrev pub semaphore_said : SemaphoreStatement → SemaphoreConfig
+semaphore_said s = record { id = s.id; attributes = record { 0 = s.attributes }; initial = s.initial; maximum = s.maximum }
+
+abbrev pub flag_said : FlagStatement → FlagConfig
+flag_said f = record { id = f.id; attributes = record { 0 = f.attributes }; pattern = f.pattern }
+
+abbrev pub queue_said : QueueStatement → QueueConfig
+queue_said q = record { id = q.id; attributes = record { 0 = q.attributes }; capacity = q.capacity }
+
+abbrev pub handler_said : ℕ → HandlerStatement → HandlerConfig
+handler_said processor h = record { line = h.line; processor = processor; address = h.address }
+
 -- The tasks of statements that stand in this class, in their order.
 abbrev pub tasks_of : Option ℕ → List Statement → List TaskConfig
 tasks_of class [] = []
 tasks_of class (Board processors ram ∷ ss) = tasks_of class ss
 tasks_of class (Class n ∷ ss) = tasks_of (Some n) ss
 tasks_of class (ClassEnd ∷ ss) = tasks_of None ss
-tasks_of class (Task t ∷ ss) = record { id = t.id; processor = processor_of class; attributes = record { 0 = t.attributes }; exinf = t.exinf; address = t.address; priority = t.priority; stack_size = t.stack_size; stack = t.stack } ∷ tasks_of class ss
+tasks_of class (Task t ∷ ss) = task_said (processor_of class) t ∷ tasks_of class ss
 tasks_of class (Semaphore s ∷ ss) = tasks_of class ss
 tasks_of class (Flag f ∷ ss) = tasks_of class ss
 tasks_of class (Queue q ∷ ss) = tasks_of class ss
@@ -98,7 +118,7 @@ semaphores_of (Board processors ram ∷ ss) = semaphores_of ss
 semaphores_of (Class n ∷ ss) = semaphores_of ss
 semaphores_of (ClassEnd ∷ ss) = semaphores_of ss
 semaphores_of (Task t ∷ ss) = semaphores_of ss
-semaphores_of (Semaphore s ∷ ss) = record { id = s.id; attributes = record { 0 = s.attributes }; initial = s.initial; maximum = s.maximum } ∷ semaphores_of ss
+semaphores_of (Semaphore s ∷ ss) = semaphore_said s ∷ semaphores_of ss
 semaphores_of (Flag f ∷ ss) = semaphores_of ss
 semaphores_of (Queue q ∷ ss) = semaphores_of ss
 semaphores_of (Handler h ∷ ss) = semaphores_of ss
@@ -110,7 +130,7 @@ flags_of (Class n ∷ ss) = flags_of ss
 flags_of (ClassEnd ∷ ss) = flags_of ss
 flags_of (Task t ∷ ss) = flags_of ss
 flags_of (Semaphore s ∷ ss) = flags_of ss
-flags_of (Flag f ∷ ss) = record { id = f.id; attributes = record { 0 = f.attributes }; pattern = f.pattern } ∷ flags_of ss
+flags_of (Flag f ∷ ss) = flag_said f ∷ flags_of ss
 flags_of (Queue q ∷ ss) = flags_of ss
 flags_of (Handler h ∷ ss) = flags_of ss
 
@@ -122,7 +142,7 @@ queues_of (ClassEnd ∷ ss) = queues_of ss
 queues_of (Task t ∷ ss) = queues_of ss
 queues_of (Semaphore s ∷ ss) = queues_of ss
 queues_of (Flag f ∷ ss) = queues_of ss
-queues_of (Queue q ∷ ss) = record { id = q.id; attributes = record { 0 = q.attributes }; capacity = q.capacity } ∷ queues_of ss
+queues_of (Queue q ∷ ss) = queue_said q ∷ queues_of ss
 queues_of (Handler h ∷ ss) = queues_of ss
 
 abbrev pub handlers_of : Option ℕ → List Statement → List HandlerConfig
@@ -134,7 +154,7 @@ handlers_of class (Task t ∷ ss) = handlers_of class ss
 handlers_of class (Semaphore s ∷ ss) = handlers_of class ss
 handlers_of class (Flag f ∷ ss) = handlers_of class ss
 handlers_of class (Queue q ∷ ss) = handlers_of class ss
-handlers_of class (Handler h ∷ ss) = record { line = h.line; processor = processor_of class; address = h.address } ∷ handlers_of class ss
+handlers_of class (Handler h ∷ ss) = handler_said (processor_of class) h ∷ handlers_of class ss
 
 -- the configuration of a board and the statements behind it, whatever their values
 abbrev pub said : ℕ → ℕ → List Statement → Configuration
@@ -166,3 +186,7 @@ AreNested processors class (Handler h ∷ ss) = (h.attributes ≤ 1) × AreNeste
 pub record AreValid (processors ram : ℕ) (ss : List Statement) : Type 0 where
   pub nested : AreNested processors None ss
   pub values : IsConfiguration (said processors ram ss)
+
+-- The text is that of valid statements, BOARD first, and this is what they say.
+abbrev pub Says : List ℕ → Configuration → Type 0
+Says bytes c = (processors : ℕ) × (ram : ℕ) × (ss : List Statement) × IsText bytes (Board processors ram ∷ ss) × AreValid processors ram ss × (c ≡ said processors ram ss)

@@ -1,10 +1,11 @@
 //! A text to a configuration, statement by statement.
 
-ghost use Rattle.std.specs.Prelude.{◌≡◌, ◌≤◌, ◌<◌, IsTrue, IfOk, length, None};
+ghost use Rattle.std.specs.Prelude.{◌≡◌, ◌≤◌, ◌<◌, IsTrue, IfOk, length, None, Ok};
 ghost use Rattle.brd_text.specs.Turns.{flow_of};
 ghost use Rattle.brd_config.specs.Faults.{Gives};
 ghost use Rattle.brd_config.specs.Meaning as meaning;
-ghost use Rattle.brd_config.specs.Configuration.{IsConfiguration};
+ghost use Rattle.brd_config.specs.Configuration.{Configuration, IsConfiguration};
+ghost use Rattle.brd_config.specs.Grammar.{Says};
 ghost use Rattle.brd_config.specs.View.{view, drafted, state_of};
 
 use crate::checks;
@@ -158,6 +159,14 @@ fn whole(draft: Draft) -> Config
     }
 }
 
+/// What a text says, as a configuration.
+fn parsed(alloc: Global, text: &[u8]) -> Result<Config, ConfigFault>
+    ensures { Gives view result (meaning.config_of text.now) }
+{
+    let draft = read(alloc, text)?;
+    Ok(whole(draft))
+}
+
 /// The configuration that a text says, in the language of docs/CONFIGURATION.md.
 ///
 /// # Errors
@@ -168,9 +177,10 @@ fn whole(draft: Draft) -> Config
 pub fn parse(alloc: Global, text: &[u8]) -> Result<Config, ConfigFault>
     // What the text says, or its first fault.
     ensures meaning { Gives view result (meaning.config_of text.now) }
+    // What spells valid statements, in their forms and with any blanks and comments, says what they say.
+    ensures grammar { (c : Configuration) → Says text.now c → Gives view result (Ok c) }
     // Each value is within its limits, and IDs of one kind are distinct.
     ensures valid { IfOk result (λ c. IsConfiguration (view c)) }
 {
-    let draft = read(alloc, text)?;
-    Ok(whole(draft))
+    parsed(alloc, text)
 }

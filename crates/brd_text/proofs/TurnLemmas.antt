@@ -83,3 +83,17 @@ keeps spent step P Q more done zero s r p e = absurd (cc)
 keeps spent step P Q more done (suc n) s r p e =
     let b = bind_ok (step s) (followed (repeated spent step n)) r e in
     keeps_by spent step P Q more done n s r b.0 p b.1 b.2 (λ t q h. keeps spent step P Q more done n t r q h)
+
+-- ---- more turns than are needed
+
+more_by : {F S R : Type 0} (spent : F) (step : S → Result (Flow S R) F) (n m : ℕ) (flow : Flow S R) (r : R) → ((t : S) → repeated spent step n t ≡ Ok r → repeated spent step m t ≡ Ok r) → followed (repeated spent step n) flow ≡ Ok r → followed (repeated spent step m) flow ≡ Ok r
+more_by spent step n m (More t) r again e = again t e
+more_by spent step n m (Done x) r again e = e
+
+pub more_turns : {F S R : Type 0} (spent : F) (step : S → Result (Flow S R) F) (n m : ℕ) (s : S) (r : R) → n ≤ m → repeated spent step n s ≡ Ok r → repeated spent step m s ≡ Ok r
+unfolding repeated
+more_turns spent step zero m s r le e = absurd (cc)
+more_turns spent step (suc n) zero s r le e = absurd (omega arith)
+more_turns spent step (suc n) (suc m) s r le e =
+    let b = bind_ok (step s) (followed (repeated spent step n)) r e in
+    ap (λ x. x >>= followed (repeated spent step m)) b.1 ∙ more_by spent step n m b.0 r (λ t h. more_turns spent step n m t r (omega arith) h) b.2
