@@ -12,3 +12,6 @@ pub use byte::{is_digit, is_letter, is_name, is_word_byte};
 pub use numeral::{decimal, number};
 pub use scanner::{Scanner, spelled_words_are_scanned};
 pub use token::Token;
+
+#[cfg(test)]
+mod tests;
