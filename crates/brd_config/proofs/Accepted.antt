@@ -1,8 +1,7 @@
 -- Valid statements are accepted one after the other, and come to the configuration that they say.
-use Rattle.std.proofs.Common.{◌≡◌, ◌≢◌, ℕ, zero, suc, ◌+◌, ◌-◌, ◌%◌, ◌<◌, ◌≤◌, ◌^◌, Bool, true, false, not, ◌&&◌, cond, List, [], ◌∷◌, ◌++◌, length, map, get_or, All, Option, Some, None, Result, Ok, Err, refl, sym, ap, subst, ◌∙◌, append_assoc, arith}
-use Rattle.std.specs.Prelude.{AllPairs, nat_eq, nat_le, is_some, is_none, codes}
+use Rattle.std.proofs.Common.{◌≡◌, ◌≢◌, ℕ, suc, ◌-◌, ◌<◌, ◌≤◌, ◌^◌, Bool, true, false, ◌&&◌, List, [], ◌∷◌, ◌++◌, length, map, get_or, All, Option, Some, None, Ok, refl, sym, ap, subst, ◌∙◌, append_assoc, arith}
+use Rattle.std.specs.Prelude.{AllPairs, nat_eq, is_some, is_none, codes}
 use Rattle.std.specs.List.{list_any, flat_map}
-use Rattle.std.specs.Int.RustNames.{bit_and}
 use Rattle.std.proofs.lemmas.Bool.{le-leb, eq-eqb, ne_eqb}
 use Rattle.std.proofs.lemmas.Bool.Decides.{nat_tests}
 use Rattle.std.proofs.lemmas.Nat.{and_mask}
@@ -10,15 +9,14 @@ use Rattle.std.proofs.Math.Nat.{mod-eq_of_lt}
 use Rattle.std.proofs.lemmas.List.{append-nil, get_or_append_left, get_or_at, length-append, length-map}
 use Rattle.std.proofs.lemmas.List.Folds.{list_any_none}
 use Rattle.brd_text.specs.Words.{Word, Placed, Text, first, others, words_of}
-use Rattle.brd_text.specs.Words.Word.{Run, Mark, End}
-use Rattle.brd_text.specs.Faults.{◌>>=◌}
-use Rattle.brd_text.specs.Turns.{Flow, followed, repeated}
+use Rattle.brd_text.specs.Words.Word.{End}
+use Rattle.brd_text.specs.Turns.{repeated}
 use Rattle.brd_text.specs.Turns.Flow.{More, Done}
-use Rattle.brd_text.specs.Spelling.{Spells, bare_words}
+use Rattle.brd_text.specs.Spelling.{bare_words}
 use Rattle.brd_text.proofs.Spelled.{spelled}
 use Rattle.brd_text.proofs.TurnLemmas.{more_turns}
 use Rattle.brd_config.specs.declared.fault.ConfigFault.{ConfigFault}
-use Rattle.brd_config.specs.declared.fault.ConfigFault.TheVariants.{NoMemory, Syntax, BadId, Duplicate, BadAttribute, BadPriority, BadCount, BadProcessor}
+use Rattle.brd_config.specs.declared.fault.ConfigFault.TheVariants.{NoMemory, BadId, BadAttribute, BadPriority, BadCount, BadProcessor}
 use Rattle.brd_config.specs.declared.objects.TaskConfig.{TaskConfig}
 use Rattle.brd_config.specs.declared.objects.SemaphoreConfig.{SemaphoreConfig}
 use Rattle.brd_config.specs.declared.objects.FlagConfig.{FlagConfig}
@@ -32,11 +30,11 @@ use Rattle.brd_config.specs.declared.statement.FlagStatement.{FlagStatement}
 use Rattle.brd_config.specs.declared.statement.QueueStatement.{QueueStatement}
 use Rattle.brd_config.specs.declared.statement.HandlerStatement.{HandlerStatement}
 use Rattle.brd_config.specs.Configuration.{Configuration, IsWithin, IsRamSize, IsTask, IsSemaphore, IsFlag, IsQueue, IsHandler, IsConfiguration}
-use Rattle.brd_config.specs.Statements.{statement_at, board_at}
-use Rattle.brd_config.specs.Meaning.{State, within, only_bits, refused, is_ram_size, task_of, semaphore_of, flag_of, queue_of, handler_of, added, processor_of, is_end, is_board, one_more, statement_step, statements_from, board_of, first_board, first_statement, config_of}
+use Rattle.brd_config.specs.Statements.{statement_at}
+use Rattle.brd_config.specs.Meaning.{State, within, only_bits, is_ram_size, task_of, semaphore_of, flag_of, queue_of, handler_of, added, processor_of, is_end, one_more, statement_step, statements_from, board_of, first_board, first_statement, config_of}
 use Rattle.brd_config.specs.Grammar.Piece.{Exactly, Sign, Numeral, Attributes, Value, StackValue, Area, ClassName}
-use Rattle.brd_config.specs.Grammar.{Piece, IsSpelled, AreSpelled, form, IsText, tasks_of, semaphores_of, flags_of, queues_of, handlers_of, task_said, semaphore_said, flag_said, queue_said, handler_said, said, IsOutside, IsInside, AreNested, AreValid, Says}
-use Rattle.brd_config.proofs.Forms.{Ahead, MayStand, first_bare, exactly_step, first_sign, object_pieces, board_again, statement_again}
+use Rattle.brd_config.specs.Grammar.{Piece, IsSpelled, AreSpelled, form, IsText, tasks_of, semaphores_of, flags_of, queues_of, handlers_of, task_said, semaphore_said, flag_said, queue_said, handler_said, said, AreNested, AreValid, Says}
+use Rattle.brd_config.proofs.Forms.{Ahead, MayStand, exactly_step, first_sign, object_pieces, board_again, statement_again}
 
 -- ---- lists
 

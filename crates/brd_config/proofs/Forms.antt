@@ -1,18 +1,15 @@
 -- What is spelled in a statement's form is read as this statement.
-use Rattle.std.proofs.Common.{◌≡◌, ℕ, zero, suc, ◌+◌, ◌<◌, ◌≤◌, Bool, true, false, cond, List, [], ◌∷◌, ◌++◌, length, map, drop, Option, Some, None, Result, Ok, Err, refl, sym, ap, subst, ◌∙◌, append_assoc, arith}
+use Rattle.std.proofs.Common.{◌≡◌, ℕ, zero, suc, ◌≤◌, Bool, true, false, List, [], ◌∷◌, ◌++◌, length, map, drop, Some, Result, Ok, refl, sym, ap, subst, ◌∙◌, arith}
 use Rattle.std.proofs.lemmas.Bool.{eq-eqb}
 use Rattle.std.proofs.lemmas.List.{length-append, length-map}
 use Rattle.std.specs.Prelude.{codes}
 use Rattle.std.specs.Int.RustNames.{bit_or}
 use Rattle.brd_text.specs.Words.{Word, Placed, Text, first, others}
-use Rattle.brd_text.specs.Words.Word.{Run, Mark, End}
-use Rattle.brd_text.specs.Numbers.{number_of}
-use Rattle.brd_text.specs.Faults.{◌>>=◌, or_fault}
-use Rattle.brd_text.specs.Turns.{Flow, followed, repeated, flow_of}
-use Rattle.brd_text.specs.Turns.Flow.{More, Done}
+use Rattle.brd_text.specs.Words.Word.{Run, Mark}
+use Rattle.brd_text.specs.Turns.{repeated, flow_of}
 use Rattle.brd_text.specs.Spelling.{bare_words}
 use Rattle.brd_config.specs.declared.fault.ConfigFault.{ConfigFault}
-use Rattle.brd_config.specs.declared.fault.ConfigFault.TheVariants.{NoMemory, Syntax}
+use Rattle.brd_config.specs.declared.fault.ConfigFault.TheVariants.{NoMemory}
 use Rattle.brd_config.specs.declared.objects.Operand.{Operand}
 use Rattle.brd_config.specs.declared.objects.Stack.{Stack}
 use Rattle.brd_config.specs.declared.statement.Statement.{Statement}
@@ -23,8 +20,8 @@ use Rattle.brd_config.specs.declared.statement.FlagStatement.{FlagStatement}
 use Rattle.brd_config.specs.declared.statement.QueueStatement.{QueueStatement}
 use Rattle.brd_config.specs.declared.statement.HandlerStatement.{HandlerStatement}
 use Rattle.brd_config.specs.Statements.{keyword_of, board_at, class_at, task_at, semaphore_at, flag_at, queue_at, handler_at, behind_keyword, statement_at}
-use Rattle.brd_config.specs.Reading.{attribute_of, class_of, operand_of, stack_of, is_area, run_of, number_at, mark_at, attribute_at, joint_at, attribute_step, attributes_at, operand_at, stack_at, area_at, class_number_at, head_at, tail_at}
-use Rattle.brd_config.specs.Grammar.{Piece, Joined, IsSpelled, AreSpelled, form}
+use Rattle.brd_config.specs.Reading.{attribute_of, number_at, mark_at, attribute_at, joint_at, attribute_step, attributes_at, operand_at, stack_at, area_at, class_number_at, head_at, tail_at}
+use Rattle.brd_config.specs.Grammar.{Piece, Joined, AreSpelled, form}
 use Rattle.brd_config.specs.Grammar.Piece.{Exactly, Sign, Numeral, Attributes, Value, StackValue, Area, ClassName}
 use Rattle.brd_config.specs.Grammar.Joined.{last, bar}
 

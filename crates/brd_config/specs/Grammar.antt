@@ -1,6 +1,6 @@
 -- The language as a grammar, apart from how it is read: the form of each statement, which words spell a form, and what
 -- configuration a list of statements says.
-use Rattle.std.specs.Prelude.{◌≡◌, ℕ, ◌≤◌, Bool, true, false, List, [], ◌∷◌, ◌++◌, Option, Some, None, codes}
+use Rattle.std.specs.Prelude.{◌≡◌, ℕ, ◌≤◌, true, List, [], ◌∷◌, ◌++◌, Option, Some, None, codes}
 use Rattle.std.specs.List.{flat_map}
 use Rattle.std.specs.Int.RustNames.{bit_or}
 use Rattle.brd_text.specs.Words.{Word}

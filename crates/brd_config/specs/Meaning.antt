@@ -1,6 +1,6 @@
 -- The configuration that a text says, or the fault of its first faulty statement. Of the faults of one statement the
 -- first in this order is answered: Syntax, BadProcessor, BadId, Duplicate, BadAttribute, BadPriority, BadCount.
-use Rattle.std.specs.Prelude.{ℕ, zero, suc, ◌%◌, Bool, true, false, not, ◌&&◌, ◌||◌, nat_le, nat_lt, ◌==◌, if◌then◌else◌, List, [], ◌∷◌, ◌++◌, length, Option, Some, None, is_none, is_some, unwrap_or, Result, Ok, Err, codes}
+use Rattle.std.specs.Prelude.{ℕ, suc, ◌%◌, Bool, true, false, not, ◌&&◌, nat_le, ◌==◌, if◌then◌else◌, List, [], ◌∷◌, ◌++◌, length, Option, Some, None, is_none, is_some, unwrap_or, Result, Ok, Err, codes}
 use Rattle.std.specs.List.{list_any}
 use Rattle.std.specs.Str.{bytes_eq}
 use Rattle.std.specs.Int.RustNames.{bit_and}
@@ -11,7 +11,6 @@ use Rattle.brd_text.specs.Turns.{Flow, repeated}
 use Rattle.brd_text.specs.Turns.Flow.{More, Done}
 use Rattle.brd_config.specs.declared.fault.ConfigFault.{ConfigFault}
 use Rattle.brd_config.specs.declared.fault.ConfigFault.TheVariants.{NoMemory, Syntax, Duplicate, BadId, BadAttribute, BadPriority, BadCount, BadProcessor}
-use Rattle.brd_config.specs.declared.statement.Keyword.TheVariants as keywords
 use Rattle.brd_config.specs.declared.objects.TaskConfig.{TaskConfig}
 use Rattle.brd_config.specs.declared.objects.SemaphoreConfig.{SemaphoreConfig}
 use Rattle.brd_config.specs.declared.objects.FlagConfig.{FlagConfig}
@@ -24,8 +23,7 @@ use Rattle.brd_config.specs.declared.statement.QueueStatement.{QueueStatement}
 use Rattle.brd_config.specs.declared.statement.HandlerStatement.{HandlerStatement}
 use Rattle.brd_config.specs.declared.statement.Statement.{Statement}
 use Rattle.brd_config.specs.declared.statement.Statement.TheVariants.{Board, Class, ClassEnd, Task, Semaphore, Flag, Queue, Handler}
-use Rattle.brd_config.specs.Reading.{number_at, mark_at}
-use Rattle.brd_config.specs.Statements.{board_at, statement_at, keyword_of}
+use Rattle.brd_config.specs.Statements.{board_at, statement_at}
 use Rattle.brd_config.specs.Configuration.{Configuration}
 
 -- ---- tests of values

@@ -1,9 +1,9 @@
 -- Numbers, marks, attributes and operands at the front of a text. Syntax has the line of the word that does not fit.
-use Rattle.std.specs.Prelude.{ℕ, Bool, true, false, List, [], ◌∷◌, length, take, drop, ◌==◌, if◌then◌else◌, ◌||◌, Option, Some, None, is_some, option_map, Result, Ok, Err, suc, codes}
+use Rattle.std.specs.Prelude.{ℕ, Bool, true, false, List, length, take, drop, ◌==◌, if◌then◌else◌, ◌||◌, Option, Some, None, is_some, option_map, Result, Ok, Err, suc, codes}
 use Rattle.std.specs.Str.{bytes_eq}
 use Rattle.std.specs.Int.RustNames.{bit_or}
 use Rattle.brd_text.specs.Bytes.{is_name}
-use Rattle.brd_text.specs.Words.{Word, Placed, Text, first, others}
+use Rattle.brd_text.specs.Words.{Word, Text, first, others}
 use Rattle.brd_text.specs.Words.Word.{Run, Mark, Unclosed, End}
 use Rattle.brd_text.specs.Numbers.{number_of, decimal_of}
 use Rattle.brd_text.specs.Faults.{◌>>=◌, or_fault}

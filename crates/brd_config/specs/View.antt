@@ -1,5 +1,4 @@
 -- What clauses see of the values of the code.
-use Rattle.std.specs.Prelude.{ℕ, Option}
 use Rattle.brd_config.specs.declared.config.Config.{Config}
 use Rattle.brd_config.specs.declared.draft.Draft.{Draft}
 use Rattle.brd_config.specs.Configuration.{Configuration}

@@ -1,6 +1,6 @@
 -- Steps that did not fail.
-use Rattle.std.proofs.Common.{◌≡◌, Bool, true, false, cond, Option, Some, None, Result, Ok, Err, refl, sym, ◌∙◌}
-use Rattle.brd_text.specs.Faults.{◌>>=◌, or_fault}
+use Rattle.std.proofs.Common.{◌≡◌, Bool, true, false, cond, Result, Ok, Err, refl}
+use Rattle.brd_text.specs.Faults.{◌>>=◌}
 
 abbrev pub found : {F A : Type 0} → A → Result A F
 found x = Ok x

@@ -1,11 +1,11 @@
 -- Words at the front of a text: blanks, comments, runs and marks.
-use Rattle.std.proofs.Common.{◌≡◌, ℕ, suc, ◌+◌, Bool, true, false, not, ◌&&◌, ◌||◌, List, [], ◌∷◌, drop, take, refl, sym, ap, ◌∙◌, inl, inr, arith}
+use Rattle.std.proofs.Common.{◌≡◌, ℕ, suc, ◌+◌, Bool, true, false, not, ◌&&◌, ◌||◌, List, [], ◌∷◌, drop, take, refl, ◌∙◌, inl, inr, arith}
 use Rattle.std.proofs.lemmas.Bool.{ne_eqb, cases_Bool, not-true, and_parts}
 use Rattle.std.proofs.lemmas.Bool.Decides.{nat_tests}
 use Rattle.std.specs.Prelude.{nat_eq, if◌then◌else◌}
 use Rattle.std.specs.List.{prefix_len}
 use Rattle.brd_text.specs.Bytes.{is_letter, is_digit, is_word_byte, is_blank, begins_with}
-use Rattle.brd_text.specs.Words.{Text, opens_comment, place_outside, line_after, words_in, first, others}
+use Rattle.brd_text.specs.Words.{Text, opens_comment, line_after, words_in}
 use Rattle.brd_text.specs.Words.Word.{Run, Mark}
 use Rattle.brd_text.specs.Words.Place.{Between, InRun, InLine, Opened, InBlock}
 use Rattle.brd_text.specs.Gaps.{begins_word, Begins}

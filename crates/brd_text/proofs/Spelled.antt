@@ -1,11 +1,11 @@
 -- What spells words has these words.
-use Rattle.std.proofs.Common.{◌≡◌, ℕ, suc, ◌+◌, Bool, true, false, not, ◌&&◌, ◌||◌, List, [], ◌∷◌, ◌++◌, length, drop, take, map, refl, sym, ap, ◌∙◌, inl, inr, arith}
+use Rattle.std.proofs.Common.{◌≡◌, ℕ, Bool, true, false, not, ◌&&◌, ◌||◌, List, [], ◌∷◌, ◌++◌, length, drop, take, map, refl, sym, ap, ◌∙◌, arith}
 use Rattle.std.specs.Prelude.{nat_eq}
 use Rattle.std.specs.List.{list_all, prefix_len}
-use Rattle.std.proofs.lemmas.Bool.{and_parts, not-true, or_cases}
+use Rattle.std.proofs.lemmas.Bool.{and_parts, not-true}
 use Rattle.std.proofs.lemmas.List.{take_at, drop_at, append-nil}
 use Rattle.brd_text.specs.Bytes.{is_word_byte, is_blank, begins_with}
-use Rattle.brd_text.specs.Words.{Word, Placed, Text, opens_comment, line_after, words_in, words_of, first, others}
+use Rattle.brd_text.specs.Words.{Word, Placed, Text, opens_comment, line_after, words_in, first, others}
 use Rattle.brd_text.specs.Words.Word.{Run, Mark, End}
 use Rattle.brd_text.specs.Words.Place.{Between, InLine, InBlock}
 use Rattle.brd_text.specs.Gaps.{Begins}

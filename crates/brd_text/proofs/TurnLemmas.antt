@@ -1,5 +1,5 @@
 -- A loop that takes a step after the other, against `repeated`.
-use Rattle.std.proofs.Common.{◌≡◌, ℕ, zero, suc, ◌<◌, ◌≤◌, Bool, true, false, Result, Ok, Err, refl, sym, ap, subst, ◌∙◌, arith}
+use Rattle.std.proofs.Common.{◌≡◌, ℕ, zero, suc, ◌<◌, ◌≤◌, Bool, true, false, Result, Ok, Err, sym, ap, subst, ◌∙◌, arith}
 use Rattle.brd_text.proofs.FaultLemmas.{bind_ok, ok_is}
 use Rattle.std.specs.Prelude.{⊤}
 use Rattle.std.specs.Bool.{MatchBool}

@@ -1,6 +1,6 @@
 -- A value or the first fault, for any type of faults. What a function of the code answers gives what a definition
 -- says, unless memory ran out.
-use Rattle.std.specs.Prelude.{◌≡◌, Bool, true, false, ⊤, Option, Some, None, Result, Ok, Err}
+use Rattle.std.specs.Prelude.{◌≡◌, Bool, ⊤, Option, Some, None, Result, Ok, Err}
 use Rattle.std.specs.Bool.{MatchBool}
 
 infixl 10 ◌>>=◌

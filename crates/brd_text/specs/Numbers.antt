@@ -1,5 +1,5 @@
 -- Numbers as they are written: decimal, or hexadecimal behind 0x, below 2 to the 32nd.
-use Rattle.std.specs.Prelude.{ℕ, ◌+◌, ◌-◌, ◌*◌, Bool, ◌&&◌, nat_le, nat_lt, ◌==◌, if◌then◌else◌, List, [], ◌∷◌, Option, Some, None, option_and_then, codes}
+use Rattle.std.specs.Prelude.{ℕ, ◌+◌, ◌-◌, ◌*◌, ◌&&◌, nat_le, nat_lt, ◌==◌, if◌then◌else◌, List, [], ◌∷◌, Option, Some, None, option_and_then}
 
 -- what a byte stands for as a digit: 0 to 9, and in base 16 also a to f and A to F
 unfoldable pub digit_of : ℕ → ℕ → Option ℕ

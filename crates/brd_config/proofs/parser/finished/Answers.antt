@@ -1,4 +1,4 @@
-use Rattle.std.proofs.Common.{length, refl}
+use Rattle.std.proofs.Common.{length}
 use Rattle.brd_text.proofs.TurnLemmas.{flow_more, flow_done, goes_fails}
 use Rattle.brd_config.specs.declared.fault.ConfigFault.TheVariants.{NoMemory}
 use Rattle.brd_config.specs.Faults.{is_no_memory}

@@ -1,6 +1,4 @@
-use Rattle.std.proofs.Common.{rules, ◌≡◌, ◌+◌, refl, sym, ap, ◌∙◌, arith, length, ◌∷◌}
-use Rattle.brd_text.specs.Words.{line_after, words_in}
-use Rattle.brd_text.specs.Words.Place.{Between}
+use Rattle.std.proofs.Common.{rules, sym, ap, ◌∙◌, arith, length}
 use Rattle.brd_text.proofs.Runs.{blank_step, line_comment_step, block_comment_step, at_newline, not_newline}
 use Rattle.brd_text.proofs.gap.after_gap.Goals as goal
 

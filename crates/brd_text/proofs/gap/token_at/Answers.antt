@@ -1,4 +1,4 @@
-use Rattle.std.proofs.Common.{sym, ◌∙◌, arith, subst, ap, length}
+use Rattle.std.proofs.Common.{sym, ◌∙◌, arith}
 use Rattle.std.proofs.lemmas.List.Sums.{prefix_len-le-length}
 use Rattle.brd_text.specs.Bytes.{is_word_byte}
 use Rattle.brd_text.proofs.Runs.{run_front, mark_front}
