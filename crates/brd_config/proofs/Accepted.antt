@@ -1,0 +1,366 @@
+-- Valid statements are accepted one after the other, and come to the configuration that they say.
+use Rattle.std.proofs.Common.{◌≡◌, ◌≢◌, ℕ, suc, ◌-◌, ◌<◌, ◌≤◌, ◌^◌, Bool, true, false, ◌&&◌, List, [], ◌∷◌, ◌++◌, length, map, get_or, All, Option, Some, None, Ok, refl, sym, ap, subst, ◌∙◌, append_assoc, arith}
+use Rattle.std.specs.Prelude.{AllPairs, nat_eq, is_some, is_none, codes}
+use Rattle.std.specs.List.{list_any, flat_map}
+use Rattle.std.proofs.lemmas.Bool.{le-leb, eq-eqb, ne_eqb}
+use Rattle.std.proofs.lemmas.Bool.Decides.{nat_tests}
+use Rattle.std.proofs.lemmas.Nat.{and_mask}
+use Rattle.std.proofs.Math.Nat.{mod-eq_of_lt}
+use Rattle.std.proofs.lemmas.List.{append-nil, get_or_append_left, get_or_at, length-append, length-map}
+use Rattle.std.proofs.lemmas.List.Folds.{list_any_none}
+use Rattle.brd_text.specs.Words.{Word, Placed, Text, first, others, words_of}
+use Rattle.brd_text.specs.Words.Word.{End}
+use Rattle.brd_text.specs.Turns.{repeated}
+use Rattle.brd_text.specs.Turns.Flow.{More, Done}
+use Rattle.brd_text.specs.Spelling.{bare_words}
+use Rattle.brd_text.proofs.Spelled.{spelled}
+use Rattle.brd_text.proofs.TurnLemmas.{more_turns}
+use Rattle.brd_config.specs.declared.fault.ConfigFault.{ConfigFault}
+use Rattle.brd_config.specs.declared.fault.ConfigFault.TheVariants.{NoMemory, BadId, BadAttribute, BadPriority, BadCount, BadProcessor}
+use Rattle.brd_config.specs.declared.objects.TaskConfig.{TaskConfig}
+use Rattle.brd_config.specs.declared.objects.SemaphoreConfig.{SemaphoreConfig}
+use Rattle.brd_config.specs.declared.objects.FlagConfig.{FlagConfig}
+use Rattle.brd_config.specs.declared.objects.QueueConfig.{QueueConfig}
+use Rattle.brd_config.specs.declared.objects.HandlerConfig.{HandlerConfig}
+use Rattle.brd_config.specs.declared.statement.Statement.{Statement}
+use Rattle.brd_config.specs.declared.statement.Statement.TheVariants.{Board, Class, ClassEnd, Task, Semaphore, Flag, Queue, Handler}
+use Rattle.brd_config.specs.declared.statement.TaskStatement.{TaskStatement}
+use Rattle.brd_config.specs.declared.statement.SemaphoreStatement.{SemaphoreStatement}
+use Rattle.brd_config.specs.declared.statement.FlagStatement.{FlagStatement}
+use Rattle.brd_config.specs.declared.statement.QueueStatement.{QueueStatement}
+use Rattle.brd_config.specs.declared.statement.HandlerStatement.{HandlerStatement}
+use Rattle.brd_config.specs.Configuration.{Configuration, IsWithin, IsRamSize, IsTask, IsSemaphore, IsFlag, IsQueue, IsHandler, IsConfiguration}
+use Rattle.brd_config.specs.Statements.{statement_at}
+use Rattle.brd_config.specs.Meaning.{State, within, only_bits, is_ram_size, task_of, semaphore_of, flag_of, queue_of, handler_of, added, processor_of, is_end, one_more, statement_step, statements_from, board_of, first_board, first_statement, config_of}
+use Rattle.brd_config.specs.Grammar.Piece.{Exactly, Sign, Numeral, Attributes, Value, StackValue, Area, ClassName}
+use Rattle.brd_config.specs.Grammar.{Piece, IsSpelled, AreSpelled, form, IsText, tasks_of, semaphores_of, flags_of, queues_of, handlers_of, task_said, semaphore_said, flag_said, queue_said, handler_said, said, AreNested, AreValid, Says}
+use Rattle.brd_config.proofs.Forms.{Ahead, MayStand, exactly_step, first_sign, object_pieces, board_again, statement_again}
+
+-- ---- lists
+
+middle : {X : Type 0} (P : X → Type 0) (xs : List X) (x : X) (ys : List X) → All P (xs ++ x ∷ ys) → P x
+middle P xs x ys all = subst P (get_or_at xs x ys x (length xs) refl) (all (length xs) x (omega (arith, length-append xs (x ∷ ys))))
+
+-- a key that is none of those before it
+new_key : {X : Type 0} (key : X → ℕ) (xs : List X) (x : X) (ys : List X) → AllPairs (λ s t. key s ≢ key t) (xs ++ x ∷ ys) → list_any (λ o. nat_eq (key o) (key x)) xs ≡ false
+new_key key xs x ys all = list_any_none (λ o. nat_eq (key o) (key x)) xs
+    (λ k d lt. ne_eqb (key (get_or xs k d)) (key x)
+    (λ e. all k (length xs) d lt (omega (arith, length-append xs (x ∷ ys)))
+    (ap key (get_or_append_left xs (x ∷ ys) d k lt) ∙ e ∙ sym (ap key (get_or_at xs x ys d (length xs) refl)))))
+
+-- ---- values
+
+within_again : (low high : ℕ) (f : ConfigFault) (n : ℕ) → IsWithin low high n → within low high f n ≡ Ok n
+unfolding within
+within_again low high f n w = rw (le-leb low n w.least, le-leb n high w.most) refl
+
+only_bits_again : (k : ℕ) (f : ConfigFault) (n : ℕ) → n < 2 ^ k → only_bits (2 ^ k - 1) f n ≡ Ok n
+unfolding only_bits
+only_bits_again k f n lt = rw (eq-eqb _ _ (and_mask n k ∙ mod-eq_of_lt lt)) refl
+
+positive : (n : ℕ) → 1 ≤ n → nat_eq n 0 ≡ false
+positive n h = grind (arith, nat_tests)
+
+from_zero : (high n : ℕ) → n ≤ high → IsWithin 0 high n
+from_zero high n le = record { least = omega arith; most = le }
+
+-- ---- objects
+
+task_again : (line : ℕ) (tasks ys : List TaskConfig) (processors processor : ℕ) (t : TaskStatement)
+    → IsTask processors (task_said processor t) → AllPairs (λ s t. s.id ≢ t.id) (tasks ++ task_said processor t ∷ ys) → task_of line tasks processor t ≡ Ok (task_said processor t)
+unfolding task_of
+task_again line tasks ys processors processor t v apart =
+    rw (
+      within_again 1 255 (BadId line) t.id v.id,
+      new_key (λ o. o.id) tasks (task_said processor t) ys apart,
+      only_bits_again 2 (BadAttribute line) t.attributes (omega (arith, v.attributes)),
+      within_again 1 16 (BadPriority line) t.priority v.priority,
+      positive t.stack_size v.stack_size,
+    ) refl
+
+semaphore_again : (line : ℕ) (semaphores ys : List SemaphoreConfig) (t : SemaphoreStatement)
+    → IsSemaphore (semaphore_said t) → AllPairs (λ s t. s.id ≢ t.id) (semaphores ++ semaphore_said t ∷ ys) → semaphore_of line semaphores t ≡ Ok (semaphore_said t)
+unfolding semaphore_of
+semaphore_again line semaphores ys t v apart =
+    rw (
+      within_again 1 255 (BadId line) t.id v.id,
+      new_key (λ o. o.id) semaphores (semaphore_said t) ys apart,
+      only_bits_again 1 (BadAttribute line) t.attributes (omega (arith, v.attributes)),
+      within_again 1 65535 (BadCount line) t.maximum v.maximum,
+      within_again 0 t.maximum (BadCount line) t.initial (from_zero t.maximum t.initial v.initial),
+    ) refl
+
+flag_again : (line : ℕ) (flags ys : List FlagConfig) (t : FlagStatement) → IsFlag (flag_said t) → AllPairs (λ s t. s.id ≢ t.id) (flags ++ flag_said t ∷ ys) → flag_of line flags t ≡ Ok (flag_said t)
+unfolding flag_of
+flag_again line flags ys t v apart =
+    rw (within_again 1 255 (BadId line) t.id v.id, new_key (λ o. o.id) flags (flag_said t) ys apart, only_bits_again 3 (BadAttribute line) t.attributes (omega (arith, v.attributes))) refl
+
+queue_again : (line : ℕ) (queues ys : List QueueConfig) (t : QueueStatement) → IsQueue (queue_said t) → AllPairs (λ s t. s.id ≢ t.id) (queues ++ queue_said t ∷ ys) → queue_of line queues t ≡ Ok (queue_said t)
+unfolding queue_of
+queue_again line queues ys t v apart =
+    rw (
+      within_again 1 255 (BadId line) t.id v.id,
+      new_key (λ o. o.id) queues (queue_said t) ys apart,
+      only_bits_again 1 (BadAttribute line) t.attributes (omega (arith, v.attributes)),
+      within_again 0 256 (BadCount line) t.capacity (from_zero 256 t.capacity v.capacity),
+    ) refl
+
+handler_again : (line : ℕ) (handlers ys : List HandlerConfig) (processors processor : ℕ) (t : HandlerStatement)
+    → t.attributes ≤ 1 → IsHandler processors (handler_said processor t) → AllPairs (λ s t. s.line ≢ t.line) (handlers ++ handler_said processor t ∷ ys) → handler_of line handlers processor t ≡ Ok (handler_said processor t)
+unfolding handler_of
+handler_again line handlers ys processors processor t bits v apart =
+    rw (within_again 0 31 (BadId line) t.line (from_zero 31 t.line v.line), new_key (λ o. o.line) handlers (handler_said processor t) ys apart, only_bits_again 1 (BadAttribute line) t.attributes (omega (arith, bits))) refl
+
+-- ---- statements
+
+-- What is said so far, and by the statements that follow, comes to the whole.
+record Leads (whole c : Configuration) (class : Option ℕ) (ss : List Statement) : Type 0 where
+  processors : whole.processors ≡ c.processors
+  ram : whole.ram ≡ c.ram
+  tasks : whole.tasks ≡ c.tasks ++ tasks_of class ss
+  semaphores : whole.semaphores ≡ c.semaphores ++ semaphores_of ss
+  flags : whole.flags ≡ c.flags ++ flags_of ss
+  queues : whole.queues ≡ c.queues ++ queues_of ss
+  handlers : whole.handlers ≡ c.handlers ++ handlers_of class ss
+
+regroup : {X : Type 0} (xs : List X) (x : X) (ys : List X) → xs ++ x ∷ ys ≡ (xs ++ x ∷ []) ++ ys
+regroup xs x ys = sym (append_assoc xs (x ∷ []) ys)
+
+-- one statement on
+record GoesOn (line : ℕ) (whole c : Configuration) (class : Option ℕ) (x : Statement) (ss : List Statement) : Type 0 where
+  state : State
+  accepted : added line (record { config = c; class = class }) x ≡ Ok state
+  leads : Leads whole state.config state.class ss
+  nested : AreNested state.config.processors state.class ss
+
+goes_on : (line : ℕ) (whole c : Configuration) (class : Option ℕ) (x : Statement) (ss : List Statement) → IsConfiguration whole → Leads whole c class (x ∷ ss) → AreNested c.processors class (x ∷ ss) → GoesOn line whole c class x ss
+unfolding added
+goes_on line whole c class (Board processors ram) ss valid l nested = absurd nested
+goes_on line whole c class (Class n) ss valid l nested = record {
+  state = record { config = c; class = Some n };
+  accepted = rw (within_again 1 c.processors (BadProcessor line) n nested.1) refl;
+  leads = record { processors = l.processors; ram = l.ram; tasks = l.tasks; semaphores = l.semaphores; flags = l.flags; queues = l.queues; handlers = l.handlers };
+  nested = nested.2;
+}
+goes_on line whole c class ClassEnd ss valid l nested = record {
+  state = record { config = c; class = None };
+  accepted = refl;
+  leads = record { processors = l.processors; ram = l.ram; tasks = l.tasks; semaphores = l.semaphores; flags = l.flags; queues = l.queues; handlers = l.handlers };
+  nested = nested.1;
+}
+goes_on line whole c class (Task x) ss valid l nested =
+    let one = middle (IsTask whole.processors) c.tasks (task_said (processor_of class) x) (tasks_of class ss) (subst (All (IsTask whole.processors)) l.tasks valid.tasks) in
+    let apart = subst (AllPairs (λ s t. s.id ≢ t.id)) l.tasks valid.task_ids in
+    record {
+      state = record { config = record c { tasks = c.tasks ++ (task_said (processor_of class) x) ∷ [] }; class = class };
+      accepted = rw (task_again line c.tasks (tasks_of class ss) whole.processors (processor_of class) x one apart) refl;
+      leads = record { processors = l.processors; ram = l.ram; tasks = l.tasks ∙ regroup c.tasks (task_said (processor_of class) x) (tasks_of class ss); semaphores = l.semaphores; flags = l.flags; queues = l.queues; handlers = l.handlers };
+      nested = nested;
+    }
+goes_on line whole c class (Semaphore x) ss valid l nested =
+    let one = middle IsSemaphore c.semaphores (semaphore_said x) (semaphores_of ss) (subst (All IsSemaphore) l.semaphores valid.semaphores) in
+    let apart = subst (AllPairs (λ s t. s.id ≢ t.id)) l.semaphores valid.semaphore_ids in
+    record {
+      state = record { config = record c { semaphores = c.semaphores ++ (semaphore_said x) ∷ [] }; class = class };
+      accepted = rw (semaphore_again line c.semaphores (semaphores_of ss) x one apart) refl;
+      leads = record { processors = l.processors; ram = l.ram; tasks = l.tasks; semaphores = l.semaphores ∙ regroup c.semaphores (semaphore_said x) (semaphores_of ss); flags = l.flags; queues = l.queues; handlers = l.handlers };
+      nested = nested;
+    }
+goes_on line whole c class (Flag x) ss valid l nested =
+    let one = middle IsFlag c.flags (flag_said x) (flags_of ss) (subst (All IsFlag) l.flags valid.flags) in
+    let apart = subst (AllPairs (λ s t. s.id ≢ t.id)) l.flags valid.flag_ids in
+    record {
+      state = record { config = record c { flags = c.flags ++ (flag_said x) ∷ [] }; class = class };
+      accepted = rw (flag_again line c.flags (flags_of ss) x one apart) refl;
+      leads = record { processors = l.processors; ram = l.ram; tasks = l.tasks; semaphores = l.semaphores; flags = l.flags ∙ regroup c.flags (flag_said x) (flags_of ss); queues = l.queues; handlers = l.handlers };
+      nested = nested;
+    }
+goes_on line whole c class (Queue x) ss valid l nested =
+    let one = middle IsQueue c.queues (queue_said x) (queues_of ss) (subst (All IsQueue) l.queues valid.queues) in
+    let apart = subst (AllPairs (λ s t. s.id ≢ t.id)) l.queues valid.queue_ids in
+    record {
+      state = record { config = record c { queues = c.queues ++ (queue_said x) ∷ [] }; class = class };
+      accepted = rw (queue_again line c.queues (queues_of ss) x one apart) refl;
+      leads = record { processors = l.processors; ram = l.ram; tasks = l.tasks; semaphores = l.semaphores; flags = l.flags; queues = l.queues ∙ regroup c.queues (queue_said x) (queues_of ss); handlers = l.handlers };
+      nested = nested;
+    }
+goes_on line whole c class (Handler x) ss valid l nested =
+    let one = middle (IsHandler whole.processors) c.handlers (handler_said (processor_of class) x) (handlers_of class ss) (subst (All (IsHandler whole.processors)) l.handlers valid.handlers) in
+    let apart = subst (AllPairs (λ s t. s.line ≢ t.line)) l.handlers valid.handler_lines in
+    record {
+      state = record { config = record c { handlers = c.handlers ++ (handler_said (processor_of class) x) ∷ [] }; class = class };
+      accepted = rw (handler_again line c.handlers (handlers_of class ss) whole.processors (processor_of class) x nested.0 one apart) refl;
+      leads = record { processors = l.processors; ram = l.ram; tasks = l.tasks; semaphores = l.semaphores; flags = l.flags; queues = l.queues; handlers = l.handlers ∙ regroup c.handlers (handler_said (processor_of class) x) (handlers_of class ss) };
+      nested = nested.1;
+    }
+
+-- ---- the text
+
+may_stand : (processors : ℕ) (class : Option ℕ) (x : Statement) (ss : List Statement) → AreNested processors class (x ∷ ss) → MayStand (is_some class) x
+may_stand processors class (Board p ram) ss nested = absurd nested
+may_stand processors None (Class n) ss nested = refl
+may_stand processors (Some m) (Class n) ss nested = absurd nested.0
+may_stand processors None ClassEnd ss nested = absurd nested.0
+may_stand processors (Some m) ClassEnd ss nested = refl
+may_stand processors class (Task x) ss nested = tt
+may_stand processors class (Semaphore x) ss nested = tt
+may_stand processors class (Flag x) ss nested = tt
+may_stand processors class (Queue x) ss nested = tt
+may_stand processors class (Handler x) ss nested = tt
+
+-- a text of no words
+at_its_end : (t : Text) → bare_words t ≡ [] → (first t).word ≡ End
+at_its_end t e = by_words t.words e
+  where
+    by_words : (ps : List Placed) → map (λ p. p.word) ps ≡ [] → (first (record { words = ps; end = t.end })).word ≡ End
+    by_words [] e = refl
+    by_words (p ∷ ps) e = absurd (cc)
+
+abbrev IsOneWord : Piece → Type 0
+IsOneWord (Exactly run) = Unit {0}
+IsOneWord (Sign b) = Unit {0}
+IsOneWord (Numeral n) = ⊥
+IsOneWord (Attributes n) = ⊥
+IsOneWord (Value v) = ⊥
+IsOneWord (StackValue v) = ⊥
+IsOneWord Area = ⊥
+IsOneWord (ClassName n) = ⊥
+
+-- a text that begins with this piece, which is one word
+not_at_end : (p : Piece) (ps : List Piece) (t : Text) → IsOneWord p → Ahead (p ∷ ps) t → is_end (first t).word ≡ false
+not_at_end (Exactly run) ps t one s = rw (exactly_step run ps t s).0 refl
+not_at_end (Sign b) ps t one s = rw (first_sign b ps t s).0 refl
+not_at_end (Numeral n) ps t one s = absurd one
+not_at_end (Attributes n) ps t one s = absurd one
+not_at_end (Value v) ps t one s = absurd one
+not_at_end (StackValue v) ps t one s = absurd one
+not_at_end Area ps t one s = absurd one
+not_at_end (ClassName n) ps t one s = absurd one
+
+begins_statement : (x : Statement) (ps : List Piece) (t : Text) → Ahead (form x ++ ps) t → is_end (first t).word ≡ false
+begins_statement (Board processors ram) ps t s = not_at_end (Exactly (codes "BOARD")) (Sign 40 ∷ Numeral processors ∷ Sign 44 ∷ Numeral ram ∷ Sign 41 ∷ Sign 59 ∷ ps) t tt s
+begins_statement (Class n) ps t s = not_at_end (Exactly (codes "CLASS")) (Sign 40 ∷ ClassName n ∷ Sign 41 ∷ Sign 123 ∷ ps) t tt s
+begins_statement ClassEnd ps t s = not_at_end (Sign 125) (ps) t tt s
+begins_statement (Task x) ps t s = not_at_end (Exactly (codes "CRE_TSK")) (object_pieces x.id x.attributes (Value x.exinf ∷ Sign 44 ∷ Value x.address ∷ Sign 44 ∷ Numeral x.priority ∷ Sign 44 ∷ Numeral x.stack_size ∷ Sign 44 ∷ StackValue x.stack ∷ []) ps) t tt s
+begins_statement (Semaphore x) ps t s = not_at_end (Exactly (codes "CRE_SEM")) (object_pieces x.id x.attributes (Numeral x.initial ∷ Sign 44 ∷ Numeral x.maximum ∷ []) ps) t tt s
+begins_statement (Flag x) ps t s = not_at_end (Exactly (codes "CRE_FLG")) (object_pieces x.id x.attributes (Numeral x.pattern ∷ []) ps) t tt s
+begins_statement (Queue x) ps t s = not_at_end (Exactly (codes "CRE_DTQ")) (object_pieces x.id x.attributes (Numeral x.capacity ∷ Sign 44 ∷ Area ∷ []) ps) t tt s
+begins_statement (Handler x) ps t s = not_at_end (Exactly (codes "DEF_INH")) (object_pieces x.line x.attributes (Value x.address ∷ []) ps) t tt s
+
+and_false : (b : Bool) → (b && false) ≡ false
+and_false true = refl
+and_false false = refl
+
+abbrev entry : ℕ → ℕ → List TaskConfig → List SemaphoreConfig → List FlagConfig → List QueueConfig → List HandlerConfig → Configuration
+entry p r ts ss fs qs hs = record { processors = p; ram = r; tasks = ts; semaphores = ss; flags = fs; queues = qs; handlers = hs }
+
+same : (p q : ℕ) → p ≡ q → (r s : ℕ) → r ≡ s → (ts us : List TaskConfig) → ts ≡ us → (ss vs : List SemaphoreConfig) → ss ≡ vs → (fs gs : List FlagConfig) → fs ≡ gs → (qs rs : List QueueConfig) → qs ≡ rs → (hs ks : List HandlerConfig) → hs ≡ ks
+    → entry p r ts ss fs qs hs ≡ entry q s us vs gs rs ks
+same p q e0 r s e1 ts us e2 ss vs e3 fs gs e4 qs rs e5 hs ks e6 = rw (e0, e1, e2, e3, e4, e5, e6) refl
+
+-- one turn over a statement
+step_again : (c : Configuration) (class : Option ℕ) (x : Statement) (next : State) (t u : Text) → is_end (first t).word ≡ false → statement_at (is_some class) t ≡ Ok (x, u) → added (first t).line (record { config = c; class = class }) x ≡ Ok next
+    → statement_step (record { config = c; class = class }, t) ≡ Ok (More (next, u))
+unfolding statement_step one_more
+step_again c class x next t u begins read accepted = rw (begins, and_false (is_none class), read, accepted) refl
+
+last_step : (c : Configuration) (t : Text) → bare_words t ≡ [] → statement_step (record { config = c; class = None }, t) ≡ Ok (Done c)
+unfolding statement_step
+last_step c t e = rw (at_its_end t e) refl
+
+-- nothing follows
+all_said : (whole c : Configuration) (class : Option ℕ) → Leads whole c class [] → c ≡ whole
+all_said whole c class l =
+    let tasks = l.tasks ∙ append-nil c.tasks in
+    let semaphores = l.semaphores ∙ append-nil c.semaphores in
+    let flags = l.flags ∙ append-nil c.flags in
+    let queues = l.queues ∙ append-nil c.queues in
+    let handlers = l.handlers ∙ append-nil c.handlers in
+    sym (same whole.processors c.processors l.processors whole.ram c.ram l.ram whole.tasks c.tasks tasks whole.semaphores c.semaphores semaphores whole.flags c.flags flags whole.queues c.queues queues whole.handlers c.handlers handlers)
+
+run_again : (whole c : Configuration) (class : Option ℕ) (ss : List Statement) (t : Text) → IsConfiguration whole → Leads whole c class ss → AreNested c.processors class ss → AreSpelled (flat_map form ss) (bare_words t)
+    → repeated NoMemory statement_step (suc (length ss)) (record { config = c; class = class }, t) ≡ Ok whole
+unfolding repeated
+run_again whole c None [] t valid l nested s = rw (last_step c t s) (ap (λ (w : Configuration). Ok w) (all_said whole c None l))
+run_again whole c (Some n) [] t valid l nested s = absurd nested
+run_again whole c class (x ∷ ss) t valid l nested s =
+    let g = goes_on (first t).line whole c class x ss valid l nested in
+    let r = statement_again (is_some class) x (flat_map form ss) t (may_stand c.processors class x ss nested) s in
+    let step = step_again c class x g.state t r.0 (begins_statement x (flat_map form ss) t s) r.1 g.accepted in
+    rw step (run_again whole g.state.config g.state.class ss r.0 valid g.leads g.nested r.2)
+
+-- ---- turns enough
+
+-- the words behind pieces
+behind : (ps qs : List Piece) (words : List Word) → AreSpelled (ps ++ qs) words → (rest : List Word) × AreSpelled qs rest × (length rest ≤ length words)
+behind [] qs words s = (words, s, omega arith)
+behind (p ∷ ps) qs words s =
+    let b = behind ps qs s.1 s.3 in
+    (b.0, b.1, omega (arith, b.2, ap length s.4, length-append s.0 s.1))
+
+first_less : (p : Piece) (ps qs : List Piece) (words : List Word) → IsOneWord p → AreSpelled (p ∷ (ps ++ qs)) words → (rest : List Word) × AreSpelled qs rest × (length rest < length words)
+first_less p ps qs words one s =
+    let b = behind ps qs s.1 s.3 in
+    (b.0, b.1, omega (arith, b.2, ap length s.4, length-append s.0 s.1, one_long p s.0 one s.2))
+  where
+    one_long : (p : Piece) (front : List Word) → IsOneWord p → IsSpelled p front → length front ≡ 1
+    one_long (Exactly run) front one e = ap length e
+    one_long (Sign b) front one e = ap length e
+    one_long (Numeral n) front one e = absurd one
+    one_long (Attributes n) front one e = absurd one
+    one_long (Value v) front one e = absurd one
+    one_long (StackValue v) front one e = absurd one
+    one_long Area front one e = absurd one
+    one_long (ClassName n) front one e = absurd one
+
+form_less : (x : Statement) (qs : List Piece) (words : List Word) → AreSpelled (form x ++ qs) words → (rest : List Word) × AreSpelled qs rest × (length rest < length words)
+form_less (Board processors ram) qs words s = first_less (Exactly (codes "BOARD")) (Sign 40 ∷ Numeral processors ∷ Sign 44 ∷ Numeral ram ∷ Sign 41 ∷ Sign 59 ∷ []) qs words tt s
+form_less (Class n) qs words s = first_less (Exactly (codes "CLASS")) (Sign 40 ∷ ClassName n ∷ Sign 41 ∷ Sign 123 ∷ []) qs words tt s
+form_less ClassEnd qs words s = first_less (Sign 125) ([]) qs words tt s
+form_less (Task x) qs words s = first_less (Exactly (codes "CRE_TSK")) (object_pieces x.id x.attributes (Value x.exinf ∷ Sign 44 ∷ Value x.address ∷ Sign 44 ∷ Numeral x.priority ∷ Sign 44 ∷ Numeral x.stack_size ∷ Sign 44 ∷ StackValue x.stack ∷ []) []) qs words tt s
+form_less (Semaphore x) qs words s = first_less (Exactly (codes "CRE_SEM")) (object_pieces x.id x.attributes (Numeral x.initial ∷ Sign 44 ∷ Numeral x.maximum ∷ []) []) qs words tt s
+form_less (Flag x) qs words s = first_less (Exactly (codes "CRE_FLG")) (object_pieces x.id x.attributes (Numeral x.pattern ∷ []) []) qs words tt s
+form_less (Queue x) qs words s = first_less (Exactly (codes "CRE_DTQ")) (object_pieces x.id x.attributes (Numeral x.capacity ∷ Sign 44 ∷ Area ∷ []) []) qs words tt s
+form_less (Handler x) qs words s = first_less (Exactly (codes "DEF_INH")) (object_pieces x.line x.attributes (Value x.address ∷ []) []) qs words tt s
+
+-- each statement has a word
+enough : (ss : List Statement) (words : List Word) → AreSpelled (flat_map form ss) words → length ss ≤ length words
+enough [] words s = omega arith
+enough (x ∷ ss) words s =
+    let b = form_less x (flat_map form ss) words s in
+    omega (arith, b.2, enough ss b.0 b.1)
+
+-- ---- the first statement
+
+ram_again : (ram : ℕ) → IsRamSize ram → is_ram_size ram ≡ true
+unfolding is_ram_size
+ram_again ram v = rw (le-leb 65536 ram v.range.least, le-leb ram 16777216 v.range.most, eq-eqb _ _ v.steps) refl
+
+started : ℕ → ℕ → Configuration
+started processors ram = record { processors = processors; ram = ram; tasks = []; semaphores = []; flags = []; queues = []; handlers = [] }
+
+board_of_again : (line processors ram : ℕ) → IsWithin 1 8 processors → IsRamSize ram → board_of line processors ram ≡ Ok (started processors ram)
+unfolding board_of started
+board_of_again line processors ram v w = rw (within_again 1 8 (BadProcessor line) processors v, ram_again ram w) refl
+
+first_again : (processors ram : ℕ) (ps : List Piece) (t : Text) → IsWithin 1 8 processors → IsRamSize ram → Ahead (form (Board processors ram) ++ ps) t → (u : Text) × (first_statement t ≡ Ok (record { config = started processors ram; class = None }, u)) × Ahead ps u
+unfolding first_statement first_board
+first_again processors ram ps t v w s =
+    let f = exactly_step (codes "BOARD") (Sign 40 ∷ Numeral processors ∷ Sign 44 ∷ Numeral ram ∷ Sign 41 ∷ Sign 59 ∷ ps) t s in
+    let b = board_again processors ram ps (others t) f.1 in
+    (b.0, rw (f.0, b.1, board_of_again (first t).line processors ram v w) refl, b.2)
+
+pub config_again : (bytes : List ℕ) (processors ram : ℕ) (ss : List Statement) → IsText bytes (Board processors ram ∷ ss) → AreValid processors ram ss → config_of bytes ≡ Ok (said processors ram ss)
+unfolding config_of statements_from started
+config_again bytes processors ram ss text valid =
+    let t = words_of bytes in
+    let words : bare_words t ≡ text.0 = spelled 1 bytes text.0 text.1 in
+    let s : AreSpelled (flat_map form (Board processors ram ∷ ss)) (bare_words t) = subst (AreSpelled (flat_map form (Board processors ram ∷ ss))) (sym words) text.2 in
+    let f = first_again processors ram (flat_map form ss) t valid.values.processors valid.values.ram s in
+    let leads : Leads (said processors ram ss) (started processors ram) None ss = record { processors = refl; ram = refl; tasks = refl; semaphores = refl; flags = refl; queues = refl; handlers = refl } in
+    let run = run_again (said processors ram ss) (started processors ram) None ss f.0 valid.values leads valid.nested f.2 in
+    let long : suc (length ss) ≤ suc (length f.0.words) = omega (arith, enough ss (bare_words f.0) f.2, length-map f.0.words (λ p. p.word)) in
+    rw f.1 (more_turns NoMemory statement_step (suc (length ss)) (suc (length f.0.words)) (record { config = started processors ram; class = None }, f.0) (said processors ram ss) long run)
+
+pub says_again : (bytes : List ℕ) (c : Configuration) → Says bytes c → config_of bytes ≡ Ok c
+says_again bytes c s = config_again bytes s.0 s.1 s.2 s.3 s.4 ∙ ap (λ (d : Configuration). Ok d) (sym s.5)

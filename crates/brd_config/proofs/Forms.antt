@@ -1,0 +1,307 @@
+-- What is spelled in a statement's form is read as this statement.
+use Rattle.std.proofs.Common.{◌≡◌, ℕ, zero, suc, ◌≤◌, Bool, true, false, List, [], ◌∷◌, ◌++◌, length, map, drop, Some, Result, Ok, refl, sym, ap, subst, ◌∙◌, arith}
+use Rattle.std.proofs.lemmas.Bool.{eq-eqb}
+use Rattle.std.proofs.lemmas.List.{length-append, length-map}
+use Rattle.std.specs.Prelude.{codes}
+use Rattle.std.specs.Int.RustNames.{bit_or}
+use Rattle.brd_text.specs.Words.{Word, Placed, Text, first, others}
+use Rattle.brd_text.specs.Words.Word.{Run, Mark}
+use Rattle.brd_text.specs.Turns.{repeated, flow_of}
+use Rattle.brd_text.specs.Spelling.{bare_words}
+use Rattle.brd_config.specs.declared.fault.ConfigFault.{ConfigFault}
+use Rattle.brd_config.specs.declared.fault.ConfigFault.TheVariants.{NoMemory}
+use Rattle.brd_config.specs.declared.objects.Operand.{Operand}
+use Rattle.brd_config.specs.declared.objects.Stack.{Stack}
+use Rattle.brd_config.specs.declared.statement.Statement.{Statement}
+use Rattle.brd_config.specs.declared.statement.Statement.TheVariants.{Board, Class, ClassEnd, Task, Semaphore, Flag, Queue, Handler}
+use Rattle.brd_config.specs.declared.statement.TaskStatement.{TaskStatement}
+use Rattle.brd_config.specs.declared.statement.SemaphoreStatement.{SemaphoreStatement}
+use Rattle.brd_config.specs.declared.statement.FlagStatement.{FlagStatement}
+use Rattle.brd_config.specs.declared.statement.QueueStatement.{QueueStatement}
+use Rattle.brd_config.specs.declared.statement.HandlerStatement.{HandlerStatement}
+use Rattle.brd_config.specs.Statements.{keyword_of, board_at, class_at, task_at, semaphore_at, flag_at, queue_at, handler_at, behind_keyword, statement_at}
+use Rattle.brd_config.specs.Reading.{attribute_of, number_at, mark_at, attribute_at, joint_at, attribute_step, attributes_at, operand_at, stack_at, area_at, class_number_at, head_at, tail_at}
+use Rattle.brd_config.specs.Grammar.{Piece, Joined, AreSpelled, form}
+use Rattle.brd_config.specs.Grammar.Piece.{Exactly, Sign, Numeral, Attributes, Value, StackValue, Area, ClassName}
+use Rattle.brd_config.specs.Grammar.Joined.{last, bar}
+
+-- the first word of a text, and the rest
+pub first_bare : (t : Text) (w : Word) (ws : List Word) → bare_words t ≡ w ∷ ws → ((first t).word ≡ w) × (bare_words (others t) ≡ ws)
+first_bare t w ws e = by_words t.words e
+  where
+    by_words : (ps : List Placed) → map (λ p. p.word) ps ≡ w ∷ ws → ((first (record { words = ps; end = t.end })).word ≡ w) × (map (λ p. p.word) (drop 1 ps) ≡ ws)
+    by_words [] e = absurd (cc)
+    by_words (p ∷ ps) e = (cc, cc)
+
+-- The pieces are spelled at the front of the text.
+abbrev pub Ahead : List Piece → Text → Type 0
+Ahead ps t = AreSpelled ps (bare_words t)
+
+-- a piece of one word
+one_piece : (w : Word) (ps : List Piece) (t : Text) (front rest : List Word) → front ≡ w ∷ [] → AreSpelled ps rest → bare_words t ≡ front ++ rest → ((first t).word ≡ w) × Ahead ps (others t)
+one_piece w ps t front rest one later e =
+    let f = first_bare t w rest (e ∙ ap (λ (ws : List Word). ws ++ rest) one) in
+    (f.0, subst (AreSpelled ps) (sym f.1) later)
+
+pub sign_step : (b : ℕ) (ps : List Piece) (t : Text) → Ahead (Sign b ∷ ps) t → (mark_at b t ≡ Ok (others t)) × Ahead ps (others t)
+unfolding mark_at
+sign_step b ps t s =
+    let one = one_piece (Mark b) ps t s.0 s.1 s.2 s.3 s.4 in
+    (rw (one.0, eq-eqb b b refl) refl, one.1)
+
+pub numeral_step : (n : ℕ) (ps : List Piece) (t : Text) → Ahead (Numeral n ∷ ps) t → (number_at t ≡ Ok (n, others t)) × Ahead ps (others t)
+unfolding number_at
+numeral_step n ps t s =
+    let one = one_piece (Run s.2.0) ps t s.0 s.1 s.2.1 s.3 s.4 in
+    (rw (one.0, s.2.2) refl, one.1)
+
+pub value_step : (v : Operand) (ps : List Piece) (t : Text) → Ahead (Value v ∷ ps) t → (operand_at t ≡ Ok (v, others t)) × Ahead ps (others t)
+unfolding operand_at
+value_step v ps t s =
+    let one = one_piece (Run s.2.0) ps t s.0 s.1 s.2.1 s.3 s.4 in
+    (rw (one.0, s.2.2) refl, one.1)
+
+pub stack_step : (v : Stack) (ps : List Piece) (t : Text) → Ahead (StackValue v ∷ ps) t → (stack_at t ≡ Ok (v, others t)) × Ahead ps (others t)
+unfolding stack_at
+stack_step v ps t s =
+    let one = one_piece (Run s.2.0) ps t s.0 s.1 s.2.1 s.3 s.4 in
+    (rw (one.0, s.2.2) refl, one.1)
+
+pub area_step : (ps : List Piece) (t : Text) → Ahead (Area ∷ ps) t → (area_at t ≡ Ok (others t)) × Ahead ps (others t)
+unfolding area_at
+area_step ps t s =
+    let one = one_piece (Run s.2.0) ps t s.0 s.1 s.2.1 s.3 s.4 in
+    (rw (one.0, s.2.2) refl, one.1)
+
+pub class_name_step : (n : ℕ) (ps : List Piece) (t : Text) → Ahead (ClassName n ∷ ps) t → (class_number_at t ≡ Ok (n, others t)) × Ahead ps (others t)
+unfolding class_number_at
+class_name_step n ps t s =
+    let one = one_piece (Run s.2.0) ps t s.0 s.1 s.2.1 s.3 s.4 in
+    (rw (one.0, s.2.2) refl, one.1)
+
+pub exactly_step : (run : List ℕ) (ps : List Piece) (t : Text) → Ahead (Exactly run ∷ ps) t → ((first t).word ≡ Run run) × Ahead ps (others t)
+exactly_step run ps t s = one_piece (Run run) ps t s.0 s.1 s.2 s.3 s.4
+
+pub first_sign : (b : ℕ) (ps : List Piece) (t : Text) → Ahead (Sign b ∷ ps) t → ((first t).word ≡ Mark b) × Ahead ps (others t)
+first_sign b ps t s = one_piece (Mark b) ps t s.0 s.1 s.2 s.3 s.4
+
+-- ---- attributes
+
+-- a run, a mark and what follows
+one_attribute : (before bits b : ℕ) (run : List ℕ) (t : Text) (more : Bool) (rest : List Word) → attribute_of run ≡ Some bits → bare_words t ≡ Run run ∷ Mark b ∷ rest
+    → joint_at 44 (others t) ≡ Ok (more, others (others t)) → attribute_step 44 (before, t) ≡ Ok (flow_of more (bit_or before bits, others (others t)) (bit_or before bits, others (others t)))
+unfolding attribute_step attribute_at
+one_attribute before bits b run t more rest h e joint =
+    let f = first_bare t (Run run) (Mark b ∷ rest) e in
+    rw (f.0, h, joint) refl
+
+joint_ends : (t : Text) → (first t).word ≡ Mark 44 → joint_at 44 t ≡ Ok (false, others t)
+unfolding joint_at
+joint_ends t e = rw e refl
+
+joint_goes_on : (t : Text) → (first t).word ≡ Mark 124 → joint_at 44 t ≡ Ok (true, others t)
+unfolding joint_at
+joint_goes_on t e = rw e refl
+
+-- with as many turns as there are words
+joined : (before bits : ℕ) (words : List Word) → Joined before bits words → (n : ℕ) (ps : List Piece) (t : Text) (rest : List Word) → length words ≤ n → AreSpelled ps rest → bare_words t ≡ words ++ Mark 44 ∷ rest
+    → (u : Text) × (repeated NoMemory (attribute_step 44) n (before, t) ≡ Ok (bits, u)) × Ahead ps u
+unfolding repeated
+joined before _ _ (last _ run bits h) zero ps t rest le later e = absurd (omega arith)
+joined before _ _ (last _ run bits h) (suc n) ps t rest le later e =
+    let f = first_bare t (Run run) (Mark 44 ∷ rest) e in
+    let g = first_bare (others t) (Mark 44) rest f.1 in
+    let step = one_attribute before bits 44 run t false rest h e (joint_ends (others t) g.0) in
+    (others (others t), rw step refl, subst (AreSpelled ps) (sym g.1) later)
+joined before _ _ (bar _ run bits all words h j) zero ps t rest le later e = absurd (omega arith)
+joined before _ _ (bar _ run bits all words h j) (suc n) ps t rest le later e =
+    let f = first_bare t (Run run) (Mark 124 ∷ (words ++ Mark 44 ∷ rest)) e in
+    let g = first_bare (others t) (Mark 124) (words ++ Mark 44 ∷ rest) f.1 in
+    let step = one_attribute before bits 124 run t true (words ++ Mark 44 ∷ rest) h e (joint_goes_on (others t) g.0) in
+    let again = joined (bit_or before bits) all words j n ps (others (others t)) rest (omega arith) later g.1 in
+    (again.0, rw step again.1, again.2)
+
+attributes_step : (bits : ℕ) (ps : List Piece) (t : Text) → Ahead (Attributes bits ∷ Sign 44 ∷ ps) t → (u : Text) × (attributes_at 44 t ≡ Ok (bits, u)) × Ahead ps u
+unfolding attributes_at
+attributes_step bits ps t s =
+    let e : bare_words t ≡ s.0 ++ Mark 44 ∷ s.3.1 = s.4 ∙ ap (λ (ws : List Word). s.0 ++ ws) (s.3.4 ∙ ap (λ (ws : List Word). ws ++ s.3.1) s.3.2) in
+    let long : length s.0 ≤ suc (length t.words) = omega (arith, ap length e, length-append s.0 (Mark 44 ∷ s.3.1), length-map t.words (λ p. p.word)) in
+    joined 0 bits s.0 s.2 (suc (length t.words)) ps t s.3.1 long s.3.3 e
+
+-- ---- statements
+
+-- the text behind what a reader takes
+abbrev pub Reads : {X : Type 0} → Result (X × Text) ConfigFault → X → List Piece → Type 0
+Reads read x ps = (u : Text) × (read ≡ Ok (x, u)) × Ahead ps u
+
+head_step : (id attributes : ℕ) (ps : List Piece) (t : Text) → Ahead (Sign 40 ∷ Numeral id ∷ Sign 44 ∷ Sign 123 ∷ Attributes attributes ∷ Sign 44 ∷ ps) t → (u : Text) × (head_at t ≡ Ok (id, attributes, u)) × Ahead ps u
+unfolding head_at
+head_step id attributes ps t s =
+    let a = sign_step 40 (Numeral id ∷ Sign 44 ∷ Sign 123 ∷ Attributes attributes ∷ Sign 44 ∷ ps) t s in
+    let b = numeral_step id (Sign 44 ∷ Sign 123 ∷ Attributes attributes ∷ Sign 44 ∷ ps) (others t) a.1 in
+    let c = sign_step 44 (Sign 123 ∷ Attributes attributes ∷ Sign 44 ∷ ps) (others (others t)) b.1 in
+    let d = sign_step 123 (Attributes attributes ∷ Sign 44 ∷ ps) (others (others (others t))) c.1 in
+    let f = attributes_step attributes ps (others (others (others (others t)))) d.1 in
+    (f.0, rw (a.0, b.0, c.0, d.0, f.1) refl, f.2)
+
+tail_step : (ps : List Piece) (t : Text) → Ahead (Sign 125 ∷ Sign 41 ∷ Sign 59 ∷ ps) t → (tail_at t ≡ Ok (others (others (others t)))) × Ahead ps (others (others (others t)))
+unfolding tail_at
+tail_step ps t s =
+    let a = sign_step 125 (Sign 41 ∷ Sign 59 ∷ ps) t s in
+    let b = sign_step 41 (Sign 59 ∷ ps) (others t) a.1 in
+    let c = sign_step 59 ps (others (others t)) b.1 in
+    (rw (a.0, b.0, c.0) refl, c.1)
+
+pub board_again : (processors ram : ℕ) (ps : List Piece) (t : Text) → Ahead (Sign 40 ∷ Numeral processors ∷ Sign 44 ∷ Numeral ram ∷ Sign 41 ∷ Sign 59 ∷ ps) t → (u : Text) × (board_at t ≡ Ok (processors, ram, u)) × Ahead ps u
+unfolding board_at
+board_again processors ram ps t s =
+    let a = sign_step 40 (Numeral processors ∷ Sign 44 ∷ Numeral ram ∷ Sign 41 ∷ Sign 59 ∷ ps) t s in
+    let t1 = others t in
+    let b = numeral_step processors (Sign 44 ∷ Numeral ram ∷ Sign 41 ∷ Sign 59 ∷ ps) t1 a.1 in
+    let t2 = others t1 in
+    let c = sign_step 44 (Numeral ram ∷ Sign 41 ∷ Sign 59 ∷ ps) t2 b.1 in
+    let t3 = others t2 in
+    let d = numeral_step ram (Sign 41 ∷ Sign 59 ∷ ps) t3 c.1 in
+    let t4 = others t3 in
+    let f = sign_step 41 (Sign 59 ∷ ps) t4 d.1 in
+    let t5 = others t4 in
+    let g = sign_step 59 ps t5 f.1 in
+    (others t5, rw (a.0, b.0, c.0, d.0, f.0, g.0) refl, g.1)
+
+class_again : (n : ℕ) (ps : List Piece) (t : Text) → Ahead (Sign 40 ∷ ClassName n ∷ Sign 41 ∷ Sign 123 ∷ ps) t → Reads (class_at t) (Class n) ps
+unfolding class_at
+class_again n ps t s =
+    let a = sign_step 40 (ClassName n ∷ Sign 41 ∷ Sign 123 ∷ ps) t s in
+    let t1 = others t in
+    let b = class_name_step n (Sign 41 ∷ Sign 123 ∷ ps) t1 a.1 in
+    let t2 = others t1 in
+    let c = sign_step 41 (Sign 123 ∷ ps) t2 b.1 in
+    let t3 = others t2 in
+    let d = sign_step 123 ps t3 c.1 in
+    (others t3, rw (a.0, b.0, c.0, d.0) refl, d.1)
+
+-- ( id , { attributes , fields } ) ; and what follows
+abbrev pub object_pieces : ℕ → ℕ → List Piece → List Piece → List Piece
+object_pieces id attributes fields ps = Sign 40 ∷ Numeral id ∷ Sign 44 ∷ Sign 123 ∷ Attributes attributes ∷ Sign 44 ∷ (fields ++ Sign 125 ∷ Sign 41 ∷ Sign 59 ∷ ps)
+
+task_again : (x : TaskStatement) (ps : List Piece) (t : Text)
+    → Ahead (object_pieces x.id x.attributes (Value x.exinf ∷ Sign 44 ∷ Value x.address ∷ Sign 44 ∷ Numeral x.priority ∷ Sign 44 ∷ Numeral x.stack_size ∷ Sign 44 ∷ StackValue x.stack ∷ []) ps) t → Reads (task_at t) (Task x) ps
+unfolding task_at
+task_again x ps t s =
+    let end = Sign 125 ∷ Sign 41 ∷ Sign 59 ∷ ps in
+    let h = head_step x.id x.attributes (Value x.exinf ∷ Sign 44 ∷ Value x.address ∷ Sign 44 ∷ Numeral x.priority ∷ Sign 44 ∷ Numeral x.stack_size ∷ Sign 44 ∷ StackValue x.stack ∷ end) t s in
+    let t0 = h.0 in
+    let a = value_step x.exinf (Sign 44 ∷ Value x.address ∷ Sign 44 ∷ Numeral x.priority ∷ Sign 44 ∷ Numeral x.stack_size ∷ Sign 44 ∷ StackValue x.stack ∷ end) t0 h.2 in
+    let t1 = others t0 in
+    let b = sign_step 44 (Value x.address ∷ Sign 44 ∷ Numeral x.priority ∷ Sign 44 ∷ Numeral x.stack_size ∷ Sign 44 ∷ StackValue x.stack ∷ end) t1 a.1 in
+    let t2 = others t1 in
+    let c = value_step x.address (Sign 44 ∷ Numeral x.priority ∷ Sign 44 ∷ Numeral x.stack_size ∷ Sign 44 ∷ StackValue x.stack ∷ end) t2 b.1 in
+    let t3 = others t2 in
+    let d = sign_step 44 (Numeral x.priority ∷ Sign 44 ∷ Numeral x.stack_size ∷ Sign 44 ∷ StackValue x.stack ∷ end) t3 c.1 in
+    let t4 = others t3 in
+    let f = numeral_step x.priority (Sign 44 ∷ Numeral x.stack_size ∷ Sign 44 ∷ StackValue x.stack ∷ end) t4 d.1 in
+    let t5 = others t4 in
+    let g = sign_step 44 (Numeral x.stack_size ∷ Sign 44 ∷ StackValue x.stack ∷ end) t5 f.1 in
+    let t6 = others t5 in
+    let i = numeral_step x.stack_size (Sign 44 ∷ StackValue x.stack ∷ end) t6 g.1 in
+    let t7 = others t6 in
+    let j = sign_step 44 (StackValue x.stack ∷ end) t7 i.1 in
+    let t8 = others t7 in
+    let k = stack_step x.stack end t8 j.1 in
+    let t9 = others t8 in
+    let l = tail_step ps t9 k.1 in
+    (others (others (others t9)), rw (h.1, a.0, b.0, c.0, d.0, f.0, g.0, i.0, j.0, k.0, l.0) refl, l.1)
+
+semaphore_again : (x : SemaphoreStatement) (ps : List Piece) (t : Text) → Ahead (object_pieces x.id x.attributes (Numeral x.initial ∷ Sign 44 ∷ Numeral x.maximum ∷ []) ps) t → Reads (semaphore_at t) (Semaphore x) ps
+unfolding semaphore_at
+semaphore_again x ps t s =
+    let end = Sign 125 ∷ Sign 41 ∷ Sign 59 ∷ ps in
+    let h = head_step x.id x.attributes (Numeral x.initial ∷ Sign 44 ∷ Numeral x.maximum ∷ end) t s in
+    let t0 = h.0 in
+    let a = numeral_step x.initial (Sign 44 ∷ Numeral x.maximum ∷ end) t0 h.2 in
+    let t1 = others t0 in
+    let b = sign_step 44 (Numeral x.maximum ∷ end) t1 a.1 in
+    let t2 = others t1 in
+    let c = numeral_step x.maximum end t2 b.1 in
+    let t3 = others t2 in
+    let l = tail_step ps t3 c.1 in
+    (others (others (others t3)), rw (h.1, a.0, b.0, c.0, l.0) refl, l.1)
+
+flag_again : (x : FlagStatement) (ps : List Piece) (t : Text) → Ahead (object_pieces x.id x.attributes (Numeral x.pattern ∷ []) ps) t → Reads (flag_at t) (Flag x) ps
+unfolding flag_at
+flag_again x ps t s =
+    let end = Sign 125 ∷ Sign 41 ∷ Sign 59 ∷ ps in
+    let h = head_step x.id x.attributes (Numeral x.pattern ∷ end) t s in
+    let t0 = h.0 in
+    let a = numeral_step x.pattern end t0 h.2 in
+    let t1 = others t0 in
+    let l = tail_step ps t1 a.1 in
+    (others (others (others t1)), rw (h.1, a.0, l.0) refl, l.1)
+
+queue_again : (x : QueueStatement) (ps : List Piece) (t : Text) → Ahead (object_pieces x.id x.attributes (Numeral x.capacity ∷ Sign 44 ∷ Area ∷ []) ps) t → Reads (queue_at t) (Queue x) ps
+unfolding queue_at
+queue_again x ps t s =
+    let end = Sign 125 ∷ Sign 41 ∷ Sign 59 ∷ ps in
+    let h = head_step x.id x.attributes (Numeral x.capacity ∷ Sign 44 ∷ Area ∷ end) t s in
+    let t0 = h.0 in
+    let a = numeral_step x.capacity (Sign 44 ∷ Area ∷ end) t0 h.2 in
+    let t1 = others t0 in
+    let b = sign_step 44 (Area ∷ end) t1 a.1 in
+    let t2 = others t1 in
+    let c = area_step end t2 b.1 in
+    let t3 = others t2 in
+    let l = tail_step ps t3 c.1 in
+    (others (others (others t3)), rw (h.1, a.0, b.0, c.0, l.0) refl, l.1)
+
+handler_again : (x : HandlerStatement) (ps : List Piece) (t : Text) → Ahead (object_pieces x.line x.attributes (Value x.address ∷ []) ps) t → Reads (handler_at t) (Handler x) ps
+unfolding handler_at
+handler_again x ps t s =
+    let end = Sign 125 ∷ Sign 41 ∷ Sign 59 ∷ ps in
+    let h = head_step x.line x.attributes (Value x.address ∷ end) t s in
+    let t0 = h.0 in
+    let a = value_step x.address end t0 h.2 in
+    let t1 = others t0 in
+    let l = tail_step ps t1 a.1 in
+    (others (others (others t1)), rw (h.1, a.0, l.0) refl, l.1)
+
+-- Where a statement may stand: classes outside of classes, their ends inside, and BOARD first, which is none of these.
+abbrev pub MayStand : Bool → Statement → Type 0
+MayStand in_class (Board processors ram) = ⊥
+MayStand in_class (Class n) = in_class ≡ false
+MayStand in_class ClassEnd = in_class ≡ true
+MayStand in_class (Task x) = Unit {0}
+MayStand in_class (Semaphore x) = Unit {0}
+MayStand in_class (Flag x) = Unit {0}
+MayStand in_class (Queue x) = Unit {0}
+MayStand in_class (Handler x) = Unit {0}
+
+pub statement_again : (in_class : Bool) (x : Statement) (ps : List Piece) (t : Text) → MayStand in_class x → Ahead (form x ++ ps) t → Reads (statement_at in_class t) x ps
+unfolding statement_at behind_keyword keyword_of
+statement_again in_class (Board processors ram) ps t may s = absurd may
+statement_again in_class (Class n) ps t may s =
+    let f = exactly_step (codes "CLASS") (Sign 40 ∷ ClassName n ∷ Sign 41 ∷ Sign 123 ∷ ps) t s in
+    let r = class_again n ps (others t) f.1 in
+    (r.0, rw (f.0, may) r.1, r.2)
+statement_again in_class ClassEnd ps t may s =
+    let f = first_sign 125 ps t s in
+    (others t, rw (f.0, may) refl, f.1)
+statement_again in_class (Task x) ps t may s =
+    let f = exactly_step (codes "CRE_TSK") (object_pieces x.id x.attributes (Value x.exinf ∷ Sign 44 ∷ Value x.address ∷ Sign 44 ∷ Numeral x.priority ∷ Sign 44 ∷ Numeral x.stack_size ∷ Sign 44 ∷ StackValue x.stack ∷ []) ps) t s in
+    let r = task_again x ps (others t) f.1 in
+    (r.0, rw f.0 r.1, r.2)
+statement_again in_class (Semaphore x) ps t may s =
+    let f = exactly_step (codes "CRE_SEM") (object_pieces x.id x.attributes (Numeral x.initial ∷ Sign 44 ∷ Numeral x.maximum ∷ []) ps) t s in
+    let r = semaphore_again x ps (others t) f.1 in
+    (r.0, rw f.0 r.1, r.2)
+statement_again in_class (Flag x) ps t may s =
+    let f = exactly_step (codes "CRE_FLG") (object_pieces x.id x.attributes (Numeral x.pattern ∷ []) ps) t s in
+    let r = flag_again x ps (others t) f.1 in
+    (r.0, rw f.0 r.1, r.2)
+statement_again in_class (Queue x) ps t may s =
+    let f = exactly_step (codes "CRE_DTQ") (object_pieces x.id x.attributes (Numeral x.capacity ∷ Sign 44 ∷ Area ∷ []) ps) t s in
+    let r = queue_again x ps (others t) f.1 in
+    (r.0, rw f.0 r.1, r.2)
+statement_again in_class (Handler x) ps t may s =
+    let f = exactly_step (codes "DEF_INH") (object_pieces x.line x.attributes (Value x.address ∷ []) ps) t s in
+    let r = handler_again x ps (others t) f.1 in
+    (r.0, rw f.0 r.1, r.2)

@@ -1,0 +1,3 @@
+pub mod Validity
+pub mod Forms
+pub mod Accepted

@@ -1,0 +1,67 @@
+-- A configuration, and what is one: the limits of each value, and IDs that are distinct.
+use Rattle.std.specs.Prelude.{◌≡◌, ◌≢◌, ℕ, ◌≤◌, ◌%◌, List, All, AllPairs}
+use Rattle.brd_config.specs.declared.objects.TaskConfig.{TaskConfig}
+use Rattle.brd_config.specs.declared.objects.SemaphoreConfig.{SemaphoreConfig}
+use Rattle.brd_config.specs.declared.objects.FlagConfig.{FlagConfig}
+use Rattle.brd_config.specs.declared.objects.QueueConfig.{QueueConfig}
+use Rattle.brd_config.specs.declared.objects.HandlerConfig.{HandlerConfig}
+
+-- the objects of each kind in the order of their statements
+pub record Configuration : Type 0 where
+  pub processors : ℕ
+  pub ram : ℕ
+  pub tasks : List TaskConfig
+  pub semaphores : List SemaphoreConfig
+  pub flags : List FlagConfig
+  pub queues : List QueueConfig
+  pub handlers : List HandlerConfig
+
+-- from low to high
+pub record IsWithin (low high n : ℕ) : Type 0 where
+  pub least : low ≤ n
+  pub most : n ≤ high
+
+-- 64 KiB to 16 MiB, in steps of 64 KiB
+pub record IsRamSize (ram : ℕ) : Type 0 where
+  pub range : IsWithin 65536 16777216 ram
+  pub steps : ram % 65536 ≡ 0
+
+pub record IsTask (processors : ℕ) (t : TaskConfig) : Type 0 where
+  pub id : IsWithin 1 255 t.id
+  pub processor : IsWithin 1 processors t.processor
+  pub attributes : t.attributes.0 ≤ 3
+  pub priority : IsWithin 1 16 t.priority
+  pub stack_size : 1 ≤ t.stack_size
+
+pub record IsSemaphore (s : SemaphoreConfig) : Type 0 where
+  pub id : IsWithin 1 255 s.id
+  pub attributes : s.attributes.0 ≤ 1
+  pub initial : s.initial ≤ s.maximum
+  pub maximum : IsWithin 1 65535 s.maximum
+
+pub record IsFlag (f : FlagConfig) : Type 0 where
+  pub id : IsWithin 1 255 f.id
+  pub attributes : f.attributes.0 ≤ 7
+
+pub record IsQueue (q : QueueConfig) : Type 0 where
+  pub id : IsWithin 1 255 q.id
+  pub attributes : q.attributes.0 ≤ 1
+  pub capacity : q.capacity ≤ 256
+
+pub record IsHandler (processors : ℕ) (h : HandlerConfig) : Type 0 where
+  pub line : h.line ≤ 31
+  pub processor : IsWithin 1 processors h.processor
+
+pub record IsConfiguration (c : Configuration) : Type 0 where
+  pub processors : IsWithin 1 8 c.processors
+  pub ram : IsRamSize c.ram
+  pub tasks : All (IsTask c.processors) c.tasks
+  pub semaphores : All IsSemaphore c.semaphores
+  pub flags : All IsFlag c.flags
+  pub queues : All IsQueue c.queues
+  pub handlers : All (IsHandler c.processors) c.handlers
+  pub task_ids : AllPairs (λ s t. s.id ≢ t.id) c.tasks
+  pub semaphore_ids : AllPairs (λ s t. s.id ≢ t.id) c.semaphores
+  pub flag_ids : AllPairs (λ s t. s.id ≢ t.id) c.flags
+  pub queue_ids : AllPairs (λ s t. s.id ≢ t.id) c.queues
+  pub handler_lines : AllPairs (λ s t. s.line ≢ t.line) c.handlers

@@ -1,0 +1,192 @@
+-- The language as a grammar, apart from how it is read: the form of each statement, which words spell a form, and what
+-- configuration a list of statements says.
+use Rattle.std.specs.Prelude.{◌≡◌, ℕ, ◌≤◌, true, List, [], ◌∷◌, ◌++◌, Option, Some, None, codes}
+use Rattle.std.specs.List.{flat_map}
+use Rattle.std.specs.Int.RustNames.{bit_or}
+use Rattle.brd_text.specs.Words.{Word}
+use Rattle.brd_text.specs.Words.Word.{Run, Mark}
+use Rattle.brd_text.specs.Numbers.{number_of}
+use Rattle.brd_text.specs.Spelling.{Spells}
+use Rattle.brd_config.specs.declared.objects.Operand.{Operand}
+use Rattle.brd_config.specs.declared.objects.Stack.{Stack}
+use Rattle.brd_config.specs.declared.objects.TaskConfig.{TaskConfig}
+use Rattle.brd_config.specs.declared.objects.SemaphoreConfig.{SemaphoreConfig}
+use Rattle.brd_config.specs.declared.objects.FlagConfig.{FlagConfig}
+use Rattle.brd_config.specs.declared.objects.QueueConfig.{QueueConfig}
+use Rattle.brd_config.specs.declared.objects.HandlerConfig.{HandlerConfig}
+use Rattle.brd_config.specs.declared.statement.Statement.{Statement}
+use Rattle.brd_config.specs.declared.statement.Statement.TheVariants.{Board, Class, ClassEnd, Task, Semaphore, Flag, Queue, Handler}
+use Rattle.brd_config.specs.declared.statement.TaskStatement.{TaskStatement}
+use Rattle.brd_config.specs.declared.statement.SemaphoreStatement.{SemaphoreStatement}
+use Rattle.brd_config.specs.declared.statement.FlagStatement.{FlagStatement}
+use Rattle.brd_config.specs.declared.statement.QueueStatement.{QueueStatement}
+use Rattle.brd_config.specs.declared.statement.HandlerStatement.{HandlerStatement}
+use Rattle.brd_config.specs.Reading.{attribute_of, class_of, operand_of, stack_of, is_area}
+use Rattle.brd_config.specs.Configuration.{Configuration, IsWithin, IsConfiguration}
+use Rattle.brd_config.specs.Meaning.{processor_of}
+
+-- ---- words
+
+-- A piece of a statement: a word that stands for itself, a mark, or words for a value.
+pub data Piece : Type 0 where
+  Exactly : List ℕ → Piece
+  Sign : ℕ → Piece
+  Numeral : ℕ → Piece
+  Attributes : ℕ → Piece
+  Value : Operand → Piece
+  StackValue : Stack → Piece
+  Area : Piece
+  ClassName : ℕ → Piece
+
+-- Attributes with bars between them, whose bits are joined to those before them and come to all of them.
+pub data Joined : ℕ → ℕ → List Word → Type 0 where
+  last : (before : ℕ) (run : List ℕ) (bits : ℕ) → attribute_of run ≡ Some bits → Joined before (bit_or before bits) (Run run ∷ [])
+  bar : (before : ℕ) (run : List ℕ) (bits all : ℕ) (words : List Word) → attribute_of run ≡ Some bits → Joined (bit_or before bits) all words → Joined before all (Run run ∷ Mark 124 ∷ words)
+
+-- one run, of which this is true
+abbrev pub OneRun : (List ℕ → Type 0) → List Word → Type 0
+OneRun P words = (run : List ℕ) × (words ≡ Run run ∷ []) × P run
+
+abbrev pub IsSpelled : Piece → List Word → Type 0
+IsSpelled (Exactly bytes) words = words ≡ Run bytes ∷ []
+IsSpelled (Sign b) words = words ≡ Mark b ∷ []
+IsSpelled (Numeral n) words = OneRun (λ run. number_of run ≡ Some n) words
+IsSpelled (Attributes bits) words = Joined 0 bits words
+IsSpelled (Value v) words = OneRun (λ run. operand_of run ≡ Some v) words
+IsSpelled (StackValue v) words = OneRun (λ run. stack_of run ≡ Some v) words
+IsSpelled Area words = OneRun (λ run. is_area run ≡ true) words
+IsSpelled (ClassName n) words = OneRun (λ run. class_of run ≡ Some n) words
+
+-- one piece after the other
+abbrev pub AreSpelled : List Piece → List Word → Type 0
+AreSpelled [] words = words ≡ []
+AreSpelled (p ∷ ps) words = (front : List Word) × (rest : List Word) × IsSpelled p front × AreSpelled ps rest × (words ≡ front ++ rest)
+
+-- ---- forms
+
+-- ( id , { attributes , .. } ) ;
+abbrev pub object : List ℕ → ℕ → ℕ → List Piece → List Piece
+object keyword id attributes fields = Exactly keyword ∷ Sign 40 ∷ Numeral id ∷ Sign 44 ∷ Sign 123 ∷ Attributes attributes ∷ Sign 44 ∷ (fields ++ Sign 125 ∷ Sign 41 ∷ Sign 59 ∷ [])
+
+abbrev pub form : Statement → List Piece
+form (Board processors ram) = Exactly (codes "BOARD") ∷ Sign 40 ∷ Numeral processors ∷ Sign 44 ∷ Numeral ram ∷ Sign 41 ∷ Sign 59 ∷ []
+form (Class n) = Exactly (codes "CLASS") ∷ Sign 40 ∷ ClassName n ∷ Sign 41 ∷ Sign 123 ∷ []
+form ClassEnd = Sign 125 ∷ []
+form (Task t) = object (codes "CRE_TSK") t.id t.attributes (Value t.exinf ∷ Sign 44 ∷ Value t.address ∷ Sign 44 ∷ Numeral t.priority ∷ Sign 44 ∷ Numeral t.stack_size ∷ Sign 44 ∷ StackValue t.stack ∷ [])
+form (Semaphore s) = object (codes "CRE_SEM") s.id s.attributes (Numeral s.initial ∷ Sign 44 ∷ Numeral s.maximum ∷ [])
+form (Flag f) = object (codes "CRE_FLG") f.id f.attributes (Numeral f.pattern ∷ [])
+form (Queue q) = object (codes "CRE_DTQ") q.id q.attributes (Numeral q.capacity ∷ Sign 44 ∷ Area ∷ [])
+form (Handler h) = object (codes "DEF_INH") h.line h.attributes (Value h.address ∷ [])
+
+-- The bytes spell the statements, in their forms.
+abbrev pub IsText : List ℕ → List Statement → Type 0
+IsText bytes statements = (words : List Word) × Spells bytes words × AreSpelled (flat_map form statements) words
+
+-- ---- what statements say
+
+-- what a statement says of its object
+abbrev pub task_said : ℕ → TaskStatement → TaskConfig
+task_said processor t = record { id = t.id; processor = processor; attributes = record { 0 = t.attributes }; exinf = t.exinf; address = t.address; priority = t.priority; stack_size = t.stack_size; stack = t.stack }
+
+abbrev pub semaphore_said : SemaphoreStatement → SemaphoreConfig
+semaphore_said s = record { id = s.id; attributes = record { 0 = s.attributes }; initial = s.initial; maximum = s.maximum }
+
+abbrev pub flag_said : FlagStatement → FlagConfig
+flag_said f = record { id = f.id; attributes = record { 0 = f.attributes }; pattern = f.pattern }
+
+abbrev pub queue_said : QueueStatement → QueueConfig
+queue_said q = record { id = q.id; attributes = record { 0 = q.attributes }; capacity = q.capacity }
+
+abbrev pub handler_said : ℕ → HandlerStatement → HandlerConfig
+handler_said processor h = record { line = h.line; processor = processor; address = h.address }
+
+-- The tasks of statements that stand in this class, in their order.
+abbrev pub tasks_of : Option ℕ → List Statement → List TaskConfig
+tasks_of class [] = []
+tasks_of class (Board processors ram ∷ ss) = tasks_of class ss
+tasks_of class (Class n ∷ ss) = tasks_of (Some n) ss
+tasks_of class (ClassEnd ∷ ss) = tasks_of None ss
+tasks_of class (Task t ∷ ss) = task_said (processor_of class) t ∷ tasks_of class ss
+tasks_of class (Semaphore s ∷ ss) = tasks_of class ss
+tasks_of class (Flag f ∷ ss) = tasks_of class ss
+tasks_of class (Queue q ∷ ss) = tasks_of class ss
+tasks_of class (Handler h ∷ ss) = tasks_of class ss
+
+abbrev pub semaphores_of : List Statement → List SemaphoreConfig
+semaphores_of [] = []
+semaphores_of (Board processors ram ∷ ss) = semaphores_of ss
+semaphores_of (Class n ∷ ss) = semaphores_of ss
+semaphores_of (ClassEnd ∷ ss) = semaphores_of ss
+semaphores_of (Task t ∷ ss) = semaphores_of ss
+semaphores_of (Semaphore s ∷ ss) = semaphore_said s ∷ semaphores_of ss
+semaphores_of (Flag f ∷ ss) = semaphores_of ss
+semaphores_of (Queue q ∷ ss) = semaphores_of ss
+semaphores_of (Handler h ∷ ss) = semaphores_of ss
+
+abbrev pub flags_of : List Statement → List FlagConfig
+flags_of [] = []
+flags_of (Board processors ram ∷ ss) = flags_of ss
+flags_of (Class n ∷ ss) = flags_of ss
+flags_of (ClassEnd ∷ ss) = flags_of ss
+flags_of (Task t ∷ ss) = flags_of ss
+flags_of (Semaphore s ∷ ss) = flags_of ss
+flags_of (Flag f ∷ ss) = flag_said f ∷ flags_of ss
+flags_of (Queue q ∷ ss) = flags_of ss
+flags_of (Handler h ∷ ss) = flags_of ss
+
+abbrev pub queues_of : List Statement → List QueueConfig
+queues_of [] = []
+queues_of (Board processors ram ∷ ss) = queues_of ss
+queues_of (Class n ∷ ss) = queues_of ss
+queues_of (ClassEnd ∷ ss) = queues_of ss
+queues_of (Task t ∷ ss) = queues_of ss
+queues_of (Semaphore s ∷ ss) = queues_of ss
+queues_of (Flag f ∷ ss) = queues_of ss
+queues_of (Queue q ∷ ss) = queue_said q ∷ queues_of ss
+queues_of (Handler h ∷ ss) = queues_of ss
+
+abbrev pub handlers_of : Option ℕ → List Statement → List HandlerConfig
+handlers_of class [] = []
+handlers_of class (Board processors ram ∷ ss) = handlers_of class ss
+handlers_of class (Class n ∷ ss) = handlers_of (Some n) ss
+handlers_of class (ClassEnd ∷ ss) = handlers_of None ss
+handlers_of class (Task t ∷ ss) = handlers_of class ss
+handlers_of class (Semaphore s ∷ ss) = handlers_of class ss
+handlers_of class (Flag f ∷ ss) = handlers_of class ss
+handlers_of class (Queue q ∷ ss) = handlers_of class ss
+handlers_of class (Handler h ∷ ss) = handler_said (processor_of class) h ∷ handlers_of class ss
+
+-- the configuration of a board and the statements behind it, whatever their values
+abbrev pub said : ℕ → ℕ → List Statement → Configuration
+said processors ram ss = record { processors = processors; ram = ram; tasks = tasks_of None ss; semaphores = semaphores_of ss; flags = flags_of ss; queues = queues_of ss; handlers = handlers_of None ss }
+
+abbrev pub IsOutside : Option ℕ → Type 0
+IsOutside None = Unit {0}
+IsOutside (Some n) = ⊥
+
+abbrev pub IsInside : Option ℕ → Type 0
+IsInside None = ⊥
+IsInside (Some n) = Unit {0}
+
+-- Statements behind BOARD, of which the first stands in this class: each class names a processor of the board and is
+-- closed again, no class is in a class, BOARD does not come again, and a handler has no attribute bits but the lowest.
+-- (The other limits are those of the configuration.)
+abbrev pub AreNested : ℕ → Option ℕ → List Statement → Type 0
+AreNested processors class [] = IsOutside class
+AreNested processors class (Board p ram ∷ ss) = ⊥
+AreNested processors class (Class n ∷ ss) = IsOutside class × IsWithin 1 processors n × AreNested processors (Some n) ss
+AreNested processors class (ClassEnd ∷ ss) = IsInside class × AreNested processors None ss
+AreNested processors class (Task t ∷ ss) = AreNested processors class ss
+AreNested processors class (Semaphore s ∷ ss) = AreNested processors class ss
+AreNested processors class (Flag f ∷ ss) = AreNested processors class ss
+AreNested processors class (Queue q ∷ ss) = AreNested processors class ss
+AreNested processors class (Handler h ∷ ss) = (h.attributes ≤ 1) × AreNested processors class ss
+
+-- Statements that are valid: well nested, and what they say is a configuration.
+pub record AreValid (processors ram : ℕ) (ss : List Statement) : Type 0 where
+  pub nested : AreNested processors None ss
+  pub values : IsConfiguration (said processors ram ss)
+
+-- The text is that of valid statements, BOARD first, and this is what they say.
+abbrev pub Says : List ℕ → Configuration → Type 0
+Says bytes c = (processors : ℕ) × (ram : ℕ) × (ss : List Statement) × IsText bytes (Board processors ram ∷ ss) × AreValid processors ram ss × (c ≡ said processors ram ss)

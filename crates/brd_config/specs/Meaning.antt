@@ -1,0 +1,173 @@
+-- The configuration that a text says, or the fault of its first faulty statement. Of the faults of one statement the
+-- first in this order is answered: Syntax, BadProcessor, BadId, Duplicate, BadAttribute, BadPriority, BadCount.
+use Rattle.std.specs.Prelude.{ℕ, suc, ◌%◌, Bool, true, false, not, ◌&&◌, nat_le, ◌==◌, if◌then◌else◌, List, [], ◌∷◌, ◌++◌, length, Option, Some, None, is_none, is_some, unwrap_or, Result, Ok, Err, codes}
+use Rattle.std.specs.List.{list_any}
+use Rattle.std.specs.Str.{bytes_eq}
+use Rattle.std.specs.Int.RustNames.{bit_and}
+use Rattle.brd_text.specs.Words.{Word, Text, words_of, first, others}
+use Rattle.brd_text.specs.Words.Word.{Run, Mark, Unclosed, End}
+use Rattle.brd_text.specs.Faults.{◌>>=◌}
+use Rattle.brd_text.specs.Turns.{Flow, repeated}
+use Rattle.brd_text.specs.Turns.Flow.{More, Done}
+use Rattle.brd_config.specs.declared.fault.ConfigFault.{ConfigFault}
+use Rattle.brd_config.specs.declared.fault.ConfigFault.TheVariants.{NoMemory, Syntax, Duplicate, BadId, BadAttribute, BadPriority, BadCount, BadProcessor}
+use Rattle.brd_config.specs.declared.objects.TaskConfig.{TaskConfig}
+use Rattle.brd_config.specs.declared.objects.SemaphoreConfig.{SemaphoreConfig}
+use Rattle.brd_config.specs.declared.objects.FlagConfig.{FlagConfig}
+use Rattle.brd_config.specs.declared.objects.QueueConfig.{QueueConfig}
+use Rattle.brd_config.specs.declared.objects.HandlerConfig.{HandlerConfig}
+use Rattle.brd_config.specs.declared.statement.TaskStatement.{TaskStatement}
+use Rattle.brd_config.specs.declared.statement.SemaphoreStatement.{SemaphoreStatement}
+use Rattle.brd_config.specs.declared.statement.FlagStatement.{FlagStatement}
+use Rattle.brd_config.specs.declared.statement.QueueStatement.{QueueStatement}
+use Rattle.brd_config.specs.declared.statement.HandlerStatement.{HandlerStatement}
+use Rattle.brd_config.specs.declared.statement.Statement.{Statement}
+use Rattle.brd_config.specs.declared.statement.Statement.TheVariants.{Board, Class, ClassEnd, Task, Semaphore, Flag, Queue, Handler}
+use Rattle.brd_config.specs.Statements.{board_at, statement_at}
+use Rattle.brd_config.specs.Configuration.{Configuration}
+
+-- ---- tests of values
+
+-- n, which has to lie from low to high
+unfoldable pub within : ℕ → ℕ → ConfigFault → ℕ → Result ℕ ConfigFault
+within low high fault n = if nat_le low n && nat_le n high then Ok n else Err fault
+
+-- bits, which have to be among those that are allowed
+unfoldable pub only_bits : ℕ → ConfigFault → ℕ → Result ℕ ConfigFault
+only_bits allowed fault bits = if bit_and bits allowed == bits then Ok bits else Err fault
+
+-- a fault where the test holds
+abbrev pub refused : Bool → ConfigFault → Result (Unit {0}) ConfigFault
+refused test fault = if test then Err fault else Ok tt
+
+unfoldable pub is_ram_size : ℕ → Bool
+is_ram_size ram = nat_le 65536 ram && nat_le ram 16777216 && (ram % 65536 == 0)
+
+-- ---- what statements say
+
+-- What statements have said so far, and the processor of the class in which the next one stands.
+pub record State : Type 0 where
+  pub config : Configuration
+  pub class : Option ℕ
+
+-- outside of classes, processor 1
+abbrev pub processor_of : Option ℕ → ℕ
+processor_of class = unwrap_or class 1
+
+-- A task on this processor, next to tasks that are defined.
+unfoldable pub task_of : ℕ → List TaskConfig → ℕ → TaskStatement → Result TaskConfig ConfigFault
+task_of line tasks processor t = do
+  id ← within 1 255 (BadId line) t.id
+  new ← refused (list_any (λ other. other.id == t.id) tasks) (Duplicate line)
+  attributes ← only_bits 3 (BadAttribute line) t.attributes
+  priority ← within 1 16 (BadPriority line) t.priority
+  stacked ← refused (t.stack_size == 0) (BadCount line)
+  Ok (record { id = id; processor = processor; attributes = record { 0 = attributes }; exinf = t.exinf; address = t.address; priority = priority; stack_size = t.stack_size; stack = t.stack })
+
+unfoldable pub semaphore_of : ℕ → List SemaphoreConfig → SemaphoreStatement → Result SemaphoreConfig ConfigFault
+semaphore_of line semaphores s = do
+  id ← within 1 255 (BadId line) s.id
+  new ← refused (list_any (λ other. other.id == s.id) semaphores) (Duplicate line)
+  attributes ← only_bits 1 (BadAttribute line) s.attributes
+  maximum ← within 1 65535 (BadCount line) s.maximum
+  initial ← within 0 s.maximum (BadCount line) s.initial
+  Ok (record { id = id; attributes = record { 0 = attributes }; initial = initial; maximum = maximum })
+
+unfoldable pub flag_of : ℕ → List FlagConfig → FlagStatement → Result FlagConfig ConfigFault
+flag_of line flags f = do
+  id ← within 1 255 (BadId line) f.id
+  new ← refused (list_any (λ other. other.id == f.id) flags) (Duplicate line)
+  attributes ← only_bits 7 (BadAttribute line) f.attributes
+  Ok (record { id = id; attributes = record { 0 = attributes }; pattern = f.pattern })
+
+unfoldable pub queue_of : ℕ → List QueueConfig → QueueStatement → Result QueueConfig ConfigFault
+queue_of line queues q = do
+  id ← within 1 255 (BadId line) q.id
+  new ← refused (list_any (λ other. other.id == q.id) queues) (Duplicate line)
+  attributes ← only_bits 1 (BadAttribute line) q.attributes
+  capacity ← within 0 256 (BadCount line) q.capacity
+  Ok (record { id = id; attributes = record { 0 = attributes }; capacity = capacity })
+
+-- A handler on this processor. Lines are the board's, so each has one handler.
+unfoldable pub handler_of : ℕ → List HandlerConfig → ℕ → HandlerStatement → Result HandlerConfig ConfigFault
+handler_of line handlers processor h = do
+  number ← within 0 31 (BadId line) h.line
+  new ← refused (list_any (λ other. other.line == h.line) handlers) (Duplicate line)
+  attributes ← only_bits 1 (BadAttribute line) h.attributes
+  Ok (record { line = number; processor = processor; address = h.address })
+
+-- What the first statement says.
+unfoldable pub board_of : ℕ → ℕ → ℕ → Result Configuration ConfigFault
+board_of line processors ram = do
+  count ← within 1 8 (BadProcessor line) processors
+  sized ← refused (not (is_ram_size ram)) (BadCount line)
+  Ok (record { processors = count; ram = ram; tasks = []; semaphores = []; flags = []; queues = []; handlers = [] })
+
+-- What one more statement, which begins on this line, adds.
+unfoldable pub added : ℕ → State → Statement → Result State ConfigFault
+added line s (Board processors ram) = do
+  count ← within 1 8 (BadProcessor line) processors
+  Err (Duplicate line)
+added line s (Class n) = do
+  processor ← within 1 s.config.processors (BadProcessor line) n
+  Ok (record s { class = Some processor })
+added line s ClassEnd = Ok (record s { class = None })
+added line s (Task t) = do
+  task ← task_of line s.config.tasks (processor_of s.class) t
+  Ok (record s { config = record s.config { tasks = s.config.tasks ++ task ∷ [] } })
+added line s (Semaphore x) = do
+  semaphore ← semaphore_of line s.config.semaphores x
+  Ok (record s { config = record s.config { semaphores = s.config.semaphores ++ semaphore ∷ [] } })
+added line s (Flag x) = do
+  flag ← flag_of line s.config.flags x
+  Ok (record s { config = record s.config { flags = s.config.flags ++ flag ∷ [] } })
+added line s (Queue x) = do
+  queue ← queue_of line s.config.queues x
+  Ok (record s { config = record s.config { queues = s.config.queues ++ queue ∷ [] } })
+added line s (Handler x) = do
+  handler ← handler_of line s.config.handlers (processor_of s.class) x
+  Ok (record s { config = record s.config { handlers = s.config.handlers ++ handler ∷ [] } })
+
+-- ---- the text
+
+abbrev pub is_end : Word → Bool
+is_end (Run run) = false
+is_end (Mark b) = false
+is_end Unclosed = false
+is_end End = true
+
+-- one more statement, which is read and says something
+unfoldable pub one_more : State × Text → Result (Flow (State × Text) Configuration) ConfigFault
+one_more x = do
+  read ← statement_at (is_some x.0.class) x.1
+  next ← added (first x.1).line x.0 read.0
+  Ok (More (next, read.1))
+
+-- The text ends between statements, outside of classes, or one more statement stands there.
+unfoldable pub statement_step : State × Text → Result (Flow (State × Text) Configuration) ConfigFault
+statement_step x = if is_none x.0.class && is_end (first x.1).word then Ok (Done x.0.config) else one_more x
+
+-- the statements up to the end of the text
+unfoldable pub statements_from : State × Text → Result Configuration ConfigFault
+statements_from x = repeated NoMemory statement_step (suc (length x.1.words)) x
+
+abbrev pub is_board : Word → Bool
+is_board (Run run) = bytes_eq run (codes "BOARD")
+is_board (Mark b) = false
+is_board Unclosed = false
+is_board End = false
+
+-- BOARD(processors, ram); behind its first word, which stands on this line
+unfoldable pub first_board : ℕ → Text → Result (State × Text) ConfigFault
+first_board line t = do
+  board ← board_at t
+  config ← board_of line board.0 board.1
+  Ok (record { config = config; class = None }, board.2)
+
+-- The first statement is BOARD.
+unfoldable pub first_statement : Text → Result (State × Text) ConfigFault
+first_statement t = if is_board (first t).word then first_board (first t).line (others t) else Err (Syntax (first t).line)
+
+-- what a text says, or its first fault
+unfoldable pub config_of : List ℕ → Result Configuration ConfigFault
+config_of bytes = first_statement (words_of bytes) >>= statements_from

@@ -1,0 +1,156 @@
+-- Numbers, marks, attributes and operands at the front of a text. Syntax has the line of the word that does not fit.
+use Rattle.std.specs.Prelude.{ℕ, Bool, true, false, List, length, take, drop, ◌==◌, if◌then◌else◌, ◌||◌, Option, Some, None, is_some, option_map, Result, Ok, Err, suc, codes}
+use Rattle.std.specs.Str.{bytes_eq}
+use Rattle.std.specs.Int.RustNames.{bit_or}
+use Rattle.brd_text.specs.Bytes.{is_name}
+use Rattle.brd_text.specs.Words.{Word, Text, first, others}
+use Rattle.brd_text.specs.Words.Word.{Run, Mark, Unclosed, End}
+use Rattle.brd_text.specs.Numbers.{number_of, decimal_of}
+use Rattle.brd_text.specs.Faults.{◌>>=◌, or_fault}
+use Rattle.brd_text.specs.Turns.{Flow, flow_of, repeated}
+use Rattle.brd_config.specs.declared.fault.ConfigFault.{ConfigFault}
+use Rattle.brd_config.specs.declared.fault.ConfigFault.TheVariants.{NoMemory, Syntax}
+use Rattle.brd_config.specs.declared.objects.Operand.{Operand}
+use Rattle.brd_config.specs.declared.objects.Operand.TheVariants.{Number, Name}
+use Rattle.brd_config.specs.declared.objects.Stack.{Stack}
+use Rattle.brd_config.specs.declared.objects.Stack.TheVariants.{Automatic, At}
+
+-- ---- what a run stands for
+
+-- the attribute names of the uITRON 4.0 specification, each with its bits
+unfoldable pub attribute_named : List ℕ → Option ℕ
+attribute_named run =
+    if bytes_eq run (codes "TA_HLNG") then Some 0
+    else (if bytes_eq run (codes "TA_ASM") then Some 1
+    else (if bytes_eq run (codes "TA_ACT") then Some 2
+    else (if bytes_eq run (codes "TA_TFIFO") then Some 0
+    else (if bytes_eq run (codes "TA_TPRI") then Some 1
+    else (if bytes_eq run (codes "TA_WSGL") then Some 0
+    else (if bytes_eq run (codes "TA_WMUL") then Some 2
+    else (if bytes_eq run (codes "TA_CLR") then Some 4
+    else None)))))))
+
+-- a name or a number
+abbrev pub named_or_number : Option ℕ → List ℕ → Option ℕ
+named_or_number (Some bits) run = Some bits
+named_or_number None run = number_of run
+
+unfoldable pub attribute_of : List ℕ → Option ℕ
+attribute_of run = named_or_number (attribute_named run) run
+
+-- TCL_ and a decimal number
+unfoldable pub class_of : List ℕ → Option ℕ
+class_of run = if bytes_eq (take 4 run) (codes "TCL_") then decimal_of (drop 4 run) else None
+
+unfoldable pub is_null : List ℕ → Bool
+is_null run = bytes_eq run (codes "NULL")
+
+abbrev pub number_or_name : Option ℕ → List ℕ → Option Operand
+number_or_name (Some n) run = Some (Number n)
+number_or_name None run = if is_name run then Some (Name run) else None
+
+unfoldable pub operand_of : List ℕ → Option Operand
+operand_of run = number_or_name (number_of run) run
+
+-- ---- words at the front
+
+-- the bytes of a word that has to be a run
+abbrev pub run_of : Word → ℕ → Result (List ℕ) ConfigFault
+run_of (Run run) line = Ok run
+run_of (Mark b) line = Err (Syntax line)
+run_of Unclosed line = Err (Syntax line)
+run_of End line = Err (Syntax line)
+
+unfoldable pub number_at : Text → Result (ℕ × Text) ConfigFault
+number_at t = do
+  run ← run_of (first t).word (first t).line
+  n ← or_fault (Syntax (first t).line) (number_of run)
+  Ok (n, others t)
+
+abbrev pub expect_mark : ℕ → Word → ℕ → Text → Result Text ConfigFault
+expect_mark mark (Run run) line rest = Err (Syntax line)
+expect_mark mark (Mark b) line rest = if b == mark then Ok rest else Err (Syntax line)
+expect_mark mark Unclosed line rest = Err (Syntax line)
+expect_mark mark End line rest = Err (Syntax line)
+
+-- this mark, and the text behind it
+unfoldable pub mark_at : ℕ → Text → Result Text ConfigFault
+mark_at mark t = expect_mark mark (first t).word (first t).line (others t)
+
+unfoldable pub attribute_at : Text → Result (ℕ × Text) ConfigFault
+attribute_at t = do
+  run ← run_of (first t).word (first t).line
+  bits ← or_fault (Syntax (first t).line) (attribute_of run)
+  Ok (bits, others t)
+
+abbrev pub expect_joint : ℕ → Word → ℕ → Text → Result (Bool × Text) ConfigFault
+expect_joint end (Run run) line rest = Err (Syntax line)
+expect_joint end (Mark b) line rest = if b == 124 then Ok (true, rest) else (if b == end then Ok (false, rest) else Err (Syntax line))
+expect_joint end Unclosed line rest = Err (Syntax line)
+expect_joint end End line rest = Err (Syntax line)
+
+-- a bar, behind which another attribute stands, or the mark that ends attributes
+unfoldable pub joint_at : ℕ → Text → Result (Bool × Text) ConfigFault
+joint_at end t = expect_joint end (first t).word (first t).line (others t)
+
+-- one more attribute, its bits joined to those before it
+unfoldable pub attribute_step : ℕ → ℕ × Text → Result (Flow (ℕ × Text) (ℕ × Text)) ConfigFault
+attribute_step end s = do
+  a ← attribute_at s.1
+  joint ← joint_at end a.1
+  Ok (flow_of joint.0 (bit_or s.0 a.0, joint.1) (bit_or s.0 a.0, joint.1))
+
+-- attributes up to the mark that ends them
+unfoldable pub attributes_at : ℕ → Text → Result (ℕ × Text) ConfigFault
+attributes_at end t = repeated NoMemory (attribute_step end) (suc (length t.words)) (0, t)
+
+unfoldable pub operand_at : Text → Result (Operand × Text) ConfigFault
+operand_at t = do
+  run ← run_of (first t).word (first t).line
+  operand ← or_fault (Syntax (first t).line) (operand_of run)
+  Ok (operand, others t)
+
+-- NULL, a number or a name
+unfoldable pub stack_of : List ℕ → Option Stack
+stack_of run = if is_null run then Some Automatic else option_map (λ o. At o) (operand_of run)
+
+unfoldable pub stack_at : Text → Result (Stack × Text) ConfigFault
+stack_at t = do
+  run ← run_of (first t).word (first t).line
+  stack ← or_fault (Syntax (first t).line) (stack_of run)
+  Ok (stack, others t)
+
+-- NULL or a number, which has no effect
+unfoldable pub is_area : List ℕ → Bool
+is_area run = is_null run || is_some (number_of run)
+
+unfoldable pub area_at : Text → Result Text ConfigFault
+area_at t = do
+  run ← run_of (first t).word (first t).line
+  if is_area run then Ok (others t) else Err (Syntax (first t).line)
+
+-- TCL_ and a decimal number
+unfoldable pub class_number_at : Text → Result (ℕ × Text) ConfigFault
+class_number_at t = do
+  run ← run_of (first t).word (first t).line
+  n ← or_fault (Syntax (first t).line) (class_of run)
+  Ok (n, others t)
+
+-- ---- the parts that statements share
+
+-- `( id , { attributes ,`: the ID and the attributes
+unfoldable pub head_at : Text → Result (ℕ × ℕ × Text) ConfigFault
+head_at t = do
+  opened ← mark_at 40 t
+  id ← number_at opened
+  listed ← mark_at 44 id.1
+  inner ← mark_at 123 listed
+  attributes ← attributes_at 44 inner
+  Ok (id.0, attributes.0, attributes.1)
+
+-- `} ) ;`
+unfoldable pub tail_at : Text → Result Text ConfigFault
+tail_at t = do
+  listed ← mark_at 125 t
+  closed ← mark_at 41 listed
+  mark_at 59 closed

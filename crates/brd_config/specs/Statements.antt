@@ -1,0 +1,122 @@
+-- Statements at the front of a text. Their forms are those of the static API of the uITRON 4.0 specification, with
+-- CLASS as in the kernel configuration of TOPPERS/FMP; BOARD is of this product.
+use Rattle.std.specs.Prelude.{ℕ, Bool, ◌&&◌, List, ◌==◌, if◌then◌else◌, Option, Some, None, Result, Ok, Err, codes}
+use Rattle.std.specs.Str.{bytes_eq}
+use Rattle.brd_text.specs.Words.{Word, Text, first, others}
+use Rattle.brd_text.specs.Words.Word.{Run, Mark, Unclosed, End}
+use Rattle.brd_text.specs.Faults.{◌>>=◌, or_fault}
+use Rattle.brd_config.specs.declared.fault.ConfigFault.{ConfigFault}
+use Rattle.brd_config.specs.declared.fault.ConfigFault.TheVariants.{Syntax}
+use Rattle.brd_config.specs.declared.statement.Keyword.{Keyword}
+use Rattle.brd_config.specs.declared.statement.Keyword.TheVariants as keywords
+use Rattle.brd_config.specs.declared.statement.Statement.{Statement}
+use Rattle.brd_config.specs.declared.statement.Statement.TheVariants.{Board, Class, ClassEnd, Task, Semaphore, Flag, Queue, Handler}
+use Rattle.brd_config.specs.Reading.{number_at, mark_at, operand_at, stack_at, area_at, class_number_at, head_at, tail_at}
+
+unfoldable pub keyword_of : List ℕ → Option Keyword
+keyword_of run =
+    if bytes_eq run (codes "BOARD") then Some keywords.Board
+    else (if bytes_eq run (codes "CLASS") then Some keywords.Class
+    else (if bytes_eq run (codes "CRE_TSK") then Some keywords.Task
+    else (if bytes_eq run (codes "CRE_SEM") then Some keywords.Semaphore
+    else (if bytes_eq run (codes "CRE_FLG") then Some keywords.Flag
+    else (if bytes_eq run (codes "CRE_DTQ") then Some keywords.Queue
+    else (if bytes_eq run (codes "DEF_INH") then Some keywords.Handler
+    else None))))))
+
+-- BOARD(processors, ram);
+unfoldable pub board_at : Text → Result (ℕ × ℕ × Text) ConfigFault
+board_at t = do
+  opened ← mark_at 40 t
+  processors ← number_at opened
+  second ← mark_at 44 processors.1
+  ram ← number_at second
+  closed ← mark_at 41 ram.1
+  ended ← mark_at 59 closed
+  Ok (processors.0, ram.0, ended)
+
+-- CLASS(TCL_n) {
+unfoldable pub class_at : Text → Result (Statement × Text) ConfigFault
+class_at t = do
+  opened ← mark_at 40 t
+  n ← class_number_at opened
+  closed ← mark_at 41 n.1
+  inner ← mark_at 123 closed
+  Ok (Class n.0, inner)
+
+-- CRE_TSK(tskid, {tskatr, exinf, task, itskpri, stksz, stk});
+unfoldable pub task_at : Text → Result (Statement × Text) ConfigFault
+task_at t = do
+  head ← head_at t
+  exinf ← operand_at head.2
+  second ← mark_at 44 exinf.1
+  address ← operand_at second
+  third ← mark_at 44 address.1
+  priority ← number_at third
+  fourth ← mark_at 44 priority.1
+  size ← number_at fourth
+  fifth ← mark_at 44 size.1
+  stack ← stack_at fifth
+  ended ← tail_at stack.1
+  Ok (Task (record { id = head.0; attributes = head.1; exinf = exinf.0; address = address.0; priority = priority.0; stack_size = size.0; stack = stack.0 }), ended)
+
+-- CRE_SEM(semid, {sematr, isemcnt, maxsem});
+unfoldable pub semaphore_at : Text → Result (Statement × Text) ConfigFault
+semaphore_at t = do
+  head ← head_at t
+  initial ← number_at head.2
+  second ← mark_at 44 initial.1
+  maximum ← number_at second
+  ended ← tail_at maximum.1
+  Ok (Semaphore (record { id = head.0; attributes = head.1; initial = initial.0; maximum = maximum.0 }), ended)
+
+-- CRE_FLG(flgid, {flgatr, iflgptn});
+unfoldable pub flag_at : Text → Result (Statement × Text) ConfigFault
+flag_at t = do
+  head ← head_at t
+  pattern ← number_at head.2
+  ended ← tail_at pattern.1
+  Ok (Flag (record { id = head.0; attributes = head.1; pattern = pattern.0 }), ended)
+
+-- CRE_DTQ(dtqid, {dtqatr, dtqcnt, dtq});
+unfoldable pub queue_at : Text → Result (Statement × Text) ConfigFault
+queue_at t = do
+  head ← head_at t
+  capacity ← number_at head.2
+  second ← mark_at 44 capacity.1
+  area ← area_at second
+  ended ← tail_at area
+  Ok (Queue (record { id = head.0; attributes = head.1; capacity = capacity.0 }), ended)
+
+-- DEF_INH(inhno, {inhatr, inthdr});
+unfoldable pub handler_at : Text → Result (Statement × Text) ConfigFault
+handler_at t = do
+  head ← head_at t
+  address ← operand_at head.2
+  ended ← tail_at address.1
+  Ok (Handler (record { line = head.0; attributes = head.1; address = address.0 }), ended)
+
+-- What follows a keyword on this line. A class has no class in it.
+unfoldable pub behind_keyword : Bool → ℕ → Keyword → Text → Result (Statement × Text) ConfigFault
+behind_keyword in_class line keywords.Board t = do
+  board ← board_at t
+  Ok (Board board.0 board.1, board.2)
+behind_keyword in_class line keywords.Class t = if in_class then Err (Syntax line) else class_at t
+behind_keyword in_class line keywords.Task t = task_at t
+behind_keyword in_class line keywords.Semaphore t = semaphore_at t
+behind_keyword in_class line keywords.Flag t = flag_at t
+behind_keyword in_class line keywords.Queue t = queue_at t
+behind_keyword in_class line keywords.Handler t = handler_at t
+
+-- What the first word of a statement begins, before rest. A closing brace ends a class.
+abbrev pub statement_by : Bool → Word → ℕ → Text → Result (Statement × Text) ConfigFault
+statement_by in_class (Run run) line rest = do
+  keyword ← or_fault (Syntax line) (keyword_of run)
+  behind_keyword in_class line keyword rest
+statement_by in_class (Mark b) line rest = if in_class && (b == 125) then Ok (ClassEnd, rest) else Err (Syntax line)
+statement_by in_class Unclosed line rest = Err (Syntax line)
+statement_by in_class End line rest = Err (Syntax line)
+
+-- the statement at the front, in a class or outside
+unfoldable pub statement_at : Bool → Text → Result (Statement × Text) ConfigFault
+statement_at in_class t = statement_by in_class (first t).word (first t).line (others t)

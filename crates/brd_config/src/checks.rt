@@ -1,0 +1,211 @@
+//! Statements to objects: each value within its limits, each ID new.
+
+ghost use Rattle.std.specs.Prelude.{◌≡◌, ◌==◌, ◌≤◌, IfOk};
+ghost use Rattle.std.specs.List.{list_any};
+ghost use Rattle.brd_config.specs.Faults.{Gives};
+ghost use Rattle.brd_config.specs.Meaning as meaning;
+
+use crate::attributes::{FlagAttributes, QueueAttributes, SemaphoreAttributes, TaskAttributes};
+use crate::fault::ConfigFault;
+use crate::objects::{FlagConfig, HandlerConfig, QueueConfig, SemaphoreConfig, TaskConfig};
+use crate::statement::{
+    FlagStatement, HandlerStatement, QueueStatement, SemaphoreStatement, TaskStatement,
+};
+use bitflags::Flags;
+
+/// The number, where it lies from `low` to `high`, else the fault.
+#[tactic(auto, unfolding(crate::specs::Meaning::within))]
+pub(crate) fn within(
+    number: u32,
+    low: u32,
+    high: u32,
+    fault: ConfigFault,
+) -> Result<u32, ConfigFault>
+    ensures read { Gives (λ n. n) result (meaning.within low high fault number) }
+    ensures same { IfOk result (λ n. n ≡ number) }
+    ensures most { IfOk result (λ n. n ≤ high) }
+{
+    if low <= number && number <= high {
+        return Ok(number);
+    }
+    Err(fault)
+}
+
+/// The bits, where they are among those that are allowed, else the fault.
+#[tactic(auto, unfolding(crate::specs::Meaning::only_bits))]
+fn only_bits(bits: u32, allowed: u32, fault: ConfigFault) -> Result<u32, ConfigFault>
+    ensures { Gives (λ n. n) result (meaning.only_bits allowed fault bits) }
+{
+    if bits & allowed == bits {
+        return Ok(bits);
+    }
+    Err(fault)
+}
+
+/// Whether a size is one of RAM: 64 KiB to 16 MiB, in steps of 64 KiB.
+#[tactic(auto, unfolding(crate::specs::Meaning::is_ram_size))]
+pub(crate) fn is_ram_size(ram: u32) -> bool
+    ensures { result ≡ meaning.is_ram_size ram }
+{
+    0x10000 <= ram && ram <= 0x1000000 && ram % 0x10000 == 0
+}
+
+/// Whether one of the tasks has this ID.
+fn has_task(tasks: &[TaskConfig], id: u32) -> bool
+    ensures { result ≡ list_any (λ other. other.id == id) tasks.now }
+{
+    tasks.iter().any(|other| other.id as u32 == id)
+}
+
+/// Whether one of the semaphores has this ID.
+fn has_semaphore(semaphores: &[SemaphoreConfig], id: u32) -> bool
+    ensures { result ≡ list_any (λ other. other.id == id) semaphores.now }
+{
+    semaphores.iter().any(|other| other.id as u32 == id)
+}
+
+/// Whether one of the flags has this ID.
+fn has_flag(flags: &[FlagConfig], id: u32) -> bool
+    ensures { result ≡ list_any (λ other. other.id == id) flags.now }
+{
+    flags.iter().any(|other| other.id as u32 == id)
+}
+
+/// Whether one of the queues has this ID.
+fn has_queue(queues: &[QueueConfig], id: u32) -> bool
+    ensures { result ≡ list_any (λ other. other.id == id) queues.now }
+{
+    queues.iter().any(|other| other.id as u32 == id)
+}
+
+/// Whether one of the handlers has this line.
+fn has_handler(handlers: &[HandlerConfig], line: u32) -> bool
+    ensures { result ≡ list_any (λ other. other.line == line) handlers.now }
+{
+    handlers.iter().any(|other| other.line as u32 == line)
+}
+
+/// The task of a statement that begins on this line, on this processor, next to the tasks that are defined.
+#[tactic(auto, unfolding(crate::specs::Meaning::task_of))]
+pub(crate) fn task(
+    line: usize,
+    tasks: &[TaskConfig],
+    processor: u8,
+    statement: TaskStatement,
+) -> Result<TaskConfig, ConfigFault>
+    ensures { Gives (λ t. t) result (meaning.task_of line tasks.now processor statement) }
+{
+    let id = within(statement.id, 1, 255, ConfigFault::BadId { line })?;
+    if has_task(tasks, statement.id) {
+        return Err(ConfigFault::Duplicate { line });
+    }
+    let attributes = only_bits(statement.attributes, 3, ConfigFault::BadAttribute { line })?;
+    let priority = within(statement.priority, 1, 16, ConfigFault::BadPriority { line })?;
+    if statement.stack_size == 0 {
+        return Err(ConfigFault::BadCount { line });
+    }
+    Ok(TaskConfig {
+        id: id as u16,
+        processor,
+        attributes: TaskAttributes::from_bits_retain(attributes),
+        exinf: statement.exinf,
+        address: statement.address,
+        priority: priority as u8,
+        stack_size: statement.stack_size,
+        stack: statement.stack,
+    })
+}
+
+/// The semaphore of a statement that begins on this line, next to the semaphores that are defined.
+#[tactic(auto, unfolding(crate::specs::Meaning::semaphore_of))]
+pub(crate) fn semaphore(
+    line: usize,
+    semaphores: &[SemaphoreConfig],
+    statement: SemaphoreStatement,
+) -> Result<SemaphoreConfig, ConfigFault>
+    ensures { Gives (λ s. s) result (meaning.semaphore_of line semaphores.now statement) }
+{
+    let id = within(statement.id, 1, 255, ConfigFault::BadId { line })?;
+    if has_semaphore(semaphores, statement.id) {
+        return Err(ConfigFault::Duplicate { line });
+    }
+    let attributes = only_bits(statement.attributes, 1, ConfigFault::BadAttribute { line })?;
+    let maximum = within(statement.maximum, 1, 65_535, ConfigFault::BadCount { line })?;
+    let initial = within(
+        statement.initial,
+        0,
+        statement.maximum,
+        ConfigFault::BadCount { line },
+    )?;
+    Ok(SemaphoreConfig {
+        id: id as u16,
+        attributes: SemaphoreAttributes::from_bits_retain(attributes),
+        initial: initial as u16,
+        maximum: maximum as u16,
+    })
+}
+
+/// The flag of a statement that begins on this line, next to the flags that are defined.
+#[tactic(auto, unfolding(crate::specs::Meaning::flag_of))]
+pub(crate) fn flag(
+    line: usize,
+    flags: &[FlagConfig],
+    statement: FlagStatement,
+) -> Result<FlagConfig, ConfigFault>
+    ensures { Gives (λ f. f) result (meaning.flag_of line flags.now statement) }
+{
+    let id = within(statement.id, 1, 255, ConfigFault::BadId { line })?;
+    if has_flag(flags, statement.id) {
+        return Err(ConfigFault::Duplicate { line });
+    }
+    let attributes = only_bits(statement.attributes, 7, ConfigFault::BadAttribute { line })?;
+    Ok(FlagConfig {
+        id: id as u16,
+        attributes: FlagAttributes::from_bits_retain(attributes),
+        pattern: statement.pattern,
+    })
+}
+
+/// The data queue of a statement that begins on this line, next to the queues that are defined.
+#[tactic(auto, unfolding(crate::specs::Meaning::queue_of))]
+pub(crate) fn queue(
+    line: usize,
+    queues: &[QueueConfig],
+    statement: QueueStatement,
+) -> Result<QueueConfig, ConfigFault>
+    ensures { Gives (λ q. q) result (meaning.queue_of line queues.now statement) }
+{
+    let id = within(statement.id, 1, 255, ConfigFault::BadId { line })?;
+    if has_queue(queues, statement.id) {
+        return Err(ConfigFault::Duplicate { line });
+    }
+    let attributes = only_bits(statement.attributes, 1, ConfigFault::BadAttribute { line })?;
+    let capacity = within(statement.capacity, 0, 256, ConfigFault::BadCount { line })?;
+    Ok(QueueConfig {
+        id: id as u16,
+        attributes: QueueAttributes::from_bits_retain(attributes),
+        capacity: capacity as u16,
+    })
+}
+
+/// The handler of a statement that begins on this line, on this processor, next to the handlers that are defined.
+#[tactic(auto, unfolding(crate::specs::Meaning::handler_of))]
+pub(crate) fn handler(
+    line: usize,
+    handlers: &[HandlerConfig],
+    processor: u8,
+    statement: HandlerStatement,
+) -> Result<HandlerConfig, ConfigFault>
+    ensures { Gives (λ h. h) result (meaning.handler_of line handlers.now processor statement) }
+{
+    let number = within(statement.line, 0, 31, ConfigFault::BadId { line })?;
+    if has_handler(handlers, statement.line) {
+        return Err(ConfigFault::Duplicate { line });
+    }
+    only_bits(statement.attributes, 1, ConfigFault::BadAttribute { line })?;
+    Ok(HandlerConfig {
+        line: number as u8,
+        processor,
+        address: statement.address,
+    })
+}

@@ -1,0 +1,22 @@
+//! A configuration.
+
+ghost use Rattle.brd_config.specs.Configuration.{IsConfiguration};
+
+use crate::list::List;
+use crate::objects::{FlagConfig, HandlerConfig, QueueConfig, SemaphoreConfig, TaskConfig};
+
+/// What a configuration text says. Each value is within its limits, and IDs of one kind are distinct, as `valid` says.
+#[derive(Debug, Drop)]
+pub struct Config {
+    /// How many processors the board has: 1 to 8.
+    pub processors: u8,
+    /// The size of RAM in bytes.
+    pub ram: u32,
+    /// The objects of each kind in the order of their statements.
+    pub tasks: List<TaskConfig>,
+    pub semaphores: List<SemaphoreConfig>,
+    pub flags: List<FlagConfig>,
+    pub queues: List<QueueConfig>,
+    pub handlers: List<HandlerConfig>,
+    ghost valid: { IsConfiguration (record { processors = processors; ram = ram; tasks = tasks; semaphores = semaphores; flags = flags; queues = queues; handlers = handlers }) },
+}

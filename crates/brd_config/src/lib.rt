@@ -1,0 +1,26 @@
+//! The configuration language of the board's kernel.
+#![tactic(auto)]
+
+mod attributes;
+mod checks;
+mod config;
+mod draft;
+mod fault;
+mod list;
+mod objects;
+mod parser;
+mod reading;
+mod statement;
+mod statements;
+
+pub use attributes::{FlagAttributes, QueueAttributes, SemaphoreAttributes, TaskAttributes};
+pub use config::Config;
+pub use fault::ConfigFault;
+pub use list::List;
+pub use objects::{
+    FlagConfig, HandlerConfig, Operand, QueueConfig, SemaphoreConfig, Stack, TaskConfig,
+};
+pub use parser::parse;
+
+#[cfg(test)]
+mod tests;

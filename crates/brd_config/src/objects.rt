@@ -1,0 +1,82 @@
+//! What a configuration says of each kernel object.
+
+use crate::attributes::{FlagAttributes, QueueAttributes, SemaphoreAttributes, TaskAttributes};
+use crate::list::List;
+
+/// A number, or the name of a symbol of the image, whose value it then is.
+#[derive(Debug, Drop)]
+pub enum Operand {
+    Number(u32),
+    Name(List<u8>),
+}
+
+/// Where a task's stack lies.
+#[derive(Debug, Drop)]
+pub enum Stack {
+    /// `NULL`: laid from the end of RAM downward.
+    Automatic,
+    /// From this address upward.
+    At(Operand),
+}
+
+/// A task, as `CRE_TSK` says it.
+#[derive(Debug, Drop)]
+pub struct TaskConfig {
+    /// 1 to 255.
+    pub id: u16,
+    /// The processor that it is assigned to: 1 to the board's number of them.
+    pub processor: u8,
+    pub attributes: TaskAttributes,
+    /// Its argument.
+    pub exinf: Operand,
+    /// Where it starts.
+    pub address: Operand,
+    /// Its initial priority: 1 to 16, 1 the highest.
+    pub priority: u8,
+    /// In bytes, not 0.
+    pub stack_size: u32,
+    pub stack: Stack,
+}
+
+/// A semaphore, as `CRE_SEM` says it.
+#[derive(Debug, Drop)]
+pub struct SemaphoreConfig {
+    /// 1 to 255.
+    pub id: u16,
+    pub attributes: SemaphoreAttributes,
+    /// The count at boot: up to the maximum.
+    pub initial: u16,
+    /// The greatest count: not 0.
+    pub maximum: u16,
+}
+
+/// An event flag, as `CRE_FLG` says it.
+#[derive(Debug, Drop)]
+pub struct FlagConfig {
+    /// 1 to 255.
+    pub id: u16,
+    pub attributes: FlagAttributes,
+    /// The bit pattern at boot.
+    pub pattern: u32,
+}
+
+/// A data queue, as `CRE_DTQ` says it.
+#[derive(Debug, Drop)]
+pub struct QueueConfig {
+    /// 1 to 255.
+    pub id: u16,
+    pub attributes: QueueAttributes,
+    /// How many data it holds: up to 256, 0 for none.
+    pub capacity: u16,
+}
+
+/// An interrupt handler, as `DEF_INH` says it.
+#[derive(Debug, Drop)]
+pub struct HandlerConfig {
+    /// The interrupt line: up to 31.
+    pub line: u8,
+    /// The processor that takes the line's interrupts.
+    pub processor: u8,
+    /// Where it starts.
+    pub address: Operand,
+}

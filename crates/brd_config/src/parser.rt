@@ -1,0 +1,186 @@
+//! A text to a configuration, statement by statement.
+
+ghost use Rattle.std.specs.Prelude.{◌≡◌, ◌≤◌, ◌<◌, IsTrue, IfOk, length, None, Ok};
+ghost use Rattle.brd_text.specs.Turns.{flow_of};
+ghost use Rattle.brd_config.specs.Faults.{Gives};
+ghost use Rattle.brd_config.specs.Meaning as meaning;
+ghost use Rattle.brd_config.specs.Configuration.{Configuration, IsConfiguration};
+ghost use Rattle.brd_config.specs.Grammar.{Says};
+ghost use Rattle.brd_config.specs.View.{view, drafted, state_of};
+
+use crate::checks;
+use crate::config::Config;
+use crate::draft::Draft;
+use crate::fault::ConfigFault;
+use crate::list::List;
+use crate::statement::Statement;
+use crate::statements::{board, statement};
+use brd_text::{Scanner, Token};
+use std::alloc::Global;
+
+/// What the first statement, which begins on this line, says.
+#[tactic(auto, unfolding(crate::specs::Meaning::board_of))]
+fn begun(alloc: Global, line: usize, processors: u32, ram: u32) -> Result<Draft, ConfigFault>
+    ensures read { Gives drafted result (meaning.board_of line processors ram) }
+    ensures class { IfOk result (λ d. d.class ≡ None) }
+{
+    let processors = checks::within(processors, 1, 8, ConfigFault::BadProcessor { line })?;
+    if !checks::is_ram_size(ram) {
+        return Err(ConfigFault::BadCount { line });
+    }
+    Ok(Draft {
+        processors: processors as u8,
+        ram,
+        tasks: List::new(alloc),
+        semaphores: List::new(alloc),
+        flags: List::new(alloc),
+        queues: List::new(alloc),
+        handlers: List::new(alloc),
+        class: None,
+    })
+}
+
+/// Adds what one more statement, which begins on this line, says.
+#[tactic(auto, unfolding(crate::specs::Meaning::added))]
+fn add(draft: &mut Draft, line: usize, statement: Statement) -> Result<(), ConfigFault>
+    ensures { Gives (λ _. state_of draft.new) result (meaning.added line (state_of draft.old) statement) }
+{
+    match statement {
+        Statement::Board(processors, _) => {
+            checks::within(processors, 1, 8, ConfigFault::BadProcessor { line })?;
+            return Err(ConfigFault::Duplicate { line });
+        }
+        Statement::Class(number) => {
+            let most = draft.processors as u32;
+            let processor = checks::within(number, 1, most, ConfigFault::BadProcessor { line })?;
+            draft.class = Some(processor as u8);
+        }
+        Statement::ClassEnd => draft.class = None,
+        Statement::Task(task) => {
+            let processor = draft.class.unwrap_or(1);
+            let task = checks::task(line, draft.tasks.as_slice(), processor, task)?;
+            draft.tasks.push(task)?;
+        }
+        Statement::Semaphore(semaphore) => {
+            let semaphore = checks::semaphore(line, draft.semaphores.as_slice(), semaphore)?;
+            draft.semaphores.push(semaphore)?;
+        }
+        Statement::Flag(flag) => {
+            let flag = checks::flag(line, draft.flags.as_slice(), flag)?;
+            draft.flags.push(flag)?;
+        }
+        Statement::Queue(queue) => {
+            let queue = checks::queue(line, draft.queues.as_slice(), queue)?;
+            draft.queues.push(queue)?;
+        }
+        Statement::Handler(handler) => {
+            let processor = draft.class.unwrap_or(1);
+            let handler = checks::handler(line, draft.handlers.as_slice(), processor, handler)?;
+            draft.handlers.push(handler)?;
+        }
+    }
+    Ok(())
+}
+
+/// Takes one more statement, and says whether there was one: else the text ends here.
+#[tactic(auto, unfolding(crate::specs::Meaning::statement_step, crate::specs::Meaning::one_more, crate::specs::Statements::statement_at))]
+fn turn(alloc: Global, draft: &mut Draft, words: &mut Scanner) -> Result<bool, ConfigFault>
+    ensures read { Gives (λ more. flow_of more (state_of draft.new, words.new) (drafted draft.new)) result
+        (meaning.statement_step (state_of draft.old, words.old)) }
+    ensures shorter { IfOk result (λ more. IsTrue more → length words.new.words < length words.old.words) }
+{
+    let (word, line) = words.next();
+    let in_class = draft.class.is_some();
+    if !in_class && matches!(word, Token::End) {
+        return Ok(false);
+    }
+    let statement = statement(alloc, in_class, word, line, words)?;
+    add(draft, line, statement)?;
+    Ok(true)
+}
+
+/// Takes the statements up to the end of the text.
+#[tactic(auto, unfolding(crate::specs::Meaning::statements_from))]
+fn finished(alloc: Global, mut draft: Draft, words: &mut Scanner) -> Result<Draft, ConfigFault>
+    ensures { Gives drafted result (meaning.statements_from (state_of draft, words.old)) }
+{
+    'statements: loop {
+        match turn(alloc, &mut draft, words) {
+            Ok(more) => {
+                if more {
+                    continue;
+                }
+                return Ok(draft);
+            }
+            Err(fault) => return Err(fault),
+        }
+    }
+}
+
+/// Takes the first statement, which is `BOARD`.
+#[tactic(auto, unfolding(crate::specs::Meaning::first_statement, crate::specs::Meaning::first_board))]
+fn first(alloc: Global, words: &mut Scanner) -> Result<Draft, ConfigFault>
+    ensures { Gives (λ d. (state_of d, words.new)) result (meaning.first_statement words.old) }
+{
+    let (word, line) = words.next();
+    let Token::Run(run) = word else {
+        return Err(ConfigFault::Syntax { line });
+    };
+    if run != b"BOARD".as_slice() {
+        return Err(ConfigFault::Syntax { line });
+    }
+    let (processors, ram) = board(words)?;
+    begun(alloc, line, processors, ram)
+}
+
+/// What a text says.
+#[tactic(auto, unfolding(crate::specs::Meaning::config_of))]
+fn read(alloc: Global, text: &[u8]) -> Result<Draft, ConfigFault>
+    ensures { Gives drafted result (meaning.config_of text.now) }
+{
+    let mut words = Scanner::new(text);
+    let draft = first(alloc, &mut words)?;
+    finished(alloc, draft, &mut words)
+}
+
+/// A draft whose values are within their limits is a configuration.
+fn whole(draft: Draft) -> Config
+    requires { IsConfiguration (drafted draft) }
+    ensures { view result ≡ drafted draft }
+{
+    Config {
+        processors: draft.processors,
+        ram: draft.ram,
+        tasks: draft.tasks,
+        semaphores: draft.semaphores,
+        flags: draft.flags,
+        queues: draft.queues,
+        handlers: draft.handlers,
+    }
+}
+
+/// What a text says, as a configuration.
+fn parsed(alloc: Global, text: &[u8]) -> Result<Config, ConfigFault>
+    ensures { Gives view result (meaning.config_of text.now) }
+{
+    let draft = read(alloc, text)?;
+    Ok(whole(draft))
+}
+
+/// The configuration that a text says, in the language of docs/CONFIGURATION.md.
+///
+/// # Errors
+///
+/// The fault of the first faulty statement: `Syntax` with the line on which the text fails, the others with the line of
+/// the statement's first word. Of the faults of one statement the first in this order: `Syntax`, `BadProcessor`, `BadId`,
+/// `Duplicate`, `BadAttribute`, `BadPriority`, `BadCount`. `NoMemory` where memory runs out, at whatever point.
+pub fn parse(alloc: Global, text: &[u8]) -> Result<Config, ConfigFault>
+    // What the text says, or its first fault.
+    ensures meaning { Gives view result (meaning.config_of text.now) }
+    // What spells valid statements, in their forms and with any blanks and comments, says what they say.
+    ensures grammar { (c : Configuration) → Says text.now c → Gives view result (Ok c) }
+    // Each value is within its limits, and IDs of one kind are distinct.
+    ensures valid { IfOk result (λ c. IsConfiguration (view c)) }
+{
+    parsed(alloc, text)
+}

@@ -1,0 +1,269 @@
+//! Numbers, marks, attributes and operands at the front of a text.
+
+ghost use Rattle.std.specs.Prelude.{◌≡◌, ◌<◌, length, OnOk};
+ghost use Rattle.brd_text.specs.Faults.{or_fault};
+ghost use Rattle.brd_text.specs.Turns.{flow_of};
+ghost use Rattle.brd_config.specs.Faults.{Gives};
+ghost use Rattle.brd_config.specs.Reading as reads;
+
+use crate::fault::ConfigFault;
+use crate::list::List;
+use crate::objects::{Operand, Stack};
+use brd_text::{Scanner, Token};
+use std::alloc::Global;
+
+/// The bits of an attribute's name.
+#[tactic(auto, unfolding(crate::specs::Reading::attribute_named))]
+fn attribute_named(run: &[u8]) -> Option<u32>
+    ensures { result ≡ reads.attribute_named run.now }
+{
+    if run == b"TA_HLNG".as_slice() {
+        return Some(0);
+    }
+    if run == b"TA_ASM".as_slice() {
+        return Some(1);
+    }
+    if run == b"TA_ACT".as_slice() {
+        return Some(2);
+    }
+    if run == b"TA_TFIFO".as_slice() {
+        return Some(0);
+    }
+    if run == b"TA_TPRI".as_slice() {
+        return Some(1);
+    }
+    if run == b"TA_WSGL".as_slice() {
+        return Some(0);
+    }
+    if run == b"TA_WMUL".as_slice() {
+        return Some(2);
+    }
+    if run == b"TA_CLR".as_slice() {
+        return Some(4);
+    }
+    None
+}
+
+/// The bits of an attribute: a name or a number.
+#[tactic(auto, unfolding(crate::specs::Reading::attribute_of))]
+fn attribute_of(run: &[u8]) -> Option<u32>
+    ensures { result ≡ reads.attribute_of run.now }
+{
+    match attribute_named(run) {
+        Some(bits) => Some(bits),
+        None => brd_text::number(run),
+    }
+}
+
+/// The number of a class's name.
+#[tactic(auto, unfolding(crate::specs::Reading::class_of))]
+fn class_of(run: &[u8]) -> Option<u32>
+    ensures { result ≡ reads.class_of run.now }
+{
+    if run.len() < 4 {
+        return None;
+    }
+    let (prefix, digits) = run.split_at(4);
+    if prefix != b"TCL_".as_slice() {
+        return None;
+    }
+    brd_text::decimal(digits)
+}
+
+#[tactic(auto, unfolding(crate::specs::Reading::is_null))]
+fn is_null(run: &[u8]) -> bool
+    ensures { result ≡ reads.is_null run.now }
+{
+    run == b"NULL".as_slice()
+}
+
+/// What a run stands for as an operand, with the line of the fault where it is none.
+#[tactic(auto, unfolding(crate::specs::Reading::operand_of))]
+fn operand_of(alloc: Global, run: &[u8], line: usize) -> Result<Operand, ConfigFault>
+    ensures { Gives (λ o. o) result (or_fault (ConfigFault.Syntax line) (reads.operand_of run.now)) }
+{
+    if let Some(number) = brd_text::number(run) {
+        return Ok(Operand::Number(number));
+    }
+    if !brd_text::is_name(run) {
+        return Err(ConfigFault::Syntax { line });
+    }
+    Ok(Operand::Name(List::from_slice(alloc, run)?))
+}
+
+/// Takes a number.
+#[tactic(auto, unfolding(crate::specs::Reading::number_at))]
+pub(crate) fn number(words: &mut Scanner) -> Result<u32, ConfigFault>
+    ensures read { Gives (λ n. (n, words.new)) result (reads.number_at words.old) }
+    ensures shorter { OnOk result (length words.new.words < length words.old.words) }
+{
+    let (word, line) = words.next();
+    let Token::Run(run) = word else {
+        return Err(ConfigFault::Syntax { line });
+    };
+    match brd_text::number(run) {
+        Some(number) => Ok(number),
+        None => Err(ConfigFault::Syntax { line }),
+    }
+}
+
+/// Takes this mark.
+#[tactic(auto, unfolding(crate::specs::Reading::mark_at))]
+pub(crate) fn mark(words: &mut Scanner, mark: u8) -> Result<(), ConfigFault>
+    ensures read { Gives (λ _. words.new) result (reads.mark_at mark words.old) }
+    ensures shorter { OnOk result (length words.new.words < length words.old.words) }
+{
+    let (word, line) = words.next();
+    match word {
+        Token::Mark(found) if found == mark => Ok(()),
+        _ => Err(ConfigFault::Syntax { line }),
+    }
+}
+
+/// Takes an attribute.
+#[tactic(auto, unfolding(crate::specs::Reading::attribute_at))]
+fn attribute(words: &mut Scanner) -> Result<u32, ConfigFault>
+    ensures read { Gives (λ bits. (bits, words.new)) result (reads.attribute_at words.old) }
+    ensures shorter { OnOk result (length words.new.words < length words.old.words) }
+{
+    let (word, line) = words.next();
+    let Token::Run(run) = word else {
+        return Err(ConfigFault::Syntax { line });
+    };
+    match attribute_of(run) {
+        Some(bits) => Ok(bits),
+        None => Err(ConfigFault::Syntax { line }),
+    }
+}
+
+/// Takes a bar, behind which another attribute stands, or the mark that ends attributes; says whether it is a bar.
+#[tactic(auto, unfolding(crate::specs::Reading::joint_at))]
+fn joint(words: &mut Scanner, end: u8) -> Result<bool, ConfigFault>
+    ensures read { Gives (λ more. (more, words.new)) result (reads.joint_at end words.old) }
+    ensures shorter { OnOk result (length words.new.words < length words.old.words) }
+{
+    let (word, line) = words.next();
+    match word {
+        Token::Mark(b'|') => Ok(true),
+        Token::Mark(found) if found == end => Ok(false),
+        _ => Err(ConfigFault::Syntax { line }),
+    }
+}
+
+/// Takes one more attribute, and joins its bits to these; says whether another one follows.
+#[tactic(auto, unfolding(crate::specs::Reading::attribute_step))]
+fn joined(words: &mut Scanner, end: u8, bits: u32) -> Result<(u32, bool), ConfigFault>
+    ensures read { Gives (λ x. flow_of x.1 (x.0, words.new) (x.0, words.new)) result (reads.attribute_step end (bits, words.old)) }
+    ensures shorter { OnOk result (length words.new.words < length words.old.words) }
+{
+    let attribute = attribute(words)?;
+    let more = joint(words, end)?;
+    Ok((bits | attribute, more))
+}
+
+/// Takes attributes and the mark that ends them.
+#[tactic(auto, unfolding(crate::specs::Reading::attributes_at))]
+pub(crate) fn attributes(words: &mut Scanner, end: u8) -> Result<u32, ConfigFault>
+    ensures read { Gives (λ bits. (bits, words.new)) result (reads.attributes_at end words.old) }
+    ensures shorter { OnOk result (length words.new.words < length words.old.words) }
+{
+    let mut bits = 0;
+    'attributes: loop {
+        match joined(words, end, bits) {
+            Ok((all, more)) => {
+                bits = all;
+                if more {
+                    continue;
+                }
+                return Ok(bits);
+            }
+            Err(fault) => return Err(fault),
+        }
+    }
+}
+
+/// Takes a number or a name.
+#[tactic(auto, unfolding(crate::specs::Reading::operand_at))]
+pub(crate) fn operand(alloc: Global, words: &mut Scanner) -> Result<Operand, ConfigFault>
+    ensures read { Gives (λ o. (o, words.new)) result (reads.operand_at words.old) }
+    ensures shorter { OnOk result (length words.new.words < length words.old.words) }
+{
+    let (word, line) = words.next();
+    let Token::Run(run) = word else {
+        return Err(ConfigFault::Syntax { line });
+    };
+    operand_of(alloc, run, line)
+}
+
+/// Takes `NULL`, a number or a name.
+#[tactic(auto, unfolding(crate::specs::Reading::stack_at, crate::specs::Reading::stack_of))]
+pub(crate) fn stack(alloc: Global, words: &mut Scanner) -> Result<Stack, ConfigFault>
+    ensures read { Gives (λ o. (o, words.new)) result (reads.stack_at words.old) }
+    ensures shorter { OnOk result (length words.new.words < length words.old.words) }
+{
+    let (word, line) = words.next();
+    let Token::Run(run) = word else {
+        return Err(ConfigFault::Syntax { line });
+    };
+    if is_null(run) {
+        return Ok(Stack::Automatic);
+    }
+    Ok(Stack::At(operand_of(alloc, run, line)?))
+}
+
+/// Takes `NULL` or a number.
+#[tactic(auto, unfolding(crate::specs::Reading::area_at, crate::specs::Reading::is_area))]
+pub(crate) fn area(words: &mut Scanner) -> Result<(), ConfigFault>
+    ensures read { Gives (λ _. words.new) result (reads.area_at words.old) }
+    ensures shorter { OnOk result (length words.new.words < length words.old.words) }
+{
+    let (word, line) = words.next();
+    let Token::Run(run) = word else {
+        return Err(ConfigFault::Syntax { line });
+    };
+    if is_null(run) || brd_text::number(run).is_some() {
+        return Ok(());
+    }
+    Err(ConfigFault::Syntax { line })
+}
+
+/// Takes the name of a class.
+#[tactic(auto, unfolding(crate::specs::Reading::class_number_at))]
+pub(crate) fn class_number(words: &mut Scanner) -> Result<u32, ConfigFault>
+    ensures read { Gives (λ n. (n, words.new)) result (reads.class_number_at words.old) }
+    ensures shorter { OnOk result (length words.new.words < length words.old.words) }
+{
+    let (word, line) = words.next();
+    let Token::Run(run) = word else {
+        return Err(ConfigFault::Syntax { line });
+    };
+    match class_of(run) {
+        Some(number) => Ok(number),
+        None => Err(ConfigFault::Syntax { line }),
+    }
+}
+
+/// Takes `( id , { attributes ,`: the ID and the attributes.
+#[tactic(auto, unfolding(crate::specs::Reading::head_at))]
+pub(crate) fn head(words: &mut Scanner) -> Result<(u32, u32), ConfigFault>
+    ensures read { Gives (λ x. (x.0, x.1, words.new)) result (reads.head_at words.old) }
+    ensures shorter { OnOk result (length words.new.words < length words.old.words) }
+{
+    mark(words, b'(')?;
+    let id = number(words)?;
+    mark(words, b',')?;
+    mark(words, b'{')?;
+    let attributes = attributes(words, b',')?;
+    Ok((id, attributes))
+}
+
+/// Takes `} ) ;`.
+#[tactic(auto, unfolding(crate::specs::Reading::tail_at))]
+pub(crate) fn tail(words: &mut Scanner) -> Result<(), ConfigFault>
+    ensures read { Gives (λ _. words.new) result (reads.tail_at words.old) }
+    ensures shorter { OnOk result (length words.new.words < length words.old.words) }
+{
+    mark(words, b'}')?;
+    mark(words, b')')?;
+    mark(words, b';')
+}

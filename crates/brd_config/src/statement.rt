@@ -1,0 +1,75 @@
+//! The statements of the language, with their numbers as they are written.
+
+use crate::objects::{Operand, Stack};
+
+#[derive(Debug, Drop)]
+pub(crate) enum Statement {
+    /// `BOARD(processors, ram);`
+    Board(u32, u32),
+    /// `CLASS(TCL_processor) {`
+    Class(u32),
+    /// `}`
+    ClassEnd,
+    Task(TaskStatement),
+    Semaphore(SemaphoreStatement),
+    Flag(FlagStatement),
+    Queue(QueueStatement),
+    Handler(HandlerStatement),
+}
+
+/// `CRE_TSK(id, {attributes, exinf, address, priority, stack_size, stack});`
+#[derive(Debug, Drop)]
+pub(crate) struct TaskStatement {
+    pub(crate) id: u32,
+    pub(crate) attributes: u32,
+    pub(crate) exinf: Operand,
+    pub(crate) address: Operand,
+    pub(crate) priority: u32,
+    pub(crate) stack_size: u32,
+    pub(crate) stack: Stack,
+}
+
+/// `CRE_SEM(id, {attributes, initial, maximum});`
+#[derive(Debug, Drop)]
+pub(crate) struct SemaphoreStatement {
+    pub(crate) id: u32,
+    pub(crate) attributes: u32,
+    pub(crate) initial: u32,
+    pub(crate) maximum: u32,
+}
+
+/// `CRE_FLG(id, {attributes, pattern});`
+#[derive(Debug, Drop)]
+pub(crate) struct FlagStatement {
+    pub(crate) id: u32,
+    pub(crate) attributes: u32,
+    pub(crate) pattern: u32,
+}
+
+/// `CRE_DTQ(id, {attributes, capacity, area});`, whose area has no effect.
+#[derive(Debug, Drop)]
+pub(crate) struct QueueStatement {
+    pub(crate) id: u32,
+    pub(crate) attributes: u32,
+    pub(crate) capacity: u32,
+}
+
+/// `DEF_INH(line, {attributes, address});`
+#[derive(Debug, Drop)]
+pub(crate) struct HandlerStatement {
+    pub(crate) line: u32,
+    pub(crate) attributes: u32,
+    pub(crate) address: Operand,
+}
+
+/// The word with which a statement begins.
+#[derive(Clone, Copy, Debug, PartialEq, Eq)]
+pub(crate) enum Keyword {
+    Board,
+    Class,
+    Task,
+    Semaphore,
+    Flag,
+    Queue,
+    Handler,
+}

@@ -1,0 +1,54 @@
+//! The bytes of a text by kind.
+
+ghost use Rattle.std.specs.Prelude.{◌≡◌};
+ghost use Rattle.brd_text.specs.Bytes as bytes;
+
+/// Whether a byte is an ASCII letter.
+#[tactic(auto, unfolding(crate::specs::Bytes::is_letter))]
+pub fn is_letter(byte: u8) -> bool
+    ensures { result ≡ bytes.is_letter byte }
+{
+    (65 <= byte && byte <= 90) || (97 <= byte && byte <= 122)
+}
+
+/// Whether a byte is a decimal digit.
+#[tactic(auto, unfolding(crate::specs::Bytes::is_digit))]
+pub fn is_digit(byte: u8) -> bool
+    ensures { result ≡ bytes.is_digit byte }
+{
+    48 <= byte && byte <= 57
+}
+
+/// Whether a byte belongs to a run: a letter, a digit, `_`, `.` or `$`.
+#[tactic(auto, unfolding(crate::specs::Bytes::is_word_byte))]
+pub fn is_word_byte(byte: u8) -> bool
+    ensures { result ≡ bytes.is_word_byte byte }
+{
+    is_letter(byte) || is_digit(byte) || byte == b'_' || byte == b'.' || byte == b'$'
+}
+
+/// Whether a byte is a space, a tab, a carriage return or a newline.
+#[tactic(auto, unfolding(crate::specs::Bytes::is_blank))]
+pub(crate) fn is_blank(byte: u8) -> bool
+    ensures { result ≡ bytes.is_blank byte }
+{
+    byte == b' ' || byte == b'\t' || byte == b'\r' || byte == b'\n'
+}
+
+/// Whether a byte may begin a name: a letter, `_` or `.`.
+#[tactic(auto, unfolding(crate::specs::Bytes::begins_name))]
+fn begins_name(byte: u8) -> bool
+    ensures { result ≡ bytes.begins_name byte }
+{
+    is_letter(byte) || byte == b'_' || byte == b'.'
+}
+
+/// Whether a run of word bytes is a name: it begins with a letter, `_` or `.`.
+pub fn is_name(run: &[u8]) -> bool
+    ensures { result ≡ bytes.is_name run.now }
+{
+    match run.split_first() {
+        None => false,
+        Some((first, _)) => begins_name(*first),
+    }
+}
