@@ -5,3 +5,5 @@ pub mod LoadedLemmas
 pub mod Loadable
 pub mod SectionLemmas
 pub mod NamedLemmas
+pub mod PartLemmas
+pub mod BodyLemmas

@@ -6,3 +6,4 @@ pub mod Loaded
 pub mod Symbols
 pub mod Named
 pub mod Meaning
+pub mod File

@@ -9,10 +9,13 @@ mod fields;
 mod header;
 mod loaded;
 mod named;
+mod parts;
 mod reading;
 mod sections;
 mod segments;
 mod symbols;
+mod writing;
 
 pub use fault::ElfFault;
 pub use reading::read;
+pub use writing::write;
