@@ -7,3 +7,8 @@ pub mod SectionLemmas
 pub mod NamedLemmas
 pub mod PartLemmas
 pub mod BodyLemmas
+pub mod FieldLemmas
+pub mod HeaderLemmas
+pub mod SegmentsAgain
+pub mod SymbolsAgain
+pub mod FileAgain

@@ -88,7 +88,7 @@ misses end_at segments index low high first last free is below =
       | inr le ↦ le
     ]
 
-lies_in-push : (segments : List Segment) (segment : Segment) (low high : ℕ)
+pub lies_in-push : (segments : List Segment) (segment : Segment) (low high : ℕ)
     → lies_in (segments ++ segment ∷ []) low high ≡ (lies_in segments low high || ((ltb segment.address high && ltb low (segment.address + length segment.bytes)) || false))
 lies_in-push segments segment low high =
     list_any-append (λ s. ltb s.address high && ltb low (s.address + length s.bytes)) segments (segment ∷ [])

@@ -7,6 +7,7 @@
 mod fault;
 mod fields;
 mod header;
+mod laws;
 mod loaded;
 mod named;
 mod parts;
@@ -17,5 +18,6 @@ mod symbols;
 mod writing;
 
 pub use fault::ElfFault;
+pub use laws::files_are_read_again;
 pub use reading::read;
 pub use writing::write;
