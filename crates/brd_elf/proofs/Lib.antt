@@ -12,3 +12,4 @@ pub mod HeaderLemmas
 pub mod SegmentsAgain
 pub mod SymbolsAgain
 pub mod FileAgain
+pub mod WriteLemmas

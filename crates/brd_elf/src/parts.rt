@@ -68,7 +68,8 @@ pub fn put_header(
     sections_at: usize,
     count: usize,
 ) -> Result<(), NoMemory>
-    ensures { OnOk result (out.new.items ≡ out.old.items ++ header_bytes entry programs_at sections_at count) }
+    ensures put { OnOk result (out.new.items ≡ out.old.items ++ header_bytes entry programs_at sections_at count) }
+    ensures word { entry < 2 ^ 32 }
 {
     out.extend_from_slice(&IDENT)?;
     put_halves(out, &[2, 8])?;

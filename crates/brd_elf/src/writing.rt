@@ -1,9 +1,10 @@
 //! The writer.
 
-ghost use Rattle.std.specs.Prelude.{◌≡◌, ℕ, ◌+◌, ◌^◌, ◌<◌, length, IfOk};
+ghost use Rattle.std.specs.Prelude.{◌≡◌, ℕ, ◌+◌, ◌^◌, ◌<◌, length, IfOk, Ok};
 ghost use Rattle.std.specs.List.{AllByRecursion};
 ghost use Rattle.brd_mem.specs.Image.{IsPlain};
-ghost use Rattle.brd_elf.specs.File.{body_of, symbols_at, strings_at, names_at, sections_at, symbol_table, strings, file};
+ghost use Rattle.brd_elf.specs.File.{body_of, symbols_at, strings_at, names_at, sections_at, symbol_table, strings, file, Fits, HasWords};
+ghost use Rattle.brd_elf.specs.Meaning.{meaning};
 
 use crate::parts::{HEADER_LEN, SECTION_NAMES, lay_out_segments, lay_out_symbols, padding, put_header, put_section_headers, put_zeros};
 use brd_mem::{Image, NoMemory};
@@ -20,11 +21,21 @@ struct Body {
     names_at: usize,
 }
 
-/// The file of a plain image.
-#[tactic(auto, unfolding(crate::specs::File::file))]
+/// The file of a plain image. If it has at most 65,534 segments and its file is shorter than 2^32 bytes, the file means the image again.
 pub fn write(alloc: Global, image: &Image) -> Result<Vec<u8>, NoMemory>
     requires { IsPlain image.now }
-    ensures { IfOk result (λ bytes. bytes.items ≡ file image.now) }
+    ensures is { IfOk result (λ bytes. bytes.items ≡ file image.now) }
+    ensures again { IfOk result (λ bytes. Fits image.now → meaning bytes.items ≡ Ok image.now) }
+{
+    file_of(alloc, image)
+}
+
+/// The file, of an image whose numbers are words.
+#[tactic(auto, unfolding(crate::specs::File::file))]
+fn file_of(alloc: Global, image: &Image) -> Result<Vec<u8>, NoMemory>
+    requires { IsPlain image.now }
+    ensures is { IfOk result (λ bytes. bytes.items ≡ file image.now) }
+    ensures words { IfOk result (λ _. HasWords image.now) }
 {
     let segments = image.segments.as_slice();
     let body = body_of(alloc, image)?;
