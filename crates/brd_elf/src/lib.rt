@@ -21,3 +21,6 @@ pub use fault::ElfFault;
 pub use laws::files_are_read_again;
 pub use reading::read;
 pub use writing::write;
+
+#[cfg(test)]
+mod tests;
