@@ -1,5 +1,5 @@
 -- How the parts of a file lie behind one another.
-use Rattle.std.proofs.Common.{◌≡◌, ℕ, ◌+◌, ◌*◌, ◌^◌, ◌<◌, ◌≤◌, List, [], ◌∷◌, ◌++◌, length, replicate, refl, sym, ap, ◌∙◌, append_assoc, length-append, inl, inr, arith}
+use Rattle.std.proofs.Common.{◌≡◌, ℕ, ◌+◌, ◌*◌, ◌^◌, ◌≤◌, List, [], ◌∷◌, ◌++◌, length, replicate, refl, sym, ap, ◌∙◌, append_assoc, length-append, inl, inr, arith}
 use Rattle.std.proofs.lemmas.Bool.{cases_lt}
 use Rattle.std.proofs.lemmas.List.{nil_from_length}
 use Rattle.brd_mem.specs.Memory.{base}
@@ -52,31 +52,39 @@ laid_out image programs bytes table texts with_bytes with_table with_strings bod
   where
     tail : List ℕ
     tail = padded (strings image.symbols ++ section_names)
+
     text_length : length (strings image.symbols ++ section_names) ≡ length texts + length section_names
     text_length = length-append (strings image.symbols) section_names ∙ ap (λ (list : List ℕ). length list + length section_names) (sym texts_are)
+
     by_tail : body ≡ with_table ++ tail
     by_tail =
         body_is ∙ ap (λ (list : List ℕ). (list ++ section_names) ++ replicate (padding (length texts + length section_names)) 0) (with_strings_is ∙ ap (λ (list : List ℕ). with_table ++ list) texts_are)
         ∙ ap (λ (list : List ℕ). list ++ replicate (padding (length texts + length section_names)) 0) (append_assoc with_table (strings image.symbols) section_names)
         ∙ append_assoc with_table (strings image.symbols ++ section_names) (replicate (padding (length texts + length section_names)) 0)
         ∙ ap (λ (n : ℕ). with_table ++ ((strings image.symbols ++ section_names) ++ replicate (padding n) 0)) (sym text_length)
+
     front : with_table ≡ program_headers_from (data_at image) image.segments ++ data_of image.segments ++ symbol_table image.symbols
     front = with_table_is ∙ rw (with_bytes_is, programs_are, bytes_are, table_is) refl
+
     whole : body ≡ body_of image
     whole = by_tail ∙ ap (λ (list : List ℕ). list ++ tail) front
+
     at_symbols : 52 + length with_bytes ≡ symbols_at image
     at_symbols =
         let e : length with_bytes ≡ length (program_headers_from (data_at image) image.segments) + length (data_of image.segments) = ap (λ (list : List ℕ). length list) (with_bytes_is ∙ rw (programs_are, bytes_are) refl) ∙ length-append (program_headers_from (data_at image) image.segments) (data_of image.segments) in
         let n = length-program_headers_from (data_at image) image.segments in
         omega (arith, e, n)
+
     at_strings : 52 + length with_table ≡ strings_at image
     at_strings =
         let e : length with_table ≡ length with_bytes + length (symbol_table image.symbols) = ap (λ (list : List ℕ). length list) (with_table_is ∙ ap (λ (list : List ℕ). with_bytes ++ list) table_is) ∙ length-append with_bytes (symbol_table image.symbols) in
         let before = at_symbols in
         rw e (add_assoc_three (length with_bytes) (length (symbol_table image.symbols)) (symbols_at image) before)
+
     at_names : 52 + length with_strings ≡ names_at image
     at_names =
         let e : length with_strings ≡ length with_table + length (strings image.symbols) = ap (λ (list : List ℕ). length list) (with_strings_is ∙ ap (λ (list : List ℕ). with_table ++ list) texts_are) ∙ length-append with_table (strings image.symbols) in
         rw e (add_assoc_three (length with_table) (length (strings image.symbols)) (strings_at image) at_strings)
+
     at_sections : 52 + length (with_table ++ tail) ≡ sections_at image
     at_sections = rw length-append (add_assoc_three (length with_table) (length tail) (strings_at image) at_strings)

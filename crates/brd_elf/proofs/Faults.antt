@@ -8,4 +8,3 @@ use Rattle.brd_elf.specs.Fault.{Fails}
 pub passed_on : {A B : Type 0} (f : ElfFault) (step : Result A ElfFault) (whole : Result B ElfFault) → Fails f step → (step ≡ Err f → whole ≡ Err f) → Fails f whole
 passed_on fault.NoMemory step whole fails follows = tt
 passed_on f step whole fails follows = follows fails
-

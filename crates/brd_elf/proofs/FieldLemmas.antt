@@ -1,9 +1,8 @@
 -- What was written into a field is read from it again.
-use Rattle.std.proofs.Common.{◌≡◌, ℕ, ◌+◌, ◌%◌, ◌^◌, ◌<◌, ◌≤◌, List, [], ◌∷◌, ◌++◌, length, drop, refl, sym, ap, ◌∙◌, arith}
-use Rattle.byteorder.specs.Endian.{big_number, big_bytes}
+use Rattle.std.proofs.Common.{◌≡◌, ℕ, ◌%◌, ◌^◌, ◌<◌, List, [], ◌∷◌, ◌++◌, length, drop, ap, ◌∙◌, arith}
+use Rattle.byteorder.specs.Endian.{big_number}
 use Rattle.byteorder.specs.Numbers.{big_number-reads_back}
 use Rattle.brd_mem.specs.declared.image.Segment.{Segment}
-use Rattle.brd_elf.specs.declared.header.Header.{Header}
 use Rattle.brd_elf.specs.declared.segments.ProgramHeader.{ProgramHeader}
 use Rattle.brd_elf.specs.declared.sections.Section.{Section}
 use Rattle.brd_elf.specs.declared.symbols.Entry.{Entry}
@@ -47,6 +46,7 @@ program_again bytes offset segment rest e offset_fits address_fits length_fits =
   where
     made : ℕ → ℕ → ℕ → ℕ → ℕ → ProgramHeader
     made k o a f m = record { kind = k; offset = o; address = a; file_size = f; memory_size = m }
+
     same : (k o a f m k' o' a' f' m' : ℕ) → k ≡ k' → o ≡ o' → a ≡ a' → f ≡ f' → m ≡ m' → made k o a f m ≡ made k' o' a' f' m'
     same k o a f m k' o' a' f' m' p q r s t = cc
 
@@ -65,6 +65,7 @@ section_again bytes name kind offset size link info align entry_size rest e kind
   where
     made : ℕ → ℕ → ℕ → ℕ → ℕ → Section
     made k o s l e = record { kind = k; offset = o; size = s; link = l; entry_size = e }
+
     same : (k o s l e k' o' s' l' e' : ℕ) → k ≡ k' → o ≡ o' → s ≡ s' → l ≡ l' → e ≡ e' → made k o s l e ≡ made k' o' s' l' e'
     same k o s l e k' o' s' l' e' p q r t u = cc
 
@@ -79,5 +80,6 @@ entry_again bytes name value rest e name_fits value_fits =
   where
     made : ℕ → ℕ → ℕ → Entry
     made n v s = record { name = n; value = v; section = s }
+
     same : (n v s n' v' s' : ℕ) → n ≡ n' → v ≡ v' → s ≡ s' → made n v s ≡ made n' v' s'
     same n v s n' v' s' p q r = cc

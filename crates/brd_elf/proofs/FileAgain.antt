@@ -1,8 +1,8 @@
 -- A file that was written is read again.
-use Rattle.std.proofs.Common.{◌≡◌, ℕ, zero, suc, ◌+◌, ◌*◌, ◌/◌, ◌%◌, ◌^◌, ◌<◌, ◌≤◌, Bool, true, false, not, eqb, leb, List, [], ◌∷◌, ◌++◌, length, take, drop, replicate, Option, None, Some, Result, Ok, Err, refl, sym, ap, ◌∙◌, append_assoc, length-append, arith}
-use Rattle.std.specs.Prelude.{◌&&◌, ◌||◌, flat_map}
+use Rattle.std.proofs.Common.{◌≡◌, ℕ, suc, ◌+◌, ◌*◌, ◌/◌, ◌%◌, ◌^◌, ◌<◌, ◌≤◌, true, false, eqb, List, [], ◌∷◌, ◌++◌, length, take, drop, replicate, Some, Result, Ok, refl, sym, ap, ◌∙◌, append_assoc, length-append, arith}
+use Rattle.std.specs.Prelude.{flat_map}
 use Rattle.std.specs.List.{AllByRecursion}
-use Rattle.std.proofs.lemmas.Bool.{le-leb, lt-leb, ne_eqb, eq-eqb, and_from, or_right}
+use Rattle.std.proofs.lemmas.Bool.{le-leb, ne_eqb, eq-eqb, and_from, or_right}
 use Rattle.std.proofs.lemmas.List.{append-nil, take_at, drop_at, drop-drop}
 use Rattle.brd_mem.specs.Memory.{base}
 use Rattle.brd_mem.specs.Image.{IsPlain, AreAscending, AreNamed}
@@ -14,11 +14,11 @@ use Rattle.brd_elf.specs.declared.header.Header.{Header}
 use Rattle.brd_elf.specs.declared.header.Table.{Table}
 use Rattle.brd_elf.specs.declared.sections.Section.{Section}
 use Rattle.brd_elf.specs.declared.symbols.Entry.{Entry}
-use Rattle.brd_elf.specs.Fields.{half_at, word_at, half, word, has_bytes}
+use Rattle.brd_elf.specs.Fields.{half_at, word_at, word, has_bytes}
 use Rattle.brd_elf.specs.Fault.{◌>>=◌}
 use Rattle.brd_elf.specs.Header.{header_of}
 use Rattle.brd_elf.specs.Segments.{loaded_from, segments_of}
-use Rattle.brd_elf.specs.Symbols.{section_at, is_whole, section_bytes, symbol_table_from, is_symbol_table, is_string_table, linked, strings_of, entry_at, kept, kept_from, symbols_by, symbols_of}
+use Rattle.brd_elf.specs.Symbols.{section_at, section_bytes, symbol_table_from, is_symbol_table, is_string_table, linked, strings_of, entry_at, kept, kept_from, symbols_by, symbols_of}
 use Rattle.brd_elf.specs.Meaning.{meaning}
 use Rattle.brd_elf.specs.File.{padding, padded, words, program_headers_from, data_of, symbol_entries_from, symbol_table, strings, section_names, data_at, symbols_at, strings_at, names_at, sections_at, section_headers, programs_at, header_bytes, file, Fits, HasWords}
 use Rattle.brd_elf.proofs.BodyLemmas.{length-program_headers_from}
@@ -80,14 +80,19 @@ lies image = record { parts = split; segments_len = first; table_len = second; t
   where
     split : Parts (file image) (header_part image) (programs_part image) (data_of image.segments) (symbol_table image.symbols) (text_part image) (sections_part image)
     split = parts (header_part image) (programs_part image) (data_of image.segments) (symbol_table image.symbols) (text_part image) (sections_part image)
+
     first : length (header_part image ++ programs_part image) ≡ data_at image
     first = longer (header_part image) (programs_part image) 52 (length-header_bytes image.entry (programs_at image.segments) (sections_at image) (length image.segments)) ∙ ap (λ (n : ℕ). 52 + n) (length-program_headers_from (data_at image) image.segments)
+
     second : length ((header_part image ++ programs_part image) ++ data_of image.segments) ≡ symbols_at image
     second = longer (header_part image ++ programs_part image) (data_of image.segments) (data_at image) first
+
     third : length (((header_part image ++ programs_part image) ++ data_of image.segments) ++ symbol_table image.symbols) ≡ strings_at image
     third = longer ((header_part image ++ programs_part image) ++ data_of image.segments) (symbol_table image.symbols) (symbols_at image) second
+
     fourth : length ((((header_part image ++ programs_part image) ++ data_of image.segments) ++ symbol_table image.symbols) ++ text_part image) ≡ sections_at image
     fourth = longer (((header_part image ++ programs_part image) ++ data_of image.segments) ++ symbol_table image.symbols) (text_part image) (strings_at image) third
+
     fifth : length (file image) ≡ sections_at image + 160
     fifth =
         ap (λ (list : List ℕ). length list) split.at_sections
@@ -173,63 +178,84 @@ symbols_are image bytes lie short values are_named =
     ∙ ap (λ (n : ℕ). kept_from bytes (strings image.symbols) (symbols_at image) n []) count
     ∙ kept_more bytes (strings image.symbols) (symbols_at image) (length image.symbols) [] (eq-eqb (entry_at (drop (symbols_at image) bytes)).section 0 zero_section)
     ∙ symbols_again bytes (strings image.symbols) (symbols_at image + 16) 1 image.symbols [] (front ++ replicate 16 0) (text_part image ++ sections_part image) (0 ∷ []) [] entries_lie
-      (longer front (replicate 16 0) (symbols_at image) lie.table_len) (ap (λ (list : List ℕ). 0 ∷ list) (sym (append-nil (flat_map with_zero image.symbols)))) refl (omega (arith, text_long, lie.whole)) values are_named (none_named image.symbols)
+    (longer front (replicate 16 0) (symbols_at image) lie.table_len) (ap (λ (list : List ℕ). 0 ∷ list) (sym (append-nil (flat_map with_zero image.symbols)))) refl (omega (arith, text_long, lie.whole)) values are_named (none_named image.symbols)
   where
     table : Table
     table = record { offset = sections_at image; entry_size = 40; count = 4 }
+
     front : List ℕ
     front = (header_part image ++ programs_part image) ++ data_of image.segments
+
     entries : List ℕ
     entries = symbol_entries_from 1 image.symbols
+
     gap : List ℕ
     gap = replicate (padding (length (strings image.symbols ++ section_names))) 0
+
     text_long : length (text_part image) ≡ length (strings image.symbols) + length section_names + length gap
     text_long = length-append (strings image.symbols ++ section_names) gap ∙ ap (λ (n : ℕ). n + length gap) (length-append (strings image.symbols) section_names)
+
     headers : drop (sections_at image) bytes ≡ sections_part image
     headers = ap (λ (list : List ℕ). drop (sections_at image) list) lie.parts.at_sections ∙ drop_at ((front ++ symbol_table image.symbols) ++ text_part image) (sections_part image) (sections_at image) lie.sections_len
+
     headers_from : (n : ℕ) → drop (sections_at image + n) bytes ≡ drop n (sections_part image)
     headers_from n = sym (drop-drop n (sections_at image) bytes) ∙ ap (λ (list : List ℕ). drop n list) headers
+
     first_kind : word_at (drop (sections_at image) bytes) 4 ≡ 0
     first_kind = ap (λ (list : List ℕ). word_at list 4) headers ∙ null_header (symbols_at image) (length (symbol_table image.symbols)) (strings_at image) (length (strings image.symbols)) (names_at image)
+
     second_section : section_at (drop (sections_at image + 40) bytes) ≡ record { kind = 2; offset = symbols_at image; size = length (symbol_table image.symbols); link = 2; entry_size = 16 }
     second_section =
         section_again (drop (sections_at image + 40) bytes) 1 2 (symbols_at image) (length (symbol_table image.symbols)) 2 1 4 16 _ (headers_from 40 ∙ second_header (symbols_at image) (length (symbol_table image.symbols)) (strings_at image) (length (strings image.symbols)) (names_at image))
         (omega arith) (omega (arith, lie.whole)) (omega (arith, lie.whole)) (omega arith) (omega arith)
+
     third_section : section_at (drop (sections_at image + 80) bytes) ≡ record { kind = 3; offset = strings_at image; size = length (strings image.symbols); link = 0; entry_size = 0 }
     third_section =
         section_again (drop (sections_at image + 80) bytes) 9 3 (strings_at image) (length (strings image.symbols)) 0 0 1 0 _ (headers_from 80 ∙ third_header (symbols_at image) (length (symbol_table image.symbols)) (strings_at image) (length (strings image.symbols)) (names_at image))
         (omega arith) (omega (arith, lie.whole)) (omega (arith, text_long, lie.whole)) (omega arith) (omega arith)
+
     table_long : length (symbol_table image.symbols) ≡ 16 + 16 * length image.symbols
     table_long = omega (arith, length-symbol_entries_from 1 image.symbols)
+
     count : length (symbol_table image.symbols) / 16 ≡ suc (length image.symbols)
     count = omega (arith, table_long)
+
     rest : length (symbol_table image.symbols) % 16 ≡ 0
     rest = omega (arith, table_long)
+
     is_table : is_symbol_table bytes table (record { kind = 2; offset = symbols_at image; size = length (symbol_table image.symbols); link = 2; entry_size = 16 }) ≡ true
     is_table =
         and_from _ true (and_from (eqb (length (symbol_table image.symbols) % 16) 0) _ (eq-eqb (length (symbol_table image.symbols) % 16) 0 rest)
         (or_right (eqb (length (symbol_table image.symbols)) 0) _ (le-leb (symbols_at image + length (symbol_table image.symbols)) (length bytes) (omega (arith, lie.whole))))) refl
+
     is_strings : is_string_table bytes (record { kind = 3; offset = strings_at image; size = length (strings image.symbols); link = 0; entry_size = 0 }) ≡ true
     is_strings = or_right (eqb (length (strings image.symbols)) 0) _ (le-leb (strings_at image + length (strings image.symbols)) (length bytes) (omega (arith, text_long, lie.whole)))
+
     links : linked bytes table (section_at (drop (sections_at image + 40) bytes)) ≡ record { kind = 3; offset = strings_at image; size = length (strings image.symbols); link = 0; entry_size = 0 }
     links = ap (λ (s : Section). linked bytes table s) second_section ∙ third_section
+
     text_here : drop (strings_at image) bytes ≡ strings image.symbols ++ (section_names ++ (gap ++ sections_part image))
     text_here =
         ap (λ (list : List ℕ). drop (strings_at image) list) lie.parts.at_text ∙ drop_at (front ++ symbol_table image.symbols) (text_part image ++ sections_part image) (strings_at image) lie.text_len
         ∙ append_assoc (strings image.symbols ++ section_names) gap (sections_part image)
         ∙ append_assoc (strings image.symbols) section_names (gap ++ sections_part image)
+
     strings_are : section_bytes bytes (linked bytes table (section_at (drop (sections_at image + 40) bytes))) ≡ strings image.symbols
     strings_are =
         ap (λ (s : Section). section_bytes bytes s) links ∙ ap (λ (list : List ℕ). take (length (strings image.symbols)) list) text_here
         ∙ take_at (strings image.symbols) (section_names ++ (gap ++ sections_part image)) (length (strings image.symbols)) refl
+
     ok : List ℕ → Result (List ℕ) ElfFault
     ok list = Ok list
+
     strings_found : strings_of bytes table (sections_at image + 40) ≡ Ok (strings image.symbols)
     strings_found =
         by_strings bytes table (sections_at image + 40) (ap (λ (s : Section). is_symbol_table bytes table s) second_section ∙ is_table) (ap (λ (s : Section). is_string_table bytes s) links ∙ is_strings)
         ∙ ap (λ (list : List ℕ). ok list) strings_are
+
     entries_lie : bytes ≡ (front ++ replicate 16 0) ++ (entries ++ (text_part image ++ sections_part image))
     entries_lie = lie.parts.at_table ∙ ap (λ (list : List ℕ). front ++ list) (append_assoc (replicate 16 0) entries (text_part image ++ sections_part image)) ∙ sym (append_assoc front (replicate 16 0) (entries ++ (text_part image ++ sections_part image)))
+
     zero_section : (entry_at (drop (symbols_at image) bytes)).section ≡ 0
     zero_section =
         ap (λ (list : List ℕ). half_at list 14) (ap (λ (list : List ℕ). drop (symbols_at image) list) (entries_lie ∙ append_assoc front (replicate 16 0) (entries ++ (text_part image ++ sections_part image))) ∙ drop_at front (replicate 16 0 ++ (entries ++ (text_part image ++ sections_part image))) (symbols_at image) lie.table_len)
@@ -251,7 +277,7 @@ read_again image plain words fits =
     by_three (file image) (own_header image.entry (programs_at image.segments) (sections_at image) (length image.segments)) image.segments image.symbols
     (header_again (file image) image.entry (programs_at image.segments) (sections_at image) (length image.segments) _ lie.parts.at_programs (omega (arith, lie.whole)) words.entry (programs_fit image.segments) (omega (arith, lie.whole, fits.short)) fits.segments)
     (segments_are (file image) (data_at image) image.segments (header_part image) _ (header_part image ++ programs_part image) _ lie.parts.at_programs
-      (length-header_bytes image.entry (programs_at image.segments) (sections_at image) (length image.segments)) lie.parts.at_segments lie.segments_len fits.short (omega (arith, lie.whole)) plain.segments)
+    (length-header_bytes image.entry (programs_at image.segments) (sections_at image) (length image.segments)) lie.parts.at_segments lie.segments_len fits.short (omega (arith, lie.whole)) plain.segments)
     (symbols_are image (file image) lie fits.short words.values plain.symbols)
   where
     lie : Lies image (file image)

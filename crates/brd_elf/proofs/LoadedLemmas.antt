@@ -1,7 +1,6 @@
 -- The index of segments: what the last one below an address says, and one segment more.
-use Rattle.std.proofs.Common.{◌≡◌, ◌≢◌, ℕ, ◌+◌, ◌<◌, ◌≤◌, Bool, true, false, cond, eqb, ltb, List, [], ◌∷◌, ◌++◌, length, Option, Some, refl, sym, ap, ◌∙◌, subst, inl, inr, ◌⊎◌, arith}
-use Rattle.std.specs.Prelude.{nat_lt, IsSome, ◌||◌, ◌&&◌}
-use Rattle.std.specs.List.{list_any}
+use Rattle.std.proofs.Common.{◌≡◌, ℕ, ◌+◌, ◌<◌, ◌≤◌, Bool, true, false, cond, eqb, ltb, List, [], ◌∷◌, ◌++◌, length, Option, Some, refl, sym, ap, ◌∙◌, subst, inl, inr, ◌⊎◌, arith}
+use Rattle.std.specs.Prelude.{IsSome, ◌||◌, ◌&&◌}
 use Rattle.std.proofs.lemmas.List.Folds.{list_any-append}
 use Rattle.std.proofs.lemmas.Bool.{cases_lt, cases_eq, cases_Bool, lt-ltb, le-ltb, ltb-true, ne_eqb, or_cases, or_left, or_right, and_parts, and_from, true≢false}
 use Rattle.std.specs.Ordering.{nat_cmp, is_eq}
@@ -55,6 +54,7 @@ last_decides end_at segments index first end low high here below greatest =
               let ends : Some other_end ≡ Some end = sym is ∙ ap end_at eq ∙ here in
               omega (arith, same_end other_end end ends)
         ]
+
     not_there : end ≤ low → lies_in segments low high ≡ false
     not_there le =
         elim (cases_Bool (lies_in segments low high)) [
@@ -131,14 +131,17 @@ index_more end_at new_end_at segments segment end index is_end filled free at ot
   where
     added : Added end_at new_end_at segment.address end
     added = record { at = at; others = others }
+
     split : (first last : ℕ) → new_end_at first ≡ Some last → ((first ≡ segment.address) × (last ≡ end)) ⊎ (end_at first ≡ Some last)
     split = splits end_at new_end_at segment.address end added
+
     behind : (first last : ℕ) → end_at first ≡ Some last → segment.address < first → end ≤ first
     behind first last is above =
         elim (cases_lt first end) [
           | inl lt ↦ absurd (omega (arith, misses end_at segments index segment.address end first last free is lt, index.filled first last is))
           | inr le ↦ le
         ]
+
     kept : (first last : ℕ) → end_at first ≡ Some last → new_end_at first ≡ Some last
     kept first last is =
         elim (cases_eq first segment.address) [

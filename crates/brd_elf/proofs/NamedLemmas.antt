@@ -1,17 +1,17 @@
 -- The register of symbols, with one symbol more.
-use Rattle.std.proofs.Common.{◌≡◌, ℕ, zero, suc, ◌<◌, Bool, true, false, cond, List, [], ◌∷◌, ◌++◌, length, get_or, set, drop, Option, Some, None, refl, sym, ap, ◌∙◌, subst, inl, inr, arith, Bor}
+use Rattle.std.proofs.Common.{◌≡◌, ℕ, ◌<◌, Bool, true, false, cond, List, [], ◌∷◌, ◌++◌, length, set, drop, Option, Some, None, refl, sym, ◌∙◌, inl, inr, Bor}
 use Rattle.std.specs.Prelude.{◌||◌}
 use Rattle.std.specs.Str.{bytes_eq}
 use Rattle.std.specs.Ordering.{nat_cmp, is_eq}
 use Rattle.std.specs.Cmp.Lexicographic.{slice_cmp}
-use Rattle.std.proofs.lemmas.Bool.{cases_eq, cases_Bool, or_left, or_right, true≢false}
-use Rattle.std.proofs.lemmas.List.{length-set, get_or-set_same, get_or-set_other}
+use Rattle.std.proofs.lemmas.Bool.{cases_eq, or_left, or_right}
+use Rattle.std.proofs.lemmas.List.{length-set, get_or-set_other}
 use Rattle.std.proofs.lemmas.List.Folds.{list_any-append}
 use Rattle.std.proofs.lemmas.Slice.Eq.{bytes_eq-Decides}
 use Rattle.std.proofs.lemmas.Map.Text.{is_eq-slice_cmp}
 use Rattle.brd_mem.specs.declared.image.Symbol.{Symbol}
-use Rattle.brd_elf.specs.Symbols.{string_of, is_named, with_symbol}
-use Rattle.brd_elf.specs.Named.{Known, is_known, IsRegister}
+use Rattle.brd_elf.specs.Symbols.{string_of, is_named}
+use Rattle.brd_elf.specs.Named.{is_known, IsRegister}
 
 pub bytes_eq-refl : (bytes : List ℕ) → bytes_eq bytes bytes ≡ true
 bytes_eq-refl bytes = (bytes_eq-Decides bytes bytes).1 refl
@@ -37,8 +37,8 @@ pub register_more : (has new_has : Bor (List ℕ) → Bool) (tried : List Bool) 
     → IsRegister new_has (set tried start true) (record { strings = strings; symbols = symbols ++ record { name = name.now; value = value } ∷ [] })
 register_more has new_has tried strings symbols start name value register within found updates = record {
   names = λ other.
-    let e : new_has other ≡ cond (bytes_eq name.now other.now) true (is_named symbols other.now) = updates other ∙ rw (is_eq-slice_cmp name.now other.now, register.names other) refl in
-    e ∙ either (bytes_eq name.now other.now) (is_named symbols other.now) ∙ sym (is_named-push symbols symbol other.now);
+      let e : new_has other ≡ cond (bytes_eq name.now other.now) true (is_named symbols other.now) = updates other ∙ rw (is_eq-slice_cmp name.now other.now, register.names other) refl in
+      e ∙ either (bytes_eq name.now other.now) (is_named symbols other.now) ∙ sym (is_named-push symbols symbol other.now);
   places = length-set tried start true ∙ register.places;
   looked_up = λ place true_there. elim (cases_eq place start) [
     | inl same ↦ rw (same, found) (is_known-own symbols name.now value)
@@ -48,6 +48,7 @@ register_more has new_has tried strings symbols start name value register within
   where
     symbol : Symbol
     symbol = record { name = name.now; value = value }
+
     either : (a b : Bool) → cond a true b ≡ (b || (a || false))
     either true true = refl
     either true false = refl

@@ -1,6 +1,5 @@
 -- The parts of a file, one segment or symbol more.
-use Rattle.std.proofs.Common.{◌≡◌, ℕ, ◌+◌, ◌^◌, ◌<◌, ◌≤◌, List, [], ◌∷◌, ◌++◌, length, refl, sym, ap, ◌∙◌, append_assoc, length-append, arith}
-use Rattle.std.specs.Prelude.{flat_map}
+use Rattle.std.proofs.Common.{◌≡◌, ℕ, ◌+◌, ◌^◌, ◌<◌, List, [], ◌∷◌, ◌++◌, length, ap, ◌∙◌, append_assoc, length-append, arith}
 use Rattle.std.specs.List.{AllByRecursion}
 use Rattle.brd_mem.specs.declared.image.Segment.{Segment}
 use Rattle.brd_mem.specs.declared.image.Symbol.{Symbol}
@@ -8,7 +7,7 @@ use Rattle.brd_elf.specs.File.{padded, program_header, program_headers_from, sym
 
 pub programs_step : (programs bytes : List ℕ) (start : ℕ) (segment : Segment) (segments : List Segment)
     → (programs ++ program_header (start + length bytes) segment) ++ program_headers_from (start + length (bytes ++ padded segment.bytes)) segments
-        ≡ programs ++ program_headers_from (start + length bytes) (segment ∷ segments)
+    ≡ programs ++ program_headers_from (start + length bytes) (segment ∷ segments)
 unfolding program_headers_from
 programs_step programs bytes start segment segments =
     let place : start + length (bytes ++ padded segment.bytes) ≡ start + length bytes + length (padded segment.bytes) = omega (arith, length-append bytes (padded segment.bytes)) in
@@ -17,7 +16,7 @@ programs_step programs bytes start segment segments =
 
 pub entries_step : (table strings : List ℕ) (symbol : Symbol) (symbols : List Symbol)
     → (table ++ symbol_entry (length strings) symbol.value) ++ symbol_entries_from (length ((strings ++ symbol.name) ++ 0 ∷ [])) symbols
-        ≡ table ++ symbol_entries_from (length strings) (symbol ∷ symbols)
+    ≡ table ++ symbol_entries_from (length strings) (symbol ∷ symbols)
 unfolding symbol_entries_from
 entries_step table strings symbol symbols =
     let place : length ((strings ++ symbol.name) ++ 0 ∷ []) ≡ length strings + length symbol.name + 1 = omega (arith, length-append (strings ++ symbol.name) (0 ∷ []), length-append strings symbol.name) in

@@ -1,5 +1,5 @@
 -- Section headers: the first symbol table of those that are left, and where a symbol table's symbols lie.
-use Rattle.std.proofs.Common.{◌≡◌, ℕ, zero, suc, ◌+◌, ◌-◌, ◌*◌, ◌/◌, ◌%◌, ◌<◌, ◌≤◌, Bool, true, false, eqb, leb, cond, not, ◌&&◌, List, length, drop, Option, Some, None, refl, sym, ◌∙◌, subst, inl, inr, arith}
+use Rattle.std.proofs.Common.{◌≡◌, ℕ, suc, ◌+◌, ◌-◌, ◌*◌, ◌/◌, ◌%◌, ◌<◌, ◌≤◌, true, false, eqb, leb, cond, not, ◌&&◌, List, length, drop, Option, Some, None, refl, sym, ◌∙◌, inl, inr, arith}
 use Rattle.std.proofs.lemmas.Bool.{and_parts, or_cases, eqb-true, leb-true, eq-eqb, ne_eqb}
 use Rattle.brd_elf.specs.declared.header.Table.{Table}
 use Rattle.brd_elf.specs.declared.sections.Section.{Section}

@@ -1,5 +1,5 @@
 -- Loading one program header after the other, as a loop does.
-use Rattle.std.proofs.Common.{◌≡◌, ℕ, zero, suc, ◌+◌, ◌-◌, ◌<◌, ◌≤◌, List, drop, Result, Ok, Err, refl, sym, ◌∙◌, arith}
+use Rattle.std.proofs.Common.{◌≡◌, ℕ, suc, ◌+◌, ◌-◌, ◌<◌, ◌≤◌, List, drop, Result, Ok, Err, refl, sym, ◌∙◌, arith}
 use Rattle.brd_mem.specs.declared.image.Segment.{Segment}
 use Rattle.brd_elf.specs.declared.fault.ElfFault.{ElfFault}
 use Rattle.brd_elf.specs.Fault.{◌>>=◌, Fails}
@@ -27,8 +27,8 @@ pub ends : (f : ElfFault) (file : List ℕ) (at count i : ℕ) (segments : List 
 ends f file at count i segments total lt fails so_far =
     passed_on f (loaded file at (program_header_at (drop at file)) segments) total fails
     (λ step. let e = one_more file at count i segments lt in
-        let g : (loaded file at (program_header_at (drop at file)) segments >>= λ more. loaded_from file (at + 32) (count - (i + 1)) more) ≡ Err f = rw step refl in
-        sym so_far ∙ e ∙ g)
+    let g : (loaded file at (program_header_at (drop at file)) segments >>= λ more. loaded_from file (at + 32) (count - (i + 1)) more) ≡ Err f = rw step refl in
+    sym so_far ∙ e ∙ g)
 
 pub is_done : (file : List ℕ) (at count i : ℕ) (segments : List Segment) (total : Result (List Segment) ElfFault) → count ≤ i
     → loaded_from file at (count - i) segments ≡ total → total ≡ Ok segments

@@ -1,7 +1,7 @@
 -- The segments that were written are read again.
-use Rattle.std.proofs.Common.{◌≡◌, ℕ, zero, suc, ◌+◌, ◌-◌, ◌*◌, ◌^◌, ◌<◌, ◌≤◌, Bool, true, false, not, eqb, ltb, leb, List, [], ◌∷◌, ◌++◌, length, take, drop, replicate, Option, None, Some, Result, Ok, Err, refl, sym, ap, ◌∙◌, subst, append_assoc, length-append, arith}
-use Rattle.std.specs.Prelude.{◌&&◌, ◌||◌, flat_map}
-use Rattle.std.proofs.lemmas.Bool.{lt-ltb, le-ltb, le-leb, ne_eqb, or_from, and_right}
+use Rattle.std.proofs.Common.{◌≡◌, ℕ, zero, suc, ◌+◌, ◌-◌, ◌^◌, ◌<◌, ◌≤◌, Bool, false, not, eqb, ltb, List, [], ◌∷◌, ◌++◌, length, take, drop, replicate, Result, Ok, refl, sym, ap, ◌∙◌, append_assoc, length-append, arith}
+use Rattle.std.specs.Prelude.{◌&&◌}
+use Rattle.std.proofs.lemmas.Bool.{le-ltb, le-leb, ne_eqb, or_from, and_right}
 use Rattle.std.proofs.lemmas.List.{append-nil, take_at, drop_at, nil_from_length}
 use Rattle.brd_mem.specs.Memory.{base}
 use Rattle.brd_mem.specs.Image.{AreAscending}
@@ -10,7 +10,7 @@ use Rattle.brd_elf.specs.declared.fault.ElfFault.{ElfFault}
 use Rattle.brd_elf.specs.declared.segments.ProgramHeader.{ProgramHeader}
 use Rattle.brd_elf.specs.Fields.{has_bytes}
 use Rattle.brd_elf.specs.Fault.{◌>>=◌}
-use Rattle.brd_elf.specs.Segments.{program_header_at, lies_in, is_dynamic, is_skipped, has_bad_sizes, is_cut, is_outside, loaded_bytes, load_fault, loaded_unless, loaded, loaded_from}
+use Rattle.brd_elf.specs.Segments.{program_header_at, lies_in, is_dynamic, is_skipped, has_bad_sizes, is_cut, is_outside, loaded_bytes, load_fault, loaded, loaded_from}
 use Rattle.brd_elf.specs.File.{padding, padded, program_header, program_headers_from, data_of}
 use Rattle.brd_elf.proofs.LoadedLemmas.{lies_in-push}
 use Rattle.brd_elf.proofs.BodyLemmas.{length-program_header}
@@ -36,25 +36,33 @@ load_again file at offset segment segments back here long some above below free 
   where
     empty : eqb (length segment.bytes) 0 ≡ false
     empty = ne_eqb (length segment.bytes) 0 (λ same. omega arith)
+
     skipped : is_skipped (header_for offset segment) ≡ false
     skipped = rw empty refl
+
     sizes : has_bad_sizes (header_for offset segment) ≡ false
     sizes = or_from (ltb (length segment.bytes) (length segment.bytes)) _ (le-ltb (length segment.bytes) (length segment.bytes) (omega arith)) (le-ltb (2 ^ 32) (segment.address + length segment.bytes) (omega arith))
+
     whole : not (has_bytes file offset (length segment.bytes)) ≡ false
     whole = ap (λ (b : Bool). not b) (le-leb (offset + length segment.bytes) (length file) long)
+
     cut : is_cut file (header_for offset segment) ≡ false
     cut = and_right (not (eqb (length segment.bytes) 0)) _ whole
+
     outside : is_outside (header_for offset segment) ≡ false
     outside = or_from (ltb segment.address base) _ (le-ltb segment.address base above) (le-ltb (base + 2 ^ 24) (segment.address + length segment.bytes) below)
+
     made : List ℕ → Result (List Segment) ElfFault
     made list = Ok (segments ++ record { address = segment.address; bytes = list } ∷ [])
+
     none_left : length segment.bytes - length segment.bytes ≡ 0
     none_left = omega arith
+
     bytes : loaded_bytes file (header_for offset segment) ≡ segment.bytes
     bytes =
         let front : take (length segment.bytes) (drop offset file) ≡ segment.bytes =
-            ap (λ (list : List ℕ). take (length segment.bytes) list) (here ∙ append_assoc segment.bytes (replicate (padding (length segment.bytes)) 0) back)
-            ∙ take_at segment.bytes (replicate (padding (length segment.bytes)) 0 ++ back) (length segment.bytes) refl in
+        ap (λ (list : List ℕ). take (length segment.bytes) list) (here ∙ append_assoc segment.bytes (replicate (padding (length segment.bytes)) 0) back)
+        ∙ take_at segment.bytes (replicate (padding (length segment.bytes)) 0 ++ back) (length segment.bytes) refl in
         ap (λ (list : List ℕ). list ++ replicate (length segment.bytes - length segment.bytes) 0) front
         ∙ ap (λ (n : ℕ). segment.bytes ++ replicate n 0) none_left ∙ append-nil segment.bytes
 
@@ -68,7 +76,7 @@ unfolding NothingFrom
 nothing_more low segments segment nothing le =
     λ from high above. lies_in-push segments segment from high
     ∙ or_from (lies_in segments from high) _ (nothing from high (omega arith))
-      (or_from (ltb segment.address high && ltb from (segment.address + length segment.bytes)) false (and_right (ltb segment.address high) _ (le-ltb from (segment.address + length segment.bytes) above)) refl)
+    (or_from (ltb segment.address high && ltb from (segment.address + length segment.bytes)) false (and_right (ltb segment.address high) _ (le-ltb from (segment.address + length segment.bytes) above)) refl)
 
 pub nothing_yet : (low : ℕ) → NothingFrom low []
 unfolding NothingFrom
@@ -89,34 +97,44 @@ segments_again file at offset low (segment ∷ segments) before front post data_
     ap (λ (header : ProgramHeader). loaded file at header before >>= λ more. loaded_from file (at + 32) (length segments) more) header_is
     ∙ ap (λ (step : Result (List Segment) ElfFault). step >>= λ more. loaded_from file (at + 32) (length segments) more) step_is
     ∙ segments_again file (at + 32) (offset + length (padded segment.bytes)) (segment.address + length segment.bytes) segments (before ++ segment ∷ []) (front ++ program_header offset segment) post (data_front ++ padded segment.bytes) back
-      next_headers (length-append front (program_header offset segment) ∙ sum_is at_is (length-program_header offset segment)) next_data (length-append data_front (padded segment.bytes) ∙ ap (λ (n : ℕ). n + length (padded segment.bytes)) offset_is) short ascending.3 (omega (arith, ascending.0)) (nothing_more low before segment nothing (omega (arith, ascending.0)))
+    next_headers (length-append front (program_header offset segment) ∙ sum_is at_is (length-program_header offset segment)) next_data (length-append data_front (padded segment.bytes) ∙ ap (λ (n : ℕ). n + length (padded segment.bytes)) offset_is) short ascending.3 (omega (arith, ascending.0)) (nothing_more low before segment nothing (omega (arith, ascending.0)))
     ∙ ap (λ (list : List Segment). done list) (append_assoc before (segment ∷ []) segments)
   where
     done : List Segment → Result (List Segment) ElfFault
     done list = Ok list
+
     others : List ℕ
     others = program_headers_from (offset + length (padded segment.bytes)) segments
+
     sum_is : length front ≡ at → length (program_header offset segment) ≡ 32 → length front + length (program_header offset segment) ≡ at + 32
     sum_is p q = omega arith
+
     next_headers : file ≡ (front ++ program_header offset segment) ++ (others ++ post)
     next_headers = headers_lie ∙ ap (λ (list : List ℕ). front ++ list) (append_assoc (program_header offset segment) others post) ∙ sym (append_assoc front (program_header offset segment) (others ++ post))
+
     next_data : file ≡ (data_front ++ padded segment.bytes) ++ (data_of segments ++ back)
     next_data = data_lies ∙ ap (λ (list : List ℕ). data_front ++ list) (append_assoc (padded segment.bytes) (data_of segments) back) ∙ sym (append_assoc data_front (padded segment.bytes) (data_of segments ++ back))
+
     here : drop at file ≡ program_header offset segment ++ (others ++ post)
     here = behind file front (program_header offset segment) (others ++ post) at (next_headers ∙ append_assoc front (program_header offset segment) (others ++ post)) at_is
+
     bytes_here : drop offset file ≡ padded segment.bytes ++ (data_of segments ++ back)
     bytes_here = behind file data_front (padded segment.bytes) (data_of segments ++ back) offset (next_data ∙ append_assoc data_front (padded segment.bytes) (data_of segments ++ back)) offset_is
+
     long : offset + length segment.bytes ≤ length file
     long =
         let whole : length file ≡ length ((data_front ++ padded segment.bytes) ++ (data_of segments ++ back)) = ap (λ (list : List ℕ). length list) next_data in
         omega (arith, whole, offset_is, length-append (data_front ++ padded segment.bytes) (data_of segments ++ back), length-append data_front (padded segment.bytes), length-append segment.bytes (replicate (padding (length segment.bytes)) 0))
+
     some : 0 < length segment.bytes
     some = filled (length segment.bytes) (λ e. ascending.1 (nil_from_length segment.bytes e))
       where
         filled : (n : ℕ) → (n ≡ 0 → ⊥) → 0 < n
         filled zero h = absurd (h refl)
         filled (suc n) h = omega arith
+
     header_is : program_header_at (drop at file) ≡ header_for offset segment
     header_is = program_again (drop at file) offset segment (others ++ post) here (omega (arith, long)) (omega (arith, ascending.2)) (omega (arith, long))
+
     step_is : loaded file at (header_for offset segment) before ≡ Ok (before ++ segment ∷ [])
     step_is = load_again file at offset segment before (data_of segments ++ back) bytes_here long some (omega (arith, ascending.0)) ascending.2 (nothing segment.address (segment.address + length segment.bytes) ascending.0)

@@ -1,5 +1,5 @@
 -- Keeping one symbol after the other, as a loop does.
-use Rattle.std.proofs.Common.{◌≡◌, ℕ, zero, suc, ◌+◌, ◌-◌, ◌<◌, ◌≤◌, List, drop, Result, Ok, Err, refl, sym, ◌∙◌, arith}
+use Rattle.std.proofs.Common.{◌≡◌, ℕ, suc, ◌+◌, ◌-◌, ◌<◌, ◌≤◌, List, drop, Result, Ok, Err, refl, sym, ◌∙◌, arith}
 use Rattle.brd_mem.specs.declared.image.Symbol.{Symbol}
 use Rattle.brd_elf.specs.declared.fault.ElfFault.{ElfFault}
 use Rattle.brd_elf.specs.declared.symbols.Entry.{Entry}
@@ -28,8 +28,8 @@ pub ends : (f : ElfFault) (file strings : List ℕ) (at count i : ℕ) (symbols 
 ends f file strings at count i symbols total lt fails so_far =
     passed_on f (kept strings at (entry_at (drop at file)) symbols) total fails
     (λ step. let e = one_more file strings at count i symbols lt in
-        let g : (kept strings at (entry_at (drop at file)) symbols >>= λ more. kept_from file strings (at + 16) (count - (i + 1)) more) ≡ Err f = rw step refl in
-        sym so_far ∙ e ∙ g)
+    let g : (kept strings at (entry_at (drop at file)) symbols >>= λ more. kept_from file strings (at + 16) (count - (i + 1)) more) ≡ Err f = rw step refl in
+    sym so_far ∙ e ∙ g)
 
 pub is_done : (file strings : List ℕ) (at count i : ℕ) (symbols : List Symbol) (total : Result (List Symbol) ElfFault) → count ≤ i
     → kept_from file strings at (count - i) symbols ≡ total → total ≡ Ok symbols

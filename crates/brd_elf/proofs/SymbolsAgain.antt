@@ -1,10 +1,10 @@
 -- The symbols that were written are read again.
-use Rattle.std.proofs.Common.{◌≡◌, ◌≢◌, ℕ, zero, suc, ◌+◌, ◌*◌, ◌^◌, ◌<◌, ◌≤◌, Bool, true, false, cond, eqb, List, [], ◌∷◌, ◌++◌, length, drop, Option, None, Some, Result, Ok, Err, refl, sym, ap, ◌∙◌, append_assoc, length-append, arith}
-use Rattle.std.specs.Prelude.{◌||◌, flat_map, option_map}
+use Rattle.std.proofs.Common.{◌≡◌, ◌≢◌, ℕ, ◌+◌, ◌*◌, ◌^◌, ◌<◌, false, eqb, List, [], ◌∷◌, ◌++◌, length, drop, Option, Some, Result, Ok, refl, sym, ap, ◌∙◌, append_assoc, length-append, arith}
+use Rattle.std.specs.Prelude.{flat_map}
 use Rattle.std.specs.List.{AllByRecursion}
 use Rattle.std.specs.Str.{bytes_eq}
 use Rattle.std.proofs.lemmas.Bool.{ne_eqb, or_from, false_from_ne_true}
-use Rattle.std.proofs.lemmas.List.{append-nil, drop_at}
+use Rattle.std.proofs.lemmas.List.{append-nil}
 use Rattle.std.proofs.lemmas.Slice.Eq.{bytes_eq-Decides}
 use Rattle.brd_mem.specs.Image.{AreNamed, IsName}
 use Rattle.brd_mem.specs.declared.image.Symbol.{Symbol}
@@ -12,7 +12,7 @@ use Rattle.brd_elf.specs.declared.fault.ElfFault.{ElfFault}
 use Rattle.brd_elf.specs.declared.symbols.Entry.{Entry}
 use Rattle.brd_elf.specs.Fields.{half, word}
 use Rattle.brd_elf.specs.Fault.{◌>>=◌}
-use Rattle.brd_elf.specs.Symbols.{entry_at, string_of, is_named, with_symbol, named, kept, kept_from}
+use Rattle.brd_elf.specs.Symbols.{entry_at, string_of, is_named, named, kept, kept_from}
 use Rattle.brd_elf.specs.File.{symbol_entry, symbol_entries_from}
 use Rattle.brd_elf.proofs.NamedLemmas.{is_named-push}
 use Rattle.brd_elf.proofs.FieldLemmas.{entry_again}
@@ -83,30 +83,40 @@ symbols_again file strings at name (symbol ∷ symbols) before front post string
     ap (λ (entry : Entry). kept strings at entry before >>= λ more. kept_from file strings (at + 16) (length symbols) more) entry_is
     ∙ ap (λ (step : Result (List Symbol) ElfFault). step >>= λ more. kept_from file strings (at + 16) (length symbols) more) step_is
     ∙ symbols_again file strings (at + 16) (name + length symbol.name + 1) symbols (before ++ symbol ∷ []) (front ++ symbol_entry name symbol.value) post (strings_front ++ with_zero symbol) back
-      next_entries (length-append front (symbol_entry name symbol.value) ∙ sum_is at_is (length-symbol_entry name symbol.value)) next_strings next_name short values.1 are_named.2 (still_new before symbol symbols new.1 are_named.1)
+    next_entries (length-append front (symbol_entry name symbol.value) ∙ sum_is at_is (length-symbol_entry name symbol.value)) next_strings next_name short values.1 are_named.2 (still_new before symbol symbols new.1 are_named.1)
     ∙ ap (λ (list : List Symbol). done list) (append_assoc before (symbol ∷ []) symbols)
   where
     done : List Symbol → Result (List Symbol) ElfFault
     done list = Ok list
+
     others : List ℕ
     others = symbol_entries_from (name + length symbol.name + 1) symbols
+
     sum_is : length front ≡ at → length (symbol_entry name symbol.value) ≡ 16 → length front + length (symbol_entry name symbol.value) ≡ at + 16
     sum_is p q = omega arith
+
     next_entries : file ≡ (front ++ symbol_entry name symbol.value) ++ (others ++ post)
     next_entries = entries_lie ∙ ap (λ (list : List ℕ). front ++ list) (append_assoc (symbol_entry name symbol.value) others post) ∙ sym (append_assoc front (symbol_entry name symbol.value) (others ++ post))
+
     next_strings : strings ≡ (strings_front ++ with_zero symbol) ++ (flat_map with_zero symbols ++ back)
     next_strings = strings_lie ∙ ap (λ (list : List ℕ). strings_front ++ list) (append_assoc (with_zero symbol) (flat_map with_zero symbols) back) ∙ sym (append_assoc strings_front (with_zero symbol) (flat_map with_zero symbols ++ back))
+
     next_name : length (strings_front ++ with_zero symbol) ≡ name + length symbol.name + 1
     next_name = omega (arith, name_is, length-append strings_front (with_zero symbol), length-append symbol.name (0 ∷ []))
+
     here : drop at file ≡ symbol_entry name symbol.value ++ (others ++ post)
     here = behind file front (symbol_entry name symbol.value) (others ++ post) at (next_entries ∙ append_assoc front (symbol_entry name symbol.value) (others ++ post)) at_is
+
     name_here : drop name strings ≡ symbol.name ++ 0 ∷ (flat_map with_zero symbols ++ back)
     name_here = behind strings strings_front (with_zero symbol) (flat_map with_zero symbols ++ back) name (next_strings ∙ append_assoc strings_front (with_zero symbol) (flat_map with_zero symbols ++ back)) name_is ∙ append_assoc symbol.name (0 ∷ []) (flat_map with_zero symbols ++ back)
+
     name_fits : name < 2 ^ 32
     name_fits =
         let whole : length strings ≡ length (strings_front ++ (flat_map with_zero (symbol ∷ symbols) ++ back)) = ap (λ (list : List ℕ). length list) strings_lie in
         omega (arith, whole, name_is, length-append strings_front (flat_map with_zero (symbol ∷ symbols) ++ back))
+
     entry_is : entry_at (drop at file) ≡ record { name = name; value = symbol.value; section = 0xFFF1 }
     entry_is = entry_again (drop at file) name symbol.value (others ++ post) here name_fits values.0
+
     step_is : kept strings at (record { name = name; value = symbol.value; section = 0xFFF1 }) before ≡ Ok (before ++ symbol ∷ [])
     step_is = kept_again strings at name symbol before (flat_map with_zero symbols ++ back) name_here are_named.0 new.0

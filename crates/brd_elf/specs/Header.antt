@@ -1,5 +1,5 @@
 -- The ELF header, 52 bytes (System V ABI, "ELF Header"), and which of them are read here.
-use Rattle.std.specs.Prelude.{ℕ, List, [], ◌∷◌, length, Option, None, Some, Result, Ok, Err, Bool, not, ◌==◌, nat_lt, nat_eq, if◌then◌else◌, slice_index}
+use Rattle.std.specs.Prelude.{ℕ, List, [], ◌∷◌, length, Option, None, Some, Result, Ok, Err, not, ◌==◌, nat_lt, nat_eq, if◌then◌else◌, slice_index}
 use Rattle.std.specs.List.{starts_with}
 use Rattle.brd_elf.specs.declared.fault.ElfFault.{ElfFault}
 use Rattle.brd_elf.specs.declared.fault.ElfFault.TheVariants as fault

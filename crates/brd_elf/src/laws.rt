@@ -9,5 +9,4 @@ ghost use Rattle.brd_elf.specs.Meaning.{meaning};
 /// The file of a plain image that fits means that image again: no segment, byte, name or value is lost or changed.
 pub fn files_are_read_again()
     ensures { (image : Image) → IsPlain image → HasWords image → Fits image → meaning (file image) ≡ Ok image }
-{
-}
+{}

@@ -78,7 +78,13 @@ impl<'a> Named<'a> {
     }
 
     /// With a symbol of this name too, unless the name is empty or another symbol has it.
-    fn with_name(self, alloc: Global, start: usize, name: &'a [u8], value: u32) -> Result<Self, NoMemory>
+    fn with_name(
+        self,
+        alloc: Global,
+        start: usize,
+        name: &'a [u8],
+        value: u32,
+    ) -> Result<Self, NoMemory>
         requires within { start < length self.strings }
         requires found { string_of (drop start self.strings) ≡ Some name.now }
         ensures { IfOk result (λ named. named

@@ -18,9 +18,7 @@ const PROGRAM_LEN: usize = 32;
 pub const SECTION_NAMES: &[u8] = b"\0.symtab\0.strtab\0.shstrtab\0";
 
 /// The first bytes: magic, ELFCLASS32, ELFDATA2MSB, version 1, and nine zeros.
-const IDENT: [u8; 16] = [
-    0x7f, b'E', b'L', b'F', 1, 2, 1, 0, 0, 0, 0, 0, 0, 0, 0, 0,
-];
+const IDENT: [u8; 16] = [0x7f, b'E', b'L', b'F', 1, 2, 1, 0, 0, 0, 0, 0, 0, 0, 0, 0];
 
 /// Puts fields of two bytes at the end.
 fn put_halves(out: &mut Vec<u8>, numbers: &[usize]) -> Result<(), NoMemory>
@@ -156,5 +154,8 @@ pub fn put_section_headers(
     put_zeros(out, 40)?;
     put_words(out, &[1, 2, 0, 0, symbols_at, symbols_size, 2, 1, 4, 16])?;
     put_words(out, &[9, 3, 0, 0, strings_at, strings_size, 0, 0, 1, 0])?;
-    put_words(out, &[17, 3, 0, 0, names_at, SECTION_NAMES.len(), 0, 0, 1, 0])
+    put_words(
+        out,
+        &[17, 3, 0, 0, names_at, SECTION_NAMES.len(), 0, 0, 1, 0],
+    )
 }

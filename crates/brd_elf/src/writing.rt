@@ -6,7 +6,10 @@ ghost use Rattle.brd_mem.specs.Image.{IsPlain};
 ghost use Rattle.brd_elf.specs.File.{body_of, symbols_at, strings_at, names_at, sections_at, symbol_table, strings, file, Fits, HasWords};
 ghost use Rattle.brd_elf.specs.Meaning.{meaning};
 
-use crate::parts::{HEADER_LEN, SECTION_NAMES, lay_out_segments, lay_out_symbols, padding, put_header, put_section_headers, put_zeros};
+use crate::parts::{
+    HEADER_LEN, SECTION_NAMES, lay_out_segments, lay_out_symbols, padding, put_header,
+    put_section_headers, put_zeros,
+};
 use brd_mem::{Image, NoMemory};
 use std::alloc::Global;
 
@@ -42,7 +45,13 @@ fn file_of(alloc: Global, image: &Image) -> Result<Vec<u8>, NoMemory>
     let programs_at = if segments.is_empty() { 0 } else { HEADER_LEN };
     let sections_at = HEADER_LEN + body.bytes.len();
     let mut out = Vec::new(alloc);
-    put_header(&mut out, image.entry, programs_at, sections_at, segments.len())?;
+    put_header(
+        &mut out,
+        image.entry,
+        programs_at,
+        sections_at,
+        segments.len(),
+    )?;
     out.extend_from_slice(&body.bytes)?;
     put_section_headers(
         &mut out,

@@ -110,10 +110,18 @@ fn programs(alloc: Global, kind: Kind, size: Size) -> Result<Vec<u8>, AllocError
         return Ok(out);
     }
     let mut out = header(alloc, size.count, 0)?;
-    let program = if kind == Kind::Skipped { 0x7000_0003 } else { 1 };
+    let program = if kind == Kind::Skipped {
+        0x7000_0003
+    } else {
+        1
+    };
     for i in 0..size.count {
         let last = i + 1 == size.count;
-        let place = if kind == Kind::Overlap && last { 0 } else { u32::from(i) };
+        let place = if kind == Kind::Overlap && last {
+            0
+        } else {
+            u32::from(i)
+        };
         let address = 0x80ff_ff00 - 256 * place;
         put(&mut out, &[program, 0, address, 0, 1, 1, 0, 0])?;
     }
@@ -132,13 +140,27 @@ fn sections(alloc: Global, size: Size) -> Result<Vec<u8>, AllocError> {
 /// A file of two section headers, a symbol table and its strings.
 fn symbols(alloc: Global, kind: Kind, size: Size) -> Result<Vec<u8>, AllocError> {
     let mut out = header(alloc, 0, 2)?;
-    let count = if kind == Kind::Ends { size.count / 8 } else { size.count };
+    let count = if kind == Kind::Ends {
+        size.count / 8
+    } else {
+        size.count
+    };
     let table = 16 * u32::from(count);
     put(&mut out, &[0, 2, 0, 0, 132, table, 1, 0, 4, 16])?;
-    put(&mut out, &[0, 3, 0, 0, 132 + table, size.strings, 0, 0, 1, 0])?;
-    let period = if kind == Kind::Copies { period_of(size) } else { size.strings };
+    put(
+        &mut out,
+        &[0, 3, 0, 0, 132 + table, size.strings, 0, 0, 1, 0],
+    )?;
+    let period = if kind == Kind::Copies {
+        period_of(size)
+    } else {
+        size.strings
+    };
     for i in 0..count {
-        put(&mut out, &[name_at(kind, size, u32::from(i)), 0, 0, 0x1000_0001])?;
+        put(
+            &mut out,
+            &[name_at(kind, size, u32::from(i)), 0, 0, 0x1000_0001],
+        )?;
     }
     for at in 0..size.strings {
         let letter = at % period.max(1);

@@ -46,7 +46,12 @@ fn show_file(rt: &HostRuntime, path: &str) -> Result<()> {
 fn show_kinds(rt: &HostRuntime) -> Result<()> {
     for kind in kinds::ALL {
         let bytes = kinds::file(rt.alloc(), kind, kinds::SMALL)?;
-        show::answer(rt, kinds::name(kind), bytes.len(), brd_elf::read(rt.alloc(), &bytes))?;
+        show::answer(
+            rt,
+            kinds::name(kind),
+            bytes.len(),
+            brd_elf::read(rt.alloc(), &bytes),
+        )?;
     }
     Ok(())
 }

@@ -1,5 +1,5 @@
 -- The headers and bytes so far, and those of the segments that are left, are those of all.
-use Rattle.std.proofs.Common.{◌≡◌, ◌+◌, ◌*◌, ◌++◌, length, drop}
+use Rattle.std.proofs.Common.{◌≡◌, ◌+◌, ◌++◌, length, drop}
 use Rattle.brd_elf.specs.File.{program_headers_from, data_of}
 use Rattle.brd_elf.proofs.parts.lay_out_segments.Given as goal
 

@@ -1,5 +1,5 @@
 -- The symbols and strings so far, and those of the symbols that are left, are those of all.
-use Rattle.std.proofs.Common.{◌≡◌, ◌^◌, ◌<◌, ◌++◌, length, take, drop, replicate, ◌∷◌, []}
+use Rattle.std.proofs.Common.{◌≡◌, ◌^◌, ◌<◌, ◌++◌, length, take, drop, ◌∷◌, []}
 use Rattle.std.specs.List.{AllByRecursion}
 use Rattle.std.specs.Prelude.{flat_map}
 use Rattle.brd_elf.specs.File.{symbol_table, symbol_entries_from, strings}

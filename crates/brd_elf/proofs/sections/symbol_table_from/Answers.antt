@@ -1,4 +1,4 @@
-use Rattle.std.proofs.Common.{◌≡◌, drop, sym, arith}
+use Rattle.std.proofs.Common.{◌≡◌, drop, arith}
 use Rattle.std.proofs.lemmas.List.{take_rest}
 use Rattle.brd_elf.specs.Symbols.{section_at, symbol_table_from}
 use Rattle.brd_elf.proofs.SectionLemmas.{goes_on, ends, is_done, is_kind, is_other_kind}

@@ -19,7 +19,7 @@ loop-preserved c =
       place = omega arith;
       strings = c.in_ok-symbols-2.ensures.strings ∙ c.loop.invariant.strings;
       same = goes_on_copied c.args.file.now c.args.strings.now c.loop.symbols.strings c.loop.at c.args.count c.loop.counter c.entry_at.result c.loop.symbols.symbols c.in_ok-symbols-2.symbols.symbols (kept_from c.args.file.now c.args.strings.now c.args.start c.args.count [])
-        c.loop.invariant.strings read c.loop-test.true c.in_ok-symbols-2.ensures.kept c.loop.invariant.same;
+          c.loop.invariant.strings read c.loop-test.true c.in_ok-symbols-2.ensures.kept c.loop.invariant.same;
     }
 
 pub returns : goal.returns
