@@ -436,6 +436,39 @@ fn each_byte_of_the_assembled_file(rt: HostRuntime) -> Result<(), Fail> {
     Ok(())
 }
 
+/// For a run in which a growth is refused (`rt try --test --fail-alloc N`): memory ran out, or the answer is the same.
+#[test]
+fn refused_growths(rt: HostRuntime) -> Result<(), Fail> {
+    let alloc = rt.alloc();
+    let image = match read(alloc, &ASSEMBLED) {
+        Ok(image) => image,
+        Err(fault) => {
+            assert_eq!(rt; fault, ElfFault::NoMemory);
+            return Ok(());
+        }
+    };
+    assert_eq!(rt; image.entry, 0x8000_0000);
+    assert_eq!(rt; image.segments.as_slice().len(), 1);
+    assert_eq!(rt;
+        image.segments.as_slice()[0].bytes.as_slice(),
+        &ASSEMBLED[84..100]
+    );
+    assert_eq!(rt; image.symbols.as_slice().len(), 2);
+    assert_eq!(rt;
+        image.symbols.as_slice()[0].name.as_slice(),
+        b"_start".as_slice()
+    );
+    assert_eq!(rt;
+        image.symbols.as_slice()[1].name.as_slice(),
+        b"d".as_slice()
+    );
+    assert!(rt; image.is_plain());
+    if let Ok(file) = write(alloc, &image) {
+        assert_eq!(rt; file.as_slice(), ASSEMBLED.as_slice());
+    }
+    Ok(())
+}
+
 #[test]
 fn texts(rt: HostRuntime) -> Result<(), Fail> {
     let alloc = rt.alloc();
