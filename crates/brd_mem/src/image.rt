@@ -30,6 +30,13 @@ impl Bytes {
         }
     }
 
+    /// The bytes of a vector.
+    pub fn from_vec(items: Vec<u8>) -> Self
+        ensures { result ≡ items.items }
+    {
+        Bytes { items }
+    }
+
     /// Puts these bytes at the end. A refusal changes nothing.
     pub fn append(&mut self, more: &[u8]) -> Result<(), NoMemory>
         ensures ok { OnOk result (self.new ≡ self.old ++ more.now) }

@@ -1,0 +1,15 @@
+pub mod Faults
+pub mod SegmentLoop
+pub mod SymbolLoop
+pub mod LoadedLemmas
+pub mod Loadable
+pub mod SectionLemmas
+pub mod NamedLemmas
+pub mod PartLemmas
+pub mod BodyLemmas
+pub mod FieldLemmas
+pub mod HeaderLemmas
+pub mod SegmentsAgain
+pub mod SymbolsAgain
+pub mod FileAgain
+pub mod WriteLemmas

@@ -1,0 +1,39 @@
+-- Loading one program header after the other, as a loop does.
+use Rattle.std.proofs.Common.{◌≡◌, ℕ, suc, ◌+◌, ◌-◌, ◌<◌, ◌≤◌, List, drop, Result, Ok, Err, refl, sym, ◌∙◌, arith}
+use Rattle.brd_mem.specs.declared.image.Segment.{Segment}
+use Rattle.brd_elf.specs.declared.fault.ElfFault.{ElfFault}
+use Rattle.brd_elf.specs.Fault.{◌>>=◌, Fails}
+use Rattle.brd_elf.proofs.Faults.{passed_on}
+use Rattle.brd_elf.specs.Segments.{program_header_at, loaded, loaded_from}
+
+one_more : (file : List ℕ) (at count i : ℕ) (segments : List Segment) → i < count
+    → loaded_from file at (count - i) segments ≡ (loaded file at (program_header_at (drop at file)) segments >>= λ more. loaded_from file (at + 32) (count - (i + 1)) more)
+unfolding loaded_from
+one_more file at count i segments lt =
+    let k : count - i ≡ suc (count - (i + 1)) = omega arith in
+    rw k refl
+
+pub goes_on : (file : List ℕ) (at count i : ℕ) (segments more : List Segment) (total : Result (List Segment) ElfFault) → i < count
+    → loaded file at (program_header_at (drop at file)) segments ≡ Ok more
+    → loaded_from file at (count - i) segments ≡ total → loaded_from file (at + 32) (count - (i + 1)) more ≡ total
+goes_on file at count i segments more total lt step so_far =
+    let e = one_more file at count i segments lt in
+    let g : (loaded file at (program_header_at (drop at file)) segments >>= λ more. loaded_from file (at + 32) (count - (i + 1)) more) ≡ loaded_from file (at + 32) (count - (i + 1)) more = rw step refl in
+    sym g ∙ sym e ∙ so_far
+
+pub ends : (f : ElfFault) (file : List ℕ) (at count i : ℕ) (segments : List Segment) (total : Result (List Segment) ElfFault) → i < count
+    → Fails f (loaded file at (program_header_at (drop at file)) segments)
+    → loaded_from file at (count - i) segments ≡ total → Fails f total
+ends f file at count i segments total lt fails so_far =
+    passed_on f (loaded file at (program_header_at (drop at file)) segments) total fails
+    (λ step. let e = one_more file at count i segments lt in
+    let g : (loaded file at (program_header_at (drop at file)) segments >>= λ more. loaded_from file (at + 32) (count - (i + 1)) more) ≡ Err f = rw step refl in
+    sym so_far ∙ e ∙ g)
+
+pub is_done : (file : List ℕ) (at count i : ℕ) (segments : List Segment) (total : Result (List Segment) ElfFault) → count ≤ i
+    → loaded_from file at (count - i) segments ≡ total → total ≡ Ok segments
+unfolding loaded_from
+is_done file at count i segments total le so_far =
+    let k : count - i ≡ 0 = omega arith in
+    let g : loaded_from file at (count - i) segments ≡ Ok segments = rw k refl in
+    sym so_far ∙ g

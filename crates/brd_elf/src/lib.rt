@@ -1,0 +1,26 @@
+//! ELF32 object files for MIPS (System V ABI): a reader of files that nobody vouches for, and a writer.
+//!
+//! `read` answers what `specs/Meaning.antt` says a file means, `write` what `specs/File.antt` says is the file of an
+//! image, and a plain image that fits is read again as itself.
+#![tactic(auto)]
+
+mod fault;
+mod fields;
+mod header;
+mod laws;
+mod loaded;
+mod named;
+mod parts;
+mod reading;
+mod sections;
+mod segments;
+mod symbols;
+mod writing;
+
+pub use fault::ElfFault;
+pub use laws::files_are_read_again;
+pub use reading::read;
+pub use writing::write;
+
+#[cfg(test)]
+mod tests;

@@ -1,0 +1,161 @@
+//! The parts of the file of an image.
+
+ghost use Rattle.std.specs.Prelude.{◌≡◌, ℕ, ◌+◌, ◌*◌, ◌^◌, ◌<◌, ◌≤◌, ◌++◌, length, replicate, OnOk, IfOk};
+ghost use Rattle.std.specs.List.{AllByRecursion};
+ghost use Rattle.brd_elf.specs.File.{halves, words, padding, padded, program_header, program_headers_from, data_of, symbol_entry, symbol_table, strings, section_headers, header_bytes};
+
+use crate::fields::{put_half, put_word};
+use brd_mem::{NoMemory, Segment, Symbol};
+use std::alloc::Global;
+
+/// How many bytes the ELF header has.
+pub const HEADER_LEN: usize = 52;
+
+/// How many bytes a program header has.
+const PROGRAM_LEN: usize = 32;
+
+/// The sections' names, at 1, 9 and 17.
+pub const SECTION_NAMES: &[u8] = b"\0.symtab\0.strtab\0.shstrtab\0";
+
+/// The first bytes: magic, ELFCLASS32, ELFDATA2MSB, version 1, and nine zeros.
+const IDENT: [u8; 16] = [0x7f, b'E', b'L', b'F', 1, 2, 1, 0, 0, 0, 0, 0, 0, 0, 0, 0];
+
+/// Puts fields of two bytes at the end.
+fn put_halves(out: &mut Vec<u8>, numbers: &[usize]) -> Result<(), NoMemory>
+    ensures { OnOk result (out.new.items ≡ out.old.items ++ halves numbers.now) }
+{
+    for number in numbers {
+        put_half(out, *number)?;
+    }
+    Ok(())
+}
+
+/// Puts fields of four bytes at the end.
+fn put_words(out: &mut Vec<u8>, numbers: &[usize]) -> Result<(), NoMemory>
+    ensures { OnOk result (out.new.items ≡ out.old.items ++ words numbers.now) }
+{
+    for number in numbers {
+        put_word(out, *number)?;
+    }
+    Ok(())
+}
+
+/// Puts a few bytes 0 at the end.
+pub fn put_zeros(out: &mut Vec<u8>, count: usize) -> Result<(), NoMemory>
+    requires { count < 2 ^ 16 }
+    ensures { OnOk result (out.new.items ≡ out.old.items ++ replicate count 0) }
+{
+    let len = out.len() + count;
+    out.resize(len, 0)?;
+    Ok(())
+}
+
+/// How many bytes it is from a place to the next multiple of 4.
+pub fn padding(place: usize) -> usize
+    ensures is { result ≡ padding place }
+    ensures small { result < 4 }
+{
+    (4 - place % 4) % 4
+}
+
+/// Puts the ELF header at the end.
+pub fn put_header(
+    out: &mut Vec<u8>,
+    entry: u32,
+    programs_at: usize,
+    sections_at: usize,
+    count: usize,
+) -> Result<(), NoMemory>
+    ensures put { OnOk result (out.new.items ≡ out.old.items ++ header_bytes entry programs_at sections_at count) }
+    ensures word { entry < 2 ^ 32 }
+{
+    out.extend_from_slice(&IDENT)?;
+    put_halves(out, &[2, 8])?;
+    put_words(out, &[1, entry as usize, programs_at, sections_at, 0])?;
+    put_halves(out, &[52, 32, count, 40, 4, 3])
+}
+
+/// The program headers of segments, and the bytes of the segments, which lie behind them in the file.
+#[tactic(auto, using(crate::proofs::PartLemmas::programs_step), unfolding(crate::specs::File::program_headers_from))]
+pub fn lay_out_segments(alloc: Global, segments: &[Segment]) -> Result<(Vec<u8>, Vec<u8>), NoMemory>
+    requires { length segments.now ≤ 2 ^ 24 }
+    ensures programs { IfOk result (λ parts. parts.0.items ≡ program_headers_from (52 + 32 * length segments.now) segments.now) }
+    ensures bytes { IfOk result (λ parts. parts.1.items ≡ data_of segments.now) }
+{
+    let start = HEADER_LEN + PROGRAM_LEN * segments.len();
+    let mut programs = Vec::new(alloc);
+    let mut data = Vec::new(alloc);
+    for segment in segments {
+        put_program_header(&mut programs, start + data.len(), segment)?;
+        put_padded(&mut data, segment.bytes.as_slice())?;
+    }
+    Ok((programs, data))
+}
+
+/// Puts the program header of a segment whose bytes lie at an offset at the end.
+fn put_program_header(out: &mut Vec<u8>, offset: usize, segment: &Segment) -> Result<(), NoMemory>
+    ensures { OnOk result (out.new.items ≡ out.old.items ++ program_header offset segment.now) }
+{
+    let address = segment.address as usize;
+    let len = segment.bytes.len();
+    put_words(out, &[1, offset, address, address, len, len, 7, 1])
+}
+
+/// Puts bytes at the end, and zero up to the next multiple of 4.
+fn put_padded(out: &mut Vec<u8>, bytes: &[u8]) -> Result<(), NoMemory>
+    ensures { OnOk result (out.new.items ≡ out.old.items ++ padded bytes.now) }
+{
+    out.extend_from_slice(bytes)?;
+    put_zeros(out, padding(bytes.len()))
+}
+
+/// The symbol table and its strings.
+#[tactic(auto, using(crate::proofs::PartLemmas::entries_step, crate::proofs::PartLemmas::words_push), unfolding(crate::specs::File::symbol_entries_from))]
+pub fn lay_out_symbols(alloc: Global, symbols: &[Symbol]) -> Result<(Vec<u8>, Vec<u8>), NoMemory>
+    ensures table { IfOk result (λ parts. parts.0.items ≡ symbol_table symbols.now) }
+    ensures strings { IfOk result (λ parts. parts.1.items ≡ strings symbols.now) }
+    ensures words { IfOk result (λ _. AllByRecursion (λ symbol. symbol.value < 2 ^ 32) symbols.now) }
+{
+    let mut table = Vec::new(alloc);
+    put_zeros(&mut table, 16)?;
+    let mut strings = Vec::new(alloc);
+    strings.push(0)?;
+    for symbol in symbols {
+        put_symbol(&mut table, strings.len(), symbol.value)?;
+        strings.extend_from_slice(symbol.name.as_slice())?;
+        strings.push(0)?;
+    }
+    Ok((table, strings))
+}
+
+/// Puts a symbol whose name lies at a place in the strings at the end.
+fn put_symbol(out: &mut Vec<u8>, name: usize, value: u32) -> Result<(), NoMemory>
+    ensures put { OnOk result (out.new.items ≡ out.old.items ++ symbol_entry name value) }
+    ensures word { value < 2 ^ 32 }
+{
+    put_words(out, &[name, value as usize, 0])?;
+    out.push(0x10)?;
+    out.push(0)?;
+    put_half(out, 0xfff1)
+}
+
+/// Puts the four section headers at the end.
+pub fn put_section_headers(
+    out: &mut Vec<u8>,
+    symbols_at: usize,
+    symbols_size: usize,
+    strings_at: usize,
+    strings_size: usize,
+    names_at: usize,
+) -> Result<(), NoMemory>
+    ensures { OnOk result (out.new.items
+        ≡ out.old.items ++ section_headers symbols_at symbols_size strings_at strings_size names_at) }
+{
+    put_zeros(out, 40)?;
+    put_words(out, &[1, 2, 0, 0, symbols_at, symbols_size, 2, 1, 4, 16])?;
+    put_words(out, &[9, 3, 0, 0, strings_at, strings_size, 0, 0, 1, 0])?;
+    put_words(
+        out,
+        &[17, 3, 0, 0, names_at, SECTION_NAMES.len(), 0, 0, 1, 0],
+    )
+}

@@ -1,0 +1,509 @@
+use super::*;
+use brd_mem::{Bytes, Image, Segment, Symbol};
+use std::alloc::{AllocError, Global};
+use std::test::Fail;
+
+/// A header, a program header that loads three bytes to eight at 0x80000100, one of type 0x70000003
+/// (PT_MIPS_ABIFLAGS), and the three bytes; no sections.
+const SHORT: [u8; 119] = [
+    0x7f, 0x45, 0x4c, 0x46, 0x01, 0x02, 0x01, 0x00, 0x00, 0x00, 0x00, 0x00, 0x00, 0x00, 0x00, 0x00,
+    0x00, 0x02, 0x00, 0x08, 0x00, 0x00, 0x00, 0x01, 0x80, 0x00, 0x00, 0x00, 0x00, 0x00, 0x00, 0x34,
+    0x00, 0x00, 0x00, 0x00, 0x00, 0x00, 0x00, 0x00, 0x00, 0x34, 0x00, 0x20, 0x00, 0x02, 0x00, 0x00,
+    0x00, 0x00, 0x00, 0x00, 0x00, 0x00, 0x00, 0x01, 0x00, 0x00, 0x00, 0x74, 0x80, 0x00, 0x01, 0x00,
+    0x00, 0x00, 0x00, 0x00, 0x00, 0x00, 0x00, 0x03, 0x00, 0x00, 0x00, 0x08, 0x00, 0x00, 0x00, 0x00,
+    0x00, 0x00, 0x00, 0x00, 0x70, 0x00, 0x00, 0x03, 0x00, 0x00, 0x00, 0x00, 0x00, 0x00, 0x00, 0x00,
+    0x00, 0x00, 0x00, 0x00, 0x00, 0x00, 0x00, 0x00, 0x00, 0x00, 0x00, 0x00, 0x00, 0x00, 0x00, 0x00,
+    0x00, 0x00, 0x00, 0x00, 0xaa, 0xbb, 0xcc,
+];
+
+/// The file of four words at 0x80000000 (`lui`, `lw`, `nop`, 7) with the symbols `_start` and `d`: 84 bytes of headers,
+/// the words, three symbols, ten bytes of strings, 27 of section names, three of gap, four section headers.
+const ASSEMBLED: [u8; 348] = [
+    0x7f, 0x45, 0x4c, 0x46, 0x01, 0x02, 0x01, 0x00, 0x00, 0x00, 0x00, 0x00, 0x00, 0x00, 0x00, 0x00,
+    0x00, 0x02, 0x00, 0x08, 0x00, 0x00, 0x00, 0x01, 0x80, 0x00, 0x00, 0x00, 0x00, 0x00, 0x00, 0x34,
+    0x00, 0x00, 0x00, 0xbc, 0x00, 0x00, 0x00, 0x00, 0x00, 0x34, 0x00, 0x20, 0x00, 0x01, 0x00, 0x28,
+    0x00, 0x04, 0x00, 0x03, 0x00, 0x00, 0x00, 0x01, 0x00, 0x00, 0x00, 0x54, 0x80, 0x00, 0x00, 0x00,
+    0x80, 0x00, 0x00, 0x00, 0x00, 0x00, 0x00, 0x10, 0x00, 0x00, 0x00, 0x10, 0x00, 0x00, 0x00, 0x07,
+    0x00, 0x00, 0x00, 0x01, 0x3c, 0x08, 0x80, 0x00, 0x8d, 0x09, 0x00, 0x0c, 0x00, 0x00, 0x00, 0x00,
+    0x00, 0x00, 0x00, 0x07, 0x00, 0x00, 0x00, 0x00, 0x00, 0x00, 0x00, 0x00, 0x00, 0x00, 0x00, 0x00,
+    0x00, 0x00, 0x00, 0x00, 0x00, 0x00, 0x00, 0x01, 0x80, 0x00, 0x00, 0x00, 0x00, 0x00, 0x00, 0x00,
+    0x10, 0x00, 0xff, 0xf1, 0x00, 0x00, 0x00, 0x08, 0x80, 0x00, 0x00, 0x0c, 0x00, 0x00, 0x00, 0x00,
+    0x10, 0x00, 0xff, 0xf1, 0x00, 0x5f, 0x73, 0x74, 0x61, 0x72, 0x74, 0x00, 0x64, 0x00, 0x00, 0x2e,
+    0x73, 0x79, 0x6d, 0x74, 0x61, 0x62, 0x00, 0x2e, 0x73, 0x74, 0x72, 0x74, 0x61, 0x62, 0x00, 0x2e,
+    0x73, 0x68, 0x73, 0x74, 0x72, 0x74, 0x61, 0x62, 0x00, 0x00, 0x00, 0x00, 0x00, 0x00, 0x00, 0x00,
+    0x00, 0x00, 0x00, 0x00, 0x00, 0x00, 0x00, 0x00, 0x00, 0x00, 0x00, 0x00, 0x00, 0x00, 0x00, 0x00,
+    0x00, 0x00, 0x00, 0x00, 0x00, 0x00, 0x00, 0x00, 0x00, 0x00, 0x00, 0x00, 0x00, 0x00, 0x00, 0x00,
+    0x00, 0x00, 0x00, 0x00, 0x00, 0x00, 0x00, 0x01, 0x00, 0x00, 0x00, 0x02, 0x00, 0x00, 0x00, 0x00,
+    0x00, 0x00, 0x00, 0x00, 0x00, 0x00, 0x00, 0x64, 0x00, 0x00, 0x00, 0x30, 0x00, 0x00, 0x00, 0x02,
+    0x00, 0x00, 0x00, 0x01, 0x00, 0x00, 0x00, 0x04, 0x00, 0x00, 0x00, 0x10, 0x00, 0x00, 0x00, 0x09,
+    0x00, 0x00, 0x00, 0x03, 0x00, 0x00, 0x00, 0x00, 0x00, 0x00, 0x00, 0x00, 0x00, 0x00, 0x00, 0x94,
+    0x00, 0x00, 0x00, 0x0a, 0x00, 0x00, 0x00, 0x00, 0x00, 0x00, 0x00, 0x00, 0x00, 0x00, 0x00, 0x01,
+    0x00, 0x00, 0x00, 0x00, 0x00, 0x00, 0x00, 0x11, 0x00, 0x00, 0x00, 0x03, 0x00, 0x00, 0x00, 0x00,
+    0x00, 0x00, 0x00, 0x00, 0x00, 0x00, 0x00, 0x9e, 0x00, 0x00, 0x00, 0x1b, 0x00, 0x00, 0x00, 0x00,
+    0x00, 0x00, 0x00, 0x00, 0x00, 0x00, 0x00, 0x01, 0x00, 0x00, 0x00, 0x00,
+];
+
+/// What is answered where one byte of `SHORT` is set to 0, 1, 0x7F, 0x80 or 0xFF: 0 the same image, 9 another, else the
+/// fault by its place in `ElfFault`. Worked out by a reader in another language.
+const SHORT_CHANGED: [(u8, &[u8]); 5] = [
+    (
+        0x00,
+        b"22223330000000000303000390000009000000000005090000000009000970900000000900050000000030000000000000000000000000000000999",
+    ),
+    (
+        0x01,
+        b"22220300000000003333333099994449000000000055400000009990444979090000555979950000000000000000000000000000000000000000999",
+    ),
+    (
+        0x7f,
+        b"02223330000000003333333399994444000000000055440000009999444479990000555579990000000000000000000000000000000000000000999",
+    ),
+    (
+        0x80,
+        b"22223330000000003333333309994444000000000055440000009999444409990000555559990000000000000000000000000000000000000000999",
+    ),
+    (
+        0xff,
+        b"22223330000000003333333399994444000000000055440000009999444479990000555559990000000000000000000000000000000000000000999",
+    ),
+];
+
+/// The same of `ASSEMBLED`.
+const ASSEMBLED_CHANGED: [(u8, &[u8]); 5] = [
+    (
+        0x00,
+        b"222233300000000003030003900000090009000000050905090000090009700000000009000500000000999099090000000900000000000000000009900000000000000990090000000009999990900000000000000000000000000000000000000000000000000000000000000000000000000000090000000000080009000800000000000800000008000000000009000800000000000000000000000000000000000000000000000000000000",
+    ),
+    (
+        0x01,
+        b"222203000000000033333330999944994449000000554055490099904449799900005559799500000000999999999999999900000000000000008880999900000000888999990000000009999999980000000000000000000000000000000000000000000000000000000000000000000000000099990000000088888888888800000000888800008888000000008889888800000000000000000000000000000000000000000000000000000000",
+    ),
+    (
+        0x7f,
+        b"022233300000000033333333999944494449000000554455440099994449799900005555799900000000999999999999999900000000000000008888999900000000888899990000000009999999980000000000000000000000000000000000000000000000000000000000000000000000000099990000000088888888888800000000888800008888000000008888888000000000000000000000000000000000000000000000000000000000",
+    ),
+    (
+        0x80,
+        b"222233300000000033333333099944494448000000554455440099994449099900005555599900000000990999999999999900000000000000008888099900000000888809990000000009999999980000000000000000000000000000000000000000000000000000000000000000000000000099990000000088888888888800000000888800008888000000008889888000000000000000000000000000000000000000000000000000000000",
+    ),
+    (
+        0xff,
+        b"222233300000000033333333999944494444000000554455440099994449799900005555599900000000999999999999999900000000000000008888999900000000888899990000000009999999980000000000000000000000000000000000000000000000000000000000000000000000000099990000000088898888888800000000888800008888000000008889888800000000000000000000000000000000000000000000000000000000",
+    ),
+];
+
+/// A file with these bytes in the places of its own.
+fn changed(alloc: Global, file: &[u8], changes: &[(usize, u8)]) -> Result<Vec<u8>, AllocError> {
+    let mut copy = Vec::from_slice(alloc, file)?;
+    for (at, value) in changes {
+        if let Some(byte) = copy.get_mut(*at) {
+            *byte = *value;
+        }
+    }
+    Ok(copy)
+}
+
+/// What is read from a file: the fault, or the entry, each segment's address and bytes, and each symbol.
+fn shown(alloc: Global, file: &[u8]) -> Result<String, AllocError> {
+    match read(alloc, file) {
+        Err(fault) => format!(in alloc; "{fault:?}"),
+        Ok(image) => shown_image(alloc, &image),
+    }
+}
+
+fn shown_image(alloc: Global, image: &Image) -> Result<String, AllocError> {
+    let entry = image.entry;
+    let mut text = format!(in alloc; "{entry:08x}")?;
+    for segment in image.segments.as_slice() {
+        let address = segment.address;
+        write!(text, " {address:08x}:")?;
+        for byte in segment.bytes.as_slice() {
+            write!(text, "{byte:02x}")?;
+        }
+    }
+    for symbol in image.symbols.as_slice() {
+        text.push(' ')?;
+        for byte in symbol.name.as_slice() {
+            text.push(char::from(*byte))?;
+        }
+        let value = symbol.value;
+        write!(text, "={value:08x}")?;
+    }
+    Ok(text)
+}
+
+/// The place in `ElfFault` of what is answered, or 0 for the same image and 9 for another.
+fn code(alloc: Global, file: &[u8], same: &str) -> Result<u8, AllocError> {
+    Ok(match read(alloc, file) {
+        Ok(image) => {
+            if shown_image(alloc, &image)?.as_str() == same {
+                b'0'
+            } else {
+                b'9'
+            }
+        }
+        Err(ElfFault::NoMemory) => b'1',
+        Err(ElfFault::NotElf) => b'2',
+        Err(ElfFault::Unsupported { .. }) => b'3',
+        Err(ElfFault::Truncated { .. }) => b'4',
+        Err(ElfFault::Sizes { .. }) => b'5',
+        Err(ElfFault::Overlap { .. }) => b'6',
+        Err(ElfFault::Outside { .. }) => b'7',
+        Err(ElfFault::Symbols { .. }) => b'8',
+    })
+}
+
+const SHORT_SHOWN: &str = "80000000 80000100:aabbcc0000000000";
+
+const ASSEMBLED_SHOWN: &str =
+    "80000000 80000000:3c0880008d09000c0000000000000007 _start=80000000 d=8000000c";
+
+fn bytes(alloc: Global, items: &[u8]) -> Result<Bytes, Fail> {
+    Ok(Bytes::from_vec(Vec::from_slice(alloc, items)?))
+}
+
+fn assembled(alloc: Global) -> Result<Image, Fail> {
+    let mut image = Image::from_words(alloc, &[0x3c08_8000, 0x8d09_000c, 0, 7])?;
+    for (name, value) in [("_start", 0x8000_0000), ("d", 0x8000_000c)] {
+        let name = bytes(alloc, name.as_bytes())?;
+        image.symbols.push(Symbol { name, value })?;
+    }
+    Ok(image)
+}
+
+#[test]
+fn whole_files(rt: HostRuntime) -> Result<(), Fail> {
+    let alloc = rt.alloc();
+    assert_eq!(rt; shown(alloc, &SHORT)?.as_str(), SHORT_SHOWN);
+    assert_eq!(rt; shown(alloc, &ASSEMBLED)?.as_str(), ASSEMBLED_SHOWN);
+    assert_eq!(rt; shown(alloc, b"ELF!")?.as_str(), "NotElf");
+    assert_eq!(rt; shown(alloc, b"")?.as_str(), "NotElf");
+    let image = assembled(alloc)?;
+    assert!(rt; image.is_plain());
+    assert_eq!(rt; write(alloc, &image)?.as_slice(), ASSEMBLED.as_slice());
+    Ok(())
+}
+
+/// Nothing to load and nothing named: header, the symbol of zeros, 28 bytes of strings and names, four section headers.
+#[test]
+fn an_empty_image(rt: HostRuntime) -> Result<(), Fail> {
+    let alloc = rt.alloc();
+    let image = Image::from_words(alloc, &[])?;
+    assert!(rt; image.is_plain());
+    let file = write(alloc, &image)?;
+    assert_eq!(rt; file.len(), 256);
+    assert_eq!(rt;
+        file.get(28..48).ok_or("short")?,
+        b"\0\0\0\0\0\0\0\x60\0\0\0\0\x004\0\x20\0\0\0\x28".as_slice()
+    );
+    assert_eq!(rt; shown(alloc, &file)?.as_str(), "80000000");
+    Ok(())
+}
+
+/// Segments of one to five bytes, the last two touching, each from a multiple of 4 on.
+#[test]
+fn several_segments(rt: HostRuntime) -> Result<(), Fail> {
+    let alloc = rt.alloc();
+    let mut image = Image::from_words(alloc, &[])?;
+    for (address, items) in [
+        (0x8000_0001, b"a".as_slice()),
+        (0x8000_0010, b"bcdef".as_slice()),
+        (0x80ff_fff8, b"ghi".as_slice()),
+        (0x80ff_fffb, b"jklmn".as_slice()),
+    ] {
+        let bytes = bytes(alloc, items)?;
+        image.segments.push(Segment { address, bytes })?;
+    }
+    assert!(rt; image.is_plain());
+    let file = write(alloc, &image)?;
+    assert_eq!(rt; file.len(), 180 + 24 + 16 + 28 + 160);
+    assert_eq!(rt;
+        file.get(180..204).ok_or("short")?,
+        b"a\0\0\0bcdef\0\0\0ghi\0jklmn\0\0\0".as_slice()
+    );
+    assert_eq!(rt;
+        shown(alloc, &file)?.as_str(),
+        "80000000 80000001:61 80000010:6263646566 80fffff8:676869 80fffffb:6a6b6c6d6e"
+    );
+    Ok(())
+}
+
+#[test]
+fn faults(rt: HostRuntime) -> Result<(), Fail> {
+    let alloc = rt.alloc();
+    let short: [(&[(usize, u8)], &str); 22] = [
+        (&[(4, 2)], "Unsupported { at: 4 }"),
+        (&[(5, 1)], "Unsupported { at: 5 }"),
+        (&[(6, 0)], "Unsupported { at: 6 }"),
+        (&[(17, 1)], "Unsupported { at: 16 }"),
+        (&[(19, 9)], "Unsupported { at: 18 }"),
+        (&[(23, 2)], "Unsupported { at: 20 }"),
+        (
+            &[(44, 0xff), (45, 0xff), (43, 31)],
+            "Unsupported { at: 44 }",
+        ),
+        (&[(55, 2)], "Unsupported { at: 52 }"),
+        (&[(55, 3)], "Unsupported { at: 52 }"),
+        (&[(43, 31)], "Sizes { at: 42 }"),
+        (&[(75, 2)], "Sizes { at: 52 }"),
+        (&[(45, 3)], "Truncated { at: 28 }"),
+        (&[(28, 0xff)], "Truncated { at: 28 }"),
+        (&[(59, 0x75)], "Truncated { at: 52 }"),
+        (&[(60, 0x7f)], "Outside { at: 52 }"),
+        // Bytes up to 2^32 - 1 and up to 2^32 exactly, and one more.
+        (
+            &[(60, 0xff), (61, 0xff), (62, 0xff), (63, 0xf7)],
+            "Outside { at: 52 }",
+        ),
+        (
+            &[(60, 0xff), (61, 0xff), (62, 0xff), (63, 0xf8)],
+            "Outside { at: 52 }",
+        ),
+        (
+            &[(60, 0xff), (61, 0xff), (62, 0xff), (63, 0xf9)],
+            "Sizes { at: 52 }",
+        ),
+        // The last address, and one more.
+        (
+            &[(61, 0xff), (62, 0xff), (63, 0xf8)],
+            "80000000 80fffff8:aabbcc0000000000",
+        ),
+        (&[(61, 0xff), (62, 0xff), (63, 0xf9)], "Outside { at: 52 }"),
+        // Each program header whole: the first one's address comes before the second one's type.
+        (&[(60, 0x7f), (84, 0), (87, 2)], "Outside { at: 52 }"),
+        (&[(84, 0), (87, 2)], "Unsupported { at: 84 }"),
+    ];
+    for (changes, expected) in short {
+        let file = changed(alloc, &SHORT, changes)?;
+        assert_eq!(rt; shown(alloc, &file)?.as_str(), expected);
+    }
+    let assembled: [(&[(usize, u8)], &str); 10] = [
+        (&[(267, 15)], "Symbols { at: 228 }"),
+        (&[(251, 49)], "Symbols { at: 228 }"),
+        (&[(255, 1)], "Symbols { at: 228 }"),
+        (&[(255, 4)], "Symbols { at: 228 }"),
+        (&[(244, 0xff)], "Symbols { at: 228 }"),
+        (&[(284, 0xff)], "Symbols { at: 228 }"),
+        (&[(157, 0x78)], "Symbols { at: 132 }"),
+        (&[(135, 10)], "Symbols { at: 132 }"),
+        (&[(132, 0xff)], "Symbols { at: 132 }"),
+        (&[(47, 39)], "Sizes { at: 46 }"),
+    ];
+    for (changes, expected) in assembled {
+        let file = changed(alloc, &ASSEMBLED, changes)?;
+        assert_eq!(rt; shown(alloc, &file)?.as_str(), expected);
+    }
+    Ok(())
+}
+
+/// What looks odd and is accepted.
+#[test]
+fn accepted(rt: HostRuntime) -> Result<(), Fail> {
+    let alloc = rt.alloc();
+    let start = "80000000 80000000:3c0880008d09000c0000000000000007 _start=80000000";
+    let unnamed = "80000000 80000000:3c0880008d09000c0000000000000007";
+    let short: [(&[(usize, u8)], &str); 5] = [
+        // No program headers, whatever their size; section headers of a wrong size, but none.
+        (&[(45, 0), (43, 31)], "80000000"),
+        (&[(47, 39), (32, 1)], SHORT_SHOWN),
+        // Skipped: the table begins at the ELF header, whose first word is no type that is known.
+        (&[(31, 0), (45, 1)], "80000000"),
+        // No bytes in the file, at an offset behind its end.
+        (&[(56, 0xff), (71, 0)], "80000000 80000100:0000000000000000"),
+        // Nothing in memory either.
+        (&[(71, 0), (75, 0)], "80000000"),
+    ];
+    for (changes, expected) in short {
+        let file = changed(alloc, &SHORT, changes)?;
+        assert_eq!(rt; shown(alloc, &file)?.as_str(), expected);
+    }
+    let assembled: [(&[(usize, u8)], &str); 9] = [
+        // A symbol of no section, also with a bad name; a second one of the same name; an empty name.
+        (&[(146, 0), (147, 0), (132, 0xff)], start),
+        (&[(135, 1)], start),
+        (&[(135, 9)], start),
+        (&[(135, 0)], start),
+        // The end of another name is a name.
+        (
+            &[(135, 6)],
+            "80000000 80000000:3c0880008d09000c0000000000000007 _start=80000000 t=8000000c",
+        ),
+        // No sections, no symbol table, an empty one behind the end of the file.
+        (&[(49, 0)], unnamed),
+        (&[(34, 0), (35, 0)], unnamed),
+        (&[(235, 11)], unnamed),
+        (&[(251, 0), (244, 0xff)], unnamed),
+    ];
+    for (changes, expected) in assembled {
+        let file = changed(alloc, &ASSEMBLED, changes)?;
+        assert_eq!(rt; shown(alloc, &file)?.as_str(), expected);
+    }
+    Ok(())
+}
+
+/// A second header that loads what the first one does, or next to it: below, and above by one byte too little.
+#[test]
+fn overlaps(rt: HostRuntime) -> Result<(), Fail> {
+    let alloc = rt.alloc();
+    for (place, expected) in [
+        (0x00, "Overlap { at: 84 }"),
+        (0x07, "Overlap { at: 84 }"),
+        (
+            0x08,
+            "80000000 80000100:aabbcc0000000000 80000108:aabbcc0000000000",
+        ),
+    ] {
+        let mut file = Vec::from_slice(alloc, SHORT.get(..84).ok_or("short")?)?;
+        file.extend_from_slice(SHORT.get(52..84).ok_or("short")?)?;
+        file.extend_from_slice(SHORT.get(116..).ok_or("short")?)?;
+        let up = changed(alloc, &file, &[(95, place)])?;
+        assert_eq!(rt; shown(alloc, &up)?.as_str(), expected);
+    }
+    for (place, expected) in [
+        (0xf9, "Overlap { at: 84 }"),
+        (
+            0xf8,
+            "80000000 80000100:aabbcc0000000000 800000f8:aabbcc0000000000",
+        ),
+    ] {
+        let mut file = Vec::from_slice(alloc, SHORT.get(..84).ok_or("short")?)?;
+        file.extend_from_slice(SHORT.get(52..84).ok_or("short")?)?;
+        file.extend_from_slice(SHORT.get(116..).ok_or("short")?)?;
+        let down = changed(alloc, &file, &[(94, 0), (95, place)])?;
+        assert_eq!(rt; shown(alloc, &down)?.as_str(), expected);
+    }
+    Ok(())
+}
+
+/// Each file cut to each length: which header describes what is missing. `table` and `segment` are where the program
+/// headers end, and the bytes that they load.
+#[test]
+fn cut_files(rt: HostRuntime) -> Result<(), Fail> {
+    let alloc = rt.alloc();
+    for (file, table, segment) in [
+        (SHORT.as_slice(), 116, 119),
+        (ASSEMBLED.as_slice(), 84, 100),
+    ] {
+        for len in 0..file.len() {
+            let expected = if len < 4 {
+                "NotElf"
+            } else if len < 52 {
+                "Truncated { at: 0 }"
+            } else if len < table {
+                "Truncated { at: 28 }"
+            } else if len < segment {
+                "Truncated { at: 52 }"
+            } else {
+                "Truncated { at: 32 }"
+            };
+            assert_eq!(rt;
+                shown(alloc, &file[..len])?.as_str(),
+                expected,
+                "{len} bytes"
+            );
+        }
+    }
+    Ok(())
+}
+
+#[test]
+fn each_byte_of_the_short_file(rt: HostRuntime) -> Result<(), Fail> {
+    let alloc = rt.alloc();
+    for (value, expected) in SHORT_CHANGED {
+        assert_eq!(rt; expected.len(), SHORT.len());
+        for (at, digit) in expected.iter().enumerate() {
+            let file = changed(alloc, &SHORT, &[(at, value)])?;
+            assert_eq!(rt; code(alloc, &file, SHORT_SHOWN)?, *digit, "{value} at {at}");
+        }
+    }
+    Ok(())
+}
+
+#[test]
+fn each_byte_of_the_assembled_file(rt: HostRuntime) -> Result<(), Fail> {
+    let alloc = rt.alloc();
+    for (value, expected) in ASSEMBLED_CHANGED {
+        assert_eq!(rt; expected.len(), ASSEMBLED.len());
+        for (at, digit) in expected.iter().enumerate() {
+            let file = changed(alloc, &ASSEMBLED, &[(at, value)])?;
+            assert_eq!(rt;
+                code(alloc, &file, ASSEMBLED_SHOWN)?,
+                *digit,
+                "{value} at {at}"
+            );
+        }
+    }
+    Ok(())
+}
+
+/// For a run in which a growth is refused (`rt try --test --fail-alloc N`): memory ran out, or the answer is the same.
+#[test]
+fn refused_growths(rt: HostRuntime) -> Result<(), Fail> {
+    let alloc = rt.alloc();
+    let image = match read(alloc, &ASSEMBLED) {
+        Ok(image) => image,
+        Err(fault) => {
+            assert_eq!(rt; fault, ElfFault::NoMemory);
+            return Ok(());
+        }
+    };
+    assert_eq!(rt; image.entry, 0x8000_0000);
+    assert_eq!(rt; image.segments.as_slice().len(), 1);
+    assert_eq!(rt;
+        image.segments.as_slice()[0].bytes.as_slice(),
+        &ASSEMBLED[84..100]
+    );
+    assert_eq!(rt; image.symbols.as_slice().len(), 2);
+    assert_eq!(rt;
+        image.symbols.as_slice()[0].name.as_slice(),
+        b"_start".as_slice()
+    );
+    assert_eq!(rt;
+        image.symbols.as_slice()[1].name.as_slice(),
+        b"d".as_slice()
+    );
+    assert!(rt; image.is_plain());
+    if let Ok(file) = write(alloc, &image) {
+        assert_eq!(rt; file.as_slice(), ASSEMBLED.as_slice());
+    }
+    Ok(())
+}
+
+#[test]
+fn texts(rt: HostRuntime) -> Result<(), Fail> {
+    let alloc = rt.alloc();
+    for (fault, text) in [
+        (ElfFault::NoMemory, "out of memory"),
+        (
+            ElfFault::NotElf,
+            "no ELF file: it doesn't begin with the bytes 7F 45 4C 46",
+        ),
+        (
+            ElfFault::Unsupported { at: 18 },
+            "offset 18: a value that isn't supported; wanted is a static big-endian ELF32 executable for MIPS",
+        ),
+        (
+            ElfFault::Truncated { at: 52 },
+            "offset 52: what this header describes lies past the end of the file",
+        ),
+        (
+            ElfFault::Sizes { at: 42 },
+            "offset 42: the sizes in this header are wrong",
+        ),
+        (
+            ElfFault::Overlap { at: 84 },
+            "offset 84: the segment of this program header overlaps an earlier one",
+        ),
+        (
+            ElfFault::Outside { at: 84 },
+            "offset 84: the segment of this program header isn't within 0x80000000 to 0x80ffffff",
+        ),
+        (
+            ElfFault::Symbols { at: 228 },
+            "offset 228: this symbol table, or the name of this symbol, is wrong",
+        ),
+    ] {
+        assert_eq!(rt; fault.to_string(alloc)?.as_str(), text);
+    }
+    Ok(())
+}

@@ -1,0 +1,62 @@
+#!/bin/sh
+# Links firmware with GNU as and ld (Debian: binutils-mips-linux-gnu) and reads it with the program elf_bench.
+#
+#   tests/elf_binutils.sh [PROGRAM]     PROGRAM: elf_bench, by default as `rt ci` leaves it
+#
+# One line for each case; the status is 1 if one failed. Without the package all are skipped, which it says.
+set -u
+top=$(cd "$(dirname "$0")/.." && pwd)
+program=${1:-$top/crates/elf_bench/out/elf_bench}
+if ! [ -x "$program" ]; then
+  echo "failed: elf_binutils: $program isn't there" >&2
+  exit 1
+fi
+for tool in mips-linux-gnu-as mips-linux-gnu-ld; do
+  if ! command -v "$tool" >/dev/null; then
+    echo "skipped: elf_binutils: $tool is missing (Debian: binutils-mips-linux-gnu)"
+    exit 0
+  fi
+done
+work=$(mktemp -d) || exit 1
+trap 'rm -rf "$work"' EXIT
+failed=0
+
+# expect NAME STATUS TEXT FILE: what the program says of a file
+expect() {
+  said=$("$program" "$4" 2>&1)
+  status=$?
+  if [ "$status" = "$2" ] && [ "$said" = "$3" ]; then
+    echo "ok: elf_binutils: $1"
+  else
+    echo "failed: elf_binutils: $1: status $status, said:" >&2
+    echo "$said" >&2
+    failed=1
+  fi
+}
+
+image='entry 80000000
+segment 80000000 112 bytes sum 1042'
+symbols='symbol 80000000 _start
+symbol 80000060 count
+symbol 80000050 value'
+cd "$work" || exit 1
+mips-linux-gnu-as -EB -mips32 -o big.o "$top/examples/firmware.s" || exit 1
+mips-linux-gnu-as -EL -mips32 -o little.o "$top/examples/firmware.s" || exit 1
+mips-linux-gnu-ld -EB -n -z noexecstack -T "$top/examples/firmware.ld" -o small.elf big.o || exit 1
+mips-linux-gnu-ld -EB -T "$top/examples/firmware.ld" -o pages.elf big.o || exit 1
+mips-linux-gnu-ld -EB -s -T "$top/examples/firmware.ld" -o stripped.elf big.o || exit 1
+mips-linux-gnu-ld -EL -e _start -Ttext=0x80000000 -o little.elf little.o || exit 1
+mips-linux-gnu-ld -EB -e _start -Ttext=0x80000000 -o default.elf big.o || exit 1
+
+expect 'linked by the script, with a PT_GNU_STACK' 0 "$image
+$symbols" small.elf
+expect 'linked by the script, with segments from a page on' 0 "$image
+$symbols" pages.elf
+expect 'stripped' 0 "$image" stripped.elf
+expect 'little-endian' 1 'Error: little.elf: offset 5: a value that isn'"'"'t supported; wanted is a static big-endian ELF32 executable for MIPS' little.elf
+expect 'not linked' 1 'Error: big.o: offset 16: a value that isn'"'"'t supported; wanted is a static big-endian ELF32 executable for MIPS' big.o
+case $("$program" default.elf 2>&1) in
+  *"isn't within 0x80000000 to 0x80ffffff") echo "ok: elf_binutils: linked without the script: outside" ;;
+  *) echo "failed: elf_binutils: linked without the script" >&2; failed=1 ;;
+esac
+exit "$failed"
