@@ -23,6 +23,10 @@ bench:
 	crates/board_bench/out/board_bench 100000000
 	cd crates/lanes_bench && rt run >/dev/null
 	crates/lanes_bench/out/lanes_bench time
+	cd crates/config_bench && rt run >/dev/null
+	crates/config_bench/out/config_bench 1
+	cd crates/elf_bench && rt run >/dev/null
+	crates/elf_bench/out/elf_bench time
 
 clean:
 	rm -rf build crates/*/out

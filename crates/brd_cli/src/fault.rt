@@ -6,7 +6,7 @@ ghost use Rattle.brd_cli.specs.declared.fault.CommandFault.TheVariants.{NoMemory
 use crate::word_text::WordsFault;
 use brd_mem::NoMemory;
 use std::alloc::{AllocError, AllocFailed};
-use std::io;
+use std::io::{self, ErrorKind};
 use thiserror::Error;
 
 /// Why a command ends with a status that isn't 0.
@@ -33,7 +33,17 @@ pub enum CommandFault {
 }
 
 impl CommandFault {
-    ghost use Rattle.brd_cli.specs.Command.{status_of};
+    /// The fault of a read that failed: want of memory, or the error itself.
+    pub fn of_read(error: io::Error) -> Self
+        ensures { IsReadFault result }
+    {
+        if error.kind() == ErrorKind::OutOfMemory {
+            return CommandFault::NoMemory;
+        }
+        CommandFault::Read(error)
+    }
+
+    ghost use Rattle.brd_cli.specs.Command.{status_of, IsReadFault};
 
     /// The status that the program ends with: 1 for a fault of the input, 3 for want of memory, 4 where reading or writing failed.
     pub fn status(&self) -> u8

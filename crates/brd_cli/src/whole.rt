@@ -32,7 +32,7 @@ pub fn read_whole<R: Read>(alloc: Global, reader: &mut R) -> Result<Vec<u8>, Com
             }
             Err(error) => {
                 if error.kind() != ErrorKind::Interrupted {
-                    return Err(CommandFault::Read(error));
+                    return Err(CommandFault::of_read(error));
                 }
             }
         }

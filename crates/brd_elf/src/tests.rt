@@ -179,7 +179,7 @@ fn whole_files(rt: HostRuntime) -> Result<(), Fail> {
     assert_eq!(rt; shown(alloc, b"ELF!")?.as_str(), "NotElf");
     assert_eq!(rt; shown(alloc, b"")?.as_str(), "NotElf");
     let image = assembled(alloc)?;
-    assert!(rt; image.is_plain());
+    assert!(rt; brd_mem::is_plain(&image));
     assert_eq!(rt; write(alloc, &image)?.as_slice(), ASSEMBLED.as_slice());
     Ok(())
 }
@@ -189,7 +189,7 @@ fn whole_files(rt: HostRuntime) -> Result<(), Fail> {
 fn an_empty_image(rt: HostRuntime) -> Result<(), Fail> {
     let alloc = rt.alloc();
     let image = Image::from_words(alloc, &[])?;
-    assert!(rt; image.is_plain());
+    assert!(rt; brd_mem::is_plain(&image));
     let file = write(alloc, &image)?;
     assert_eq!(rt; file.len(), 256);
     assert_eq!(rt;
@@ -214,7 +214,7 @@ fn several_segments(rt: HostRuntime) -> Result<(), Fail> {
         let bytes = bytes(alloc, items)?;
         image.segments.push(Segment { address, bytes })?;
     }
-    assert!(rt; image.is_plain());
+    assert!(rt; brd_mem::is_plain(&image));
     let file = write(alloc, &image)?;
     assert_eq!(rt; file.len(), 180 + 24 + 16 + 28 + 160);
     assert_eq!(rt;
@@ -462,7 +462,7 @@ fn refused_growths(rt: HostRuntime) -> Result<(), Fail> {
         image.symbols.as_slice()[1].name.as_slice(),
         b"d".as_slice()
     );
-    assert!(rt; image.is_plain());
+    assert!(rt; brd_mem::is_plain(&image));
     if let Ok(file) = write(alloc, &image) {
         assert_eq!(rt; file.as_slice(), ASSEMBLED.as_slice());
     }
