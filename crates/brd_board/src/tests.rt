@@ -34,7 +34,10 @@ fn words_that_fit(rt: HostRuntime) -> Result<(), Fail> {
 /// A branch with its slot, a SYSCALL, then a word that stands for nothing.
 #[test]
 fn what_events_report(rt: HostRuntime) -> Result<(), Fail> {
-    let mut board = Board::from_words(rt.alloc(), &[0x1000_0001, 0x2408_0007, 0x0000_000c, 0xffff_ffff])?;
+    let mut board = Board::from_words(
+        rt.alloc(),
+        &[0x1000_0001, 0x2408_0007, 0x0000_000c, 0xffff_ffff],
+    )?;
     assert_eq!(rt; board.standing(1), Some(Standing::Task(1)));
     for (event, report) in [
         (Event::Step(0), Report::NoSuch),

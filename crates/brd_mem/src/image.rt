@@ -31,10 +31,10 @@ impl Bytes {
     }
 
     /// The bytes of a vector.
-    pub fn from_vec(items: Vec<u8>) -> Self
-        ensures { result ≡ items.items }
+    pub fn from_vec(bytes: Vec<u8>) -> Self
+        ensures { result ≡ bytes.items }
     {
-        Bytes { items }
+        Bytes { bytes }
     }
 
     /// Puts these bytes at the end. A refusal changes nothing.

@@ -6,16 +6,16 @@
 ghost use Rattle.std.specs.Prelude.{◌≡◌, ℤ, ◌*ℤ◌, int_div, int_rem};
 ghost use Rattle.std.specs.Int.{w32, CanDivide};
 ghost use Rattle.brd_word.specs.Words.{
-    sign_extended8,
-    sign_extended16,
-    sum_overflows,
-    difference_overflows,
-    signed_product,
-    unsigned_product,
-    unsigned_quotient,
-    signed_quotient,
-    big_endian_bytes,
-    big_endian_word,
+  sign_extended8,
+  sign_extended16,
+  sum_overflows,
+  difference_overflows,
+  signed_product,
+  unsigned_product,
+  unsigned_quotient,
+  signed_quotient,
+  big_endian_bytes,
+  big_endian_word,
 };
 
 /// A byte's signed value as a word (MD00086, `sign_extend` of a loaded byte).
