@@ -1,6 +1,7 @@
 -- The board: what it consists of, what one event does to it, and what a list of events does.
 -- It has one processor, number 1, and one task, number 1, which is assigned to it; it has no interrupt handler.
 use Rattle.std.specs.Prelude.{ℕ, ◌+◌, ◌-◌, ◌^◌, ◌==◌, nat_lt, Bool, true, false, if◌then◌else◌, List, [], ◌∷◌, Option, Some, None}
+use Rattle.brd_link.specs.LinkSet.{LinkSet, word_of, without}
 use Rattle.brd_exec.specs.State.{State, write, advanced}
 use Rattle.brd_exec.specs.Step.{Ran, ran}
 use Rattle.brd_exec.specs.declared.outcome.Outcome.{Outcome}
@@ -20,6 +21,7 @@ pub record BoardState : Type 0 where
   pub off : Bool
   pub count : ℕ  -- the ticks so far
   pub memory : List ℕ
+  pub links : LinkSet
   pub state : TaskState  -- the task's
   pub context : State  -- the task's, also while it is dormant
   pub fault : Option Fault  -- the processor's last one
@@ -45,21 +47,29 @@ reserved_function = 2 ^ 32 - 10
 abbrev pub answered : State → State
 answered s = write (advanced s) 2 reserved_function
 
--- What an instruction leaves. An exception makes the task dormant, and is kept as the processor's last fault.
+-- the board with what the instruction left
+abbrev pub with_ran : BoardState → Ran → BoardState
+with_ran b after = record b { context = after.state; memory = after.memory; links = after.links }
+
+-- a service call: it ends the processor's link, and is answered
+abbrev pub called : BoardState → BoardState
+called b = record b { context = answered b.context; links = without b.links 1 }
+
+-- An exception makes the task dormant, and is kept as the processor's last fault. That no task runs any more ends the processor's link.
+abbrev pub faulted : BoardState → Fault → BoardState
+faulted b fault = record b { state = Dormant; fault = Some fault; links = without b.links 1 }
+
+-- what an instruction leaves
 abbrev pub instruction_done : BoardState → Ran → Outcome → Happened
-instruction_done b after Done =
-    record { board = record b { context = after.state; memory = after.memory }; report = report.Ran b.context.pc }
-instruction_done b after Syscall =
-    record { board = record b { context = answered after.state; memory = after.memory }; report = report.Called b.context.pc }
-instruction_done b after (Exception code epc bd) = record {
-  board = record b { context = after.state; memory = after.memory; state = Dormant; fault = Some (record { code = code; epc = epc; bd = bd }) };
-  report = report.Faulted b.context.pc;
-}
+instruction_done b after Done = record { board = with_ran b after; report = report.Ran b.context.pc }
+instruction_done b after Syscall = record { board = called (with_ran b after); report = report.Called b.context.pc }
+instruction_done b after (Exception code epc bd) =
+    record { board = faulted (with_ran b after) (record { code = code; epc = epc; bd = bd }); report = report.Faulted b.context.pc }
 
 -- the processor executes one instruction of the running task, if there is one
 abbrev pub stepped : BoardState → Happened
 stepped b =
-    if is_running b.state then instruction_done b (ran b.context b.memory) (ran b.context b.memory).outcome
+    if is_running b.state then instruction_done b (ran 1 b.context b.memory b.links) (ran 1 b.context b.memory b.links).outcome
     else record { board = b; report = report.Idle }
 
 -- the count after which time stands still (own choice)
@@ -94,6 +104,10 @@ standing_of b cpu = if cpu == 1 then Some (if is_running b.state then standing.T
 -- the context of the task that runs on a processor
 abbrev pub registers_of : BoardState → ℕ → Option State
 registers_of b cpu = if cpu == 1 then (if is_running b.state then Some b.context else None) else None
+
+-- the word that a processor's link is to, where it has one
+abbrev pub link_of : BoardState → ℕ → Option ℕ
+link_of b cpu = if cpu == 1 then word_of b.links 1 else None
 
 -- a processor's last fault
 abbrev pub fault_of : BoardState → ℕ → Option Fault

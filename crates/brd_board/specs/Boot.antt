@@ -25,12 +25,13 @@ abbrev pub loaded : List ℕ → List Segment → List ℕ
 loaded memory [] = memory
 loaded memory (segment ∷ others) = loaded (copied memory segment.address segment.bytes) others
 
--- a board that starts over a memory: on, at count 0, its task about to run
+-- a board that starts over a memory: on, at count 0, without links, its task about to run
 abbrev pub started : List ℕ → BoardState
 started memory = record {
   off = false;
   count = 0;
   memory = memory;
+  links = [];
   state = Ready;
   context = opening base 0 (base + ram_size);
   fault = None;

@@ -1,7 +1,7 @@
 //! The board.
 
 ghost use Rattle.std.specs.Prelude.{◌≡◌};
-ghost use Rattle.brd_board.specs.Board.{happens, stepped, ticked, after, standing_of, registers_of, fault_of, task_of};
+ghost use Rattle.brd_board.specs.Board.{happens, called, faulted, stepped, ticked, after, standing_of, registers_of, link_of, fault_of, task_of};
 ghost use Rattle.brd_board.specs.Boot.{boot, boot_words, Boots};
 ghost use Rattle.brd_mem.specs.Memory.{byte_at};
 ghost use Rattle.brd_mem.specs.Image.{image_of_words};
@@ -13,6 +13,7 @@ use crate::task::{TaskState, TaskView};
 use crate::view::{Fault, Standing};
 use brd_exec::{Context, Outcome, run};
 use brd_isa::Register;
+use brd_link::Links;
 use brd_mem::{BASE, Image, Ram};
 use std::alloc::Global;
 use std::marker::Model;
@@ -32,6 +33,7 @@ pub struct Board {
     off: bool,
     count: u64,
     ram: Ram,
+    links: Links,
     state: TaskState,
     context: Context,
     fault: Option<Fault>,
@@ -42,7 +44,7 @@ impl Model for Board {
 
     ghost Value = { BoardState };
 
-    ghost view = { λ b. record { off = b.off; count = b.count; memory = b.ram; state = b.state; context = b.context; fault = b.fault } };
+    ghost view = { λ b. record { off = b.off; count = b.count; memory = b.ram; links = b.links; state = b.state; context = b.context; fault = b.fault } };
 }
 
 impl Board {
@@ -69,6 +71,7 @@ impl Board {
             off: false,
             count: 0,
             ram,
+            links: Links::new(),
             state: TaskState::Ready,
             context: Context::opening(BASE, 0, STACK),
             fault: None,
@@ -113,18 +116,34 @@ impl Board {
             return Report::Idle;
         }
         let address = self.context.pc();
-        match run(&mut self.context, &mut self.ram) {
+        match run(&mut self.context, 1, &mut self.ram, &mut self.links) {
             Outcome::Done => Report::Ran(address),
             Outcome::Syscall => {
-                self.context.set(Register::low(2), RESERVED_FUNCTION);
+                self.answer_call();
                 Report::Called(address)
             }
             Outcome::Exception { code, epc, bd } => {
-                self.state = TaskState::Dormant;
-                self.fault = Some(Fault { code, epc, bd });
+                self.end_by_fault(Fault { code, epc, bd });
                 Report::Faulted(address)
             }
         }
+    }
+
+    /// Answers a service call, which ends the processor's link.
+    fn answer_call(&mut self)
+        ensures { self.new ≡ called self.old }
+    {
+        self.links.end(1);
+        self.context.set(Register::low(2), RESERVED_FUNCTION);
+    }
+
+    /// Ends the task by an exception. Nothing runs then, which ends the processor's link.
+    fn end_by_fault(&mut self, fault: Fault)
+        ensures { self.new ≡ faulted self.old fault }
+    {
+        self.links.end(1);
+        self.state = TaskState::Dormant;
+        self.fault = Some(fault);
     }
 
     /// A tick passes.
@@ -185,6 +204,13 @@ impl Board {
             wakeups: 0,
             context: self.context,
         })
+    }
+
+    /// The word that a processor's link is to, from an LL on; None where it has none.
+    pub fn link(&self, cpu: u8) -> Option<u32>
+        ensures { result ≡ link_of self.now cpu }
+    {
+        if cpu == 1 { self.links.state(1) } else { None }
     }
 
     /// The last exception on a processor.

@@ -95,3 +95,34 @@ fn lists_of_events(rt: HostRuntime) -> Result<(), Fail> {
     assert_eq!(rt; board.now(), 1);
     Ok(())
 }
+
+/// A link stands from the LL to the SC; a SYSCALL ends it, and so does an exception.
+#[test]
+fn links(rt: HostRuntime) -> Result<(), Fail> {
+    let words = [
+        0x3c09_8000, // lui $t1, 0x8000
+        0xc128_0100, // ll $t0, 0x100($t1)
+        0xe128_0100, // sc $t0, 0x100($t1)
+        0xc128_0100, // ll $t0, 0x100($t1)
+        0x0000_000c, // syscall
+        0xc128_0104, // ll $t0, 0x104($t1)
+        0xffff_ffff,
+    ];
+    let mut board = Board::from_words(rt.alloc(), &words)?;
+    for (address, link) in [
+        (0x8000_0000u32, None),
+        (0x8000_0004, Some(0x8000_0100)),
+        (0x8000_0008, None),
+        (0x8000_000c, Some(0x8000_0100)),
+        (0x8000_0010, None),
+        (0x8000_0014, Some(0x8000_0104)),
+        (0x8000_0018, None),
+    ] {
+        let report = board.event(Event::Step(1));
+        assert_eq!(rt; board.link(1), link, "{address:08x} {report:?}");
+        assert_eq!(rt; board.link(2), None);
+    }
+    assert_eq!(rt; board.standing(1), Some(Standing::Idle));
+    assert_eq!(rt; board.memory(0x8000_0103), Some(0));
+    Ok(())
+}

@@ -200,12 +200,12 @@ is_likely_by_zero Bgezal = false
 is_likely_by_zero Bltzall = true
 is_likely_by_zero Bgezall = true
 
-abbrev pub links : BranchZeroOp → Bool
-links Bltz = false
-links Bgez = false
-links Bltzl = false
-links Bgezl = false
-links Bltzal = true
-links Bgezal = true
-links Bltzall = true
-links Bgezall = true
+abbrev pub is_linking : BranchZeroOp → Bool
+is_linking Bltz = false
+is_linking Bgez = false
+is_linking Bltzl = false
+is_linking Bgezl = false
+is_linking Bltzal = true
+is_linking Bgezal = true
+is_linking Bltzall = true
+is_linking Bgezall = true

@@ -1,6 +1,6 @@
 //! One instruction.
 
-ghost use Rattle.std.specs.Prelude.{◌≡◌, ◌%◌, ◌^◌, ◌*◌};
+ghost use Rattle.std.specs.Prelude.{◌≡◌, ◌≤◌, ◌%◌, ◌^◌, ◌*◌};
 ghost use Rattle.brd_exec.specs.State.{
   read,
   write,
@@ -27,7 +27,7 @@ ghost use Rattle.brd_exec.specs.Values.{
   is_likely_by_sign,
   is_taken_by_zero,
   is_likely_by_zero,
-  links,
+  is_linking,
 };
 ghost use Rattle.brd_exec.specs.Step.{
   effect,
@@ -37,7 +37,7 @@ ghost use Rattle.brd_exec.specs.Step.{
   with_code,
   load_gives,
   store_gives,
-  stores,
+  load_or_store_linked,
   after_branch,
   linked_if,
   moved_from,
@@ -47,9 +47,12 @@ ghost use Rattle.brd_exec.specs.Step.{
   ran,
   Does,
   Sets,
+  Advances,
   TrapsIf,
 };
 ghost use Rattle.brd_exec.specs.declared.outcome.Outcome.TheVariants.{Exception};
+ghost use Rattle.brd_isa.specs.declared.instruction.LinkedOp.TheVariants.{Sc};
+ghost use Rattle.brd_mem.specs.Access.{loaded32};
 
 use crate::access;
 use crate::context::Context;
@@ -62,17 +65,21 @@ use crate::value::{
 };
 use brd_isa::{
     AccumulateOp, BranchOp, BranchSignOp, BranchZeroOp, CountOp, ImmediateOp, Insn, JumpIndex,
-    JumpOp, LoadOp, MoveFromOp, MoveToOp, ProductOp, Register, RegisterOp, ShiftAmount, ShiftOp,
-    ShiftVariableOp, StoreOp, decode,
+    JumpOp, LinkedOp, LoadOp, MoveFromOp, MoveToOp, ProductOp, Register, RegisterOp, ShiftAmount,
+    ShiftOp, ShiftVariableOp, StoreOp, decode,
 };
+use brd_link::Links;
 use brd_mem::Ram;
 
-/// Does one instruction of a context over a memory. A SYSCALL and an exception leave both as they were.
+/// Does one instruction of a context, for a processor, over memory and the processors' links. A SYSCALL and an exception leave context and memory as they
+/// were; they leave the links too, but that an SC ends its processor's link also where it raises.
 #[tactic(auto, unfolding(crate::specs::Step::ran))]
-pub fn run(context: &mut Context, ram: &mut Ram) -> Outcome
-    ensures { record { state = context.new; memory = ram.new; outcome = result } ≡ ran context.old ram.old }
+pub fn run(context: &mut Context, cpu: u8, ram: &mut Ram, links: &mut Links) -> Outcome
+    requires { (1 ≤ cpu) × (cpu ≤ 8) }
+    ensures { record { state = context.new; memory = ram.new; links = links.new; outcome = result }
+        ≡ ran cpu context.old ram.old links.old }
 {
-    match step(context, ram) {
+    match step(context, cpu, ram, links) {
         Ok(()) => Outcome::Done,
         Err(Stop::Call) => Outcome::Syscall,
         Err(Stop::Raise(code)) => raised(context, code),
@@ -94,8 +101,9 @@ fn raised(context: &Context, code: ExceptionCode) -> Outcome
 
 /// Fetches, decodes and does one instruction.
 #[tactic(auto, unfolding(crate::specs::Step::effect))]
-fn step(context: &mut Context, ram: &mut Ram) -> Result<(), Stop>
-    ensures { Does (effect context.old ram.old) context.old ram.old result context.new ram.new }
+fn step(context: &mut Context, cpu: u8, ram: &mut Ram, links: &mut Links) -> Result<(), Stop>
+    requires { (1 ≤ cpu) × (cpu ≤ 8) }
+    ensures { Does (effect cpu context.old ram.old links.old) context.old ram.old result context.new ram.new links.new }
 {
     let word = ram.fetch(context.pc())?;
     match decode(word) {
@@ -104,7 +112,7 @@ fn step(context: &mut Context, ram: &mut Ram) -> Result<(), Stop>
             if context.slot() && is_with_slot(&insn) {
                 return Err(Stop::Raise(ExceptionCode::RI));
             }
-            execute(context, ram, &insn)
+            execute(context, cpu, ram, links, &insn)
         }
     }
 }
@@ -125,8 +133,15 @@ fn is_with_slot(insn: &Insn) -> bool
 }
 
 /// Does an instruction that may stand here, one line a form of operands.
-fn execute(context: &mut Context, ram: &mut Ram, insn: &Insn) -> Result<(), Stop>
-    ensures { Does (meaning insn.now context.old ram.old) context.old ram.old result context.new ram.new }
+fn execute(
+    context: &mut Context,
+    cpu: u8,
+    ram: &mut Ram,
+    links: &mut Links,
+    insn: &Insn,
+) -> Result<(), Stop>
+    requires { (1 ≤ cpu) × (cpu ≤ 8) }
+    ensures { Does (meaning cpu insn.now context.old ram.old links.old) context.old ram.old result context.new ram.new links.new }
 {
     match *insn {
         Insn::Shift(op, rd, rt, sa) => shift(context, op, rd, rt, sa),
@@ -157,7 +172,20 @@ fn execute(context: &mut Context, ram: &mut Ram, insn: &Insn) -> Result<(), Stop
         Insn::Immediate(op, rt, rs, immediate) => with_immediate(context, op, rt, rs, immediate)?,
         Insn::LoadUpper(rt, immediate) => context.set(rt, u32::from(immediate) << 16),
         Insn::Load(op, rt, base, offset) => load(context, ram, op, rt, base, offset)?,
-        Insn::Store(op, rt, base, offset) => store(context, ram, op, rt, base, offset)?,
+        Insn::Store(op, rt, base, offset) => {
+            let address = context.address(base, offset);
+            store(context, ram, op, rt, address)?;
+            links.stored(cpu, address);
+        }
+        Insn::Linked(LinkedOp::Ll, rt, base, offset) => {
+            let address = context.address(base, offset);
+            load_linked(context, ram, rt, address)?;
+            links.set(cpu, address);
+        }
+        Insn::Linked(LinkedOp::Sc, rt, base, offset) => {
+            let address = context.address(base, offset);
+            store_if_linked(context, cpu, ram, links, rt, address)?;
+        }
         Insn::Prefetch(_, _, _) => context.advance(),
     }
     Ok(())
@@ -304,7 +332,7 @@ fn branch_sign(context: &mut Context, op: BranchSignOp, rs: Register, offset: u1
 
 /// The register is read before the link is written.
 fn branch_zero(context: &mut Context, op: BranchZeroOp, rs: Register, offset: u16)
-    ensures { context.new ≡ after_branch (linked_if context.old (links op)) (is_likely_by_zero op)
+    ensures { context.new ≡ after_branch (linked_if context.old (is_linking op)) (is_likely_by_zero op)
         (is_taken_by_zero op (read context.old rs)) offset }
 {
     let taken = is_zero_branch_taken(op, context.read(rs));
@@ -342,18 +370,50 @@ fn load(
     Ok(())
 }
 
+/// The links are left to the caller.
 fn store(
     context: &mut Context,
     ram: &mut Ram,
     op: StoreOp,
     rt: Register,
-    base: Register,
-    offset: u16,
+    address: u32,
 ) -> Result<(), Stop>
-    ensures { Does (stores context.old (store_gives op ram.old (address_of context.old base offset) (read context.old rt)))
-        context.old ram.old result context.new ram.new }
+    ensures { Advances (store_gives op ram.old address (read context.old rt)) context.old ram.old result context.new ram.new }
 {
-    access::store(op, ram, context.address(base, offset), context.read(rt))?;
+    access::store(op, ram, address, context.read(rt))?;
     context.advance();
+    Ok(())
+}
+
+/// LL without its link, which is left to the caller.
+fn load_linked(context: &mut Context, ram: &Ram, rt: Register, address: u32) -> Result<(), Stop>
+    ensures { Sets (with_code (loaded32 ram.now address)) context.old rt result context.new }
+{
+    let word = ram.load32(address)?;
+    context.set(rt, word);
+    Ok(())
+}
+
+/// SC.
+fn store_if_linked(
+    context: &mut Context,
+    cpu: u8,
+    ram: &mut Ram,
+    links: &mut Links,
+    rt: Register,
+    address: u32,
+) -> Result<(), Stop>
+    requires { (1 ≤ cpu) × (cpu ≤ 8) }
+    ensures { Does (load_or_store_linked Sc cpu context.old ram.old links.old rt address)
+        context.old ram.old result context.new ram.new links.new }
+{
+    if !links.take(cpu, address) {
+        ram.may_store32(address)?;
+        context.set(rt, 0);
+        return Ok(());
+    }
+    ram.store32(address, context.read(rt))?;
+    links.stored(cpu, address);
+    context.set(rt, 1);
     Ok(())
 }

@@ -1,4 +1,4 @@
-//! What one instruction does to a processor's context and to memory.
+//! What one instruction does to a processor's context, to memory and to the processors' links.
 //!
 //! The definition is `specs/Step.antt`; `run` does exactly that, and takes no memory.
 #![tactic(auto)]
@@ -12,3 +12,6 @@ mod value;
 pub use context::Context;
 pub use execute::run;
 pub use outcome::{ExceptionCode, Outcome};
+
+#[cfg(test)]
+mod tests;

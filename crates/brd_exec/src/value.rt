@@ -27,7 +27,7 @@ ghost use Rattle.brd_exec.specs.Values.{
   is_likely_by_sign,
   is_taken_by_zero,
   is_likely_by_zero,
-  links,
+  is_linking,
 };
 
 use crate::outcome::ExceptionCode;
@@ -285,7 +285,7 @@ pub fn is_zero_branch_likely(op: BranchZeroOp) -> bool
 
 /// Whether `op rs, target` under REGIMM links.
 pub fn is_zero_branch_linking(op: BranchZeroOp) -> bool
-    ensures { result ≡ links op }
+    ensures { result ≡ is_linking op }
 {
     matches!(
         op,

@@ -39,6 +39,10 @@ stored16 memory address half = at_place (λ at. put_half memory at half) (place_
 abbrev pub stored32 : List ℕ → ℕ → ℕ → Result (List ℕ) Exc
 stored32 memory address word = at_place (λ at. put_word memory at word) (place_of (length memory) address 4 AdES DBE)
 
+-- whether a data word could be stored at an address, or what the store would raise
+abbrev pub storable32 : List ℕ → ℕ → Result Unit Exc
+storable32 memory address = at_place (λ at. tt) (place_of (length memory) address 4 AdES DBE)
+
 -- A store that succeeds leaves the stored memory; one that is refused leaves memory as it was.
 abbrev pub Stores : Result (List ℕ) Exc → List ℕ → Result Unit Exc → List ℕ → Type 0
 Stores stored old (Ok x) new = stored ≡ Ok new

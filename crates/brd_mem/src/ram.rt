@@ -11,6 +11,7 @@ ghost use Rattle.brd_mem.specs.Access.{
   stored8,
   stored16,
   stored32,
+  storable32,
   Stores,
 };
 
@@ -141,6 +142,16 @@ impl Ram {
         self.bytes[at + 2] = third;
         self.bytes[at + 3] = fourth;
         Ok(())
+    }
+
+    /// Whether a data word could be stored at an address: AdES where it isn't aligned, then DBE where it isn't in RAM.
+    pub fn may_store32(&self, address: u32) -> Result<(), Exc>
+        ensures { result ≡ storable32 self.now address }
+    {
+        match self.place(address, 4, Exc::AdES, Exc::DBE) {
+            Ok(_) => Ok(()),
+            Err(exc) => Err(exc),
+        }
     }
 
     /// The place of `len` bytes from an address on: `unaligned` where it is no multiple of `len`, then `outside` where they aren't in RAM.

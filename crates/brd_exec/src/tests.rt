@@ -1,0 +1,222 @@
+//! LL and SC by several processors, with values that were worked out by hand.
+
+ghost use Rattle.std.specs.Prelude.{◌≤◌, ◌×◌};
+
+use crate::{Context, ExceptionCode, Outcome, run};
+use brd_isa::Register;
+use brd_link::Links;
+use brd_mem::Ram;
+use std::test::Fail;
+
+/// Where each instruction stands.
+const CODE: u32 = 0x8000_0000;
+
+/// What $a0 holds: a word at the start of a block.
+const BLOCK: u32 = 0x8000_1000;
+
+/// What $sp holds before each instruction.
+const BEFORE: u32 = 7;
+
+// Each with $sp as rt and an offset from $a0, or from $0, where RAM isn't.
+const LL: u32 = 0xc09d_0000;
+
+const LL_OUTSIDE: u32 = 0xc01d_0000;
+
+const LL_TO_ZERO: u32 = 0xc080_0000;
+
+const SC: u32 = 0xe09d_0000;
+
+const SC_OUTSIDE: u32 = 0xe01d_0000;
+
+const SB: u32 = 0xa09d_0000;
+
+const SH: u32 = 0xa49d_0000;
+
+const SWL: u32 = 0xa89d_0000;
+
+const SW: u32 = 0xac9d_0000;
+
+const SWR: u32 = 0xb89d_0000;
+
+const SYSCALL: u32 = 0x0000_000c;
+
+/// Does one instruction of a fresh context. Says how it ended and what $sp is then.
+fn done(ram: &mut Ram, links: &mut Links, cpu: u8, word: u32) -> Result<(Outcome, u32), Fail>
+    requires { (1 ≤ cpu) × (cpu ≤ 8) }
+{
+    if ram.store32(CODE, word).is_err() {
+        return Err(Fail::from("no RAM for the instruction"));
+    }
+    let mut context = Context::opening(CODE, BLOCK, BEFORE);
+    let outcome = run(&mut context, cpu, ram, links);
+    Ok((outcome, context.read(Register::low(29))))
+}
+
+/// Whether the SC of processor 1 stores: 1 where it does, 0 where it doesn't.
+#[test]
+fn what_ends_a_link(rt: HostRuntime) -> Result<(), Fail> {
+    for (name, before, answer) in [
+        ("nothing between", vec![in rt.alloc(); (1, LL)]?, 1),
+        ("no LL", vec![in rt.alloc(); (2, LL)]?, 0),
+        (
+            "a word of the block",
+            vec![in rt.alloc(); (1, LL), (2, SW + 4)]?,
+            0,
+        ),
+        (
+            "a word behind the block",
+            vec![in rt.alloc(); (1, LL), (2, SW + 0x10)]?,
+            1,
+        ),
+        (
+            "the block's last byte",
+            vec![in rt.alloc(); (1, LL), (2, SB + 0xf)]?,
+            0,
+        ),
+        (
+            "the byte behind the block",
+            vec![in rt.alloc(); (1, LL), (2, SB + 0x10)]?,
+            1,
+        ),
+        (
+            "a halfword of the block",
+            vec![in rt.alloc(); (1, LL), (8, SH + 0xe)]?,
+            0,
+        ),
+        (
+            "the left part of a word",
+            vec![in rt.alloc(); (1, LL), (2, SWL + 0xd)]?,
+            0,
+        ),
+        (
+            "the right part of a word",
+            vec![in rt.alloc(); (1, LL), (2, SWR + 0x5)]?,
+            0,
+        ),
+        (
+            "the right part behind the block",
+            vec![in rt.alloc(); (1, LL), (2, SWR + 0x11)]?,
+            1,
+        ),
+        (
+            "one's own store",
+            vec![in rt.alloc(); (1, LL), (1, SW + 4)]?,
+            1,
+        ),
+        (
+            "one's own store of the word",
+            vec![in rt.alloc(); (1, LL), (1, SW)]?,
+            1,
+        ),
+        (
+            "a store that raises",
+            vec![in rt.alloc(); (1, LL), (2, SW + 2)]?,
+            1,
+        ),
+        (
+            "an SC that stores",
+            vec![in rt.alloc(); (1, LL), (2, LL + 4), (2, SC + 4)]?,
+            0,
+        ),
+        (
+            "an SC that doesn't store",
+            vec![in rt.alloc(); (1, LL), (2, SC + 4)]?,
+            1,
+        ),
+        (
+            "an LL of the same word",
+            vec![in rt.alloc(); (1, LL), (2, LL)]?,
+            1,
+        ),
+        ("one's own SC", vec![in rt.alloc(); (1, LL), (1, SC)]?, 0),
+        (
+            "one's own SC to another word",
+            vec![in rt.alloc(); (1, LL), (1, SC + 4)]?,
+            0,
+        ),
+        (
+            "one's own SC that raises",
+            vec![in rt.alloc(); (1, LL), (1, SC + 1)]?,
+            0,
+        ),
+        (
+            "one's own SC outside RAM",
+            vec![in rt.alloc(); (1, LL), (1, SC_OUTSIDE)]?,
+            0,
+        ),
+        (
+            "a later LL of another word",
+            vec![in rt.alloc(); (1, LL), (1, LL + 4)]?,
+            0,
+        ),
+        (
+            "a later LL that raises",
+            vec![in rt.alloc(); (1, LL), (1, LL + 2)]?,
+            1,
+        ),
+        (
+            "a later LL outside RAM",
+            vec![in rt.alloc(); (1, LL), (1, LL_OUTSIDE)]?,
+            1,
+        ),
+        (
+            "an LL to register 0",
+            vec![in rt.alloc(); (1, LL_TO_ZERO)]?,
+            1,
+        ),
+        (
+            "a SYSCALL, which the board ends it at",
+            vec![in rt.alloc(); (1, LL), (1, SYSCALL)]?,
+            1,
+        ),
+    ] {
+        let mut ram = Ram::new(rt.alloc(), 0x1_0000)?;
+        let mut links = Links::new();
+        for (cpu, word) in before.iter() {
+            let _ = done(&mut ram, &mut links, *cpu, *word)?;
+        }
+        assert_eq!(rt;
+            done(&mut ram, &mut links, 1, SC)?,
+            (Outcome::Done, answer),
+            "{name}"
+        );
+        let stored = if answer == 1 {
+            Ok(BEFORE)
+        } else {
+            ram.load32(BLOCK)
+        };
+        assert_eq!(rt; ram.load32(BLOCK), stored, "{name}");
+        assert_eq!(rt; links.state(1), None, "{name}");
+    }
+    Ok(())
+}
+
+/// What LL and SC raise, and what becomes of the link.
+#[test]
+fn what_is_raised(rt: HostRuntime) -> Result<(), Fail> {
+    let mut ram = Ram::new(rt.alloc(), 0x1_0000)?;
+    let mut links = Links::new();
+    for (word, raised, link) in [
+        (LL, None, Some(BLOCK)),
+        (LL + 1, Some(ExceptionCode::AdEL), Some(BLOCK)),
+        (LL_OUTSIDE, Some(ExceptionCode::DBE), Some(BLOCK)),
+        (SC + 2, Some(ExceptionCode::AdES), None),
+        (LL + 8, None, Some(BLOCK + 8)),
+        (SC_OUTSIDE, Some(ExceptionCode::DBE), None),
+    ] {
+        let after = match raised {
+            None => (Outcome::Done, 0),
+            Some(code) => {
+                let outcome = Outcome::Exception {
+                    code,
+                    epc: CODE,
+                    bd: false,
+                };
+                (outcome, BEFORE)
+            }
+        };
+        assert_eq!(rt; done(&mut ram, &mut links, 1, word)?, after, "{word:08x}");
+        assert_eq!(rt; links.state(1), link, "{word:08x}");
+    }
+    Ok(())
+}
