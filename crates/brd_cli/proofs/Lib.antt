@@ -1,1 +1,2 @@
 pub mod WordTextLemmas
+pub mod InputLemmas

@@ -1,5 +1,5 @@
 -- What the commands write for what they read.
-use Rattle.std.specs.Prelude.{◌≡◌, ◌≢◌, ℕ, List, replicate, Option, Result, Ok, Err, IsOk}
+use Rattle.std.specs.Prelude.{◌≡◌, ◌≢◌, ◌<◌, ℕ, List, length, replicate, Option, Result, Ok, Err, IsOk}
 use Rattle.std.specs.Io.KnownBytes.{Keeps}
 use Rattle.brd_board.specs.declared.event.Event.TheVariants.{Step}
 use Rattle.brd_board.specs.Board.{after}
@@ -41,11 +41,24 @@ IsReadFault TooManyReads = Unit {0}
 IsReadFault (Words fault) = ⊥
 IsReadFault (Write error) = ⊥
 
+-- how many bytes an input may have (own choice)
+abbrev pub most_bytes : ℕ
+most_bytes = 134217728
+
+-- An input that is called too long has more bytes than an input may have.
+abbrev pub IsFaultOf : List ℕ → CommandFault → Type 0
+IsFaultOf input TooLong = most_bytes < length input
+IsFaultOf input NoMemory = Unit {0}
+IsFaultOf input (Words fault) = Unit {0}
+IsFaultOf input (Read error) = Unit {0}
+IsFaultOf input TooManyReads = Unit {0}
+IsFaultOf input (Write error) = Unit {0}
+
 -- A fault of the input is the input's first, and comes before anything is written.
-abbrev pub Refuses : CommandFault → Result (List ℕ) WordsFault → Option (List ℕ) → Option (List ℕ) → Type 0
-Refuses NoMemory output old new = Keeps old new
-Refuses (Words fault) output old new = (output ≡ Err fault) × (fault ≢ words_fault.NoMemory) × Keeps old new
-Refuses (Read error) output old new = Keeps old new
-Refuses TooLong output old new = Keeps old new
-Refuses TooManyReads output old new = Keeps old new
-Refuses (Write error) output old new = IsOk output
+abbrev pub Refuses : CommandFault → List ℕ → Result (List ℕ) WordsFault → Option (List ℕ) → Option (List ℕ) → Type 0
+Refuses NoMemory input output old new = Keeps old new
+Refuses (Words fault) input output old new = (output ≡ Err fault) × (fault ≢ words_fault.NoMemory) × Keeps old new
+Refuses (Read error) input output old new = Keeps old new
+Refuses TooLong input output old new = (most_bytes < length input) × Keeps old new
+Refuses TooManyReads input output old new = Keeps old new
+Refuses (Write error) input output old new = IsOk output

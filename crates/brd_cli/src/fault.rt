@@ -1,6 +1,6 @@
 //! Why a command ends with a status that isn't 0.
 
-ghost use Rattle.std.specs.Prelude.{◌≡◌};
+ghost use Rattle.std.specs.Prelude.{◌≡◌, ℕ, List};
 ghost use Rattle.brd_cli.specs.declared.fault.CommandFault.TheVariants.{NoMemory as no_memory};
 
 use crate::word_text::WordsFault;
@@ -35,7 +35,8 @@ pub enum CommandFault {
 impl CommandFault {
     /// The fault of a read that failed: want of memory, or the error itself.
     pub fn of_read(error: io::Error) -> Self
-        ensures { IsReadFault result }
+        ensures kind { IsReadFault result }
+        ensures any_input { (input : List ℕ) → IsFaultOf input result }
     {
         if error.kind() == ErrorKind::OutOfMemory {
             return CommandFault::NoMemory;
@@ -43,7 +44,7 @@ impl CommandFault {
         CommandFault::Read(error)
     }
 
-    ghost use Rattle.brd_cli.specs.Command.{status_of, IsReadFault};
+    ghost use Rattle.brd_cli.specs.Command.{status_of, IsReadFault, IsFaultOf};
 
     /// The status that the program ends with: 1 for a fault of the input, 3 for want of memory, 4 where reading or writing failed.
     pub fn status(&self) -> u8

@@ -29,7 +29,7 @@ pub fn words<R: Read, W: Write>(
         IfOk (words_output input steps) (Appends (W.contents writer.old) (W.contents writer.new)))) }
     ensures sound { OnOk result (IfSome (R.remaining reader.old) (λ input. IsOk (words_output input steps))) }
     ensures refused { IfErr result (λ fault. IfSome (R.remaining reader.old) (λ input.
-        Refuses fault (words_output input steps) (W.contents writer.old) (W.contents writer.new))) }
+        Refuses fault input (words_output input steps) (W.contents writer.old) (W.contents writer.new))) }
 {
     let text = match read_whole(alloc, reader) {
         Ok(text) => text,
