@@ -106,8 +106,8 @@ abbrev pub registers_of : BoardState → ℕ → Option State
 registers_of b cpu = if cpu == 1 then (if is_running b.state then Some b.context else None) else None
 
 -- the word that a processor's link is to, where it has one
-abbrev pub link_of : BoardState → ℕ → Option ℕ
-link_of b cpu = if cpu == 1 then word_of b.links 1 else None
+abbrev pub linked_word_of : BoardState → ℕ → Option ℕ
+linked_word_of b cpu = if cpu == 1 then word_of b.links 1 else None
 
 -- a processor's last fault
 abbrev pub fault_of : BoardState → ℕ → Option Fault

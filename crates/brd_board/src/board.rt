@@ -1,7 +1,7 @@
 //! The board.
 
 ghost use Rattle.std.specs.Prelude.{◌≡◌};
-ghost use Rattle.brd_board.specs.Board.{happens, called, faulted, stepped, ticked, after, standing_of, registers_of, link_of, fault_of, task_of};
+ghost use Rattle.brd_board.specs.Board.{happens, called, faulted, stepped, ticked, after, standing_of, registers_of, linked_word_of, fault_of, task_of};
 ghost use Rattle.brd_board.specs.Boot.{boot, boot_words, Boots};
 ghost use Rattle.brd_mem.specs.Memory.{byte_at};
 ghost use Rattle.brd_mem.specs.Image.{image_of_words};
@@ -208,7 +208,7 @@ impl Board {
 
     /// The word that a processor's link is to, from an LL on; None where it has none.
     pub fn link(&self, cpu: u8) -> Option<u32>
-        ensures { result ≡ link_of self.now cpu }
+        ensures { result ≡ linked_word_of self.now cpu }
     {
         if cpu == 1 { self.links.state(1) } else { None }
     }

@@ -96,12 +96,13 @@ fn lists_of_events(rt: HostRuntime) -> Result<(), Fail> {
     Ok(())
 }
 
-/// A link stands from the LL to the SC; a SYSCALL ends it, and so does an exception.
+/// A link stands from the LL to the SC, also while ticks pass; a SYSCALL ends it, and so does an exception.
 #[test]
 fn links(rt: HostRuntime) -> Result<(), Fail> {
     let words = [
         0x3c09_8000, // lui $t1, 0x8000
-        0xc128_0100, // ll $t0, 0x100($t1)
+        0xc12a_0100, // ll $t2, 0x100($t1)
+        0x2408_0005, // addiu $t0, $0, 5
         0xe128_0100, // sc $t0, 0x100($t1)
         0xc128_0100, // ll $t0, 0x100($t1)
         0x0000_000c, // syscall
@@ -109,20 +110,23 @@ fn links(rt: HostRuntime) -> Result<(), Fail> {
         0xffff_ffff,
     ];
     let mut board = Board::from_words(rt.alloc(), &words)?;
-    for (address, link) in [
-        (0x8000_0000u32, None),
-        (0x8000_0004, Some(0x8000_0100)),
-        (0x8000_0008, None),
-        (0x8000_000c, Some(0x8000_0100)),
-        (0x8000_0010, None),
-        (0x8000_0014, Some(0x8000_0104)),
-        (0x8000_0018, None),
+    for (event, report, link) in [
+        (Event::Step(1), Report::Ran(0x8000_0000), None),
+        (Event::Step(1), Report::Ran(0x8000_0004), Some(0x8000_0100)),
+        (Event::Tick, Report::Ticked, Some(0x8000_0100)),
+        (Event::Raise(1), Report::NoSuch, Some(0x8000_0100)),
+        (Event::Step(2), Report::NoSuch, Some(0x8000_0100)),
+        (Event::Step(1), Report::Ran(0x8000_0008), Some(0x8000_0100)),
+        (Event::Step(1), Report::Ran(0x8000_000c), None),
+        (Event::Step(1), Report::Ran(0x8000_0010), Some(0x8000_0100)),
+        (Event::Step(1), Report::Called(0x8000_0014), None),
+        (Event::Step(1), Report::Ran(0x8000_0018), Some(0x8000_0104)),
+        (Event::Step(1), Report::Faulted(0x8000_001c), None),
     ] {
-        let report = board.event(Event::Step(1));
-        assert_eq!(rt; board.link(1), link, "{address:08x} {report:?}");
+        assert_eq!(rt; board.event(event), report, "{event:?}");
+        assert_eq!(rt; board.link(1), link, "{report:?}");
         assert_eq!(rt; board.link(2), None);
     }
-    assert_eq!(rt; board.standing(1), Some(Standing::Idle));
-    assert_eq!(rt; board.memory(0x8000_0103), Some(0));
+    assert_eq!(rt; board.memory(0x8000_0103), Some(5));
     Ok(())
 }

@@ -30,8 +30,8 @@ use Rattle.brd_exec.specs.Values.{shift_gives, shift_variable_gives, register_gi
 use Rattle.brd_exec.specs.Unaligned.{loaded_left, loaded_right, stored_left, stored_right}
 use Rattle.brd_exec.specs.Exception.{code_of}
 
--- An instruction leads to a new context, memory and links, or stops: at a service call, or by an exception. Stopping leaves context and memory as they
--- were, and the links it names.
+-- An instruction leads to a new context, memory and links, or stops: at a service call, or by an exception. Where it stops, context and memory are
+-- as they were, and the links are those that it names.
 pub data Effect : Type 0 where
   Goes : State → List ℕ → LinkSet → Effect
   Stops : Stop → LinkSet → Effect
@@ -200,7 +200,7 @@ ended (Stops (Raise code) links) s memory = record { state = s; memory = memory;
 unfoldable pub ran : ℕ → State → List ℕ → LinkSet → Ran
 ran cpu s memory links = ended (effect cpu s memory links) s memory
 
--- What a function that does an effect leaves: all of it, or nothing and where it stopped.
+-- What a function that does an effect leaves: all of it; or where it stopped, the links, and context and memory as they were.
 abbrev pub Does : Effect → State → List ℕ → Result Unit Stop → State → List ℕ → LinkSet → Type 0
 Does (Goes after stored links) s memory result new_state new_memory new_links =
     (result ≡ Ok tt) × (new_state ≡ after) × (new_memory ≡ stored) × (new_links ≡ links)

@@ -64,7 +64,7 @@ pub enum Outcome {
     Done,
     /// It was a SYSCALL, and changed nothing.
     Syscall,
-    /// It raised an exception, and changed nothing.
+    /// It raised an exception, and changed neither context nor memory.
     Exception {
         /// Which one.
         code: ExceptionCode,

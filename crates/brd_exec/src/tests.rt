@@ -14,10 +14,13 @@ const CODE: u32 = 0x8000_0000;
 /// What $a0 holds: a word at the start of a block.
 const BLOCK: u32 = 0x8000_1000;
 
-/// What $sp holds before each instruction.
+/// What $sp holds before each instruction but the last SC.
 const BEFORE: u32 = 7;
 
-// Each with $sp as rt and an offset from $a0, or from $0, where RAM isn't.
+/// What it holds before that one.
+const LAST: u32 = 9;
+
+// Each with $sp as rt, where the name doesn't say $0, and an offset from $a0, or from $0, where RAM isn't.
 const LL: u32 = 0xc09d_0000;
 
 const LL_OUTSIDE: u32 = 0xc01d_0000;
@@ -25,6 +28,8 @@ const LL_OUTSIDE: u32 = 0xc01d_0000;
 const LL_TO_ZERO: u32 = 0xc080_0000;
 
 const SC: u32 = 0xe09d_0000;
+
+const SC_FROM_ZERO: u32 = 0xe080_0000;
 
 const SC_OUTSIDE: u32 = 0xe01d_0000;
 
@@ -40,14 +45,24 @@ const SWR: u32 = 0xb89d_0000;
 
 const SYSCALL: u32 = 0x0000_000c;
 
-/// Does one instruction of a fresh context. Says how it ended and what $sp is then.
-fn done(ram: &mut Ram, links: &mut Links, cpu: u8, word: u32) -> Result<(Outcome, u32), Fail>
+const BREAK: u32 = 0x0000_000d;
+
+const RESERVED: u32 = 0xffff_ffff;
+
+/// Does one instruction of a fresh context with this in $sp. Says how it ended and what $sp is then.
+fn done(
+    ram: &mut Ram,
+    links: &mut Links,
+    cpu: u8,
+    word: u32,
+    stack: u32,
+) -> Result<(Outcome, u32), Fail>
     requires { (1 ≤ cpu) × (cpu ≤ 8) }
 {
     if ram.store32(CODE, word).is_err() {
         return Err(Fail::from("no RAM for the instruction"));
     }
-    let mut context = Context::opening(CODE, BLOCK, BEFORE);
+    let mut context = Context::opening(CODE, BLOCK, stack);
     let outcome = run(&mut context, cpu, ram, links);
     Ok((outcome, context.read(Register::low(29))))
 }
@@ -165,7 +180,27 @@ fn what_ends_a_link(rt: HostRuntime) -> Result<(), Fail> {
             1,
         ),
         (
-            "a SYSCALL, which the board ends it at",
+            "one's own SC from register 0",
+            vec![in rt.alloc(); (1, LL), (1, SC_FROM_ZERO)]?,
+            0,
+        ),
+        (
+            "one's own store that raises",
+            vec![in rt.alloc(); (1, LL), (1, SW + 2)]?,
+            1,
+        ),
+        (
+            "a BREAK, at which the board ends the link",
+            vec![in rt.alloc(); (1, LL), (1, BREAK)]?,
+            1,
+        ),
+        (
+            "a reserved word, at which the board ends the link",
+            vec![in rt.alloc(); (1, LL), (1, RESERVED)]?,
+            1,
+        ),
+        (
+            "a SYSCALL, at which the board ends the link",
             vec![in rt.alloc(); (1, LL), (1, SYSCALL)]?,
             1,
         ),
@@ -173,19 +208,16 @@ fn what_ends_a_link(rt: HostRuntime) -> Result<(), Fail> {
         let mut ram = Ram::new(rt.alloc(), 0x1_0000)?;
         let mut links = Links::new();
         for (cpu, word) in before.iter() {
-            let _ = done(&mut ram, &mut links, *cpu, *word)?;
+            let _ = done(&mut ram, &mut links, *cpu, *word, BEFORE)?;
         }
+        let old = ram.load32(BLOCK);
         assert_eq!(rt;
-            done(&mut ram, &mut links, 1, SC)?,
+            done(&mut ram, &mut links, 1, SC, LAST)?,
             (Outcome::Done, answer),
             "{name}"
         );
-        let stored = if answer == 1 {
-            Ok(BEFORE)
-        } else {
-            ram.load32(BLOCK)
-        };
-        assert_eq!(rt; ram.load32(BLOCK), stored, "{name}");
+        let wanted = if answer == 1 { Ok(LAST) } else { old };
+        assert_eq!(rt; ram.load32(BLOCK), wanted, "{name}");
         assert_eq!(rt; links.state(1), None, "{name}");
     }
     Ok(())
@@ -215,8 +247,29 @@ fn what_is_raised(rt: HostRuntime) -> Result<(), Fail> {
                 (outcome, BEFORE)
             }
         };
-        assert_eq!(rt; done(&mut ram, &mut links, 1, word)?, after, "{word:08x}");
+        assert_eq!(rt;
+            done(&mut ram, &mut links, 1, word, BEFORE)?,
+            after,
+            "{word:08x}"
+        );
         assert_eq!(rt; links.state(1), link, "{word:08x}");
     }
+    Ok(())
+}
+
+/// An SC from register 0 stores, and that register stays 0.
+#[test]
+fn from_register_0(rt: HostRuntime) -> Result<(), Fail> {
+    let mut ram = Ram::new(rt.alloc(), 0x1_0000)?;
+    let mut links = Links::new();
+    if ram.store32(BLOCK, 5).is_err() {
+        return Err(Fail::from("no RAM at the block"));
+    }
+    let linked = done(&mut ram, &mut links, 1, LL_TO_ZERO, BEFORE)?;
+    assert_eq!(rt; linked, (Outcome::Done, BEFORE));
+    let stored = done(&mut ram, &mut links, 1, SC_FROM_ZERO, BEFORE)?;
+    assert_eq!(rt; stored, (Outcome::Done, BEFORE));
+    assert_eq!(rt; ram.load32(BLOCK), Ok(0));
+    assert_eq!(rt; links.state(1), None);
     Ok(())
 }
