@@ -1,6 +1,7 @@
 -- What the commands write for what they read.
 use Rattle.std.specs.Prelude.{◌≡◌, ◌≢◌, ◌<◌, ℕ, List, length, replicate, Option, Result, Ok, Err, IsOk}
 use Rattle.std.specs.Io.KnownBytes.{Keeps}
+use Rattle.std.specs.declared.io.Error.{Error}
 use Rattle.brd_board.specs.declared.event.Event.TheVariants.{Step}
 use Rattle.brd_board.specs.Board.{after}
 use Rattle.brd_board.specs.Boot.{started, memory_of_words}
@@ -31,6 +32,15 @@ status_of (Read error) = 4
 status_of TooLong = 4
 status_of TooManyReads = 4
 status_of (Write error) = 4
+
+-- the fault of a read that failed with this error: want of memory, or the error
+abbrev pub IsOfRead : Error → CommandFault → Type 0
+IsOfRead error NoMemory = Unit {0}
+IsOfRead error (Read e) = e ≡ error
+IsOfRead error TooLong = ⊥
+IsOfRead error TooManyReads = ⊥
+IsOfRead error (Words fault) = ⊥
+IsOfRead error (Write e) = ⊥
 
 -- what may keep an input from being read
 abbrev pub IsReadFault : CommandFault → Type 0

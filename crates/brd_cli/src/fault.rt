@@ -35,6 +35,7 @@ pub enum CommandFault {
 impl CommandFault {
     /// The fault of a read that failed: want of memory, or the error itself.
     pub fn of_read(error: io::Error) -> Self
+        ensures same { IsOfRead error result }
         ensures kind { IsReadFault result }
         ensures any_input { (input : List ℕ) → IsFaultOf input result }
     {
@@ -44,7 +45,7 @@ impl CommandFault {
         CommandFault::Read(error)
     }
 
-    ghost use Rattle.brd_cli.specs.Command.{status_of, IsReadFault, IsFaultOf};
+    ghost use Rattle.brd_cli.specs.Command.{status_of, IsOfRead, IsReadFault, IsFaultOf};
 
     /// The status that the program ends with: 1 for a fault of the input, 3 for want of memory, 4 where reading or writing failed.
     pub fn status(&self) -> u8

@@ -1,5 +1,6 @@
 -- One instruction of a processor: what it does to a context, to memory and to the processors' links, or what it stops at.
 use Rattle.std.specs.Prelude.{◌≡◌, ℕ, ◌+◌, ◌-◌, ◌*◌, ◌%◌, ◌^◌, Bool, ◌&&◌, true, false, if◌then◌else◌, List, Option, Some, None, Result, Ok, Err}
+use Rattle.std.specs.Bool.{MatchBool}
 use Rattle.brd_isa.specs.declared.instruction.Insn.{Insn}
 use Rattle.brd_isa.specs.declared.instruction.Insn.TheVariants.{Shift, ShiftVariable, ThreeRegisters, Multiply, JumpRegister, JumpLinkRegister, Syscall, Break, Sync, MoveFrom, MoveTo, Product, Accumulate, Count, Trap, TrapImmediate, Jump, Branch, BranchSign, BranchZero, Immediate, LoadUpper, Load, Store, Linked, Prefetch}
 use Rattle.brd_isa.specs.declared.instruction.LoadOp.{LoadOp}
@@ -221,3 +222,7 @@ TrapsIf false s result new_state = (result ≡ Ok tt) × (new_state ≡ advanced
 abbrev pub Advances : Result (List ℕ) Exc → State → List ℕ → Result Unit Stop → State → List ℕ → Type 0
 Advances (Ok stored) s memory result new_state new_memory = (result ≡ Ok tt) × (new_state ≡ advanced s) × (new_memory ≡ stored)
 Advances (Err exc) s memory result new_state new_memory = (result ≡ Err (Raise (code_of exc))) × (new_state ≡ s) × (new_memory ≡ memory)
+
+-- What a branch or a jump leaves: what it leads to, or RI where it is in a delay slot.
+abbrev pub Jumps : State → State → Result Unit Stop → State → Type 0
+Jumps s after result new_state = MatchBool s.slot ((result ≡ Err (Raise RI)) × (new_state ≡ s)) ((result ≡ Ok tt) × (new_state ≡ after))

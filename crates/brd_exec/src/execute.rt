@@ -1,6 +1,6 @@
 //! One instruction.
 
-ghost use Rattle.std.specs.Prelude.{◌≡◌, ◌≤◌, ◌%◌, ◌^◌, ◌*◌};
+ghost use Rattle.std.specs.Prelude.{◌≡◌, ◌≤◌, ◌%◌, ◌^◌, ◌*◌, if◌then◌else◌, Ok, Err};
 ghost use Rattle.brd_exec.specs.State.{
   read,
   write,
@@ -31,8 +31,7 @@ ghost use Rattle.brd_exec.specs.Values.{
 };
 ghost use Rattle.brd_exec.specs.Step.{
   effect,
-  meaning,
-  has_slot,
+  of_instruction,
   with_register,
   with_code,
   load_gives,
@@ -48,9 +47,12 @@ ghost use Rattle.brd_exec.specs.Step.{
   Does,
   Sets,
   Advances,
+  Jumps,
   TrapsIf,
 };
 ghost use Rattle.brd_exec.specs.declared.outcome.Outcome.TheVariants.{Exception};
+ghost use Rattle.brd_exec.specs.declared.outcome.ExceptionCode.TheVariants.{RI};
+ghost use Rattle.brd_exec.specs.declared.outcome.Stop.TheVariants.{Raise};
 ghost use Rattle.brd_isa.specs.declared.instruction.LinkedOp.TheVariants.{Sc};
 ghost use Rattle.brd_mem.specs.Access.{loaded32};
 
@@ -108,31 +110,11 @@ fn step(context: &mut Context, cpu: u8, ram: &mut Ram, links: &mut Links) -> Res
     let word = ram.fetch(context.pc())?;
     match decode(word) {
         None => Err(Stop::Raise(ExceptionCode::RI)),
-        Some(insn) => {
-            if context.slot() && is_with_slot(&insn) {
-                return Err(Stop::Raise(ExceptionCode::RI));
-            }
-            execute(context, cpu, ram, links, &insn)
-        }
+        Some(insn) => { execute(context, cpu, ram, links, &insn) }
     }
 }
 
-/// Whether an instruction is a branch or a jump, which has a delay slot.
-fn is_with_slot(insn: &Insn) -> bool
-    ensures { result ≡ has_slot insn.now }
-{
-    matches!(
-        insn,
-        Insn::JumpRegister(_)
-            | Insn::JumpLinkRegister(_, _)
-            | Insn::Jump(_, _)
-            | Insn::Branch(_, _, _, _)
-            | Insn::BranchSign(_, _, _)
-            | Insn::BranchZero(_, _, _)
-    )
-}
-
-/// Does an instruction that may stand here, one line a form of operands.
+/// Does an instruction, one line a form of operands.
 fn execute(
     context: &mut Context,
     cpu: u8,
@@ -141,15 +123,15 @@ fn execute(
     insn: &Insn,
 ) -> Result<(), Stop>
     requires { (1 ≤ cpu) × (cpu ≤ 8) }
-    ensures { Does (meaning cpu insn.now context.old ram.old links.old) context.old ram.old result context.new ram.new links.new }
+    ensures { Does (of_instruction cpu context.old ram.old links.old insn.now) context.old ram.old result context.new ram.new links.new }
 {
     match *insn {
         Insn::Shift(op, rd, rt, sa) => shift(context, op, rd, rt, sa),
         Insn::ShiftVariable(op, rd, rt, rs) => shift_variable(context, op, rd, rt, rs),
         Insn::ThreeRegisters(op, rd, rs, rt) => three_registers(context, op, rd, rs, rt)?,
         Insn::Multiply(rd, rs, rt) => multiply(context, rd, rs, rt),
-        Insn::JumpRegister(rs) => jump_register(context, rs),
-        Insn::JumpLinkRegister(rd, rs) => jump_link_register(context, rd, rs),
+        Insn::JumpRegister(rs) => jump_register(context, rs)?,
+        Insn::JumpLinkRegister(rd, rs) => jump_link_register(context, rd, rs)?,
         Insn::Syscall(_) => return Err(Stop::Call),
         Insn::Break(_) => return Err(Stop::Raise(ExceptionCode::Bp)),
         Insn::Sync => context.advance(),
@@ -165,10 +147,10 @@ fn execute(
         Insn::TrapImmediate(op, rs, immediate) => {
             trap_if(context, is_immediate_trap(op, context.read(rs), immediate))?
         }
-        Insn::Jump(op, index) => jump(context, op, index),
-        Insn::Branch(op, rs, rt, offset) => branch(context, op, rs, rt, offset),
-        Insn::BranchSign(op, rs, offset) => branch_sign(context, op, rs, offset),
-        Insn::BranchZero(op, rs, offset) => branch_zero(context, op, rs, offset),
+        Insn::Jump(op, index) => jump(context, op, index)?,
+        Insn::Branch(op, rs, rt, offset) => branch(context, op, rs, rt, offset)?,
+        Insn::BranchSign(op, rs, offset) => branch_sign(context, op, rs, offset)?,
+        Insn::BranchZero(op, rs, offset) => branch_zero(context, op, rs, offset)?,
         Insn::Immediate(op, rt, rs, immediate) => with_immediate(context, op, rt, rs, immediate)?,
         Insn::LoadUpper(rt, immediate) => context.set(rt, u32::from(immediate) << 16),
         Insn::Load(op, rt, base, offset) => load(context, ram, op, rt, base, offset)?,
@@ -235,21 +217,36 @@ fn multiply(context: &mut Context, rd: Register, rs: Register, rt: Register)
     context.set(rd, word);
 }
 
-fn jump_register(context: &mut Context, rs: Register)
-    ensures { context.new ≡ jumped context.old (read context.old rs) }
+/// A branch or a jump raises RI in a delay slot.
+fn outside_slot(context: &Context) -> Result<(), Stop>
+    ensures { result ≡ (if context.now.slot then Err (Raise RI) else Ok tt) }
 {
+    if context.slot() {
+        return Err(Stop::Raise(ExceptionCode::RI));
+    }
+    Ok(())
+}
+
+fn jump_register(context: &mut Context, rs: Register) -> Result<(), Stop>
+    ensures { Jumps context.old (jumped context.old (read context.old rs)) result context.new }
+{
+    outside_slot(context)?;
     let target = context.read(rs);
     context.jump(target);
+    Ok(())
 }
 
 /// The target is what the register was before the link was written.
-fn jump_link_register(context: &mut Context, rd: Register, rs: Register)
-    ensures { context.new ≡ jumped (write context.old rd (link_of context.old)) (read context.old rs) }
+fn jump_link_register(context: &mut Context, rd: Register, rs: Register) -> Result<(), Stop>
+    ensures { Jumps context.old (jumped (write context.old rd (link_of context.old)) (read context.old rs))
+        result context.new }
 {
+    outside_slot(context)?;
     let target = context.read(rs);
     let link = context.link();
     context.write(rd, link);
     context.jump(target);
+    Ok(())
 }
 
 fn move_from(context: &mut Context, op: MoveFromOp, rd: Register)
@@ -306,38 +303,65 @@ fn trap_if(context: &mut Context, traps: bool) -> Result<(), Stop>
     Ok(())
 }
 
-fn jump(context: &mut Context, op: JumpOp, index: JumpIndex)
-    ensures { context.new ≡ jumped (linked_if context.old (jump_links op)) (jump_target context.old index) }
+fn jump(context: &mut Context, op: JumpOp, index: JumpIndex) -> Result<(), Stop>
+    ensures { Jumps context.old (jumped (linked_if context.old (jump_links op)) (jump_target context.old index))
+        result context.new }
 {
+    outside_slot(context)?;
     let target = context.jump_target(index);
     context.link_if(op == JumpOp::Jal);
     context.jump(target);
+    Ok(())
 }
 
-fn branch(context: &mut Context, op: BranchOp, rs: Register, rt: Register, offset: u16)
-    ensures { context.new ≡
-        after_branch context.old (is_likely op) (is_taken op (read context.old rs) (read context.old rt)) offset }
+fn branch(
+    context: &mut Context,
+    op: BranchOp,
+    rs: Register,
+    rt: Register,
+    offset: u16,
+) -> Result<(), Stop>
+    ensures { Jumps context.old
+        (after_branch context.old (is_likely op) (is_taken op (read context.old rs) (read context.old rt)) offset)
+        result context.new }
 {
+    outside_slot(context)?;
     let taken = is_branch_taken(op, context.read(rs), context.read(rt));
     context.branch(is_branch_likely(op), taken, offset);
+    Ok(())
 }
 
-fn branch_sign(context: &mut Context, op: BranchSignOp, rs: Register, offset: u16)
-    ensures { context.new ≡
-        after_branch context.old (is_likely_by_sign op) (is_taken_by_sign op (read context.old rs)) offset }
+fn branch_sign(
+    context: &mut Context,
+    op: BranchSignOp,
+    rs: Register,
+    offset: u16,
+) -> Result<(), Stop>
+    ensures { Jumps context.old
+        (after_branch context.old (is_likely_by_sign op) (is_taken_by_sign op (read context.old rs)) offset)
+        result context.new }
 {
+    outside_slot(context)?;
     let taken = is_sign_branch_taken(op, context.read(rs));
     context.branch(is_sign_branch_likely(op), taken, offset);
+    Ok(())
 }
 
 /// The register is read before the link is written.
-fn branch_zero(context: &mut Context, op: BranchZeroOp, rs: Register, offset: u16)
-    ensures { context.new ≡ after_branch (linked_if context.old (is_linking op)) (is_likely_by_zero op)
-        (is_taken_by_zero op (read context.old rs)) offset }
+fn branch_zero(
+    context: &mut Context,
+    op: BranchZeroOp,
+    rs: Register,
+    offset: u16,
+) -> Result<(), Stop>
+    ensures { Jumps context.old (after_branch (linked_if context.old (is_linking op)) (is_likely_by_zero op)
+        (is_taken_by_zero op (read context.old rs)) offset) result context.new }
 {
+    outside_slot(context)?;
     let taken = is_zero_branch_taken(op, context.read(rs));
     context.link_if(is_zero_branch_linking(op));
     context.branch(is_zero_branch_likely(op), taken, offset);
+    Ok(())
 }
 
 fn with_immediate(
