@@ -1,16 +1,20 @@
 -- What the commands write for what they read.
 use Rattle.std.specs.Prelude.{◌≡◌, ◌≢◌, ◌<◌, ℕ, List, length, replicate, Option, Result, Ok, Err, IsOk}
-use Rattle.std.specs.Io.KnownBytes.{Keeps}
+use Rattle.std.specs.Io.KnownBytes.{Keeps, Appends}
 use Rattle.std.specs.declared.io.Error.{Error}
 use Rattle.brd_board.specs.declared.event.Event.TheVariants.{Step}
 use Rattle.brd_board.specs.Board.{after}
 use Rattle.brd_board.specs.Boot.{started, memory_of_words}
+use Rattle.brd_mem.specs.declared.image.Image.{Image}
+use Rattle.brd_elf.specs.File.{file}
+use Rattle.brd_asm.specs.Image.{Program, program_of, IsImage}
+use Rattle.brd_asm.specs.declared.fault.AsmFault.TheVariants as asm_fault
 use Rattle.brd_cli.specs.WordText.{words_of_text}
 use Rattle.brd_cli.specs.Shown.{board_shown}
 use Rattle.brd_cli.specs.declared.word_text.WordsFault.{WordsFault}
 use Rattle.brd_cli.specs.declared.word_text.WordsFault.TheVariants as words_fault
 use Rattle.brd_cli.specs.declared.fault.CommandFault.{CommandFault}
-use Rattle.brd_cli.specs.declared.fault.CommandFault.TheVariants.{NoMemory, Words, Read, TooLong, TooManyReads, Write}
+use Rattle.brd_cli.specs.declared.fault.CommandFault.TheVariants.{NoMemory, Words, Source, Open, Read, TooLong, TooManyReads, Write}
 
 -- the board of these words after so many steps of processor 1
 abbrev pub words_shown : List ℕ → ℕ → List ℕ
@@ -28,6 +32,8 @@ words_output text steps = shown_or_fault (words_of_text text) steps
 abbrev pub status_of : CommandFault → ℕ
 status_of NoMemory = 3
 status_of (Words fault) = 1
+status_of (Source fault) = 1
+status_of (Open name error) = 4
 status_of (Read error) = 4
 status_of TooLong = 4
 status_of TooManyReads = 4
@@ -40,6 +46,8 @@ IsOfRead error (Read e) = e ≡ error
 IsOfRead error TooLong = ⊥
 IsOfRead error TooManyReads = ⊥
 IsOfRead error (Words fault) = ⊥
+IsOfRead error (Source fault) = ⊥
+IsOfRead error (Open name e) = ⊥
 IsOfRead error (Write e) = ⊥
 
 -- what may keep an input from being read
@@ -49,6 +57,8 @@ IsReadFault (Read error) = Unit {0}
 IsReadFault TooLong = Unit {0}
 IsReadFault TooManyReads = Unit {0}
 IsReadFault (Words fault) = ⊥
+IsReadFault (Source fault) = ⊥
+IsReadFault (Open name error) = ⊥
 IsReadFault (Write error) = ⊥
 
 -- how many bytes an input may have (own choice)
@@ -60,6 +70,8 @@ abbrev pub IsFaultOf : List ℕ → CommandFault → Type 0
 IsFaultOf input TooLong = most_bytes < length input
 IsFaultOf input NoMemory = Unit {0}
 IsFaultOf input (Words fault) = Unit {0}
+IsFaultOf input (Source fault) = Unit {0}
+IsFaultOf input (Open name error) = Unit {0}
 IsFaultOf input (Read error) = Unit {0}
 IsFaultOf input TooManyReads = Unit {0}
 IsFaultOf input (Write error) = Unit {0}
@@ -68,7 +80,34 @@ IsFaultOf input (Write error) = Unit {0}
 abbrev pub Refuses : CommandFault → List ℕ → Result (List ℕ) WordsFault → Option (List ℕ) → Option (List ℕ) → Type 0
 Refuses NoMemory input output old new = Keeps old new
 Refuses (Words fault) input output old new = (output ≡ Err fault) × (fault ≢ words_fault.NoMemory) × Keeps old new
+Refuses (Source fault) input output old new = ⊥
+Refuses (Open name error) input output old new = ⊥
 Refuses (Read error) input output old new = Keeps old new
 Refuses TooLong input output old new = (most_bytes < length input) × Keeps old new
 Refuses TooManyReads input output old new = Keeps old new
 Refuses (Write error) input output old new = IsOk output
+
+-- the object file of a source: the file of the image that its program has
+pub record IsObjectFile (source bytes : List ℕ) : Type 0 where
+  pub program : Program
+  pub is_program : program_of source ≡ Ok program
+  pub image : Image
+  pub is_image : IsImage program image
+  pub is_file : bytes ≡ file image
+
+-- the source's object file is written
+pub record WritesObject (source : List ℕ) (old new : Option (List ℕ)) : Type 0 where
+  pub bytes : List ℕ
+  pub is_object : IsObjectFile source bytes
+  pub written : Appends old new bytes
+
+-- A fault of the source is its first, and comes before anything is written.
+abbrev pub RefusesSource : CommandFault → List ℕ → Option (List ℕ) → Option (List ℕ) → Type 0
+RefusesSource NoMemory source old new = Keeps old new
+RefusesSource (Words fault) source old new = ⊥
+RefusesSource (Source fault) source old new = (program_of source ≡ Err fault) × (fault ≢ asm_fault.NoMemory) × Keeps old new
+RefusesSource (Open name error) source old new = ⊥
+RefusesSource (Read error) source old new = Keeps old new
+RefusesSource TooLong source old new = (most_bytes < length source) × Keeps old new
+RefusesSource TooManyReads source old new = Keeps old new
+RefusesSource (Write error) source old new = IsOk (program_of source)

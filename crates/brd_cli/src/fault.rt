@@ -4,6 +4,7 @@ ghost use Rattle.std.specs.Prelude.{◌≡◌, ℕ, List};
 ghost use Rattle.brd_cli.specs.declared.fault.CommandFault.TheVariants.{NoMemory as no_memory};
 
 use crate::word_text::WordsFault;
+use brd_asm::AsmFault;
 use brd_mem::NoMemory;
 use std::alloc::{AllocError, AllocFailed};
 use std::io::{self, ErrorKind};
@@ -18,6 +19,12 @@ pub enum CommandFault {
     /// The words on standard input have a fault.
     #[error("standard input: {0}")]
     Words(WordsFault),
+    /// The assembler source has a fault.
+    #[error("the source: {0}")]
+    Source(AsmFault),
+    /// A file couldn't be opened, or created.
+    #[error("can't open {0}: {1}")]
+    Open(String, io::Error),
     /// Input couldn't be read.
     #[error("can't read the input: {0}")]
     Read(io::Error),
@@ -52,9 +59,10 @@ impl CommandFault {
         ensures { result ≡ status_of self.now }
     {
         match self {
-            CommandFault::Words(_) => 1,
+            CommandFault::Words(_) | CommandFault::Source(_) => 1,
             CommandFault::NoMemory => 3,
-            CommandFault::Read(_)
+            CommandFault::Open(_, _)
+            | CommandFault::Read(_)
             | CommandFault::TooLong
             | CommandFault::TooManyReads
             | CommandFault::Write(_) => 4,
