@@ -1,0 +1,14 @@
+//! The assembler: source text to an image.
+#![tactic(auto)]
+
+mod effect;
+mod fault;
+mod instruction;
+mod layout;
+mod names;
+mod operand;
+mod piece;
+mod pieces;
+mod value;
+
+pub use fault::AsmFault;
