@@ -7,3 +7,4 @@ pub mod Faults
 pub mod View
 pub mod LayoutView
 pub mod Index
+pub mod Output

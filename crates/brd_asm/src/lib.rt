@@ -7,8 +7,11 @@ mod instruction;
 mod layout;
 mod names;
 mod operand;
+mod output;
 mod piece;
 mod pieces;
+mod stretches;
+mod text;
 mod value;
 
 pub use fault::AsmFault;

@@ -2,6 +2,9 @@
 
 ghost use Rattle.std.specs.Prelude.{◌≡◌, ◌+◌, ◌<◌, [], ◌∷◌, ◌++◌, true, false, map, length, IfOk};
 ghost use Rattle.brd_asm.specs.Layout.{size_of, are_in_ram, overlaps};
+ghost use Rattle.brd_asm.specs.Index.{IsIndex as IsIndexOf, total_size};
+ghost use Rattle.std.specs.Ordering.{nat_cmp};
+ghost use Rattle.std.specs.BTreeMap.{get};
 ghost use Rattle.brd_asm.specs.View as seen;
 
 use crate::piece::Piece;
@@ -92,6 +95,18 @@ impl<'a> Pieces<'a> {
             ranges,
             size: total,
         })
+    }
+
+    /// The range of each piece, by its first address.
+    pub fn into_ranges(self) -> BTreeMap<u32, Range>
+        ensures { IsIndexOf (get nat_cmp result) (total_size self.entry) self.entry }
+    {
+        let Pieces {
+            pieces: _,
+            ranges,
+            size: _,
+        } = self;
+        ranges
     }
 
     /// The pieces in the order of the source.
