@@ -1,7 +1,7 @@
 -- A word is known by its fields.
 use Rattle.std.proofs.Common.{◌≡◌, ℕ, ◌/◌, ◌^◌, arith}
 use Rattle.brd_isa.specs.declared.instruction.Insn.{Insn}
-use Rattle.brd_isa.specs.declared.instruction.Insn.TheVariants.{Shift, ShiftVariable, ThreeRegisters, Multiply, JumpRegister, JumpLinkRegister, Syscall, Break, Sync, MoveFrom, MoveTo, Product, Accumulate, Count, Trap, TrapImmediate, Jump, Branch, BranchSign, BranchZero, Immediate, LoadUpper, Load, Store, Prefetch}
+use Rattle.brd_isa.specs.declared.instruction.Insn.TheVariants.{Shift, ShiftVariable, ThreeRegisters, Multiply, JumpRegister, JumpLinkRegister, Syscall, Break, Sync, MoveFrom, MoveTo, Product, Accumulate, Count, Trap, TrapImmediate, Jump, Branch, BranchSign, BranchZero, Immediate, LoadUpper, Load, Store, Linked, Prefetch}
 use Rattle.brd_isa.specs.Fields.{RType, AnySaType, IType, JType, LongCodeType, ShortCodeType}
 use Rattle.brd_isa.specs.Table.{StandsFor, IgnoresSa}
 use Rattle.brd_isa.specs.Decoding.{sa_of}
@@ -69,4 +69,5 @@ one_word v w (Immediate op rt rs immediate) a b s = i_type v w _ _ _ _ a b
 one_word v w (LoadUpper rt immediate) a b s = i_type v w _ _ _ _ a b
 one_word v w (Load op rt base offset) a b s = i_type v w _ _ _ _ a b
 one_word v w (Store op rt base offset) a b s = i_type v w _ _ _ _ a b
+one_word v w (Linked op rt base offset) a b s = i_type v w _ _ _ _ a b
 one_word v w (Prefetch hint base offset) a b s = i_type v w _ _ _ _ a b

@@ -34,6 +34,8 @@ use Rattle.brd_isa.specs.declared.instruction.LoadOp.{LoadOp}
 use Rattle.brd_isa.specs.declared.instruction.LoadOp.TheVariants.{Lb, Lh, Lwl, Lw, Lbu, Lhu, Lwr}
 use Rattle.brd_isa.specs.declared.instruction.StoreOp.{StoreOp}
 use Rattle.brd_isa.specs.declared.instruction.StoreOp.TheVariants.{Sb, Sh, Swl, Sw, Swr}
+use Rattle.brd_isa.specs.declared.instruction.LinkedOp.{LinkedOp}
+use Rattle.brd_isa.specs.declared.instruction.LinkedOp.TheVariants.{Ll, Sc}
 
 -- the function field under the opcode SPECIAL, 0x00
 abbrev pub shift_funct : ShiftOp → ℕ
@@ -153,3 +155,7 @@ store_opcode Sh = 0x29
 store_opcode Swl = 0x2a
 store_opcode Sw = 0x2b
 store_opcode Swr = 0x2e
+
+abbrev pub linked_opcode : LinkedOp → ℕ
+linked_opcode Ll = 0x30
+linked_opcode Sc = 0x38

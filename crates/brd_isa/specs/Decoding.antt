@@ -2,7 +2,7 @@
 -- table's, and nothing where the table has none, is proved as `laws::follows_the_table`.
 use Rattle.std.specs.Prelude.{ℕ, ◌/◌, ◌%◌, ◌^◌, ◌==◌, ◌&&◌, if◌then◌else◌, Option, None, Some}
 use Rattle.brd_isa.specs.declared.instruction.Insn.{Insn}
-use Rattle.brd_isa.specs.declared.instruction.Insn.TheVariants.{Shift, ShiftVariable, ThreeRegisters, Multiply, JumpRegister, JumpLinkRegister, Syscall, Break, Sync, MoveFrom, MoveTo, Product, Accumulate, Count, Trap, TrapImmediate, Jump, Branch, BranchSign, BranchZero, Immediate, LoadUpper, Load, Store, Prefetch}
+use Rattle.brd_isa.specs.declared.instruction.Insn.TheVariants.{Shift, ShiftVariable, ThreeRegisters, Multiply, JumpRegister, JumpLinkRegister, Syscall, Break, Sync, MoveFrom, MoveTo, Product, Accumulate, Count, Trap, TrapImmediate, Jump, Branch, BranchSign, BranchZero, Immediate, LoadUpper, Load, Store, Linked, Prefetch}
 use Rattle.brd_isa.specs.declared.instruction.ShiftOp.{ShiftOp}
 use Rattle.brd_isa.specs.declared.instruction.ShiftOp.TheVariants.{Sll, Srl, Sra}
 use Rattle.brd_isa.specs.declared.instruction.ShiftVariableOp.{ShiftVariableOp}
@@ -29,6 +29,7 @@ use Rattle.brd_isa.specs.declared.instruction.BranchSignOp.TheVariants.{Blez, Bg
 use Rattle.brd_isa.specs.declared.instruction.ImmediateOp.TheVariants.{Addi, Addiu, Slti, Sltiu, Andi, Ori, Xori}
 use Rattle.brd_isa.specs.declared.instruction.LoadOp.TheVariants.{Lb, Lh, Lwl, Lw, Lbu, Lhu, Lwr}
 use Rattle.brd_isa.specs.declared.instruction.StoreOp.TheVariants.{Sb, Sh, Swl, Sw, Swr}
+use Rattle.brd_isa.specs.declared.instruction.LinkedOp.TheVariants.{Ll, Sc}
 
 abbrev pub rs_of : ℕ → ℕ
 rs_of word = word / 2 ^ 21 % 2 ^ 5
@@ -199,7 +200,9 @@ others_of opcode word =
     else if opcode == 0x2a then Some (Store Swl (rt_of word) (rs_of word) (low_of word))
     else if opcode == 0x2b then Some (Store Sw (rt_of word) (rs_of word) (low_of word))
     else if opcode == 0x2e then Some (Store Swr (rt_of word) (rs_of word) (low_of word))
+    else if opcode == 0x30 then Some (Linked Ll (rt_of word) (rs_of word) (low_of word))
     else if opcode == 0x33 then Some (Prefetch (rt_of word) (rs_of word) (low_of word))
+    else if opcode == 0x38 then Some (Linked Sc (rt_of word) (rs_of word) (low_of word))
     else None
 
 unfoldable pub decoded : ℕ → Option Insn

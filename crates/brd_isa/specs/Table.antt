@@ -4,9 +4,9 @@
 -- and the stype of SYNC, in the field sa, are ignored, so several words stand for one of these.
 use Rattle.std.specs.Prelude.{ℕ}
 use Rattle.brd_isa.specs.declared.instruction.Insn.{Insn}
-use Rattle.brd_isa.specs.declared.instruction.Insn.TheVariants.{Shift, ShiftVariable, ThreeRegisters, Multiply, JumpRegister, JumpLinkRegister, Syscall, Break, Sync, MoveFrom, MoveTo, Product, Accumulate, Count, Trap, TrapImmediate, Jump, Branch, BranchSign, BranchZero, Immediate, LoadUpper, Load, Store, Prefetch}
+use Rattle.brd_isa.specs.declared.instruction.Insn.TheVariants.{Shift, ShiftVariable, ThreeRegisters, Multiply, JumpRegister, JumpLinkRegister, Syscall, Break, Sync, MoveFrom, MoveTo, Product, Accumulate, Count, Trap, TrapImmediate, Jump, Branch, BranchSign, BranchZero, Immediate, LoadUpper, Load, Store, Linked, Prefetch}
 use Rattle.brd_isa.specs.Fields.{RType, AnySaType, IType, JType, LongCodeType, ShortCodeType}
-use Rattle.brd_isa.specs.Codes.{shift_funct, shift_variable_funct, register_funct, move_from_funct, move_to_funct, product_funct, trap_funct, branch_zero_rt, trap_immediate_rt, accumulate_funct, count_funct, jump_opcode, branch_opcode, branch_sign_opcode, immediate_opcode, load_opcode, store_opcode}
+use Rattle.brd_isa.specs.Codes.{shift_funct, shift_variable_funct, register_funct, move_from_funct, move_to_funct, product_funct, trap_funct, branch_zero_rt, trap_immediate_rt, accumulate_funct, count_funct, jump_opcode, branch_opcode, branch_sign_opcode, immediate_opcode, load_opcode, store_opcode, linked_opcode}
 
 abbrev pub StandsFor : ℕ → Insn → Type 0
 StandsFor word (Shift op rd rt sa) = RType word 0x00 0 rt rd sa (shift_funct op)
@@ -33,6 +33,7 @@ StandsFor word (Immediate op rt rs immediate) = IType word (immediate_opcode op)
 StandsFor word (LoadUpper rt immediate) = IType word 0x0f 0 rt immediate
 StandsFor word (Load op rt base offset) = IType word (load_opcode op) base rt offset
 StandsFor word (Store op rt base offset) = IType word (store_opcode op) base rt offset
+StandsFor word (Linked op rt base offset) = IType word (linked_opcode op) base rt offset
 StandsFor word (Prefetch hint base offset) = IType word 0x33 base hint offset
 
 -- the instructions for which the field sa says nothing

@@ -6,9 +6,9 @@ ghost use Rattle.brd_isa.specs.Decoding.{decoded, rt_of, special_of, regimm_of, 
 
 use crate::fields::{Hint, JumpIndex, LongCode, Register, ShiftAmount, ShortCode};
 use crate::instruction::{
-    AccumulateOp, BranchOp, BranchSignOp, BranchZeroOp, CountOp, ImmediateOp, Insn, JumpOp, LoadOp,
-    MoveFromOp, MoveToOp, ProductOp, RegisterOp, ShiftOp, ShiftVariableOp, StoreOp,
-    TrapImmediateOp, TrapOp,
+    AccumulateOp, BranchOp, BranchSignOp, BranchZeroOp, CountOp, ImmediateOp, Insn, JumpOp,
+    LinkedOp, LoadOp, MoveFromOp, MoveToOp, ProductOp, RegisterOp, ShiftOp, ShiftVariableOp,
+    StoreOp, TrapImmediateOp, TrapOp,
 };
 
 /// The instruction that a word stands for; None where it stands for none (a reserved instruction).
@@ -176,7 +176,9 @@ fn others(word: u32) -> Option<Insn>
         0x2a => Some(Insn::Store(StoreOp::Swl, rt, rs, low)),
         0x2b => Some(Insn::Store(StoreOp::Sw, rt, rs, low)),
         0x2e => Some(Insn::Store(StoreOp::Swr, rt, rs, low)),
+        0x30 => Some(Insn::Linked(LinkedOp::Ll, rt, rs, low)),
         0x33 => Some(Insn::Prefetch(Hint::low(word >> 16), rs, low)),
+        0x38 => Some(Insn::Linked(LinkedOp::Sc, rt, rs, low)),
         _ => None,
     }
 }

@@ -20,15 +20,16 @@ ghost use Rattle.brd_isa.specs.Codes.{
   immediate_opcode,
   load_opcode,
   store_opcode,
+  linked_opcode,
 };
 ghost use Rattle.brd_isa.specs.Table.{StandsFor, IgnoresSa};
 ghost use Rattle.brd_isa.specs.Decoding.{sa_of};
 
 use crate::fields::{JumpIndex, LongCode, Register, ShiftAmount, ShortCode};
 use crate::instruction::{
-    AccumulateOp, BranchOp, BranchSignOp, BranchZeroOp, CountOp, ImmediateOp, Insn, JumpOp, LoadOp,
-    MoveFromOp, MoveToOp, ProductOp, RegisterOp, ShiftOp, ShiftVariableOp, StoreOp,
-    TrapImmediateOp, TrapOp,
+    AccumulateOp, BranchOp, BranchSignOp, BranchZeroOp, CountOp, ImmediateOp, Insn, JumpOp,
+    LinkedOp, LoadOp, MoveFromOp, MoveToOp, ProductOp, RegisterOp, ShiftOp, ShiftVariableOp,
+    StoreOp, TrapImmediateOp, TrapOp,
 };
 
 /// The opcode under which the function field names the instruction.
@@ -98,6 +99,7 @@ pub fn encode(insn: Insn) -> u32
         Insn::LoadUpper(rt, immediate) => i_type(0x0f, none, rt, immediate),
         Insn::Load(op, rt, base, offset) => i_type(load_code(op), base, rt, offset),
         Insn::Store(op, rt, base, offset) => i_type(store_code(op), base, rt, offset),
+        Insn::Linked(op, rt, base, offset) => i_type(linked_code(op), base, rt, offset),
         Insn::Prefetch(hint, base, offset) => {
             i_type(0x33, base, Register::low(u32::from(hint.number())), offset)
         }
@@ -370,5 +372,15 @@ fn store_code(op: StoreOp) -> u32
         StoreOp::Swl => 0x2a,
         StoreOp::Sw => 0x2b,
         StoreOp::Swr => 0x2e,
+    }
+}
+
+fn linked_code(op: LinkedOp) -> u32
+    ensures is { result ≡ linked_opcode op }
+    ensures below { result < 64 }
+{
+    match op {
+        LinkedOp::Ll => 0x30,
+        LinkedOp::Sc => 0x38,
     }
 }

@@ -249,6 +249,15 @@ pub enum StoreOp {
     Swr,
 }
 
+/// Loads and stores of a word that another processor may want too: `op rt, offset(base)`.
+#[derive(Clone, Copy, Debug, PartialEq, Eq)]
+pub enum LinkedOp {
+    /// Load, and link the processor to the word.
+    Ll,
+    /// Store, if the processor's link is still to the word.
+    Sc,
+}
+
 /// An instruction of MIPS32 Release 1 (MD00086, chapter 3). Offsets of branches count words from the delay slot, those of loads and stores bytes; both are
 /// signed.
 #[derive(Clone, Copy, Debug, PartialEq, Eq)]
@@ -301,6 +310,8 @@ pub enum Insn {
     Load(LoadOp, Register, Register, u16),
     /// `op rt, offset(base)`: rt, base, offset
     Store(StoreOp, Register, Register, u16),
+    /// `op rt, offset(base)`: rt, base, offset
+    Linked(LinkedOp, Register, Register, u16),
     /// PREF: `pref hint, offset(base)`: hint, base, offset
     Prefetch(Hint, Register, u16),
 }

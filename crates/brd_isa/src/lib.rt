@@ -13,7 +13,7 @@ pub use decoder::decode;
 pub use encoder::encode;
 pub use fields::{Hint, JumpIndex, LongCode, Register, ShiftAmount, ShortCode};
 pub use instruction::{
-    AccumulateOp, BranchOp, BranchSignOp, BranchZeroOp, CountOp, ImmediateOp, Insn, JumpOp, LoadOp,
-    MoveFromOp, MoveToOp, ProductOp, RegisterOp, ShiftOp, ShiftVariableOp, StoreOp,
-    TrapImmediateOp, TrapOp,
+    AccumulateOp, BranchOp, BranchSignOp, BranchZeroOp, CountOp, ImmediateOp, Insn, JumpOp,
+    LinkedOp, LoadOp, MoveFromOp, MoveToOp, ProductOp, RegisterOp, ShiftOp, ShiftVariableOp,
+    StoreOp, TrapImmediateOp, TrapOp,
 };
