@@ -1,3 +1,5 @@
 pub mod Statement
 pub mod View
 pub mod Faults
+pub mod Words
+pub mod Fronts

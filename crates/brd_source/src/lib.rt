@@ -2,7 +2,9 @@
 #![tactic(auto)]
 
 mod fault;
+mod scanner;
 mod statement;
+mod token;
 
 pub use fault::LineFault;
 pub use statement::{Expression, Immediate, Instruction, Line, Statement, Width};
