@@ -3,3 +3,4 @@ pub mod View
 pub mod Faults
 pub mod Words
 pub mod Fronts
+pub mod Registers
