@@ -4,3 +4,4 @@ pub mod Faults
 pub mod Words
 pub mod Fronts
 pub mod Registers
+pub mod Reading

@@ -2,6 +2,7 @@
 #![tactic(auto)]
 
 mod fault;
+mod reading;
 mod register;
 mod scanner;
 mod statement;
