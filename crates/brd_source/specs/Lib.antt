@@ -5,3 +5,4 @@ pub mod Words
 pub mod Fronts
 pub mod Registers
 pub mod Reading
+pub mod Operands

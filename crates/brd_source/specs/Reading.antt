@@ -168,14 +168,13 @@ immediate_at words = immediate_by (first words) words
 unfoldable pub offset_at : List Word → Result (Immediate × List Word) LineFault
 offset_at words = if is_mark 40 (first words) then Ok (Whole zero_expression, words) else immediate_at words
 
--- offset(register)
-unfoldable pub place_at : List Word → Result (Immediate × ℕ × List Word) LineFault
-place_at words = do
-  offset ← offset_at words
-  opened ← mark_at 40 offset.1
+-- ( register )
+unfoldable pub base_at : List Word → Result (ℕ × List Word) LineFault
+base_at words = do
+  opened ← mark_at 40 words
   base ← register_at opened
   closed ← mark_at 41 base.1
-  Ok (offset.0, base.0, closed)
+  Ok (base.0, closed)
 
 -- ---- registers with commas
 

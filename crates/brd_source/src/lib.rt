@@ -2,6 +2,7 @@
 #![tactic(auto)]
 
 mod fault;
+mod operands;
 mod reading;
 mod register;
 mod scanner;

@@ -271,7 +271,7 @@ pub(crate) fn immediate<'a>(words: &mut Scanner<'a>) -> Result<Immediate<'a>, Li
 
 /// Takes an offset, where one stands before the parenthesis of its register.
 #[tactic(auto, unfolding(crate::specs::Reading::offset_at))]
-fn offset<'a>(words: &mut Scanner<'a>) -> Result<Immediate<'a>, LineFault>
+pub(crate) fn offset<'a>(words: &mut Scanner<'a>) -> Result<Immediate<'a>, LineFault>
     ensures { Gives (λ i. (immediate_value i, words.new)) result (reads.offset_at words.old) }
 {
     if has_mark(words, b'(') {
@@ -280,16 +280,15 @@ fn offset<'a>(words: &mut Scanner<'a>) -> Result<Immediate<'a>, LineFault>
     immediate(words)
 }
 
-/// Takes `offset(base)`.
-#[tactic(auto, unfolding(crate::specs::Reading::place_at))]
-pub(crate) fn place<'a>(words: &mut Scanner<'a>) -> Result<(Immediate<'a>, Register), LineFault>
-    ensures { Gives (λ p. (immediate_value p.0, p.1, words.new)) result (reads.place_at words.old) }
+/// Takes a register in parentheses.
+#[tactic(auto, unfolding(crate::specs::Reading::base_at))]
+pub(crate) fn base(words: &mut Scanner) -> Result<Register, LineFault>
+    ensures { Gives (λ r. (r, words.new)) result (reads.base_at words.old) }
 {
-    let offset = offset(words)?;
     mark(words, b'(')?;
     let base = register(words)?;
     mark(words, b')')?;
-    Ok((offset, base))
+    Ok(base)
 }
 
 /// Takes `register ,`.
