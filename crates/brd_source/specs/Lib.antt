@@ -6,3 +6,5 @@ pub mod Fronts
 pub mod Registers
 pub mod Reading
 pub mod Operands
+pub mod Texts
+pub mod Statements

@@ -7,6 +7,8 @@ mod reading;
 mod register;
 mod scanner;
 mod statement;
+mod statements;
+mod text;
 mod token;
 
 pub use fault::LineFault;

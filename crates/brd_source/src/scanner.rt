@@ -45,7 +45,7 @@ fn ends_string(is_escaped: bool, byte: u8) -> bool
 }
 
 /// Whether a byte of a string is a backslash before another byte of it.
-fn escapes(is_escaped: bool, byte: u8) -> bool
+pub(crate) fn escapes(is_escaped: bool, byte: u8) -> bool
     ensures { result ≡ words.escapes is_escaped byte }
 {
     !is_escaped && byte == b'\\'
