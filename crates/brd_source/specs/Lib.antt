@@ -8,3 +8,4 @@ pub mod Reading
 pub mod Operands
 pub mod Texts
 pub mod Statements
+pub mod Lines

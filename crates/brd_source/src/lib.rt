@@ -2,6 +2,7 @@
 #![tactic(auto)]
 
 mod fault;
+mod line;
 mod operands;
 mod reading;
 mod register;
@@ -12,4 +13,5 @@ mod text;
 mod token;
 
 pub use fault::LineFault;
+pub use line::parse_line;
 pub use statement::{Expression, Immediate, Instruction, Line, Statement, Width};

@@ -169,9 +169,18 @@ impl<'a> Scanner<'a> {
 
     /// The first word, which stays.
     pub(crate) fn peek(&self) -> Token<'a>
-        ensures word { first self.now ≡ seen result }
+        ensures { first self.now ≡ seen result }
     {
         let (token, _) = token_at(after_blanks(self.rest));
+        token
+    }
+
+    /// The word behind the first one; both stay.
+    pub(crate) fn peek_behind(&self) -> Token<'a>
+        ensures { first (others self.now) ≡ seen result }
+    {
+        let (_, behind) = token_at(after_blanks(self.rest));
+        let (token, _) = token_at(after_blanks(behind));
         token
     }
 }
