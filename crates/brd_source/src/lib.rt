@@ -15,3 +15,6 @@ mod token;
 pub use fault::LineFault;
 pub use line::parse_line;
 pub use statement::{Expression, Immediate, Instruction, Line, Statement, Width};
+
+#[cfg(test)]
+mod tests;
