@@ -7,7 +7,7 @@ use brd_isa::{
 };
 
 /// A whole number with sign: the value of a name, if there is one, plus a number.
-#[derive(Clone, Copy, Debug)]
+#[derive(Clone, Copy, Debug, PartialEq, Eq)]
 pub struct Expression<'a> {
     /// The name, whose value isn't known yet.
     pub name: Option<&'a [u8]>,
@@ -16,7 +16,7 @@ pub struct Expression<'a> {
 }
 
 /// An immediate or an offset as it is written.
-#[derive(Clone, Copy, Debug)]
+#[derive(Clone, Copy, Debug, PartialEq, Eq)]
 pub enum Immediate<'a> {
     /// The value itself.
     Whole(Expression<'a>),
@@ -28,7 +28,7 @@ pub enum Immediate<'a> {
 
 /// An instruction, by the form of its operands as in `brd_isa::Insn`, with expressions in place of the numbers. Targets of
 /// branches and jumps are addresses. The operands stand in the order in which `Insn` has them.
-#[derive(Clone, Copy, Debug)]
+#[derive(Clone, Copy, Debug, PartialEq, Eq)]
 pub enum Instruction<'a> {
     /// `op rd, rt, sa`
     Shift(ShiftOp, Register, Register, Expression<'a>),
