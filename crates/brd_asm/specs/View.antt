@@ -17,7 +17,7 @@ name entry = record { name = entry.0.now; value = entry.1 }
 
 abbrev pub content : contents.Content → Content
 content (content_of.Code instruction) = Code (source.instruction_value instruction)
-content (content_of.Values width values) = Values width (map source.expression values.items)
+content (content_of.Values width values) = Values width (map source.expression_value values.items)
 content (content_of.Bytes bytes) = Bytes bytes.items
 content (content_of.Zeros n) = Zeros n
 

@@ -2,7 +2,7 @@
 
 ghost use Rattle.std.specs.Prelude.{◌≡◌, ◌+◌, ◌<◌, ◌≤◌, ◌^◌, Ok, true, option_map};
 ghost use Rattle.brd_source.specs.View as source;
-ghost use Rattle.brd_source.specs.Reading.{line_of};
+ghost use Rattle.brd_source.specs.Lines.{line_of};
 ghost use Rattle.brd_asm.specs.Faults.{Gives};
 ghost use Rattle.brd_asm.specs.Layout.{nothing, read, free, happened, filled, placed, are_in_ram};
 ghost use Rattle.brd_asm.specs.View as view;
@@ -146,7 +146,7 @@ fn free(line: usize, own: Option<&[u8]>, names: &Names) -> Result<bool, AsmFault
 
 /// What a line says.
 fn read<'a>(alloc: Global, line: usize, bytes: &'a [u8]) -> Result<Line<'a>, AsmFault>
-    ensures { Gives source.line result (read line (line_of bytes.now)) }
+    ensures { Gives source.line_value result (read line (line_of bytes.now)) }
 {
     match parse_line(alloc, bytes) {
         Ok(read) => Ok(read),

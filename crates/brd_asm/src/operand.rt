@@ -16,7 +16,7 @@ use brd_source::{Expression, Immediate};
 /// A number from 0 to high.
 #[tactic(auto, unfolding(crate::specs::Meaning::number_in))]
 pub fn number_in(line: usize, names: &Names, high: u32, e: Expression) -> Result<u32, AsmFault>
-    ensures is { Gives (λ n. n) result (number_in line names.now high (source.expression e.entry)) }
+    ensures is { Gives (λ n. n) result (number_in line names.now high (source.expression_value e.entry)) }
     ensures below { IfOk result (λ n. n ≤ high) }
 {
     let v = known(line, value_of(names, e))?;
@@ -91,7 +91,7 @@ pub fn offset_to(
     names: &Names,
     target: Expression,
 ) -> Result<u16, AsmFault>
-    ensures { Gives (λ n. n) result (offset_to line place names.now (source.expression target.entry)) }
+    ensures { Gives (λ n. n) result (offset_to line place names.now (source.expression_value target.entry)) }
 {
     let slot = place as u64 + 4;
     let v = known(line, value_of(names, target))?;
@@ -115,7 +115,7 @@ pub fn index_to(
     names: &Names,
     target: Expression,
 ) -> Result<JumpIndex, AsmFault>
-    ensures { Gives (λ n. n) result (index_to line place names.now (source.expression target.entry)) }
+    ensures { Gives (λ n. n) result (index_to line place names.now (source.expression_value target.entry)) }
 {
     let slot = place as u64 + 4;
     let region = (slot / 0x1000_0000 * 0x1000_0000) as i64;

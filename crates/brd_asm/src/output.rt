@@ -70,7 +70,7 @@ fn values_of(
     names: &Names,
     expressions: &[Expression],
 ) -> Result<Vec<i128>, AsmFault>
-    ensures { Gives (λ values. values.items) result (values_of line names.now (map source.expression expressions.now)) }
+    ensures { Gives (λ values. values.items) result (values_of line names.now (map source.expression_value expressions.now)) }
 {
     let mut values = Vec::new(alloc);
     for expression in expressions {

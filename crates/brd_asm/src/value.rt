@@ -12,7 +12,7 @@ use brd_source::{Expression, Immediate};
 /// The value of an expression, unless it uses a name without one.
 #[tactic(auto, unfolding(crate::specs::Values::value_of))]
 pub fn value_of(names: &Names, expression: Expression) -> Option<i128>
-    ensures is { result ≡ value_of names.now (source.expression expression.entry) }
+    ensures is { result ≡ value_of names.now (source.expression_value expression.entry) }
     ensures small { IfSome result IsSmall }
 {
     match expression.name {
