@@ -1,6 +1,10 @@
 //! The assembler: source text to an image.
+//!
+//! `specs/Image.antt` says what the image of a source is: `specs/Layout.antt` where its statements stand and what its names are,
+//! `specs/Meaning.antt` what stands there once all names are known.
 #![tactic(auto)]
 
+mod assemble;
 mod effect;
 mod fault;
 mod instruction;
@@ -14,4 +18,8 @@ mod stretches;
 mod text;
 mod value;
 
+pub use assemble::assemble;
 pub use fault::AsmFault;
+
+#[cfg(test)]
+mod tests;

@@ -3,9 +3,12 @@
 ghost use Rattle.std.specs.Prelude.{◌≡◌, [], map, IfOk};
 ghost use Rattle.brd_asm.specs.Faults.{Gives};
 ghost use Rattle.brd_asm.specs.Values.{named};
+ghost use Rattle.brd_asm.specs.Image.{symbol_of};
 ghost use Rattle.brd_asm.specs.Layout.{is_defined, define, labelled};
 
+use crate::assemble::word;
 use crate::fault::AsmFault;
+use brd_mem::{Bytes, NoMemory, Symbol, Symbols};
 use indexmap::IndexMap;
 use std::alloc::Global;
 use std::marker::Model;
@@ -72,5 +75,21 @@ impl<'a> Names<'a> {
             names = names.define(line, i64::from(place), *label)?;
         }
         Ok(names)
+    }
+
+    /// The symbols of an image, in order of definition.
+    pub fn symbols(&self, alloc: Global) -> Result<Symbols, NoMemory>
+        ensures { IfOk result (λ symbols. symbols ≡ map symbol_of self.now) }
+    {
+        let mut symbols = Symbols::new(alloc);
+        for i in 0..self.values.len() {
+            if let Some((name, value)) = self.values.get_index(i) {
+                let mut bytes = Bytes::new(alloc);
+                bytes.append(*name)?;
+                let value = word(*value);
+                symbols.push(Symbol { name: bytes, value })?;
+            }
+        }
+        Ok(symbols)
     }
 }
