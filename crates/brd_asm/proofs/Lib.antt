@@ -1,0 +1,6 @@
+mod NamesLemmas
+mod IndexLemmas
+mod PieceLemmas
+mod TextLemmas
+mod FaultLemmas
+mod OutputLemmas

@@ -1,0 +1,31 @@
+-- Names in a map, against the list of names.
+use Rattle.std.proofs.Common.{◌≡◌, ℕ, Bool, cond, List, [], ◌∷◌, ◌++◌, Option, None, Some, Bor, refl, sym, ap, ◌∙◌}
+use Rattle.std.specs.Prelude.{ℤ, map, bytes_eq, is_some, false, Result, Ok}
+use Rattle.std.specs.Map.{lookup}
+use Rattle.brd_asm.specs.Values.{Name, named}
+use Rattle.brd_asm.specs.Layout.{is_defined, define}
+use Rattle.brd_asm.specs.View as seen
+
+pub value_lookup : (name : List ℕ) (es : List (Bor (List ℕ) × ℤ)) → lookup (λ k. bytes_eq name k.now) es ≡ named (map seen.name es) name
+value_lookup name [] = refl
+value_lookup name (e ∷ es) = let ih = value_lookup name es in rw ih refl
+
+pub names_push : (es : List (Bor (List ℕ) × ℤ)) (e : Bor (List ℕ) × ℤ) → map seen.name (es ++ e ∷ []) ≡ map seen.name es ++ seen.name e ∷ []
+names_push [] e = refl
+names_push (x ∷ es) e = ap (λ (ns : List Name). seen.name x ∷ ns) (names_push es e)
+
+none_of : (value : Option ℤ) → is_some value ≡ false → value ≡ None
+none_of None e = refl
+none_of (Some v) e = absurd (cc)
+
+-- a name that isn't defined is none of the map's keys
+pub absent : (name : List ℕ) (names : List Name) (es : List (Bor (List ℕ) × ℤ)) → map seen.name es ≡ names → is_defined names name ≡ false → lookup (λ k. bytes_eq name k.now) es ≡ None
+absent name names es seen_is free = value_lookup name es ∙ ap (λ ns. named ns name) seen_is ∙ none_of (named names name) free
+
+pub defined_new : (line : ℕ) (value : ℤ) (name : Bor (List ℕ)) (names : List Name) (es fs : List (Bor (List ℕ) × ℤ)) → map seen.name es ≡ names
+    → is_defined names name.now ≡ false → (stored : ℤ) → stored ≡ value → fs ≡ es ++ (name, stored) ∷ [] → define line value name.now names ≡ Ok (map seen.name fs)
+unfolding define
+defined_new line value name names es fs seen_is free stored is fs_is =
+    let e : map seen.name fs ≡ names ++ record { name = name.now; value = value } ∷ [] =
+        ap (λ xs. map seen.name xs) fs_is ∙ names_push es (name, stored) ∙ ap (λ (v : ℤ). map seen.name es ++ record { name = name.now; value = v } ∷ []) is ∙ ap (λ ns. ns ++ record { name = name.now; value = value } ∷ []) seen_is in
+    rw (free, e) refl

@@ -1,0 +1,73 @@
+-- The image of a source.
+use Rattle.std.specs.Prelude.{◌≡◌, ℕ, ◌+◌, ◌-◌, ◌^◌, ◌<◌, ◌≤◌, ℤ, Bool, ◌&&◌, nat_le, nat_lt, if◌then◌else◌, List, [], ◌∷◌, length, map, slice_get, Option, None, Some, Result, Ok, codes}
+use Rattle.brd_text.specs.Faults.{◌>>=◌}
+use Rattle.brd_word.specs.Words.{big_endian_bytes}
+use Rattle.brd_mem.specs.Memory.{base}
+use Rattle.brd_mem.specs.declared.image.Image.{Image}
+use Rattle.brd_mem.specs.declared.image.Segment.{Segment}
+use Rattle.brd_mem.specs.declared.image.Symbol.{Symbol}
+use Rattle.brd_isa.specs.Table.{StandsFor, IgnoresSa}
+use Rattle.brd_isa.specs.Decoding.{sa_of}
+use Rattle.brd_asm.specs.declared.fault.AsmFault.{AsmFault}
+use Rattle.brd_asm.specs.Values.{Name, named, modulo}
+use Rattle.brd_asm.specs.Lines.{lines_of}
+use Rattle.brd_asm.specs.Layout.{all_placed, nothing}
+use Rattle.brd_asm.specs.Meaning.{Meaning, Placed, meanings}
+use Rattle.brd_asm.specs.Meaning.Meaning.{Means, Is}
+
+-- the names of a source, and what stands where
+pub record Program : Type 0 where
+  pub names : List Name
+  pub contents : List Placed
+
+-- A text's program, or its first fault: those of the places of all lines come before those of the meaning of any.
+unfoldable pub program_of : List ℕ → Result Program AsmFault
+program_of text = do
+  s ← all_placed 1 (lines_of text) nothing
+  contents ← meanings s.names s.pieces
+  Ok (record { names = s.names; contents = contents })
+
+-- An instruction is spelled by the bytes of a word that stands for it, with 0 in a field that it ignores.
+abbrev pub Spells : Meaning → List ℕ → Type 0
+Spells (Means insn) bytes =
+    (word : ℕ) × StandsFor word insn × (IgnoresSa insn → sa_of word ≡ 0) × (bytes ≡ big_endian_bytes word)
+Spells (Is numbers) bytes = bytes ≡ numbers
+
+-- the bytes of each content, at its place
+abbrev pub AreSpelled : List Placed → List Segment → Type 0
+AreSpelled [] [] = Unit {0}
+AreSpelled [] (s ∷ ss) = ⊥
+AreSpelled (p ∷ ps) [] = ⊥
+AreSpelled (p ∷ ps) (s ∷ ss) = (s.address ≡ p.place) × Spells p.meaning s.bytes × AreSpelled ps ss
+
+-- the byte at an address, where one of these stretches of bytes has one
+abbrev pub byte_in : List Segment → ℕ → Option ℕ
+byte_in [] a = None
+byte_in (s ∷ ss) a = if nat_le s.address a && nat_lt a (s.address + length s.bytes) then slice_get s.bytes (a - s.address) else byte_in ss a
+
+-- From an address on, stretches that have bytes ascend, each with a gap before it.
+abbrev pub AreApart : ℕ → List Segment → Type 0
+AreApart low [] = Unit {0}
+AreApart low (s ∷ ss) = (low ≤ s.address) × (0 < length s.bytes) × AreApart (s.address + length s.bytes + 1) ss
+
+-- The longest stretches of consecutive addresses that have a byte in memory, ascending.
+pub record AreStretches (memory : ℕ → Option ℕ) (stretches : List Segment) : Type 0 where
+  pub apart : AreApart 0 stretches
+  pub same : (a : ℕ) → byte_in stretches a ≡ memory a
+
+abbrev pub symbol_of : Name → Symbol
+symbol_of n = record { name = n.name; value = modulo n.value (2 ^ 32) }
+
+-- the value of _start, or the first address of RAM
+abbrev pub entry_by : Option ℤ → ℕ
+entry_by None = base
+entry_by (Some v) = modulo v (2 ^ 32)
+
+-- The image of a program: its contents spelled at their places and joined to the longest stretches, its names in
+-- order of definition, its entry.
+pub record IsImage (program : Program) (image : Image) : Type 0 where
+  pub entry : image.entry ≡ entry_by (named program.names (codes "_start"))
+  pub symbols : image.symbols ≡ map symbol_of program.names
+  pub spelled : List Segment
+  pub are_spelled : AreSpelled program.contents spelled
+  pub segments : AreStretches (byte_in spelled) image.segments

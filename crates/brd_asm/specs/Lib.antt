@@ -1,0 +1,10 @@
+pub mod Lines
+pub mod Values
+pub mod Layout
+pub mod Meaning
+pub mod Image
+pub mod Faults
+pub mod View
+pub mod LayoutView
+pub mod Index
+pub mod Output

@@ -1,0 +1,38 @@
+-- The bytes of a source's contents, one behind the other, and how they come to lie in stretches.
+use Rattle.std.specs.Prelude.{◌≡◌, ℕ, ◌+◌, ◌==◌, if◌then◌else◌, List, [], ◌∷◌, ◌++◌, length, Result, Ok}
+use Rattle.brd_text.specs.Faults.{◌>>=◌}
+use Rattle.brd_asm.specs.declared.fault.AsmFault.{AsmFault}
+use Rattle.brd_mem.specs.declared.image.Segment.{Segment}
+use Rattle.brd_asm.specs.Meaning.{Meaning, Placed}
+use Rattle.brd_asm.specs.Image.{Spells, AreSpelled}
+
+-- the bytes that spell a meaning stand behind these
+abbrev pub Adds : Meaning → List ℕ → List ℕ → Type 0
+Adds meaning before after = (bytes : List ℕ) × Spells meaning bytes × (after ≡ before ++ bytes)
+
+-- bytes, if there are some, behind these
+abbrev pub behind : List ℕ → Result (List ℕ) AsmFault → Result (List ℕ) AsmFault
+behind before bytes = bytes >>= λ more. Ok (before ++ more)
+
+abbrev pub all_bytes : List Segment → List ℕ
+all_bytes [] = []
+all_bytes (s ∷ ss) = s.bytes ++ all_bytes ss
+
+-- the output is the bytes of all contents, one behind the other
+pub record IsOutput (contents : List Placed) (output : List ℕ) : Type 0 where
+  pub spelled : List Segment
+  pub are_spelled : AreSpelled contents spelled
+  pub output_is : output ≡ all_bytes spelled
+
+-- a last stretch with some bytes
+abbrev pub last_stretch : ℕ → List ℕ → List Segment
+last_stretch address [] = []
+last_stretch address (b ∷ bs) = record { address = address; bytes = b ∷ bs } ∷ []
+
+-- bytes at an address behind stretches: they join the last one that ends there
+abbrev pub joined : List Segment → ℕ → List ℕ → List Segment
+joined [] address bytes = record { address = address; bytes = bytes } ∷ []
+joined (s ∷ []) address bytes =
+    if s.address + length s.bytes == address then record { address = s.address; bytes = s.bytes ++ bytes } ∷ []
+    else s ∷ record { address = address; bytes = bytes } ∷ []
+joined (s ∷ t ∷ ss) address bytes = s ∷ joined (t ∷ ss) address bytes

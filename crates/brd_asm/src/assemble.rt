@@ -1,0 +1,61 @@
+//! The assembler.
+
+ghost use Rattle.std.specs.Prelude.{◌≡◌, ◌^◌, codes, IfOk};
+ghost use Rattle.brd_mem.specs.Image.{IsPlain};
+ghost use Rattle.brd_asm.specs.Faults.{Meets};
+ghost use Rattle.brd_asm.specs.Values.{named, modulo};
+ghost use Rattle.brd_asm.specs.Image.{program_of, IsImage, entry_by};
+
+use crate::fault::AsmFault;
+use crate::layout::Layout;
+use crate::names::Names;
+use crate::output::output_of;
+use crate::stretches::segments_of;
+use crate::text::place_all;
+use crate::value::modulo;
+use brd_mem::{BASE, Image};
+use std::alloc::Global;
+
+/// The image of a source, in the language of docs/ASSEMBLER.md.
+///
+/// # Errors
+///
+/// The first faulty line of the first group of faults: `Syntax`, `Twice`, `UnknownName`, `Range`, `Misaligned`, `Overlap`, of one
+/// line the first in this order. Without one, the first faulty line of the second group: `UnknownName`, `Range`,
+/// `Misaligned` of operands that may use the names of later lines. `NoMemory` where memory runs out, at whatever point.
+#[tactic(auto, unfolding(crate::specs::Image::program_of))]
+pub fn assemble(alloc: Global, text: &[u8]) -> Result<Image, AsmFault>
+    // What the text means, or its first fault.
+    ensures meaning { Meets (λ image program. IsImage program image) result (program_of text.now) }
+{
+    let Layout {
+        place: _,
+        names,
+        pieces,
+    } = place_all(alloc, text)?;
+    let output = output_of(alloc, &names, pieces.as_slice())?;
+    let segments = segments_of(alloc, pieces, output.as_slice())?;
+    let symbols = names.symbols(alloc)?;
+    Ok(Image {
+        entry: entry_of(&names),
+        segments,
+        symbols,
+    })
+}
+
+/// The value of `_start`, or the first address of RAM.
+fn entry_of(names: &Names) -> u32
+    ensures { result ≡ entry_by (named names.now (codes "_start")) }
+{
+    match names.value(b"_start") {
+        None => BASE,
+        Some(value) => word(value),
+    }
+}
+
+/// A value modulo 2^32.
+pub fn word(value: i64) -> u32
+    ensures { result ≡ modulo value (2 ^ 32) }
+{
+    modulo(value as i128, 0x1_0000_0000) as u32
+}

@@ -1,0 +1,95 @@
+//! The names of a source and their values.
+
+ghost use Rattle.std.specs.Prelude.{◌≡◌, [], map, IfOk};
+ghost use Rattle.brd_asm.specs.Faults.{Gives};
+ghost use Rattle.brd_asm.specs.Values.{named};
+ghost use Rattle.brd_asm.specs.Image.{symbol_of};
+ghost use Rattle.brd_asm.specs.Layout.{is_defined, define, labelled};
+
+use crate::assemble::word;
+use crate::fault::AsmFault;
+use brd_mem::{Bytes, NoMemory, Symbol, Symbols};
+use indexmap::IndexMap;
+use std::alloc::Global;
+use std::marker::Model;
+
+/// Names in order of definition, each with its value.
+#[derive(Drop)]
+pub struct Names<'a> {
+    values: IndexMap<&'a [u8], i64>,
+}
+
+impl<'a> Model for Names<'a> {
+    ghost use Rattle.std.specs.Prelude.{List, map};
+    ghost use Rattle.brd_asm.specs.Values.{Name};
+    ghost use Rattle.brd_asm.specs.View as seen;
+
+    ghost Value = { List Name };
+
+    ghost view = { λ names. map seen.name names.values.entries };
+}
+
+impl<'a> Names<'a> {
+    /// No names.
+    pub fn new(alloc: Global) -> Self
+        ensures { result ≡ [] }
+    {
+        Names {
+            values: IndexMap::new(alloc),
+        }
+    }
+
+    /// The value of a name, if it has one.
+    pub fn value(&self, name: &[u8]) -> Option<i64>
+        ensures { result ≡ named self.now name.now }
+    {
+        self.values.get(name).copied()
+    }
+
+    /// Whether a name has a value.
+    pub fn has(&self, name: &[u8]) -> bool
+        ensures { result ≡ is_defined self.now name.now }
+    {
+        self.value(name).is_some()
+    }
+
+    /// With one more name, which on this line is defined.
+    #[tactic(auto, unfolding(crate::specs::Layout::define))]
+    pub fn define(self, line: usize, value: i64, name: &'a [u8]) -> Result<Self, AsmFault>
+        ensures { Gives (λ names. names) result (define line value name.entry.now self.entry) }
+    {
+        if self.has(name) {
+            return Err(AsmFault::Twice { line });
+        }
+        let Names { mut values } = self;
+        values.insert(name, value)?;
+        Ok(Names { values })
+    }
+
+    /// With these labels, which stand for a place.
+    pub fn label(self, line: usize, place: u32, labels: &[&'a [u8]]) -> Result<Self, AsmFault>
+        ensures { Gives (λ names. names) result (labelled line place (map (λ label. label.now) labels.now) self.entry) }
+    {
+        let mut names = self;
+        for label in labels {
+            names = names.define(line, i64::from(place), *label)?;
+        }
+        Ok(names)
+    }
+
+    /// The symbols of an image, in order of definition.
+    pub fn symbols(&self, alloc: Global) -> Result<Symbols, NoMemory>
+        ensures { IfOk result (λ symbols. symbols ≡ map symbol_of self.now) }
+    {
+        let mut symbols = Symbols::new(alloc);
+        for i in 0..self.values.len() {
+            if let Some((name, value)) = self.values.get_index(i) {
+                let mut bytes = Bytes::new(alloc);
+                bytes.append(*name)?;
+                let value = word(*value);
+                symbols.push(Symbol { name: bytes, value })?;
+            }
+        }
+        Ok(symbols)
+    }
+}
