@@ -1,3 +1,4 @@
+use crate::asm::asm;
 use crate::fault::CommandFault;
 use crate::words::words;
 use std::io::{self, ErrorKind, Read, Write};
@@ -157,4 +158,83 @@ fn each_write_fails(rt: HostRuntime) {
             }
         }
     }
+}
+
+/// A source with a fault on its second line.
+const WRONG: &[u8] = b"nop\nnop 1";
+
+/// How long the object file of a source is that has no segment and no symbol.
+const OBJECT_LEN: usize = 256;
+
+/// 4 bytes take 5 reads.
+#[test]
+fn each_read_of_a_source_fails(rt: HostRuntime) {
+    let alloc = rt.alloc();
+    for fails_at in 1..=6 {
+        let mut reader = Bytewise {
+            left: b"#\n#!",
+            reads: 0,
+            fails_at,
+            interrupts: false,
+        };
+        let mut writer = Vec::new(alloc);
+        match asm(alloc, &mut reader, &mut writer) {
+            Ok(()) => {
+                assert_eq!(rt; fails_at, 6);
+                assert_eq!(rt; writer.len(), OBJECT_LEN);
+            }
+            Err(fault) => {
+                assert!(rt;
+                    matches!(fault, CommandFault::Read(_)),
+                    "at read {fails_at}: {fault}"
+                );
+                assert_eq!(rt; fault.status(), 4);
+                assert!(rt; fails_at < 6);
+                assert!(rt; writer.is_empty());
+            }
+        }
+    }
+}
+
+/// 256 bytes take 256 writes; then the writer is flushed.
+#[test]
+fn each_write_of_an_object_file_fails(rt: HostRuntime) {
+    let alloc = rt.alloc();
+    for fails_at in 1..=OBJECT_LEN + 2 {
+        let mut reader = b"#".as_slice();
+        let mut writer = Taking {
+            taken: Vec::new(alloc),
+            writes: 0,
+            fails_at,
+        };
+        match asm(alloc, &mut reader, &mut writer) {
+            Ok(()) => {
+                assert_eq!(rt; fails_at, OBJECT_LEN + 2);
+                assert_eq!(rt; writer.taken.len(), OBJECT_LEN);
+            }
+            Err(fault) => {
+                assert!(rt;
+                    matches!(fault, CommandFault::Write(_)),
+                    "at write {fails_at}: {fault}"
+                );
+                assert_eq!(rt; fault.status(), 4);
+                assert!(rt; fails_at < OBJECT_LEN + 2);
+            }
+        }
+    }
+}
+
+#[test]
+fn nothing_is_written_of_a_wrong_source(rt: HostRuntime) {
+    let alloc = rt.alloc();
+    let mut reader = WRONG;
+    let mut writer = Vec::new(alloc);
+    match asm(alloc, &mut reader, &mut writer) {
+        Ok(()) => assert!(rt; false, "a wrong source was assembled"),
+        Err(fault) => {
+            assert!(rt; matches!(fault, CommandFault::Source(_)), "{fault}");
+            assert_eq!(rt; fault.status(), 1);
+        }
+    }
+    assert!(rt; writer.is_empty());
 }
