@@ -4,3 +4,6 @@ mod PieceLemmas
 mod TextLemmas
 mod FaultLemmas
 mod OutputLemmas
+mod StretchLemmas
+mod RangeLemmas
+mod SpelledLemmas

@@ -6,7 +6,7 @@ ghost use Rattle.brd_asm.specs.Values.{named};
 ghost use Rattle.brd_asm.specs.Image.{symbol_of};
 ghost use Rattle.brd_asm.specs.Layout.{is_defined, define, labelled};
 
-use crate::assemble::word;
+use crate::assembler::word;
 use crate::fault::AsmFault;
 use brd_mem::{Bytes, NoMemory, Symbol, Symbols};
 use indexmap::IndexMap;
