@@ -7,3 +7,4 @@ mod OutputLemmas
 mod StretchLemmas
 mod RangeLemmas
 mod SpelledLemmas
+mod AssembleLemmas

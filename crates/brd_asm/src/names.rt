@@ -83,12 +83,13 @@ impl<'a> Names<'a> {
     {
         let mut symbols = Symbols::new(alloc);
         for i in 0..self.values.len() {
-            if let Some((name, value)) = self.values.get_index(i) {
-                let mut bytes = Bytes::new(alloc);
-                bytes.append(*name)?;
-                let value = word(*value);
-                symbols.push(Symbol { name: bytes, value })?;
-            }
+            let Some((name, value)) = self.values.get_index(i) else {
+                return Ok(symbols);
+            };
+            let mut bytes = Bytes::new(alloc);
+            bytes.append(*name)?;
+            let value = word(*value);
+            symbols.push(Symbol { name: bytes, value })?;
         }
         Ok(symbols)
     }
