@@ -4,3 +4,7 @@ mod PieceLemmas
 mod TextLemmas
 mod FaultLemmas
 mod OutputLemmas
+mod StretchLemmas
+mod RangeLemmas
+mod SpelledLemmas
+mod AssembleLemmas

@@ -4,7 +4,7 @@
 //! `specs/Meaning.antt` what stands there once all names are known.
 #![tactic(auto)]
 
-mod assemble;
+mod assembler;
 mod effect;
 mod fault;
 mod instruction;
@@ -18,7 +18,7 @@ mod stretches;
 mod text;
 mod value;
 
-pub use assemble::assemble;
+pub use assembler::assemble;
 pub use fault::AsmFault;
 
 #[cfg(test)]

@@ -6,7 +6,7 @@ ghost use Rattle.brd_asm.specs.Values.{named};
 ghost use Rattle.brd_asm.specs.Image.{symbol_of};
 ghost use Rattle.brd_asm.specs.Layout.{is_defined, define, labelled};
 
-use crate::assemble::word;
+use crate::assembler::word;
 use crate::fault::AsmFault;
 use brd_mem::{Bytes, NoMemory, Symbol, Symbols};
 use indexmap::IndexMap;
@@ -83,12 +83,13 @@ impl<'a> Names<'a> {
     {
         let mut symbols = Symbols::new(alloc);
         for i in 0..self.values.len() {
-            if let Some((name, value)) = self.values.get_index(i) {
-                let mut bytes = Bytes::new(alloc);
-                bytes.append(*name)?;
-                let value = word(*value);
-                symbols.push(Symbol { name: bytes, value })?;
-            }
+            let Some((name, value)) = self.values.get_index(i) else {
+                return Ok(symbols);
+            };
+            let mut bytes = Bytes::new(alloc);
+            bytes.append(*name)?;
+            let value = word(*value);
+            symbols.push(Symbol { name: bytes, value })?;
         }
         Ok(symbols)
     }

@@ -45,7 +45,7 @@ impl Stretches {
     /// With bytes at an address behind all others.
     fn with(self, alloc: Global, address: u32, more: &[u8]) -> Result<Self, NoMemory>
         requires { 0 < length more.now }
-        ensures { IfOk result (λ s. s ≡ joined self.entry address more.now) }
+        ensures { IfOk result (λ s. s ≡ joined self address more.now) }
     {
         let Stretches {
             mut done,
@@ -83,7 +83,7 @@ impl Stretches {
 
     /// The stretches.
     fn into_segments(self) -> Result<Segments, NoMemory>
-        ensures { IfOk result (λ segments. segments ≡ self.entry) }
+        ensures { IfOk result (λ segments. segments ≡ self) }
     {
         let Stretches {
             mut done,
