@@ -1,8 +1,8 @@
 //! Reads ELF files, and measures files that are made to take long.
 //!
-//!     elf_bench         reads `firmware.elf`, which lies where it runs, then small files of each kind
+//!     elf_bench         reads `firmware.elf` of the current directory, then a small file of each kind
 //!     elf_bench FILE    reads that file
-//!     elf_bench time    reads large files of each kind, and says how long it takes
+//!     elf_bench time    reads a large file of each kind, and says how long each takes
 //!
 //! Of a file that is an image it prints the entry, each segment with its size and the sum of its bytes, and each symbol.
 //! `firmware.elf` was made by GNU as and ld with `examples/firmware.ld` from a program of a few lines: it loads 112 bytes,
@@ -56,7 +56,7 @@ fn show_kinds(rt: &HostRuntime) -> Result<()> {
     Ok(())
 }
 
-/// Reads a large file of each kind and prints what is answered, and how long it took.
+/// Reads a large file of each kind and prints what is answered, and how long each took.
 fn time_kinds(rt: &HostRuntime) -> Result<()> {
     for kind in kinds::ALL {
         let bytes = kinds::file(rt.alloc(), kind, kinds::LARGE)?;
