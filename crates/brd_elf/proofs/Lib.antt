@@ -5,6 +5,7 @@ pub mod LoadedLemmas
 pub mod Loadable
 pub mod SectionLemmas
 pub mod TrieLemmas
+pub mod PlaceLemmas
 pub mod NamedLemmas
 pub mod PartLemmas
 pub mod BodyLemmas

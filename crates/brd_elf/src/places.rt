@@ -99,7 +99,8 @@ impl<'a> Places<'a> {
         ensures kept { IsMore self.old.paths self.new.paths }
         ensures distinct { AreDistinct self.new.paths }
     {
-        let number = self.trie.with_byte(rest, self.strings[at])?;
+        let strings = self.strings;
+        let number = self.trie.with_byte(rest, strings[at])?;
         self.numbers[at] = Some(number);
         Ok(number)
     }
