@@ -1,6 +1,6 @@
 //! Numbers for the strings at the places of a string table: two places have one number exactly if they have one string.
 
-ghost use Rattle.std.specs.Prelude.{◌≡◌, ℕ, ◌+◌, ◌<◌, ◌≤◌, [], ◌∷◌, length, drop, slice_index_or, option_map, Some, None, IfOk, IfSome, IfNone};
+ghost use Rattle.std.specs.Prelude.{◌≡◌, ℕ, ◌+◌, ◌<◌, ◌≤◌, [], ◌∷◌, length, drop, slice_index_or, option_copied, option_map, Some, None, IfOk, IfSome, IfNone};
 ghost use Rattle.brd_elf.specs.Symbols.{string_of};
 ghost use Rattle.brd_elf.specs.Trie.{path_of, AreDistinct, IsMore};
 ghost use Rattle.brd_elf.specs.Places.{AreLetters};
@@ -47,13 +47,20 @@ impl<'a> Places<'a> {
         })
     }
 
+    /// The string at a place: the bytes before the next byte 0.
+    pub fn string_at(&self, start: usize) -> Option<&'a [u8]>
+        ensures { option_copied result ≡ string_of (drop start self.now.strings) }
+    {
+        string_of(self.strings, start)
+    }
+
     /// The number of the string at a place, or nothing if no string ends behind it.
     pub fn number_of(&mut self, start: usize) -> Result<Option<u32>, NoMemory>
         ensures strings { self.new.strings ≡ self.old.strings }
         ensures string { IfOk result (λ number. option_map (path_of self.new.paths) number ≡ string_of (drop start self.old.strings)) }
         ensures there { IfOk result (λ number. IfSome number (λ n. n < length self.new.paths)) }
         ensures kept { IsMore self.old.paths self.new.paths }
-        ensures distinct { IfOk result (λ _. AreDistinct self.new.paths) }
+        ensures distinct { AreDistinct self.new.paths }
     {
         let Some(found) = self.numbered_from(start) else {
             return Ok(None);
@@ -104,4 +111,20 @@ impl<'a> Places<'a> {
         self.numbers[at] = Some(number);
         Ok(number)
     }
+}
+
+/// The string at a place in a string table: the bytes before the next byte 0.
+fn string_of(strings: &[u8], start: usize) -> Option<&[u8]>
+    ensures { option_copied result ≡ string_of (drop start strings.now) }
+{
+    if start >= strings.len() {
+        return None;
+    }
+    let rest = &strings[start..];
+    for (i, byte) in rest.iter().enumerate() {
+        if *byte == 0 {
+            return Some(&rest[..i]);
+        }
+    }
+    None
 }
