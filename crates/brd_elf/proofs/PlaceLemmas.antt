@@ -1,11 +1,11 @@
 -- Strings by their places, and the numbering with more strings or one place more.
-use Rattle.std.proofs.Common.{◌≡◌, ℕ, zero, suc, ◌+◌, ◌<◌, ◌≤◌, List, [], ◌∷◌, ◌++◌, length, set, drop, Option, Some, None, refl, sym, ap, ◌∙◌, inl, inr, arith}
+use Rattle.std.proofs.Common.{◌≡◌, ℕ, zero, suc, ◌+◌, ◌<◌, ◌≤◌, List, [], ◌∷◌, length, set, drop, Option, Some, None, refl, sym, ap, ◌∙◌, inl, inr, arith}
 use Rattle.std.specs.Prelude.{slice_index_or}
 use Rattle.std.proofs.lemmas.Bool.{cases_eq, ne_eqb}
 use Rattle.std.proofs.lemmas.List.{length-set, length-append, get_or-set_same, get_or-set_other, get_or_append_left}
 use Rattle.brd_elf.specs.Symbols.{string_of}
 use Rattle.brd_elf.specs.Trie.{path_of, AreDistinct, IsMore}
-use Rattle.brd_elf.specs.Places.{Numbered, AreLetters, IsNumbering}
+use Rattle.brd_elf.specs.Places.{AreLetters, IsNumbering}
 
 -- a string with its first byte
 pub letter_before : (strings : List ℕ) (at : ℕ) (path : List ℕ) → at < length strings → (slice_index_or strings at 0 ≡ 0 → ⊥)

@@ -1,11 +1,11 @@
 -- The trie with one string more.
-use Rattle.std.proofs.Common.{◌≡◌, ℕ, zero, suc, ◌+◌, ◌^◌, ◌<◌, ◌≤◌, List, [], ◌∷◌, ◌++◌, length, set, Option, Some, None, refl, sym, ap, ◌∙◌, subst, inl, inr, ◌⊎◌, arith}
+use Rattle.std.proofs.Common.{◌≡◌, ℕ, zero, suc, ◌^◌, ◌<◌, ◌≤◌, List, [], ◌∷◌, ◌++◌, length, set, Option, Some, None, refl, sym, ap, ◌∙◌, subst, inl, inr, ◌⊎◌, arith}
 use Rattle.std.specs.Prelude.{slice_index_or}
-use Rattle.std.proofs.lemmas.Bool.{cases_eq, cases_lt}
-use Rattle.std.proofs.lemmas.List.{length-set, length-append, get_or-set_same, get_or-set_other, get_or_append_left}
+use Rattle.std.proofs.lemmas.Bool.{cases_eq}
+use Rattle.std.proofs.lemmas.List.{length-set, get_or-set_same, get_or-set_other, get_or_append_left}
 use Rattle.std.proofs.Math.Seq.{get_or-append_seam}
 use Rattle.brd_elf.specs.declared.trie.Node.{Node}
-use Rattle.brd_elf.specs.Trie.{path_of, paths_behind, paths_of, node_at, AreDistinct, IsMore, IsUpTo, IsTrie}
+use Rattle.brd_elf.specs.Trie.{path_of, paths_behind, paths_of, node_at, IsUpTo, IsTrie}
 
 pub behind-push : (paths : List (List ℕ)) (nodes : List Node) (node : Node)
     → paths_behind paths (nodes ++ node ∷ []) ≡ paths_behind paths nodes ++ (node.byte ∷ path_of (paths_behind paths nodes) node.rest) ∷ []
@@ -25,25 +25,6 @@ get-push_none (x ∷ xs) (suc i) = get-push_none xs i
 pub length-push : {X : Type 0} (xs : List X) (x : X) → length (xs ++ x ∷ []) ≡ suc (length xs)
 length-push [] x = refl
 length-push (y ∷ xs) x = ap suc (length-push xs x)
-
-pub new_trie : IsTrie (None ∷ []) []
-new_trie = record {
-  small = omega arith;
-  enough = omega arith;
-  count = refl;
-  empty = refl;
-  rests = λ at lt. absurd (omega (arith, lt));
-  paths = λ at lt. absurd (omega (arith, lt));
-  distinct = λ a b la lb same. omega (arith, la, lb);
-  last = λ number at is. absurd (none number at is);
-  all = λ at lt. absurd (omega (arith, lt));
-  before = λ at other lt is. absurd (omega (arith, lt));
-  all_before = λ at other lt less same. absurd (omega (arith, lt));
-}
-  where
-    none : (number at : ℕ) → slice_index_or (None ∷ []) number None ≡ Some at → ⊥
-    none zero at is = cc
-    none (suc number) at is = cc
 
 -- What a search along the nodes in front of one string still has to look at: none that it wants was passed.
 pub record StillThere (nodes : List Node) (rest byte : ℕ) (next : Option ℕ) : Type 0 where
@@ -126,7 +107,6 @@ next_node lasts rest byte = record { byte = byte; rest = rest; before = slice_in
 -- one string more, in a list that has room for it
 module _ (lasts : List (Option ℕ)) (nodes : List Node) (rest byte : ℕ) (trie : IsTrie lasts nodes) (room : suc (suc (length nodes)) ≤ length lasts)
     (within : rest < length (paths_of nodes)) where
-
   abbrev pub node : Node
   node = next_node lasts rest byte
 

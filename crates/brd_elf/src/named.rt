@@ -19,7 +19,7 @@ pub struct Named<'a> {
     symbols: Symbols,
     /// The string table.
     places: Places<'a>,
-    /// By its number, whether a string is the empty one or a symbol's name. Numbers behind its end have no mark.
+    /// By its number, whether a string is the empty one or a symbol's name. A number behind the end has no mark.
     marks: Vec<bool>,
 }
 
@@ -100,8 +100,11 @@ impl<'a> Named<'a> {
         requires there { number < length self.paths }
         requires path { path_of self.paths number ≡ name.now }
         requires new { is_known self.symbols (Some name.now) ≡ false }
-        ensures { IfOk result (λ named. named ≡ record { strings = self.entry.strings; paths = self.entry.paths;
-            symbols = self.entry.symbols ++ record { name = name.entry.now; value = value } ∷ [] }) }
+        ensures { IfOk result (λ named. named ≡ record {
+          strings = self.entry.strings;
+          paths = self.entry.paths;
+          symbols = self.entry.symbols ++ record { name = name.entry.now; value = value } ∷ [];
+        }) }
     {
         let Named {
             mut symbols,

@@ -1,5 +1,4 @@
-use Rattle.std.proofs.Common.{◌≡◌, ◌∷◌, ◌<◌, ◌+◌, suc, drop, length, Some, sym, ap, ◌∙◌, arith}
-use Rattle.std.specs.Prelude.{slice_index_or}
+use Rattle.std.proofs.Common.{◌≡◌, ◌<◌, ◌+◌, suc, drop, length, Some, sym, ap, ◌∙◌, arith}
 use Rattle.brd_elf.specs.Symbols.{string_of}
 use Rattle.brd_elf.specs.Trie.{path_of}
 use Rattle.brd_elf.specs.Places.{Numbered}
@@ -18,6 +17,6 @@ invariant_of-self-2 c =
     let next : c.args.at + 1 ≡ suc c.args.at = omega arith in
     let rest : string_of (drop (suc c.args.at) c.self.inside.strings.now) ≡ Some (path_of c.self.inside.trie c.args.rest) = rw (strings, paths, ← next) c.requires.string in
     let string : string_of (drop c.args.at c.self.inside.strings.now) ≡ Some (path_of c.with_byte.new.self c.in_ok-number.number) =
-        letter_before c.self.inside.strings.now c.args.at (path_of c.self.inside.trie c.args.rest) within (rw strings c.requires.letter) rest
-        ∙ ap Some (sym c.in_ok-number.ensures.path) in
+    letter_before c.self.inside.strings.now c.args.at (path_of c.self.inside.trie c.args.rest) within (rw strings c.requires.letter) rest
+    ∙ ap Some (sym c.in_ok-number.ensures.path) in
     with_place c.self.inside.numbers.items c.self.inside.strings.now c.with_byte.new.self c.args.at c.in_ok-number.number more within c.in_ok-number.ensures.there string

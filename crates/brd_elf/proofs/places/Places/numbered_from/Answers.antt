@@ -9,7 +9,7 @@ pub returns-in-Some-clause-there : goal.returns-in-Some-clause-there
 returns-in-Some-clause-there c =
     let in_numbers : c.loop-at.at < length c.self.inside.numbers.items = omega (arith, c.loop-at-test.true, c.self.invariant.places) in
     let read : slice_index_or c.self.inside.numbers.items c.loop-at.at None ≡ Some c.in-Some.number =
-        get_or_default c.self.inside.numbers.items c.loop-at.at None _ in_numbers ∙ sym c.index.ensures ∙ c.in-Some.is in
+    get_or_default c.self.inside.numbers.items c.loop-at.at None _ in_numbers ∙ sym c.index.ensures ∙ c.in-Some.is in
     rw (← c.self.view_is) (c.self.invariant.within c.loop-at.at c.in-Some.number read)
 
 pub returns-clause-none : goal.returns-clause-none

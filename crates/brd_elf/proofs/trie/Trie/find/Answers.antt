@@ -10,7 +10,7 @@ loop-next-init c =
     let within : c.args.rest < length (paths_of c.self.inside.nodes.items) = rw c.self.view_is c.requires in
     let trie = c.self.invariant in
     let read : c.index-next.result.now ≡ slice_index_or c.self.inside.lasts.items c.args.rest None =
-        c.index-next.ensures ∙ get_or_default c.self.inside.lasts.items c.args.rest _ _ (omega (arith, within, trie.count, trie.enough)) in
+    c.index-next.ensures ∙ get_or_default c.self.inside.lasts.items c.args.rest _ _ (omega (arith, within, trie.count, trie.enough)) in
     rw read (starts c.self.inside.lasts.items c.self.inside.nodes.items c.args.rest c.args.byte trie)
 
 pub index-node-requires : goal.index-node-requires
