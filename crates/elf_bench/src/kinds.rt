@@ -19,6 +19,8 @@ pub enum Kind {
     Sections,
     /// Symbols with names of fifteen bytes, each another one.
     Names,
+    /// Symbols with names of three bytes, whose last two are any but 0.
+    Bytes,
     /// Symbols that all have the one long name.
     OneName,
     /// Symbols whose names are ends of copies of one string, so that most have an earlier one's name.
@@ -55,13 +57,14 @@ pub const HUGE: Size = Size {
 };
 
 /// All kinds.
-pub const ALL: [Kind; 9] = [
+pub const ALL: [Kind; 10] = [
     Kind::Segments,
     Kind::Overlap,
     Kind::Skipped,
     Kind::Zeros,
     Kind::Sections,
     Kind::Names,
+    Kind::Bytes,
     Kind::OneName,
     Kind::Copies,
     Kind::Ends,
@@ -76,6 +79,7 @@ pub fn name(kind: Kind) -> &'static str {
         Kind::Zeros => "16 MiB of zeros",
         Kind::Sections => "sections without a symbol table",
         Kind::Names => "symbols of short names",
+        Kind::Bytes => "symbols of names of any bytes",
         Kind::OneName => "symbols of one long name",
         Kind::Copies => "symbols of names that come again",
         Kind::Ends => "symbols of names that overlap",
@@ -87,7 +91,9 @@ pub fn file(alloc: Global, kind: Kind, size: Size) -> Result<Vec<u8>, AllocError
     match kind {
         Kind::Segments | Kind::Overlap | Kind::Skipped | Kind::Zeros => programs(alloc, kind, size),
         Kind::Sections => sections(alloc, size),
-        Kind::Names | Kind::OneName | Kind::Copies | Kind::Ends => symbols(alloc, kind, size),
+        Kind::Names | Kind::Bytes | Kind::OneName | Kind::Copies | Kind::Ends => {
+            symbols(alloc, kind, size)
+        }
     }
 }
 
@@ -175,20 +181,30 @@ fn symbols(alloc: Global, kind: Kind, size: Size) -> Result<Vec<u8>, AllocError>
 fn put_strings(out: &mut Vec<u8>, kind: Kind, size: Size) -> Result<(), AllocError> {
     let period = match kind {
         Kind::Names => 16,
-        Kind::Copies => period_of(size),
-        _ => size.strings,
+        Kind::Bytes => 4,
+        Kind::Copies => period_of(size).max(1),
+        _ => size.strings.max(1),
     };
     for at in 0..size.strings {
-        let place = at % period.max(1);
-        let letter = if kind == Kind::Names && place >= 11 {
-            at / 16 >> (4 * (14 - place.min(14))) & 15
-        } else {
-            place % 23
-        };
+        let place = at % period;
         let last = place + 1 == period || at + 1 == size.strings;
-        out.push(if last { 0 } else { b'a' + letter as u8 })?;
+        out.push(if last {
+            0
+        } else {
+            letter(kind, at / period, place)
+        })?;
     }
     Ok(())
+}
+
+/// The byte at a place of a string that isn't its last.
+fn letter(kind: Kind, string: u32, place: u32) -> u8 {
+    match (kind, place) {
+        (Kind::Names, 11..=14) => b'a' + (string >> (4 * (14 - place)) & 15) as u8,
+        (Kind::Bytes, 1) => (1 + string / 255 % 255) as u8,
+        (Kind::Bytes, 2) => (1 + string % 255) as u8,
+        _ => b'a' + (place % 23) as u8,
+    }
 }
 
 /// How long each of 128 copies of a string is.
@@ -202,6 +218,7 @@ fn period_of(size: Size) -> u32
 fn name_at(kind: Kind, size: Size, symbol: u32) -> u32 {
     match kind {
         Kind::Names => 16 * (symbol % (size.strings / 16).max(1)),
+        Kind::Bytes => 4 * (symbol % (size.strings / 4).max(1)),
         Kind::Copies => (symbol % 128) * period_of(size) + symbol / 128,
         Kind::Ends => size.strings.saturating_sub(2).saturating_sub(symbol),
         _ => 0,
