@@ -23,7 +23,7 @@ pub struct Node {
 pub struct Trie {
     /// The strings from number 1 on.
     nodes: Vec<Node>,
-    /// For each string, the last node that is a byte in front of it.
+    /// For each string, the last node that is a byte in front of it. A growth that is refused may leave room for one string more.
     lasts: Vec<Option<u32>>,
 }
 
@@ -84,7 +84,7 @@ impl Trie {
         None
     }
 
-    /// Gives a number to the string that is a byte in front of another one.
+    /// Gives the next number to the string that is a byte in front of another one. `NoMemory` also where 32 bits hold no more numbers.
     fn add(&mut self, rest: u32, byte: u8) -> Result<u32, NoMemory>
         requires rest { rest < length self.old }
         requires new { (number : ℕ) → number < length self.old → path_of self.old number ≡ byte ∷ path_of self.old rest → ⊥ }
