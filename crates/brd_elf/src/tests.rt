@@ -408,6 +408,45 @@ fn accepted(rt: HostRuntime) -> Result<(), Fail> {
     Ok(())
 }
 
+/// The strings `ab`, `xab` and again `ab`: equal strings are one name, wherever they stand or begin.
+#[test]
+fn equal_names_at_other_places(rt: HostRuntime) -> Result<(), Fail> {
+    let alloc = rt.alloc();
+    for (first, second, names) in [
+        (1, 1, " ab=80000000"),
+        (1, 5, " ab=80000000"),
+        (5, 1, " ab=80000000"),
+        (4, 5, " xab=80000000 ab=8000000c"),
+        (5, 4, " ab=80000000 xab=8000000c"),
+        (6, 2, " b=80000000"),
+        (2, 1, " b=80000000 ab=8000000c"),
+        (1, 6, " ab=80000000 b=8000000c"),
+        (3, 7, ""),
+        (0, 5, " ab=8000000c"),
+    ] {
+        let strings = [
+            (149, b'a'),
+            (150, b'b'),
+            (151, 0),
+            (152, b'x'),
+            (153, b'a'),
+            (154, b'b'),
+            (155, 0),
+        ];
+        let names_at = changed(alloc, &ASSEMBLED, &[(119, first), (135, second)])?;
+        let file = changed(alloc, &names_at, &strings)?;
+        let expected = format!(in alloc;
+            "80000000 80000000:3c0880008d09000c0000000000000007{names}"
+        )?;
+        assert_eq!(rt;
+            shown(alloc, &file)?.as_str(),
+            expected.as_str(),
+            "{first} {second}"
+        );
+    }
+    Ok(())
+}
+
 /// 65,535 section headers are as many as that, and no mark of anything else; one byte less is too few.
 #[test]
 fn as_many_sections_as_there_can_be(rt: HostRuntime) -> Result<(), Fail> {
