@@ -38,6 +38,23 @@ fn is_instruction(rt: &HostRuntime, line: &str, wanted: &Instruction) -> bool {
     }
 }
 
+/// Whether two lines are the same instruction, without labels.
+fn is_same(rt: &HostRuntime, line: &str, other: &str) -> bool {
+    let Ok(
+        Line {
+            labels: _,
+            statement,
+        },
+    ) = parse_line(rt.alloc(), other.as_bytes())
+    else {
+        return false;
+    };
+    match &statement {
+        Statement::Instruction(instruction) => is_instruction(rt, line, instruction),
+        _ => false,
+    }
+}
+
 /// Whether a line has none of the forms.
 fn is_syntax(rt: &HostRuntime, line: &[u8]) -> bool {
     match parse_line(rt.alloc(), line) {
