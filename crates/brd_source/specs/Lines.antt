@@ -1,5 +1,5 @@
 -- A whole line: any number of names with a colon, and at most one statement behind them.
-use Rattle.std.specs.Prelude.{ℕ, if◌then◌else◌, List, [], ◌∷◌, ◌++◌, Result, Ok, Err}
+use Rattle.std.specs.Prelude.{ℕ, if◌then◌else◌, List, [], ◌∷◌, ◌++◌, Result, Ok}
 use Rattle.brd_text.specs.Faults.{◌>>=◌}
 use Rattle.brd_source.specs.declared.fault.LineFault.{LineFault}
 use Rattle.brd_source.specs.Statement.{Line}
