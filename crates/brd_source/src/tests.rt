@@ -3,6 +3,7 @@
 mod changed;
 mod directives;
 mod forms;
+mod names;
 mod refused;
 
 use crate::{Expression, Immediate, Instruction, Line, LineFault, Statement, parse_line};
