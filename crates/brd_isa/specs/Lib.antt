@@ -2,3 +2,4 @@ pub mod Fields
 pub mod Codes
 pub mod Table
 pub mod Decoding
+pub mod Names

@@ -8,6 +8,7 @@ mod encoder;
 mod fields;
 mod instruction;
 pub mod laws;
+mod mnemonic;
 
 pub use decoder::decode;
 pub use encoder::encode;
@@ -17,3 +18,4 @@ pub use instruction::{
     LinkedOp, LoadOp, MoveFromOp, MoveToOp, ProductOp, RegisterOp, ShiftOp, ShiftVariableOp,
     StoreOp, TrapImmediateOp, TrapOp,
 };
+pub use mnemonic::{Mnemonic, every_mnemonic_has_a_name, is_same_word, mnemonic_named};

@@ -1,0 +1,12 @@
+pub mod Statement
+pub mod View
+pub mod Faults
+pub mod Words
+pub mod Fronts
+pub mod Registers
+pub mod Reading
+pub mod Operands
+pub mod Texts
+pub mod Statements
+pub mod Lines
+pub mod Spelling

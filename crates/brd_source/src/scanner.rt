@@ -1,0 +1,192 @@
+//! The bytes of a line to words.
+
+ghost use Rattle.std.specs.Prelude.{◌≡◌, ◌∷◌, ◌<◌, ◌≤◌, length, false, true, IfSome, IfNone, List, ℕ};
+ghost use Rattle.std.specs.List.{prefix_len};
+ghost use Rattle.brd_text.specs.Bytes.{begins_with, is_word_byte as is_of_run};
+ghost use Rattle.brd_source.specs.Words.{words_in, seen};
+ghost use Rattle.brd_source.specs.Words as words;
+ghost use Rattle.brd_source.specs.Words.Place.{Between, InString};
+ghost use Rattle.brd_source.specs.Fronts.{begins_word, Begins};
+ghost use Rattle.brd_source.specs.Spelling.{Spells};
+
+use crate::token::Token;
+use brd_text::is_word_byte;
+use std::marker::Model;
+
+/// Whether a byte is a space, a tab or a carriage return.
+#[tactic(auto, unfolding(crate::specs::Words::is_blank))]
+fn is_blank(byte: u8) -> bool
+    ensures { result ≡ words.is_blank byte }
+{
+    byte == b' ' || byte == b'\t' || byte == b'\r'
+}
+
+/// Whether the bytes begin with this one.
+fn begins(byte: u8, rest: &[u8]) -> bool
+    ensures { result ≡ begins_with byte rest.now }
+{
+    match rest.split_first() {
+        Some((first, _)) => *first == byte,
+        None => false,
+    }
+}
+
+/// Whether a comment begins at a byte, with these behind it.
+fn opens_comment(byte: u8, after: &[u8]) -> bool
+    ensures { result ≡ words.opens_comment byte after.now }
+{
+    byte == b'#' || (byte == b'/' && begins(b'/', after))
+}
+
+/// Whether a byte of a string ends it.
+fn ends_string(is_escaped: bool, byte: u8) -> bool
+    ensures { result ≡ words.ends_string is_escaped byte }
+{
+    !is_escaped && byte == b'"'
+}
+
+/// Whether a byte of a string is a backslash before another byte of it.
+pub(crate) fn escapes(is_escaped: bool, byte: u8) -> bool
+    ensures { result ≡ words.escapes is_escaped byte }
+{
+    !is_escaped && byte == b'\\'
+}
+
+/// What is behind blanks, nothing where a comment stands there.
+fn after_blanks(line: &[u8]) -> &[u8]
+    ensures same { words_in Between line.now ≡ words_in Between result.now }
+    ensures word { begins_word result.now ≡ true }
+{
+    let mut left = line;
+    while let Some((byte, after)) = left.split_first() {
+        if is_blank(*byte) {
+            left = after;
+            continue;
+        }
+        if opens_comment(*byte, after) {
+            return &[];
+        }
+        return left;
+    }
+    left
+}
+
+/// How many bytes the run at the front has.
+fn run_len(rest: &[u8]) -> usize
+    ensures { result ≡ prefix_len is_of_run rest.now }
+{
+    for (i, byte) in rest.iter().enumerate() {
+        if !is_word_byte(*byte) {
+            return i;
+        }
+    }
+    rest.len()
+}
+
+/// How many bytes stand before the quote that ends a string.
+fn string_len(rest: &[u8]) -> Option<usize>
+    ensures len { result ≡ words.string_len false rest.now }
+    ensures inside { IfSome result (λ n. n < length rest.now) }
+{
+    let mut is_escaped = false;
+    for (i, byte) in rest.iter().enumerate() {
+        if ends_string(is_escaped, *byte) {
+            return Some(i);
+        }
+        is_escaped = escapes(is_escaped, *byte);
+    }
+    None
+}
+
+/// The string behind a quote, and what is behind it.
+fn string_at(rest: &[u8]) -> (Token<'_>, &[u8])
+    ensures word { words.quoted (words.string_len false rest.now) rest.now ≡ seen result.0 }
+    ensures rest { words_in InString rest.now ≡ words_in Between result.1.now }
+{
+    let Some(len) = string_len(rest) else {
+        return (Token::Wrong, &[]);
+    };
+    let (text, _) = rest.split_at(len);
+    let (_, behind) = rest.split_at(len + 1);
+    (Token::Quoted(text), behind)
+}
+
+/// The word at the front, and what is behind it.
+fn token_at(line: &[u8]) -> (Token<'_>, &[u8])
+    requires { begins_word line.now ≡ true }
+    ensures { Begins line.now (seen result.0) result.1.now }
+{
+    let Some((byte, after)) = line.split_first() else {
+        return (Token::End, line);
+    };
+    if is_word_byte(*byte) {
+        let (run, behind) = line.split_at(run_len(line));
+        return (Token::Run(run), behind);
+    }
+    if *byte == b'%' {
+        let (run, behind) = after.split_at(run_len(after));
+        return (Token::Percent(run), behind);
+    }
+    if *byte == b'"' {
+        return string_at(after);
+    }
+    (Token::Mark(*byte), after)
+}
+
+/// Reads the words of a line from the front.
+#[derive(Debug, Drop)]
+pub(crate) struct Scanner<'a> {
+    rest: &'a [u8],
+}
+
+impl<'a> Model for Scanner<'a> {
+    ghost use Rattle.std.specs.Prelude.{List};
+    ghost use Rattle.brd_source.specs.Words.{Word, words_of};
+
+    ghost Value = { List Word };
+
+    ghost view = { λ s. words_of s.rest.now };
+}
+
+impl<'a> Scanner<'a> {
+    ghost use Rattle.brd_source.specs.Words.{words_of, first, others, seen};
+
+    /// A scanner over all of a line.
+    pub(crate) fn new(line: &'a [u8]) -> Scanner<'a>
+        ensures { result ≡ words_of line.now }
+    {
+        Scanner { rest: line }
+    }
+
+    /// Takes the first word. `End` stands behind the last word, as often as it is asked for.
+    pub(crate) fn next(&mut self) -> Token<'a>
+        ensures word { first self.old ≡ seen result }
+        ensures behind { self.new ≡ others self.old }
+    {
+        let (token, behind) = token_at(after_blanks(self.rest));
+        self.rest = behind;
+        token
+    }
+
+    /// The first word, which stays.
+    pub(crate) fn peek(&self) -> Token<'a>
+        ensures { first self.now ≡ seen result }
+    {
+        let (token, _) = token_at(after_blanks(self.rest));
+        token
+    }
+
+    /// The word behind the first one; both stay.
+    pub(crate) fn peek_behind(&self) -> Token<'a>
+        ensures { first (others self.now) ≡ seen result }
+    {
+        let (_, behind) = token_at(after_blanks(self.rest));
+        let (token, _) = token_at(after_blanks(behind));
+        token
+    }
+}
+
+/// What spells words, with any blanks between them and a comment behind them, is scanned as these words.
+pub fn spelled_words_are_scanned()
+    ensures { (bytes : List ℕ) (line : List words.Word) → Spells bytes line → words.words_of bytes ≡ line }
+{}

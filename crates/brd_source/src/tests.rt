@@ -1,0 +1,70 @@
+//! Lines with statements that were worked out by hand.
+
+mod changed;
+mod directives;
+mod forms;
+mod names;
+mod refused;
+
+use crate::{Expression, Immediate, Instruction, Line, LineFault, Statement, parse_line};
+use brd_isa::Register;
+
+fn r(number: u32) -> Register {
+    Register::low(number)
+}
+
+fn n(number: i64) -> Expression<'static> {
+    Expression { name: None, number }
+}
+
+fn sum(name: &[u8], number: i64) -> Expression<'_> {
+    Expression {
+        name: Some(name),
+        number,
+    }
+}
+
+fn whole(number: i64) -> Immediate<'static> {
+    Immediate::Whole(n(number))
+}
+
+/// Whether a line is this instruction, without labels.
+fn is_instruction(rt: &HostRuntime, line: &str, wanted: &Instruction) -> bool {
+    let Ok(Line { labels, statement }) = parse_line(rt.alloc(), line.as_bytes()) else {
+        return false;
+    };
+    match &statement {
+        Statement::Instruction(instruction) => labels.is_empty() && instruction == wanted,
+        _ => false,
+    }
+}
+
+/// Whether two lines are the same instruction, without labels.
+fn is_same(rt: &HostRuntime, line: &str, other: &str) -> bool {
+    let Ok(
+        Line {
+            labels: _,
+            statement,
+        },
+    ) = parse_line(rt.alloc(), other.as_bytes())
+    else {
+        return false;
+    };
+    match &statement {
+        Statement::Instruction(instruction) => is_instruction(rt, line, instruction),
+        _ => false,
+    }
+}
+
+/// Whether a line has none of the forms.
+fn is_syntax(rt: &HostRuntime, line: &[u8]) -> bool {
+    match parse_line(rt.alloc(), line) {
+        Err(fault) => fault == LineFault::Syntax,
+        Ok(_) => false,
+    }
+}
+
+/// Whether a line has one of the forms.
+fn is_fine(rt: &HostRuntime, line: &[u8]) -> bool {
+    parse_line(rt.alloc(), line).is_ok()
+}

@@ -1,0 +1,78 @@
+//! Strings: the bytes between two quotes to the bytes that they stand for.
+
+ghost use Rattle.std.specs.Prelude.{◌≡◌};
+ghost use Rattle.brd_source.specs.Faults.{Gives};
+ghost use Rattle.brd_source.specs.Texts as texts;
+
+use crate::fault::LineFault;
+use crate::scanner::{Scanner, escapes};
+use crate::token::Token;
+use std::alloc::Global;
+
+/// What a byte behind a backslash stands for.
+#[tactic(auto, unfolding(crate::specs::Texts::escape_of))]
+fn escape_of(byte: u8) -> Option<u8>
+    ensures { result ≡ texts.escape_of byte }
+{
+    match byte {
+        b'n' => Some(b'\n'),
+        b't' => Some(b'\t'),
+        b'0' => Some(0),
+        b'\\' => Some(b'\\'),
+        b'"' => Some(b'"'),
+        _ => None,
+    }
+}
+
+/// What another byte of a string stands for.
+#[tactic(auto, unfolding(crate::specs::Texts::plain_of))]
+fn plain_of(byte: u8) -> Option<u8>
+    ensures { result ≡ texts.plain_of byte }
+{
+    (byte < 128 && byte != b'\n').then_some(byte)
+}
+
+/// What a byte of a string stands for.
+fn byte_for(is_escaped: bool, byte: u8) -> Option<u8>
+    ensures { result ≡ texts.byte_for is_escaped byte }
+{
+    if is_escaped {
+        return escape_of(byte);
+    }
+    plain_of(byte)
+}
+
+/// What the bytes between two quotes stand for.
+#[tactic(auto, unfolding(crate::specs::Texts::text_of))]
+fn text_of(alloc: Global, bytes: &[u8]) -> Result<Vec<u8>, LineFault>
+    ensures { Gives (λ text. text.items) result (texts.text_of bytes.now) }
+{
+    let mut text = Vec::new(alloc);
+    let mut is_escaped = false;
+    for byte in bytes {
+        if escapes(is_escaped, *byte) {
+            is_escaped = true;
+            continue;
+        }
+        let Some(byte) = byte_for(is_escaped, *byte) else {
+            return Err(LineFault::Syntax);
+        };
+        text.push(byte)?;
+        is_escaped = false;
+    }
+    if is_escaped {
+        return Err(LineFault::Syntax);
+    }
+    Ok(text)
+}
+
+/// Takes a string.
+#[tactic(auto, unfolding(crate::specs::Texts::text_at))]
+pub(crate) fn text(alloc: Global, words: &mut Scanner) -> Result<Vec<u8>, LineFault>
+    ensures { Gives (λ text. (text.items, words.new)) result (texts.text_at words.old) }
+{
+    let Token::Quoted(bytes) = words.next() else {
+        return Err(LineFault::Syntax);
+    };
+    text_of(alloc, bytes)
+}

@@ -1,0 +1,16 @@
+/// A word of a line, borrowed from its bytes.
+#[derive(Clone, Copy, Debug)]
+pub(crate) enum Token<'a> {
+    /// A longest stretch of letters, digits, `_`, `.` and `$`.
+    Run(&'a [u8]),
+    /// The run directly behind a `%`, empty where there is none.
+    Percent(&'a [u8]),
+    /// The bytes between two quotes, with their escapes as they are written.
+    Quoted(&'a [u8]),
+    /// Any other byte that is no blank, as `,`, or one that has no place in a line at all.
+    Mark(u8),
+    /// A string without an end.
+    Wrong,
+    /// No more words.
+    End,
+}
