@@ -17,9 +17,24 @@ for tool in mips-linux-gnu-as mips-linux-gnu-ld; do
     exit 0
   fi
 done
-work=$(mktemp -d) || exit 1
+case $program in
+  /*) ;;
+  *) program=$PWD/$program ;;
+esac
+if ! { work=$(mktemp -d) && cd "$work"; }; then
+  echo "failed: elf_binutils: no folder for the files" >&2
+  exit 1
+fi
 trap 'rm -rf "$work"' EXIT
 failed=0
+
+# build TOOL ARGUMENTS: runs a tool; where it fails there is nothing to read, and that is the end
+build() {
+  if ! "$@"; then
+    echo "failed: elf_binutils: $*" >&2
+    exit 1
+  fi
+}
 
 # expect NAME STATUS TEXT FILE: what the program says of a file
 expect() {
@@ -39,14 +54,13 @@ segment 80000000 112 bytes sum 1042'
 symbols='symbol 80000000 _start
 symbol 80000060 count
 symbol 80000050 value'
-cd "$work" || exit 1
-mips-linux-gnu-as -EB -mips32 -o big.o "$top/examples/firmware.s" || exit 1
-mips-linux-gnu-as -EL -mips32 -o little.o "$top/examples/firmware.s" || exit 1
-mips-linux-gnu-ld -EB -n -z noexecstack -T "$top/examples/firmware.ld" -o small.elf big.o || exit 1
-mips-linux-gnu-ld -EB -T "$top/examples/firmware.ld" -o pages.elf big.o || exit 1
-mips-linux-gnu-ld -EB -s -T "$top/examples/firmware.ld" -o stripped.elf big.o || exit 1
-mips-linux-gnu-ld -EL -e _start -Ttext=0x80000000 -o little.elf little.o || exit 1
-mips-linux-gnu-ld -EB -e _start -Ttext=0x80000000 -o default.elf big.o || exit 1
+build mips-linux-gnu-as -EB -mips32 -o big.o "$top/examples/firmware.s"
+build mips-linux-gnu-as -EL -mips32 -o little.o "$top/examples/firmware.s"
+build mips-linux-gnu-ld -EB -n -z noexecstack -T "$top/examples/firmware.ld" -o small.elf big.o
+build mips-linux-gnu-ld -EB -T "$top/examples/firmware.ld" -o pages.elf big.o
+build mips-linux-gnu-ld -EB -s -T "$top/examples/firmware.ld" -o stripped.elf big.o
+build mips-linux-gnu-ld -EL -e _start -Ttext=0x80000000 -o little.elf little.o
+build mips-linux-gnu-ld -EB -e _start -Ttext=0x80000000 -o default.elf big.o
 
 expect 'linked by the script, with a PT_GNU_STACK' 0 "$image
 $symbols" small.elf

@@ -4,6 +4,8 @@ pub mod SymbolLoop
 pub mod LoadedLemmas
 pub mod Loadable
 pub mod SectionLemmas
+pub mod TrieLemmas
+pub mod PlaceLemmas
 pub mod NamedLemmas
 pub mod PartLemmas
 pub mod BodyLemmas

@@ -4,6 +4,8 @@ pub mod Header
 pub mod Segments
 pub mod Loaded
 pub mod Symbols
+pub mod Trie
+pub mod Places
 pub mod Named
 pub mod Meaning
 pub mod File

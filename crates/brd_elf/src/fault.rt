@@ -21,14 +21,14 @@ pub enum ElfFault {
         /// The offset of the field or program header.
         at: usize,
     },
-    /// The file ends too early.
-    #[error("offset {at}: what this header describes lies past the end of the file")]
+    /// The file ends before the ELF header, a table or a segment's bytes do.
+    #[error("offset {at}: the header or field here needs bytes past the end of the file")]
     Truncated {
-        /// The offset of the field or header that describes it.
+        /// The offset of the ELF header, of the field that places the table, or of the segment's program header.
         at: usize,
     },
-    /// Sizes contradict each other, or memory ends first.
-    #[error("offset {at}: the sizes in this header are wrong")]
+    /// A table's headers aren't of the size they have to be, or a segment is larger in the file than in memory or ends behind the last address.
+    #[error("offset {at}: a size given here is wrong: of a table's headers, or of a segment")]
     Sizes {
         /// The offset of the field or program header.
         at: usize,

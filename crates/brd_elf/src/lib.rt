@@ -11,10 +11,12 @@ mod laws;
 mod loaded;
 mod named;
 mod parts;
+mod places;
 mod reading;
 mod sections;
 mod segments;
 mod symbols;
+mod trie;
 mod writing;
 
 pub use fault::ElfFault;

@@ -41,8 +41,8 @@ impl Loaded {
         }
     }
 
-    /// Whether a segment has bytes at addresses from `low` up to, not including, `high`. It takes as many steps as the
-    /// number of segments has digits.
+    /// Whether a segment has bytes at addresses from `low` up to, not including, `high`. It is one search in the tree of
+    /// ends, however many segments there are.
     pub fn lies_in(&self, low: u32, high: u32) -> bool
         ensures { result ≡ lies_in self.now low high }
     {

@@ -1,59 +1,56 @@
 //! The symbols that are kept, with a register for the test whether a name is new.
 
-ghost use Rattle.std.specs.Prelude.{◌≡◌, ℕ, ◌<◌, [], length, drop, true, option_copied, Some, IsSome, IfOk};
+ghost use Rattle.std.specs.Prelude.{◌≡◌, ℕ, ◌^◌, ◌<◌, ◌≤◌, List, [], ◌∷◌, ◌++◌, length, drop, slice_index_or, true, false, option_map, Some, IfOk, OnOk, IfSome};
 ghost use Rattle.brd_elf.specs.Fault.{Gives};
-ghost use Rattle.brd_elf.specs.Symbols.{string_of, with_symbol, kept};
+ghost use Rattle.brd_elf.specs.Symbols.{string_of, kept};
+ghost use Rattle.brd_elf.specs.Trie.{path_of};
 ghost use Rattle.brd_elf.specs.Named.{Known, is_known};
 
 use crate::fault::ElfFault;
+use crate::places::Places;
 use crate::symbols::Entry;
 use brd_mem::{Bytes, NoMemory, Symbol, Symbols};
 use std::alloc::Global;
-use std::collections::BTreeSet;
 use std::marker::Model;
 
 /// Symbols in the order in which they were kept, no two with one name.
 #[derive(Drop)]
 pub struct Named<'a> {
-    strings: &'a [u8],
     symbols: Symbols,
-    /// Their names.
-    names: BTreeSet<&'a [u8]>,
-    /// The places in the strings at which a name was looked up already, so that none is read twice.
-    tried: Vec<bool>,
+    /// The string table.
+    places: Places<'a>,
+    /// By its number, whether a string is the empty one or a symbol's name. A number behind the end has no mark.
+    marks: Vec<bool>,
 }
 
 impl<'a> Model for Named<'a> {
-    ghost use Rattle.std.specs.Ordering.{nat_cmp};
-    ghost use Rattle.std.specs.Cmp.Lexicographic.{slice_cmp};
-    ghost use Rattle.std.specs.BTreeSet.{contains};
     ghost use Rattle.brd_elf.specs.Named.{Known, IsRegister};
 
     ghost Value = { Known };
 
-    ghost view = { λ named. record { strings = named.strings.now; symbols = named.symbols } };
+    ghost view = { λ named. record { strings = named.places.strings; symbols = named.symbols; paths = named.places.paths } };
 
-    ghost invariant = { λ named. IsRegister (contains (λ a b. slice_cmp nat_cmp a.now b.now) named.names) named.tried.items
-        (record { strings = named.strings.now; symbols = named.symbols }) };
+    ghost invariant = { λ named. IsRegister named.marks.items
+        (record { strings = named.places.strings; symbols = named.symbols; paths = named.places.paths }) };
 }
 
 impl<'a> Named<'a> {
     /// No symbols, with names from these strings.
     pub fn new(alloc: Global, strings: &'a [u8]) -> Result<Self, NoMemory>
-        ensures { IfOk result (λ named. named ≡ record { strings = strings.now; symbols = [] }) }
+        ensures { IfOk result (λ named. named ≡ record { strings = strings.now; symbols = []; paths = [] ∷ [] }) }
     {
-        let tried = vec![in alloc; false; strings.len()]?;
+        let places = Places::new(alloc, strings)?;
+        let marks = vec![in alloc; true]?;
         Ok(Named {
-            strings,
             symbols: Symbols::new(alloc),
-            names: BTreeSet::new(alloc),
-            tried,
+            places,
+            marks,
         })
     }
 
     /// With the symbol of an entry at an offset too, if it is kept.
     #[tactic(auto, unfolding(crate::specs::Symbols::kept))]
-    pub fn with(self, alloc: Global, at: usize, entry: Entry) -> Result<Self, ElfFault>
+    pub fn with(mut self, alloc: Global, at: usize, entry: Entry) -> Result<Self, ElfFault>
         ensures kept { Gives (λ named. named.symbols) result (kept self.entry.strings at entry self.entry.symbols) }
         ensures strings { IfOk result (λ named. named.strings ≡ self.entry.strings) }
     {
@@ -61,58 +58,67 @@ impl<'a> Named<'a> {
             return Ok(self);
         }
         let start = entry.name as usize;
-        if self.is_tried(start) {
+        let Some(number) = self.number_of(start)? else {
+            return Err(ElfFault::Symbols { at });
+        };
+        if self.is_known(number) {
             return Ok(self);
         }
-        match string_of(self.strings, start) {
+        match self.places.string_at(start) {
             None => Err(ElfFault::Symbols { at }),
-            Some(name) => Ok(self.with_name(alloc, start, name, entry.value)?),
+            Some(name) => Ok(self.with_name(alloc, number, name, entry.value)?),
         }
     }
 
-    /// Whether the string at a place is known not to be a new name, as it was looked up already.
-    fn is_tried(&self, start: usize) -> bool
-        ensures { result ≡ true → is_known self.now.symbols (string_of (drop start self.now.strings)) ≡ true }
+    /// The number of the string at a place, or nothing if no string ends behind it.
+    fn number_of(&mut self, start: usize) -> Result<Option<u32>, NoMemory>
+        ensures symbols { self.new.symbols ≡ self.old.symbols }
+        ensures strings { self.new.strings ≡ self.old.strings }
+        ensures string { IfOk result (λ number. option_map (path_of self.new.paths) number ≡ string_of (drop start self.old.strings)) }
+        ensures there { IfOk result (λ number. IfSome number (λ n. n < length self.new.paths)) }
     {
-        start < self.tried.len() && self.tried[start]
+        self.places.number_of(start)
     }
 
-    /// With a symbol of this name too, unless the name is empty or another symbol has it.
+    /// Whether the string with a number is no new name.
+    fn is_known(&self, number: u32) -> bool
+        requires { number < length self.now.paths }
+        ensures { result ≡ is_known self.now.symbols (Some (path_of self.now.paths number)) }
+    {
+        let number = number as usize;
+        number < self.marks.len() && self.marks[number]
+    }
+
+    /// With a symbol of a new name, that has a number.
     fn with_name(
         self,
         alloc: Global,
-        start: usize,
+        number: u32,
         name: &'a [u8],
         value: u32,
     ) -> Result<Self, NoMemory>
-        requires within { start < length self.strings }
-        requires found { string_of (drop start self.strings) ≡ Some name.now }
-        ensures { IfOk result (λ named. named
-            ≡ record { strings = self.entry.strings; symbols = with_symbol self.entry.symbols name.entry.now value }) }
+        requires there { number < length self.paths }
+        requires path { path_of self.paths number ≡ name.now }
+        requires new { is_known self.symbols (Some name.now) ≡ false }
+        ensures { IfOk result (λ named. named ≡ record {
+          strings = self.entry.strings;
+          paths = self.entry.paths;
+          symbols = self.entry.symbols ++ record { name = name.entry.now; value = value } ∷ [];
+        }) }
     {
         let Named {
-            strings,
             mut symbols,
-            mut names,
-            mut tried,
+            places,
+            mut marks,
         } = self;
-        tried[start] = true;
-        if name.is_empty() || !names.insert(name)? {
-            return Ok(Named {
-                strings,
-                symbols,
-                names,
-                tried,
-            });
-        }
+        mark(&mut marks, number as usize)?;
         let mut copy = Bytes::new(alloc);
         copy.append(name)?;
         symbols.push(Symbol { name: copy, value })?;
         Ok(Named {
-            strings,
             symbols,
-            names,
-            tried,
+            places,
+            marks,
         })
     }
 
@@ -121,28 +127,25 @@ impl<'a> Named<'a> {
         ensures { result ≡ self.entry.symbols }
     {
         let Named {
-            strings: _,
             symbols,
-            names: _,
-            tried: _,
+            places: _,
+            marks: _,
         } = self;
         symbols
     }
 }
 
-/// The string at a place in a string table: the bytes before the next byte 0.
-fn string_of(strings: &[u8], start: usize) -> Option<&[u8]>
-    ensures found { option_copied result ≡ string_of (drop start strings.now) }
-    ensures within { IsSome result → start < length strings.now }
+/// Sets a mark, which may lie behind the end; those that aren't there are no marks.
+fn mark(marks: &mut Vec<bool>, at: usize) -> Result<(), NoMemory>
+    requires { at < 2 ^ 32 }
+    ensures here { OnOk result (slice_index_or marks.new.items at false ≡ true) }
+    ensures others { OnOk result ((place : ℕ) → (place ≡ at → ⊥)
+        → slice_index_or marks.new.items place false ≡ slice_index_or marks.old.items place false) }
+    ensures size { OnOk result ((limit : ℕ) → length marks.old.items ≤ limit → at < limit → length marks.new.items ≤ limit) }
 {
-    if start >= strings.len() {
-        return None;
+    if at >= marks.len() {
+        marks.resize(at + 1, false)?;
     }
-    let rest = &strings[start..];
-    for (i, byte) in rest.iter().enumerate() {
-        if *byte == 0 {
-            return Some(&rest[..i]);
-        }
-    }
-    None
+    marks[at] = true;
+    Ok(())
 }

@@ -231,7 +231,7 @@ fn several_segments(rt: HostRuntime) -> Result<(), Fail> {
 #[test]
 fn faults(rt: HostRuntime) -> Result<(), Fail> {
     let alloc = rt.alloc();
-    let short: [(&[(usize, u8)], &str); 22] = [
+    let short: [(&[(usize, u8)], &str); 26] = [
         (&[(4, 2)], "Unsupported { at: 4 }"),
         (&[(5, 1)], "Unsupported { at: 5 }"),
         (&[(6, 0)], "Unsupported { at: 6 }"),
@@ -242,6 +242,7 @@ fn faults(rt: HostRuntime) -> Result<(), Fail> {
             &[(44, 0xff), (45, 0xff), (43, 31)],
             "Unsupported { at: 44 }",
         ),
+        (&[(44, 0xff), (45, 0xff)], "Unsupported { at: 44 }"),
         (&[(55, 2)], "Unsupported { at: 52 }"),
         (&[(55, 3)], "Unsupported { at: 52 }"),
         (&[(43, 31)], "Sizes { at: 42 }"),
@@ -249,6 +250,26 @@ fn faults(rt: HostRuntime) -> Result<(), Fail> {
         (&[(45, 3)], "Truncated { at: 28 }"),
         (&[(28, 0xff)], "Truncated { at: 28 }"),
         (&[(59, 0x75)], "Truncated { at: 52 }"),
+        // Offsets next to 2^32: of the program headers, of a segment's bytes, of the section headers.
+        (
+            &[(28, 0xff), (29, 0xff), (30, 0xff), (31, 0xff)],
+            "Truncated { at: 28 }",
+        ),
+        (
+            &[(56, 0xff), (57, 0xff), (58, 0xff), (59, 0xff)],
+            "Truncated { at: 52 }",
+        ),
+        (
+            &[
+                (32, 0xff),
+                (33, 0xff),
+                (34, 0xff),
+                (35, 0xff),
+                (47, 40),
+                (49, 1),
+            ],
+            "Truncated { at: 32 }",
+        ),
         (&[(60, 0x7f)], "Outside { at: 52 }"),
         // Bytes up to 2^32 - 1 and up to 2^32 exactly, and one more.
         (
@@ -277,7 +298,7 @@ fn faults(rt: HostRuntime) -> Result<(), Fail> {
         let file = changed(alloc, &SHORT, changes)?;
         assert_eq!(rt; shown(alloc, &file)?.as_str(), expected);
     }
-    let assembled: [(&[(usize, u8)], &str); 10] = [
+    let assembled: [(&[(usize, u8)], &str); 15] = [
         (&[(267, 15)], "Symbols { at: 228 }"),
         (&[(251, 49)], "Symbols { at: 228 }"),
         (&[(255, 1)], "Symbols { at: 228 }"),
@@ -288,6 +309,26 @@ fn faults(rt: HostRuntime) -> Result<(), Fail> {
         (&[(135, 10)], "Symbols { at: 132 }"),
         (&[(132, 0xff)], "Symbols { at: 132 }"),
         (&[(47, 39)], "Sizes { at: 46 }"),
+        // 65,535 section headers.
+        (&[(48, 0xff), (49, 0xff)], "Truncated { at: 32 }"),
+        // Offsets next to 2^32: of the symbols, of the strings, of a name.
+        (
+            &[(244, 0xff), (245, 0xff), (246, 0xff), (247, 0xff)],
+            "Symbols { at: 228 }",
+        ),
+        (
+            &[(284, 0xff), (285, 0xff), (286, 0xff), (287, 0xff)],
+            "Symbols { at: 228 }",
+        ),
+        (
+            &[(132, 0xff), (133, 0xff), (134, 0xff), (135, 0xff)],
+            "Symbols { at: 132 }",
+        ),
+        // Section 0 is the symbol table, with its strings in section 0.
+        (
+            &[(195, 2), (207, 0x64), (211, 0x30), (215, 0), (227, 16)],
+            "Symbols { at: 188 }",
+        ),
     ];
     for (changes, expected) in assembled {
         let file = changed(alloc, &ASSEMBLED, changes)?;
@@ -317,7 +358,7 @@ fn accepted(rt: HostRuntime) -> Result<(), Fail> {
         let file = changed(alloc, &SHORT, changes)?;
         assert_eq!(rt; shown(alloc, &file)?.as_str(), expected);
     }
-    let assembled: [(&[(usize, u8)], &str); 9] = [
+    let assembled: [(&[(usize, u8)], &str); 14] = [
         // A symbol of no section, also with a bad name; a second one of the same name; an empty name.
         (&[(146, 0), (147, 0), (132, 0xff)], start),
         (&[(135, 1)], start),
@@ -333,11 +374,88 @@ fn accepted(rt: HostRuntime) -> Result<(), Fail> {
         (&[(34, 0), (35, 0)], unnamed),
         (&[(235, 11)], unnamed),
         (&[(251, 0), (244, 0xff)], unnamed),
+        // Of two symbol tables the first counts: section 1 before section 3, and section 0, with one symbol less, before section 1.
+        (&[(315, 2)], ASSEMBLED_SHOWN),
+        (
+            &[(195, 2), (207, 0x64), (211, 0x20), (215, 2), (227, 16)],
+            start,
+        ),
+        // The strings are section 0.
+        (
+            &[(195, 3), (207, 0x94), (211, 10), (255, 0)],
+            ASSEMBLED_SHOWN,
+        ),
+        // The strings begin where the symbols do: all names lie behind the symbols, and one among them.
+        (
+            &[(287, 0x64), (291, 0x3a), (119, 0x31), (135, 0x38)],
+            ASSEMBLED_SHOWN,
+        ),
+        (
+            &[
+                (287, 0x64),
+                (291, 0x3a),
+                (119, 28),
+                (128, b'x'),
+                (135, 0x38),
+            ],
+            "80000000 80000000:3c0880008d09000c0000000000000007 x=80000000 d=8000000c",
+        ),
     ];
     for (changes, expected) in assembled {
         let file = changed(alloc, &ASSEMBLED, changes)?;
         assert_eq!(rt; shown(alloc, &file)?.as_str(), expected);
     }
+    Ok(())
+}
+
+/// The strings `ab`, `xab` and again `ab`: equal strings are one name, wherever they stand or begin.
+#[test]
+fn equal_names_at_other_places(rt: HostRuntime) -> Result<(), Fail> {
+    let alloc = rt.alloc();
+    for (first, second, names) in [
+        (1, 1, " ab=80000000"),
+        (1, 5, " ab=80000000"),
+        (5, 1, " ab=80000000"),
+        (4, 5, " xab=80000000 ab=8000000c"),
+        (5, 4, " ab=80000000 xab=8000000c"),
+        (6, 2, " b=80000000"),
+        (2, 1, " b=80000000 ab=8000000c"),
+        (1, 6, " ab=80000000 b=8000000c"),
+        (3, 7, ""),
+        (0, 5, " ab=8000000c"),
+    ] {
+        let strings = [
+            (149, b'a'),
+            (150, b'b'),
+            (151, 0),
+            (152, b'x'),
+            (153, b'a'),
+            (154, b'b'),
+            (155, 0),
+        ];
+        let names_at = changed(alloc, &ASSEMBLED, &[(119, first), (135, second)])?;
+        let file = changed(alloc, &names_at, &strings)?;
+        let expected = format!(in alloc;
+            "80000000 80000000:3c0880008d09000c0000000000000007{names}"
+        )?;
+        assert_eq!(rt;
+            shown(alloc, &file)?.as_str(),
+            expected.as_str(),
+            "{first} {second}"
+        );
+    }
+    Ok(())
+}
+
+/// 65,535 section headers are as many as that, and no mark of anything else; one byte less is too few.
+#[test]
+fn as_many_sections_as_there_can_be(rt: HostRuntime) -> Result<(), Fail> {
+    let alloc = rt.alloc();
+    let mut file = changed(alloc, &ASSEMBLED, &[(48, 0xff), (49, 0xff)])?;
+    file.resize(188 + 40 * 65_535, 0)?;
+    assert_eq!(rt; shown(alloc, &file)?.as_str(), ASSEMBLED_SHOWN);
+    file.truncate(187 + 40 * 65_535);
+    assert_eq!(rt; shown(alloc, &file)?.as_str(), "Truncated { at: 32 }");
     Ok(())
 }
 
@@ -484,11 +602,11 @@ fn texts(rt: HostRuntime) -> Result<(), Fail> {
         ),
         (
             ElfFault::Truncated { at: 52 },
-            "offset 52: what this header describes lies past the end of the file",
+            "offset 52: the header or field here needs bytes past the end of the file",
         ),
         (
             ElfFault::Sizes { at: 42 },
-            "offset 42: the sizes in this header are wrong",
+            "offset 42: a size given here is wrong: of a table's headers, or of a segment",
         ),
         (
             ElfFault::Overlap { at: 84 },

@@ -1,6 +1,6 @@
 -- The name of each mnemonic in assembler source (MD00086, chapter 3, the heads of the entries), in lower case: one line a mnemonic.
 -- The operations are those that Codes has the code of.
-use Rattle.std.specs.Prelude.{ℕ, List, [], ◌∷◌, Option, Some, None, option_map, map, if◌then◌else◌, codes}
+use Rattle.std.specs.Prelude.{◌≡◌, ℕ, List, [], ◌∷◌, Option, Some, None, option_map, map, if◌then◌else◌, codes}
 use Rattle.std.specs.Str.{bytes_eq}
 use Rattle.std.specs.Char.{to_ascii_lowercase}
 use Rattle.brd_isa.specs.declared.instruction.ShiftOp.{ShiftOp}
@@ -236,6 +236,10 @@ other_named name =
 -- the mnemonic that a name is, in lower case
 unfoldable pub mnemonic_named : List ℕ → Option Mnemonic
 mnemonic_named name = computing_named name or_else other_named name or_else named_in single_names name
+
+-- some name is this mnemonic
+abbrev pub HasName : Mnemonic → Type 0
+HasName mnemonic = (name : List ℕ) × (mnemonic_named name ≡ Some mnemonic)
 
 -- the mnemonic of an instruction
 abbrev pub mnemonic_of : Insn → Mnemonic

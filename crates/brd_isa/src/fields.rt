@@ -77,17 +77,17 @@ impl ShiftAmount {
 /// A prefetch's hint, 0 to 31.
 #[derive(Clone, Copy, Debug, PartialEq, Eq)]
 pub struct Hint {
-    number: u8,
+    hint: u8,
 }
 
 impl Model for Hint {
     ghost Value = { ℕ };
 
-    ghost view = { λ field. field.number };
+    ghost view = { λ field. field.hint };
 
-    ghost invariant = { λ field. field.number < 2 ^ 5 };
+    ghost invariant = { λ field. field.hint < 2 ^ 5 };
 
-    ghost inverse = { λ n. record { number = n } };
+    ghost inverse = { λ n. record { hint = n } };
 }
 
 impl Hint {
@@ -96,7 +96,7 @@ impl Hint {
         ensures { result ≡ bits % 2 ^ 5 }
     {
         Hint {
-            number: (bits % 0x20) as u8,
+            hint: (bits % 0x20) as u8,
         }
     }
 
@@ -105,7 +105,7 @@ impl Hint {
         ensures is { result ≡ self }
         ensures below { result < 2 ^ 5 }
     {
-        self.number
+        self.hint
     }
 }
 
@@ -147,17 +147,17 @@ impl ShortCode {
 /// The code of 20 bits of a SYSCALL or a BREAK.
 #[derive(Clone, Copy, Debug, PartialEq, Eq)]
 pub struct LongCode {
-    code: u32,
+    value: u32,
 }
 
 impl Model for LongCode {
     ghost Value = { ℕ };
 
-    ghost view = { λ field. field.code };
+    ghost view = { λ field. field.value };
 
-    ghost invariant = { λ field. field.code < 2 ^ 20 };
+    ghost invariant = { λ field. field.value < 2 ^ 20 };
 
-    ghost inverse = { λ n. record { code = n } };
+    ghost inverse = { λ n. record { value = n } };
 }
 
 impl LongCode {
@@ -166,7 +166,7 @@ impl LongCode {
         ensures { result ≡ bits % 2 ^ 20 }
     {
         LongCode {
-            code: bits % 0x100000,
+            value: bits % 0x100000,
         }
     }
 
@@ -175,7 +175,7 @@ impl LongCode {
         ensures is { result ≡ self }
         ensures below { result < 2 ^ 20 }
     {
-        self.code
+        self.value
     }
 }
 

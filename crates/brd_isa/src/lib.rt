@@ -18,4 +18,4 @@ pub use instruction::{
     LinkedOp, LoadOp, MoveFromOp, MoveToOp, ProductOp, RegisterOp, ShiftOp, ShiftVariableOp,
     StoreOp, TrapImmediateOp, TrapOp,
 };
-pub use mnemonic::{Mnemonic, is_same_word, mnemonic_named};
+pub use mnemonic::{Mnemonic, every_mnemonic_has_a_name, is_same_word, mnemonic_named};

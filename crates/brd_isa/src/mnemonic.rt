@@ -3,6 +3,7 @@
 ghost use Rattle.std.specs.Prelude.{◌≡◌};
 ghost use Rattle.std.specs.Str.{bytes_eq};
 ghost use Rattle.brd_isa.specs.Names as names;
+ghost use Rattle.brd_isa.specs.declared.mnemonic.Mnemonic.{Mnemonic as MnemonicOf};
 
 use crate::instruction::{
     AccumulateOp, BranchOp, BranchSignOp, BranchZeroOp, CountOp, ImmediateOp, JumpOp, LinkedOp,
@@ -563,3 +564,8 @@ pub fn mnemonic_named(name: &[u8]) -> Option<Mnemonic>
     }
     single(name)
 }
+
+/// No mnemonic is left out of the table of names.
+pub fn every_mnemonic_has_a_name()
+    ensures { (mnemonic : MnemonicOf) → names.HasName mnemonic }
+{}

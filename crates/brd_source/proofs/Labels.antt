@@ -1,8 +1,7 @@
 -- One label on.
-use Rattle.std.proofs.Common.{◌≡◌, ℕ, Bool, true, false, List, [], ◌∷◌, ◌++◌, cond, Result, Ok, Err, refl, sym, ap, ◌∙◌}
+use Rattle.std.proofs.Common.{◌≡◌, ℕ, true, List, [], ◌∷◌, ◌++◌, Ok, refl, sym, ap}
 use Rattle.brd_text.specs.Bytes.{is_name}
 use Rattle.brd_text.proofs.FaultLemmas.{passed}
-use Rattle.brd_source.specs.declared.fault.LineFault.{LineFault}
 use Rattle.brd_source.specs.declared.fault.LineFault.TheVariants.{Syntax}
 use Rattle.brd_source.specs.Words.{Word, first, others}
 use Rattle.brd_source.specs.Words.Word.{Run, Percent, Quoted, Mark, Wrong, End}

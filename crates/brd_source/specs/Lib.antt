@@ -9,3 +9,4 @@ pub mod Operands
 pub mod Texts
 pub mod Statements
 pub mod Lines
+pub mod Spelling

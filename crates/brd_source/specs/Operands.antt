@@ -1,5 +1,5 @@
 -- The operands of each instruction, by the forms of their mnemonics: a definition for each form, and then one line a form.
-use Rattle.std.specs.Prelude.{ℕ, List, if◌then◌else◌, Option, Some, None, Result, Ok, Err}
+use Rattle.std.specs.Prelude.{ℕ, List, if◌then◌else◌, Result, Ok}
 use Rattle.brd_isa.specs.declared.instruction.AccumulateOp.{AccumulateOp}
 use Rattle.brd_isa.specs.declared.instruction.BranchOp.{BranchOp}
 use Rattle.brd_isa.specs.declared.instruction.BranchSignOp.{BranchSignOp}

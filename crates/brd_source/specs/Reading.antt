@@ -1,6 +1,6 @@
 -- The pieces of a line at its front: registers, numbers, expressions, immediates, offsets, and the marks between them. What
 -- has not the form is Syntax.
-use Rattle.std.specs.Prelude.{ℕ, ℤ, pos, Bool, true, false, List, ◌==◌, if◌then◌else◌, Option, Some, None, Result, Ok, Err, codes}
+use Rattle.std.specs.Prelude.{ℕ, ℤ, pos, Bool, true, false, List, ◌==◌, if◌then◌else◌, Some, None, Result, Ok, Err, codes}
 use Rattle.std.specs.Str.{bytes_eq}
 use lib.IntN.{neg_ℤ}
 use Rattle.brd_text.specs.Bytes.{is_name}

@@ -14,6 +14,7 @@ mod token;
 
 pub use fault::LineFault;
 pub use line::parse_line;
+pub use scanner::spelled_words_are_scanned;
 pub use statement::{Expression, Immediate, Instruction, Line, Statement, Width};
 
 #[cfg(test)]

@@ -1,12 +1,13 @@
 //! The bytes of a line to words.
 
-ghost use Rattle.std.specs.Prelude.{◌≡◌, ◌∷◌, ◌<◌, ◌≤◌, length, false, true, IfSome, IfNone, option_map, List};
+ghost use Rattle.std.specs.Prelude.{◌≡◌, ◌∷◌, ◌<◌, ◌≤◌, length, false, true, IfSome, IfNone, List, ℕ};
 ghost use Rattle.std.specs.List.{prefix_len};
 ghost use Rattle.brd_text.specs.Bytes.{begins_with, is_word_byte as is_of_run};
 ghost use Rattle.brd_source.specs.Words.{words_in, seen};
 ghost use Rattle.brd_source.specs.Words as words;
 ghost use Rattle.brd_source.specs.Words.Place.{Between, InString};
 ghost use Rattle.brd_source.specs.Fronts.{begins_word, Begins};
+ghost use Rattle.brd_source.specs.Spelling.{Spells};
 
 use crate::token::Token;
 use brd_text::is_word_byte;
@@ -184,3 +185,8 @@ impl<'a> Scanner<'a> {
         token
     }
 }
+
+/// What spells words, with any blanks between them and a comment behind them, is scanned as these words.
+pub fn spelled_words_are_scanned()
+    ensures { (bytes : List ℕ) (line : List words.Word) → Spells bytes line → words.words_of bytes ≡ line }
+{}

@@ -3,6 +3,7 @@
 mod changed;
 mod directives;
 mod forms;
+mod names;
 mod refused;
 
 use crate::{Expression, Immediate, Instruction, Line, LineFault, Statement, parse_line};
@@ -34,6 +35,23 @@ fn is_instruction(rt: &HostRuntime, line: &str, wanted: &Instruction) -> bool {
     };
     match &statement {
         Statement::Instruction(instruction) => labels.is_empty() && instruction == wanted,
+        _ => false,
+    }
+}
+
+/// Whether two lines are the same instruction, without labels.
+fn is_same(rt: &HostRuntime, line: &str, other: &str) -> bool {
+    let Ok(
+        Line {
+            labels: _,
+            statement,
+        },
+    ) = parse_line(rt.alloc(), other.as_bytes())
+    else {
+        return false;
+    };
+    match &statement {
+        Statement::Instruction(instruction) => is_instruction(rt, line, instruction),
         _ => false,
     }
 }

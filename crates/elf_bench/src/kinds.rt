@@ -17,6 +17,10 @@ pub enum Kind {
     Zeros,
     /// Section headers, none of them a symbol table.
     Sections,
+    /// Symbols with names of fifteen bytes, each another one.
+    Names,
+    /// Symbols with names of three bytes, whose last two are any but 0.
+    Bytes,
     /// Symbols that all have the one long name.
     OneName,
     /// Symbols whose names are ends of copies of one string, so that most have an earlier one's name.
@@ -46,13 +50,21 @@ pub const LARGE: Size = Size {
     strings: 1_048_576,
 };
 
+/// For a measurement of names that come again: a file of some 9 MiB.
+pub const HUGE: Size = Size {
+    count: 65534,
+    strings: 8_388_608,
+};
+
 /// All kinds.
-pub const ALL: [Kind; 8] = [
+pub const ALL: [Kind; 10] = [
     Kind::Segments,
     Kind::Overlap,
     Kind::Skipped,
     Kind::Zeros,
     Kind::Sections,
+    Kind::Names,
+    Kind::Bytes,
     Kind::OneName,
     Kind::Copies,
     Kind::Ends,
@@ -66,6 +78,8 @@ pub fn name(kind: Kind) -> &'static str {
         Kind::Skipped => "headers that aren't loaded",
         Kind::Zeros => "16 MiB of zeros",
         Kind::Sections => "sections without a symbol table",
+        Kind::Names => "symbols of short names",
+        Kind::Bytes => "symbols of names of any bytes",
         Kind::OneName => "symbols of one long name",
         Kind::Copies => "symbols of names that come again",
         Kind::Ends => "symbols of names that overlap",
@@ -77,7 +91,9 @@ pub fn file(alloc: Global, kind: Kind, size: Size) -> Result<Vec<u8>, AllocError
     match kind {
         Kind::Segments | Kind::Overlap | Kind::Skipped | Kind::Zeros => programs(alloc, kind, size),
         Kind::Sections => sections(alloc, size),
-        Kind::OneName | Kind::Copies | Kind::Ends => symbols(alloc, kind, size),
+        Kind::Names | Kind::Bytes | Kind::OneName | Kind::Copies | Kind::Ends => {
+            symbols(alloc, kind, size)
+        }
     }
 }
 
@@ -151,23 +167,44 @@ fn symbols(alloc: Global, kind: Kind, size: Size) -> Result<Vec<u8>, AllocError>
         &mut out,
         &[0, 3, 0, 0, 132 + table, size.strings, 0, 0, 1, 0],
     )?;
-    let period = if kind == Kind::Copies {
-        period_of(size)
-    } else {
-        size.strings
-    };
     for i in 0..count {
         put(
             &mut out,
             &[name_at(kind, size, u32::from(i)), 0, 0, 0x1000_0001],
         )?;
     }
-    for at in 0..size.strings {
-        let letter = at % period.max(1);
-        let last = letter + 1 == period || at + 1 == size.strings;
-        out.push(if last { 0 } else { b'a' + (letter % 23) as u8 })?;
-    }
+    put_strings(&mut out, kind, size)?;
     Ok(out)
+}
+
+/// Puts the strings at the end.
+fn put_strings(out: &mut Vec<u8>, kind: Kind, size: Size) -> Result<(), AllocError> {
+    let period = match kind {
+        Kind::Names => 16,
+        Kind::Bytes => 4,
+        Kind::Copies => period_of(size).max(1),
+        _ => size.strings.max(1),
+    };
+    for at in 0..size.strings {
+        let place = at % period;
+        let last = place + 1 == period || at + 1 == size.strings;
+        out.push(if last {
+            0
+        } else {
+            letter(kind, at / period, place)
+        })?;
+    }
+    Ok(())
+}
+
+/// The byte at a place of a string that isn't its last.
+fn letter(kind: Kind, string: u32, place: u32) -> u8 {
+    match (kind, place) {
+        (Kind::Names, 11..=14) => b'a' + (string >> (4 * (14 - place)) & 15) as u8,
+        (Kind::Bytes, 1) => (1 + string / 255 % 255) as u8,
+        (Kind::Bytes, 2) => (1 + string % 255) as u8,
+        _ => b'a' + (place % 23) as u8,
+    }
 }
 
 /// How long each of 128 copies of a string is.
@@ -180,6 +217,8 @@ fn period_of(size: Size) -> u32
 /// Where the name of a symbol begins.
 fn name_at(kind: Kind, size: Size, symbol: u32) -> u32 {
     match kind {
+        Kind::Names => 16 * (symbol % (size.strings / 16).max(1)),
+        Kind::Bytes => 4 * (symbol % (size.strings / 4).max(1)),
         Kind::Copies => (symbol % 128) * period_of(size) + symbol / 128,
         Kind::Ends => size.strings.saturating_sub(2).saturating_sub(symbol),
         _ => 0,

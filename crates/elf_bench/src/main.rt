@@ -1,8 +1,8 @@
 //! Reads ELF files, and measures files that are made to take long.
 //!
-//!     elf_bench         reads `firmware.elf`, which lies where it runs, then small files of each kind
+//!     elf_bench         reads `firmware.elf` of the current directory, then a small file of each kind
 //!     elf_bench FILE    reads that file
-//!     elf_bench time    reads large files of each kind, and says how long it takes
+//!     elf_bench time    reads a large file of each kind, and says how long each takes
 //!
 //! Of a file that is an image it prints the entry, each segment with its size and the sum of its bytes, and each symbol.
 //! `firmware.elf` was made by GNU as and ld with `examples/firmware.ld` from a program of a few lines: it loads 112 bytes,
@@ -13,7 +13,7 @@ mod kinds;
 mod show;
 
 use anyhow::{Result, bail};
-use kinds::Kind;
+use kinds::{Kind, Size};
 use std::time::Instant;
 use std::{env, fs};
 
@@ -56,16 +56,22 @@ fn show_kinds(rt: &HostRuntime) -> Result<()> {
     Ok(())
 }
 
-/// Reads a large file of each kind and prints what is answered, and how long it took.
+/// Measures a large file of each kind, and a huge one of names that come again.
 fn time_kinds(rt: &HostRuntime) -> Result<()> {
     for kind in kinds::ALL {
-        let bytes = kinds::file(rt.alloc(), kind, kinds::LARGE)?;
-        let start = Instant::now(rt)?;
-        let answer = brd_elf::read(rt.alloc(), &bytes);
-        let took = start.elapsed(rt)?;
-        show::answer(rt, kinds::name(kind), bytes.len(), answer)?;
-        let micros = took.as_micros();
-        println!(rt; "  {micros} microseconds")?;
+        time_kind(rt, kind, kinds::LARGE)?;
     }
+    time_kind(rt, Kind::Copies, kinds::HUGE)
+}
+
+/// Reads a file and prints what is answered, and how long it took.
+fn time_kind(rt: &HostRuntime, kind: Kind, size: Size) -> Result<()> {
+    let bytes = kinds::file(rt.alloc(), kind, size)?;
+    let start = Instant::now(rt)?;
+    let answer = brd_elf::read(rt.alloc(), &bytes);
+    let took = start.elapsed(rt)?;
+    show::answer(rt, kinds::name(kind), bytes.len(), answer)?;
+    let micros = took.as_micros();
+    println!(rt; "  {micros} microseconds")?;
     Ok(())
 }

@@ -1,7 +1,7 @@
 //! Each form of operands, each shorthand, and how operands are written.
 
-use super::{is_instruction, n, r, sum, whole};
-use crate::{Immediate, Instruction};
+use super::{is_instruction, is_same, n, r, sum, whole};
+use crate::{Expression, Immediate, Instruction};
 use brd_isa::{
     AccumulateOp, BranchOp, BranchSignOp, BranchZeroOp, CountOp, ImmediateOp, JumpOp, LinkedOp,
     LoadOp, MoveFromOp, MoveToOp, ProductOp, RegisterOp, ShiftOp, ShiftVariableOp, StoreOp,
@@ -9,19 +9,13 @@ use brd_isa::{
 };
 
 #[test]
-fn registers_alone(rt: HostRuntime) {
+fn computing(rt: HostRuntime) {
     let sllv = Instruction::ShiftVariable(ShiftVariableOp::Sllv, r(1), r(2), r(3));
     assert!(rt; is_instruction(&rt, "sllv $1, $2, $3", &sllv));
     let subu = Instruction::ThreeRegisters(RegisterOp::Subu, r(1), r(2), r(3));
     assert!(rt; is_instruction(&rt, "subu $at, $v0, $v1", &subu));
     let mul = Instruction::Multiply(r(31), r(30), r(29));
     assert!(rt; is_instruction(&rt, "mul $ra,$s8,$sp", &mul));
-    assert!(rt; is_instruction(&rt, "jr $ra", &Instruction::JumpRegister(r(31))));
-    let jalr = Instruction::JumpLinkRegister(r(2), r(25));
-    assert!(rt; is_instruction(&rt, "jalr $v0, $t9", &jalr));
-    let jalr = Instruction::JumpLinkRegister(r(31), r(25));
-    assert!(rt; is_instruction(&rt, "jalr $t9", &jalr));
-    assert!(rt; is_instruction(&rt, "sync", &Instruction::Sync));
     let mflo = Instruction::MoveFrom(MoveFromOp::Mflo, r(16));
     assert!(rt; is_instruction(&rt, "mflo $s0", &mflo));
     let mthi = Instruction::MoveTo(MoveToOp::Mthi, r(23));
@@ -32,12 +26,23 @@ fn registers_alone(rt: HostRuntime) {
     assert!(rt; is_instruction(&rt, "msub $t0, $t7", &msub));
     let clo = Instruction::Count(CountOp::Clo, r(24), r(26));
     assert!(rt; is_instruction(&rt, "clo $t8, $k0", &clo));
+    let sra = Instruction::Shift(ShiftOp::Sra, r(8), r(9), n(31));
+    assert!(rt; is_instruction(&rt, "sra $t0, $t1, 31", &sra));
+    let low = Immediate::Low(sum(b"d", 4));
+    let addiu = Instruction::WithImmediate(ImmediateOp::Addiu, r(8), r(9), low);
+    assert!(rt; is_instruction(&rt, "addiu $t0, $t1, %lo(d+4)", &addiu));
+    let lui = Instruction::LoadUpper(r(28), Immediate::High(sum(b"d", 0)));
+    assert!(rt; is_instruction(&rt, "lui $gp, %hi(d)", &lui));
 }
 
 #[test]
-fn numbers_and_targets(rt: HostRuntime) {
-    let sra = Instruction::Shift(ShiftOp::Sra, r(8), r(9), n(31));
-    assert!(rt; is_instruction(&rt, "sra $t0, $t1, 31", &sra));
+fn control(rt: HostRuntime) {
+    assert!(rt; is_instruction(&rt, "jr $ra", &Instruction::JumpRegister(r(31))));
+    let jalr = Instruction::JumpLinkRegister(r(2), r(25));
+    assert!(rt; is_instruction(&rt, "jalr $v0, $t9", &jalr));
+    let jalr = Instruction::JumpLinkRegister(r(31), r(25));
+    assert!(rt; is_instruction(&rt, "jalr $t9", &jalr));
+    assert!(rt; is_instruction(&rt, "sync", &Instruction::Sync));
     assert!(rt; is_instruction(&rt, "syscall", &Instruction::Syscall(n(0))));
     assert!(rt; is_instruction(&rt, "syscall 0xFFFFF", &Instruction::Syscall(n(0xfffff))));
     assert!(rt; is_instruction(&rt, "break", &Instruction::Break(n(0))));
@@ -46,6 +51,8 @@ fn numbers_and_targets(rt: HostRuntime) {
     assert!(rt; is_instruction(&rt, "tltu $v0, $v1", &tltu));
     let tne = Instruction::Trap(TrapOp::Tne, r(2), r(3), n(1023));
     assert!(rt; is_instruction(&rt, "tne $v0, $v1, 1023", &tne));
+    let tgei = Instruction::TrapImmediate(TrapImmediateOp::Tgei, r(10), whole(-5));
+    assert!(rt; is_instruction(&rt, "tgei $t2, -5", &tgei));
     let jal = Instruction::Jump(JumpOp::Jal, sum(b"main", 0));
     assert!(rt; is_instruction(&rt, "jal main", &jal));
     let bnel = Instruction::Branch(BranchOp::Bnel, r(4), r(0), sum(b".L1", -8));
@@ -57,14 +64,7 @@ fn numbers_and_targets(rt: HostRuntime) {
 }
 
 #[test]
-fn immediates_and_offsets(rt: HostRuntime) {
-    let tgei = Instruction::TrapImmediate(TrapImmediateOp::Tgei, r(10), whole(-5));
-    assert!(rt; is_instruction(&rt, "tgei $t2, -5", &tgei));
-    let low = Immediate::Low(sum(b"d", 4));
-    let addiu = Instruction::WithImmediate(ImmediateOp::Addiu, r(8), r(9), low);
-    assert!(rt; is_instruction(&rt, "addiu $t0, $t1, %lo(d+4)", &addiu));
-    let lui = Instruction::LoadUpper(r(28), Immediate::High(sum(b"d", 0)));
-    assert!(rt; is_instruction(&rt, "lui $gp, %hi(d)", &lui));
+fn memory(rt: HostRuntime) {
     let lhu = Instruction::Load(LoadOp::Lhu, r(8), r(29), whole(-4));
     assert!(rt; is_instruction(&rt, "lhu $t0, -4($sp)", &lhu));
     let swl = Instruction::Store(StoreOp::Swl, r(8), r(30), whole(0));
@@ -77,18 +77,13 @@ fn immediates_and_offsets(rt: HostRuntime) {
 
 #[test]
 fn shorthands(rt: HostRuntime) {
-    let nop = Instruction::Shift(ShiftOp::Sll, r(0), r(0), n(0));
-    assert!(rt; is_instruction(&rt, "nop", &nop));
-    let moved = Instruction::ThreeRegisters(RegisterOp::Addu, r(4), r(16), r(0));
-    assert!(rt; is_instruction(&rt, "move $a0, $s0", &moved));
-    let b = Instruction::Branch(BranchOp::Beq, r(0), r(0), sum(b"b", 0));
-    assert!(rt; is_instruction(&rt, "b b", &b));
-    let beqz = Instruction::Branch(BranchOp::Beq, r(13), r(0), sum(b"end", 0));
-    assert!(rt; is_instruction(&rt, "beqz $t5, end", &beqz));
-    let bnez = Instruction::Branch(BranchOp::Bne, r(14), r(0), sum(b"end", 0));
-    assert!(rt; is_instruction(&rt, "bnez $t6, end", &bnez));
-    let bal = Instruction::BranchZero(BranchZeroOp::Bgezal, r(0), sum(b"end", 0));
-    assert!(rt; is_instruction(&rt, "bal end", &bal));
+    assert!(rt; is_same(&rt, "nop", "sll $0, $0, 0"));
+    assert!(rt; is_same(&rt, "move $a0, $s0", "addu $a0, $s0, $0"));
+    assert!(rt; is_same(&rt, "b b", "beq $0, $0, b"));
+    assert!(rt; is_same(&rt, "beqz $t5, end", "beq $t5, $0, end"));
+    assert!(rt; is_same(&rt, "bnez $t6, end", "bne $t6, $0, end"));
+    assert!(rt; is_same(&rt, "bal end", "bgezal $0, end"));
+    assert!(rt; !is_same(&rt, "bal end", "bltzal $0, end"));
 }
 
 #[test]
@@ -103,23 +98,22 @@ fn blanks_case_and_comments(rt: HostRuntime) {
     assert!(rt; is_instruction(&rt, "Lui $t0, %hi ( d - 5 )", &lui));
 }
 
+/// Whether `addiu $0, $0, ..` with this number has this value.
+fn is_number(rt: &HostRuntime, line: &str, value: Expression) -> bool {
+    let value = Immediate::Whole(value);
+    let wanted = Instruction::WithImmediate(ImmediateOp::Addiu, r(0), r(0), value);
+    is_instruction(rt, line, &wanted)
+}
+
 #[test]
 fn numbers(rt: HostRuntime) {
-    assert!(rt; is_instruction(&rt, "j - 5", &Instruction::Jump(JumpOp::J, n(-5))));
-    assert!(rt; is_instruction(&rt, "j d--4", &Instruction::Jump(JumpOp::J, sum(b"d", 4))));
-    assert!(rt; is_instruction(&rt, "j d+-4", &Instruction::Jump(JumpOp::J, sum(b"d", -4))));
-    assert!(rt;
-        is_instruction(
-            &rt,
-            "j d + 0x0aF",
-            &Instruction::Jump(JumpOp::J, sum(b"d", 0xaf))
-        )
-    );
-    assert!(rt; is_instruction(&rt, "j 010", &Instruction::Jump(JumpOp::J, n(10))));
-    assert!(rt; is_instruction(&rt, "j 0x00000000010", &Instruction::Jump(JumpOp::J, n(16))));
-    let high = Instruction::Jump(JumpOp::J, n(4_294_967_295));
-    assert!(rt; is_instruction(&rt, "j 4294967295", &high));
-    let low = Instruction::Jump(JumpOp::J, sum(b"_", -4_294_967_295));
-    assert!(rt; is_instruction(&rt, "j _-0xffffffff", &low));
-    assert!(rt; is_instruction(&rt, "j .", &Instruction::Jump(JumpOp::J, sum(b".", 0))));
+    assert!(rt; is_number(&rt, "addiu $0, $0, - 5", n(-5)));
+    assert!(rt; is_number(&rt, "addiu $0, $0, d--4", sum(b"d", 4)));
+    assert!(rt; is_number(&rt, "addiu $0, $0, d+-4", sum(b"d", -4)));
+    assert!(rt; is_number(&rt, "addiu $0, $0, d + 0x0aF", sum(b"d", 0xaf)));
+    assert!(rt; is_number(&rt, "addiu $0, $0, 010", n(10)));
+    assert!(rt; is_number(&rt, "addiu $0, $0, 0x00000000010", n(16)));
+    assert!(rt; is_number(&rt, "addiu $0, $0, 4294967295", n(4_294_967_295)));
+    assert!(rt; is_number(&rt, "addiu $0, $0, _-0xffffffff", sum(b"_", -4_294_967_295)));
+    assert!(rt; is_number(&rt, "addiu $0, $0, .", sum(b".", 0)));
 }

@@ -1,11 +1,14 @@
-use Rattle.std.proofs.Common.{◌≡◌, List, ℕ, ◌++◌, ap, ◌∙◌}
+use Rattle.std.proofs.Common.{◌≡◌, List, ℕ, ◌<◌, ◌++◌, length, ap, ◌∙◌}
+use Rattle.brd_elf.specs.Trie.{path_of}
 use Rattle.brd_elf.specs.Named.{Known}
-use Rattle.brd_elf.proofs.NamedLemmas.{register_more}
+use Rattle.brd_elf.proofs.NamedLemmas.{with_symbol_more}
 use Rattle.brd_elf.proofs.named.Named.with_name.Goals as goal
 
-pub invariant_of-result-2 : goal.invariant_of-result-2
-invariant_of-result-2 c =
-    let updates = c.in_ok-insert.ensures.updates in
+pub invariant_of-result : goal.invariant_of-result
+invariant_of-result c =
     let copied : c.append.new.self ≡ c.args.name.now = c.in_ok-append.ensures.ok ∙ ap (λ (bytes : List ℕ). bytes ++ c.args.name.now) c.new-copy.ensures in
-    let strings : c.self.inside.strings.now ≡ c.args.self.strings = ap (λ (known : Known). known.strings) c.self.view_is in
-    rw (c.in_ok-push.ensures.ok, copied) (register_more _ _ c.self.inside.tried.items c.self.inside.strings.now c.self.inside.symbols c.args.start c.args.name c.args.value c.self.invariant (rw strings c.requires.within) (rw strings c.requires.found) updates.0)
+    let paths : c.self.inside.places.paths ≡ c.args.self.paths = ap (λ (known : Known). known.paths) c.self.view_is in
+    let there : c.args.number < length c.self.inside.places.paths = rw paths c.requires.there in
+    let path : path_of c.self.inside.places.paths c.args.number ≡ c.args.name.now = rw paths c.requires.path in
+    rw (c.in_ok-push.ensures.ok, copied) (with_symbol_more c.self.inside.marks.items c.mark.new.marks.items c.self.inside.places.strings c.self.inside.symbols c.self.inside.places.paths (record { name = c.args.name.now; value = c.args.value }) c.args.number
+    c.self.invariant there path c.in_ok-mark.ensures.here c.in_ok-mark.ensures.others c.in_ok-mark.ensures.size)
