@@ -1,10 +1,10 @@
-use Rattle.std.proofs.Common.{◌≡◌, ◌+◌, ◌-◌, ◌<◌, ◌≤◌, ◌∙◌, take, drop, sym, ap, ℕ, length, arith, subst}
+use Rattle.std.proofs.Common.{◌≡◌, ◌+◌, ◌-◌, sym, arith, subst}
 use Rattle.std.proofs.lemmas.Bool.{true≢false}
 use Rattle.std.proofs.lemmas.Result.{IfOk-weaker}
 use Rattle.brd_asm.specs.Image.{AreStretches}
 use Rattle.brd_asm.specs.Index.{byte_at}
 use Rattle.brd_asm.proofs.IndexLemmas.{elsewhere}
-use Rattle.brd_asm.proofs.RangeLemmas.{Taken, remains_all, remains_more, remains_none, not_above, cut_length, cut_at, is_empty_map}
+use Rattle.brd_asm.proofs.RangeLemmas.{remains_all, remains_more, remains_none, not_above, cut_length, cut_at, is_empty_map}
 use Rattle.brd_asm.proofs.stretches.segments_of.Goals as goal
 
 pub loop-first-init : goal.loop-first-init
