@@ -45,7 +45,7 @@ offset_below (p ∷ ps) a k e = by (λ i h. offset_below ps a i h) (covers p a) 
     by ih false None b_is o_is h = absurd (cc)
     by ih false (Some i) b_is o_is h = omega (arith, ih i (sym o_is), inside h)
 
-offset_overlaps : (pieces : List Piece) (a : ℕ) → IsSome (offset_at pieces a) → overlaps pieces a (a + 1) ≡ true
+pub offset_overlaps : (pieces : List Piece) (a : ℕ) → IsSome (offset_at pieces a) → overlaps pieces a (a + 1) ≡ true
 offset_overlaps [] a there = absurd (cc)
 offset_overlaps (p ∷ ps) a there =
     elim (cases_Bool (covers p a)) [
@@ -60,7 +60,7 @@ offset_overlaps (p ∷ ps) a there =
     later None h = absurd (cc)
     later (Some k) h = refl
 
-has_offset : (output : List ℕ) (o : Option ℕ) → IsSome (option_and_then (slice_get output) o) → IsSome o
+pub has_offset : (output : List ℕ) (o : Option ℕ) → IsSome (option_and_then (slice_get output) o) → IsSome o
 has_offset output None h = absurd (cc)
 has_offset output (Some k) h = refl
 

@@ -64,7 +64,7 @@ none_above (s ∷ ss) high a below le =
 
 -- ---- one more
 
-skipped : (b : Bool) (x y : Option ℕ) → b ≡ false → cond b x y ≡ y
+pub skipped : (b : Bool) (x y : Option ℕ) → b ≡ false → cond b x y ≡ y
 skipped true x y e = absurd (true≢false e)
 skipped false x y e = refl
 

@@ -9,5 +9,6 @@ segments_of-requires c =
 pub returns : goal.returns
 returns c = record {
   meaning = image_is c.args.text.now (layout c.in_ok-names.field-0) c.in_ok-output.output c.as_slice-2.result.now (record { entry = c.entry_of.result; segments = c.in_ok-segments.segments; symbols = c.in_ok-symbols.symbols })
-      c.in_ok-names.ensures c.as_slice-2.ensures.value (rw (← c.as_slice.ensures) c.in_ok-output.ensures) c.in_ok-segments.ensures c.in_ok-symbols.ensures c.entry_of.ensures;
+      c.in_ok-names.ensures c.as_slice-2.ensures.value (rw (← c.as_slice.ensures) c.in_ok-output.ensures) c.in_ok-segments.ensures.stretches c.in_ok-symbols.ensures c.entry_of.ensures;
+  ascending = c.in_ok-segments.ensures.ascending;
 }
