@@ -1,7 +1,6 @@
-# The instruction behind a branch, in its delay slot, is done before the branch's target.
-        .set    noreorder
-_start: addiu   $t0, $0, 5
-        b       over
-        addiu   $t0, $t0, 1         # in the slot: done
-        addiu   $t0, $t0, 100       # skipped
-over:   addu    $t1, $t0, $t0
+# A branch and its delay slot: the instruction behind a branch is executed before the branch takes effect.
+_start: addiu $t0, $zero, 5
+        b     end
+        addiu $t0, $t0, 1      # the slot: executed
+        addiu $t0, $t0, 100    # skipped
+end:    addu  $t1, $t0, $t0

@@ -1,7 +1,6 @@
 -- The image of a layout and its output.
 use Rattle.std.proofs.Common.{◌≡◌, ℕ, List, length, Result, Ok, refl, subst, sym, ap, ◌∙◌, Vec, Global}
 use Rattle.std.specs.Prelude.{map, codes}
-use Rattle.brd_text.specs.Faults.{◌>>=◌}
 use Rattle.brd_mem.specs.declared.image.Image.{Image}
 use Rattle.brd_asm.specs.declared.fault.AsmFault.{AsmFault}
 use Rattle.brd_asm.specs.Faults.{Meets}
@@ -9,11 +8,11 @@ use Rattle.brd_asm.specs.Values.{Name, named}
 use Rattle.brd_asm.specs.Lines.{lines_of}
 use Rattle.brd_asm.specs.Layout.{Piece, Layout, all_placed, nothing}
 use Rattle.brd_asm.specs.Meaning.{Placed, meanings}
-use Rattle.brd_asm.specs.Image.{Program, program_of, IsImage, AreStretches, byte_in, symbol_of, entry_by}
-use Rattle.brd_asm.specs.Output.{IsOutput, all_bytes}
+use Rattle.brd_asm.specs.Image.{Program, program_of, IsImage, AreStretches, symbol_of, entry_by}
+use Rattle.brd_asm.specs.Output.{IsOutput}
 use Rattle.brd_asm.specs.Index.{total_size, byte_at}
 use Rattle.brd_asm.proofs.OutputLemmas.{meets_ok}
-use Rattle.brd_asm.proofs.SpelledLemmas.{Agree, agree_all}
+use Rattle.brd_asm.proofs.SpelledLemmas.{agree_all}
 
 abbrev pub Outputs : Vec ℕ Global → List Placed → Type 0
 Outputs output contents = IsOutput contents output.items

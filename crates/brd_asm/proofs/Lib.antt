@@ -8,3 +8,4 @@ mod StretchLemmas
 mod RangeLemmas
 mod SpelledLemmas
 mod AssembleLemmas
+mod AscendingLemmas

@@ -2,8 +2,8 @@
 use Rattle.brd_mem.specs.declared.image.Symbol.{Symbol}
 use Rattle.brd_asm.specs.Image.{symbol_of}
 use Rattle.std.specs.Prelude.{slice_get}
-use Rattle.std.proofs.Common.{zero, suc, take, ◌+◌, ◌^◌, arith, ◌≡◌, ℕ, Bool, cond, List, [], ◌∷◌, ◌++◌, Option, None, Some, Bor, refl, sym, ap, ◌∙◌}
-use Rattle.std.specs.Prelude.{ℤ, map, bytes_eq, is_some, false, Result, Ok}
+use Rattle.std.proofs.Common.{zero, suc, take, ◌+◌, ◌^◌, arith, ◌≡◌, ℕ, List, [], ◌∷◌, ◌++◌, Option, None, Some, Bor, refl, sym, ap, ◌∙◌}
+use Rattle.std.specs.Prelude.{ℤ, map, bytes_eq, is_some, false, Ok}
 use Rattle.std.specs.Map.{lookup}
 use Rattle.brd_asm.specs.Values.{Name, named, modulo}
 use Rattle.brd_asm.specs.Layout.{is_defined, define}
@@ -30,7 +30,7 @@ pub defined_new : (line : ℕ) (value : ℤ) (name : Bor (List ℕ)) (names : Li
 unfolding define
 defined_new line value name names es fs seen_is free stored is fs_is =
     let e : map seen.name fs ≡ names ++ record { name = name.now; value = value } ∷ [] =
-        ap (λ xs. map seen.name xs) fs_is ∙ names_push es (name, stored) ∙ ap (λ (v : ℤ). map seen.name es ++ record { name = name.now; value = v } ∷ []) is ∙ ap (λ ns. ns ++ record { name = name.now; value = value } ∷ []) seen_is in
+    ap (λ xs. map seen.name xs) fs_is ∙ names_push es (name, stored) ∙ ap (λ (v : ℤ). map seen.name es ++ record { name = name.now; value = v } ∷ []) is ∙ ap (λ ns. ns ++ record { name = name.now; value = value } ∷ []) seen_is in
     rw (free, e) refl
 
 -- ---- the symbols of the names
@@ -60,8 +60,8 @@ pub symbols_more : (names : List Name) (es : List (Bor (List ℕ) × ℤ)) (i : 
     → new ≡ symbols ++ record { name = bytes; value = word } ∷ [] → new ≡ map symbol_of (take (i + 1) names)
 symbols_more names es i name value symbols new bytes word names_are there so_far bytes_are word_is new_is =
     let taken : take (i + 1) names ≡ take i names ++ seen.name (name, value) ∷ [] =
-        ap (λ (ns : List Name). take (i + 1) ns) (sym names_are) ∙ take_names es (i + 1) ∙ ap (λ (ps : List (Bor (List ℕ) × ℤ)). map seen.name ps) (entry_there es i name value there)
-        ∙ names_push (take i es) (name, value) ∙ ap (λ (ns : List Name). ns ++ seen.name (name, value) ∷ []) (sym (take_names es i) ∙ ap (λ (ns : List Name). take i ns) names_are) in
+    ap (λ (ns : List Name). take (i + 1) ns) (sym names_are) ∙ take_names es (i + 1) ∙ ap (λ (ps : List (Bor (List ℕ) × ℤ)). map seen.name ps) (entry_there es i name value there)
+    ∙ names_push (take i es) (name, value) ∙ ap (λ (ns : List Name). ns ++ seen.name (name, value) ∷ []) (sym (take_names es i) ∙ ap (λ (ns : List Name). take i ns) names_are) in
     new_is
     ∙ ap (λ (ss : List Symbol). ss ++ record { name = bytes; value = word } ∷ []) so_far
     ∙ ap (λ (n : List ℕ). map symbol_of (take i names) ++ record { name = n; value = word } ∷ []) bytes_are

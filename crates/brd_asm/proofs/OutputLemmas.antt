@@ -1,6 +1,6 @@
 -- The output of contents, one behind the other.
 use Rattle.std.proofs.lemmas.List.{drop_more}
-use Rattle.std.proofs.Common.{◌≡◌, ◌<◌, get_or, drop, ℕ, ◌+◌, List, [], ◌∷◌, ◌++◌, length, Result, Ok, Err, refl, sym, ap, ◌∙◌, append_assoc, append-nil, arith, Vec, Global}
+use Rattle.std.proofs.Common.{◌≡◌, ◌<◌, get_or, drop, ℕ, ◌+◌, List, [], ◌∷◌, ◌++◌, length, Result, Ok, Err, refl, sym, ap, ◌∙◌, append_assoc, append-nil, Vec, Global}
 use Rattle.std.specs.Prelude.{ℤ, pos}
 use Rattle.brd_source.specs.declared.statement.Width.{Width}
 use Rattle.brd_asm.specs.Values.{within}

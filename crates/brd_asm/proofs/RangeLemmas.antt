@@ -1,7 +1,7 @@
 -- What is left of an index, when the pieces with the lowest addresses are taken out one after the other.
-use Rattle.std.proofs.Common.{◌≡◌, ℕ, ◌+◌, ◌-◌, ◌^◌, ◌<◌, ◌≤◌, Bool, true, false, cond, eqb, ltb, leb, List, [], ◌∷◌, ◌++◌, length, drop, take, Option, None, Some, refl, sym, ap, ◌∙◌, subst, inl, inr, ◌⊎◌, arith}
+use Rattle.std.proofs.Common.{◌≡◌, ℕ, ◌+◌, ◌-◌, ◌<◌, ◌≤◌, Bool, true, false, cond, ltb, leb, List, [], ◌∷◌, length, drop, take, Option, None, Some, refl, sym, ap, ◌∙◌, subst, inl, inr, arith}
 use Rattle.std.specs.Prelude.{slice_get, IsSome, option_map, option_and_then, ◌&&◌}
-use Rattle.std.proofs.lemmas.Bool.{cases_lt, cases_eq, cases_Bool, lt-ltb, le-ltb, le-leb, leb-true, ltb-true, and_parts, and_from, or_left, or_right, true≢false}
+use Rattle.std.proofs.lemmas.Bool.{cases_lt, cases_Bool, lt-ltb, le-ltb, leb-true, ltb-true, and_parts, and_from, or_left, or_right, true≢false}
 use Rattle.std.proofs.lemmas.Bool.{ne_eqb}
 use Rattle.std.proofs.lemmas.Option.{slice_get-get_or}
 use Rattle.std.proofs.lemmas.List.{length-take, length-drop, get_or-take, get_or-drop}
@@ -11,7 +11,7 @@ use Rattle.std.specs.Map.{lookup}
 use Rattle.brd_mem.specs.declared.image.Segment.{Segment}
 use Rattle.brd_asm.specs.declared.pieces.Range.{Range}
 use Rattle.brd_asm.specs.Layout.{Piece, size_of, overlaps}
-use Rattle.brd_asm.specs.Image.{byte_in, AreStretches}
+use Rattle.brd_asm.specs.Image.{AreStretches}
 use Rattle.brd_asm.specs.Output.{joined}
 use Rattle.brd_asm.specs.Index.{total_size, covers, offset_at, byte_at, IsIndex}
 use Rattle.brd_asm.proofs.StretchLemmas.{Covers, covers_more, covers_all, covers_nothing}
@@ -45,7 +45,7 @@ offset_below (p ∷ ps) a k e = by (λ i h. offset_below ps a i h) (covers p a) 
     by ih false None b_is o_is h = absurd (cc)
     by ih false (Some i) b_is o_is h = omega (arith, ih i (sym o_is), inside h)
 
-offset_overlaps : (pieces : List Piece) (a : ℕ) → IsSome (offset_at pieces a) → overlaps pieces a (a + 1) ≡ true
+pub offset_overlaps : (pieces : List Piece) (a : ℕ) → IsSome (offset_at pieces a) → overlaps pieces a (a + 1) ≡ true
 offset_overlaps [] a there = absurd (cc)
 offset_overlaps (p ∷ ps) a there =
     elim (cases_Bool (covers p a)) [
@@ -60,7 +60,7 @@ offset_overlaps (p ∷ ps) a there =
     later None h = absurd (cc)
     later (Some k) h = refl
 
-has_offset : (output : List ℕ) (o : Option ℕ) → IsSome (option_and_then (slice_get output) o) → IsSome o
+pub has_offset : (output : List ℕ) (o : Option ℕ) → IsSome (option_and_then (slice_get output) o) → IsSome o
 has_offset output None h = absurd (cc)
 has_offset output (Some k) h = refl
 
@@ -74,14 +74,14 @@ remains_all range_at size pieces output index whole = record {
   covered = covers_nothing (byte_at output pieces);
   above = λ first range is. (omega arith, index.filled first range is);
   within = λ first range is.
-    let filled = index.filled first range is in
-    let last = offset_below pieces (range.end - 1) (range.offset + (range.end - 1 - first)) (index.bytes first range (range.end - 1) is (omega arith) (omega arith)) in
-    omega (arith, last, whole, filled);
+      let filled = index.filled first range is in
+      let last = offset_below pieces (range.end - 1) (range.offset + (range.end - 1 - first)) (index.bytes first range (range.end - 1) is (omega arith) (omega arith)) in
+      omega (arith, last, whole, filled);
   apart = index.apart;
   bytes = λ first range a is le lt. byte_by output pieces a (range.offset + (a - first)) (index.bytes first range a is le lt);
   all = λ a le there.
-    let w = index.all a (a + 1) (offset_overlaps pieces a (has_offset output (offset_at pieces a) there)) in
-    (w.0, w.1, w.2, omega (arith, w.3), w.4);
+      let w = index.all a (a + 1) (offset_overlaps pieces a (has_offset output (offset_at pieces a) there)) in
+      (w.0, w.1, w.2, omega (arith, w.3), w.4);
 }
 
 -- ---- the lowest range is taken out
@@ -99,15 +99,15 @@ remains_more range_at new_range_at memory output ss first range more remains tak
   high = first + length more;
   covered = covers_more memory remains.high first ss more remains.covered here.0 (omega (arith, here.1)) nothing has;
   above = λ other next is.
-    let old = kept other next is in
-    (omega (arith, remains.apart first range other next taken.was old (behind other next is), here.1), (remains.above other next old).1);
+      let old = kept other next is in
+      (omega (arith, remains.apart first range other next taken.was old (behind other next is), here.1), (remains.above other next old).1);
   within = λ other next is. remains.within other next (kept other next is);
   apart = λ one one_range two two_range is is_too lt. remains.apart one one_range two two_range (kept one one_range is) (kept two two_range is_too) lt;
   bytes = λ other next a is le lt. remains.bytes other next a (kept other next is) le lt;
   all = λ a le there.
-    let w = remains.all a (omega (arith, here.0)) there in
-    let other : (w.0 ≡ first → ⊥) = λ e. absurd (passed w.1 w.0 e w.2 w.4 le) in
-    (w.0, w.1, taken.others w.0 other ∙ w.2, w.3, w.4);
+      let w = remains.all a (omega (arith, here.0)) there in
+      let other : (w.0 ≡ first → ⊥) = λ e. absurd (passed w.1 w.0 e w.2 w.4 le) in
+      (w.0, w.1, taken.others w.0 other ∙ w.2, w.3, w.4);
 }
   where
     here : (remains.high ≤ first) × (first < range.end)

@@ -1,15 +1,14 @@
 -- The bytes that spell contents, against the output and the places of the pieces.
-use Rattle.std.proofs.Common.{◌≡◌, ℕ, ◌+◌, ◌-◌, ◌*◌, ◌<◌, ◌≤◌, Bool, true, false, cond, ltb, leb, List, [], ◌∷◌, ◌++◌, length, Option, None, Some, Result, Ok, Err, refl, sym, ap, ◌∙◌, subst, arith, length-append}
-use Rattle.std.specs.Prelude.{ℤ, slice_get, replicate, option_map, option_and_then, ◌&&◌}
-use Rattle.std.proofs.lemmas.Bool.{cases_Bool, leb-true, ltb-true, and_parts}
+use Rattle.std.proofs.Common.{◌≡◌, ℕ, ◌+◌, ◌-◌, ◌*◌, ◌<◌, Bool, true, false, cond, ltb, leb, List, [], ◌∷◌, ◌++◌, length, Option, None, Some, Result, Ok, refl, sym, ap, ◌∙◌, subst, arith, length-append}
+use Rattle.std.specs.Prelude.{ℤ, slice_get, replicate, ◌&&◌}
+use Rattle.std.proofs.lemmas.Bool.{leb-true, ltb-true, and_parts}
 use Rattle.std.proofs.lemmas.List.{length-replicate}
 use Rattle.brd_text.specs.Faults.{◌>>=◌}
 use Rattle.brd_text.proofs.FaultLemmas.{bind_ok}
-use Rattle.brd_isa.specs.declared.instruction.Insn.{Insn}
 use Rattle.brd_mem.specs.declared.image.Segment.{Segment}
 use Rattle.brd_source.specs.declared.statement.Width.{Width}
 use Rattle.brd_source.specs.declared.statement.Width.TheVariants.{Byte, Half, Word}
-use Rattle.brd_source.specs.Statement.{Expression, Instruction}
+use Rattle.brd_source.specs.Statement.{Expression}
 use Rattle.brd_asm.specs.declared.fault.AsmFault.{AsmFault}
 use Rattle.brd_asm.specs.Values.{Name, value_of, known, within}
 use Rattle.brd_asm.specs.Layout.{Content, Piece, size_of, bytes_in}

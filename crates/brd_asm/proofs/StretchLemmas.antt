@@ -1,7 +1,7 @@
 -- Bytes that join stretches, one piece after the other by ascending address.
-use Rattle.std.proofs.Common.{◌≡◌, ℕ, suc, ◌+◌, ◌-◌, ◌<◌, ◌≤◌, Bool, true, false, cond, eqb, ltb, leb, List, [], ◌∷◌, ◌++◌, length, Option, None, Some, refl, sym, ap, ◌∙◌, subst, inl, inr, ◌⊎◌, arith, append_assoc, length-append, append-nil}
-use Rattle.std.specs.Prelude.{slice_get, ◌&&◌, IsSome}
-use Rattle.std.proofs.lemmas.Bool.{cases_lt, cases_eq, cases_Bool, lt-ltb, le-ltb, le-leb, ltb-true, ne_eqb, and_parts, and_from, and_right, and_left, true≢false}
+use Rattle.std.proofs.Common.{◌≡◌, ℕ, ◌+◌, ◌-◌, ◌<◌, ◌≤◌, Bool, true, false, cond, eqb, ltb, leb, List, [], ◌∷◌, ◌++◌, length, Option, None, Some, refl, sym, ap, ◌∙◌, subst, inl, inr, arith, length-append}
+use Rattle.std.specs.Prelude.{slice_get, ◌&&◌}
+use Rattle.std.proofs.lemmas.Bool.{cases_lt, cases_eq, lt-ltb, le-ltb, le-leb, ne_eqb, and_from, and_right, and_left, true≢false}
 use Rattle.std.proofs.lemmas.Option.{slice_get-get_or}
 use Rattle.std.proofs.lemmas.List.{get_or_append_left, get_or-append-add}
 use Rattle.brd_mem.specs.declared.image.Segment.{Segment}
@@ -64,7 +64,7 @@ none_above (s ∷ ss) high a below le =
 
 -- ---- one more
 
-skipped : (b : Bool) (x y : Option ℕ) → b ≡ false → cond b x y ≡ y
+pub skipped : (b : Bool) (x y : Option ℕ) → b ≡ false → cond b x y ≡ y
 skipped true x y e = absurd (true≢false e)
 skipped false x y e = refl
 

@@ -1,13 +1,13 @@
 -- The first line of a text, and those behind it.
-use Rattle.std.proofs.Common.{◌≡◌, ℕ, suc, ◌+◌, ◌≤◌, Bool, true, false, cond, eqb, List, [], ◌∷◌, length, take, drop, refl, sym, ap, ◌∙◌, inl, inr, arith}
-use Rattle.std.specs.Prelude.{not, Result, Ok, Err}
+use Rattle.std.proofs.Common.{◌≡◌, ℕ, suc, ◌+◌, ◌≤◌, true, false, eqb, List, [], ◌∷◌, length, take, drop, refl, sym, ap, ◌∙◌, inl, inr, arith}
+use Rattle.std.specs.Prelude.{Result, Ok, Err}
 use Rattle.std.specs.List.{prefix_len}
 use Rattle.std.proofs.lemmas.Bool.{cases_Bool}
 use Rattle.std.proofs.lemmas.List.{length-drop}
 use Rattle.brd_text.specs.Faults.{◌>>=◌, Fails}
 use Rattle.brd_asm.specs.Faults.{is_no_memory}
 use Rattle.brd_asm.proofs.FaultLemmas.{passed_on}
-use Rattle.brd_asm.specs.Lines.{in_front, lines_of, stays_on, lines_behind}
+use Rattle.brd_asm.specs.Lines.{lines_of, stays_on, lines_behind}
 use Rattle.brd_asm.specs.declared.fault.AsmFault.{AsmFault}
 use Rattle.brd_asm.specs.Layout.{Layout, placed, all_placed}
 

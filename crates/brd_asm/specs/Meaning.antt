@@ -1,6 +1,6 @@
 -- What the pieces of a source mean, with all names known. Of one line first the names count, then the ranges of its operands,
 -- then the alignment of a target.
-use Rattle.std.specs.Prelude.{ℕ, ◌+◌, ◌-◌, ◌*◌, ◌/◌, ◌%◌, ◌^◌, ℤ, pos, negsuc, ◌-ℤ◌, Bool, ◌==◌, if◌then◌else◌, List, [], ◌∷◌, ◌++◌, flat_map, replicate, Option, None, Some, Result, Ok, Err}
+use Rattle.std.specs.Prelude.{ℕ, ◌+◌, ◌-◌, ◌*◌, ◌/◌, ◌%◌, ◌^◌, ℤ, pos, negsuc, ◌-ℤ◌, ◌==◌, if◌then◌else◌, List, [], ◌∷◌, ◌++◌, replicate, Result, Ok, Err}
 use Rattle.std.specs.Int.{int_div_euclid}
 use Rattle.brd_text.specs.Faults.{◌>>=◌}
 use Rattle.brd_word.specs.Words.{big_endian_bytes}

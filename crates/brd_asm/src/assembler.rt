@@ -1,7 +1,8 @@
 //! The assembler.
 
 ghost use Rattle.std.specs.Prelude.{◌≡◌, ◌^◌, codes, IfOk};
-ghost use Rattle.brd_mem.specs.Image.{IsPlain};
+ghost use Rattle.brd_mem.specs.Memory.{base};
+ghost use Rattle.brd_mem.specs.Image.{AreAscending};
 ghost use Rattle.brd_asm.specs.Faults.{Meets};
 ghost use Rattle.brd_asm.specs.Values.{named, modulo};
 ghost use Rattle.brd_asm.specs.Image.{program_of, IsImage, entry_by};
@@ -27,6 +28,8 @@ use std::alloc::Global;
 pub fn assemble(alloc: Global, text: &[u8]) -> Result<Image, AsmFault>
     // What the text means, or its first fault.
     ensures meaning { Meets (λ image program. IsImage program image) result (program_of text.now) }
+    // Segments have bytes, ascend, lie apart, and lie in 0x80000000 to 0x80FFFFFF.
+    ensures ascending { IfOk result (λ image. AreAscending base image.segments) }
 {
     let Layout {
         place: _,

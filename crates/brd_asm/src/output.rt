@@ -32,12 +32,7 @@ pub fn output_of(alloc: Global, names: &Names, pieces: &[Piece]) -> Result<Vec<u
 
 /// Puts the bytes of a piece behind those of others.
 #[tactic(auto, unfolding(crate::specs::Meaning::content_meaning))]
-fn put(
-    alloc: Global,
-    output: &mut Vec<u8>,
-    names: &Names,
-    piece: &Piece,
-) -> Result<(), AsmFault>
+fn put(alloc: Global, output: &mut Vec<u8>, names: &Names, piece: &Piece) -> Result<(), AsmFault>
     ensures { Meets (λ _ meaning. Adds meaning output.old.items output.new.items) result (content_meaning piece.now.line piece.now.place names.now (seen.content piece.now.content)) }
 {
     match &piece.content {
@@ -81,12 +76,7 @@ fn values_of(
 
 /// The bytes of values of a width.
 #[tactic(auto, using(crate::proofs::OutputLemmas::behind_more))]
-fn data_of(
-    alloc: Global,
-    line: usize,
-    width: Width,
-    values: &[i128],
-) -> Result<Vec<u8>, AsmFault>
+fn data_of(alloc: Global, line: usize, width: Width, values: &[i128]) -> Result<Vec<u8>, AsmFault>
     ensures { Gives (λ bytes. bytes.items) result (data_of line width values.now) }
 {
     let mut data = Vec::new(alloc);

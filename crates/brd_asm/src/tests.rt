@@ -101,10 +101,10 @@ fn line_of(fault: AsmFault) -> usize {
 
 /// Whether a source has an image, or a fault on one of its lines.
 fn is_answered(alloc: Global, source: &[u8]) -> bool {
-    let mut lines = 1;
+    let mut lines = 1usize;
     for byte in source {
         if *byte == b'\n' {
-            lines += 1;
+            lines = lines.saturating_add(1);
         }
     }
     match assemble(alloc, source) {

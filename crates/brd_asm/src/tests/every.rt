@@ -151,4 +151,5 @@ pub const WORDS: [u32; 120] = [
 pub const FAR: [u32; 2] = [0x0000_0005, 0x8000_0800];
 
 /// The names in order of definition, as the tests show them.
-pub const SYMBOLS: &str = " here=80000174 later=800001dc value=00000005 value2=800001dc another=800001dc _start=80000800";
+pub const SYMBOLS: &str =
+    " here=80000174 later=800001dc value=00000005 value2=800001dc another=800001dc _start=80000800";

@@ -15,8 +15,14 @@ const ANSWERS: [(&str, &str); 78] = [
     // Nothing at all, and what has no bytes.
     ("", "80000000"),
     ("\n\n # nothing\n", "80000000"),
-    (".org 0\na: .space 0\n.ascii \"\"\n.align 0", "80000000 a=00000000"),
-    (".org 1\n.align 0\nb: .equ c, -1", "80000000 b=00000001 c=ffffffff"),
+    (
+        ".org 0\na: .space 0\n.ascii \"\"\n.align 0",
+        "80000000 a=00000000",
+    ),
+    (
+        ".org 1\n.align 0\nb: .equ c, -1",
+        "80000000 b=00000001 c=ffffffff",
+    ),
     // The order of faults on one line.
     ("a: a: nop", "Twice { line: 1 }"),
     ("a: a: nop $0", "Syntax { line: 1 }"),
@@ -46,9 +52,15 @@ const ANSWERS: [(&str, &str); 78] = [
     ("j 0x80000000+4294967295", "Range { line: 1 }"),
     ("a: j a+0", "80000000 80000000:08000000 a=80000000"),
     // Ranges.
-    (".word -2147483648, 4294967295", "80000000 80000000:80000000ffffffff"),
+    (
+        ".word -2147483648, 4294967295",
+        "80000000 80000000:80000000ffffffff",
+    ),
     (".word -2147483649", "Range { line: 1 }"),
-    (".equ a, 2147483648\n.word a+2147483648", "Range { line: 2 }"),
+    (
+        ".equ a, 2147483648\n.word a+2147483648",
+        "Range { line: 2 }",
+    ),
     (".half -32768, 65535", "80000000 80000000:8000ffff"),
     (".half -32769", "Range { line: 1 }"),
     (".half 65536", "Range { line: 1 }"),
@@ -63,7 +75,10 @@ const ANSWERS: [(&str, &str); 78] = [
     (".align -1", "Range { line: 1 }"),
     (".space 16777217", "Range { line: 1 }"),
     (".org 0x80000001\n.space 16777216", "Range { line: 2 }"),
-    (".org 0x80ffffff\n.space 1\na:", "80000000 80ffffff:00 a=81000000"),
+    (
+        ".org 0x80ffffff\n.space 1\na:",
+        "80000000 80ffffff:00 a=81000000",
+    ),
     (".org 0x80ffffff\n.half 1", "Range { line: 2 }"),
     ("addiu $1, $1, 32768", "Range { line: 1 }"),
     ("addiu $1, $1, -32769", "Range { line: 1 }"),
@@ -79,14 +94,32 @@ const ANSWERS: [(&str, &str); 78] = [
     ("syscall 1048576", "Range { line: 1 }"),
     ("teq $1, $1, 1024", "Range { line: 1 }"),
     ("pref 32, 0($0)", "Range { line: 1 }"),
-    (".equ a, 5\nori $1, $1, %lo(a+4294967295)", "80000000 80000000:34210004 a=00000005"),
+    (
+        ".equ a, 5\nori $1, $1, %lo(a+4294967295)",
+        "80000000 80000000:34210004 a=00000005",
+    ),
     // Places, segments, names and the entry.
-    ("a: .byte 1\nb: .align 2\nc: nop", "80000000 80000000:0100000000000000 a=80000000 b=80000001 c=80000004"),
+    (
+        "a: .byte 1\nb: .align 2\nc: nop",
+        "80000000 80000000:0100000000000000 a=80000000 b=80000001 c=80000004",
+    ),
     (".equ _start, -4", "fffffffc _start=fffffffc"),
-    (".org 0x80000008\n.byte 3\n.org 0x80000000\n.word 1, 2", "80000000 80000000:000000010000000203"),
-    (".org 0x80000009\n.byte 3\n.org 0x80000000\n.word 1, 2", "80000000 80000000:0000000100000002 80000009:03"),
-    (".org 0x80000004\n.space 0\n.org 0x80000000\n.word 1, 2", "80000000 80000000:0000000100000002"),
-    (".org 0x80000008\n.word 1\n.org 0x80000000\n.space 9", "Overlap { line: 4 }"),
+    (
+        ".org 0x80000008\n.byte 3\n.org 0x80000000\n.word 1, 2",
+        "80000000 80000000:000000010000000203",
+    ),
+    (
+        ".org 0x80000009\n.byte 3\n.org 0x80000000\n.word 1, 2",
+        "80000000 80000000:0000000100000002 80000009:03",
+    ),
+    (
+        ".org 0x80000004\n.space 0\n.org 0x80000000\n.word 1, 2",
+        "80000000 80000000:0000000100000002",
+    ),
+    (
+        ".org 0x80000008\n.word 1\n.org 0x80000000\n.space 9",
+        "Overlap { line: 4 }",
+    ),
 ];
 
 #[test]

@@ -1,5 +1,3 @@
-use Rattle.std.proofs.Common.{◌≡◌, ◌∙◌, sym, ap, map}
-use Rattle.brd_asm.specs.View as seen
 use Rattle.brd_asm.specs.LayoutView.{layout}
 use Rattle.brd_asm.proofs.AssembleLemmas.{output_length, image_is}
 use Rattle.brd_asm.proofs.assembler.assemble.Goals as goal
@@ -11,5 +9,6 @@ segments_of-requires c =
 pub returns : goal.returns
 returns c = record {
   meaning = image_is c.args.text.now (layout c.in_ok-names.field-0) c.in_ok-output.output c.as_slice-2.result.now (record { entry = c.entry_of.result; segments = c.in_ok-segments.segments; symbols = c.in_ok-symbols.symbols })
-  c.in_ok-names.ensures c.as_slice-2.ensures.value (rw (← c.as_slice.ensures) c.in_ok-output.ensures) c.in_ok-segments.ensures c.in_ok-symbols.ensures c.entry_of.ensures;
+      c.in_ok-names.ensures c.as_slice-2.ensures.value (rw (← c.as_slice.ensures) c.in_ok-output.ensures) c.in_ok-segments.ensures.stretches c.in_ok-symbols.ensures c.entry_of.ensures;
+  ascending = c.in_ok-segments.ensures.ascending;
 }

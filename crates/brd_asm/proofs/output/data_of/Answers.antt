@@ -1,4 +1,4 @@
-use Rattle.std.proofs.Common.{◌≡◌, ap, ◌∙◌, sym, get_or, ◌++◌, of_z, to_z, rules}
+use Rattle.std.proofs.Common.{ap, ◌∙◌, sym, get_or, ◌++◌, rules}
 use Rattle.std.specs.Prelude.{pos, ℤ}
 use Rattle.std.specs.Int.{w64, w128}
 use mir.Val.{SFits}

@@ -1,6 +1,6 @@
-use Rattle.std.proofs.Common.{map, drop, ap, ◌+◌, ◌≡◌, sym, ◌∙◌}
+use Rattle.std.proofs.Common.{map, drop, ◌+◌}
 use Rattle.brd_asm.specs.View as seen
-use Rattle.brd_asm.proofs.OutputLemmas.{Progress, progress_starts, progress_more, next_item}
+use Rattle.brd_asm.proofs.OutputLemmas.{progress_starts, progress_more, next_item}
 use Rattle.brd_asm.proofs.output.output_of.Goals as goal
 
 pub loop-piece-init : goal.loop-piece-init

@@ -1,4 +1,4 @@
-use Rattle.std.proofs.Common.{◌∙◌, sym, ap, to_z, of_z, w64}
+use Rattle.std.proofs.Common.{◌∙◌, sym, to_z, of_z, w64}
 use Rattle.std.proofs.lemmas.Int.{to_z-of_z}
 use Rattle.std.specs.Prelude.{bytes_eq}
 use Rattle.indexmap.proofs.CallerLemmas.{insert_entry-new}

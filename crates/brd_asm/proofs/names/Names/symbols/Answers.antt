@@ -1,4 +1,4 @@
-use Rattle.std.proofs.Common.{◌≡◌, ◌∙◌, sym, ap, ◌++◌, to_z, of_z, w64, rules, ℕ, ◌^◌}
+use Rattle.std.proofs.Common.{◌∙◌, ap, ◌++◌, w64, rules, ◌^◌}
 use Rattle.std.specs.Prelude.{ℤ}
 use mir.Val.{SFits}
 use Rattle.std.proofs.lemmas.Int.{to_z-of_z}

@@ -1,5 +1,4 @@
-use Rattle.std.proofs.Common.{◌≡◌, ◌∷◌, [], ◌++◌, ◌+◌, sym, ap, ◌∙◌, refl, arith, map}
-use Rattle.brd_asm.specs.Layout.{Piece}
+use Rattle.std.proofs.Common.{◌+◌, sym, refl}
 use Rattle.brd_asm.specs.View as seen
 use Rattle.brd_asm.proofs.PieceLemmas.{pieces_push}
 use Rattle.brd_asm.proofs.IndexLemmas.{index_more, elsewhere}

@@ -1,4 +1,4 @@
-use Rattle.std.proofs.Common.{◌≡◌, ◌∙◌, sym, ap, ◌++◌, arith}
+use Rattle.std.proofs.Common.{◌∙◌, sym, ap, ◌++◌, arith}
 use Rattle.std.proofs.lemmas.Bool.{true≢false}
 use Rattle.brd_asm.proofs.StretchLemmas.{grown, begun}
 use Rattle.brd_asm.proofs.stretches.Stretches.with.Goals as goal
