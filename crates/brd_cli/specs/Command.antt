@@ -6,6 +6,7 @@ use Rattle.brd_board.specs.declared.event.Event.TheVariants.{Step}
 use Rattle.brd_board.specs.Board.{after}
 use Rattle.brd_board.specs.Boot.{started, memory_of_words}
 use Rattle.brd_mem.specs.declared.image.Image.{Image}
+use Rattle.brd_mem.specs.Image.{IsPlain}
 use Rattle.brd_elf.specs.File.{file}
 use Rattle.brd_asm.specs.Image.{Program, program_of, IsImage}
 use Rattle.brd_asm.specs.declared.fault.AsmFault.TheVariants as asm_fault
@@ -14,7 +15,7 @@ use Rattle.brd_cli.specs.Shown.{board_shown}
 use Rattle.brd_cli.specs.declared.word_text.WordsFault.{WordsFault}
 use Rattle.brd_cli.specs.declared.word_text.WordsFault.TheVariants as words_fault
 use Rattle.brd_cli.specs.declared.fault.CommandFault.{CommandFault}
-use Rattle.brd_cli.specs.declared.fault.CommandFault.TheVariants.{NoMemory, Words, Source, Open, Read, TooLong, TooManyReads, Write}
+use Rattle.brd_cli.specs.declared.fault.CommandFault.TheVariants.{NoMemory, Words, Source, NotPlain, Open, Read, TooLong, TooManyReads, Write}
 
 -- the board of these words after so many steps of processor 1
 abbrev pub words_shown : List ℕ → ℕ → List ℕ
@@ -33,6 +34,7 @@ abbrev pub status_of : CommandFault → ℕ
 status_of NoMemory = 3
 status_of (Words fault) = 1
 status_of (Source fault) = 1
+status_of NotPlain = 1
 status_of (Open name error) = 4
 status_of (Read error) = 4
 status_of TooLong = 4
@@ -47,6 +49,7 @@ IsOfRead error TooLong = ⊥
 IsOfRead error TooManyReads = ⊥
 IsOfRead error (Words fault) = ⊥
 IsOfRead error (Source fault) = ⊥
+IsOfRead error NotPlain = ⊥
 IsOfRead error (Open name e) = ⊥
 IsOfRead error (Write e) = ⊥
 
@@ -58,6 +61,7 @@ IsReadFault TooLong = Unit {0}
 IsReadFault TooManyReads = Unit {0}
 IsReadFault (Words fault) = ⊥
 IsReadFault (Source fault) = ⊥
+IsReadFault NotPlain = ⊥
 IsReadFault (Open name error) = ⊥
 IsReadFault (Write error) = ⊥
 
@@ -71,6 +75,7 @@ IsFaultOf input TooLong = most_bytes < length input
 IsFaultOf input NoMemory = Unit {0}
 IsFaultOf input (Words fault) = Unit {0}
 IsFaultOf input (Source fault) = Unit {0}
+IsFaultOf input NotPlain = Unit {0}
 IsFaultOf input (Open name error) = Unit {0}
 IsFaultOf input (Read error) = Unit {0}
 IsFaultOf input TooManyReads = Unit {0}
@@ -81,6 +86,7 @@ abbrev pub Refuses : CommandFault → List ℕ → Result (List ℕ) WordsFault 
 Refuses NoMemory input output old new = Keeps old new
 Refuses (Words fault) input output old new = (output ≡ Err fault) × (fault ≢ words_fault.NoMemory) × Keeps old new
 Refuses (Source fault) input output old new = ⊥
+Refuses NotPlain input output old new = ⊥
 Refuses (Open name error) input output old new = ⊥
 Refuses (Read error) input output old new = Keeps old new
 Refuses TooLong input output old new = (most_bytes < length input) × Keeps old new
@@ -101,11 +107,20 @@ pub record WritesObject (source : List ℕ) (old new : Option (List ℕ)) : Type
   pub is_object : IsObjectFile source bytes
   pub written : Appends old new bytes
 
+-- a source has an image that isn't plain
+pub record HasOddImage (source : List ℕ) : Type 0 where
+  pub program : Program
+  pub is_program : program_of source ≡ Ok program
+  pub image : Image
+  pub is_image : IsImage program image
+  pub is_odd : ¬ (IsPlain image)
+
 -- A fault of the source is its first, and comes before anything is written.
 abbrev pub RefusesSource : CommandFault → List ℕ → Option (List ℕ) → Option (List ℕ) → Type 0
 RefusesSource NoMemory source old new = Keeps old new
 RefusesSource (Words fault) source old new = ⊥
 RefusesSource (Source fault) source old new = (program_of source ≡ Err fault) × (fault ≢ asm_fault.NoMemory) × Keeps old new
+RefusesSource NotPlain source old new = HasOddImage source × Keeps old new
 RefusesSource (Open name error) source old new = ⊥
 RefusesSource (Read error) source old new = Keeps old new
 RefusesSource TooLong source old new = (most_bytes < length source) × Keeps old new

@@ -22,6 +22,9 @@ pub enum CommandFault {
     /// The assembler source has a fault.
     #[error("the source: {0}")]
     Source(AsmFault),
+    /// The source's image isn't plain, so that no file stands for it. (No source has such an image; that isn't proved yet.)
+    #[error("the source: its image can't be written")]
+    NotPlain,
     /// A file couldn't be opened, or created.
     #[error("can't open {0}: {1}")]
     Open(String, io::Error),
@@ -59,7 +62,7 @@ impl CommandFault {
         ensures { result ≡ status_of self.now }
     {
         match self {
-            CommandFault::Words(_) | CommandFault::Source(_) => 1,
+            CommandFault::Words(_) | CommandFault::Source(_) | CommandFault::NotPlain => 1,
             CommandFault::NoMemory => 3,
             CommandFault::Open(_, _)
             | CommandFault::Read(_)
