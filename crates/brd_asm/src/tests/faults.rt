@@ -1,4 +1,5 @@
 use super::{AsmFault, shown};
+use std::process::Abort;
 use std::test::Fail;
 
 /// Whether each source is answered so.
@@ -98,7 +99,7 @@ fn two_groups(rt: HostRuntime) -> Result<(), Fail> {
             ("j 0x80000002", "Misaligned { line: 1 }"),
             ("j 0x90000002", "Range { line: 1 }"),
             ("j 0x70000000", "Range { line: 1 }"),
-            ("j 0x80000000+4294967295", "Range { line: 1 }"),
+            (".equ a, 0x80000000\nj a+4294967295", "Range { line: 2 }"),
             ("a: j a+0", "80000000 80000000:08000000 a=80000000"),
         ],
     )
