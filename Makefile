@@ -25,6 +25,8 @@ bench:
 	crates/lanes_bench/out/lanes_bench time
 	cd crates/config_bench && rt run >/dev/null
 	crates/config_bench/out/config_bench 1
+	cd crates/asm_bench && rt run >/dev/null
+	crates/asm_bench/out/asm_bench time
 	cd crates/elf_bench && rt run >/dev/null
 	crates/elf_bench/out/elf_bench time
 

@@ -13,7 +13,7 @@ use Rattle.brd_asm.specs.declared.fault.AsmFault.{AsmFault}
 use Rattle.brd_asm.specs.declared.fault.AsmFault.TheVariants as fault
 use Rattle.brd_asm.specs.Values.{Name, named, value_of, known, within, up_to}
 
--- what fills addresses: an instruction, values of one width, bytes, as many zeros
+-- what fills addresses: an instruction, values of one width, bytes, a number of zeros
 pub data Content : Type 0 where
   Code : Instruction → Content
   Values : Width → List Expression → Content

@@ -34,11 +34,11 @@ register_named run =
     place_in high_names 24 run or_else
     other_names run
 
--- a decimal number below 32, without leading zeros
 abbrev pub below_32 : Option ℕ → Option ℕ
 below_32 None = None
 below_32 (Some n) = if nat_lt n 32 then Some n else None
 
+-- a decimal number below 32, without leading zeros
 abbrev pub plain_number : List ℕ → Option ℕ
 plain_number [] = None
 plain_number (d ∷ ds) = if (d == 48) && not (length ds == 0) then None else below_32 (decimal_of (d ∷ ds))

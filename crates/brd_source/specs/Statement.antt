@@ -61,7 +61,7 @@ pub data Instruction : Type 0 where
   Linked : LinkedOp → ℕ → ℕ → Immediate → Instruction
   Prefetch : Expression → ℕ → Immediate → Instruction
 
--- what stands behind a line's labels; Run is an instruction
+-- what stands behind a line's labels; Instruct is an instruction
 pub data Statement : Type 0 where
   Nothing : Statement
   Instruct : Instruction → Statement

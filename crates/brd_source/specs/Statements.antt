@@ -100,7 +100,8 @@ value_step s = do
   e ← expression_at s.1
   Ok (flow_of (is_mark 44 (first e.1)) (s.0 ++ e.0 ∷ [], past 44 e.1) (s.0 ++ e.0 ∷ [], past 44 e.1))
 
--- values with commas between them, one at least
+-- Values with commas between them, one at least. Each turn takes a word at least, so there are fewer turns than words and
+-- one, and NoMemory, the answer of more turns, is never given.
 unfoldable pub values_at : List Word → Result (List Expression × List Word) LineFault
 values_at words = repeated NoMemory value_step (suc (length words)) ([], words)
 

@@ -6,7 +6,7 @@ use Rattle.brd_source.specs.declared.token.Token.{Token}
 use Rattle.brd_source.specs.declared.token.Token.TheVariants as tokens
 
 -- A run is a longest stretch of letters, digits, `_`, `.` and `$`; Percent is % and the run directly behind it, of which
--- the bytes are given; Quoted has the bytes between two quotes as they are written. A mark is any other byte that is no
+-- the bytes are given, none where no run is there; Quoted has the bytes between two quotes as they are written. A mark is any other byte that is no
 -- blank. Wrong stands where a string has no end, End where a line has no more words.
 pub data Word : Type 0 where
   Run : List ℕ → Word
