@@ -1,6 +1,6 @@
 //! LL and SC by several processors, with values that were worked out by hand.
 
-ghost use Rattle.std.specs.Prelude.{◌≤◌, ◌×◌};
+ghost use Rattle.std.specs.Prelude.{◌≤◌};
 
 use crate::{Context, ExceptionCode, Outcome, run};
 use brd_isa::Register;
@@ -67,158 +67,142 @@ fn done(
     Ok((outcome, context.read(Register::low(29))))
 }
 
-/// Whether the SC of processor 1 stores: 1 where it does, 0 where it doesn't.
+/// Does these instructions, then an SC of processor 1 with `LAST`. Says what the SC answers and what the word is then.
+fn sc_after(rt: &HostRuntime, before: &[(u8, u32)]) -> Result<(u32, bool), Fail> {
+    let mut ram = Ram::new(rt.alloc(), 0x1_0000)?;
+    let mut links = Links::new();
+    for (cpu, word) in before {
+        let cpu = (*cpu).clamp(1, 8);
+        let _ = done(&mut ram, &mut links, cpu, *word, BEFORE)?;
+    }
+    let old = ram.load32(BLOCK);
+    let (outcome, answer) = done(&mut ram, &mut links, 1, SC, LAST)?;
+    let wanted = if answer == 1 { Ok(LAST) } else { old };
+    let right = outcome == Outcome::Done && links.state(1).is_none() && ram.load32(BLOCK) == wanted;
+    Ok((answer, right))
+}
+
+/// The SC of processor 1 stores, and answers 1, unless another processor has ended the link.
 #[test]
-fn what_ends_a_link(rt: HostRuntime) -> Result<(), Fail> {
+fn what_others_do_to_a_link(rt: HostRuntime) -> Result<(), Fail> {
     for (name, before, answer) in [
-        ("nothing between", vec![in rt.alloc(); (1, LL)]?, 1),
-        ("no LL", vec![in rt.alloc(); (2, LL)]?, 0),
-        (
-            "a word of the block",
-            vec![in rt.alloc(); (1, LL), (2, SW + 4)]?,
-            0,
-        ),
+        ("nothing between", [(1, LL)].as_slice(), 1),
+        ("no LL", [(2, LL)].as_slice(), 0),
+        ("a word of the block", [(1, LL), (2, SW + 4)].as_slice(), 0),
         (
             "a word behind the block",
-            vec![in rt.alloc(); (1, LL), (2, SW + 0x10)]?,
+            [(1, LL), (2, SW + 0x10)].as_slice(),
             1,
         ),
         (
             "the block's last byte",
-            vec![in rt.alloc(); (1, LL), (2, SB + 0xf)]?,
+            [(1, LL), (2, SB + 0xf)].as_slice(),
             0,
         ),
         (
             "the byte behind the block",
-            vec![in rt.alloc(); (1, LL), (2, SB + 0x10)]?,
+            [(1, LL), (2, SB + 0x10)].as_slice(),
             1,
         ),
         (
             "a halfword of the block",
-            vec![in rt.alloc(); (1, LL), (8, SH + 0xe)]?,
+            [(1, LL), (8, SH + 0xe)].as_slice(),
             0,
         ),
         (
             "the left part of a word",
-            vec![in rt.alloc(); (1, LL), (2, SWL + 0xd)]?,
+            [(1, LL), (2, SWL + 0xd)].as_slice(),
             0,
         ),
         (
             "the right part of a word",
-            vec![in rt.alloc(); (1, LL), (2, SWR + 0x5)]?,
+            [(1, LL), (2, SWR + 0x5)].as_slice(),
             0,
         ),
         (
             "the right part behind the block",
-            vec![in rt.alloc(); (1, LL), (2, SWR + 0x11)]?,
+            [(1, LL), (2, SWR + 0x11)].as_slice(),
             1,
         ),
-        (
-            "one's own store",
-            vec![in rt.alloc(); (1, LL), (1, SW + 4)]?,
-            1,
-        ),
-        (
-            "one's own store of the word",
-            vec![in rt.alloc(); (1, LL), (1, SW)]?,
-            1,
-        ),
-        (
-            "a store that raises",
-            vec![in rt.alloc(); (1, LL), (2, SW + 2)]?,
-            1,
-        ),
+        ("a store that raises", [(1, LL), (2, SW + 2)].as_slice(), 1),
         (
             "an SC that stores",
-            vec![in rt.alloc(); (1, LL), (2, LL + 4), (2, SC + 4)]?,
+            [(1, LL), (2, LL + 4), (2, SC + 4)].as_slice(),
             0,
         ),
         (
             "an SC that doesn't store",
-            vec![in rt.alloc(); (1, LL), (2, SC + 4)]?,
+            [(1, LL), (2, SC + 4)].as_slice(),
             1,
         ),
+        ("an LL of the same word", [(1, LL), (2, LL)].as_slice(), 1),
+    ] {
+        assert_eq!(rt; sc_after(&rt, before)?, (answer, true), "{name}");
+    }
+    Ok(())
+}
+
+/// The same, for what the processor does itself.
+#[test]
+fn what_ends_ones_own_link(rt: HostRuntime) -> Result<(), Fail> {
+    for (name, before, answer) in [
         (
-            "an LL of the same word",
-            vec![in rt.alloc(); (1, LL), (2, LL)]?,
+            "a store into the block",
+            [(1, LL), (1, SW + 4)].as_slice(),
             1,
         ),
-        ("one's own SC", vec![in rt.alloc(); (1, LL), (1, SC)]?, 0),
+        ("a store of the word", [(1, LL), (1, SW)].as_slice(), 1),
+        ("a store that raises", [(1, LL), (1, SW + 2)].as_slice(), 1),
+        ("an SC", [(1, LL), (1, SC)].as_slice(), 0),
         (
-            "one's own SC to another word",
-            vec![in rt.alloc(); (1, LL), (1, SC + 4)]?,
+            "an SC to another word",
+            [(1, LL), (1, SC + 4)].as_slice(),
+            0,
+        ),
+        ("an SC that raises", [(1, LL), (1, SC + 1)].as_slice(), 0),
+        (
+            "an SC outside RAM",
+            [(1, LL), (1, SC_OUTSIDE)].as_slice(),
             0,
         ),
         (
-            "one's own SC that raises",
-            vec![in rt.alloc(); (1, LL), (1, SC + 1)]?,
-            0,
-        ),
-        (
-            "one's own SC outside RAM",
-            vec![in rt.alloc(); (1, LL), (1, SC_OUTSIDE)]?,
+            "an SC from register 0",
+            [(1, LL), (1, SC_FROM_ZERO)].as_slice(),
             0,
         ),
         (
             "a later LL of another word",
-            vec![in rt.alloc(); (1, LL), (1, LL + 4)]?,
+            [(1, LL), (1, LL + 4)].as_slice(),
             0,
         ),
         (
             "a later LL that raises",
-            vec![in rt.alloc(); (1, LL), (1, LL + 2)]?,
+            [(1, LL), (1, LL + 2)].as_slice(),
             1,
         ),
         (
             "a later LL outside RAM",
-            vec![in rt.alloc(); (1, LL), (1, LL_OUTSIDE)]?,
+            [(1, LL), (1, LL_OUTSIDE)].as_slice(),
             1,
         ),
-        (
-            "an LL to register 0",
-            vec![in rt.alloc(); (1, LL_TO_ZERO)]?,
-            1,
-        ),
-        (
-            "one's own SC from register 0",
-            vec![in rt.alloc(); (1, LL), (1, SC_FROM_ZERO)]?,
-            0,
-        ),
-        (
-            "one's own store that raises",
-            vec![in rt.alloc(); (1, LL), (1, SW + 2)]?,
-            1,
-        ),
+        ("an LL to register 0", [(1, LL_TO_ZERO)].as_slice(), 1),
         (
             "a BREAK, at which the board ends the link",
-            vec![in rt.alloc(); (1, LL), (1, BREAK)]?,
+            [(1, LL), (1, BREAK)].as_slice(),
             1,
         ),
         (
             "a reserved word, at which the board ends the link",
-            vec![in rt.alloc(); (1, LL), (1, RESERVED)]?,
+            [(1, LL), (1, RESERVED)].as_slice(),
             1,
         ),
         (
             "a SYSCALL, at which the board ends the link",
-            vec![in rt.alloc(); (1, LL), (1, SYSCALL)]?,
+            [(1, LL), (1, SYSCALL)].as_slice(),
             1,
         ),
     ] {
-        let mut ram = Ram::new(rt.alloc(), 0x1_0000)?;
-        let mut links = Links::new();
-        for (cpu, word) in before.iter() {
-            let _ = done(&mut ram, &mut links, *cpu, *word, BEFORE)?;
-        }
-        let old = ram.load32(BLOCK);
-        assert_eq!(rt;
-            done(&mut ram, &mut links, 1, SC, LAST)?,
-            (Outcome::Done, answer),
-            "{name}"
-        );
-        let wanted = if answer == 1 { Ok(LAST) } else { old };
-        assert_eq!(rt; ram.load32(BLOCK), wanted, "{name}");
-        assert_eq!(rt; links.state(1), None, "{name}");
+        assert_eq!(rt; sc_after(&rt, before)?, (answer, true), "{name}");
     }
     Ok(())
 }
