@@ -7,14 +7,10 @@ use Rattle.brd_mem.specs.Memory.{base}
 use Rattle.brd_mem.specs.Image.{AreAscending}
 use Rattle.brd_mem.specs.declared.image.Segment.{Segment}
 use Rattle.brd_asm.specs.Image.{byte_in, AreApart, AreStretches}
-use Rattle.brd_asm.specs.declared.pieces.Range.{Range}
-use Rattle.brd_asm.specs.Layout.{Piece}
-use Rattle.brd_asm.specs.Index.{IsIndex, offset_at, byte_at}
-use Rattle.brd_asm.proofs.RangeLemmas.{offset_overlaps, has_offset}
 use Rattle.brd_asm.proofs.StretchLemmas.{skipped}
 
 -- what a memory has lies in RAM
-pub InRam : (ℕ → Option ℕ) → Type 0
+abbrev pub InRam : (ℕ → Option ℕ) → Type 0
 InRam memory = (a : ℕ) → IsSome (memory a) → (base ≤ a) × (a < base + 2 ^ 24)
 
 -- no stretch has a byte below the first
@@ -46,7 +42,6 @@ some_bytes bytes some e =
     omega (arith, none, some)
 
 ascending_from : (low : ℕ) (ss : List Segment) → base ≤ low → AreApart low ss → InRam (byte_in ss) → AreAscending low ss
-unfolding InRam
 ascending_from low [] le apart ram = tt
 ascending_from low (s ∷ ss) le apart ram =
     let last = ram (s.address + length s.bytes - 1) (head_there s ss (s.address + length s.bytes - 1) (omega (arith, apart.1)) (omega (arith, apart.1))) in
@@ -58,7 +53,6 @@ ascending_from low (s ∷ ss) le apart ram =
     lower low (s ∷ ss) h = (omega (arith, h.0), h.1, h.2, h.3)
 
 pub ascending : (memory : ℕ → Option ℕ) (ss : List Segment) → AreStretches memory ss → InRam memory → AreAscending base ss
-unfolding InRam
 ascending memory [] stretches ram = tt
 ascending memory (s ∷ ss) stretches ram =
     let first = known s.address (head_there s ss s.address (omega arith) (omega (arith, stretches.apart.1))) in
@@ -66,11 +60,3 @@ ascending memory (s ∷ ss) stretches ram =
   where
     known : (a : ℕ) → IsSome (byte_in (s ∷ ss) a) → (base ≤ a) × (a < base + 2 ^ 24)
     known a there = ram a (subst IsSome (stretches.same a) there)
-
--- what pieces fill lies in RAM
-pub index_in_ram : (range_at : ℕ → Option Range) (size : ℕ) (pieces : List Piece) (output : List ℕ) → IsIndex range_at size pieces → InRam (byte_at output pieces)
-unfolding InRam
-index_in_ram range_at size pieces output index = λ a there.
-    let w = index.all a (a + 1) (offset_overlaps pieces a (has_offset output (offset_at pieces a) there)) in
-    let ram = index.inside w.0 w.1 w.2 in
-    (omega (arith, ram.0, w.3), omega (arith, ram.1, w.4))

@@ -9,3 +9,6 @@ mod RangeLemmas
 mod SpelledLemmas
 mod AssembleLemmas
 mod AscendingLemmas
+mod PairLemmas
+mod LayoutLemmas
+mod LawLemmas

@@ -54,7 +54,7 @@ data_length line width (v ∷ vs) bytes e =
 spelled_is : (numbers bytes : List ℕ) (m : Meaning) → ok (Is numbers) ≡ Ok m → Spells m bytes → bytes ≡ numbers
 spelled_is numbers bytes m e spells = subst (λ (m : Meaning). Spells m bytes) (sym (inside (Is numbers) m e)) spells
 
-size_is : (line place : ℕ) (names : List Name) (c : Content) (m : Meaning) (bytes : List ℕ) → content_meaning line place names c ≡ Ok m → Spells m bytes → length bytes ≡ size_of c
+pub size_is : (line place : ℕ) (names : List Name) (c : Content) (m : Meaning) (bytes : List ℕ) → content_meaning line place names c ≡ Ok m → Spells m bytes → length bytes ≡ size_of c
 unfolding content_meaning
 size_is line place names (Code instruction) m bytes e spells =
     let i = bind_ok (instruction_of line place names instruction) (λ i. Ok (Means i)) m e in
@@ -70,14 +70,14 @@ size_is line place names (Zeros n) m bytes e spells = ap (λ (xs : List ℕ). le
 -- ---- the output
 
 -- contents by the pieces that they are the meanings of
-record OnePiece (names : List Name) (p : Piece) (ps : List Piece) (contents : List Placed) : Type 0 where
-  meaning : Meaning
-  others : List Placed
-  means : content_meaning p.line p.place names p.content ≡ Ok meaning
-  mean : meanings names ps ≡ Ok others
-  contents_are : contents ≡ record { place = p.place; meaning = meaning } ∷ others
+pub record OnePiece (names : List Name) (p : Piece) (ps : List Piece) (contents : List Placed) : Type 0 where
+  pub meaning : Meaning
+  pub others : List Placed
+  pub means : content_meaning p.line p.place names p.content ≡ Ok meaning
+  pub mean : meanings names ps ≡ Ok others
+  pub contents_are : contents ≡ record { place = p.place; meaning = meaning } ∷ others
 
-one_piece : (names : List Name) (p : Piece) (ps : List Piece) (contents : List Placed) → meanings names (p ∷ ps) ≡ Ok contents → OnePiece names p ps contents
+pub one_piece : (names : List Name) (p : Piece) (ps : List Piece) (contents : List Placed) → meanings names (p ∷ ps) ≡ Ok contents → OnePiece names p ps contents
 one_piece names p ps contents e =
     let m = bind_ok (content_meaning p.line p.place names p.content) (λ meaning. meanings names ps >>= λ others. Ok (record { place = p.place; meaning = meaning } ∷ others)) contents e in
     let o = bind_ok (meanings names ps) (λ others. Ok (record { place = p.place; meaning = m.0 } ∷ others)) contents m.2 in

@@ -3,6 +3,7 @@ pub mod Values
 pub mod Layout
 pub mod Meaning
 pub mod Image
+pub mod Laws
 pub mod Faults
 pub mod View
 pub mod LayoutView

@@ -1,11 +1,11 @@
 //! The assembler.
 
 ghost use Rattle.std.specs.Prelude.{◌≡◌, ◌^◌, codes, IfOk};
-ghost use Rattle.brd_mem.specs.Memory.{base};
-ghost use Rattle.brd_mem.specs.Image.{AreAscending};
+ghost use Rattle.brd_mem.specs.Image.{IsPlain};
 ghost use Rattle.brd_asm.specs.Faults.{Meets};
 ghost use Rattle.brd_asm.specs.Values.{named, modulo};
 ghost use Rattle.brd_asm.specs.Image.{program_of, IsImage, entry_by};
+ghost use Rattle.brd_asm.specs.Laws.{HasLabels, HasInstructions};
 
 use crate::fault::AsmFault;
 use crate::layout::Layout;
@@ -28,8 +28,12 @@ use std::alloc::Global;
 pub fn assemble(alloc: Global, text: &[u8]) -> Result<Image, AsmFault>
     // What the text means, or its first fault.
     ensures meaning { Meets (λ image program. IsImage program image) result (program_of text.now) }
-    // Segments have bytes, ascend, lie apart, and lie in 0x80000000 to 0x80FFFFFF.
-    ensures ascending { IfOk result (λ image. AreAscending base image.segments) }
+    // Segments ascend and lie in RAM, and symbols have names of which no two are the same: what `brd_elf` writes and reads again.
+    ensures plain { IfOk result IsPlain }
+    // Every label's value is the address at which its line begins.
+    ensures labels { IfOk result (HasLabels text.now) }
+    // Where a line begins that says an instruction, a word lies that stands for it.
+    ensures instructions { IfOk result (HasInstructions text.now) }
 {
     let Layout {
         place: _,

@@ -1,8 +1,6 @@
 //! The longest stretches of filled addresses.
 
 ghost use Rattle.std.specs.Prelude.{◌≡◌, ◌<◌, [], length, IfOk};
-ghost use Rattle.brd_mem.specs.Memory.{base};
-ghost use Rattle.brd_mem.specs.Image.{AreAscending};
 ghost use Rattle.brd_asm.specs.Output.{joined};
 ghost use Rattle.brd_asm.specs.Image.{AreStretches};
 ghost use Rattle.brd_asm.specs.Index.{total_size, byte_at};
@@ -102,8 +100,7 @@ impl Stretches {
 /// The segments of pieces whose bytes are the output.
 pub fn segments_of(alloc: Global, pieces: Pieces, output: &[u8]) -> Result<Segments, NoMemory>
     requires { length output.now ≡ total_size pieces }
-    ensures stretches { IfOk result (λ segments. AreStretches (byte_at output.now pieces.entry) segments) }
-    ensures ascending { IfOk result (λ segments. AreAscending base segments) }
+    ensures { IfOk result (λ segments. AreStretches (byte_at output.now pieces.entry) segments) }
 {
     let mut ranges = pieces.into_ranges();
     let mut stretches = Stretches::new(alloc);

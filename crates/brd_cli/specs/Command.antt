@@ -1,5 +1,5 @@
 -- What the commands write for what they read.
-use Rattle.std.specs.Prelude.{◌≡◌, ◌≢◌, ◌<◌, ℕ, List, length, replicate, Option, Result, Ok, Err, IsOk}
+use Rattle.std.specs.Prelude.{◌≡◌, ◌≢◌, ◌<◌, ℕ, List, length, replicate, Option, IfSome, Result, Ok, Err, IsOk}
 use Rattle.std.specs.Io.KnownBytes.{Keeps, Appends}
 use Rattle.std.specs.declared.io.Error.{Error}
 use Rattle.brd_board.specs.declared.event.Event.TheVariants.{Step}
@@ -15,7 +15,7 @@ use Rattle.brd_cli.specs.Shown.{board_shown}
 use Rattle.brd_cli.specs.declared.word_text.WordsFault.{WordsFault}
 use Rattle.brd_cli.specs.declared.word_text.WordsFault.TheVariants as words_fault
 use Rattle.brd_cli.specs.declared.fault.CommandFault.{CommandFault}
-use Rattle.brd_cli.specs.declared.fault.CommandFault.TheVariants.{NoMemory, Words, Source, NotPlain, Open, Read, TooLong, TooManyReads, Write}
+use Rattle.brd_cli.specs.declared.fault.CommandFault.TheVariants.{NoMemory, Words, Source, Open, Read, TooLong, TooManyReads, Write}
 
 -- the board of these words after so many steps of processor 1
 abbrev pub words_shown : List ℕ → ℕ → List ℕ
@@ -34,71 +34,48 @@ abbrev pub status_of : CommandFault → ℕ
 status_of NoMemory = 3
 status_of (Words fault) = 1
 status_of (Source fault) = 1
-status_of NotPlain = 1
 status_of (Open name error) = 4
 status_of (Read error) = 4
 status_of TooLong = 4
 status_of TooManyReads = 4
 status_of (Write error) = 4
 
--- the fault of a read that failed with this error: want of memory, or the error
-abbrev pub IsOfRead : Error → CommandFault → Type 0
-IsOfRead error NoMemory = Unit {0}
-IsOfRead error (Read e) = e ≡ error
-IsOfRead error TooLong = ⊥
-IsOfRead error TooManyReads = ⊥
-IsOfRead error (Words fault) = ⊥
-IsOfRead error (Source fault) = ⊥
-IsOfRead error NotPlain = ⊥
-IsOfRead error (Open name e) = ⊥
-IsOfRead error (Write e) = ⊥
-
--- what may keep an input from being read
-abbrev pub IsReadFault : CommandFault → Type 0
-IsReadFault NoMemory = Unit {0}
-IsReadFault (Read error) = Unit {0}
-IsReadFault TooLong = Unit {0}
-IsReadFault TooManyReads = Unit {0}
-IsReadFault (Words fault) = ⊥
-IsReadFault (Source fault) = ⊥
-IsReadFault NotPlain = ⊥
-IsReadFault (Open name error) = ⊥
-IsReadFault (Write error) = ⊥
-
 -- how many bytes an input may have (own choice)
 abbrev pub most_bytes : ℕ
 most_bytes = 134217728
 
--- An input that is called too long has more bytes than an input may have.
-abbrev pub IsFaultOf : List ℕ → CommandFault → Type 0
-IsFaultOf input TooLong = most_bytes < length input
-IsFaultOf input NoMemory = Unit {0}
-IsFaultOf input (Words fault) = Unit {0}
-IsFaultOf input (Source fault) = Unit {0}
-IsFaultOf input NotPlain = Unit {0}
-IsFaultOf input (Open name error) = Unit {0}
-IsFaultOf input (Read error) = Unit {0}
-IsFaultOf input TooManyReads = Unit {0}
-IsFaultOf input (Write error) = Unit {0}
+-- the fault of a read that failed with this error: want of memory, or the error
+abbrev pub IsOfRead : Error → CommandFault → Type 0
+IsOfRead error NoMemory = Unit {0}
+IsOfRead error (Read e) = e ≡ error
+IsOfRead error _ = ⊥
+
+-- What may keep an input from being read. One that is called too long has more bytes than an input may have.
+abbrev pub KeepsFromReading : Option (List ℕ) → CommandFault → Type 0
+KeepsFromReading input NoMemory = Unit {0}
+KeepsFromReading input (Read error) = Unit {0}
+KeepsFromReading input TooLong = IfSome input (λ bytes. most_bytes < length bytes)
+KeepsFromReading input TooManyReads = Unit {0}
+KeepsFromReading input _ = ⊥
 
 -- A fault of the input is the input's first, and comes before anything is written.
 abbrev pub Refuses : CommandFault → List ℕ → Result (List ℕ) WordsFault → Option (List ℕ) → Option (List ℕ) → Type 0
 Refuses NoMemory input output old new = Keeps old new
 Refuses (Words fault) input output old new = (output ≡ Err fault) × (fault ≢ words_fault.NoMemory) × Keeps old new
 Refuses (Source fault) input output old new = ⊥
-Refuses NotPlain input output old new = ⊥
 Refuses (Open name error) input output old new = ⊥
 Refuses (Read error) input output old new = Keeps old new
 Refuses TooLong input output old new = (most_bytes < length input) × Keeps old new
 Refuses TooManyReads input output old new = Keeps old new
 Refuses (Write error) input output old new = IsOk output
 
--- the object file of a source: the file of the image that its program has
+-- the object file of a source: the file of the image that its program has, which is one that can be read back
 pub record IsObjectFile (source bytes : List ℕ) : Type 0 where
   pub program : Program
   pub is_program : program_of source ≡ Ok program
   pub image : Image
   pub is_image : IsImage program image
+  pub is_plain : IsPlain image
   pub is_file : bytes ≡ file image
 
 -- the source's object file is written
@@ -107,20 +84,11 @@ pub record WritesObject (source : List ℕ) (old new : Option (List ℕ)) : Type
   pub is_object : IsObjectFile source bytes
   pub written : Appends old new bytes
 
--- a source has an image that isn't plain
-pub record HasOddImage (source : List ℕ) : Type 0 where
-  pub program : Program
-  pub is_program : program_of source ≡ Ok program
-  pub image : Image
-  pub is_image : IsImage program image
-  pub is_odd : ¬ (IsPlain image)
-
 -- A fault of the source is its first, and comes before anything is written.
 abbrev pub RefusesSource : CommandFault → List ℕ → Option (List ℕ) → Option (List ℕ) → Type 0
 RefusesSource NoMemory source old new = Keeps old new
 RefusesSource (Words fault) source old new = ⊥
 RefusesSource (Source fault) source old new = (program_of source ≡ Err fault) × (fault ≢ asm_fault.NoMemory) × Keeps old new
-RefusesSource NotPlain source old new = HasOddImage source × Keeps old new
 RefusesSource (Open name error) source old new = ⊥
 RefusesSource (Read error) source old new = Keeps old new
 RefusesSource TooLong source old new = (most_bytes < length source) × Keeps old new

@@ -6,7 +6,6 @@ ghost use Rattle.brd_cli.specs.Command.{WritesObject, RefusesSource};
 use crate::fault::CommandFault;
 use crate::whole::read_whole;
 use brd_asm::{AsmFault, assemble};
-use brd_mem::is_plain;
 use std::alloc::Global;
 use std::io::{Read, Write};
 
@@ -30,9 +29,6 @@ pub fn asm<R: Read, W: Write>(
         Err(AsmFault::NoMemory) => return Err(CommandFault::NoMemory),
         Err(fault) => return Err(CommandFault::Source(fault)),
     };
-    if !is_plain(&image) {
-        return Err(CommandFault::NotPlain);
-    }
     let file = brd_elf::write(alloc, &image)?;
     writer.write_all(&file).map_err(CommandFault::Write)?;
     writer.flush().map_err(CommandFault::Write)

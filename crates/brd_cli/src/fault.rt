@@ -1,6 +1,6 @@
 //! Why a command ends with a status that isn't 0.
 
-ghost use Rattle.std.specs.Prelude.{◌≡◌, ℕ, List};
+ghost use Rattle.std.specs.Prelude.{◌≡◌};
 ghost use Rattle.brd_cli.specs.declared.fault.CommandFault.TheVariants.{NoMemory as no_memory};
 
 use crate::word_text::WordsFault;
@@ -22,9 +22,6 @@ pub enum CommandFault {
     /// The assembler source has a fault.
     #[error("the source: {0}")]
     Source(AsmFault),
-    /// The source's image isn't plain, so that no file stands for it. (No source has such an image; that isn't proved yet.)
-    #[error("the source: its image can't be written")]
-    NotPlain,
     /// A file couldn't be opened, or created.
     #[error("can't open {0}: {1}")]
     Open(String, io::Error),
@@ -45,9 +42,7 @@ pub enum CommandFault {
 impl CommandFault {
     /// The fault of a read that failed: want of memory, or the error itself.
     pub fn of_read(error: io::Error) -> Self
-        ensures same { IsOfRead error result }
-        ensures kind { IsReadFault result }
-        ensures any_input { (input : List ℕ) → IsFaultOf input result }
+        ensures { IsOfRead error result }
     {
         if error.kind() == ErrorKind::OutOfMemory {
             return CommandFault::NoMemory;
@@ -55,14 +50,14 @@ impl CommandFault {
         CommandFault::Read(error)
     }
 
-    ghost use Rattle.brd_cli.specs.Command.{status_of, IsOfRead, IsReadFault, IsFaultOf};
+    ghost use Rattle.brd_cli.specs.Command.{status_of, IsOfRead};
 
     /// The status that the program ends with: 1 for a fault of the input, 3 for want of memory, 4 where reading or writing failed.
     pub fn status(&self) -> u8
         ensures { result ≡ status_of self.now }
     {
         match self {
-            CommandFault::Words(_) | CommandFault::Source(_) | CommandFault::NotPlain => 1,
+            CommandFault::Words(_) | CommandFault::Source(_) => 1,
             CommandFault::NoMemory => 3,
             CommandFault::Open(_, _)
             | CommandFault::Read(_)

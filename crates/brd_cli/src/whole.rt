@@ -1,7 +1,7 @@
 //! Reading an input to its end.
 
 ghost use Rattle.std.specs.Prelude.{◌≡◌, ◌<◌, ◌^◌, length, IfOk, IfErr, IfSome};
-ghost use Rattle.brd_cli.specs.Command.{IsReadFault, IsFaultOf};
+ghost use Rattle.brd_cli.specs.Command.{KeepsFromReading};
 
 use crate::fault::CommandFault;
 use std::alloc::Global;
@@ -16,8 +16,7 @@ const MOST_READS: u32 = 268_435_456;
 /// All the bytes that a reader has left. It gives up past 134,217,728 bytes, and after 268,435,456 reads.
 pub fn read_whole<R: Read>(alloc: Global, reader: &mut R) -> Result<Vec<u8>, CommandFault>
     ensures bytes { IfOk result (λ bytes. IfSome (R.remaining reader.old) (λ input. bytes.items ≡ input)) }
-    ensures refused { IfErr result IsReadFault }
-    ensures of_input { IfErr result (λ fault. IfSome (R.remaining reader.old) (λ input. IsFaultOf input fault)) }
+    ensures refused { IfErr result (KeepsFromReading (R.remaining reader.old)) }
     ensures short { IfOk result (λ bytes. length bytes.items < 2 ^ 32) }
 {
     let mut bytes = Vec::new(alloc);

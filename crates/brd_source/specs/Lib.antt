@@ -9,4 +9,5 @@ pub mod Operands
 pub mod Texts
 pub mod Statements
 pub mod Lines
+pub mod Names
 pub mod Spelling

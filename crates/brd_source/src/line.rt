@@ -1,9 +1,11 @@
 //! A whole line.
 
-ghost use Rattle.std.specs.Prelude.{◌≡◌, [], map};
+ghost use Rattle.std.specs.Prelude.{◌≡◌, [], map, Ok, List, ℕ};
 ghost use Rattle.brd_source.specs.Faults.{Gives};
 ghost use Rattle.brd_source.specs.Lines as lines;
+ghost use Rattle.brd_source.specs.Names.{HasNames};
 ghost use Rattle.brd_source.specs.Reading.{is_mark};
+ghost use Rattle.brd_source.specs.Statement.{Line as Said};
 ghost use Rattle.brd_source.specs.View.{line_value};
 ghost use Rattle.brd_source.specs.Words.{first, others};
 
@@ -50,3 +52,8 @@ pub fn parse_line<'a>(alloc: Global, bytes: &'a [u8]) -> Result<Line<'a>, LineFa
     end(&words)?;
     Ok(Line { labels, statement })
 }
+
+/// The labels of a line are names, and so is what its statement gives a value to.
+pub fn lines_have_names()
+    ensures { (bytes : List ℕ) (line : Said) → lines.line_of bytes ≡ Ok line → HasNames line }
+{}

@@ -1,3 +1,7 @@
+use Rattle.brd_mem.specs.declared.image.Image.{Image}
+use Rattle.brd_asm.specs.Image.{Program, program_of, IsImage}
+use Rattle.brd_asm.proofs.OutputLemmas.{meets_ok}
+use Rattle.brd_asm.proofs.LawLemmas.{plain, labels, instructions}
 use Rattle.brd_asm.specs.LayoutView.{layout}
 use Rattle.brd_asm.proofs.AssembleLemmas.{output_length, image_is}
 use Rattle.brd_asm.proofs.assembler.assemble.Goals as goal
@@ -7,8 +11,14 @@ segments_of-requires c =
     output_length c.in_ok-names.field-0.names c.in_ok-names.field-0.pieces c.in_ok-output.output c.as_slice-2.result.now c.as_slice-2.ensures.value (rw (← c.as_slice.ensures) c.in_ok-output.ensures)
 
 pub returns : goal.returns
-returns c = record {
-  meaning = image_is c.args.text.now (layout c.in_ok-names.field-0) c.in_ok-output.output c.as_slice-2.result.now (record { entry = c.entry_of.result; segments = c.in_ok-segments.segments; symbols = c.in_ok-symbols.symbols })
-      c.in_ok-names.ensures c.as_slice-2.ensures.value (rw (← c.as_slice.ensures) c.in_ok-output.ensures) c.in_ok-segments.ensures.stretches c.in_ok-symbols.ensures c.entry_of.ensures;
-  ascending = c.in_ok-segments.ensures.ascending;
-}
+returns c =
+    let image : Image = record { entry = c.entry_of.result; segments = c.in_ok-segments.segments; symbols = c.in_ok-symbols.symbols } in
+    let meaning = image_is c.args.text.now (layout c.in_ok-names.field-0) c.in_ok-output.output c.as_slice-2.result.now image c.in_ok-names.ensures c.as_slice-2.ensures.value (rw (← c.as_slice.ensures) c.in_ok-output.ensures)
+        c.in_ok-segments.ensures c.in_ok-symbols.ensures c.entry_of.ensures in
+    let known = meets_ok (λ (image : Image) (program : Program). IsImage program image) image (program_of c.args.text.now) meaning in
+    record {
+      meaning = meaning;
+      plain = plain c.args.text.now known.0 image known.1 known.2;
+      labels = labels c.args.text.now known.0 image known.1 known.2;
+      instructions = instructions c.args.text.now known.0 image known.1 known.2;
+    }

@@ -1,9 +1,6 @@
 use Rattle.std.proofs.Common.{◌≡◌, ◌+◌, ◌-◌, sym, arith, subst}
 use Rattle.std.proofs.lemmas.Bool.{true≢false}
 use Rattle.std.proofs.lemmas.Result.{IfOk-weaker}
-use Rattle.brd_mem.specs.Memory.{base}
-use Rattle.brd_mem.specs.Image.{AreAscending}
-use Rattle.brd_asm.proofs.AscendingLemmas.{ascending, index_in_ram}
 use Rattle.brd_asm.specs.Image.{AreStretches}
 use Rattle.brd_asm.specs.Index.{byte_at}
 use Rattle.brd_asm.proofs.IndexLemmas.{elsewhere}
@@ -35,7 +32,4 @@ loop-first-preserved c =
 pub returns : goal.returns
 returns c =
     let done = remains_none _ _ _ _ c.loop-first.invariant (is_empty_map c.loop-first.ranges (λ lt. true≢false (sym (c.in_default.ensures.variant.1 lt)))) in
-    record {
-      stretches = IfOk-weaker c.into_segments.result _ _ (λ segments e. subst (λ ss. AreStretches (byte_at c.args.output.now c.args.pieces) ss) (sym e) done) c.into_segments.ensures;
-      ascending = IfOk-weaker c.into_segments.result _ _ (λ segments e. subst (λ ss. AreAscending base ss) (sym e) (ascending _ _ done (index_in_ram _ _ _ _ c.into_ranges-ranges.ensures))) c.into_segments.ensures;
-    }
+    IfOk-weaker c.into_segments.result _ _ (λ segments e. subst (λ ss. AreStretches (byte_at c.args.output.now c.args.pieces) ss) (sym e) done) c.into_segments.ensures
