@@ -205,7 +205,7 @@ fn three_registers(
     ensures { Sets (register_gives op (read context.old rd) (read context.old rs) (read context.old rt))
         context.old rd result context.new }
 {
-    let word = register_value(op, context.read(rd), context.read(rs), context.read(rt))?;
+    let word = register_value(op, context, rd, rs, rt)?;
     context.set(rd, word);
     Ok(())
 }
@@ -325,8 +325,8 @@ fn branch(
         (after_branch context.old (is_likely op) (is_taken op (read context.old rs) (read context.old rt)) offset)
         result context.new }
 {
+    let taken = is_branch_taken(op, context, rs, rt);
     outside_slot(context)?;
-    let taken = is_branch_taken(op, context.read(rs), context.read(rt));
     context.branch(is_branch_likely(op), taken, offset);
     Ok(())
 }

@@ -2,6 +2,7 @@
 
 ghost use Rattle.std.specs.Prelude.{◌≡◌};
 ghost use Rattle.brd_word.specs.Words.{sum_overflows, difference_overflows};
+ghost use Rattle.brd_exec.specs.State.{read};
 ghost use Rattle.brd_exec.specs.Values.{
   is_negative,
   is_below,
@@ -30,9 +31,10 @@ ghost use Rattle.brd_exec.specs.Values.{
   is_linking,
 };
 
+use crate::context::Context;
 use crate::outcome::ExceptionCode;
 use brd_isa::{
-    AccumulateOp, BranchOp, BranchSignOp, BranchZeroOp, CountOp, ImmediateOp, ProductOp,
+    AccumulateOp, BranchOp, BranchSignOp, BranchZeroOp, CountOp, ImmediateOp, ProductOp, Register,
     RegisterOp, ShiftAmount, ShiftOp, ShiftVariableOp, TrapImmediateOp, TrapOp,
 };
 use brd_word::{
@@ -87,23 +89,29 @@ fn is_signed_below(a: u32, b: u32) -> bool
     a.cast_signed() < b.cast_signed()
 }
 
-/// rd of `op rd, rs, rt`, which was `old`.
-pub fn register_value(op: RegisterOp, old: u32, a: u32, b: u32) -> Result<u32, ExceptionCode>
-    ensures { result ≡ register_gives op old a b }
+/// rd of `op rd, rs, rt`. The registers are read in each arm, so that the compiler can lead an arm of the decoder straight to its own.
+pub fn register_value(
+    op: RegisterOp,
+    context: &Context,
+    rd: Register,
+    rs: Register,
+    rt: Register,
+) -> Result<u32, ExceptionCode>
+    ensures { result ≡ register_gives op (read context.now rd) (read context.now rs) (read context.now rt) }
 {
     match op {
-        RegisterOp::Movz => Ok(if b == 0 { a } else { old }),
-        RegisterOp::Movn => Ok(if b == 0 { old } else { a }),
-        RegisterOp::Add => sum(a, b),
-        RegisterOp::Addu => Ok(a.wrapping_add(b)),
-        RegisterOp::Sub => difference(a, b),
-        RegisterOp::Subu => Ok(a.wrapping_sub(b)),
-        RegisterOp::And => Ok(a & b),
-        RegisterOp::Or => Ok(a | b),
-        RegisterOp::Xor => Ok(a ^ b),
-        RegisterOp::Nor => Ok(!(a | b)),
-        RegisterOp::Slt => Ok(u32::from(is_signed_below(a, b))),
-        RegisterOp::Sltu => Ok(u32::from(a < b)),
+        RegisterOp::Movz => Ok(context.read(if context.read(rt) == 0 { rs } else { rd })),
+        RegisterOp::Movn => Ok(context.read(if context.read(rt) == 0 { rd } else { rs })),
+        RegisterOp::Add => sum(context.read(rs), context.read(rt)),
+        RegisterOp::Addu => Ok(context.read(rs).wrapping_add(context.read(rt))),
+        RegisterOp::Sub => difference(context.read(rs), context.read(rt)),
+        RegisterOp::Subu => Ok(context.read(rs).wrapping_sub(context.read(rt))),
+        RegisterOp::And => Ok(context.read(rs) & context.read(rt)),
+        RegisterOp::Or => Ok(context.read(rs) | context.read(rt)),
+        RegisterOp::Xor => Ok(context.read(rs) ^ context.read(rt)),
+        RegisterOp::Nor => Ok(!(context.read(rs) | context.read(rt))),
+        RegisterOp::Slt => Ok(u32::from(is_signed_below(context.read(rs), context.read(rt)))),
+        RegisterOp::Sltu => Ok(u32::from(context.read(rs) < context.read(rt))),
     }
 }
 
@@ -226,12 +234,12 @@ fn register_trap(op: TrapImmediateOp) -> TrapOp
 }
 
 /// Whether `op rs, rt, target` is taken.
-pub fn is_branch_taken(op: BranchOp, a: u32, b: u32) -> bool
-    ensures { result ≡ is_taken op a b }
+pub fn is_branch_taken(op: BranchOp, context: &Context, rs: Register, rt: Register) -> bool
+    ensures { result ≡ is_taken op (read context.now rs) (read context.now rt) }
 {
     match op {
-        BranchOp::Beq | BranchOp::Beql => a == b,
-        BranchOp::Bne | BranchOp::Bnel => a != b,
+        BranchOp::Beq | BranchOp::Beql => context.read(rs) == context.read(rt),
+        BranchOp::Bne | BranchOp::Bnel => context.read(rs) != context.read(rt),
     }
 }
 

@@ -4,10 +4,11 @@ ghost use Rattle.std.specs.Prelude.{◌≡◌, ℕ, ◌%◌, ◌^◌, ◌<◌};
 
 use std::marker::Model;
 
-/// The number of a general register, 0 to 31.
+/// The number of a general register, 0 to 31. It is kept in a word, so that the fields of an instruction lie apart and the compiler can keep each in a
+/// register of its own.
 #[derive(Clone, Copy, Debug, PartialEq, Eq)]
 pub struct Register {
-    number: u8,
+    number: u32,
 }
 
 impl Model for Register {
@@ -26,7 +27,7 @@ impl Register {
         ensures { result ≡ bits % 2 ^ 5 }
     {
         Register {
-            number: (bits % 0x20) as u8,
+            number: bits % 0x20,
         }
     }
 
@@ -35,7 +36,7 @@ impl Register {
         ensures is { result ≡ self }
         ensures below { result < 2 ^ 5 }
     {
-        self.number
+        self.number as u8
     }
 }
 

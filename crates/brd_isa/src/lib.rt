@@ -6,6 +6,7 @@
 mod decoder;
 mod encoder;
 mod fields;
+mod forms;
 mod instruction;
 pub mod laws;
 mod mnemonic;

@@ -222,3 +222,8 @@ pub some_at : (words : List ℕ) (mask cpu : ℕ) → 1 ≤ cpu → cpu ≤ 8 �
 some_at words mask cpu from to is_set =
     let bit : bit_at mask (cpu - 1) ≡ 1 = omega (arith, shr_and_one mask (cpu - 1), bit_at-lt mask (cpu - 1)) in
     word_of-links_of words mask cpu from to ∙ rw bit refl
+
+-- a mask without a bit stands for no links
+pub no_links : (words : List ℕ) → links_of words 0 ≡ []
+unfolding links_of
+no_links words = refl

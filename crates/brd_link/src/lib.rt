@@ -134,6 +134,9 @@ impl Links {
         ensures others { (other : ℕ) → other ≢ cpu →
             word_of self.new other ≡ outside_block address (word_of self.old other) }
     {
+        if self.mask == 0 {
+            return;
+        }
         let kept = break_links(&self.words, self.mask, address / BLOCK * BLOCK, cpu - 1);
         if kept == self.mask {
             return;

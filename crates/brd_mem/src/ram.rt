@@ -1,7 +1,7 @@
 //! The RAM.
 
 ghost use Rattle.std.specs.Prelude.{◌≡◌, ℕ, ◌+◌, ◌<◌, ◌≤◌, List, ◌↔◌, length, replicate, true, IfOk, IsErrOf};
-ghost use Rattle.brd_mem.specs.Memory.{IsRamSize, contains, copied, byte_at, half_at, word_at};
+ghost use Rattle.brd_mem.specs.Memory.{IsRamSize, contains, copied, byte_at, half_at, word_at, put_word};
 ghost use Rattle.brd_mem.specs.Access.{
   place_of,
   fetched,
@@ -136,11 +136,7 @@ impl Ram {
         ensures { Stores (stored32 self.old address word) self.old result self.new }
     {
         let at = self.place(address, 4, Exc::AdES, Exc::DBE)?;
-        let [first, second, third, fourth] = bytes_of(word);
-        self.bytes[at] = first;
-        self.bytes[at + 1] = second;
-        self.bytes[at + 2] = third;
-        self.bytes[at + 3] = fourth;
+        put_word(&mut self.bytes, at, word);
         Ok(())
     }
 
@@ -195,4 +191,16 @@ fn word_from(bytes: &[u8], at: usize) -> u32
     ensures { result ≡ word_at bytes.now at }
 {
     word_of([bytes[at], bytes[at + 1], bytes[at + 2], bytes[at + 3]])
+}
+
+/// Puts a word into the four bytes from a place on.
+fn put_word(bytes: &mut [u8], at: usize, word: u32)
+    requires { at + 3 < length bytes.old }
+    ensures { bytes.new ≡ put_word bytes.old at word }
+{
+    let [first, second, third, fourth] = bytes_of(word);
+    bytes[at] = first;
+    bytes[at + 1] = second;
+    bytes[at + 2] = third;
+    bytes[at + 3] = fourth;
 }

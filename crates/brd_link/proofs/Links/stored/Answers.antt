@@ -1,9 +1,19 @@
-use Rattle.std.proofs.Common.{◌≡◌, sym, ap, subst, ◌∙◌}
+use Rattle.std.proofs.Common.{◌≡◌, sym, ap, subst, ◌∙◌, []}
 use Rattle.brd_link.specs.LinkSet.{IsLinkSet, after_store}
 use Rattle.brd_link.specs.Layout.{links_of}
-use Rattle.brd_link.proofs.LayoutLemmas.{IsErased, is_link_set, erased_already, links_of-stored}
+use Rattle.brd_link.proofs.LayoutLemmas.{IsErased, is_link_set, erased_already, links_of-stored, no_links}
 use Rattle.brd_link.proofs.LinkLemmas.{after_store_own, after_store_others}
 use Rattle.brd_link.proofs.Links.stored.Goals as goal
+
+-- no links
+pub returns-then-self-eq0-clause-links : goal.returns-then-self-eq0-clause-links
+returns-then-self-eq0-clause-links c =
+    let none : c.args.self.now ≡ [] = sym c.self.view_is ∙ ap (links_of c.self.inside.words) c.if-self-eq0.true ∙ no_links c.self.inside.words in
+    none ∙ ap (λ links. after_store links c.args.cpu c.args.address) (sym none)
+
+pub returns-then-self-eq0-clause-others : goal.returns-then-self-eq0-clause-others
+returns-then-self-eq0-clause-others c =
+    after_store_others _ _ c.args.cpu c.args.address (subst IsLinkSet c.self.view_is (is_link_set c.self.inside.words c.self.inside.mask)) (returns-then-self-eq0-clause-links c)
 
 -- nothing to erase
 pub returns-then-kept-self-clause-links : goal.returns-then-kept-self-clause-links
