@@ -1,5 +1,5 @@
 -- The laws of images, from their definition.
-use Rattle.std.proofs.Common.{◌≡◌, ℕ, ◌+◌, ◌-◌, ◌^◌, ◌<◌, ◌≤◌, true, false, ltb, leb, List, [], ◌∷◌, ◌++◌, length, Option, None, Some, Ok, refl, sym, ap, ◌∙◌, subst, inl, inr, arith, append_assoc}
+use Rattle.std.proofs.Common.{◌≡◌, ℕ, ◌+◌, ◌-◌, ◌^◌, ◌<◌, ◌≤◌, true, false, ltb, leb, List, [], ◌∷◌, ◌++◌, length, Option, None, Some, Result, Ok, refl, sym, ap, ◌∙◌, subst, inl, inr, arith, append_assoc}
 use Rattle.std.specs.Prelude.{ℤ, pos, map, slice_get, bytes_eq, option_map, option_and_then, IsSome, ◌&&◌}
 use Rattle.std.specs.List.{AllByRecursion, list_all}
 use Rattle.std.proofs.lemmas.Bool.{cases_Bool, leb-true, ltb-true, lt-ltb, le-leb, and_parts, and_from, true≢false}
@@ -14,10 +14,11 @@ use Rattle.brd_mem.specs.declared.image.Image.{Image}
 use Rattle.brd_mem.specs.declared.image.Segment.{Segment}
 use Rattle.brd_mem.specs.declared.image.Symbol.{Symbol}
 use Rattle.brd_isa.specs.declared.instruction.Insn.{Insn}
-use Rattle.brd_source.specs.Names.{IsName}
+use Rattle.brd_source.specs.Names.{IsSourceName}
 use Rattle.brd_source.specs.Statement.{Instruction, Line}
 use Rattle.brd_source.specs.Statement.Statement.{Instruct}
 use Rattle.brd_source.specs.Lines.{line_of}
+use Rattle.brd_asm.specs.declared.fault.AsmFault.{AsmFault}
 use Rattle.brd_asm.specs.Values.{Name, named, modulo}
 use Rattle.brd_asm.specs.Lines.{lines_of}
 use Rattle.brd_asm.specs.Layout.{Piece, Layout, size_of, effect_of, placed, all_placed, nothing}
@@ -28,7 +29,7 @@ use Rattle.brd_asm.specs.Meaning.Meaning.{Means}
 use Rattle.brd_asm.specs.Image.{Program, program_of, IsImage, Spells, AreSpelled, byte_in, symbol_of}
 use Rattle.brd_asm.specs.Output.{all_bytes}
 use Rattle.brd_asm.specs.Index.{covers, offset_at}
-use Rattle.brd_asm.specs.Laws.{symbol_value, HasLabels, Lies, HasWord, HasInstructions}
+use Rattle.brd_asm.specs.Laws.{symbol_value, HasLines, HasLabels, Lies, HasInstructions}
 use Rattle.brd_asm.proofs.AscendingLemmas.{ascending}
 use Rattle.brd_asm.proofs.AscendingLemmas as memory
 use Rattle.brd_asm.proofs.LayoutLemmas.{Differ, Apart, InRam, GoesOn, OneLine, still, fills, one_line, statement_goes_on, lines_go_on, lines_behind, all_sound}
@@ -60,14 +61,14 @@ some_bytes (b ∷ name) e =
     let parts = and_parts (is_word_byte b) (list_all is_word_byte name) e in
     (λ zero. true≢false (sym parts.0 ∙ ap is_word_byte zero), some_bytes name parts.1)
 
-is_some_name : (name : List ℕ) → IsName name → images.IsName name
+is_some_name : (name : List ℕ) → IsSourceName name → images.IsName name
 is_some_name name is = (λ none. true≢false (sym is.0 ∙ ap (λ (n : List ℕ). is_name n) none), some_bytes name is.1)
 
 differ_from : (n : Name) (ns : List Name) → AllByRecursion (λ m. Differ n m) ns → AllByRecursion (λ other. other.name ≡ n.name → ⊥) (map symbol_of ns)
 differ_from n [] differ = tt
 differ_from n (m ∷ ns) differ = (differ.0, differ_from n ns differ.1)
 
-are_named : (ns : List Name) → AllByRecursion (λ n. IsName n.name) ns → Pairwise Differ ns → AreNamed (map symbol_of ns)
+are_named : (ns : List Name) → AllByRecursion (λ n. IsSourceName n.name) ns → Pairwise Differ ns → AreNamed (map symbol_of ns)
 are_named [] are differ = tt
 are_named (n ∷ ns) are differ = (is_some_name n.name are.0, differ_from n ns differ.0, are_named ns are.1 differ.1)
 
@@ -103,6 +104,26 @@ plain text program image e is =
       segments = ascending (byte_in is.spelled) image.segments is.segments (spelled_in_ram s.0.names s.0.pieces program.contents is.spelled s.1.means is.are_spelled sound.in_ram);
       symbols = subst AreNamed (sym (is.symbols ∙ ap (λ (ns : List Name). map symbol_of ns) s.1.names)) (are_named s.0.names sound.names.are sound.names.differ);
     }
+
+-- ---- lines
+
+-- what a line of a text says, and what the lines before it place
+front : (line : ℕ) (before : List (List ℕ)) (bytes : List ℕ) (behind : List (List ℕ)) (s u : Layout) → all_placed line (before ++ bytes ∷ behind) s ≡ Ok u → (t : Layout) × (said : Line) × (all_placed line before s ≡ Ok t) × (line_of bytes ≡ Ok said)
+front line [] bytes behind s u e =
+    let b = bind_ok (placed line bytes s) (all_placed (line + 1) behind) u e in
+    let one = one_line line bytes s b.0 b.1 in
+    (s, one.said, refl, one.says)
+front line (first ∷ before) bytes behind s u e =
+    let b = bind_ok (placed line first s) (all_placed (line + 1) (before ++ bytes ∷ behind)) u e in
+    let f = front (line + 1) before bytes behind b.0 u b.2 in
+    let more : all_placed line (first ∷ before) s ≡ Ok f.0 = ap (λ (r : Result Layout AsmFault). r >>= all_placed (line + 1) before) b.1 ∙ f.2 in
+    (f.0, f.1, more, f.3)
+
+pub lines : (text : List ℕ) (program : Program) → program_of text ≡ Ok program → HasLines text
+lines text program e = λ before bytes behind split.
+    let s = laid_out text program e in
+    let f = front 1 before bytes behind nothing s.0 (rw split at s.1.placed) in
+    (f.0.place, f.1, record { before = before; bytes = bytes; behind = behind; lines = split; number_is = refl; so_far = f.0; placed = f.2; address_is = refl; says = f.3 }, f.3)
 
 -- ---- labels
 
@@ -143,7 +164,7 @@ labels text program image e is = λ number place said line.
     let same = said_is line.bytes said g.one.said line.says g.one.says in
     let have = labels_have line.so_far.place g.one.names s.0.names image.symbols g.one.said.labels small (is.symbols ∙ ap (λ (ns : List Name). map symbol_of ns) s.1.names)
         (λ name value h. still g.next.names s.0.names name value g.on.names (still g.one.names g.next.names name value (statement_goes_on number line.bytes line.so_far g.next g.one).names h)) g.one.labels.have in
-    rw line.place_is (subst (λ (l : Line). AllByRecursion (λ label. symbol_value image.symbols label ≡ Some line.so_far.place) l.labels) same have)
+    rw line.address_is (subst (λ (l : Line). AllByRecursion (λ label. symbol_value image.symbols label ≡ Some line.so_far.place) l.labels) same have)
 
 -- ---- instructions
 
@@ -216,17 +237,12 @@ code_filled line instruction bytes s t one says =
       | inr fill ↦ fill.pieces_are
     ]
 
-has_word : (line place : ℕ) (names : List Name) (instruction : Instruction) (spelled segments : List Segment) → LiesAt names (record { place = place; line = line; content = Code instruction }) spelled → ((a : ℕ) → byte_in segments a ≡ byte_in spelled a)
-    → (insn : Insn) × (instruction_of line place names instruction ≡ Ok insn) × HasWord segments place insn
+word_lies : (line place : ℕ) (names : List Name) (instruction : Instruction) (spelled segments : List Segment) → LiesAt names (record { place = place; line = line; content = Code instruction }) spelled → ((a : ℕ) → byte_in segments a ≡ byte_in spelled a)
+    → (insn : Insn) × (instruction_of line place names instruction ≡ Ok insn) × (bytes : List ℕ) × Spells (Means insn) bytes × Lies segments place bytes
 unfolding content_meaning
-has_word line place names instruction spelled segments l same =
+word_lies line place names instruction spelled segments l same =
     let i = bind_ok (instruction_of line place names instruction) (λ i. Ok (Means i)) l.meaning l.means in
-    let word = subst (λ (m : Meaning). Spells m l.bytes) (sym (inside (Means i.0) l.meaning i.2)) l.spells in
-    (i.0, i.1, record {
-      word = word.0;
-      stands = word.1;
-      lies = subst (λ (bytes : List ℕ). Lies segments place bytes) word.3 (λ n lt. same (place + n) ∙ l.lies n lt);
-    })
+    (i.0, i.1, l.bytes, subst (λ (m : Meaning). Spells m l.bytes) (sym (inside (Means i.0) l.meaning i.2)) l.spells, λ n lt. same (place + n) ∙ l.lies n lt)
 
 pub instructions : (text : List ℕ) (program : Program) (image : Image) → program_of text ≡ Ok program → IsImage program image → HasInstructions text image
 instructions text program image e is = λ other number place said instruction other_is line says.
@@ -239,6 +255,6 @@ instructions text program image e is = λ other number place said instruction ot
         g.on.pieces ∙ ap (λ (ps : List Piece). ps ++ g.on.more) filled ∙ append_assoc line.so_far.pieces (piece ∷ []) g.on.more in
     let sound = all_sound (lines_of text) s.0 s.1.placed in
     let lies = piece_lies s.0.names line.so_far.pieces piece g.on.more program.contents is.spelled (rw pieces at s.1.means) is.are_spelled (rw pieces at sound.apart) in
-    let found = has_word number line.so_far.place s.0.names instruction is.spelled image.segments lies is.segments.same in
+    let found = word_lies number line.so_far.place s.0.names instruction is.spelled image.segments lies is.segments.same in
     let names : s.0.names ≡ other.names = sym s.1.names ∙ ap (λ (p : Program). p.names) (inside program other (sym e ∙ other_is)) in
-    (found.0, rw (line.place_is, ← names) found.1, rw line.place_is found.2)
+    (found.0, rw (line.address_is, ← names) found.1, found.2, found.3, rw line.address_is found.4)

@@ -45,7 +45,7 @@ abbrev pub byte_in : List Segment → ℕ → Option ℕ
 byte_in [] a = None
 byte_in (s ∷ ss) a = if nat_le s.address a && nat_lt a (s.address + length s.bytes) then slice_get s.bytes (a - s.address) else byte_in ss a
 
--- From an address on, stretches that have bytes ascend, each with a gap before it.
+-- From an address on, stretches that have bytes ascend, with a gap between one and the next.
 abbrev pub AreApart : ℕ → List Segment → Type 0
 AreApart low [] = Unit {0}
 AreApart low (s ∷ ss) = (low ≤ s.address) × (0 < length s.bytes) × AreApart (s.address + length s.bytes + 1) ss

@@ -1,4 +1,5 @@
--- The lines of a text. A line ends with a newline or with the text; newlines belong to no line.
+-- The lines of a text. A line ends with a newline or with the text; newlines belong to no line. So a text that ends with a newline
+-- has one more line, which is empty.
 use Rattle.std.specs.Prelude.{ℕ, ◌==◌, Bool, not, if◌then◌else◌, List, [], ◌∷◌}
 
 -- lines, with one more byte at the front of the first

@@ -5,7 +5,7 @@ ghost use Rattle.brd_mem.specs.Image.{IsPlain};
 ghost use Rattle.brd_asm.specs.Faults.{Meets};
 ghost use Rattle.brd_asm.specs.Values.{named, modulo};
 ghost use Rattle.brd_asm.specs.Image.{program_of, IsImage, entry_by};
-ghost use Rattle.brd_asm.specs.Laws.{HasLabels, HasInstructions};
+ghost use Rattle.brd_asm.specs.Laws.{HasLines, HasLabels, HasInstructions};
 
 use crate::fault::AsmFault;
 use crate::layout::Layout;
@@ -28,11 +28,13 @@ use std::alloc::Global;
 pub fn assemble(alloc: Global, text: &[u8]) -> Result<Image, AsmFault>
     // What the text means, or its first fault.
     ensures meaning { Meets (λ image program. IsImage program image) result (program_of text.now) }
-    // Segments ascend and lie in RAM, and symbols have names of which no two are the same: what `brd_elf` writes and reads again.
+    // Segments have bytes, ascend, don't overlap and lie in 0x80000000 to 0x80FFFFFF; names aren't empty, have no byte 0, and are distinct.
     ensures plain { IfOk result IsPlain }
-    // Every label's value is the address at which its line begins.
+    // Every line has an address: the location counter before it.
+    ensures lines { IfOk result (λ _. HasLines text.now) }
+    // Every label's value is the address of its line.
     ensures labels { IfOk result (HasLabels text.now) }
-    // Where a line begins that says an instruction, a word lies that stands for it.
+    // At the address of each line with an instruction lies a word that stands for that instruction.
     ensures instructions { IfOk result (HasInstructions text.now) }
 {
     let Layout {

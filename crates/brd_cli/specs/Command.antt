@@ -2,11 +2,12 @@
 use Rattle.std.specs.Prelude.{◌≡◌, ◌≢◌, ◌<◌, ℕ, List, length, replicate, Option, IfSome, Result, Ok, Err, IsOk}
 use Rattle.std.specs.Io.KnownBytes.{Keeps, Appends}
 use Rattle.std.specs.declared.io.Error.{Error}
+use Rattle.std.specs.IoError.{error_kind}
+use Rattle.std.specs.declared.io.ErrorKind.TheVariants.{OutOfMemory}
 use Rattle.brd_board.specs.declared.event.Event.TheVariants.{Step}
 use Rattle.brd_board.specs.Board.{after}
 use Rattle.brd_board.specs.Boot.{started, memory_of_words}
 use Rattle.brd_mem.specs.declared.image.Image.{Image}
-use Rattle.brd_mem.specs.Image.{IsPlain}
 use Rattle.brd_elf.specs.File.{file}
 use Rattle.brd_asm.specs.Image.{Program, program_of, IsImage}
 use Rattle.brd_asm.specs.declared.fault.AsmFault.TheVariants as asm_fault
@@ -44,10 +45,10 @@ status_of (Write error) = 4
 abbrev pub most_bytes : ℕ
 most_bytes = 134217728
 
--- the fault of a read that failed with this error: want of memory, or the error
+-- the fault of a read that failed with this error: want of memory where its kind says so, else the error
 abbrev pub IsOfRead : Error → CommandFault → Type 0
-IsOfRead error NoMemory = Unit {0}
-IsOfRead error (Read e) = e ≡ error
+IsOfRead error NoMemory = error_kind error ≡ OutOfMemory
+IsOfRead error (Read e) = (e ≡ error) × (error_kind error ≢ OutOfMemory)
 IsOfRead error _ = ⊥
 
 -- What may keep an input from being read. One that is called too long has more bytes than an input may have.
@@ -69,13 +70,12 @@ Refuses TooLong input output old new = (most_bytes < length input) × Keeps old 
 Refuses TooManyReads input output old new = Keeps old new
 Refuses (Write error) input output old new = IsOk output
 
--- the object file of a source: the file of the image that its program has, which is one that can be read back
+-- the object file of a source: the file of the image that its program has
 pub record IsObjectFile (source bytes : List ℕ) : Type 0 where
   pub program : Program
   pub is_program : program_of source ≡ Ok program
   pub image : Image
   pub is_image : IsImage program image
-  pub is_plain : IsPlain image
   pub is_file : bytes ≡ file image
 
 -- the source's object file is written

@@ -32,7 +32,7 @@ abbrev pub AreNamed : List Symbol → Type 0
 AreNamed [] = Unit {0}
 AreNamed (symbol ∷ others) = IsName symbol.name × AllByRecursion (λ other. other.name ≢ symbol.name) others × AreNamed others
 
--- an image that can be written to a file and read back as itself
+-- an image that stands for a file, and that is read back from it as itself where it fits
 pub record IsPlain (image : Image) : Type 0 where
   pub segments : AreAscending base image.segments
   pub symbols : AreNamed image.symbols

@@ -1,4 +1,4 @@
-//! Whether an image can be written to a file and read back as itself.
+//! Whether an image stands for a file.
 
 ghost use Rattle.std.specs.Prelude.{◌≢◌, ◌↔◌, IsTrue};
 ghost use Rattle.std.specs.List.{AllByRecursion};

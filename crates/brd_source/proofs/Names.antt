@@ -13,7 +13,7 @@ use Rattle.brd_source.specs.declared.fault.LineFault.TheVariants.{Syntax}
 use Rattle.brd_source.specs.declared.statements.Directive.{Directive}
 use Rattle.brd_source.specs.declared.statements.Directive.TheVariants as directives
 use Rattle.brd_source.specs.declared.statements.Shorthand.{Shorthand}
-use Rattle.brd_source.specs.Names.{IsName, HasNames}
+use Rattle.brd_source.specs.Names.{IsSourceName, HasNames}
 use Rattle.brd_source.specs.Statement.{Expression, Instruction, Statement, Line}
 use Rattle.brd_source.specs.Statement.Statement.{Nothing, Instruct, Org, Align, Space, Data, Text, Equal}
 use Rattle.brd_source.specs.Words.{Word, Place, is_blank, opens_comment, string_len, quoted, sign_at, word_at, place_after, with_word, words_in, words_of, first, others}
@@ -101,7 +101,7 @@ behind (word ∷ words) hs = hs.1
 -- ---- names
 
 -- the name that stands at the front of words, and the words behind it
-at_front : (words : List Word) (name : List ℕ) (rest : List Word) → AreRuns words → name_at words ≡ Ok (name, rest) → IsName name × (rest ≡ others words)
+at_front : (words : List Word) (name : List ℕ) (rest : List Word) → AreRuns words → name_at words ≡ Ok (name, rest) → IsSourceName name × (rest ≡ others words)
 unfolding name_at run_at
 at_front [] name rest hs e = absurd (cc)
 at_front (Run run ∷ words) name rest hs e =
@@ -120,9 +120,9 @@ all_push P (y ∷ xs) x hs h = (hs.0, all_push P xs x hs.1 h)
 
 -- names so far and runs that are left, as labels are taken
 abbrev AreLabelled : List (List ℕ) × List Word → Type 0
-AreLabelled r = AllByRecursion IsName r.0 × AreRuns r.1
+AreLabelled r = AllByRecursion IsSourceName r.0 × AreRuns r.1
 
-labels_are : (labels : List (List ℕ)) (words : List Word) (r : List (List ℕ) × List Word) → AllByRecursion IsName labels → AreRuns words → labelled labels words ≡ Ok r → AreLabelled r
+labels_are : (labels : List (List ℕ)) (words : List Word) (r : List (List ℕ) × List Word) → AllByRecursion IsSourceName labels → AreRuns words → labelled labels words ≡ Ok r → AreLabelled r
 labels_are labels [] r ns hs e = subst AreLabelled (ok_is (labels, []) r e) (ns, tt)
 labels_are labels (word ∷ []) r ns hs e = subst AreLabelled (ok_is (labels, word ∷ []) r e) (ns, hs)
 labels_are labels (word ∷ mark ∷ words) r ns hs e =
@@ -130,7 +130,7 @@ labels_are labels (word ∷ mark ∷ words) r ns hs e =
       | inl colon ↦
           let b = bind_ok (name_at (word ∷ mark ∷ words)) (λ name. labelled (labels ++ name.0 ∷ []) words) r (rw colon at e) in
           let name = at_front (word ∷ mark ∷ words) b.0.0 b.0.1 hs b.1 in
-          labels_are (labels ++ b.0.0 ∷ []) words r (all_push IsName labels b.0.0 ns name.0) hs.1.1 b.2
+          labels_are (labels ++ b.0.0 ∷ []) words r (all_push IsSourceName labels b.0.0 ns name.0) hs.1.1 b.2
       | inr is_other ↦ subst AreLabelled (ok_is (labels, word ∷ mark ∷ words) r (rw is_other at e)) (ns, hs)
     ]
 
@@ -138,7 +138,7 @@ labels_are labels (word ∷ mark ∷ words) r ns hs e =
 
 -- a statement that gives a value to nothing but a name
 Names : Statement × List Word → Type 0
-Names s = (name : List ℕ) (value : Expression) → s.0 ≡ Equal name value → IsName name
+Names s = (name : List ℕ) (value : Expression) → s.0 ≡ Equal name value → IsSourceName name
 
 given : (made other : Statement) (s : Statement × List Word) (rest : List Word) → (made, rest) ≡ s → s.0 ≡ other → made ≡ other
 given made other s rest e is = ap (λ (s : Statement × List Word). s.0) e ∙ is
@@ -162,7 +162,7 @@ by_equal words s hs e name value is =
     let m = bind_ok (mark_at 44 n.0.1) (λ behind. expression_at behind >>= λ value. Ok (Equal n.0.0 value.0, value.1)) s n.2 in
     let v = bind_ok (expression_at m.0) (λ value. Ok (Equal n.0.0 value.0, value.1)) s m.2 in
     let front = at_front words n.0.0 n.0.1 hs n.1 in
-    subst IsName (named n.0.0 name v.0.0 value s v.0.1 (ok_is (Equal n.0.0 v.0.0, v.0.1) s v.2) is) front.0
+    subst IsSourceName (named n.0.0 name v.0.0 value s v.0.1 (ok_is (Equal n.0.0 v.0.0, v.0.1) s v.2) is) front.0
 
 by_value : {A : Type 0} (r : Result (A × List Word) LineFault) (made : A → Statement) (s : Statement × List Word) → ((a : A) (name : List ℕ) (value : Expression) → made a ≡ Equal name value → ⊥) → (r >>= λ a. Ok (made a.0, a.1)) ≡ Ok s → Names s
 unfolding Names

@@ -1,7 +1,7 @@
 use Rattle.brd_mem.specs.declared.image.Image.{Image}
 use Rattle.brd_asm.specs.Image.{Program, program_of, IsImage}
 use Rattle.brd_asm.proofs.OutputLemmas.{meets_ok}
-use Rattle.brd_asm.proofs.LawLemmas.{plain, labels, instructions}
+use Rattle.brd_asm.proofs.LawLemmas.{plain, lines, labels, instructions}
 use Rattle.brd_asm.specs.LayoutView.{layout}
 use Rattle.brd_asm.proofs.AssembleLemmas.{output_length, image_is}
 use Rattle.brd_asm.proofs.assembler.assemble.Goals as goal
@@ -19,6 +19,7 @@ returns c =
     record {
       meaning = meaning;
       plain = plain c.args.text.now known.0 image known.1 known.2;
+      lines = lines c.args.text.now known.0 known.1;
       labels = labels c.args.text.now known.0 image known.1 known.2;
       instructions = instructions c.args.text.now known.0 image known.1 known.2;
     }
