@@ -1,5 +1,5 @@
 //! How long long sources take. `asm_bench` alone says what it finds in short ones; `asm_bench time` assembles a source of
-//! 1 MiB, 16 MiB of zeros, and 65,534 segments in ascending and in descending order, and prints times too.
+//! 1 MiB, 16 MiB of zeros, 65,534 segments in ascending and in descending order, and 100,000 names, and prints times too.
 #![tactic(auto)]
 
 use brd_asm::{AsmFault, assemble};
@@ -29,6 +29,16 @@ fn islands(alloc: Global, count: u32, downward: bool) -> Result<String, AllocErr
     for i in 0..count.min(65_534) {
         let place = if downward { 65_534 - i } else { i };
         let line = format!(in alloc; ".org ram+{}\n.word {i}\n", place * 8)?;
+        text.push_str(line.as_str())?;
+    }
+    Ok(text)
+}
+
+/// As many names, each with the value of the one before it and one more.
+fn chain(alloc: Global, count: u32) -> Result<String, AllocError> {
+    let mut text = String::from_str(alloc, ".equ n0, 0\n")?;
+    for i in 1..count {
+        let line = format!(in alloc; ".equ n{i}, n{}+1\n", i - 1)?;
         text.push_str(line.as_str())?;
     }
     Ok(text)
@@ -75,7 +85,9 @@ fn all(rt: &(impl Print + AllocGlobal + std::rt::Clock), timed: bool) -> io::Res
     let text = islands(rt.alloc(), count, false)?;
     run(rt, "upward", text.as_str(), timed)?;
     let text = islands(rt.alloc(), count, true)?;
-    run(rt, "downward", text.as_str(), timed)
+    run(rt, "downward", text.as_str(), timed)?;
+    let text = chain(rt.alloc(), if timed { 100_000 } else { 64 })?;
+    run(rt, "names", text.as_str(), timed)
 }
 
 fn main(rt: HostRuntime) -> io::Result<()> {

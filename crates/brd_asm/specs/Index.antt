@@ -1,5 +1,6 @@
 -- An index of pieces, by which it is seen at once whether one more overlaps one of them, and where the bytes of each lie in
 -- the output: in the order of the source, each behind those of the pieces before it.
+-- Only private functions' contracts name this; what a source means doesn't.
 use Rattle.std.specs.Prelude.{◌≡◌, ℕ, ◌+◌, ◌-◌, ◌^◌, ◌<◌, ◌≤◌, Bool, true, ◌&&◌, nat_le, nat_lt, if◌then◌else◌, List, [], ◌∷◌, slice_get, Option, None, Some, option_map, option_and_then}
 use Rattle.brd_mem.specs.Memory.{base}
 use Rattle.brd_asm.specs.declared.pieces.Range.{Range}

@@ -1,4 +1,5 @@
 -- The bytes of a source's contents, one behind the other, and how they come to lie in stretches.
+-- Only private functions' contracts name this; what a source means doesn't.
 use Rattle.std.specs.Prelude.{◌≡◌, ℕ, ◌+◌, ◌==◌, if◌then◌else◌, List, [], ◌∷◌, ◌++◌, length, Result, Ok}
 use Rattle.brd_text.specs.Faults.{◌>>=◌}
 use Rattle.brd_asm.specs.declared.fault.AsmFault.{AsmFault}

@@ -1,4 +1,5 @@
 -- Places of a string table whose strings have numbers.
+-- Only private functions' contracts name this; what a file means doesn't.
 use Rattle.std.specs.Prelude.{◌≡◌, ℕ, ◌<◌, ◌≤◌, List, [], length, drop, slice_index_or, Option, None, Some}
 use Rattle.brd_elf.specs.Symbols.{string_of}
 use Rattle.brd_elf.specs.Trie.{path_of, AreDistinct}

@@ -1,4 +1,5 @@
 -- Strings by their numbers: 0 is the empty one, and each node of a list makes one more, a byte in front of an earlier one.
+-- Only private functions' contracts name this; what a file means doesn't.
 use Rattle.std.specs.Prelude.{◌≡◌, ℕ, suc, ◌^◌, ◌<◌, ◌≤◌, List, [], ◌∷◌, ◌++◌, length, slice_index_or, Option, None, Some}
 use Rattle.brd_elf.specs.declared.trie.Node.{Node}
 

@@ -1,4 +1,5 @@
 -- What the scanner's parts find at the front of a line.
+-- Only private functions' contracts name this; what a line says doesn't.
 use Rattle.std.specs.Prelude.{◌≡◌, ℕ, Bool, true, not, ◌&&◌, List, [], ◌∷◌}
 use Rattle.brd_source.specs.Words.{Word, is_blank, opens_comment, words_in, first, others}
 use Rattle.brd_source.specs.Words.Place.{Between}
