@@ -3,6 +3,7 @@
 use super::EVERY;
 use crate::{Config, ConfigFault, Operand, Stack, TaskAttributes, parse};
 use bitflags::Flags;
+use std::alloc::{AllocError, Global};
 use std::process::Abort;
 use std::test::Fail;
 
@@ -106,16 +107,46 @@ fn names_of_attributes(rt: HostRuntime) {
     assert!(rt; TaskAttributes::from_name("TA_CLR").is_none());
 }
 
+/// Whether a fault has this text.
+fn reads(alloc: Global, fault: ConfigFault, wanted: &str) -> Result<bool, AllocError> {
+    let text = format!(in alloc; "{fault}")?;
+    Ok(text.as_str() == wanted)
+}
+
 #[test]
 fn texts_of_faults(rt: HostRuntime) -> Result<(), Fail> {
-    let bad_id = ConfigFault::BadId { line: 7 };
-    let text = format!(in rt.alloc(); "{bad_id}")?;
-    assert_eq!(rt;
-        text.as_str(),
-        "line 7: found an ID or a line out of range, expected an ID 1 to 255, a line 0 to 31"
-    );
-    let out_of_memory = ConfigFault::NoMemory;
-    let text = format!(in rt.alloc(); "{out_of_memory}")?;
-    assert_eq!(rt; text.as_str(), "out of memory");
+    for (fault, text) in [
+        (ConfigFault::NoMemory, "out of memory"),
+        (
+            ConfigFault::Syntax { line: 1 },
+            "line 1: found what no statement has here, expected one in the form of its kind",
+        ),
+        (
+            ConfigFault::Duplicate { line: 2 },
+            "line 2: found an ID, a line or BOARD for the second time, expected each once",
+        ),
+        (
+            ConfigFault::BadId { line: 7 },
+            "line 7: found an ID or a line out of range, expected an ID 1 to 255, a line 0 to 31",
+        ),
+        (
+            ConfigFault::BadAttribute { line: 3 },
+            "line 3: found an attribute that the object does not have, expected bits of CRE_TSK 3, CRE_FLG 7, others 1",
+        ),
+        (
+            ConfigFault::BadPriority { line: 40 },
+            "line 40: found a priority out of range, expected 1 to 16",
+        ),
+        (
+            ConfigFault::BadCount { line: 5 },
+            "line 5: found a size or a count out of range, expected RAM 0x10000 to 0x1000000 in steps of 0x10000, a stack above 0, a maximum 1 to 65535, a count up to it, a capacity up to 256",
+        ),
+        (
+            ConfigFault::BadProcessor { line: 6 },
+            "line 6: found a processor out of range, expected 1 to 8 of BOARD, 1 to its number of CLASS",
+        ),
+    ] {
+        assert!(rt; reads(rt.alloc(), fault, text)?);
+    }
     Ok(())
 }
