@@ -10,4 +10,5 @@ pub mod Texts
 pub mod Statements
 pub mod Lines
 pub mod Names
+pub mod Grammar
 pub mod Spelling

@@ -2,12 +2,14 @@
 
 ghost use Rattle.std.specs.Prelude.{◌≡◌, [], map, Ok, List, ℕ};
 ghost use Rattle.brd_source.specs.Faults.{Gives};
+ghost use Rattle.brd_source.specs.Grammar.{LineIs};
 ghost use Rattle.brd_source.specs.Lines as lines;
 ghost use Rattle.brd_source.specs.Names.{HasNames};
 ghost use Rattle.brd_source.specs.Reading.{is_mark};
+ghost use Rattle.brd_source.specs.Spelling.{Spells};
 ghost use Rattle.brd_source.specs.Statement.{Line as Said};
 ghost use Rattle.brd_source.specs.View.{line_value};
-ghost use Rattle.brd_source.specs.Words.{first, others};
+ghost use Rattle.brd_source.specs.Words.{Word, first, others};
 
 use crate::fault::LineFault;
 use crate::reading::{end, name};
@@ -56,4 +58,9 @@ pub fn parse_line<'a>(alloc: Global, bytes: &'a [u8]) -> Result<Line<'a>, LineFa
 /// The labels of a line are names, and so is what its statement gives a value to.
 pub fn lines_have_names()
     ensures { (bytes : List ℕ) (line : Said) → lines.line_of bytes ≡ Ok line → HasNames line }
+{}
+
+/// What has the form of a line is read as what it spells.
+pub fn grammatical_lines_are_read()
+    ensures { (bytes : List ℕ) (words : List Word) (line : Said) → Spells bytes words → LineIs words line → lines.line_of bytes ≡ Ok line }
 {}
