@@ -163,7 +163,7 @@ labels text program image e is = λ number place said line.
     let small = (all_sound line.before line.so_far line.placed).place in
     let same = said_is line.bytes said g.one.said line.says g.one.says in
     let have = labels_have line.so_far.place g.one.names s.0.names image.symbols g.one.said.labels small (is.symbols ∙ ap (λ (ns : List Name). map symbol_of ns) s.1.names)
-        (λ name value h. still g.next.names s.0.names name value g.on.names (still g.one.names g.next.names name value (statement_goes_on number line.bytes line.so_far g.next g.one).names h)) g.one.labels.have in
+    (λ name value h. still g.next.names s.0.names name value g.on.names (still g.one.names g.next.names name value (statement_goes_on number line.bytes line.so_far g.next g.one).names h)) g.one.labels.have in
     rw line.address_is (subst (λ (l : Line). AllByRecursion (λ label. symbol_value image.symbols label ≡ Some line.so_far.place) l.labels) same have)
 
 -- ---- instructions
@@ -252,7 +252,7 @@ instructions text program image e is = λ other number place said instruction ot
     let filled = code_filled number instruction line.bytes line.so_far g.next g.one (ap (λ (l : Line). l.statement) same ∙ says) in
     let piece : Piece = record { place = line.so_far.place; line = number; content = Code instruction } in
     let pieces : s.0.pieces ≡ line.so_far.pieces ++ piece ∷ g.on.more =
-        g.on.pieces ∙ ap (λ (ps : List Piece). ps ++ g.on.more) filled ∙ append_assoc line.so_far.pieces (piece ∷ []) g.on.more in
+    g.on.pieces ∙ ap (λ (ps : List Piece). ps ++ g.on.more) filled ∙ append_assoc line.so_far.pieces (piece ∷ []) g.on.more in
     let sound = all_sound (lines_of text) s.0 s.1.placed in
     let lies = piece_lies s.0.names line.so_far.pieces piece g.on.more program.contents is.spelled (rw pieces at s.1.means) is.are_spelled (rw pieces at sound.apart) in
     let found = word_lies number line.so_far.place s.0.names instruction is.spelled image.segments lies is.segments.same in

@@ -210,12 +210,12 @@ fills line content s t e =
     elim (by_tests (eqb (size_of content) 0) (are_in_ram s.place (size_of content)) (eqb (s.place % alignment_of content) 0) (overlaps s.pieces s.place (s.place + size_of content)) (fault.Range line) (fault.Misaligned line) (fault.Overlap line) s after t e) [
       | inl stays ↦ inl stays
       | inr more ↦ inr (subst (λ (u : Layout). Filled line content s u) more.2 (record {
-          in_ram = more.0;
-          apart = none_over s.pieces line content s.place more.1;
-          place_is = refl;
-          names_are = refl;
-          pieces_are = refl;
-        }))
+        in_ram = more.0;
+        apart = none_over s.pieces line content s.place more.1;
+        place_is = refl;
+        names_are = refl;
+        pieces_are = refl;
+      }))
     ]
 
 -- ---- one line more

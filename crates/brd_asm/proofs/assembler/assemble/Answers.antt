@@ -14,7 +14,7 @@ pub returns : goal.returns
 returns c =
     let image : Image = record { entry = c.entry_of.result; segments = c.in_ok-segments.segments; symbols = c.in_ok-symbols.symbols } in
     let meaning = image_is c.args.text.now (layout c.in_ok-names.field-0) c.in_ok-output.output c.as_slice-2.result.now image c.in_ok-names.ensures c.as_slice-2.ensures.value (rw (← c.as_slice.ensures) c.in_ok-output.ensures)
-        c.in_ok-segments.ensures c.in_ok-symbols.ensures c.entry_of.ensures in
+    c.in_ok-segments.ensures c.in_ok-symbols.ensures c.entry_of.ensures in
     let known = meets_ok (λ (image : Image) (program : Program). IsImage program image) image (program_of c.args.text.now) meaning in
     record {
       meaning = meaning;
