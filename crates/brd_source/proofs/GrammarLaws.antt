@@ -7,18 +7,17 @@ use Rattle.brd_isa.specs.declared.mnemonic.Mnemonic.{Mnemonic}
 use Rattle.brd_isa.specs.Names.{lowered, mnemonic_named, computing_named, other_named}
 use Rattle.brd_source.specs.declared.fault.LineFault.TheVariants.{NoMemory}
 use Rattle.brd_source.specs.declared.statement.Width.{Width}
-use Rattle.brd_source.specs.Grammar.{comma, colon, ExpressionIs, Operand, OperandsAre, Takes, Stands, ValuesAre, Wide, IsSetting, StatementIs, LineIs}
+use Rattle.brd_source.specs.Grammar.{comma, colon, ExpressionIs, Operand, OperandsAre, Takes, ShorthandIs, ValuesAre, WidthIs, IsSetting, StatementIs, LineIs}
 use Rattle.brd_source.specs.Grammar.ValuesAre.{one, many}
-use Rattle.brd_source.specs.Grammar.Wide.{byte, half, word}
+use Rattle.brd_source.specs.Grammar.WidthIs.{byte, half, word}
 use Rattle.brd_source.specs.Grammar.IsSetting.{noreorder, noat, nomacro}
 use Rattle.brd_source.specs.Grammar.StatementIs.{left_out, instruction, shorthand, org, align, space, values, ascii, asciiz, equ, globl, set}
 use Rattle.brd_source.specs.Grammar.LineIs.{statement, label}
-use Rattle.brd_source.specs.Grammar.Operand.{Reg, Value, At}
+use Rattle.brd_source.specs.Grammar.Operand.{Register, Value, At}
 use Rattle.brd_source.specs.Grammar.Takes.{shift, shift_variable, three_registers, multiply, jump_register, jump_link, jump_link_in, syscall, syscall_code, break_call, break_code, sync, move_from, move_to, product, accumulate, count, trap, trap_code, trap_immediate, jump, branch, branch_sign, branch_zero, with_immediate, load_upper, load, store, linked, prefetch}
-use Rattle.brd_source.specs.Grammar.Stands.{nop, move_to_from, always, if_zero, unless_zero, and_link}
+use Rattle.brd_source.specs.Grammar.ShorthandIs.{nop, move, always, if_zero, unless_zero, and_link}
 use Rattle.brd_source.specs.Operands.{shift_at, shift_variable_at, computed_at, multiply_at, jump_register_at, jump_link_behind, jump_link_register_at, syscall_at, break_call_at, move_from_at, move_to_at, product_at, accumulate_at, count_at, trap_at, trap_immediate_at, jump_at, branch_at, branch_sign_at, branch_zero_at, with_immediate_at, load_upper_at, load_at, store_at, linked_at, prefetch_at, operands_at}
 use Rattle.brd_source.specs.Reading.{is_mark, past, mark_at, run_at, name_at, end_at, code_at, comma_code_at}
-use Rattle.brd_source.specs.Spelling.{Spells}
 use Rattle.brd_source.specs.Statement.{Expression, Instruction, Statement, Line}
 use Rattle.brd_source.specs.Statement.Statement.{Nothing, Instruct, Org, Align, Space, Data, Text, Equal}
 use Rattle.brd_source.specs.Statements.{branch_and_link_at, directive_named, value_step, values_at, ended_text_at, equal_at, setting_at, statement_named, statement_at}
@@ -26,10 +25,9 @@ use Rattle.brd_source.specs.Statements as statements
 use Rattle.brd_source.specs.Texts.{text_of, text_at}
 use Rattle.brd_source.specs.Lines.{labelled, line_of}
 use Rattle.brd_source.specs.Statement.Immediate.{Whole}
-use Rattle.brd_source.specs.Words.{Word, first, others}
+use Rattle.brd_source.specs.Words.{Word, words_of, first, others}
 use Rattle.brd_source.specs.Words.Word.{Run, Quoted}
 use Rattle.brd_source.proofs.GrammarLemmas.{empty, last_register, last_immediate, last_expression, last_place, one_register, two_registers, last_two, last_three, one_expression, register_before, two_before, last_some, only_expression, expression_law, expression_no_mark, operands_front, expression_front_word}
-use Rattle.brd_source.proofs.Spelled.{spelled}
 
 -- ---- instructions
 
@@ -48,7 +46,7 @@ takes_law _ _ _ words (multiply rd rs rt) are = rw (last_three words rd rs rt ar
 takes_law _ _ _ words (jump_register rs) are = rw (last_register words rs are) refl
 takes_law _ _ _ words (jump_link rs) are = rw (last_register words rs are) refl
 takes_law _ _ _ words (jump_link_in rd rs) are =
-    let f = register_before words rd (Reg rs) [] are in
+    let f = register_before words rd (Register rs) [] are in
     rw (f.read, last_register f.behind rs f.are) refl
 takes_law _ _ _ words syscall are = rw (empty words are) refl
 takes_law _ _ _ words (syscall_code code) are = rw (code_given words code are) refl
@@ -102,10 +100,10 @@ takes_law _ _ _ words (prefetch hint base i) are =
 
 -- ---- shorthands and directives, by their names
 
-stands_law : (n : List ℕ) (os : List Operand) (i : Instruction) (words : List Word) → Stands n os i → OperandsAre words os → statement_named n words ≡ Ok (Instruct i, [])
+stands_law : (n : List ℕ) (os : List Operand) (i : Instruction) (words : List Word) → ShorthandIs n os i → OperandsAre words os → statement_named n words ≡ Ok (Instruct i, [])
 unfolding statement_named mnemonic_named computing_named other_named statements.move_at statements.branch_at statements.branch_zero_at branch_and_link_at
 stands_law _ _ _ words nop are = rw (empty words are) refl
-stands_law _ _ _ words (move_to_from rd rs) are = rw (last_two words rd rs are) refl
+stands_law _ _ _ words (move rd rs) are = rw (last_two words rd rs are) refl
 stands_law _ _ _ words (always target) are = rw (last_expression words target are) refl
 stands_law _ _ _ words (if_zero rs target) are =
     let f = one_register words rs (Value (Whole target)) [] are in
@@ -136,7 +134,7 @@ values_law (suc n) before _ _ (many words behind e es is are) lt =
     let fewer : length behind < n = omega (arith, lt, length-append words (comma ∷ behind)) in
     rw (expression_law words e (comma ∷ behind) is (refl, refl)) (values_law n (before ++ e ∷ []) behind es are fewer ∙ ap (λ (xs : List Expression). Ok (xs, [])) (append_assoc before (e ∷ []) es))
 
-wide_law : (n : List ℕ) (w : Width) (words : List Word) (es : List Expression) → Wide n w → ValuesAre words es → statement_named n words ≡ Ok (Data w es, [])
+wide_law : (n : List ℕ) (w : Width) (words : List Word) (es : List Expression) → WidthIs n w → ValuesAre words es → statement_named n words ≡ Ok (Data w es, [])
 unfolding statement_named mnemonic_named computing_named other_named directive_named values_at
 wide_law _ _ words es byte are = rw (values_law (suc (length words)) [] words es are (omega arith)) refl
 wide_law _ _ words es half are = rw (values_law (suc (length words)) [] words es are (omega arith)) refl
@@ -233,8 +231,8 @@ read _ _ before (label run words labels s h is) =
       statement_is = r.statement_is;
     }
 
-pub grammatical : (bytes : List ℕ) (words : List Word) (line : Line) → Spells bytes words → LineIs words line → line_of bytes ≡ Ok line
+pub grammatical : (bytes : List ℕ) (words : List Word) (line : Line) → words_of bytes ≡ words → LineIs words line → line_of bytes ≡ Ok line
 unfolding line_of end_at
-grammatical bytes words line spells is =
+grammatical bytes words line words_are is =
     let r = read words line [] is in
-    rw (spelled bytes words spells, r.labels_are, r.statement_is) refl
+    rw (words_are, r.labels_are, r.statement_is) refl

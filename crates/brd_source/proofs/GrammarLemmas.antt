@@ -9,7 +9,7 @@ use Rattle.brd_source.specs.Grammar.{comma, opened, closed, NumberIs, Expression
 use Rattle.brd_source.specs.Grammar.NumberIs.{unsigned, negative}
 use Rattle.brd_source.specs.Grammar.ExpressionIs.{number, name, sum, difference}
 use Rattle.brd_source.specs.Grammar.ImmediateIs.{whole, high, low}
-use Rattle.brd_source.specs.Grammar.Operand.{Reg, Value, At}
+use Rattle.brd_source.specs.Grammar.Operand.{Register, Value, At}
 use Rattle.brd_source.specs.Grammar.OperandIs.{register, value, offset, no_offset}
 use Rattle.brd_source.specs.Grammar.OperandsAre.{none, last, more}
 use Rattle.brd_source.specs.Registers.{register_of}
@@ -124,7 +124,7 @@ only _ _ (last words o is) = is
 pub empty : (words : List Word) → OperandsAre words [] → words ≡ []
 empty _ none = refl
 
-register_front : (words : List Word) (r : ℕ) (rest : List Word) → OperandIs words (Reg r) → register_at (words ++ rest) ≡ Ok (r, rest)
+register_front : (words : List Word) (r : ℕ) (rest : List Word) → OperandIs words (Register r) → register_at (words ++ rest) ≡ Ok (r, rest)
 unfolding register_at run_at
 register_front _ _ rest (register run r e) = rw e refl
 
@@ -134,8 +134,8 @@ a_value _ _ (value words i is) = is
 a_whole : (words : List Word) (e : Expression) → ImmediateIs words (Whole e) → ExpressionIs words e
 a_whole _ _ (whole words e is) = is
 
-pub last_register : (words : List Word) (r : ℕ) → OperandsAre words (Reg r ∷ []) → register_at words ≡ Ok (r, [])
-last_register words r are = rw (append-nil words) at (register_front words r [] (only words (Reg r) are))
+pub last_register : (words : List Word) (r : ℕ) → OperandsAre words (Register r ∷ []) → register_at words ≡ Ok (r, [])
+last_register words r are = rw (append-nil words) at (register_front words r [] (only words (Register r) are))
 
 pub last_immediate : (words : List Word) (i : Immediate) → OperandsAre words (Value i ∷ []) → immediate_at words ≡ Ok (i, [])
 last_immediate words i are = rw (append-nil words) at (immediate_law words i [] (a_value words i (only words (Value i) are)) (refl, refl))
@@ -189,13 +189,13 @@ pub record OneRegister (words : List Word) (r : ℕ) (os : List Operand) : Type 
   pub read : register_comma_at words ≡ Ok (r, behind)
   pub are : OperandsAre behind os
 
-register_comma : (words front behind : List Word) (r : ℕ) → words ≡ front ++ comma ∷ behind → OperandIs front (Reg r) → register_comma_at words ≡ Ok (r, behind)
+register_comma : (words front behind : List Word) (r : ℕ) → words ≡ front ++ comma ∷ behind → OperandIs front (Register r) → register_comma_at words ≡ Ok (r, behind)
 unfolding register_comma_at mark_at
 register_comma words front behind r e is = rw (e, register_front front r (comma ∷ behind) is) refl
 
-pub one_register : (words : List Word) (r : ℕ) (o : Operand) (os : List Operand) → OperandsAre words (Reg r ∷ o ∷ os) → OneRegister words r (o ∷ os)
+pub one_register : (words : List Word) (r : ℕ) (o : Operand) (os : List Operand) → OperandsAre words (Register r ∷ o ∷ os) → OneRegister words r (o ∷ os)
 one_register words r o os are =
-    let s = split words (Reg r) o os are in
+    let s = split words (Register r) o os are in
     record { behind = s.behind; read = register_comma words s.front s.behind r s.words_are s.is; are = s.are }
 
 -- `register , register ,` in front of others
@@ -204,23 +204,23 @@ pub record TwoRegisters (words : List Word) (a b : ℕ) (os : List Operand) : Ty
   pub read : two_registers_comma_at words ≡ Ok (a, b, behind)
   pub are : OperandsAre behind os
 
-pub two_registers : (words : List Word) (a b : ℕ) (o : Operand) (os : List Operand) → OperandsAre words (Reg a ∷ Reg b ∷ o ∷ os) → TwoRegisters words a b (o ∷ os)
+pub two_registers : (words : List Word) (a b : ℕ) (o : Operand) (os : List Operand) → OperandsAre words (Register a ∷ Register b ∷ o ∷ os) → TwoRegisters words a b (o ∷ os)
 unfolding two_registers_comma_at
 two_registers words a b o os are =
-    let f = one_register words a (Reg b) (o ∷ os) are in
+    let f = one_register words a (Register b) (o ∷ os) are in
     let g = one_register f.behind b o os f.are in
     record { behind = g.behind; read = rw (f.read, g.read) refl; are = g.are }
 
-pub last_two : (words : List Word) (a b : ℕ) → OperandsAre words (Reg a ∷ Reg b ∷ []) → two_registers_at words ≡ Ok (a, b, [])
+pub last_two : (words : List Word) (a b : ℕ) → OperandsAre words (Register a ∷ Register b ∷ []) → two_registers_at words ≡ Ok (a, b, [])
 unfolding two_registers_at
 last_two words a b are =
-    let f = one_register words a (Reg b) [] are in
+    let f = one_register words a (Register b) [] are in
     rw (f.read, last_register f.behind b f.are) refl
 
-pub last_three : (words : List Word) (a b c : ℕ) → OperandsAre words (Reg a ∷ Reg b ∷ Reg c ∷ []) → three_registers_at words ≡ Ok (a, b, c, [])
+pub last_three : (words : List Word) (a b c : ℕ) → OperandsAre words (Register a ∷ Register b ∷ Register c ∷ []) → three_registers_at words ≡ Ok (a, b, c, [])
 unfolding three_registers_at
 last_three words a b c are =
-    let f = one_register words a (Reg b) (Reg c ∷ []) are in
+    let f = one_register words a (Register b) (Register c ∷ []) are in
     rw (f.read, last_two f.behind b c f.are) refl
 
 -- `expression ,` in front of other operands
@@ -243,12 +243,12 @@ pub record RegisterBefore (words : List Word) (r : ℕ) (os : List Operand) : Ty
   pub read : register_at words ≡ Ok (r, comma ∷ behind)
   pub are : OperandsAre behind os
 
-register_then_comma : (words front behind : List Word) (r : ℕ) → words ≡ front ++ comma ∷ behind → OperandIs front (Reg r) → register_at words ≡ Ok (r, comma ∷ behind)
+register_then_comma : (words front behind : List Word) (r : ℕ) → words ≡ front ++ comma ∷ behind → OperandIs front (Register r) → register_at words ≡ Ok (r, comma ∷ behind)
 register_then_comma words front behind r e is = rw (e, register_front front r (comma ∷ behind) is) refl
 
-pub register_before : (words : List Word) (r : ℕ) (o : Operand) (os : List Operand) → OperandsAre words (Reg r ∷ o ∷ os) → RegisterBefore words r (o ∷ os)
+pub register_before : (words : List Word) (r : ℕ) (o : Operand) (os : List Operand) → OperandsAre words (Register r ∷ o ∷ os) → RegisterBefore words r (o ∷ os)
 register_before words r o os are =
-    let s = split words (Reg r) o os are in
+    let s = split words (Register r) o os are in
     record { behind = s.behind; read = register_then_comma words s.front s.behind r s.words_are s.is; are = s.are }
 
 -- `register , register` in front of a comma and other operands
@@ -257,10 +257,10 @@ pub record TwoBefore (words : List Word) (a b : ℕ) (os : List Operand) : Type 
   pub read : two_registers_at words ≡ Ok (a, b, comma ∷ behind)
   pub are : OperandsAre behind os
 
-pub two_before : (words : List Word) (a b : ℕ) (o : Operand) (os : List Operand) → OperandsAre words (Reg a ∷ Reg b ∷ o ∷ os) → TwoBefore words a b (o ∷ os)
+pub two_before : (words : List Word) (a b : ℕ) (o : Operand) (os : List Operand) → OperandsAre words (Register a ∷ Register b ∷ o ∷ os) → TwoBefore words a b (o ∷ os)
 unfolding two_registers_at
 two_before words a b o os are =
-    let f = one_register words a (Reg b) (o ∷ os) are in
+    let f = one_register words a (Register b) (o ∷ os) are in
     let g = register_before f.behind b o os f.are in
     record { behind = g.behind; read = rw (f.read, g.read) refl; are = g.are }
 

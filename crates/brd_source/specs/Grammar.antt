@@ -1,4 +1,5 @@
--- The grammar of lines, over the words of Words: which words spell what. Whatever has this form is read as what it spells.
+-- The grammar of lines: which words, of those that bytes spell (Spelling), say what. What a single word stands for (a register, a number, a string)
+-- is shared with the reading: Registers, brd_text's Numbers, Texts. What is read as a line is just what has this form.
 use Rattle.std.specs.Prelude.{◌≡◌, ℕ, ℤ, pos, true, List, [], ◌∷◌, ◌++◌, Some, None, Ok, codes}
 use lib.IntN.{neg_ℤ}
 use Rattle.brd_isa.specs.declared.instruction.AccumulateOp.{AccumulateOp}
@@ -40,6 +41,7 @@ use Rattle.brd_source.specs.Texts.{text_of}
 use Rattle.brd_source.specs.Words.{Word}
 use Rattle.brd_source.specs.Words.Word.{Run, Percent, Quoted, Mark}
 
+-- the marks , : + - ( ) by their ASCII codes
 abbrev pub comma : Word
 comma = Mark 44
 
@@ -60,7 +62,7 @@ closed = Mark 41
 
 -- ---- operands
 
--- digits, or 0x and hexadecimal digits, with or without a sign
+-- decimal digits, or 0x and hexadecimal digits, below 2 to the 32nd; a - may stand before them
 pub data NumberIs : List Word → ℤ → Type 0 where
   unsigned : (run : List ℕ) (n : ℕ) → number_of run ≡ Some n → NumberIs (Run run ∷ []) (pos n)
   negative : (run : List ℕ) (n : ℕ) → number_of run ≡ Some n → NumberIs (minus ∷ Run run ∷ []) (neg_ℤ (pos n))
@@ -72,7 +74,7 @@ pub data ExpressionIs : List Word → Expression → Type 0 where
   sum : (run : List ℕ) (words : List Word) (v : ℤ) → is_name run ≡ true → NumberIs words v → ExpressionIs (Run run ∷ plus ∷ words) (record { name = Some run; number = v })
   difference : (run : List ℕ) (words : List Word) (v : ℤ) → is_name run ≡ true → NumberIs words v → ExpressionIs (Run run ∷ minus ∷ words) (record { name = Some run; number = neg_ℤ v })
 
--- an expression, %hi(expression), %lo(expression)
+-- an expression, %hi(expression), %lo(expression); hi and lo in lower case
 pub data ImmediateIs : List Word → Immediate → Type 0 where
   whole : (words : List Word) (e : Expression) → ExpressionIs words e → ImmediateIs words (Whole e)
   high : (words : List Word) (e : Expression) → ExpressionIs words e → ImmediateIs (Percent (codes "hi") ∷ opened ∷ (words ++ closed ∷ [])) (High e)
@@ -80,13 +82,13 @@ pub data ImmediateIs : List Word → Immediate → Type 0 where
 
 -- a register, a value, or an offset from a register
 pub data Operand : Type 0 where
-  Reg : ℕ → Operand
+  Register : ℕ → Operand
   Value : Immediate → Operand
   At : Immediate → ℕ → Operand
 
--- a register's name; an immediate; offset(register), or (register) for the offset 0
+-- a register; an immediate; offset(register), or (register) for the offset 0
 pub data OperandIs : List Word → Operand → Type 0 where
-  register : (run : List ℕ) (r : ℕ) → register_of run ≡ Some r → OperandIs (Run run ∷ []) (Reg r)
+  register : (run : List ℕ) (r : ℕ) → register_of run ≡ Some r → OperandIs (Run run ∷ []) (Register r)
   value : (words : List Word) (i : Immediate) → ImmediateIs words i → OperandIs words (Value i)
   offset : (words : List Word) (i : Immediate) (run : List ℕ) (r : ℕ) → ImmediateIs words i → register_of run ≡ Some r → OperandIs (words ++ opened ∷ Run run ∷ closed ∷ []) (At i r)
   no_offset : (run : List ℕ) (r : ℕ) → register_of run ≡ Some r → OperandIs (opened ∷ Run run ∷ closed ∷ []) (At (Whole zero_expression) r)
@@ -99,47 +101,47 @@ pub data OperandsAre : List Word → List Operand → Type 0 where
 
 -- ---- instructions
 
--- the operands that each mnemonic takes
+-- the operands that each mnemonic takes, and the instruction that they make
 pub data Takes : Mnemonic → List Operand → Instruction → Type 0 where
-  shift : (o : ShiftOp) (rd rt : ℕ) (sa : Expression) → Takes (op.Shift o) (Reg rd ∷ Reg rt ∷ Value (Whole sa) ∷ []) (Shift o rd rt sa)
-  shift_variable : (o : ShiftVariableOp) (rd rt rs : ℕ) → Takes (op.ShiftVariable o) (Reg rd ∷ Reg rt ∷ Reg rs ∷ []) (ShiftVariable o rd rt rs)
-  three_registers : (o : RegisterOp) (rd rs rt : ℕ) → Takes (op.ThreeRegisters o) (Reg rd ∷ Reg rs ∷ Reg rt ∷ []) (ThreeRegisters o rd rs rt)
-  multiply : (rd rs rt : ℕ) → Takes op.Multiply (Reg rd ∷ Reg rs ∷ Reg rt ∷ []) (Multiply rd rs rt)
-  jump_register : (rs : ℕ) → Takes op.JumpRegister (Reg rs ∷ []) (JumpRegister rs)
-  jump_link : (rs : ℕ) → Takes op.JumpLinkRegister (Reg rs ∷ []) (JumpLinkRegister 31 rs)
-  jump_link_in : (rd rs : ℕ) → Takes op.JumpLinkRegister (Reg rd ∷ Reg rs ∷ []) (JumpLinkRegister rd rs)
+  shift : (o : ShiftOp) (rd rt : ℕ) (sa : Expression) → Takes (op.Shift o) (Register rd ∷ Register rt ∷ Value (Whole sa) ∷ []) (Shift o rd rt sa)
+  shift_variable : (o : ShiftVariableOp) (rd rt rs : ℕ) → Takes (op.ShiftVariable o) (Register rd ∷ Register rt ∷ Register rs ∷ []) (ShiftVariable o rd rt rs)
+  three_registers : (o : RegisterOp) (rd rs rt : ℕ) → Takes (op.ThreeRegisters o) (Register rd ∷ Register rs ∷ Register rt ∷ []) (ThreeRegisters o rd rs rt)
+  multiply : (rd rs rt : ℕ) → Takes op.Multiply (Register rd ∷ Register rs ∷ Register rt ∷ []) (Multiply rd rs rt)
+  jump_register : (rs : ℕ) → Takes op.JumpRegister (Register rs ∷ []) (JumpRegister rs)
+  jump_link : (rs : ℕ) → Takes op.JumpLinkRegister (Register rs ∷ []) (JumpLinkRegister 31 rs)
+  jump_link_in : (rd rs : ℕ) → Takes op.JumpLinkRegister (Register rd ∷ Register rs ∷ []) (JumpLinkRegister rd rs)
   syscall : Takes op.Syscall [] (Syscall zero_expression)
   syscall_code : (code : Expression) → Takes op.Syscall (Value (Whole code) ∷ []) (Syscall code)
   break_call : Takes op.Break [] (Break zero_expression)
   break_code : (code : Expression) → Takes op.Break (Value (Whole code) ∷ []) (Break code)
   sync : Takes op.Sync [] Sync
-  move_from : (o : MoveFromOp) (rd : ℕ) → Takes (op.MoveFrom o) (Reg rd ∷ []) (MoveFrom o rd)
-  move_to : (o : MoveToOp) (rs : ℕ) → Takes (op.MoveTo o) (Reg rs ∷ []) (MoveTo o rs)
-  product : (o : ProductOp) (rs rt : ℕ) → Takes (op.Product o) (Reg rs ∷ Reg rt ∷ []) (Product o rs rt)
-  accumulate : (o : AccumulateOp) (rs rt : ℕ) → Takes (op.Accumulate o) (Reg rs ∷ Reg rt ∷ []) (Accumulate o rs rt)
-  count : (o : CountOp) (rd rs : ℕ) → Takes (op.Count o) (Reg rd ∷ Reg rs ∷ []) (Count o rd rs)
-  trap : (o : TrapOp) (rs rt : ℕ) → Takes (op.Trap o) (Reg rs ∷ Reg rt ∷ []) (Trap o rs rt zero_expression)
-  trap_code : (o : TrapOp) (rs rt : ℕ) (code : Expression) → Takes (op.Trap o) (Reg rs ∷ Reg rt ∷ Value (Whole code) ∷ []) (Trap o rs rt code)
-  trap_immediate : (o : TrapImmediateOp) (rs : ℕ) (i : Immediate) → Takes (op.TrapImmediate o) (Reg rs ∷ Value i ∷ []) (TrapImmediate o rs i)
+  move_from : (o : MoveFromOp) (rd : ℕ) → Takes (op.MoveFrom o) (Register rd ∷ []) (MoveFrom o rd)
+  move_to : (o : MoveToOp) (rs : ℕ) → Takes (op.MoveTo o) (Register rs ∷ []) (MoveTo o rs)
+  product : (o : ProductOp) (rs rt : ℕ) → Takes (op.Product o) (Register rs ∷ Register rt ∷ []) (Product o rs rt)
+  accumulate : (o : AccumulateOp) (rs rt : ℕ) → Takes (op.Accumulate o) (Register rs ∷ Register rt ∷ []) (Accumulate o rs rt)
+  count : (o : CountOp) (rd rs : ℕ) → Takes (op.Count o) (Register rd ∷ Register rs ∷ []) (Count o rd rs)
+  trap : (o : TrapOp) (rs rt : ℕ) → Takes (op.Trap o) (Register rs ∷ Register rt ∷ []) (Trap o rs rt zero_expression)
+  trap_code : (o : TrapOp) (rs rt : ℕ) (code : Expression) → Takes (op.Trap o) (Register rs ∷ Register rt ∷ Value (Whole code) ∷ []) (Trap o rs rt code)
+  trap_immediate : (o : TrapImmediateOp) (rs : ℕ) (i : Immediate) → Takes (op.TrapImmediate o) (Register rs ∷ Value i ∷ []) (TrapImmediate o rs i)
   jump : (o : JumpOp) (target : Expression) → Takes (op.Jump o) (Value (Whole target) ∷ []) (Jump o target)
-  branch : (o : BranchOp) (rs rt : ℕ) (target : Expression) → Takes (op.Branch o) (Reg rs ∷ Reg rt ∷ Value (Whole target) ∷ []) (Branch o rs rt target)
-  branch_sign : (o : BranchSignOp) (rs : ℕ) (target : Expression) → Takes (op.BranchSign o) (Reg rs ∷ Value (Whole target) ∷ []) (BranchSign o rs target)
-  branch_zero : (o : BranchZeroOp) (rs : ℕ) (target : Expression) → Takes (op.BranchZero o) (Reg rs ∷ Value (Whole target) ∷ []) (BranchZero o rs target)
-  with_immediate : (o : ImmediateOp) (rt rs : ℕ) (i : Immediate) → Takes (op.Immediate o) (Reg rt ∷ Reg rs ∷ Value i ∷ []) (WithImmediate o rt rs i)
-  load_upper : (rt : ℕ) (i : Immediate) → Takes op.LoadUpper (Reg rt ∷ Value i ∷ []) (LoadUpper rt i)
-  load : (o : LoadOp) (rt base : ℕ) (i : Immediate) → Takes (op.Load o) (Reg rt ∷ At i base ∷ []) (Load o rt base i)
-  store : (o : StoreOp) (rt base : ℕ) (i : Immediate) → Takes (op.Store o) (Reg rt ∷ At i base ∷ []) (Store o rt base i)
-  linked : (o : LinkedOp) (rt base : ℕ) (i : Immediate) → Takes (op.Linked o) (Reg rt ∷ At i base ∷ []) (Linked o rt base i)
+  branch : (o : BranchOp) (rs rt : ℕ) (target : Expression) → Takes (op.Branch o) (Register rs ∷ Register rt ∷ Value (Whole target) ∷ []) (Branch o rs rt target)
+  branch_sign : (o : BranchSignOp) (rs : ℕ) (target : Expression) → Takes (op.BranchSign o) (Register rs ∷ Value (Whole target) ∷ []) (BranchSign o rs target)
+  branch_zero : (o : BranchZeroOp) (rs : ℕ) (target : Expression) → Takes (op.BranchZero o) (Register rs ∷ Value (Whole target) ∷ []) (BranchZero o rs target)
+  with_immediate : (o : ImmediateOp) (rt rs : ℕ) (i : Immediate) → Takes (op.Immediate o) (Register rt ∷ Register rs ∷ Value i ∷ []) (WithImmediate o rt rs i)
+  load_upper : (rt : ℕ) (i : Immediate) → Takes op.LoadUpper (Register rt ∷ Value i ∷ []) (LoadUpper rt i)
+  load : (o : LoadOp) (rt base : ℕ) (i : Immediate) → Takes (op.Load o) (Register rt ∷ At i base ∷ []) (Load o rt base i)
+  store : (o : StoreOp) (rt base : ℕ) (i : Immediate) → Takes (op.Store o) (Register rt ∷ At i base ∷ []) (Store o rt base i)
+  linked : (o : LinkedOp) (rt base : ℕ) (i : Immediate) → Takes (op.Linked o) (Register rt ∷ At i base ∷ []) (Linked o rt base i)
   prefetch : (hint : Expression) (base : ℕ) (i : Immediate) → Takes op.Prefetch (Value (Whole hint) ∷ At i base ∷ []) (Prefetch hint base i)
 
--- a shorthand is another instruction
-pub data Stands : List ℕ → List Operand → Instruction → Type 0 where
-  nop : Stands (codes "nop") [] (Shift Sll 0 0 zero_expression)
-  move_to_from : (rd rs : ℕ) → Stands (codes "move") (Reg rd ∷ Reg rs ∷ []) (ThreeRegisters Addu rd rs 0)
-  always : (target : Expression) → Stands (codes "b") (Value (Whole target) ∷ []) (Branch Beq 0 0 target)
-  if_zero : (rs : ℕ) (target : Expression) → Stands (codes "beqz") (Reg rs ∷ Value (Whole target) ∷ []) (Branch Beq rs 0 target)
-  unless_zero : (rs : ℕ) (target : Expression) → Stands (codes "bnez") (Reg rs ∷ Value (Whole target) ∷ []) (Branch Bne rs 0 target)
-  and_link : (target : Expression) → Stands (codes "bal") (Value (Whole target) ∷ []) (BranchZero Bgezal 0 target)
+-- the instruction that a shorthand, in lower case, stands for
+pub data ShorthandIs : List ℕ → List Operand → Instruction → Type 0 where
+  nop : ShorthandIs (codes "nop") [] (Shift Sll 0 0 zero_expression)
+  move : (rd rs : ℕ) → ShorthandIs (codes "move") (Register rd ∷ Register rs ∷ []) (ThreeRegisters Addu rd rs 0)
+  always : (target : Expression) → ShorthandIs (codes "b") (Value (Whole target) ∷ []) (Branch Beq 0 0 target)
+  if_zero : (rs : ℕ) (target : Expression) → ShorthandIs (codes "beqz") (Register rs ∷ Value (Whole target) ∷ []) (Branch Beq rs 0 target)
+  unless_zero : (rs : ℕ) (target : Expression) → ShorthandIs (codes "bnez") (Register rs ∷ Value (Whole target) ∷ []) (Branch Bne rs 0 target)
+  and_link : (target : Expression) → ShorthandIs (codes "bal") (Value (Whole target) ∷ []) (BranchZero Bgezal 0 target)
 
 -- ---- statements
 
@@ -149,33 +151,33 @@ pub data ValuesAre : List Word → List Expression → Type 0 where
   many : (words others : List Word) (e : Expression) (es : List Expression) → ExpressionIs words e → ValuesAre others es → ValuesAre (words ++ comma ∷ others) (e ∷ es)
 
 -- the width of each value of a directive
-pub data Wide : List ℕ → Width → Type 0 where
-  byte : Wide (codes ".byte") width.Byte
-  half : Wide (codes ".half") width.Half
-  word : Wide (codes ".word") width.Word
+pub data WidthIs : List ℕ → Width → Type 0 where
+  byte : WidthIs (codes ".byte") width.Byte
+  half : WidthIs (codes ".half") width.Half
+  word : WidthIs (codes ".word") width.Word
 
--- settings without effect
+-- the words behind .set, in lower case only; they have no effect
 pub data IsSetting : List ℕ → Type 0 where
   noreorder : IsSetting (codes "noreorder")
   noat : IsSetting (codes "noat")
   nomacro : IsSetting (codes "nomacro")
 
--- a statement begins with a name, in whatever case, and may be left out
+-- A mnemonic, a shorthand or a directive, in whatever case, and what stands behind it; or nothing. .globl and .set say nothing.
 pub data StatementIs : List Word → Statement → Type 0 where
   left_out : StatementIs [] Nothing
   instruction : (run : List ℕ) (words : List Word) (m : Mnemonic) (os : List Operand) (i : Instruction) → mnemonic_named (lowered run) ≡ Some m → OperandsAre words os → Takes m os i → StatementIs (Run run ∷ words) (Instruct i)
-  shorthand : (run : List ℕ) (words : List Word) (os : List Operand) (i : Instruction) → OperandsAre words os → Stands (lowered run) os i → StatementIs (Run run ∷ words) (Instruct i)
+  shorthand : (run : List ℕ) (words : List Word) (os : List Operand) (i : Instruction) → OperandsAre words os → ShorthandIs (lowered run) os i → StatementIs (Run run ∷ words) (Instruct i)
   org : (run : List ℕ) (words : List Word) (e : Expression) → lowered run ≡ codes ".org" → ExpressionIs words e → StatementIs (Run run ∷ words) (Org e)
   align : (run : List ℕ) (words : List Word) (e : Expression) → lowered run ≡ codes ".align" → ExpressionIs words e → StatementIs (Run run ∷ words) (Align e)
   space : (run : List ℕ) (words : List Word) (e : Expression) → lowered run ≡ codes ".space" → ExpressionIs words e → StatementIs (Run run ∷ words) (Space e)
-  values : (run : List ℕ) (words : List Word) (w : Width) (es : List Expression) → Wide (lowered run) w → ValuesAre words es → StatementIs (Run run ∷ words) (Data w es)
+  values : (run : List ℕ) (words : List Word) (w : Width) (es : List Expression) → WidthIs (lowered run) w → ValuesAre words es → StatementIs (Run run ∷ words) (Data w es)
   ascii : (run text bytes : List ℕ) → lowered run ≡ codes ".ascii" → text_of text ≡ Ok bytes → StatementIs (Run run ∷ Quoted text ∷ []) (Text bytes)
   asciiz : (run text bytes : List ℕ) → lowered run ≡ codes ".asciiz" → text_of text ≡ Ok bytes → StatementIs (Run run ∷ Quoted text ∷ []) (Text (bytes ++ 0 ∷ []))
   equ : (run given : List ℕ) (words : List Word) (e : Expression) → lowered run ≡ codes ".equ" → is_name given ≡ true → ExpressionIs words e → StatementIs (Run run ∷ Run given ∷ comma ∷ words) (Equal given e)
   globl : (run given : List ℕ) → lowered run ≡ codes ".globl" → is_name given ≡ true → StatementIs (Run run ∷ Run given ∷ []) Nothing
   set : (run setting : List ℕ) → lowered run ≡ codes ".set" → IsSetting setting → StatementIs (Run run ∷ Run setting ∷ []) Nothing
 
--- labels, each with a colon, and then a statement
+-- any number of labels, each with a colon, and then a statement
 pub data LineIs : List Word → Line → Type 0 where
   statement : (words : List Word) (s : Statement) → StatementIs words s → LineIs words (record { labels = []; statement = s })
   label : (run : List ℕ) (words : List Word) (labels : List (List ℕ)) (s : Statement) → is_name run ≡ true → LineIs words (record { labels = labels; statement = s }) → LineIs (Run run ∷ colon ∷ words) (record { labels = run ∷ labels; statement = s })

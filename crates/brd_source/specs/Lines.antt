@@ -1,11 +1,5 @@
--- A whole line: any number of names with a colon, and at most one statement behind them. As a grammar, over the words of Words:
---
---   line       = { name ":" } [ statement ]
---   statement  = mnemonic operands | shorthand operands | directive       by the tables of names; Operands and Statements have the forms
---   expression = number | name | name "+" number | name "-" number
---   number     = [ "-" ] digits                                          decimal, or hexadecimal behind 0x; below 2 to the 32nd
---   immediate  = expression | "%hi" "(" expression ")" | "%lo" "(" expression ")"
---   place      = [ immediate ] "(" register ")"
+-- How a whole line is read: any number of names with a colon, and at most one statement behind them. Grammar says the same as relations; that
+-- just what has its form is read is proved as `lines_follow_the_grammar`.
 use Rattle.std.specs.Prelude.{ℕ, if◌then◌else◌, List, [], ◌∷◌, ◌++◌, Result, Ok}
 use Rattle.brd_text.specs.Faults.{◌>>=◌}
 use Rattle.brd_source.specs.declared.fault.LineFault.{LineFault}

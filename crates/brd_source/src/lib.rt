@@ -13,7 +13,7 @@ mod text;
 mod token;
 
 pub use fault::LineFault;
-pub use line::{grammatical_lines_are_read, lines_have_names, parse_line};
+pub use line::{lines_follow_the_grammar, lines_have_names, parse_line};
 pub use scanner::spelled_words_are_scanned;
 pub use statement::{Expression, Immediate, Instruction, Line, Statement, Width};
 

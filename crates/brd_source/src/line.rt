@@ -1,6 +1,6 @@
 //! A whole line.
 
-ghost use Rattle.std.specs.Prelude.{◌≡◌, [], map, Ok, List, ℕ};
+ghost use Rattle.std.specs.Prelude.{◌≡◌, ◌↔◌, [], map, Ok, List, ℕ};
 ghost use Rattle.brd_source.specs.Faults.{Gives};
 ghost use Rattle.brd_source.specs.Grammar.{LineIs};
 ghost use Rattle.brd_source.specs.Lines as lines;
@@ -9,7 +9,7 @@ ghost use Rattle.brd_source.specs.Reading.{is_mark};
 ghost use Rattle.brd_source.specs.Spelling.{Spells};
 ghost use Rattle.brd_source.specs.Statement.{Line as Said};
 ghost use Rattle.brd_source.specs.View.{line_value};
-ghost use Rattle.brd_source.specs.Words.{Word, first, others};
+ghost use Rattle.brd_source.specs.Words.{Word, words_of, first, others};
 
 use crate::fault::LineFault;
 use crate::reading::{end, name};
@@ -60,7 +60,8 @@ pub fn lines_have_names()
     ensures { (bytes : List ℕ) (line : Said) → lines.line_of bytes ≡ Ok line → HasNames line }
 {}
 
-/// What has the form of a line is read as what it spells.
-pub fn grammatical_lines_are_read()
-    ensures { (bytes : List ℕ) (words : List Word) (line : Said) → Spells bytes words → LineIs words line → lines.line_of bytes ≡ Ok line }
+/// What is read as a line is just what has the form of one, and it is read as what that spells.
+pub fn lines_follow_the_grammar()
+    ensures exact { (bytes : List ℕ) (line : Said) → (lines.line_of bytes ≡ Ok line) ↔ LineIs (words_of bytes) line }
+    ensures spelled { (bytes : List ℕ) (words : List Word) (line : Said) → Spells bytes words → LineIs words line → lines.line_of bytes ≡ Ok line }
 {}

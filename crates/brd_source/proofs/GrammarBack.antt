@@ -1,0 +1,688 @@
+-- What is read as a line has the form of one: operands and instructions.
+use Rattle.std.proofs.Common.{◌≡◌, ℕ, Bool, true, false, cond, List, [], ◌∷◌, ◌++◌, Option, Some, None, Result, Ok, Err, refl, sym, ap, ◌∙◌, subst, inl, inr, append_assoc}
+use Rattle.std.specs.Prelude.{ℤ, pos, codes, bytes_eq, ◌⊎◌}
+use lib.IntN.{neg_ℤ}
+use Rattle.std.proofs.lemmas.Bool.{cases_Bool, eqb-true}
+use Rattle.std.proofs.lemmas.Slice.Eq.{bytes_eq-Decides}
+use Rattle.brd_isa.specs.declared.instruction.AccumulateOp.{AccumulateOp}
+use Rattle.brd_isa.specs.declared.instruction.BranchOp.{BranchOp}
+use Rattle.brd_isa.specs.declared.instruction.BranchSignOp.{BranchSignOp}
+use Rattle.brd_isa.specs.declared.instruction.BranchZeroOp.{BranchZeroOp}
+use Rattle.brd_isa.specs.declared.instruction.CountOp.{CountOp}
+use Rattle.brd_isa.specs.declared.instruction.ImmediateOp.{ImmediateOp}
+use Rattle.brd_isa.specs.declared.instruction.JumpOp.{JumpOp}
+use Rattle.brd_isa.specs.declared.instruction.LinkedOp.{LinkedOp}
+use Rattle.brd_isa.specs.declared.instruction.LoadOp.{LoadOp}
+use Rattle.brd_isa.specs.declared.instruction.MoveFromOp.{MoveFromOp}
+use Rattle.brd_isa.specs.declared.instruction.MoveToOp.{MoveToOp}
+use Rattle.brd_isa.specs.declared.instruction.ProductOp.{ProductOp}
+use Rattle.brd_isa.specs.declared.instruction.RegisterOp.{RegisterOp}
+use Rattle.brd_isa.specs.declared.instruction.ShiftOp.{ShiftOp}
+use Rattle.brd_isa.specs.declared.instruction.ShiftVariableOp.{ShiftVariableOp}
+use Rattle.brd_isa.specs.declared.instruction.StoreOp.{StoreOp}
+use Rattle.brd_isa.specs.declared.instruction.TrapImmediateOp.{TrapImmediateOp}
+use Rattle.brd_isa.specs.declared.instruction.TrapOp.{TrapOp}
+use Rattle.brd_isa.specs.declared.mnemonic.Mnemonic.{Mnemonic}
+use Rattle.brd_isa.specs.declared.mnemonic.Mnemonic.TheVariants as op
+use Rattle.brd_isa.specs.declared.instruction.BranchOp.TheVariants.{Beq, Bne}
+use Rattle.brd_isa.specs.declared.instruction.BranchZeroOp.TheVariants.{Bgezal}
+use Rattle.brd_isa.specs.declared.instruction.RegisterOp.TheVariants.{Addu}
+use Rattle.brd_isa.specs.declared.instruction.ShiftOp.TheVariants.{Sll}
+use Rattle.brd_isa.specs.Names.{named_in}
+use Rattle.brd_text.specs.Bytes.{is_name}
+use Rattle.brd_text.specs.Numbers.{number_of}
+use Rattle.brd_text.specs.Faults.{◌>>=◌, or_fault}
+use Rattle.brd_text.proofs.FaultLemmas.{bind_ok, ok_is}
+use Rattle.brd_source.specs.declared.fault.LineFault.{LineFault}
+use Rattle.brd_source.specs.declared.fault.LineFault.TheVariants.{Syntax}
+use Rattle.brd_source.specs.Grammar.{comma, plus, minus, opened, closed, NumberIs, ExpressionIs, ImmediateIs, Operand, OperandIs, OperandsAre, Takes, ShorthandIs}
+use Rattle.brd_source.specs.declared.statements.Shorthand.{Shorthand}
+use Rattle.brd_source.specs.declared.statements.Shorthand.TheVariants as shorthands
+use Rattle.brd_source.specs.Grammar.ShorthandIs.{nop, move, always, if_zero, unless_zero, and_link}
+use Rattle.brd_source.specs.Statements.{shorthand_names, shorthand_at}
+use Rattle.brd_source.specs.Statements as statements
+use Rattle.std.specs.List.{AllByRecursion}
+use Rattle.brd_source.specs.Grammar.NumberIs.{unsigned, negative}
+use Rattle.brd_source.specs.Grammar.ExpressionIs.{number, name, sum, difference}
+use Rattle.brd_source.specs.Grammar.ImmediateIs.{whole, high, low}
+use Rattle.brd_source.specs.Grammar.Operand.{Register, Value, At}
+use Rattle.brd_source.specs.Grammar.OperandIs.{register, value, offset, no_offset}
+use Rattle.brd_source.specs.Grammar.OperandsAre.{none, last, more}
+use Rattle.brd_source.specs.Grammar.Takes.{shift, shift_variable, three_registers, multiply, jump_register, jump_link, jump_link_in, syscall, syscall_code, break_call, break_code, sync, move_from, move_to, product, accumulate, count, trap, trap_code, trap_immediate, jump, branch, branch_sign, branch_zero, with_immediate, load_upper, load, store, linked, prefetch}
+use Rattle.brd_source.specs.Operands.{shift_at, shift_variable_at, computed_at, multiply_at, jump_register_at, linking, jump_link_behind, jump_link_register_at, syscall_at, break_call_at, move_from_at, move_to_at, product_at, accumulate_at, count_at, trap_at, trap_immediate_at, jump_at, branch_at, branch_sign_at, branch_zero_at, with_immediate_at, load_upper_at, load_at, store_at, linked_at, prefetch_at, operands_at}
+use Rattle.brd_source.specs.Registers.{register_of}
+use Rattle.brd_source.specs.Statement.Instruction.{Shift, ShiftVariable, ThreeRegisters, Multiply, JumpRegister, JumpLinkRegister, Syscall, Break, Sync, MoveFrom, MoveTo, Product, Accumulate, Count, Trap, TrapImmediate, Jump, Branch, BranchSign, BranchZero, WithImmediate, LoadUpper, Load, Store, Linked, Prefetch}
+use Rattle.brd_source.specs.Statement.{Expression, Immediate, Instruction}
+use Rattle.brd_source.specs.Statement.Immediate.{Whole, High, Low}
+use Rattle.brd_source.specs.Words.{Word, first, others}
+use Rattle.brd_source.specs.Words.Word.{Run, Percent, Quoted, Mark, Wrong, End}
+use Rattle.brd_source.specs.Reading.{is_mark, is_end, past, mark_at, run_at, register_at, unsigned_at, signed, number_at, taken_off, addend_at, is_name_word, name_sum_at, plain_at, expression_at, zero_expression, half_of, half_at, whole_at, immediate_at, offset_at, base_at, register_comma_at, two_registers_at, two_registers_comma_at, three_registers_at, code_at, comma_code_at}
+
+-- ---- words
+
+pub run_back : (words : List Word) (run : List ℕ) (rest : List Word) → run_at words ≡ Ok (run, rest) → words ≡ Run run ∷ rest
+unfolding run_at
+run_back [] run rest e = absurd (cc)
+run_back (Run r ∷ words) run rest e =
+    let p = ok_is (r, words) (run, rest) e in
+    ap (λ (x : List ℕ). Run x ∷ words) (ap (λ (q : List ℕ × List Word). q.0) p) ∙ ap (λ (ws : List Word). Run run ∷ ws) (ap (λ (q : List ℕ × List Word). q.1) p)
+run_back (Percent r ∷ words) run rest e = absurd (cc)
+run_back (Quoted r ∷ words) run rest e = absurd (cc)
+run_back (Mark b ∷ words) run rest e = absurd (cc)
+run_back (Wrong ∷ words) run rest e = absurd (cc)
+run_back (End ∷ words) run rest e = absurd (cc)
+
+pub mark_front : (mark : ℕ) (words : List Word) → is_mark mark (first words) ≡ true → words ≡ Mark mark ∷ others words
+mark_front mark [] h = absurd (cc)
+mark_front mark (Run r ∷ words) h = absurd (cc)
+mark_front mark (Percent r ∷ words) h = absurd (cc)
+mark_front mark (Quoted r ∷ words) h = absurd (cc)
+mark_front mark (Mark b ∷ words) h = ap (λ (n : ℕ). Mark n ∷ words) (eqb-true b mark h)
+mark_front mark (Wrong ∷ words) h = absurd (cc)
+mark_front mark (End ∷ words) h = absurd (cc)
+
+tested : {A : Type 0} (b : Bool) (x y : A) → cond b (Ok x) (Err Syntax) ≡ Ok y → (b ≡ true) × (x ≡ y)
+tested true x y e = (refl, ok_is x y e)
+tested false x y e = absurd (cc)
+
+pub mark_back : (mark : ℕ) (words rest : List Word) → mark_at mark words ≡ Ok rest → words ≡ Mark mark ∷ rest
+unfolding mark_at
+mark_back mark words rest e =
+    let t = tested (is_mark mark (first words)) (others words) rest e in
+    mark_front mark words t.0 ∙ ap (λ (ws : List Word). Mark mark ∷ ws) t.1
+
+pub some_back : {A : Type 0} (o : Option A) (x : A) → or_fault Syntax o ≡ Ok x → o ≡ Some x
+some_back None x e = absurd (cc)
+some_back (Some y) x e = ap (λ a. Some a) (ok_is y x e)
+
+-- ---- numbers and expressions
+
+-- words that begin with what spells a value, and the rest of them
+pub record Front {A : Type 0} (Is : List Word → A → Type 0) (words rest : List Word) (a : A) : Type 0 where
+  pub front : List Word
+  pub words_are : words ≡ front ++ rest
+  pub is : Is front a
+
+unsigned_back : (words : List Word) (n : ℕ) (rest : List Word) → unsigned_at words ≡ Ok (n, rest) → (run : List ℕ) × (words ≡ Run run ∷ rest) × (number_of run ≡ Some n)
+unfolding unsigned_at
+unsigned_back words n rest e =
+    let r = bind_ok (run_at words) (λ run. or_fault Syntax (number_of run.0) >>= λ n. Ok (n, run.1)) (n, rest) e in
+    let v = bind_ok (or_fault Syntax (number_of r.0.0)) (λ n. Ok (n, r.0.1)) (n, rest) r.2 in
+    let p = ok_is (v.0, r.0.1) (n, rest) v.2 in
+    let same : v.0 ≡ n = ap (λ (q : ℕ × List Word). q.0) p in
+    let left : r.0.1 ≡ rest = ap (λ (q : ℕ × List Word). q.1) p in
+    (r.0.0, run_back words r.0.0 r.0.1 r.1 ∙ ap (λ (ws : List Word). Run r.0.0 ∷ ws) left, some_back (number_of r.0.0) v.0 v.1 ∙ ap (λ (m : ℕ). Some m) same)
+
+abbrev as_signed : Bool → ℕ × List Word → Result (ℤ × List Word) LineFault
+as_signed negated n = Ok (signed negated n.0, n.1)
+
+below_zero : (words ahead : List Word) (v : ℤ) (rest : List Word) → words ≡ minus ∷ ahead → (unsigned_at ahead >>= as_signed true) ≡ Ok (v, rest) → Front NumberIs words rest v
+below_zero words ahead v rest minus_is e =
+    let u = bind_ok (unsigned_at ahead) (as_signed true) (v, rest) e in
+    let b = unsigned_back ahead u.0.0 u.0.1 u.1 in
+    subst (λ (q : ℤ × List Word). Front NumberIs words q.1 q.0) (ok_is (signed true u.0.0, u.0.1) (v, rest) u.2) (record {
+      front = minus ∷ Run b.0 ∷ [];
+      words_are = minus_is ∙ ap (λ (ws : List Word). minus ∷ ws) b.1;
+      is = negative b.0 u.0.0 b.2;
+    })
+
+above_zero : (words : List Word) (v : ℤ) (rest : List Word) → (unsigned_at words >>= as_signed false) ≡ Ok (v, rest) → Front NumberIs words rest v
+above_zero words v rest e =
+    let u = bind_ok (unsigned_at words) (as_signed false) (v, rest) e in
+    let b = unsigned_back words u.0.0 u.0.1 u.1 in
+    subst (λ (q : ℤ × List Word). Front NumberIs words q.1 q.0) (ok_is (signed false u.0.0, u.0.1) (v, rest) u.2) (record { front = Run b.0 ∷ []; words_are = b.1; is = unsigned b.0 u.0.0 b.2 })
+
+number_back : (words : List Word) (v : ℤ) (rest : List Word) → number_at words ≡ Ok (v, rest) → Front NumberIs words rest v
+unfolding number_at past
+number_back words v rest e =
+    elim (cases_Bool (is_mark 45 (first words))) [
+      | inl minus_is ↦ below_zero words (others words) v rest (mark_front 45 words minus_is) (rw minus_is at e)
+      | inr no_minus ↦ above_zero words v rest (rw no_minus at e)
+    ]
+
+plain_back : (words : List Word) (e : Expression) (rest : List Word) → plain_at words ≡ Ok (e, rest) → Front ExpressionIs words rest e
+unfolding plain_at
+plain_back words e rest h =
+    let n = bind_ok (number_at words) (λ n. Ok (record { name = None; number = n.0 }, n.1)) (e, rest) h in
+    let b = number_back words n.0.0 n.0.1 n.1 in
+    subst (λ (q : Expression × List Word). Front ExpressionIs words q.1 q.0) (ok_is (record { name = None; number = n.0.0 }, n.0.1) (e, rest) n.2) (record { front = b.front; words_are = b.words_are; is = number b.front n.0.0 b.is })
+
+-- a name and what stands behind it
+with_addend : (run : List ℕ) (words : List Word) (v : ℤ) (rest : List Word) → is_name run ≡ true → addend_at words ≡ Ok (v, rest) → Front ExpressionIs (Run run ∷ words) rest (record { name = Some run; number = v })
+unfolding addend_at
+with_addend run words v rest h e =
+    elim (cases_Bool (is_mark 43 (first words))) [
+      | inl plus_is ↦
+          let b = number_back (others words) v rest (rw plus_is at e) in
+          record {
+            front = Run run ∷ plus ∷ b.front;
+            words_are = ap (λ (ws : List Word). Run run ∷ ws) (mark_front 43 words plus_is ∙ ap (λ (ws : List Word). plus ∷ ws) b.words_are);
+            is = sum run b.front v h b.is;
+          }
+      | inr no_plus ↦
+          elim (cases_Bool (is_mark 45 (first words))) [
+            | inl minus_is ↦
+                let n = bind_ok (number_at (others words)) taken_off (v, rest) (rw (no_plus, minus_is) at e) in
+                let b = number_back (others words) n.0.0 n.0.1 n.1 in
+                subst (λ (q : ℤ × List Word). Front ExpressionIs (Run run ∷ words) q.1 (record { name = Some run; number = q.0 })) (ok_is (neg_ℤ n.0.0, n.0.1) (v, rest) n.2) (record {
+                  front = Run run ∷ minus ∷ b.front;
+                  words_are = ap (λ (ws : List Word). Run run ∷ ws) (mark_front 45 words minus_is ∙ ap (λ (ws : List Word). minus ∷ ws) b.words_are);
+                  is = difference run b.front n.0.0 h b.is;
+                })
+            | inr no_minus ↦
+                subst (λ (q : ℤ × List Word). Front ExpressionIs (Run run ∷ words) q.1 (record { name = Some run; number = q.0 })) (ok_is (pos 0, words) (v, rest) (rw (no_plus, no_minus) at e)) (record {
+                  front = Run run ∷ [];
+                  words_are = refl;
+                  is = name run h;
+                })
+          ]
+    ]
+
+name_sum_back : (words : List Word) (e : Expression) (rest : List Word) → is_name_word (first words) ≡ true → name_sum_at words ≡ Ok (e, rest) → Front ExpressionIs words rest e
+unfolding name_sum_at
+name_sum_back words e rest h x =
+    let r = bind_ok (run_at words) (λ run. addend_at run.1 >>= λ addend. Ok (record { name = Some run.0; number = addend.0 }, addend.1)) (e, rest) x in
+    let a = bind_ok (addend_at r.0.1) (λ addend. Ok (record { name = Some r.0.0; number = addend.0 }, addend.1)) (e, rest) r.2 in
+    let words_are = run_back words r.0.0 r.0.1 r.1 in
+    let a_name : is_name r.0.0 ≡ true = ap (λ (ws : List Word). is_name_word (first ws)) (sym words_are) ∙ h in
+    let b = with_addend r.0.0 r.0.1 a.0.0 a.0.1 a_name a.1 in
+    subst (λ (q : Expression × List Word). Front ExpressionIs words q.1 q.0) (ok_is (record { name = Some r.0.0; number = a.0.0 }, a.0.1) (e, rest) a.2) (record { front = b.front; words_are = words_are ∙ b.words_are; is = b.is })
+
+pub expression_back : (words : List Word) (e : Expression) (rest : List Word) → expression_at words ≡ Ok (e, rest) → Front ExpressionIs words rest e
+unfolding expression_at
+expression_back words e rest h =
+    elim (cases_Bool (is_name_word (first words))) [
+      | inl a_name ↦ name_sum_back words e rest a_name (rw a_name at h)
+      | inr no_name ↦ plain_back words e rest (rw no_name at h)
+    ]
+
+-- ---- immediates
+
+whole_back : (words : List Word) (i : Immediate) (rest : List Word) → whole_at words ≡ Ok (i, rest) → Front ImmediateIs words rest i
+unfolding whole_at
+whole_back words i rest h =
+    let x = bind_ok (expression_at words) (λ e. Ok (Whole e.0, e.1)) (i, rest) h in
+    let b = expression_back words x.0.0 x.0.1 x.1 in
+    subst (λ (q : Immediate × List Word). Front ImmediateIs words q.1 q.0) (ok_is (Whole x.0.0, x.0.1) (i, rest) x.2) (record { front = b.front; words_are = b.words_are; is = whole b.front x.0.0 b.is })
+
+in_half : (run : List ℕ) (words : List Word) (e : Expression) (i : Immediate) → half_of run e ≡ Ok i → ExpressionIs words e → ImmediateIs (Percent run ∷ opened ∷ (words ++ closed ∷ [])) i
+in_half run words e i h x =
+    elim (cases_Bool (bytes_eq run (codes "hi"))) [
+      | inl hi ↦ subst (λ (r : List ℕ). ImmediateIs (Percent r ∷ opened ∷ (words ++ closed ∷ [])) i) (sym ((bytes_eq-Decides run (codes "hi")).0 hi)) (subst (λ (j : Immediate). ImmediateIs (Percent (codes "hi") ∷ opened ∷ (words ++ closed ∷ [])) j) (ok_is (High e) i (rw hi at h)) (high words e x))
+      | inr no_hi ↦
+          elim (cases_Bool (bytes_eq run (codes "lo"))) [
+            | inl lo ↦ subst (λ (r : List ℕ). ImmediateIs (Percent r ∷ opened ∷ (words ++ closed ∷ [])) i) (sym ((bytes_eq-Decides run (codes "lo")).0 lo)) (subst (λ (j : Immediate). ImmediateIs (Percent (codes "lo") ∷ opened ∷ (words ++ closed ∷ [])) j) (ok_is (Low e) i (rw (no_hi, lo) at h)) (low words e x))
+            | inr no_lo ↦ absurd (refused i (rw (no_hi, no_lo) at h))
+          ]
+    ]
+  where
+    refused : (i : Immediate) → Err Syntax ≡ Ok i → ⊥
+    refused i h = cc
+
+half_back : (run : List ℕ) (words : List Word) (i : Immediate) (rest : List Word) → half_at run words ≡ Ok (i, rest) → Front ImmediateIs (Percent run ∷ words) rest i
+unfolding half_at
+half_back run words i rest h =
+    let o = bind_ok (mark_at 40 words) (λ opened. expression_at opened >>= λ e. mark_at 41 e.1 >>= λ closed. half_of run e.0 >>= λ half. Ok (half, closed)) (i, rest) h in
+    let e = bind_ok (expression_at o.0) (λ e. mark_at 41 e.1 >>= λ closed. half_of run e.0 >>= λ half. Ok (half, closed)) (i, rest) o.2 in
+    let c = bind_ok (mark_at 41 e.0.1) (λ closed. half_of run e.0.0 >>= λ half. Ok (half, closed)) (i, rest) e.2 in
+    let k = bind_ok (half_of run e.0.0) (λ half. Ok (half, c.0)) (i, rest) c.2 in
+    let b = expression_back o.0 e.0.0 e.0.1 e.1 in
+    let inner : o.0 ≡ (b.front ++ closed ∷ []) ++ c.0 = b.words_are ∙ ap (λ (ws : List Word). b.front ++ ws) (mark_back 41 e.0.1 c.0 c.1) ∙ sym (append_assoc b.front (closed ∷ []) c.0) in
+    subst (λ (q : Immediate × List Word). Front ImmediateIs (Percent run ∷ words) q.1 q.0) (ok_is (k.0, c.0) (i, rest) k.2) (record {
+      front = Percent run ∷ opened ∷ (b.front ++ closed ∷ []);
+      words_are = ap (λ (ws : List Word). Percent run ∷ ws) (mark_back 40 words o.0 o.1 ∙ ap (λ (ws : List Word). opened ∷ ws) inner);
+      is = in_half run b.front e.0.0 k.0 k.1 b.is;
+    })
+
+pub immediate_back : (words : List Word) (i : Immediate) (rest : List Word) → immediate_at words ≡ Ok (i, rest) → Front ImmediateIs words rest i
+unfolding immediate_at
+immediate_back [] i rest h = whole_back [] i rest h
+immediate_back (Run run ∷ words) i rest h = whole_back (Run run ∷ words) i rest h
+immediate_back (Percent run ∷ words) i rest h = half_back run words i rest h
+immediate_back (Quoted text ∷ words) i rest h = whole_back (Quoted text ∷ words) i rest h
+immediate_back (Mark b ∷ words) i rest h = whole_back (Mark b ∷ words) i rest h
+immediate_back (Wrong ∷ words) i rest h = whole_back (Wrong ∷ words) i rest h
+immediate_back (End ∷ words) i rest h = whole_back (End ∷ words) i rest h
+
+-- ---- operands
+
+pub register_back : (words : List Word) (r : ℕ) (rest : List Word) → register_at words ≡ Ok (r, rest) → (run : List ℕ) × (words ≡ Run run ∷ rest) × (register_of run ≡ Some r)
+unfolding register_at
+register_back words r rest e =
+    let a = bind_ok (run_at words) (λ run. or_fault Syntax (register_of run.0) >>= λ register. Ok (register, run.1)) (r, rest) e in
+    let v = bind_ok (or_fault Syntax (register_of a.0.0)) (λ register. Ok (register, a.0.1)) (r, rest) a.2 in
+    let p = ok_is (v.0, a.0.1) (r, rest) v.2 in
+    let same : v.0 ≡ r = ap (λ (q : ℕ × List Word). q.0) p in
+    let left : a.0.1 ≡ rest = ap (λ (q : ℕ × List Word). q.1) p in
+    (a.0.0, run_back words a.0.0 a.0.1 a.1 ∙ ap (λ (ws : List Word). Run a.0.0 ∷ ws) left, some_back (register_of a.0.0) v.0 v.1 ∙ ap (λ (m : ℕ). Some m) same)
+
+base_back : (words : List Word) (r : ℕ) (rest : List Word) → base_at words ≡ Ok (r, rest) → (run : List ℕ) × (words ≡ opened ∷ Run run ∷ closed ∷ rest) × (register_of run ≡ Some r)
+unfolding base_at
+base_back words r rest h =
+    let o = bind_ok (mark_at 40 words) (λ opened. register_at opened >>= λ base. mark_at 41 base.1 >>= λ closed. Ok (base.0, closed)) (r, rest) h in
+    let b = bind_ok (register_at o.0) (λ base. mark_at 41 base.1 >>= λ closed. Ok (base.0, closed)) (r, rest) o.2 in
+    let c = bind_ok (mark_at 41 b.0.1) (λ closed. Ok (b.0.0, closed)) (r, rest) b.2 in
+    let p = ok_is (b.0.0, c.0) (r, rest) c.2 in
+    let same : b.0.0 ≡ r = ap (λ (q : ℕ × List Word). q.0) p in
+    let left : c.0 ≡ rest = ap (λ (q : ℕ × List Word). q.1) p in
+    let reg = register_back o.0 b.0.0 b.0.1 b.1 in
+    (reg.0, mark_back 40 words o.0 o.1 ∙ ap (λ (ws : List Word). opened ∷ ws) (reg.1 ∙ ap (λ (ws : List Word). Run reg.0 ∷ ws) (mark_back 41 b.0.1 c.0 c.1 ∙ ap (λ (ws : List Word). closed ∷ ws) left)), reg.2 ∙ ap (λ (m : ℕ). Some m) same)
+
+-- words that begin with operands, and the rest of them
+pub record Operands (words rest : List Word) (os : List Operand) : Type 0 where
+  pub front : List Word
+  pub words_are : words ≡ front ++ rest
+  pub are : OperandsAre front os
+
+no_operands : (words : List Word) → Operands words words []
+no_operands words = record { front = []; words_are = refl; are = none }
+
+last_register : (words : List Word) (r : ℕ) (rest : List Word) → register_at words ≡ Ok (r, rest) → Operands words rest (Register r ∷ [])
+last_register words r rest e =
+    let b = register_back words r rest e in
+    record { front = Run b.0 ∷ []; words_are = b.1; are = last (Run b.0 ∷ []) (Register r) (register b.0 r b.2) }
+
+last_immediate : (words : List Word) (i : Immediate) (rest : List Word) → immediate_at words ≡ Ok (i, rest) → Operands words rest (Value i ∷ [])
+last_immediate words i rest e =
+    let b = immediate_back words i rest e in
+    record { front = b.front; words_are = b.words_are; are = last b.front (Value i) (value b.front i b.is) }
+
+last_expression : (words : List Word) (e : Expression) (rest : List Word) → expression_at words ≡ Ok (e, rest) → Operands words rest (Value (Whole e) ∷ [])
+last_expression words e rest h =
+    let b = expression_back words e rest h in
+    record { front = b.front; words_are = b.words_are; are = last b.front (Value (Whole e)) (value b.front (Whole e) (whole b.front e b.is)) }
+
+with_offset : (words : List Word) (i : Immediate) (run : List ℕ) (r : ℕ) (rest ahead : List Word) → Front ImmediateIs words ahead i → ahead ≡ opened ∷ Run run ∷ closed ∷ rest → register_of run ≡ Some r → Operands words rest (At i r ∷ [])
+with_offset words i run r rest ahead b base_is e = record {
+  front = b.front ++ opened ∷ Run run ∷ closed ∷ [];
+  words_are = b.words_are ∙ ap (λ (ws : List Word). b.front ++ ws) base_is ∙ sym (append_assoc b.front (opened ∷ Run run ∷ closed ∷ []) rest);
+  are = last (b.front ++ opened ∷ Run run ∷ closed ∷ []) (At i r) (offset b.front i run r b.is e);
+}
+
+without_offset : (words : List Word) (run : List ℕ) (r : ℕ) (rest : List Word) → words ≡ opened ∷ Run run ∷ closed ∷ rest → register_of run ≡ Some r → Operands words rest (At (Whole zero_expression) r ∷ [])
+without_offset words run r rest base_is e = record { front = opened ∷ Run run ∷ closed ∷ []; words_are = base_is; are = last (opened ∷ Run run ∷ closed ∷ []) (At (Whole zero_expression) r) (no_offset run r e) }
+
+last_place : (words : List Word) (i : Immediate) (ahead : List Word) (r : ℕ) (rest : List Word) → offset_at words ≡ Ok (i, ahead) → base_at ahead ≡ Ok (r, rest) → Operands words rest (At i r ∷ [])
+unfolding offset_at
+last_place words i ahead r rest o b =
+    let base_is = base_back ahead r rest b in
+    elim (cases_Bool (is_mark 40 (first words))) [
+      | inl at_base ↦
+          let p = ok_is (Whole zero_expression, words) (i, ahead) (rw at_base at o) in
+          let same : Whole zero_expression ≡ i = ap (λ (q : Immediate × List Word). q.0) p in
+          let left : words ≡ ahead = ap (λ (q : Immediate × List Word). q.1) p in
+          subst (λ (j : Immediate). Operands words rest (At j r ∷ [])) same (without_offset words base_is.0 r rest (left ∙ base_is.1) base_is.2)
+      | inr at_offset ↦ with_offset words i base_is.0 r rest ahead (immediate_back words i ahead (rw at_offset at o)) base_is.1 base_is.2
+    ]
+
+-- one operand more in front
+one_more : (words front ahead rest : List Word) (o p : Operand) (os : List Operand) → words ≡ front ++ comma ∷ ahead → OperandIs front o → Operands ahead rest (p ∷ os) → Operands words rest (o ∷ p ∷ os)
+one_more words front ahead rest o p os words_are is are = record {
+  front = front ++ comma ∷ are.front;
+  words_are = words_are ∙ ap (λ (ws : List Word). front ++ comma ∷ ws) are.words_are ∙ sym (append_assoc front (comma ∷ are.front) rest);
+  are = more front are.front o p os is are.are;
+}
+
+comma_then : (words ahead : List Word) (r : ℕ) (behind rest : List Word) (p : Operand) (os : List Operand) → register_at words ≡ Ok (r, ahead) → ahead ≡ comma ∷ behind → Operands behind rest (p ∷ os) → Operands words rest (Register r ∷ p ∷ os)
+comma_then words ahead r behind rest p os e at_comma are =
+    let b = register_back words r ahead e in
+    one_more words (Run b.0 ∷ []) behind rest (Register r) p os (b.1 ∙ ap (λ (ws : List Word). Run b.0 ∷ ws) at_comma) (register b.0 r b.2) are
+
+register_then : (words : List Word) (r : ℕ) (ahead rest : List Word) (p : Operand) (os : List Operand) → register_comma_at words ≡ Ok (r, ahead) → Operands ahead rest (p ∷ os) → Operands words rest (Register r ∷ p ∷ os)
+unfolding register_comma_at
+register_then words r ahead rest p os e are =
+    let a = bind_ok (register_at words) (λ r. mark_at 44 r.1 >>= λ behind. Ok (r.0, behind)) (r, ahead) e in
+    let m = bind_ok (mark_at 44 a.0.1) (λ behind. Ok (a.0.0, behind)) (r, ahead) a.2 in
+    let q = ok_is (a.0.0, m.0) (r, ahead) m.2 in
+    let same : a.0.0 ≡ r = ap (λ (x : ℕ × List Word). x.0) q in
+    let left : m.0 ≡ ahead = ap (λ (x : ℕ × List Word). x.1) q in
+    comma_then words a.0.1 r ahead rest p os (a.1 ∙ ap (λ (n : ℕ). Ok (n, a.0.1)) same) (mark_back 44 a.0.1 m.0 m.1 ∙ ap (λ (ws : List Word). comma ∷ ws) left) are
+
+expression_then : (words ahead : List Word) (e : Expression) (behind rest : List Word) (p : Operand) (os : List Operand) → expression_at words ≡ Ok (e, ahead) → mark_at 44 ahead ≡ Ok behind → Operands behind rest (p ∷ os) → Operands words rest (Value (Whole e) ∷ p ∷ os)
+expression_then words ahead e behind rest p os h m are =
+    let b = expression_back words e ahead h in
+    one_more words b.front behind rest (Value (Whole e)) p os (b.words_are ∙ ap (λ (ws : List Word). b.front ++ ws) (mark_back 44 ahead behind m)) (value b.front (Whole e) (whole b.front e b.is)) are
+
+two_then : (words : List Word) (a b : ℕ) (ahead rest : List Word) (p : Operand) (os : List Operand) → two_registers_comma_at words ≡ Ok (a, b, ahead) → Operands ahead rest (p ∷ os) → Operands words rest (Register a ∷ Register b ∷ p ∷ os)
+unfolding two_registers_comma_at
+two_then words a b ahead rest p os e are =
+    let x = bind_ok (register_comma_at words) (λ a. register_comma_at a.1 >>= λ b. Ok (a.0, b.0, b.1)) (a, b, ahead) e in
+    let y = bind_ok (register_comma_at x.0.1) (λ b. Ok (x.0.0, b.0, b.1)) (a, b, ahead) x.2 in
+    subst (λ (q : ℕ × ℕ × List Word). Operands q.2 rest (p ∷ os) → Operands words rest (Register q.0 ∷ Register q.1 ∷ p ∷ os)) (ok_is (x.0.0, y.0.0, y.0.1) (a, b, ahead) y.2)
+    (λ are. register_then words x.0.0 x.0.1 rest (Register y.0.0) (p ∷ os) x.1 (register_then x.0.1 y.0.0 y.0.1 rest p os y.1 are)) are
+
+last_two : (words : List Word) (a b : ℕ) (rest : List Word) → two_registers_at words ≡ Ok (a, b, rest) → Operands words rest (Register a ∷ Register b ∷ [])
+unfolding two_registers_at
+last_two words a b rest e =
+    let x = bind_ok (register_comma_at words) (λ a. register_at a.1 >>= λ b. Ok (a.0, b.0, b.1)) (a, b, rest) e in
+    let y = bind_ok (register_at x.0.1) (λ b. Ok (x.0.0, b.0, b.1)) (a, b, rest) x.2 in
+    subst (λ (q : ℕ × ℕ × List Word). Operands words q.2 (Register q.0 ∷ Register q.1 ∷ [])) (ok_is (x.0.0, y.0.0, y.0.1) (a, b, rest) y.2)
+    (register_then words x.0.0 x.0.1 y.0.1 (Register y.0.0) [] x.1 (last_register x.0.1 y.0.0 y.0.1 y.1))
+
+last_three : (words : List Word) (a b c : ℕ) (rest : List Word) → three_registers_at words ≡ Ok (a, b, c, rest) → Operands words rest (Register a ∷ Register b ∷ Register c ∷ [])
+unfolding three_registers_at
+last_three words a b c rest e =
+    let x = bind_ok (register_comma_at words) (λ a. two_registers_at a.1 >>= λ b. Ok (a.0, b.0, b.1, b.2)) (a, b, c, rest) e in
+    let y = bind_ok (two_registers_at x.0.1) (λ b. Ok (x.0.0, b.0, b.1, b.2)) (a, b, c, rest) x.2 in
+    subst (λ (q : ℕ × ℕ × ℕ × List Word). Operands words q.3 (Register q.0 ∷ Register q.1 ∷ Register q.2 ∷ [])) (ok_is (x.0.0, y.0.0, y.0.1, y.0.2) (a, b, c, rest) y.2)
+    (register_then words x.0.0 x.0.1 y.0.2 (Register y.0.0) (Register y.0.1 ∷ []) x.1 (last_two x.0.1 y.0.0 y.0.1 y.0.2 y.1))
+
+-- ---- instructions
+
+-- words that begin with an instruction's operands, and the rest of them
+pub record Instructs (m : Mnemonic) (words rest : List Word) (i : Instruction) : Type 0 where
+  pub operands : List Operand
+  pub takes : Takes m operands i
+  pub are : Operands words rest operands
+
+read_as : (m : Mnemonic) (words : List Word) (i : Instruction) (rest : List Word) (p : Instruction × List Word) → (i, rest) ≡ p → Instructs m words rest i → Instructs m words p.1 p.0
+read_as m words i rest p e is = subst (λ (q : Instruction × List Word). Instructs m words q.1 q.0) e is
+
+given : (m : Mnemonic) (words rest : List Word) (i : Instruction) (os : List Operand) → Takes m os i → Operands words rest os → Instructs m words rest i
+given m words rest i os takes are = record { operands = os; takes = takes; are = are }
+
+shift_variable_at_back : (o : ShiftVariableOp) (words : List Word) (p : Instruction × List Word) → shift_variable_at o words ≡ Ok p → Instructs (op.ShiftVariable o) words p.1 p.0
+unfolding shift_variable_at
+shift_variable_at_back o words p e =
+    let x = bind_ok (three_registers_at words) (λ x. Ok (ShiftVariable o x.0 x.1 x.2, x.3)) p e in
+    read_as (op.ShiftVariable o) words (ShiftVariable o x.0.0 x.0.1 x.0.2) x.0.3 p (ok_is (ShiftVariable o x.0.0 x.0.1 x.0.2, x.0.3) p x.2) (given (op.ShiftVariable o) words x.0.3 (ShiftVariable o x.0.0 x.0.1 x.0.2) (Register x.0.0 ∷ Register x.0.1 ∷ Register x.0.2 ∷ []) (shift_variable o x.0.0 x.0.1 x.0.2) (last_three words x.0.0 x.0.1 x.0.2 x.0.3 x.1))
+
+computed_at_back : (o : RegisterOp) (words : List Word) (p : Instruction × List Word) → computed_at o words ≡ Ok p → Instructs (op.ThreeRegisters o) words p.1 p.0
+unfolding computed_at
+computed_at_back o words p e =
+    let x = bind_ok (three_registers_at words) (λ x. Ok (ThreeRegisters o x.0 x.1 x.2, x.3)) p e in
+    read_as (op.ThreeRegisters o) words (ThreeRegisters o x.0.0 x.0.1 x.0.2) x.0.3 p (ok_is (ThreeRegisters o x.0.0 x.0.1 x.0.2, x.0.3) p x.2) (given (op.ThreeRegisters o) words x.0.3 (ThreeRegisters o x.0.0 x.0.1 x.0.2) (Register x.0.0 ∷ Register x.0.1 ∷ Register x.0.2 ∷ []) (three_registers o x.0.0 x.0.1 x.0.2) (last_three words x.0.0 x.0.1 x.0.2 x.0.3 x.1))
+
+multiply_at_back : (words : List Word) (p : Instruction × List Word) → multiply_at words ≡ Ok p → Instructs op.Multiply words p.1 p.0
+unfolding multiply_at
+multiply_at_back words p e =
+    let x = bind_ok (three_registers_at words) (λ x. Ok (Multiply x.0 x.1 x.2, x.3)) p e in
+    read_as op.Multiply words (Multiply x.0.0 x.0.1 x.0.2) x.0.3 p (ok_is (Multiply x.0.0 x.0.1 x.0.2, x.0.3) p x.2) (given op.Multiply words x.0.3 (Multiply x.0.0 x.0.1 x.0.2) (Register x.0.0 ∷ Register x.0.1 ∷ Register x.0.2 ∷ []) (multiply x.0.0 x.0.1 x.0.2) (last_three words x.0.0 x.0.1 x.0.2 x.0.3 x.1))
+
+jump_register_at_back : (words : List Word) (p : Instruction × List Word) → jump_register_at words ≡ Ok p → Instructs op.JumpRegister words p.1 p.0
+unfolding jump_register_at
+jump_register_at_back words p e =
+    let x = bind_ok (register_at words) (λ x. Ok (JumpRegister x.0, x.1)) p e in
+    read_as op.JumpRegister words (JumpRegister x.0.0) x.0.1 p (ok_is (JumpRegister x.0.0, x.0.1) p x.2) (given op.JumpRegister words x.0.1 (JumpRegister x.0.0) (Register x.0.0 ∷ []) (jump_register x.0.0) (last_register words x.0.0 x.0.1 x.1))
+
+move_from_at_back : (o : MoveFromOp) (words : List Word) (p : Instruction × List Word) → move_from_at o words ≡ Ok p → Instructs (op.MoveFrom o) words p.1 p.0
+unfolding move_from_at
+move_from_at_back o words p e =
+    let x = bind_ok (register_at words) (λ x. Ok (MoveFrom o x.0, x.1)) p e in
+    read_as (op.MoveFrom o) words (MoveFrom o x.0.0) x.0.1 p (ok_is (MoveFrom o x.0.0, x.0.1) p x.2) (given (op.MoveFrom o) words x.0.1 (MoveFrom o x.0.0) (Register x.0.0 ∷ []) (move_from o x.0.0) (last_register words x.0.0 x.0.1 x.1))
+
+move_to_at_back : (o : MoveToOp) (words : List Word) (p : Instruction × List Word) → move_to_at o words ≡ Ok p → Instructs (op.MoveTo o) words p.1 p.0
+unfolding move_to_at
+move_to_at_back o words p e =
+    let x = bind_ok (register_at words) (λ x. Ok (MoveTo o x.0, x.1)) p e in
+    read_as (op.MoveTo o) words (MoveTo o x.0.0) x.0.1 p (ok_is (MoveTo o x.0.0, x.0.1) p x.2) (given (op.MoveTo o) words x.0.1 (MoveTo o x.0.0) (Register x.0.0 ∷ []) (move_to o x.0.0) (last_register words x.0.0 x.0.1 x.1))
+
+product_at_back : (o : ProductOp) (words : List Word) (p : Instruction × List Word) → product_at o words ≡ Ok p → Instructs (op.Product o) words p.1 p.0
+unfolding product_at
+product_at_back o words p e =
+    let x = bind_ok (two_registers_at words) (λ x. Ok (Product o x.0 x.1, x.2)) p e in
+    read_as (op.Product o) words (Product o x.0.0 x.0.1) x.0.2 p (ok_is (Product o x.0.0 x.0.1, x.0.2) p x.2) (given (op.Product o) words x.0.2 (Product o x.0.0 x.0.1) (Register x.0.0 ∷ Register x.0.1 ∷ []) (product o x.0.0 x.0.1) (last_two words x.0.0 x.0.1 x.0.2 x.1))
+
+accumulate_at_back : (o : AccumulateOp) (words : List Word) (p : Instruction × List Word) → accumulate_at o words ≡ Ok p → Instructs (op.Accumulate o) words p.1 p.0
+unfolding accumulate_at
+accumulate_at_back o words p e =
+    let x = bind_ok (two_registers_at words) (λ x. Ok (Accumulate o x.0 x.1, x.2)) p e in
+    read_as (op.Accumulate o) words (Accumulate o x.0.0 x.0.1) x.0.2 p (ok_is (Accumulate o x.0.0 x.0.1, x.0.2) p x.2) (given (op.Accumulate o) words x.0.2 (Accumulate o x.0.0 x.0.1) (Register x.0.0 ∷ Register x.0.1 ∷ []) (accumulate o x.0.0 x.0.1) (last_two words x.0.0 x.0.1 x.0.2 x.1))
+
+count_at_back : (o : CountOp) (words : List Word) (p : Instruction × List Word) → count_at o words ≡ Ok p → Instructs (op.Count o) words p.1 p.0
+unfolding count_at
+count_at_back o words p e =
+    let x = bind_ok (two_registers_at words) (λ x. Ok (Count o x.0 x.1, x.2)) p e in
+    read_as (op.Count o) words (Count o x.0.0 x.0.1) x.0.2 p (ok_is (Count o x.0.0 x.0.1, x.0.2) p x.2) (given (op.Count o) words x.0.2 (Count o x.0.0 x.0.1) (Register x.0.0 ∷ Register x.0.1 ∷ []) (count o x.0.0 x.0.1) (last_two words x.0.0 x.0.1 x.0.2 x.1))
+
+jump_at_back : (o : JumpOp) (words : List Word) (p : Instruction × List Word) → jump_at o words ≡ Ok p → Instructs (op.Jump o) words p.1 p.0
+unfolding jump_at
+jump_at_back o words p e =
+    let x = bind_ok (expression_at words) (λ x. Ok (Jump o x.0, x.1)) p e in
+    read_as (op.Jump o) words (Jump o x.0.0) x.0.1 p (ok_is (Jump o x.0.0, x.0.1) p x.2) (given (op.Jump o) words x.0.1 (Jump o x.0.0) (Value (Whole x.0.0) ∷ []) (jump o x.0.0) (last_expression words x.0.0 x.0.1 x.1))
+
+shift_at_back : (o : ShiftOp) (words : List Word) (p : Instruction × List Word) → shift_at o words ≡ Ok p → Instructs (op.Shift o) words p.1 p.0
+unfolding shift_at
+shift_at_back o words p e =
+    let a = bind_ok (two_registers_comma_at words) (λ a. expression_at a.2 >>= λ x. Ok (Shift o a.0 a.1 x.0, x.1)) p e in
+    let x = bind_ok (expression_at a.0.2) (λ x. Ok (Shift o a.0.0 a.0.1 x.0, x.1)) p a.2 in
+    read_as (op.Shift o) words (Shift o a.0.0 a.0.1 x.0.0) x.0.1 p (ok_is (Shift o a.0.0 a.0.1 x.0.0, x.0.1) p x.2) (given (op.Shift o) words x.0.1 (Shift o a.0.0 a.0.1 x.0.0) (Register a.0.0 ∷ Register a.0.1 ∷ Value (Whole x.0.0) ∷ []) (shift o a.0.0 a.0.1 x.0.0) (two_then words a.0.0 a.0.1 a.0.2 x.0.1 (Value (Whole x.0.0)) [] a.1 (last_expression a.0.2 x.0.0 x.0.1 x.1)))
+
+trap_immediate_at_back : (o : TrapImmediateOp) (words : List Word) (p : Instruction × List Word) → trap_immediate_at o words ≡ Ok p → Instructs (op.TrapImmediate o) words p.1 p.0
+unfolding trap_immediate_at
+trap_immediate_at_back o words p e =
+    let a = bind_ok (register_comma_at words) (λ a. immediate_at a.1 >>= λ x. Ok (TrapImmediate o a.0 x.0, x.1)) p e in
+    let x = bind_ok (immediate_at a.0.1) (λ x. Ok (TrapImmediate o a.0.0 x.0, x.1)) p a.2 in
+    read_as (op.TrapImmediate o) words (TrapImmediate o a.0.0 x.0.0) x.0.1 p (ok_is (TrapImmediate o a.0.0 x.0.0, x.0.1) p x.2) (given (op.TrapImmediate o) words x.0.1 (TrapImmediate o a.0.0 x.0.0) (Register a.0.0 ∷ Value x.0.0 ∷ []) (trap_immediate o a.0.0 x.0.0) (register_then words a.0.0 a.0.1 x.0.1 (Value x.0.0) [] a.1 (last_immediate a.0.1 x.0.0 x.0.1 x.1)))
+
+branch_at_back : (o : BranchOp) (words : List Word) (p : Instruction × List Word) → branch_at o words ≡ Ok p → Instructs (op.Branch o) words p.1 p.0
+unfolding branch_at
+branch_at_back o words p e =
+    let a = bind_ok (two_registers_comma_at words) (λ a. expression_at a.2 >>= λ x. Ok (Branch o a.0 a.1 x.0, x.1)) p e in
+    let x = bind_ok (expression_at a.0.2) (λ x. Ok (Branch o a.0.0 a.0.1 x.0, x.1)) p a.2 in
+    read_as (op.Branch o) words (Branch o a.0.0 a.0.1 x.0.0) x.0.1 p (ok_is (Branch o a.0.0 a.0.1 x.0.0, x.0.1) p x.2) (given (op.Branch o) words x.0.1 (Branch o a.0.0 a.0.1 x.0.0) (Register a.0.0 ∷ Register a.0.1 ∷ Value (Whole x.0.0) ∷ []) (branch o a.0.0 a.0.1 x.0.0) (two_then words a.0.0 a.0.1 a.0.2 x.0.1 (Value (Whole x.0.0)) [] a.1 (last_expression a.0.2 x.0.0 x.0.1 x.1)))
+
+branch_sign_at_back : (o : BranchSignOp) (words : List Word) (p : Instruction × List Word) → branch_sign_at o words ≡ Ok p → Instructs (op.BranchSign o) words p.1 p.0
+unfolding branch_sign_at
+branch_sign_at_back o words p e =
+    let a = bind_ok (register_comma_at words) (λ a. expression_at a.1 >>= λ x. Ok (BranchSign o a.0 x.0, x.1)) p e in
+    let x = bind_ok (expression_at a.0.1) (λ x. Ok (BranchSign o a.0.0 x.0, x.1)) p a.2 in
+    read_as (op.BranchSign o) words (BranchSign o a.0.0 x.0.0) x.0.1 p (ok_is (BranchSign o a.0.0 x.0.0, x.0.1) p x.2) (given (op.BranchSign o) words x.0.1 (BranchSign o a.0.0 x.0.0) (Register a.0.0 ∷ Value (Whole x.0.0) ∷ []) (branch_sign o a.0.0 x.0.0) (register_then words a.0.0 a.0.1 x.0.1 (Value (Whole x.0.0)) [] a.1 (last_expression a.0.1 x.0.0 x.0.1 x.1)))
+
+branch_zero_at_back : (o : BranchZeroOp) (words : List Word) (p : Instruction × List Word) → branch_zero_at o words ≡ Ok p → Instructs (op.BranchZero o) words p.1 p.0
+unfolding branch_zero_at
+branch_zero_at_back o words p e =
+    let a = bind_ok (register_comma_at words) (λ a. expression_at a.1 >>= λ x. Ok (BranchZero o a.0 x.0, x.1)) p e in
+    let x = bind_ok (expression_at a.0.1) (λ x. Ok (BranchZero o a.0.0 x.0, x.1)) p a.2 in
+    read_as (op.BranchZero o) words (BranchZero o a.0.0 x.0.0) x.0.1 p (ok_is (BranchZero o a.0.0 x.0.0, x.0.1) p x.2) (given (op.BranchZero o) words x.0.1 (BranchZero o a.0.0 x.0.0) (Register a.0.0 ∷ Value (Whole x.0.0) ∷ []) (branch_zero o a.0.0 x.0.0) (register_then words a.0.0 a.0.1 x.0.1 (Value (Whole x.0.0)) [] a.1 (last_expression a.0.1 x.0.0 x.0.1 x.1)))
+
+with_immediate_at_back : (o : ImmediateOp) (words : List Word) (p : Instruction × List Word) → with_immediate_at o words ≡ Ok p → Instructs (op.Immediate o) words p.1 p.0
+unfolding with_immediate_at
+with_immediate_at_back o words p e =
+    let a = bind_ok (two_registers_comma_at words) (λ a. immediate_at a.2 >>= λ x. Ok (WithImmediate o a.0 a.1 x.0, x.1)) p e in
+    let x = bind_ok (immediate_at a.0.2) (λ x. Ok (WithImmediate o a.0.0 a.0.1 x.0, x.1)) p a.2 in
+    read_as (op.Immediate o) words (WithImmediate o a.0.0 a.0.1 x.0.0) x.0.1 p (ok_is (WithImmediate o a.0.0 a.0.1 x.0.0, x.0.1) p x.2) (given (op.Immediate o) words x.0.1 (WithImmediate o a.0.0 a.0.1 x.0.0) (Register a.0.0 ∷ Register a.0.1 ∷ Value x.0.0 ∷ []) (with_immediate o a.0.0 a.0.1 x.0.0) (two_then words a.0.0 a.0.1 a.0.2 x.0.1 (Value x.0.0) [] a.1 (last_immediate a.0.2 x.0.0 x.0.1 x.1)))
+
+load_upper_at_back : (words : List Word) (p : Instruction × List Word) → load_upper_at words ≡ Ok p → Instructs op.LoadUpper words p.1 p.0
+unfolding load_upper_at
+load_upper_at_back words p e =
+    let a = bind_ok (register_comma_at words) (λ a. immediate_at a.1 >>= λ x. Ok (LoadUpper a.0 x.0, x.1)) p e in
+    let x = bind_ok (immediate_at a.0.1) (λ x. Ok (LoadUpper a.0.0 x.0, x.1)) p a.2 in
+    read_as op.LoadUpper words (LoadUpper a.0.0 x.0.0) x.0.1 p (ok_is (LoadUpper a.0.0 x.0.0, x.0.1) p x.2) (given op.LoadUpper words x.0.1 (LoadUpper a.0.0 x.0.0) (Register a.0.0 ∷ Value x.0.0 ∷ []) (load_upper a.0.0 x.0.0) (register_then words a.0.0 a.0.1 x.0.1 (Value x.0.0) [] a.1 (last_immediate a.0.1 x.0.0 x.0.1 x.1)))
+
+load_at_back : (o : LoadOp) (words : List Word) (p : Instruction × List Word) → load_at o words ≡ Ok p → Instructs (op.Load o) words p.1 p.0
+unfolding load_at
+load_at_back o words p e =
+    let a = bind_ok (register_comma_at words) (λ a. offset_at a.1 >>= λ x. base_at x.1 >>= λ b. Ok (Load o a.0 b.0 x.0, b.1)) p e in
+    let x = bind_ok (offset_at a.0.1) (λ x. base_at x.1 >>= λ b. Ok (Load o a.0.0 b.0 x.0, b.1)) p a.2 in
+    let b = bind_ok (base_at x.0.1) (λ b. Ok (Load o a.0.0 b.0 x.0.0, b.1)) p x.2 in
+    read_as (op.Load o) words (Load o a.0.0 b.0.0 x.0.0) b.0.1 p (ok_is (Load o a.0.0 b.0.0 x.0.0, b.0.1) p b.2) (given (op.Load o) words b.0.1 (Load o a.0.0 b.0.0 x.0.0) (Register a.0.0 ∷ At x.0.0 b.0.0 ∷ []) (load o a.0.0 b.0.0 x.0.0) (register_then words a.0.0 a.0.1 b.0.1 (At x.0.0 b.0.0) [] a.1 (last_place a.0.1 x.0.0 x.0.1 b.0.0 b.0.1 x.1 b.1)))
+
+store_at_back : (o : StoreOp) (words : List Word) (p : Instruction × List Word) → store_at o words ≡ Ok p → Instructs (op.Store o) words p.1 p.0
+unfolding store_at
+store_at_back o words p e =
+    let a = bind_ok (register_comma_at words) (λ a. offset_at a.1 >>= λ x. base_at x.1 >>= λ b. Ok (Store o a.0 b.0 x.0, b.1)) p e in
+    let x = bind_ok (offset_at a.0.1) (λ x. base_at x.1 >>= λ b. Ok (Store o a.0.0 b.0 x.0, b.1)) p a.2 in
+    let b = bind_ok (base_at x.0.1) (λ b. Ok (Store o a.0.0 b.0 x.0.0, b.1)) p x.2 in
+    read_as (op.Store o) words (Store o a.0.0 b.0.0 x.0.0) b.0.1 p (ok_is (Store o a.0.0 b.0.0 x.0.0, b.0.1) p b.2) (given (op.Store o) words b.0.1 (Store o a.0.0 b.0.0 x.0.0) (Register a.0.0 ∷ At x.0.0 b.0.0 ∷ []) (store o a.0.0 b.0.0 x.0.0) (register_then words a.0.0 a.0.1 b.0.1 (At x.0.0 b.0.0) [] a.1 (last_place a.0.1 x.0.0 x.0.1 b.0.0 b.0.1 x.1 b.1)))
+
+linked_at_back : (o : LinkedOp) (words : List Word) (p : Instruction × List Word) → linked_at o words ≡ Ok p → Instructs (op.Linked o) words p.1 p.0
+unfolding linked_at
+linked_at_back o words p e =
+    let a = bind_ok (register_comma_at words) (λ a. offset_at a.1 >>= λ x. base_at x.1 >>= λ b. Ok (Linked o a.0 b.0 x.0, b.1)) p e in
+    let x = bind_ok (offset_at a.0.1) (λ x. base_at x.1 >>= λ b. Ok (Linked o a.0.0 b.0 x.0, b.1)) p a.2 in
+    let b = bind_ok (base_at x.0.1) (λ b. Ok (Linked o a.0.0 b.0 x.0.0, b.1)) p x.2 in
+    read_as (op.Linked o) words (Linked o a.0.0 b.0.0 x.0.0) b.0.1 p (ok_is (Linked o a.0.0 b.0.0 x.0.0, b.0.1) p b.2) (given (op.Linked o) words b.0.1 (Linked o a.0.0 b.0.0 x.0.0) (Register a.0.0 ∷ At x.0.0 b.0.0 ∷ []) (linked o a.0.0 b.0.0 x.0.0) (register_then words a.0.0 a.0.1 b.0.1 (At x.0.0 b.0.0) [] a.1 (last_place a.0.1 x.0.0 x.0.1 b.0.0 b.0.1 x.1 b.1)))
+
+prefetch_at_back : (words : List Word) (p : Instruction × List Word) → prefetch_at words ≡ Ok p → Instructs op.Prefetch words p.1 p.0
+unfolding prefetch_at
+prefetch_at_back words p e =
+    let h = bind_ok (expression_at words) (λ hint. mark_at 44 hint.1 >>= λ behind. offset_at behind >>= λ x. base_at x.1 >>= λ b. Ok (Prefetch hint.0 b.0 x.0, b.1)) p e in
+    let c = bind_ok (mark_at 44 h.0.1) (λ behind. offset_at behind >>= λ x. base_at x.1 >>= λ b. Ok (Prefetch h.0.0 b.0 x.0, b.1)) p h.2 in
+    let x = bind_ok (offset_at c.0) (λ x. base_at x.1 >>= λ b. Ok (Prefetch h.0.0 b.0 x.0, b.1)) p c.2 in
+    let b = bind_ok (base_at x.0.1) (λ b. Ok (Prefetch h.0.0 b.0 x.0.0, b.1)) p x.2 in
+    read_as op.Prefetch words (Prefetch h.0.0 b.0.0 x.0.0) b.0.1 p (ok_is (Prefetch h.0.0 b.0.0 x.0.0, b.0.1) p b.2) (given op.Prefetch words b.0.1 (Prefetch h.0.0 b.0.0 x.0.0) (Value (Whole h.0.0) ∷ At x.0.0 b.0.0 ∷ []) (prefetch h.0.0 b.0.0 x.0.0) (expression_then words h.0.1 h.0.0 c.0 b.0.1 (At x.0.0 b.0.0) [] h.1 c.1 (last_place c.0 x.0.0 x.0.1 b.0.0 b.0.1 x.1 b.1)))
+
+-- a code that may be left out
+code_back : (words : List Word) (e : Expression) (rest : List Word) → code_at words ≡ Ok (e, rest) → ((zero_expression ≡ e) × (words ≡ rest)) ⊎ Operands words rest (Value (Whole e) ∷ [])
+unfolding code_at
+code_back words e rest h =
+    elim (cases_Bool (is_end (first words))) [
+      | inl ended ↦
+          let p = ok_is (zero_expression, words) (e, rest) (rw ended at h) in
+          inl (ap (λ (q : Expression × List Word). q.0) p, ap (λ (q : Expression × List Word). q.1) p)
+      | inr some ↦ inr (last_expression words e rest (rw some at h))
+    ]
+
+without_code : (m : Mnemonic) (called : Expression → Instruction) (words : List Word) (e : Expression) (rest : List Word) → Takes m [] (called zero_expression) → ((x : Expression) → Takes m (Value (Whole x) ∷ []) (called x)) → ((zero_expression ≡ e) × (words ≡ rest)) ⊎ Operands words rest (Value (Whole e) ∷ []) → Instructs m words rest (called e)
+without_code m called words e rest bare with_code (inl absent) = subst (λ (x : Expression). Instructs m words rest (called x)) absent.0 (subst (λ (ws : List Word). Instructs m words ws (called zero_expression)) absent.1 (given m words words (called zero_expression) [] bare (no_operands words)))
+without_code m called words e rest bare with_code (inr are) = given m words rest (called e) (Value (Whole e) ∷ []) (with_code e) are
+
+syscall_at_back : (words : List Word) (p : Instruction × List Word) → syscall_at words ≡ Ok p → Instructs op.Syscall words p.1 p.0
+unfolding syscall_at
+syscall_at_back words p e =
+    let c = bind_ok (code_at words) (λ code. Ok (Syscall code.0, code.1)) p e in
+    read_as op.Syscall words (Syscall c.0.0) c.0.1 p (ok_is (Syscall c.0.0, c.0.1) p c.2) (without_code op.Syscall Syscall words c.0.0 c.0.1 syscall syscall_code (code_back words c.0.0 c.0.1 c.1))
+
+break_call_at_back : (words : List Word) (p : Instruction × List Word) → break_call_at words ≡ Ok p → Instructs op.Break words p.1 p.0
+unfolding break_call_at
+break_call_at_back words p e =
+    let c = bind_ok (code_at words) (λ code. Ok (Break code.0, code.1)) p e in
+    read_as op.Break words (Break c.0.0) c.0.1 p (ok_is (Break c.0.0, c.0.1) p c.2) (without_code op.Break Break words c.0.0 c.0.1 break_call break_code (code_back words c.0.0 c.0.1 c.1))
+
+two_before : (words : List Word) (a b : ℕ) (ahead behind rest : List Word) (p : Operand) (os : List Operand) → two_registers_at words ≡ Ok (a, b, ahead) → ahead ≡ comma ∷ behind → Operands behind rest (p ∷ os) → Operands words rest (Register a ∷ Register b ∷ p ∷ os)
+unfolding two_registers_at
+two_before words a b ahead behind rest p os e at_comma are =
+    let x = bind_ok (register_comma_at words) (λ a. register_at a.1 >>= λ b. Ok (a.0, b.0, b.1)) (a, b, ahead) e in
+    let y = bind_ok (register_at x.0.1) (λ b. Ok (x.0.0, b.0, b.1)) (a, b, ahead) x.2 in
+    subst (λ (q : ℕ × ℕ × List Word). q.2 ≡ comma ∷ behind → Operands words rest (Register q.0 ∷ Register q.1 ∷ p ∷ os)) (ok_is (x.0.0, y.0.0, y.0.1) (a, b, ahead) y.2)
+    (λ comma_is. register_then words x.0.0 x.0.1 rest (Register y.0.0) (p ∷ os) x.1 (comma_then x.0.1 y.0.1 y.0.0 behind rest p os y.1 comma_is are)) at_comma
+
+trapped : (o : TrapOp) (words : List Word) (a b : ℕ) (ahead : List Word) (e : Expression) (rest : List Word) → two_registers_at words ≡ Ok (a, b, ahead) → comma_code_at ahead ≡ Ok (e, rest) → Instructs (op.Trap o) words rest (Trap o a b e)
+unfolding comma_code_at
+trapped o words a b ahead e rest r c =
+    elim (cases_Bool (is_mark 44 (first ahead))) [
+      | inl code ↦ given (op.Trap o) words rest (Trap o a b e) (Register a ∷ Register b ∷ Value (Whole e) ∷ []) (trap_code o a b e) (two_before words a b ahead (others ahead) rest (Value (Whole e)) [] r (mark_front 44 ahead code) (last_expression (others ahead) e rest (rw code at c)))
+      | inr no_code ↦
+          subst (λ (q : Expression × List Word). Instructs (op.Trap o) words q.1 (Trap o a b q.0)) (ok_is (zero_expression, ahead) (e, rest) (rw no_code at c)) (given (op.Trap o) words ahead (Trap o a b zero_expression) (Register a ∷ Register b ∷ []) (trap o a b) (last_two words a b ahead r))
+    ]
+
+trap_at_back : (o : TrapOp) (words : List Word) (p : Instruction × List Word) → trap_at o words ≡ Ok p → Instructs (op.Trap o) words p.1 p.0
+unfolding trap_at
+trap_at_back o words p e =
+    let a = bind_ok (two_registers_at words) (λ a. comma_code_at a.2 >>= λ code. Ok (Trap o a.0 a.1 code.0, code.1)) p e in
+    let c = bind_ok (comma_code_at a.0.2) (λ code. Ok (Trap o a.0.0 a.0.1 code.0, code.1)) p a.2 in
+    read_as (op.Trap o) words (Trap o a.0.0 a.0.1 c.0.0) c.0.1 p (ok_is (Trap o a.0.0 a.0.1 c.0.0, c.0.1) p c.2) (trapped o words a.0.0 a.0.1 a.0.2 c.0.0 c.0.1 a.1 c.1)
+
+linked_behind : (words : List Word) (r : ℕ) (ahead : List Word) (p : Instruction × List Word) → register_at words ≡ Ok (r, ahead) → jump_link_behind r ahead ≡ Ok p → Instructs op.JumpLinkRegister words p.1 p.0
+unfolding jump_link_behind
+linked_behind words r ahead p e h =
+    elim (cases_Bool (is_mark 44 (first ahead))) [
+      | inl other ↦
+          let s = bind_ok (register_at (others ahead)) (linking r) p (rw other at h) in
+          read_as op.JumpLinkRegister words (JumpLinkRegister r s.0.0) s.0.1 p (ok_is (JumpLinkRegister r s.0.0, s.0.1) p s.2) (given op.JumpLinkRegister words s.0.1 (JumpLinkRegister r s.0.0) (Register r ∷ Register s.0.0 ∷ []) (jump_link_in r s.0.0) (comma_then words ahead r (others ahead) s.0.1 (Register s.0.0) [] e (mark_front 44 ahead other) (last_register (others ahead) s.0.0 s.0.1 s.1)))
+      | inr alone ↦ read_as op.JumpLinkRegister words (JumpLinkRegister 31 r) ahead p (ok_is (JumpLinkRegister 31 r, ahead) p (rw alone at h)) (given op.JumpLinkRegister words ahead (JumpLinkRegister 31 r) (Register r ∷ []) (jump_link r) (last_register words r ahead e))
+    ]
+
+jump_link_register_at_back : (words : List Word) (p : Instruction × List Word) → jump_link_register_at words ≡ Ok p → Instructs op.JumpLinkRegister words p.1 p.0
+unfolding jump_link_register_at
+jump_link_register_at_back words p e =
+    let r = bind_ok (register_at words) (λ r. jump_link_behind r.0 r.1) p e in
+    linked_behind words r.0.0 r.0.1 p r.1 r.2
+
+pub operands_back : (m : Mnemonic) (words : List Word) (p : Instruction × List Word) → operands_at m words ≡ Ok p → Instructs m words p.1 p.0
+operands_back (op.Shift o) words p e = shift_at_back o words p e
+operands_back (op.ShiftVariable o) words p e = shift_variable_at_back o words p e
+operands_back (op.ThreeRegisters o) words p e = computed_at_back o words p e
+operands_back op.Multiply words p e = multiply_at_back words p e
+operands_back op.JumpRegister words p e = jump_register_at_back words p e
+operands_back op.JumpLinkRegister words p e = jump_link_register_at_back words p e
+operands_back op.Syscall words p e = syscall_at_back words p e
+operands_back op.Break words p e = break_call_at_back words p e
+operands_back op.Sync words p e = read_as op.Sync words Sync words p (ok_is (Sync, words) p e) (given op.Sync words words Sync [] sync (no_operands words))
+operands_back (op.MoveFrom o) words p e = move_from_at_back o words p e
+operands_back (op.MoveTo o) words p e = move_to_at_back o words p e
+operands_back (op.Product o) words p e = product_at_back o words p e
+operands_back (op.Accumulate o) words p e = accumulate_at_back o words p e
+operands_back (op.Count o) words p e = count_at_back o words p e
+operands_back (op.Trap o) words p e = trap_at_back o words p e
+operands_back (op.TrapImmediate o) words p e = trap_immediate_at_back o words p e
+operands_back (op.Jump o) words p e = jump_at_back o words p e
+operands_back (op.Branch o) words p e = branch_at_back o words p e
+operands_back (op.BranchSign o) words p e = branch_sign_at_back o words p e
+operands_back (op.BranchZero o) words p e = branch_zero_at_back o words p e
+operands_back (op.Immediate o) words p e = with_immediate_at_back o words p e
+operands_back op.LoadUpper words p e = load_upper_at_back words p e
+operands_back (op.Load o) words p e = load_at_back o words p e
+operands_back (op.Store o) words p e = store_at_back o words p e
+operands_back (op.Linked o) words p e = linked_at_back o words p e
+operands_back op.Prefetch words p e = prefetch_at_back words p e
+
+-- ---- shorthands
+
+pub record Shortens (n : List ℕ) (words rest : List Word) (i : Instruction) : Type 0 where
+  pub operands : List Operand
+  pub stands : ShorthandIs n operands i
+  pub are : Operands words rest operands
+
+short_as : (n : List ℕ) (words rest : List Word) (i : Instruction) (os : List Operand) (p : Instruction × List Word) → (i, rest) ≡ p → ShorthandIs n os i → Operands words rest os → Shortens n words p.1 p.0
+short_as n words rest i os p e stands are = subst (λ (q : Instruction × List Word). Shortens n words q.1 q.0) e (record { operands = os; stands = stands; are = are })
+
+pub shorthand_name : Shorthand → List ℕ
+shorthand_name shorthands.Nop = codes "nop"
+shorthand_name shorthands.Move = codes "move"
+shorthand_name shorthands.Branch = codes "b"
+shorthand_name shorthands.BranchIfZero = codes "beqz"
+shorthand_name shorthands.BranchUnlessZero = codes "bnez"
+shorthand_name shorthands.BranchAndLink = codes "bal"
+
+moved_back : (words : List Word) (p : Instruction × List Word) → statements.move_at words ≡ Ok p → Shortens (codes "move") words p.1 p.0
+unfolding statements.move_at
+moved_back words p e =
+    let x = bind_ok (two_registers_at words) (λ r. Ok (ThreeRegisters Addu r.0 r.1 0, r.2)) p e in
+    short_as (codes "move") words x.0.2 (ThreeRegisters Addu x.0.0 x.0.1 0) (Register x.0.0 ∷ Register x.0.1 ∷ []) p (ok_is (ThreeRegisters Addu x.0.0 x.0.1 0, x.0.2) p x.2) (move x.0.0 x.0.1) (last_two words x.0.0 x.0.1 x.0.2 x.1)
+
+always_back : (words : List Word) (p : Instruction × List Word) → statements.branch_at words ≡ Ok p → Shortens (codes "b") words p.1 p.0
+unfolding statements.branch_at
+always_back words p e =
+    let x = bind_ok (expression_at words) (λ t. Ok (Branch Beq 0 0 t.0, t.1)) p e in
+    short_as (codes "b") words x.0.1 (Branch Beq 0 0 x.0.0) (Value (Whole x.0.0) ∷ []) p (ok_is (Branch Beq 0 0 x.0.0, x.0.1) p x.2) (always x.0.0) (last_expression words x.0.0 x.0.1 x.1)
+
+link_back : (words : List Word) (p : Instruction × List Word) → statements.branch_and_link_at words ≡ Ok p → Shortens (codes "bal") words p.1 p.0
+unfolding statements.branch_and_link_at
+link_back words p e =
+    let x = bind_ok (expression_at words) (λ t. Ok (BranchZero Bgezal 0 t.0, t.1)) p e in
+    short_as (codes "bal") words x.0.1 (BranchZero Bgezal 0 x.0.0) (Value (Whole x.0.0) ∷ []) p (ok_is (BranchZero Bgezal 0 x.0.0, x.0.1) p x.2) (and_link x.0.0) (last_expression words x.0.0 x.0.1 x.1)
+
+zero_back : (o : BranchOp) (n : List ℕ) (words : List Word) (p : Instruction × List Word) → ((rs : ℕ) (target : Expression) → ShorthandIs n (Register rs ∷ Value (Whole target) ∷ []) (Branch o rs 0 target)) → statements.branch_zero_at o words ≡ Ok p → Shortens n words p.1 p.0
+unfolding statements.branch_zero_at
+zero_back o n words p stands e =
+    let a = bind_ok (register_comma_at words) (λ r. expression_at r.1 >>= λ t. Ok (Branch o r.0 0 t.0, t.1)) p e in
+    let x = bind_ok (expression_at a.0.1) (λ t. Ok (Branch o a.0.0 0 t.0, t.1)) p a.2 in
+    short_as n words x.0.1 (Branch o a.0.0 0 x.0.0) (Register a.0.0 ∷ Value (Whole x.0.0) ∷ []) p (ok_is (Branch o a.0.0 0 x.0.0, x.0.1) p x.2) (stands a.0.0 x.0.0) (register_then words a.0.0 a.0.1 x.0.1 (Value (Whole x.0.0)) [] a.1 (last_expression a.0.1 x.0.0 x.0.1 x.1))
+
+pub shorthand_back : (s : Shorthand) (words : List Word) (p : Instruction × List Word) → shorthand_at s words ≡ Ok p → Shortens (shorthand_name s) words p.1 p.0
+unfolding shorthand_name
+shorthand_back shorthands.Nop words p e = short_as (codes "nop") words words (Shift Sll 0 0 zero_expression) [] p (ok_is (Shift Sll 0 0 zero_expression, words) p e) nop (no_operands words)
+shorthand_back shorthands.Move words p e = moved_back words p e
+shorthand_back shorthands.Branch words p e = always_back words p e
+shorthand_back shorthands.BranchIfZero words p e = zero_back Beq (codes "beqz") words p if_zero e
+shorthand_back shorthands.BranchUnlessZero words p e = zero_back Bne (codes "bnez") words p unless_zero e
+shorthand_back shorthands.BranchAndLink words p e = link_back words p e
+
+-- ---- names in tables
+
+pub table_back : {A : Type 0} (table : List (List ℕ × A)) (n : List ℕ) (x : A) (name_of : A → List ℕ) → AllByRecursion (λ entry. entry.0 ≡ name_of entry.1) table → named_in table n ≡ Some x → n ≡ name_of x
+table_back [] n x name_of all e = absurd (cc)
+table_back (entry ∷ table) n x name_of all e =
+    elim (cases_Bool (bytes_eq n entry.0)) [
+      | inl same ↦ (bytes_eq-Decides n entry.0).0 same ∙ all.0 ∙ ap name_of (some_inside entry.1 x (rw same at e))
+      | inr other ↦ table_back table n x name_of all.1 (rw other at e)
+    ]
+  where
+    some_inside : {A : Type 0} (y x : A) → Some y ≡ Some x → y ≡ x
+    some_inside y x h = cc
+
+pub shorthand_named : (n : List ℕ) (s : Shorthand) → named_in shorthand_names n ≡ Some s → n ≡ shorthand_name s
+unfolding shorthand_name
+shorthand_named n s e = table_back shorthand_names n s shorthand_name (refl, (refl, (refl, (refl, (refl, (refl, tt)))))) e
