@@ -1,12 +1,12 @@
 -- What is read as a line has the form of one: directives, statements and lines.
-use Rattle.std.proofs.Common.{◌≡◌, ℕ, zero, suc, Bool, true, false, cond, eqb, List, [], ◌∷◌, ◌++◌, length, Option, Some, None, Ok, Err, refl, sym, ap, ◌∙◌, subst, inl, inr, append_assoc, append-nil}
-use Rattle.std.specs.Prelude.{codes, bytes_eq, ◌||◌, ◌⊎◌, take_while}
+use Rattle.std.proofs.Common.{◌≡◌, ℕ, zero, suc, true, false, cond, List, [], ◌∷◌, ◌++◌, length, Option, Some, None, Ok, Err, refl, sym, ap, ◌∙◌, subst, inl, inr, append_assoc, append-nil}
+use Rattle.std.specs.Prelude.{codes, bytes_eq, ◌||◌, ◌⊎◌}
 use Rattle.std.specs.List.{AllByRecursion}
 use Rattle.std.proofs.lemmas.Bool.{cases_Bool}
 use Rattle.std.proofs.lemmas.Slice.Eq.{bytes_eq-Decides}
 use Rattle.brd_isa.specs.declared.mnemonic.Mnemonic.{Mnemonic}
 use Rattle.brd_isa.specs.Names.{lowered, named_in, mnemonic_named, ◌or_else◌}
-use Rattle.brd_text.specs.Bytes.{is_name, is_word_byte}
+use Rattle.brd_text.specs.Bytes.{is_name}
 use Rattle.brd_text.specs.Faults.{◌>>=◌}
 use Rattle.brd_text.specs.Turns.{followed, repeated, flow_of}
 use Rattle.brd_text.proofs.FaultLemmas.{bind_ok, ok_is, passed}
@@ -29,9 +29,10 @@ use Rattle.brd_source.specs.Statements.{shorthand_names, shorthand_at, data_name
 use Rattle.brd_source.specs.Operands.{operands_at}
 use Rattle.brd_source.specs.Texts.{text_of, text_at}
 use Rattle.brd_source.specs.Lines.{labelled, line_of}
-use Rattle.brd_source.specs.Words.{Word, Place, is_blank, opens_comment, string_len, quoted, sign_at, word_at, place_after, with_word, words_in, words_of, first, others}
-use Rattle.brd_source.specs.Words.Place.{Between, InRun, InString, Escaped, InComment}
+use Rattle.brd_source.specs.Words.{Word, Place, words_in, words_of, first, others}
+use Rattle.brd_source.specs.Words.Place.{Between}
 use Rattle.brd_source.specs.Words.Word.{Run, Percent, Quoted, Mark, Wrong, End}
+use Rattle.brd_source.proofs.EachWord.{each_word}
 use Rattle.brd_source.proofs.GrammarBack.{Front, run_back, mark_front, mark_back, expression_back, operands_back, Shortens, shorthand_name, shorthand_back, table_back, shorthand_named}
 
 -- ---- values
@@ -234,54 +235,8 @@ statement_back (End ∷ words) p are h = absurd (differ are.0)
 
 -- ---- the words of a line
 
-AreWordsIfSome : Option Word → Type 0
-AreWordsIfSome None = Unit {0}
-AreWordsIfSome (Some w) = is_end w ≡ false
-
-closed_word : (n : Option ℕ) (bs : List ℕ) → is_end (quoted n bs) ≡ false
-closed_word (Some n) bs = refl
-closed_word None bs = refl
-
-quoted_or_mark : (b : ℕ) (bs : List ℕ) (percent quote : Bool) → AreWordsIfSome (cond percent (Some (Percent (take_while is_word_byte bs))) (cond quote (Some (quoted (string_len false bs) bs)) (Some (Mark b))))
-unfolding AreWordsIfSome
-quoted_or_mark b bs true quote = refl
-quoted_or_mark b bs false true = closed_word (string_len false bs) bs
-quoted_or_mark b bs false false = refl
-
-visible : (b : ℕ) (bs : List ℕ) (blank : Bool) → AreWordsIfSome (cond blank None (cond (eqb b 37) (Some (Percent (take_while is_word_byte bs))) (cond (eqb b 34) (Some (quoted (string_len false bs) bs)) (Some (Mark b)))))
-unfolding AreWordsIfSome
-visible b bs true = tt
-visible b bs false = quoted_or_mark b bs (eqb b 37) (eqb b 34)
-
-sign : (b : ℕ) (bs : List ℕ) → AreWordsIfSome (sign_at b bs)
-sign b bs = visible b bs (is_blank b || opens_comment b bs)
-
-between : (b : ℕ) (bs : List ℕ) (is_one : Bool) → AreWordsIfSome (cond is_one (Some (Run (take_while is_word_byte (b ∷ bs)))) (sign_at b bs))
-unfolding AreWordsIfSome
-between b bs true = refl
-between b bs false = sign b bs
-
-in_run : (b : ℕ) (bs : List ℕ) (goes_on : Bool) → AreWordsIfSome (cond goes_on None (sign_at b bs))
-unfolding AreWordsIfSome
-in_run b bs true = tt
-in_run b bs false = sign b bs
-
-one_word : (place : Place) (b : ℕ) (bs : List ℕ) → AreWordsIfSome (word_at place b bs)
-unfolding AreWordsIfSome
-one_word Between b bs = between b bs (is_word_byte b)
-one_word InRun b bs = in_run b bs (is_word_byte b)
-one_word InString b bs = tt
-one_word Escaped b bs = tt
-one_word InComment b bs = tt
-
-with_one : (w : Option Word) (words : List Word) → AreWordsIfSome w → AreWords words → AreWords (with_word w words)
-unfolding AreWordsIfSome
-with_one None words h hs = hs
-with_one (Some w) words h hs = (h, hs)
-
 words_in_line : (place : Place) (bs : List ℕ) → AreWords (words_in place bs)
-words_in_line place [] = tt
-words_in_line place (b ∷ bs) = with_one (word_at place b bs) (words_in (place_after place b bs) bs) (one_word place b bs) (words_in_line (place_after place b bs) bs)
+words_in_line place bs = each_word (λ w. is_end w ≡ false) (record { run = λ run h. refl; percent = λ run. refl; in_quotes = λ text. refl; mark = λ b. refl; wrong = refl }) place bs
 
 behind_front : (front rest : List Word) → AreWords (front ++ rest) → AreWords rest
 behind_front [] rest are = are

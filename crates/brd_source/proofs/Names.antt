@@ -1,7 +1,7 @@
 -- What stands where a name has to be is a name.
-use Rattle.std.proofs.Common.{◌≡◌, ℕ, suc, ◌+◌, arith, Bool, true, false, ◌||◌, cond, eqb, List, [], ◌∷◌, ◌++◌, Option, Some, None, Result, Ok, Err, refl, sym, ap, ◌∙◌, subst, inl, inr}
-use Rattle.std.specs.Prelude.{take_while, bytes_eq, codes}
-use Rattle.std.specs.List.{list_all, prefix_len, AllByRecursion}
+use Rattle.std.proofs.Common.{◌≡◌, ℕ, true, ◌||◌, cond, List, [], ◌∷◌, ◌++◌, Option, Some, None, Result, Ok, Err, sym, ap, ◌∙◌, subst, inl, inr}
+use Rattle.std.specs.Prelude.{bytes_eq, codes}
+use Rattle.std.specs.List.{list_all, AllByRecursion}
 use Rattle.std.proofs.lemmas.Bool.{cases_Bool}
 use Rattle.brd_isa.specs.declared.mnemonic.Mnemonic.{Mnemonic}
 use Rattle.brd_isa.specs.Names.{lowered, named_in, mnemonic_named}
@@ -16,14 +16,15 @@ use Rattle.brd_source.specs.declared.statements.Shorthand.{Shorthand}
 use Rattle.brd_source.specs.Names.{IsSourceName, HasNames}
 use Rattle.brd_source.specs.Statement.{Expression, Instruction, Statement, Line}
 use Rattle.brd_source.specs.Statement.Statement.{Nothing, Instruct, Org, Align, Space, Data, Text, Equal}
-use Rattle.brd_source.specs.Words.{Word, Place, is_blank, opens_comment, string_len, quoted, sign_at, word_at, place_after, with_word, words_in, words_of, first, others}
+use Rattle.brd_source.specs.Words.{Word, Place, words_in, words_of, first, others}
 use Rattle.brd_source.specs.Words.Word.{Run, Percent, Quoted, Mark, Wrong, End}
-use Rattle.brd_source.specs.Words.Place.{Between, InRun, InString, Escaped, InComment}
+use Rattle.brd_source.specs.Words.Place.{Between}
 use Rattle.brd_source.specs.Reading.{is_mark, run_at, mark_at, name_at, end_at, expression_at}
 use Rattle.brd_source.specs.Operands.{operands_at}
 use Rattle.brd_source.specs.Texts.{text_at}
 use Rattle.brd_source.specs.Statements.{shorthand_names, shorthand_at, directive_named, values_at, ended_text_at, equal_at, setting_at, directive_at, instruct, statement_as, statement_named, statement_by, statement_at}
 use Rattle.brd_source.specs.Lines.{labelled, line_of}
+use Rattle.brd_source.proofs.EachWord.{each_word}
 
 -- ---- the runs of a line
 
@@ -35,64 +36,11 @@ IsRun (Mark b) = Unit {0}
 IsRun Wrong = Unit {0}
 IsRun End = Unit {0}
 
-abbrev IsRunIfSome : Option Word → Type 0
-IsRunIfSome None = Unit {0}
-IsRunIfSome (Some word) = IsRun word
-
 abbrev AreRuns : List Word → Type 0
 AreRuns words = AllByRecursion IsRun words
 
-one_taken : (b : ℕ) (bs : List ℕ) → is_word_byte b ≡ true → take_while is_word_byte (b ∷ bs) ≡ b ∷ take_while is_word_byte bs
-one_taken b bs is_one =
-    let one : 1 + prefix_len is_word_byte bs ≡ suc (prefix_len is_word_byte bs) = omega arith in
-    rw (is_one, one) refl
-
-taken : (bs : List ℕ) → list_all is_word_byte (take_while is_word_byte bs) ≡ true
-taken [] = refl
-taken (b ∷ bs) =
-    elim (cases_Bool (is_word_byte b)) [
-      | inl is_one ↦ subst (λ (run : List ℕ). list_all is_word_byte run ≡ true) (sym (one_taken b bs is_one)) (rw is_one (taken bs))
-      | inr is_other ↦ rw is_other refl
-    ]
-
-closed : (n : Option ℕ) (bs : List ℕ) → IsRun (quoted n bs)
-closed (Some n) bs = tt
-closed None bs = tt
-
-quoted_or_mark : (b : ℕ) (bs : List ℕ) (percent quote : Bool) → IsRunIfSome (cond percent (Some (Percent (take_while is_word_byte bs))) (cond quote (Some (quoted (string_len false bs) bs)) (Some (Mark b))))
-quoted_or_mark b bs true quote = tt
-quoted_or_mark b bs false true = closed (string_len false bs) bs
-quoted_or_mark b bs false false = tt
-
-visible : (b : ℕ) (bs : List ℕ) (blank : Bool) → IsRunIfSome (cond blank None (cond (eqb b 37) (Some (Percent (take_while is_word_byte bs))) (cond (eqb b 34) (Some (quoted (string_len false bs) bs)) (Some (Mark b)))))
-visible b bs true = tt
-visible b bs false = quoted_or_mark b bs (eqb b 37) (eqb b 34)
-
-sign : (b : ℕ) (bs : List ℕ) → IsRunIfSome (sign_at b bs)
-sign b bs = visible b bs (is_blank b || opens_comment b bs)
-
-between : (b : ℕ) (bs : List ℕ) (is_one : Bool) → IsRunIfSome (cond is_one (Some (Run (take_while is_word_byte (b ∷ bs)))) (sign_at b bs))
-between b bs true = taken (b ∷ bs)
-between b bs false = sign b bs
-
-in_run : (b : ℕ) (bs : List ℕ) (more : Bool) → IsRunIfSome (cond more None (sign_at b bs))
-in_run b bs true = tt
-in_run b bs false = sign b bs
-
-one_word : (place : Place) (b : ℕ) (bs : List ℕ) → IsRunIfSome (word_at place b bs)
-one_word Between b bs = between b bs (is_word_byte b)
-one_word InRun b bs = in_run b bs (is_word_byte b)
-one_word InString b bs = tt
-one_word Escaped b bs = tt
-one_word InComment b bs = tt
-
-with_run : (word : Option Word) (words : List Word) → IsRunIfSome word → AreRuns words → AreRuns (with_word word words)
-with_run None words h hs = hs
-with_run (Some word) words h hs = (h, hs)
-
 runs_in : (place : Place) (bs : List ℕ) → AreRuns (words_in place bs)
-runs_in place [] = tt
-runs_in place (b ∷ bs) = with_run (word_at place b bs) (words_in (place_after place b bs) bs) (one_word place b bs) (runs_in (place_after place b bs) bs)
+runs_in place bs = each_word IsRun (record { run = λ run h. h; percent = λ run. tt; in_quotes = λ text. tt; mark = λ b. tt; wrong = tt }) place bs
 
 behind : (words : List Word) → AreRuns words → AreRuns (others words)
 behind [] hs = tt
