@@ -1,6 +1,6 @@
 /* Linker script for firmware of the board: everything that is loaded lies from 0x80000000 on, where RAM begins.
  *
- *   mips-linux-gnu-as -EB -mips32 -o firmware.o firmware.s
+ *   mips-linux-gnu-as -EB -mips32 -o firmware.o examples/firmware.s
  *   mips-linux-gnu-ld -EB -n -T examples/firmware.ld -o firmware.elf firmware.o
  *
  * RAM is 16 MiB at most; LENGTH is what the configuration's BOARD line gives. docs/ELF.md says which files load.
