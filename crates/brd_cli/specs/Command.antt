@@ -16,7 +16,7 @@ use Rattle.brd_cli.specs.Shown.{board_shown}
 use Rattle.brd_cli.specs.declared.word_text.WordsFault.{WordsFault}
 use Rattle.brd_cli.specs.declared.word_text.WordsFault.TheVariants as words_fault
 use Rattle.brd_cli.specs.declared.fault.CommandFault.{CommandFault}
-use Rattle.brd_cli.specs.declared.fault.CommandFault.TheVariants.{NoMemory, Words, Source, Open, Read, TooLong, TooManyReads, Write}
+use Rattle.brd_cli.specs.declared.fault.CommandFault.TheVariants.{NoMemory, Argument, Words, Source, Open, Read, TooLong, TooManyReads, Write}
 
 -- the board of these words after so many steps of processor 1
 abbrev pub words_shown : List ℕ → ℕ → List ℕ
@@ -33,6 +33,7 @@ words_output text steps = shown_or_fault (words_of_text text) steps
 -- the status that the program ends with
 abbrev pub status_of : CommandFault → ℕ
 status_of NoMemory = 3
+status_of Argument = 2
 status_of (Words fault) = 1
 status_of (Source fault) = 1
 status_of (Open name error) = 4
@@ -51,6 +52,12 @@ IsOfRead error NoMemory = error_kind error ≡ OutOfMemory
 IsOfRead error (Read e) = (e ≡ error) × (error_kind error ≢ OutOfMemory)
 IsOfRead error _ = ⊥
 
+-- the fault of a command line that couldn't be taken: want of memory where the error's kind says so, else an argument that isn't UTF-8
+abbrev pub IsOfArguments : Error → CommandFault → Type 0
+IsOfArguments error NoMemory = error_kind error ≡ OutOfMemory
+IsOfArguments error Argument = error_kind error ≢ OutOfMemory
+IsOfArguments error _ = ⊥
+
 -- What may keep an input from being read. One that is called too long has more bytes than an input may have.
 abbrev pub KeepsFromReading : Option (List ℕ) → CommandFault → Type 0
 KeepsFromReading input NoMemory = Unit {0}
@@ -62,6 +69,7 @@ KeepsFromReading input _ = ⊥
 -- A fault of the input is the input's first, and comes before anything is written.
 abbrev pub Refuses : CommandFault → List ℕ → Result (List ℕ) WordsFault → Option (List ℕ) → Option (List ℕ) → Type 0
 Refuses NoMemory input output old new = Keeps old new
+Refuses Argument input output old new = ⊥
 Refuses (Words fault) input output old new = (output ≡ Err fault) × (fault ≢ words_fault.NoMemory) × Keeps old new
 Refuses (Source fault) input output old new = ⊥
 Refuses (Open name error) input output old new = ⊥
@@ -87,6 +95,7 @@ pub record WritesObject (source : List ℕ) (old new : Option (List ℕ)) : Type
 -- A fault of the source is its first, and comes before anything is written.
 abbrev pub RefusesSource : CommandFault → List ℕ → Option (List ℕ) → Option (List ℕ) → Type 0
 RefusesSource NoMemory source old new = Keeps old new
+RefusesSource Argument source old new = ⊥
 RefusesSource (Words fault) source old new = ⊥
 RefusesSource (Source fault) source old new = (program_of source ≡ Err fault) × (fault ≢ asm_fault.NoMemory) × Keeps old new
 RefusesSource (Open name error) source old new = ⊥

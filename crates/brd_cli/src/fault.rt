@@ -16,6 +16,9 @@ pub enum CommandFault {
     /// A growth was refused.
     #[error("out of memory")]
     NoMemory,
+    /// The command line has an argument that isn't UTF-8.
+    #[error("an argument isn't UTF-8")]
+    Argument,
     /// The words on standard input have a fault.
     #[error("standard input: {0}")]
     Words(WordsFault),
@@ -50,14 +53,25 @@ impl CommandFault {
         CommandFault::Read(error)
     }
 
-    ghost use Rattle.brd_cli.specs.Command.{status_of, IsOfRead};
+    /// The fault of a command line that couldn't be taken: want of memory, or an argument that isn't UTF-8.
+    pub fn of_arguments(error: io::Error) -> Self
+        ensures { IsOfArguments error result }
+    {
+        match error.kind() {
+            ErrorKind::OutOfMemory => CommandFault::NoMemory,
+            _ => CommandFault::Argument,
+        }
+    }
 
-    /// The status that the program ends with: 1 for a fault of the input, 3 for want of memory, 4 where reading or writing failed.
+    ghost use Rattle.brd_cli.specs.Command.{status_of, IsOfRead, IsOfArguments};
+
+    /// The status that the program ends with: 1 for a fault of the input, 2 for one of the command line, 3 for want of memory, 4 where reading or writing failed.
     pub fn status(&self) -> u8
         ensures { result ≡ status_of self.now }
     {
         match self {
             CommandFault::Words(_) | CommandFault::Source(_) => 1,
+            CommandFault::Argument => 2,
             CommandFault::NoMemory => 3,
             CommandFault::Open(_, _)
             | CommandFault::Read(_)

@@ -73,7 +73,7 @@ fn no_sa(word: u32) -> bool
 }
 
 /// Whether the fields rt and rd are the same.
-fn twice(word: u32) -> bool
+fn rt_is_rd(word: u32) -> bool
     ensures { result ≡ (decoding.rt_of word == decoding.rd_of word) }
 {
     (word >> 16) % 32 == (word >> 11) % 32
@@ -160,7 +160,7 @@ pub fn accumulate(op: AccumulateOp, word: u32) -> Option<Insn>
 pub fn count(op: CountOp, word: u32) -> Option<Insn>
     ensures { result ≡ decoding.count op word }
 {
-    (twice(word) && no_sa(word)).then_some(Insn::Count(op, rd(word), rs(word)))
+    (rt_is_rd(word) && no_sa(word)).then_some(Insn::Count(op, rd(word), rs(word)))
 }
 
 /// `op rs, target`, where rt is 0.
