@@ -11,6 +11,8 @@ use Rattle.brd_mem.specs.declared.image.Image.{Image}
 use Rattle.brd_elf.specs.File.{file}
 use Rattle.brd_asm.specs.Image.{Program, program_of, IsImage}
 use Rattle.brd_asm.specs.declared.fault.AsmFault.TheVariants as asm_fault
+use Rattle.brd_cli.specs.Excerpt.{excerpt_of}
+use Rattle.brd_asm.specs.declared.fault.AsmFault.{AsmFault}
 use Rattle.brd_cli.specs.WordText.{words_of_text}
 use Rattle.brd_cli.specs.Shown.{board_shown}
 use Rattle.brd_cli.specs.declared.word_text.WordsFault.{WordsFault}
@@ -35,7 +37,7 @@ abbrev pub status_of : CommandFault → ℕ
 status_of NoMemory = 3
 status_of Argument = 2
 status_of (Words fault) = 1
-status_of (Source fault) = 1
+status_of (Source fault excerpt) = 1
 status_of (Open name error) = 4
 status_of (Read error) = 4
 status_of TooLong = 4
@@ -71,7 +73,7 @@ abbrev pub Refuses : CommandFault → List ℕ → Result (List ℕ) WordsFault 
 Refuses NoMemory input output old new = Keeps old new
 Refuses Argument input output old new = ⊥
 Refuses (Words fault) input output old new = (output ≡ Err fault) × (fault ≢ words_fault.NoMemory) × Keeps old new
-Refuses (Source fault) input output old new = ⊥
+Refuses (Source fault excerpt) input output old new = ⊥
 Refuses (Open name error) input output old new = ⊥
 Refuses (Read error) input output old new = Keeps old new
 Refuses TooLong input output old new = (most_bytes < length input) × Keeps old new
@@ -92,12 +94,23 @@ pub record WritesObject (source : List ℕ) (old new : Option (List ℕ)) : Type
   pub is_object : IsObjectFile source bytes
   pub written : Appends old new bytes
 
--- A fault of the source is its first, and comes before anything is written.
+-- the line of a source that a fault is in
+abbrev pub faulty_line : AsmFault → ℕ
+faulty_line asm_fault.NoMemory = 1
+faulty_line (asm_fault.Syntax line) = line
+faulty_line (asm_fault.UnknownName line) = line
+faulty_line (asm_fault.Twice line) = line
+faulty_line (asm_fault.Range line) = line
+faulty_line (asm_fault.Misaligned line) = line
+faulty_line (asm_fault.Overlap line) = line
+
+-- A fault of the source is its first, with an excerpt of its line, and comes before anything is written.
 abbrev pub RefusesSource : CommandFault → List ℕ → Option (List ℕ) → Option (List ℕ) → Type 0
 RefusesSource NoMemory source old new = Keeps old new
 RefusesSource Argument source old new = ⊥
 RefusesSource (Words fault) source old new = ⊥
-RefusesSource (Source fault) source old new = (program_of source ≡ Err fault) × (fault ≢ asm_fault.NoMemory) × Keeps old new
+RefusesSource (Source fault excerpt) source old new =
+    (program_of source ≡ Err fault) × (fault ≢ asm_fault.NoMemory) × (excerpt.shown ≡ excerpt_of source (faulty_line fault)) × Keeps old new
 RefusesSource (Open name error) source old new = ⊥
 RefusesSource (Read error) source old new = Keeps old new
 RefusesSource TooLong source old new = (most_bytes < length source) × Keeps old new

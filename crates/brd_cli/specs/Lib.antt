@@ -1,4 +1,5 @@
 pub mod Bytes
 pub mod WordText
 pub mod Shown
+pub mod Excerpt
 pub mod Command

@@ -3,6 +3,7 @@
 ghost use Rattle.std.specs.Prelude.{◌≡◌};
 ghost use Rattle.brd_cli.specs.declared.fault.CommandFault.TheVariants.{NoMemory as no_memory};
 
+use crate::excerpt::Excerpt;
 use crate::word_text::WordsFault;
 use brd_asm::AsmFault;
 use brd_mem::NoMemory;
@@ -22,9 +23,9 @@ pub enum CommandFault {
     /// The words on standard input have a fault.
     #[error("standard input: {0}")]
     Words(WordsFault),
-    /// The assembler source has a fault.
-    #[error("the source: {0}")]
-    Source(AsmFault),
+    /// The assembler source has a fault, in the line of this excerpt.
+    #[error("the source: {0}: {1}")]
+    Source(AsmFault, Excerpt),
     /// A file couldn't be opened, or created.
     #[error("can't open {0}: {1}")]
     Open(String, io::Error),
@@ -70,7 +71,7 @@ impl CommandFault {
         ensures { result ≡ status_of self.now }
     {
         match self {
-            CommandFault::Words(_) | CommandFault::Source(_) => 1,
+            CommandFault::Words(_) | CommandFault::Source(_, _) => 1,
             CommandFault::Argument => 2,
             CommandFault::NoMemory => 3,
             CommandFault::Open(_, _)

@@ -232,9 +232,65 @@ fn nothing_is_written_of_a_wrong_source(rt: HostRuntime) {
     match asm(alloc, &mut reader, &mut writer) {
         Ok(()) => assert!(rt; false, "a wrong source was assembled"),
         Err(fault) => {
-            assert!(rt; matches!(fault, CommandFault::Source(_)), "{fault}");
+            assert!(rt; matches!(fault, CommandFault::Source(_, _)), "{fault}");
             assert_eq!(rt; fault.status(), 1);
         }
     }
     assert!(rt; writer.is_empty());
+}
+
+/// What a fault's text ends with: the front of the line that it is in.
+#[test]
+fn a_fault_shows_its_line(rt: HostRuntime) -> Result<(), Fail> {
+    let alloc = rt.alloc();
+    for (source, shown) in [
+        ("nop 1", ": nop 1"),
+        ("nop\n\tnop 1\r\nnop 2", ":  nop 1?"),
+        ("#\n\n.byte \u{e4}\n", ": .byte ??"),
+        (
+            ".org 0x80000000, 12345678901234567890123456789012345678901234567",
+            ": .org 0x80000000, 123456789012345678901234567890123456789012",
+        ),
+        (
+            ".org 0x80000000, 123456789012345678901234567890123456789012",
+            ": .org 0x80000000, 123456789012345678901234567890123456789012",
+        ),
+        ("a: nop\na: nop", ": a: nop"),
+    ] {
+        let mut reader = source.as_bytes();
+        let mut writer = Vec::new(alloc);
+        match asm(alloc, &mut reader, &mut writer) {
+            Ok(()) => assert!(rt; false, "{source} was assembled"),
+            Err(fault) => {
+                let text = format!(in alloc; "{fault}")?;
+                assert!(rt; text.as_str().ends_with(shown), "{text}");
+            }
+        }
+    }
+    Ok(())
+}
+
+/// A source's object file is read as the image that it was written of: writing that gives the same bytes.
+#[test]
+fn an_object_file_is_read_again(rt: HostRuntime) -> Result<(), Fail> {
+    let alloc = rt.alloc();
+    let mut reader =
+        b"_start: lui $t0, %hi(d)\nlw $t1, %lo(d)($t0)\nnop\n.org 0x80000100\nd: .word 7\n".as_slice();
+    let mut written = Vec::new(alloc);
+    if let Err(fault) = asm(alloc, &mut reader, &mut written) {
+        assert!(rt; false, "{fault}");
+    }
+    match brd_elf::read(alloc, &written) {
+        Err(fault) => assert!(rt; false, "{fault}"),
+        Ok(image) => {
+            assert_eq!(rt; image.entry, 0x8000_0000);
+            assert_eq!(rt; image.segments.as_slice().len(), 2);
+            assert_eq!(rt; image.symbols.as_slice().len(), 2);
+            match brd_elf::write(alloc, &image) {
+                Err(fault) => assert!(rt; false, "{fault}"),
+                Ok(again) => assert_eq!(rt; again.as_slice(), written.as_slice()),
+            }
+        }
+    }
+    Ok(())
 }
