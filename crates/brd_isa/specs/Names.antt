@@ -39,8 +39,6 @@ use Rattle.brd_isa.specs.declared.instruction.StoreOp.{StoreOp}
 use Rattle.brd_isa.specs.declared.instruction.StoreOp.TheVariants.{Sb, Sh, Swl, Sw, Swr}
 use Rattle.brd_isa.specs.declared.instruction.LinkedOp.{LinkedOp}
 use Rattle.brd_isa.specs.declared.instruction.LinkedOp.TheVariants.{Ll, Sc}
-use Rattle.brd_isa.specs.declared.instruction.Insn.{Insn}
-use Rattle.brd_isa.specs.declared.instruction.Insn.TheVariants as instructions
 use Rattle.brd_isa.specs.declared.mnemonic.Mnemonic.{Mnemonic}
 use Rattle.brd_isa.specs.declared.mnemonic.Mnemonic.TheVariants.{Shift, ShiftVariable, ThreeRegisters, Multiply, JumpRegister, JumpLinkRegister, Syscall, Break, Sync, MoveFrom, MoveTo, Product, Accumulate, Count, Trap, TrapImmediate, Jump, Branch, BranchSign, BranchZero, Immediate, LoadUpper, Load, Store, Linked, Prefetch}
 
@@ -240,32 +238,3 @@ mnemonic_named name = computing_named name or_else other_named name or_else name
 -- some name is this mnemonic
 abbrev pub HasName : Mnemonic → Type 0
 HasName mnemonic = (name : List ℕ) × (mnemonic_named name ≡ Some mnemonic)
-
--- the mnemonic of an instruction
-abbrev pub mnemonic_of : Insn → Mnemonic
-mnemonic_of (instructions.Shift op _ _ _) = Shift op
-mnemonic_of (instructions.ShiftVariable op _ _ _) = ShiftVariable op
-mnemonic_of (instructions.ThreeRegisters op _ _ _) = ThreeRegisters op
-mnemonic_of (instructions.Multiply _ _ _) = Multiply
-mnemonic_of (instructions.JumpRegister _) = JumpRegister
-mnemonic_of (instructions.JumpLinkRegister _ _) = JumpLinkRegister
-mnemonic_of (instructions.Syscall _) = Syscall
-mnemonic_of (instructions.Break _) = Break
-mnemonic_of instructions.Sync = Sync
-mnemonic_of (instructions.MoveFrom op _) = MoveFrom op
-mnemonic_of (instructions.MoveTo op _) = MoveTo op
-mnemonic_of (instructions.Product op _ _) = Product op
-mnemonic_of (instructions.Accumulate op _ _) = Accumulate op
-mnemonic_of (instructions.Count op _ _) = Count op
-mnemonic_of (instructions.Trap op _ _ _) = Trap op
-mnemonic_of (instructions.TrapImmediate op _ _) = TrapImmediate op
-mnemonic_of (instructions.Jump op _) = Jump op
-mnemonic_of (instructions.Branch op _ _ _) = Branch op
-mnemonic_of (instructions.BranchSign op _ _) = BranchSign op
-mnemonic_of (instructions.BranchZero op _ _) = BranchZero op
-mnemonic_of (instructions.Immediate op _ _ _) = Immediate op
-mnemonic_of (instructions.LoadUpper _ _) = LoadUpper
-mnemonic_of (instructions.Load op _ _ _) = Load op
-mnemonic_of (instructions.Store op _ _ _) = Store op
-mnemonic_of (instructions.Linked op _ _ _) = Linked op
-mnemonic_of (instructions.Prefetch _ _ _) = Prefetch

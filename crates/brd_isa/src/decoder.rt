@@ -6,8 +6,9 @@ ghost use Rattle.brd_isa.specs.Decoding.{decoded, rt_of, special_of, regimm_of, 
 
 use crate::fields::{Hint, JumpIndex, LongCode, ShortCode};
 use crate::forms::{
-    accumulate, branch_sign, count, jump_link_register, jump_register, load_upper, low, move_from,
-    move_to, multiply, product, rs, rt, shift, shift_variable, sync, three_registers,
+    REGIMM, SPECIAL, SPECIAL2, accumulate, branch_sign, count, jump_link_register, jump_register,
+    load_upper, low, move_from, move_to, multiply, product, rs, rt, shift, shift_variable, sync,
+    three_registers,
 };
 use crate::instruction::{
     AccumulateOp, BranchOp, BranchSignOp, BranchZeroOp, CountOp, ImmediateOp, Insn, JumpOp,
@@ -22,9 +23,9 @@ pub fn decode(word: u32) -> Option<Insn>
     ensures exactly { (insn : Insn) → (result ≡ Some insn) ↔ StandsFor word insn }
 {
     match word >> 26 {
-        0x00 => special(word),
-        0x01 => regimm(word),
-        0x1c => special2(word),
+        SPECIAL => special(word),
+        REGIMM => regimm(word),
+        SPECIAL2 => special2(word),
         _ => others(word),
     }
 }

@@ -1,6 +1,6 @@
 //! From an instruction to the word that stands for it.
 
-ghost use Rattle.std.specs.Prelude.{◌≡◌, ◌<◌, ◌^◌};
+ghost use Rattle.std.specs.Prelude.{◌≡◌, ◌<◌, Some};
 ghost use Rattle.brd_isa.specs.Fields.{RType, IType, JType, LongCodeType, ShortCodeType};
 ghost use Rattle.brd_isa.specs.Codes.{
   shift_funct,
@@ -23,87 +23,97 @@ ghost use Rattle.brd_isa.specs.Codes.{
   linked_opcode,
 };
 ghost use Rattle.brd_isa.specs.Table.{StandsFor, IgnoresSa};
-ghost use Rattle.brd_isa.specs.Decoding.{sa_of};
+ghost use Rattle.brd_isa.specs.Decoding.{decoded, sa_of};
 
+use crate::decoder::decode;
 use crate::fields::{JumpIndex, LongCode, Register, ShiftAmount, ShortCode};
+use crate::forms::{REGIMM, SPECIAL, SPECIAL2};
 use crate::instruction::{
     AccumulateOp, BranchOp, BranchSignOp, BranchZeroOp, CountOp, ImmediateOp, Insn, JumpOp,
     LinkedOp, LoadOp, MoveFromOp, MoveToOp, ProductOp, RegisterOp, ShiftOp, ShiftVariableOp,
     StoreOp, TrapImmediateOp, TrapOp,
 };
 
-/// The opcode under which the function field names the instruction.
-const SPECIAL: u32 = 0x00;
-
-/// The opcode under which the field rt names the instruction.
-const REGIMM: u32 = 0x01;
-
-/// The second opcode under which the function field names the instruction.
-const SPECIAL2: u32 = 0x1c;
-
-/// The word that stands for an instruction; a field that the table ignores is 0.
+/// The word that stands for an instruction; a field that the table ignores is 0. It is decoded to that instruction.
 pub fn encode(insn: Insn) -> u32
+    ensures related { StandsFor result insn }
+    ensures plain { IgnoresSa insn → sa_of result ≡ 0 }
+    ensures again { decoded result ≡ Some insn }
+{
+    let word = word_of(insn);
+    // The decoder follows the same table.
+    prove!(decode(word).is_some());
+    word
+}
+
+/// The word that the table's line of the instruction's form makes, with 0 in an ignored field.
+fn word_of(insn: Insn) -> u32
     ensures related { StandsFor result insn }
     ensures plain { IgnoresSa insn → sa_of result ≡ 0 }
 {
     let none = Register::low(0);
-    let no_sa = ShiftAmount::low(0);
     match insn {
-        Insn::Shift(op, rd, rt, sa) => r_type(SPECIAL, none, rt, rd, sa, shift_code(op)),
-        Insn::ShiftVariable(op, rd, rt, rs) => r_type(
-            SPECIAL,
-            rs,
-            rt,
-            rd,
-            no_sa,
-            shift_variable_code(op),
-        ),
-        Insn::ThreeRegisters(op, rd, rs, rt) => r_type(
-            SPECIAL,
-            rs,
-            rt,
-            rd,
-            no_sa,
-            register_code(op),
-        ),
-        Insn::Multiply(rd, rs, rt) => r_type(SPECIAL2, rs, rt, rd, no_sa, 0x02),
-        Insn::JumpRegister(rs) => r_type(SPECIAL, rs, none, none, no_sa, 0x08),
-        Insn::JumpLinkRegister(rd, rs) => r_type(SPECIAL, rs, none, rd, no_sa, 0x09),
+        Insn::Shift(op, rd, rt, sa) => shifted(rt, rd, sa, shift_code(op)),
+        Insn::ShiftVariable(op, rd, rt, rs) => special(rs, rt, rd, shift_variable_code(op)),
+        Insn::ThreeRegisters(op, rd, rs, rt) => special(rs, rt, rd, register_code(op)),
+        Insn::Multiply(rd, rs, rt) => special2(rs, rt, rd, 0x02),
+        Insn::JumpRegister(rs) => special(rs, none, none, 0x08),
+        Insn::JumpLinkRegister(rd, rs) => special(rs, none, rd, 0x09),
         Insn::Syscall(code) => long_code(code, 0x0c),
         Insn::Break(code) => long_code(code, 0x0d),
-        Insn::Sync => r_type(SPECIAL, none, none, none, no_sa, 0x0f),
-        Insn::MoveFrom(op, rd) => r_type(SPECIAL, none, none, rd, no_sa, move_from_code(op)),
-        Insn::MoveTo(op, rs) => r_type(SPECIAL, rs, none, none, no_sa, move_to_code(op)),
-        Insn::Product(op, rs, rt) => r_type(SPECIAL, rs, rt, none, no_sa, product_code(op)),
-        Insn::Accumulate(op, rs, rt) => r_type(SPECIAL2, rs, rt, none, no_sa, accumulate_code(op)),
-        Insn::Count(op, rd, rs) => r_type(SPECIAL2, rs, rd, rd, no_sa, count_code(op)),
+        Insn::Sync => special(none, none, none, 0x0f),
+        Insn::MoveFrom(op, rd) => special(none, none, rd, move_from_code(op)),
+        Insn::MoveTo(op, rs) => special(rs, none, none, move_to_code(op)),
+        Insn::Product(op, rs, rt) => special(rs, rt, none, product_code(op)),
+        Insn::Accumulate(op, rs, rt) => special2(rs, rt, none, accumulate_code(op)),
+        Insn::Count(op, rd, rs) => special2(rs, rd, rd, count_code(op)),
         Insn::Trap(op, rs, rt, code) => short_code(rs, rt, code, trap_code(op)),
-        Insn::TrapImmediate(op, rs, immediate) => {
-            i_type(
-                REGIMM,
-                rs,
-                Register::low(trap_immediate_code(op)),
-                immediate,
-            )
-        }
+        Insn::TrapImmediate(op, rs, immediate) => regimm(rs, trap_immediate_code(op), immediate),
         Insn::Jump(op, index) => j_type(jump_code(op), index),
-        Insn::Branch(op, rs, rt, offset) => i_type(branch_code(op), rs, rt, offset),
-        Insn::BranchSign(op, rs, offset) => i_type(branch_sign_code(op), rs, none, offset),
-        Insn::BranchZero(op, rs, offset) => i_type(
-            REGIMM,
-            rs,
-            Register::low(branch_zero_code(op)),
-            offset,
-        ),
-        Insn::Immediate(op, rt, rs, immediate) => i_type(immediate_code(op), rs, rt, immediate),
-        Insn::LoadUpper(rt, immediate) => i_type(0x0f, none, rt, immediate),
-        Insn::Load(op, rt, base, offset) => i_type(load_code(op), base, rt, offset),
-        Insn::Store(op, rt, base, offset) => i_type(store_code(op), base, rt, offset),
-        Insn::Linked(op, rt, base, offset) => i_type(linked_code(op), base, rt, offset),
-        Insn::Prefetch(hint, base, offset) => {
-            i_type(0x33, base, Register::low(u32::from(hint.number())), offset)
+        Insn::Branch(op, rs, rt, offset) => two_registers(branch_code(op), rs, rt, offset),
+        Insn::BranchSign(op, rs, offset) => i_type(branch_sign_code(op), rs, 0, offset),
+        Insn::BranchZero(op, rs, offset) => regimm(rs, branch_zero_code(op), offset),
+        Insn::Immediate(op, rt, rs, immediate) => {
+            two_registers(immediate_code(op), rs, rt, immediate)
         }
+        Insn::LoadUpper(rt, immediate) => two_registers(0x0f, none, rt, immediate),
+        Insn::Load(op, rt, base, offset) => two_registers(load_code(op), base, rt, offset),
+        Insn::Store(op, rt, base, offset) => two_registers(store_code(op), base, rt, offset),
+        Insn::Linked(op, rt, base, offset) => two_registers(linked_code(op), base, rt, offset),
+        Insn::Prefetch(hint, base, offset) => i_type(0x33, base, u32::from(hint.number()), offset),
     }
+}
+
+/// A word under the opcode SPECIAL whose field sa is 0.
+fn special(rs: Register, rt: Register, rd: Register, funct: u32) -> u32
+    requires { funct < 64 }
+    ensures { RType result 0x00 rs rt rd 0 funct }
+{
+    r_type(SPECIAL, rs, rt, rd, ShiftAmount::low(0), funct)
+}
+
+/// A word under the opcode SPECIAL whose field rs is 0.
+fn shifted(rt: Register, rd: Register, sa: ShiftAmount, funct: u32) -> u32
+    requires { funct < 64 }
+    ensures { RType result 0x00 0 rt rd sa funct }
+{
+    r_type(SPECIAL, Register::low(0), rt, rd, sa, funct)
+}
+
+/// A word under the opcode SPECIAL2 whose field sa is 0.
+fn special2(rs: Register, rt: Register, rd: Register, funct: u32) -> u32
+    requires { funct < 64 }
+    ensures { RType result 0x1c rs rt rd 0 funct }
+{
+    r_type(SPECIAL2, rs, rt, rd, ShiftAmount::low(0), funct)
+}
+
+/// A word under the opcode REGIMM, where the field rt is a code.
+fn regimm(rs: Register, code: u32, low: u16) -> u32
+    requires { code < 32 }
+    ensures { IType result 0x01 rs code low }
+{
+    i_type(REGIMM, rs, code, low)
 }
 
 /// A word of the R-type format.
@@ -120,15 +130,21 @@ fn r_type(opcode: u32, rs: Register, rt: Register, rd: Register, sa: ShiftAmount
         + funct
 }
 
-/// A word of the I-type format.
-fn i_type(opcode: u32, rs: Register, rt: Register, low: u16) -> u32
+/// A word of the I-type format. The field rt is a register, a code or a hint.
+fn i_type(opcode: u32, rs: Register, rt: u32, low: u16) -> u32
+    requires opcode_fits { opcode < 64 }
+    requires rt_fits { rt < 32 }
+    ensures { IType result opcode rs rt low }
+{
+    (opcode << 26) + (u32::from(rs.number()) << 21) + (rt << 16) + u32::from(low)
+}
+
+/// A word of the I-type format with two registers.
+fn two_registers(opcode: u32, rs: Register, rt: Register, low: u16) -> u32
     requires { opcode < 64 }
     ensures { IType result opcode rs rt low }
 {
-    (opcode << 26)
-        + (u32::from(rs.number()) << 21)
-        + (u32::from(rt.number()) << 16)
-        + u32::from(low)
+    i_type(opcode, rs, u32::from(rt.number()), low)
 }
 
 /// A word of the J-type format.

@@ -9,6 +9,15 @@ use crate::instruction::{
     ShiftOp, ShiftVariableOp,
 };
 
+/// The opcode under which the function field names the instruction.
+pub const SPECIAL: u32 = 0x00;
+
+/// The opcode under which the field rt names the instruction.
+pub const REGIMM: u32 = 0x01;
+
+/// The second opcode under which the function field names the instruction.
+pub const SPECIAL2: u32 = 0x1c;
+
 /// The field rs.
 pub fn rs(word: u32) -> Register
     ensures { result ≡ decoding.rs_of word }

@@ -1,4 +1,4 @@
-//! What the decoder, the encoder and the table say together.
+//! What the table and the function of a word's instruction say together.
 
 ghost use Rattle.std.specs.Prelude.{◌≡◌, ℕ, ◌↔◌, Some};
 ghost use Rattle.brd_isa.specs.Table.{StandsFor, IgnoresSa};
@@ -6,15 +6,6 @@ ghost use Rattle.brd_isa.specs.Decoding.{decoded, sa_of};
 ghost use Rattle.brd_isa.specs.declared.instruction.Insn.{Insn};
 
 use crate::decoder::decode;
-use crate::encoder::encode;
-use crate::instruction::Insn;
-
-/// An instruction's word is decoded to that instruction.
-pub fn decoded_again(insn: Insn) -> Option<Insn>
-    ensures { result ≡ Some insn }
-{
-    decode(encode(insn))
-}
 
 /// The function that the meaning of a step is stated with is the table: it gives an instruction exactly where the word stands
 /// for that one.
