@@ -1,6 +1,7 @@
 -- The name of each mnemonic in assembler source (MD00086, chapter 3, the heads of the entries), in lower case: one line a mnemonic.
 -- The operations are those that Codes has the code of.
 use Rattle.std.specs.Prelude.{◌≡◌, ℕ, List, [], ◌∷◌, Option, Some, None, option_map, map, if◌then◌else◌, codes}
+use Rattle.std.proofs.Common.{Bor}
 use Rattle.std.specs.Str.{bytes_eq}
 use Rattle.std.specs.Char.{to_ascii_lowercase}
 use Rattle.brd_isa.specs.declared.instruction.ShiftOp.{ShiftOp}
@@ -50,6 +51,11 @@ lowered bytes = map to_ascii_lowercase bytes
 abbrev pub named_in : {A : Type 0} → List (List ℕ × A) → List ℕ → Option A
 named_in [] name = None
 named_in (row ∷ rows) name = if bytes_eq name row.0 then Some row.1 else named_in rows name
+
+-- what a table of words has for a name in lower case
+abbrev pub found_in : List (Bor (List ℕ) × Mnemonic) → List ℕ → Option Mnemonic
+found_in [] name = None
+found_in (row ∷ rows) name = if bytes_eq name (lowered row.0.now) then Some row.1 else found_in rows name
 
 abbrev pub shift_names : List (List ℕ × ShiftOp)
 shift_names =
