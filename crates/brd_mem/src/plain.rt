@@ -23,10 +23,10 @@ pub fn is_plain(image: &Image) -> bool
 fn are_ascending(segments: &[Segment]) -> bool
     ensures { IsTrue result ↔ AreAscending base segments.now }
 {
-    let mut low = BASE as u64;
+    let mut low = u64::from(BASE);
     let mut left = segments;
     while let Some((segment, others)) = left.split_first() {
-        let start = segment.address as u64;
+        let start = u64::from(segment.address);
         let len = segment.bytes.len() as u64;
         if start < low || start >= TOP || len == 0 || len > TOP - start {
             return false;

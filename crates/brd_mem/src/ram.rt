@@ -47,10 +47,8 @@ impl Ram {
         if size < 0x1_0000 || size > 0x100_0000 || size % 0x1_0000 != 0 {
             return Err(RamFault::BadSize);
         }
-        match vec![in alloc; 0; size as usize] {
-            Ok(bytes) => Ok(Ram { bytes }),
-            Err(_) => Err(RamFault::NoMemory),
-        }
+        let bytes = vec![in alloc; 0; size as usize].map_err(|_| RamFault::NoMemory)?;
+        Ok(Ram { bytes })
     }
 
     /// How many bytes it has.
@@ -144,10 +142,8 @@ impl Ram {
     pub fn may_store32(&self, address: u32) -> Result<(), Exc>
         ensures { result ≡ storable32 self.now address }
     {
-        match self.place(address, 4, Exc::AdES, Exc::DBE) {
-            Ok(_) => Ok(()),
-            Err(exc) => Err(exc),
-        }
+        self.place(address, 4, Exc::AdES, Exc::DBE)?;
+        Ok(())
     }
 
     /// The place of `len` bytes from an address on: `unaligned` where it is no multiple of `len`, then `outside` where they aren't in RAM.

@@ -2,27 +2,34 @@ use super::*;
 use std::alloc::Global;
 use std::test::Fail;
 
-/// Whether an image of zero bytes from these addresses on, and of names of one letter each but for `-`, which stands for no letter, and `0`, which stands for
-/// the byte 0, is plain.
-fn plain(alloc: Global, segments: &[(u32, usize)], names: &[u8]) -> Result<bool, NoMemory> {
+/// Bytes of zero, as many as this.
+fn zeros(alloc: Global, len: usize) -> Result<Bytes, NoMemory> {
+    let mut bytes = Bytes::new(alloc);
+    for _ in 0..len {
+        bytes.append(&[0])?;
+    }
+    Ok(bytes)
+}
+
+/// Whether an image of segments with zeros, from these addresses on and of these lengths, is plain.
+fn is_plain_with_segments(alloc: Global, segments: &[(u32, usize)]) -> Result<bool, NoMemory> {
     let mut image = Image::from_words(alloc, &[])?;
     for (address, len) in segments {
-        let mut bytes = Bytes::new(alloc);
-        for _ in 0..*len {
-            bytes.append(&[0])?;
-        }
+        let bytes = zeros(alloc, *len)?;
         image.segments.push(Segment {
             address: *address,
             bytes,
         })?;
     }
-    for letter in names {
+    Ok(is_plain(&image))
+}
+
+/// Whether an image of symbols with these names is plain.
+fn is_plain_with_names(alloc: Global, names: &[&[u8]]) -> Result<bool, NoMemory> {
+    let mut image = Image::from_words(alloc, &[])?;
+    for text in names {
         let mut name = Bytes::new(alloc);
-        match letter {
-            b'-' => {}
-            b'0' => name.append(b"a\0")?,
-            _ => name.append(&[*letter])?,
-        }
+        name.append(text)?;
         image.symbols.push(Symbol { name, value: 1 })?;
     }
     Ok(is_plain(&image))
@@ -123,25 +130,29 @@ fn images_of_words(rt: HostRuntime) -> Result<(), Fail> {
 #[test]
 fn plain_segments(rt: HostRuntime) -> Result<(), Fail> {
     let alloc = rt.alloc();
-    assert!(rt; plain(alloc, &[], b"")?);
-    assert!(rt; plain(alloc, &[(0x8000_0000, 2), (0x8000_0002, 1)], b"")?);
-    assert!(rt; plain(alloc, &[(0x80ff_fffe, 2)], b"")?);
-    assert!(rt; !plain(alloc, &[(0x80ff_ffff, 2)], b"")?);
-    assert!(rt; !plain(alloc, &[(0x7fff_ffff, 2)], b"")?);
-    assert!(rt; !plain(alloc, &[(0xffff_ffff, 2)], b"")?);
-    assert!(rt; !plain(alloc, &[(0x8000_0000, 0)], b"")?);
-    assert!(rt; !plain(alloc, &[(0x8000_0000, 2), (0x8000_0001, 1)], b"")?);
-    assert!(rt; !plain(alloc, &[(0x8000_0002, 1), (0x8000_0000, 1)], b"")?);
+    assert!(rt; is_plain_with_segments(alloc, &[])?);
+    assert!(rt; is_plain_with_segments(alloc, &[(0x8000_0000, 2), (0x8000_0002, 1)])?);
+    assert!(rt; is_plain_with_segments(alloc, &[(0x80ff_fffe, 2)])?);
+    assert!(rt; !is_plain_with_segments(alloc, &[(0x80ff_ffff, 2)])?);
+    assert!(rt; !is_plain_with_segments(alloc, &[(0x7fff_ffff, 2)])?);
+    assert!(rt; !is_plain_with_segments(alloc, &[(0xffff_ffff, 2)])?);
+    assert!(rt; !is_plain_with_segments(alloc, &[(0x8000_0000, 0)])?);
+    assert!(rt; !is_plain_with_segments(alloc, &[(0x8000_0000, 2), (0x8000_0001, 1)])?);
+    assert!(rt; !is_plain_with_segments(alloc, &[(0x8000_0002, 1), (0x8000_0000, 1)])?);
     Ok(())
 }
 
 #[test]
 fn plain_names(rt: HostRuntime) -> Result<(), Fail> {
     let alloc = rt.alloc();
-    assert!(rt; plain(alloc, &[], b"abA")?);
-    assert!(rt; !plain(alloc, &[], b"-")?);
-    assert!(rt; !plain(alloc, &[], b"0")?);
-    assert!(rt; !plain(alloc, &[], b"aba")?);
-    assert!(rt; !plain(alloc, &[], b"abb")?);
+    for (names, plain) in [
+        ([b"".as_slice()].as_slice(), false),
+        ([b"a\0".as_slice()].as_slice(), false),
+        ([b"a".as_slice(), b"b", b"A"].as_slice(), true),
+        ([b"a".as_slice(), b"b", b"a"].as_slice(), false),
+        ([b"a".as_slice(), b"b", b"b"].as_slice(), false),
+    ] {
+        assert_eq!(rt; is_plain_with_names(alloc, names)?, plain);
+    }
     Ok(())
 }
