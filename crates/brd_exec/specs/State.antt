@@ -63,8 +63,8 @@ abbrev pub branched_likely : State → Bool → ℕ → State
 branched_likely s taken offset = if taken then branched s true offset else skipped s
 
 -- the address of the instruction behind the delay slot, to which a call returns
-abbrev pub link_of : State → ℕ
-link_of s = (s.pc + 8) % 2 ^ 32
+abbrev pub return_address_of : State → ℕ
+return_address_of s = (s.pc + 8) % 2 ^ 32
 
 -- a jump's target: the top four bits are those of the delay slot's address, the index counts words
 abbrev pub jump_target : State → ℕ → ℕ

@@ -26,7 +26,7 @@ use Rattle.brd_exec.specs.declared.outcome.Outcome.{Outcome}
 use Rattle.brd_exec.specs.declared.outcome.Outcome.TheVariants.{Done, Syscall as syscall, Exception}
 use Rattle.brd_exec.specs.declared.outcome.Stop.{Stop}
 use Rattle.brd_exec.specs.declared.outcome.Stop.TheVariants.{Call, Raise}
-use Rattle.brd_exec.specs.State.{State, read, write, write_product, product_in, advanced, jumped, branched, branched_likely, link_of, jump_target, address_of}
+use Rattle.brd_exec.specs.State.{State, read, write, write_product, product_in, advanced, jumped, branched, branched_likely, return_address_of, jump_target, address_of}
 use Rattle.brd_exec.specs.Values.{shift_gives, shift_variable_gives, register_gives, immediate_gives, multiply_gives, product_gives, accumulate_gives, count_gives, traps, traps_immediate, is_taken, is_likely, is_taken_by_sign, is_likely_by_sign, is_taken_by_zero, is_likely_by_zero, is_linking}
 use Rattle.brd_exec.specs.Unaligned.{loaded_left, loaded_right, stored_left, stored_right}
 use Rattle.brd_exec.specs.Exception.{code_of}
@@ -106,9 +106,9 @@ unless_trap s memory links trap = if trap then raises Tr links else Goes (advanc
 abbrev pub after_branch : State → Bool → Bool → ℕ → State
 after_branch s likely taken offset = if likely then branched_likely s taken offset else branched s taken offset
 
--- the link in register 31, where there is one
-abbrev pub linked_if : State → Bool → State
-linked_if s link = if link then write s 31 (link_of s) else s
+-- the address to which a call returns in register 31, for an instruction that calls
+abbrev pub with_return_address_if : State → Bool → State
+with_return_address_if s calls = if calls then write s 31 (return_address_of s) else s
 
 abbrev pub moved_from : MoveFromOp → State → ℕ
 moved_from Mfhi s = s.hi
@@ -122,15 +122,15 @@ abbrev pub jump_links : JumpOp → Bool
 jump_links J = false
 jump_links Jal = true
 
--- What an instruction does, one line a form of operands. A branch that links links whether taken or not. JALR and a branch that links read their
--- register before the link is written (own choice where the manual says UNPREDICTABLE).
+-- What an instruction does, one line a form of operands. A branch-and-link writes the return address whether taken or not. JALR and a
+-- branch-and-link read their register before the return address is written (own choice where the manual says UNPREDICTABLE).
 abbrev pub meaning : ℕ → Insn → State → List ℕ → LinkSet → Effect
 meaning cpu (Shift op rd rt sa) s memory links = Goes (with_register s rd (shift_gives op (read s rt) sa)) memory links
 meaning cpu (ShiftVariable op rd rt rs) s memory links = Goes (with_register s rd (shift_variable_gives op (read s rt) (read s rs % 2 ^ 5))) memory links
 meaning cpu (ThreeRegisters op rd rs rt) s memory links = sets s memory links rd (register_gives op (read s rd) (read s rs) (read s rt))
 meaning cpu (Multiply rd rs rt) s memory links = Goes (with_register s rd (multiply_gives (read s rs) (read s rt))) memory links
 meaning cpu (JumpRegister rs) s memory links = Goes (jumped s (read s rs)) memory links
-meaning cpu (JumpLinkRegister rd rs) s memory links = Goes (jumped (write s rd (link_of s)) (read s rs)) memory links
+meaning cpu (JumpLinkRegister rd rs) s memory links = Goes (jumped (write s rd (return_address_of s)) (read s rs)) memory links
 meaning cpu (Syscall code) s memory links = Stops Call links
 meaning cpu (Break code) s memory links = raises Bp links
 meaning cpu Sync s memory links = Goes (advanced s) memory links
@@ -141,11 +141,11 @@ meaning cpu (Accumulate op rs rt) s memory links = Goes (write_product (advanced
 meaning cpu (Count op rd rs) s memory links = Goes (with_register s rd (count_gives op (read s rs))) memory links
 meaning cpu (Trap op rs rt code) s memory links = unless_trap s memory links (traps op (read s rs) (read s rt))
 meaning cpu (TrapImmediate op rs immediate) s memory links = unless_trap s memory links (traps_immediate op (read s rs) immediate)
-meaning cpu (Jump op index) s memory links = Goes (jumped (linked_if s (jump_links op)) (jump_target s index)) memory links
+meaning cpu (Jump op index) s memory links = Goes (jumped (with_return_address_if s (jump_links op)) (jump_target s index)) memory links
 meaning cpu (Branch op rs rt offset) s memory links = Goes (after_branch s (is_likely op) (is_taken op (read s rs) (read s rt)) offset) memory links
 meaning cpu (BranchSign op rs offset) s memory links = Goes (after_branch s (is_likely_by_sign op) (is_taken_by_sign op (read s rs)) offset) memory links
 meaning cpu (BranchZero op rs offset) s memory links =
-    Goes (after_branch (linked_if s (is_linking op)) (is_likely_by_zero op) (is_taken_by_zero op (read s rs)) offset) memory links
+    Goes (after_branch (with_return_address_if s (is_linking op)) (is_likely_by_zero op) (is_taken_by_zero op (read s rs)) offset) memory links
 meaning cpu (Immediate op rt rs immediate) s memory links = sets s memory links rt (immediate_gives op (read s rs) immediate)
 meaning cpu (LoadUpper rt immediate) s memory links = Goes (with_register s rt (immediate * 2 ^ 16)) memory links
 meaning cpu (Load op rt base offset) s memory links = sets s memory links rt (with_code (load_gives op memory (address_of s base offset) (read s rt)))

@@ -29,13 +29,14 @@ loaded_left memory address old = merged left_merged (loaded32 memory (aligned ad
 abbrev pub loaded_right : List ℕ → ℕ → ℕ → Result ℕ Exc
 loaded_right memory address old = merged right_merged (loaded32 memory (aligned address)) old (address % 4)
 
+-- a part of the aligned word that holds an address, stored from `start` on
+abbrev pub stored_part : List ℕ → ℕ → ℕ → List ℕ → Result (List ℕ) Exc
+stored_part memory address start part = if contains (length memory) (aligned address) 4 then Ok (copied memory start part) else Err DBE
+
 -- SWL: the register's high bytes go from the address to the word's end
 abbrev pub stored_left : List ℕ → ℕ → ℕ → Result (List ℕ) Exc
-stored_left memory address word =
-    if contains (length memory) (aligned address) 4 then Ok (copied memory address (take (4 - address % 4) (big_endian_bytes word))) else Err DBE
+stored_left memory address word = stored_part memory address address (take (4 - address % 4) (big_endian_bytes word))
 
 -- SWR: the register's low bytes go from the word's start to the address
 abbrev pub stored_right : List ℕ → ℕ → ℕ → Result (List ℕ) Exc
-stored_right memory address word =
-    if contains (length memory) (aligned address) 4 then Ok (copied memory (aligned address) (drop (3 - address % 4) (big_endian_bytes word)))
-    else Err DBE
+stored_right memory address word = stored_part memory address (aligned address) (drop (3 - address % 4) (big_endian_bytes word))

@@ -1,7 +1,6 @@
 -- What the instructions compute: one line a mnemonic (MD00086, the "Operation" of its entry).
-use Rattle.std.specs.Prelude.{ℕ, ◌+◌, ◌-◌, ◌*◌, ◌/◌, ◌%◌, ◌^◌, ◌==◌, nat_lt, bit_and, bit_or, bit_xor, Bool, true, false, not, ◌||◌, if◌then◌else◌, Result, Ok, Err}
-use Rattle.std.specs.Prelude.{int_lt}
-use Rattle.std.specs.Int.{w32, leading_zeros}
+use Rattle.std.specs.Prelude.{ℕ, ◌+◌, ◌-◌, ◌*◌, ◌/◌, ◌%◌, ◌^◌, ◌==◌, nat_lt, bit_and, bit_or, bit_xor, Bool, true, false, not, ◌||◌, if◌then◌else◌, Result, Ok, Err, int_lt}
+use Rattle.std.specs.Int.{w32, bit_not, leading_zeros, leading_ones}
 use Rattle.brd_word.specs.Words.{signed, sign_extended16, sum_overflows, difference_overflows, signed_product, unsigned_product, Quotient, signed_quotient, unsigned_quotient}
 use Rattle.brd_exec.specs.declared.outcome.ExceptionCode.{ExceptionCode}
 use Rattle.brd_exec.specs.declared.outcome.ExceptionCode.TheVariants.{Ov}
@@ -30,10 +29,6 @@ use Rattle.brd_isa.specs.declared.instruction.BranchZeroOp.TheVariants.{Bltz, Bg
 use Rattle.brd_isa.specs.declared.instruction.ImmediateOp.{ImmediateOp}
 use Rattle.brd_isa.specs.declared.instruction.ImmediateOp.TheVariants.{Addi, Addiu, Slti, Sltiu, Andi, Ori, Xori}
 
--- all bits turned
-abbrev pub complement : ℕ → ℕ
-complement word = 2 ^ 32 - 1 - word
-
 -- whether the sign bit is set
 abbrev pub is_negative : ℕ → Bool
 is_negative word = not (nat_lt word (2 ^ 31))
@@ -51,7 +46,7 @@ shifted_right word amount = word / 2 ^ amount
 -- ones come in where the sign bit is set: the complement is shifted, and turned back
 abbrev pub shifted_with_sign : ℕ → ℕ → ℕ
 shifted_with_sign word amount =
-    if is_negative word then complement (shifted_right (complement word) amount) else shifted_right word amount
+    if is_negative word then bit_not w32 (shifted_right (bit_not w32 word) amount) else shifted_right word amount
 
 abbrev pub sum_of : ℕ → ℕ → ℕ
 sum_of a b = (a + b) % 2 ^ 32
@@ -90,7 +85,7 @@ register_gives Subu old a b = Ok (difference_of a b)
 register_gives And old a b = Ok (bit_and a b)
 register_gives Or old a b = Ok (bit_or a b)
 register_gives Xor old a b = Ok (bit_xor a b)
-register_gives Nor old a b = Ok (complement (bit_or a b))
+register_gives Nor old a b = Ok (bit_not w32 (bit_or a b))
 register_gives Slt old a b = Ok (one_if (is_below a b))
 register_gives Sltu old a b = Ok (one_if (nat_lt a b))
 
@@ -129,7 +124,7 @@ accumulate_gives Msubu old a b = (old + (2 ^ 64 - unsigned_product a b)) % 2 ^ 6
 -- rd of `op rd, rs`, from rs: 0 to 32
 abbrev pub count_gives : CountOp → ℕ → ℕ
 count_gives Clz word = leading_zeros w32 word
-count_gives Clo word = leading_zeros w32 (complement word)
+count_gives Clo word = leading_ones w32 word
 
 -- whether `op rs, rt` traps
 abbrev pub traps : TrapOp → ℕ → ℕ → Bool
@@ -179,7 +174,7 @@ is_likely_by_sign Bgtz = false
 is_likely_by_sign Blezl = true
 is_likely_by_sign Bgtzl = true
 
--- whether `op rs, target` under REGIMM is taken, whether it is likely, and whether it links
+-- whether `op rs, target` under REGIMM is taken, whether it is likely, and whether it writes the return address
 abbrev pub is_taken_by_zero : BranchZeroOp → ℕ → Bool
 is_taken_by_zero Bltz a = is_negative a
 is_taken_by_zero Bgez a = not (is_negative a)

@@ -1,8 +1,17 @@
 //! Loads and stores.
 
-ghost use Rattle.std.specs.Prelude.{◌≡◌, ◌<◌};
+ghost use Rattle.std.specs.Prelude.{◌≡◌, ◌+◌, ◌<◌, ◌≤◌, length};
 ghost use Rattle.brd_exec.specs.Step.{load_gives, store_gives};
-ghost use Rattle.brd_exec.specs.Unaligned.{left_merged, right_merged, loaded_left, loaded_right, stored_left, stored_right};
+ghost use Rattle.brd_exec.specs.Unaligned.{
+  aligned,
+  left_merged,
+  right_merged,
+  loaded_left,
+  loaded_right,
+  stored_part,
+  stored_left,
+  stored_right,
+};
 ghost use Rattle.brd_mem.specs.Access.{Stores};
 
 use brd_isa::{LoadOp, StoreOp};
@@ -24,11 +33,18 @@ pub fn load(op: LoadOp, ram: &Ram, address: u32, old: u32) -> Result<u32, Exc>
     }
 }
 
+/// The address of the aligned word that holds an address.
+fn aligned(address: u32) -> u32
+    ensures { result ≡ aligned address }
+{
+    address - address % 4
+}
+
 /// What LWL finds.
 fn load_left(ram: &Ram, address: u32, old: u32) -> Result<u32, Exc>
     ensures { result ≡ loaded_left ram.now address old }
 {
-    let word = ram.load32(address - address % 4)?;
+    let word = ram.load32(aligned(address))?;
     Ok(merge_left(word, old, address % 4))
 }
 
@@ -36,7 +52,7 @@ fn load_left(ram: &Ram, address: u32, old: u32) -> Result<u32, Exc>
 fn load_right(ram: &Ram, address: u32, old: u32) -> Result<u32, Exc>
     ensures { result ≡ loaded_right ram.now address old }
 {
-    let word = ram.load32(address - address % 4)?;
+    let word = ram.load32(aligned(address))?;
     Ok(merge_right(word, old, address % 4))
 }
 
@@ -84,12 +100,7 @@ fn store_left(ram: &mut Ram, address: u32, word: u32) -> Result<(), Exc>
     ensures { Stores (stored_left ram.old address word) ram.old result ram.new }
 {
     let byte = (address % 4) as usize;
-    if !ram.contains(address - address % 4, 4) {
-        return Err(Exc::DBE);
-    }
-    let bytes = bytes_of(word);
-    ram.copy_in(address, &bytes[..4 - byte]);
-    Ok(())
+    store_part(ram, address, address, &bytes_of(word)[..4 - byte])
 }
 
 /// Does an SWR.
@@ -97,10 +108,18 @@ fn store_right(ram: &mut Ram, address: u32, word: u32) -> Result<(), Exc>
     ensures { Stores (stored_right ram.old address word) ram.old result ram.new }
 {
     let byte = (address % 4) as usize;
-    if !ram.contains(address - address % 4, 4) {
+    store_part(ram, address, aligned(address), &bytes_of(word)[3 - byte..])
+}
+
+/// Writes a part of the aligned word that holds an address, from `start` on: DBE where RAM doesn't have that word.
+fn store_part(ram: &mut Ram, address: u32, start: u32, part: &[u8]) -> Result<(), Exc>
+    requires first { aligned address ≤ start }
+    requires last { start + length part.now ≤ aligned address + 4 }
+    ensures { Stores (stored_part ram.old address start part.now) ram.old result ram.new }
+{
+    if !ram.contains(aligned(address), 4) {
         return Err(Exc::DBE);
     }
-    let bytes = bytes_of(word);
-    ram.copy_in(address - address % 4, &bytes[3 - byte..]);
+    ram.copy_in(start, part);
     Ok(())
 }

@@ -1,6 +1,6 @@
 //! The context of a processor.
 
-ghost use Rattle.std.specs.Prelude.{◌≡◌};
+ghost use Rattle.std.specs.Prelude.{◌≡◌, length, slice_index};
 ghost use Rattle.brd_isa.specs.declared.instruction.MoveToOp.TheVariants.{Mthi, Mtlo};
 ghost use Rattle.brd_exec.specs.State.{
   opening,
@@ -10,19 +10,19 @@ ghost use Rattle.brd_exec.specs.State.{
   product_in,
   advanced,
   jumped,
-  link_of,
+  return_address_of,
   jump_target,
   address_of,
 };
-ghost use Rattle.brd_exec.specs.Step.{with_register, after_branch, linked_if, moved_to};
+ghost use Rattle.brd_exec.specs.Step.{with_register, after_branch, with_return_address_if, moved_to};
 
 use brd_isa::{JumpIndex, Register};
 use brd_word::sign16;
 use std::marker::Model;
 
 /// 32 registers, of which register 0 is always 0, HI, LO, the addresses of the next instruction and of the one after it,
-/// and whether the next one is in a delay slot (the programming model of MIPS32, MD00082; own choice: `npc` and `slot` in place
-/// of a pending branch).
+/// and whether the next one is in a delay slot (the CPU registers of MIPS32, MD00082: *MIPS32 Architecture for Programmers, volume I:
+/// introduction*; own choice: `npc` and `slot` in place of a pending branch).
 #[derive(Clone, Copy, Debug, PartialEq, Eq)]
 pub struct Context {
     registers: [u32; 32],
@@ -71,9 +71,11 @@ impl Context {
         self.registers[register.number() as usize]
     }
 
-    /// The words of the registers, in the order of their numbers.
+    /// The words of the 32 registers, in the order of their numbers; that of register 0 is 0.
     pub fn registers(&self) -> &[u32]
-        ensures { result.now ≡ self.now.registers }
+        ensures words { result.now ≡ self.now.registers }
+        ensures count { length result.now ≡ 32 }
+        ensures zero { slice_index result.now 0 ≡ 0 }
     {
         self.registers.as_slice()
     }
@@ -188,19 +190,19 @@ impl Context {
     }
 
     /// The address behind the delay slot, to which a call returns.
-    pub fn link(&self) -> u32
-        ensures { result ≡ link_of self.now }
+    pub fn return_address(&self) -> u32
+        ensures { result ≡ return_address_of self.now }
     {
         self.pc.wrapping_add(8)
     }
 
-    /// Writes the link to register 31, where there is one.
-    pub fn link_if(&mut self, links: bool)
-        ensures { self.new ≡ linked_if self.old links }
+    /// Writes the return address to register 31, for an instruction that calls.
+    pub fn write_return_address_if(&mut self, calls: bool)
+        ensures { self.new ≡ with_return_address_if self.old calls }
     {
-        if links {
-            let link = self.link();
-            self.write(Register::low(31), link);
+        if calls {
+            let address = self.return_address();
+            self.write(Register::low(31), address);
         }
     }
 

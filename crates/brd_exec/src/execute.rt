@@ -8,7 +8,7 @@ ghost use Rattle.brd_exec.specs.State.{
   product_in,
   advanced,
   jumped,
-  link_of,
+  return_address_of,
   jump_target,
   address_of,
 };
@@ -38,7 +38,7 @@ ghost use Rattle.brd_exec.specs.Step.{
   store_gives,
   load_or_store_linked,
   after_branch,
-  linked_if,
+  with_return_address_if,
   moved_from,
   moved_to,
   jump_links,
@@ -236,15 +236,15 @@ fn jump_register(context: &mut Context, rs: Register) -> Result<(), Stop>
     Ok(())
 }
 
-/// The target is what the register was before the link was written.
+/// The target is what the register was before the return address was written.
 fn jump_link_register(context: &mut Context, rd: Register, rs: Register) -> Result<(), Stop>
-    ensures { Jumps context.old (jumped (write context.old rd (link_of context.old)) (read context.old rs))
+    ensures { Jumps context.old (jumped (write context.old rd (return_address_of context.old)) (read context.old rs))
         result context.new }
 {
     outside_slot(context)?;
     let target = context.read(rs);
-    let link = context.link();
-    context.write(rd, link);
+    let address = context.return_address();
+    context.write(rd, address);
     context.jump(target);
     Ok(())
 }
@@ -304,12 +304,12 @@ fn trap_if(context: &mut Context, traps: bool) -> Result<(), Stop>
 }
 
 fn jump(context: &mut Context, op: JumpOp, index: JumpIndex) -> Result<(), Stop>
-    ensures { Jumps context.old (jumped (linked_if context.old (jump_links op)) (jump_target context.old index))
+    ensures { Jumps context.old (jumped (with_return_address_if context.old (jump_links op)) (jump_target context.old index))
         result context.new }
 {
     outside_slot(context)?;
     let target = context.jump_target(index);
-    context.link_if(op == JumpOp::Jal);
+    context.write_return_address_if(op == JumpOp::Jal);
     context.jump(target);
     Ok(())
 }
@@ -325,8 +325,8 @@ fn branch(
         (after_branch context.old (is_likely op) (is_taken op (read context.old rs) (read context.old rt)) offset)
         result context.new }
 {
-    let taken = is_branch_taken(op, context, rs, rt);
     outside_slot(context)?;
+    let taken = is_branch_taken(op, context, rs, rt);
     context.branch(is_branch_likely(op), taken, offset);
     Ok(())
 }
@@ -347,19 +347,19 @@ fn branch_sign(
     Ok(())
 }
 
-/// The register is read before the link is written.
+/// The register is read before the return address is written.
 fn branch_zero(
     context: &mut Context,
     op: BranchZeroOp,
     rs: Register,
     offset: u16,
 ) -> Result<(), Stop>
-    ensures { Jumps context.old (after_branch (linked_if context.old (is_linking op)) (is_likely_by_zero op)
+    ensures { Jumps context.old (after_branch (with_return_address_if context.old (is_linking op)) (is_likely_by_zero op)
         (is_taken_by_zero op (read context.old rs)) offset) result context.new }
 {
     outside_slot(context)?;
     let taken = is_zero_branch_taken(op, context.read(rs));
-    context.link_if(is_zero_branch_linking(op));
+    context.write_return_address_if(is_zero_branch_linking(op));
     context.branch(is_zero_branch_likely(op), taken, offset);
     Ok(())
 }

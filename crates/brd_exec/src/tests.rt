@@ -6,6 +6,8 @@ use crate::{Context, ExceptionCode, Outcome, run};
 use brd_isa::Register;
 use brd_link::Links;
 use brd_mem::Ram;
+use std::alloc::AllocGlobal;
+use std::process::Abort;
 use std::test::Fail;
 
 /// Where each instruction stands.
@@ -67,142 +69,134 @@ fn done(
     Ok((outcome, context.read(Register::low(29))))
 }
 
-/// Does these instructions, then an SC of processor 1 with `LAST`. Says what the SC answers and what the word is then.
-fn sc_after(rt: &HostRuntime, before: &[(u8, u32)]) -> Result<(u32, bool), Fail> {
-    let mut ram = Ram::new(rt.alloc(), 0x1_0000)?;
-    let mut links = Links::new();
-    for (cpu, word) in before {
-        let cpu = (*cpu).clamp(1, 8);
-        let _ = done(&mut ram, &mut links, cpu, *word, BEFORE)?;
+/// An instruction of a processor, and how it ends.
+type Ended = (u8, u32, Outcome);
+
+/// The exception that an instruction raises outside a delay slot.
+fn exception(code: ExceptionCode) -> Outcome {
+    Outcome::Exception {
+        code,
+        epc: CODE,
+        bd: false,
     }
-    let old = ram.load32(BLOCK);
-    let (outcome, answer) = done(&mut ram, &mut links, 1, SC, LAST)?;
-    let wanted = if answer == 1 { Ok(LAST) } else { old };
-    let right = outcome == Outcome::Done && links.state(1).is_none() && ram.load32(BLOCK) == wanted;
-    Ok((answer, right))
 }
 
-/// The SC of processor 1 stores, and answers 1, unless another processor has ended the link.
+/// Does these instructions, each of which has to end as it says, and then an SC of processor 1 with `LAST`. That has to be done and to end the link; where
+/// it leaves `LAST` in the word it has to answer 1, and else 0. Gives the word.
+fn word_after_sc(
+    rt: &(impl Abort + AllocGlobal),
+    name: &str,
+    before: &[Ended],
+) -> Result<u32, Fail> {
+    let mut ram = Ram::new(rt.alloc(), 0x1_0000)?;
+    let mut links = Links::new();
+    for (cpu, word, ending) in before {
+        let cpu = *cpu;
+        assert!(rt; 1 <= cpu && cpu <= 8, "{name}: processor {cpu}");
+        let (outcome, _) = done(&mut ram, &mut links, cpu, *word, BEFORE)?;
+        assert_eq!(rt; outcome, *ending, "{name}: {word:08x}");
+    }
+    let (outcome, answer) = done(&mut ram, &mut links, 1, SC, LAST)?;
+    assert_eq!(rt; outcome, Outcome::Done, "{name}");
+    assert_eq!(rt; links.state(1), None, "{name}");
+    let Ok(word) = ram.load32(BLOCK) else {
+        return Err(Fail::from("no RAM at the block"));
+    };
+    assert_eq!(rt; answer, u32::from(word == LAST), "{name}");
+    Ok(word)
+}
+
+/// The SC of processor 1 stores, unless another processor has stored into the block since its LL.
 #[test]
-fn what_others_do_to_a_link(rt: HostRuntime) -> Result<(), Fail> {
-    for (name, before, answer) in [
-        ("nothing between", [(1, LL)].as_slice(), 1),
-        ("no LL", [(2, LL)].as_slice(), 0),
-        ("a word of the block", [(1, LL), (2, SW + 4)].as_slice(), 0),
-        (
-            "a word behind the block",
-            [(1, LL), (2, SW + 0x10)].as_slice(),
-            1,
-        ),
-        (
-            "the block's last byte",
-            [(1, LL), (2, SB + 0xf)].as_slice(),
-            0,
-        ),
-        (
-            "the byte behind the block",
-            [(1, LL), (2, SB + 0x10)].as_slice(),
-            1,
-        ),
-        (
-            "a halfword of the block",
-            [(1, LL), (8, SH + 0xe)].as_slice(),
-            0,
-        ),
-        (
-            "the left part of a word",
-            [(1, LL), (2, SWL + 0xd)].as_slice(),
-            0,
-        ),
-        (
-            "the right part of a word",
-            [(1, LL), (2, SWR + 0x5)].as_slice(),
-            0,
-        ),
-        (
-            "the right part behind the block",
-            [(1, LL), (2, SWR + 0x11)].as_slice(),
-            1,
-        ),
-        ("a store that raises", [(1, LL), (2, SW + 2)].as_slice(), 1),
-        (
-            "an SC that stores",
-            [(1, LL), (2, LL + 4), (2, SC + 4)].as_slice(),
-            0,
-        ),
-        (
-            "an SC that doesn't store",
-            [(1, LL), (2, SC + 4)].as_slice(),
-            1,
-        ),
-        ("an LL of the same word", [(1, LL), (2, LL)].as_slice(), 1),
+fn stores_of_another(rt: HostRuntime) -> Result<(), Fail> {
+    for (name, store, left) in [
+        ("a word of the block", SW + 4, 0),
+        ("a word behind the block", SW + 0x10, LAST),
+        ("the block's last byte", SB + 0xf, 0),
+        ("the byte behind the block", SB + 0x10, LAST),
+        ("a halfword of the block", SH + 0xe, 0),
+        ("the left part of a word", SWL + 0xd, 0),
+        ("the right part of a word", SWR + 0x5, 0),
+        ("the right part behind the block", SWR + 0x11, LAST),
     ] {
-        assert_eq!(rt; sc_after(&rt, before)?, (answer, true), "{name}");
+        for cpu in [2, 8] {
+            let before = [(1, LL, Outcome::Done), (cpu, store, Outcome::Done)];
+            assert_eq!(rt; word_after_sc(&rt, name, &before)?, left, "{name}");
+        }
     }
     Ok(())
 }
 
-/// The same, for what the processor does itself.
+/// Another processor's stores that don't store leave the link, and so do its LLs.
+#[test]
+fn what_else_another_does(rt: HostRuntime) -> Result<(), Fail> {
+    let linked = (1, LL, Outcome::Done);
+    let other_linked = (2, LL + 4, Outcome::Done);
+    let sc = (2, SC + 4, Outcome::Done);
+    let unaligned = (2, SW + 2, exception(ExceptionCode::AdES));
+    for (name, before, left) in [
+        ("nothing between", [linked].as_slice(), LAST),
+        ("an LL of the other alone", [other_linked].as_slice(), 0),
+        ("an LL", [linked, other_linked].as_slice(), LAST),
+        ("an SC without LL", [linked, sc].as_slice(), LAST),
+        ("an SC", [linked, other_linked, sc].as_slice(), 0),
+        ("a store that raises", [linked, unaligned].as_slice(), LAST),
+    ] {
+        assert_eq!(rt; word_after_sc(&rt, name, before)?, left, "{name}");
+    }
+    Ok(())
+}
+
+/// Which of the instructions that a processor does itself leave its link.
 #[test]
 fn what_ends_ones_own_link(rt: HostRuntime) -> Result<(), Fail> {
-    for (name, before, answer) in [
-        (
-            "a store into the block",
-            [(1, LL), (1, SW + 4)].as_slice(),
-            1,
-        ),
-        ("a store of the word", [(1, LL), (1, SW)].as_slice(), 1),
-        ("a store that raises", [(1, LL), (1, SW + 2)].as_slice(), 1),
-        ("an SC", [(1, LL), (1, SC)].as_slice(), 0),
-        (
-            "an SC to another word",
-            [(1, LL), (1, SC + 4)].as_slice(),
-            0,
-        ),
-        ("an SC that raises", [(1, LL), (1, SC + 1)].as_slice(), 0),
-        (
-            "an SC outside RAM",
-            [(1, LL), (1, SC_OUTSIDE)].as_slice(),
-            0,
-        ),
-        (
-            "an SC from register 0",
-            [(1, LL), (1, SC_FROM_ZERO)].as_slice(),
-            0,
-        ),
-        (
-            "a later LL of another word",
-            [(1, LL), (1, LL + 4)].as_slice(),
-            0,
-        ),
-        (
-            "a later LL that raises",
-            [(1, LL), (1, LL + 2)].as_slice(),
-            1,
-        ),
-        (
-            "a later LL outside RAM",
-            [(1, LL), (1, LL_OUTSIDE)].as_slice(),
-            1,
-        ),
-        ("an LL to register 0", [(1, LL_TO_ZERO)].as_slice(), 1),
-        (
-            "a BREAK, at which the board ends the link",
-            [(1, LL), (1, BREAK)].as_slice(),
-            1,
-        ),
-        (
-            "a reserved word, at which the board ends the link",
-            [(1, LL), (1, RESERVED)].as_slice(),
-            1,
-        ),
-        (
-            "a SYSCALL, at which the board ends the link",
-            [(1, LL), (1, SYSCALL)].as_slice(),
-            1,
-        ),
+    for (name, word, left) in [
+        ("a store into the block", SW + 4, LAST),
+        ("a store of the word", SW, LAST),
+        ("an SC", SC, BEFORE),
+        ("an SC to another word", SC + 4, 0),
+        ("an SC from register 0", SC_FROM_ZERO, 0),
+        ("a later LL of another word", LL + 4, 0),
+        ("a later LL to register 0", LL_TO_ZERO, LAST),
     ] {
-        assert_eq!(rt; sc_after(&rt, before)?, (answer, true), "{name}");
+        let before = [(1, LL, Outcome::Done), (1, word, Outcome::Done)];
+        assert_eq!(rt; word_after_sc(&rt, name, &before)?, left, "{name}");
+    }
+    let before = [(1, LL_TO_ZERO, Outcome::Done)];
+    assert_eq!(rt; word_after_sc(&rt, "an LL to register 0", &before)?, LAST);
+    Ok(())
+}
+
+/// An exception ends the link only where an SC raises it. The board ends it too, as at a SYSCALL.
+#[test]
+fn what_stops_with_a_link(rt: HostRuntime) -> Result<(), Fail> {
+    for (name, word, ending, left) in [
+        ("a store", SW + 2, exception(ExceptionCode::AdES), LAST),
+        ("an SC", SC + 1, exception(ExceptionCode::AdES), 0),
+        (
+            "an SC outside",
+            SC_OUTSIDE,
+            exception(ExceptionCode::DBE),
+            0,
+        ),
+        ("an LL", LL + 2, exception(ExceptionCode::AdEL), LAST),
+        (
+            "an LL outside",
+            LL_OUTSIDE,
+            exception(ExceptionCode::DBE),
+            LAST,
+        ),
+        ("a BREAK", BREAK, exception(ExceptionCode::Bp), LAST),
+        (
+            "a reserved word",
+            RESERVED,
+            exception(ExceptionCode::RI),
+            LAST,
+        ),
+        ("a SYSCALL", SYSCALL, Outcome::Syscall, LAST),
+    ] {
+        let before = [(1, LL, Outcome::Done), (1, word, ending)];
+        assert_eq!(rt; word_after_sc(&rt, name, &before)?, left, "{name}");
     }
     Ok(())
 }
@@ -222,14 +216,7 @@ fn what_is_raised(rt: HostRuntime) -> Result<(), Fail> {
     ] {
         let after = match raised {
             None => (Outcome::Done, 0),
-            Some(code) => {
-                let outcome = Outcome::Exception {
-                    code,
-                    epc: CODE,
-                    bd: false,
-                };
-                (outcome, BEFORE)
-            }
+            Some(code) => (exception(code), BEFORE),
         };
         assert_eq!(rt;
             done(&mut ram, &mut links, 1, word, BEFORE)?,

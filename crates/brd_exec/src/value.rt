@@ -194,7 +194,7 @@ pub fn count_value(op: CountOp, word: u32) -> u32
 {
     match op {
         CountOp::Clz => word.leading_zeros(),
-        CountOp::Clo => (!word).leading_zeros(),
+        CountOp::Clo => word.leading_ones(),
     }
 }
 
@@ -291,7 +291,7 @@ pub fn is_zero_branch_likely(op: BranchZeroOp) -> bool
     )
 }
 
-/// Whether `op rs, target` under REGIMM links.
+/// Whether `op rs, target` under REGIMM writes the return address.
 pub fn is_zero_branch_linking(op: BranchZeroOp) -> bool
     ensures { result ≡ is_linking op }
 {
