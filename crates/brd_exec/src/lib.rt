@@ -6,6 +6,7 @@
 mod access;
 mod context;
 mod execute;
+pub mod laws;
 mod outcome;
 mod value;
 
