@@ -5,6 +5,7 @@ use Rattle.std.proofs.lemmas.Bool.Decides.{nat_tests}
 use Rattle.std.specs.Prelude.{nat_eq, option_map}
 use Rattle.std.specs.List.{prefix_len}
 use Rattle.brd_text.specs.Bytes.{is_letter, is_digit, is_word_byte}
+use Rattle.brd_text.proofs.Runs.{run_len}
 use Rattle.brd_source.specs.Words.{Word, Place, is_blank, opens_comment, ends_string, escapes, string_len, quoted, words_in}
 use Rattle.brd_source.specs.Words.Word.{Run, Percent, Mark}
 use Rattle.brd_source.specs.Words.Place.{Between, InRun, InString, Escaped, InComment}
@@ -62,9 +63,6 @@ run_rest (b ∷ bs) =
 
 run_behind : (b n : ℕ) (bs : List ℕ) → n ≡ suc (prefix_len is_word_byte bs) → words_in InRun bs ≡ words_in Between (drop n (b ∷ bs))
 run_behind b n bs e = rw e (run_rest bs)
-
-run_len : (b n : ℕ) (bs : List ℕ) → is_word_byte b ≡ true → n ≡ prefix_len is_word_byte (b ∷ bs) → n ≡ suc (prefix_len is_word_byte bs)
-run_len b n bs h e = e ∙ rw h (omega arith)
 
 run_at : (b n : ℕ) (bs : List ℕ) → is_word_byte b ≡ true → n ≡ prefix_len is_word_byte (b ∷ bs) → Begins (b ∷ bs) (Run (take n (b ∷ bs))) (drop n (b ∷ bs))
 run_at b n bs h e = record {

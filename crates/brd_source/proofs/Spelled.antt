@@ -1,10 +1,11 @@
 -- What spells words has these words.
-use Rattle.std.proofs.Common.{◌≡◌, ℕ, ◌+◌, Bool, true, false, not, List, [], ◌∷◌, ◌++◌, length, drop, take, Some, refl, sym, ap, ◌∙◌, append_assoc, length-append, arith}
+use Rattle.std.proofs.Common.{◌≡◌, ℕ, ◌+◌, Bool, true, false, not, List, [], ◌∷◌, ◌++◌, length, drop, take, Some, refl, sym, ap, ◌∙◌, append_assoc, length-append}
 use Rattle.std.specs.List.{list_all, prefix_len}
 use Rattle.std.proofs.lemmas.Bool.{and_parts, not-true, ne_eqb}
 use Rattle.std.proofs.lemmas.List.{take_at, drop_at}
 use Rattle.brd_text.specs.Bytes.{is_word_byte}
 use Rattle.brd_text.specs.Spelling.{begins_with_word_byte}
+use Rattle.brd_text.proofs.Spelled.{prefix_of_run}
 use Rattle.brd_source.specs.Words.{Word, is_blank, opens_comment, ends_string, escapes, string_len, quoted, words_in, first, others}
 use Rattle.brd_source.specs.Words.Word.{Run, Percent, Quoted, Mark, End}
 use Rattle.brd_source.specs.Words.Place.{Between, InString}
@@ -20,14 +21,6 @@ one_word (w ∷ ws) word e some = ap (λ (v : Word). v ∷ ws) e
 
 after_word : (line behind : List ℕ) (word : Word) (words : List Word) → Begins line word behind → (word ≡ End → ⊥) → words_in Between behind ≡ words → words_in Between line ≡ word ∷ words
 after_word line behind word words b some e = one_word (words_in Between line) word b.word some ∙ ap (λ (ws : List Word). word ∷ ws) (b.rest ∙ e)
-
--- the bytes of a run, and what is no part of it
-prefix_of_run : (bs rest : List ℕ) → list_all is_word_byte bs ≡ true → begins_with_word_byte rest ≡ false → prefix_len is_word_byte (bs ++ rest) ≡ length bs
-prefix_of_run [] [] h e = refl
-prefix_of_run [] (b ∷ rest) h e = rw e refl
-prefix_of_run (b ∷ bs) rest h e =
-    let parts = and_parts (is_word_byte b) (list_all is_word_byte bs) h in
-    rw (parts.0, prefix_of_run bs rest parts.1 e) (omega arith)
 
 run_begins : (b : ℕ) (bs rest : List ℕ) → list_all is_word_byte (b ∷ bs) ≡ true → begins_with_word_byte rest ≡ false → Begins (b ∷ (bs ++ rest)) (Run (b ∷ bs)) rest
 run_begins b bs rest h e =

@@ -1,8 +1,6 @@
 //! The bytes of a line to words.
 
 ghost use Rattle.std.specs.Prelude.{◌≡◌, ◌∷◌, ◌<◌, ◌≤◌, length, false, true, IfSome, IfNone, List, ℕ};
-ghost use Rattle.std.specs.List.{prefix_len};
-ghost use Rattle.brd_text.specs.Bytes.{begins_with, is_word_byte as is_of_run};
 ghost use Rattle.brd_source.specs.Words.{words_in, seen};
 ghost use Rattle.brd_source.specs.Words as words;
 ghost use Rattle.brd_source.specs.Words.Place.{Between, InString};
@@ -10,7 +8,7 @@ ghost use Rattle.brd_source.specs.Fronts.{begins_word, Begins};
 ghost use Rattle.brd_source.specs.Spelling.{Spells};
 
 use crate::token::Token;
-use brd_text::is_word_byte;
+use brd_text::{behind, is_word_byte, run_len};
 use std::marker::Model;
 
 /// Whether a byte is a space, a tab or a carriage return.
@@ -21,21 +19,11 @@ fn is_blank(byte: u8) -> bool
     byte == b' ' || byte == b'\t' || byte == b'\r'
 }
 
-/// Whether the bytes begin with this one.
-fn begins(byte: u8, rest: &[u8]) -> bool
-    ensures { result ≡ begins_with byte rest.now }
-{
-    match rest.split_first() {
-        Some((first, _)) => *first == byte,
-        None => false,
-    }
-}
-
 /// Whether a comment begins at a byte, with these behind it.
 fn opens_comment(byte: u8, after: &[u8]) -> bool
     ensures { result ≡ words.opens_comment byte after.now }
 {
-    byte == b'#' || (byte == b'/' && begins(b'/', after))
+    byte == b'#' || (byte == b'/' && behind(b'/', after).is_some())
 }
 
 /// Whether a byte of a string ends it.
@@ -69,18 +57,6 @@ fn after_blanks(line: &[u8]) -> &[u8]
         return left;
     }
     left
-}
-
-/// How many bytes the run at the front has.
-fn run_len(rest: &[u8]) -> usize
-    ensures { result ≡ prefix_len is_of_run rest.now }
-{
-    for (i, byte) in rest.iter().enumerate() {
-        if !is_word_byte(*byte) {
-            return i;
-        }
-    }
-    rest.len()
 }
 
 /// How many bytes stand before the quote that ends a string.

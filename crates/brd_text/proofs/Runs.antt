@@ -60,7 +60,7 @@ run_rest line (b ∷ bs) =
 run_behind : (line b n : ℕ) (bs : List ℕ) → n ≡ suc (prefix_len is_word_byte bs) → words_in InRun line bs ≡ words_in Between line (drop n (b ∷ bs))
 run_behind line b n bs e = rw e (run_rest line bs)
 
-run_len : (b n : ℕ) (bs : List ℕ) → is_word_byte b ≡ true → n ≡ prefix_len is_word_byte (b ∷ bs) → n ≡ suc (prefix_len is_word_byte bs)
+pub run_len : (b n : ℕ) (bs : List ℕ) → is_word_byte b ≡ true → n ≡ prefix_len is_word_byte (b ∷ bs) → n ≡ suc (prefix_len is_word_byte bs)
 run_len b n bs h e = e ∙ rw h (omega arith)
 
 run_at : (b n : ℕ) (bs : List ℕ) → is_word_byte b ≡ true → n ≡ prefix_len is_word_byte (b ∷ bs) → Begins (b ∷ bs) (Run (take n (b ∷ bs))) (drop n (b ∷ bs))

@@ -44,7 +44,7 @@ in_block line (b ∷ bs) rest h =
 -- ---- words
 
 -- the bytes of a run, and what is no part of it
-prefix_of_run : (bs rest : List ℕ) → list_all is_word_byte bs ≡ true → begins_with_word_byte rest ≡ false → prefix_len is_word_byte (bs ++ rest) ≡ length bs
+pub prefix_of_run : (bs rest : List ℕ) → list_all is_word_byte bs ≡ true → begins_with_word_byte rest ≡ false → prefix_len is_word_byte (bs ++ rest) ≡ length bs
 prefix_of_run [] [] h e = refl
 prefix_of_run [] (b ∷ rest) h e = rw e refl
 prefix_of_run (b ∷ bs) rest h e =

@@ -8,7 +8,7 @@ ghost use Rattle.brd_text.specs.Bytes as bytes;
 pub fn is_letter(byte: u8) -> bool
     ensures { result ≡ bytes.is_letter byte }
 {
-    (65 <= byte && byte <= 90) || (97 <= byte && byte <= 122)
+    (b'A' <= byte && byte <= b'Z') || (b'a' <= byte && byte <= b'z')
 }
 
 /// Whether a byte is a decimal digit.
@@ -16,7 +16,7 @@ pub fn is_letter(byte: u8) -> bool
 pub fn is_digit(byte: u8) -> bool
     ensures { result ≡ bytes.is_digit byte }
 {
-    48 <= byte && byte <= 57
+    b'0' <= byte && byte <= b'9'
 }
 
 /// Whether a byte belongs to a run: a letter, a digit, `_`, `.` or `$`.

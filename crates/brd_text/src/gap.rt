@@ -1,14 +1,12 @@
 //! The parts of the scanner: the gap before a word, and the word at the front of a text.
 
-ghost use Rattle.std.specs.Prelude.{◌≡◌, ℕ, ◌+◌, ◌<◌, ◌≤◌, ◌^◌, ◌∷◌, length, false, true, IfSome, IfNone};
-ghost use Rattle.std.specs.List.{prefix_len};
-ghost use Rattle.brd_text.specs.Bytes.{begins_with};
-ghost use Rattle.brd_text.specs.Bytes as bytes;
+ghost use Rattle.std.specs.Prelude.{◌≡◌, ℕ, ◌+◌, ◌<◌, ◌≤◌, ◌^◌, length, true};
 ghost use Rattle.brd_text.specs.Words.{words_in, seen};
 ghost use Rattle.brd_text.specs.Words.Place.{Between, InLine, InBlock};
 ghost use Rattle.brd_text.specs.Gaps.{words_behind, room_of, left_of, begins_word, IsAtWord, Begins};
 
 use crate::byte::{is_blank, is_word_byte};
+use crate::front::{behind, run_len};
 use crate::token::Token;
 
 /// Where a gap between words ends.
@@ -17,29 +15,6 @@ pub(crate) enum Gap<'a> {
     Closed(&'a [u8], usize),
     /// The text ends on this line, in a comment.
     Open(usize),
-}
-
-/// The bytes behind `byte`, where they begin with it.
-fn behind(byte: u8, rest: &[u8]) -> Option<&[u8]>
-    ensures found { IfSome result (λ x. rest.now ≡ byte ∷ x.now) }
-    ensures none { IfNone result (begins_with byte rest.now ≡ false) }
-{
-    match rest.split_first() {
-        Some((first, after)) if *first == byte => Some(after),
-        _ => None,
-    }
-}
-
-/// How many bytes the run at the front has.
-fn run_len(rest: &[u8]) -> usize
-    ensures { result ≡ prefix_len bytes.is_word_byte rest.now }
-{
-    for (i, byte) in rest.iter().enumerate() {
-        if !is_word_byte(*byte) {
-            return i;
-        }
-    }
-    rest.len()
 }
 
 /// The end of the line: a newline and what follows it, or nothing.

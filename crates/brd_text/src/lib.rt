@@ -3,12 +3,14 @@
 #![tactic(auto)]
 
 mod byte;
+mod front;
 mod gap;
 mod numeral;
 mod scanner;
 mod token;
 
 pub use byte::{is_digit, is_letter, is_name, is_word_byte};
+pub use front::{behind, run_len};
 pub use numeral::{decimal, number};
 pub use scanner::{Scanner, spelled_words_are_scanned};
 pub use token::Token;

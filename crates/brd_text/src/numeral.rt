@@ -9,14 +9,14 @@ fn digit(base: u32, byte: u8) -> Option<u32>
     ensures value { result ≡ digit_of base byte }
     ensures small { IfSome result (λ d. d < 16) }
 {
-    if 48 <= byte && byte <= 57 {
-        return Some((byte - 48) as u32);
+    if b'0' <= byte && byte <= b'9' {
+        return Some((byte - b'0') as u32);
     }
-    if base == 16 && 97 <= byte && byte <= 102 {
-        return Some((byte - 87) as u32);
+    if base == 16 && b'a' <= byte && byte <= b'f' {
+        return Some((byte - (b'a' - 10)) as u32);
     }
-    if base == 16 && 65 <= byte && byte <= 70 {
-        return Some((byte - 55) as u32);
+    if base == 16 && b'A' <= byte && byte <= b'F' {
+        return Some((byte - (b'A' - 10)) as u32);
     }
     None
 }
