@@ -33,7 +33,8 @@ use Rattle.brd_source.specs.Words.{Word, Place, words_in, words_of, first, other
 use Rattle.brd_source.specs.Words.Place.{Between}
 use Rattle.brd_source.specs.Words.Word.{Run, Percent, Quoted, Mark, Wrong, End}
 use Rattle.brd_source.proofs.EachWord.{each_word}
-use Rattle.brd_source.proofs.GrammarBack.{Front, run_back, mark_front, mark_back, expression_back, operands_back, Shortens, shorthand_name, shorthand_back, table_back, shorthand_named}
+use Rattle.brd_source.proofs.OperandsBack.{Front, run_back, mark_front, mark_back, expression_back}
+use Rattle.brd_source.proofs.InstructionsBack.{operands_back, Shortens, shorthand_name, shorthand_back, table_back, shorthand_named}
 
 -- ---- values
 

@@ -1,9 +1,10 @@
 -- What has the form of a line is read as what it spells: operands.
 use Rattle.std.proofs.Common.{◌≡◌, ℕ, true, false, eqb, List, [], ◌∷◌, ◌++◌, Some, None, Ok, refl, sym, ◌∙◌, inl, inr, append-nil, append_assoc, arith}
 use Rattle.std.specs.Prelude.{ℤ}
-use Rattle.std.proofs.lemmas.Bool.{cases_Bool}
+use Rattle.std.specs.List.{list_all}
+use Rattle.std.proofs.lemmas.Bool.{cases_Bool, and_parts}
 use Rattle.std.proofs.lemmas.Bool.Decides.{nat_tests}
-use Rattle.brd_text.specs.Bytes.{is_name, begins_name, is_letter}
+use Rattle.brd_text.specs.Bytes.{is_name, is_word_byte, begins_name, is_letter}
 use Rattle.brd_text.specs.Numbers.{digit_of, value_behind, value_of, number_of}
 use Rattle.brd_source.specs.Grammar.{comma, opened, closed, NumberIs, ExpressionIs, ImmediateIs, Operand, OperandIs, OperandsAre}
 use Rattle.brd_source.specs.Grammar.NumberIs.{unsigned, negative}
@@ -40,11 +41,12 @@ not_zero a h zero = grind (arith, nat_tests)
 no_number : (run : List ℕ) → is_name run ≡ true → number_of run ≡ None
 unfolding number_of
 no_number [] h = absurd (cc)
-no_number (a ∷ []) h = no_decimal a [] h
+no_number (a ∷ []) h = no_decimal a [] (and_parts (begins_name a) true h).0
 no_number (a ∷ b ∷ bs) h =
+    let begins = (and_parts (begins_name a) (list_all is_word_byte (b ∷ bs)) h).0 in
     elim (cases_Bool (eqb a 48)) [
-      | inl zero ↦ absurd (not_zero a h zero)
-      | inr other ↦ rw other (no_decimal a (b ∷ bs) h)
+      | inl zero ↦ absurd (not_zero a begins zero)
+      | inr other ↦ rw other (no_decimal a (b ∷ bs) begins)
     ]
 
 none_is_some : (n : ℕ) → None ≡ Some n → ⊥

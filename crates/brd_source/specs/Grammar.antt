@@ -25,7 +25,7 @@ use Rattle.brd_isa.specs.declared.instruction.StoreOp.{StoreOp}
 use Rattle.brd_isa.specs.declared.instruction.TrapImmediateOp.{TrapImmediateOp}
 use Rattle.brd_isa.specs.declared.instruction.TrapOp.{TrapOp}
 use Rattle.brd_isa.specs.declared.mnemonic.Mnemonic.{Mnemonic}
-use Rattle.brd_isa.specs.declared.mnemonic.Mnemonic.TheVariants as op
+use Rattle.brd_isa.specs.declared.mnemonic.Mnemonic.TheVariants as mnemonics
 use Rattle.brd_isa.specs.Names.{lowered, mnemonic_named}
 use Rattle.brd_text.specs.Bytes.{is_name}
 use Rattle.brd_text.specs.Numbers.{number_of}
@@ -71,8 +71,10 @@ pub data NumberIs : List Word → ℤ → Type 0 where
 pub data ExpressionIs : List Word → Expression → Type 0 where
   number : (words : List Word) (v : ℤ) → NumberIs words v → ExpressionIs words (record { name = None; number = v })
   name : (run : List ℕ) → is_name run ≡ true → ExpressionIs (Run run ∷ []) (record { name = Some run; number = pos 0 })
-  sum : (run : List ℕ) (words : List Word) (v : ℤ) → is_name run ≡ true → NumberIs words v → ExpressionIs (Run run ∷ plus ∷ words) (record { name = Some run; number = v })
-  difference : (run : List ℕ) (words : List Word) (v : ℤ) → is_name run ≡ true → NumberIs words v → ExpressionIs (Run run ∷ minus ∷ words) (record { name = Some run; number = neg_ℤ v })
+  sum : (run : List ℕ) (words : List Word) (v : ℤ) → is_name run ≡ true → NumberIs words v
+      → ExpressionIs (Run run ∷ plus ∷ words) (record { name = Some run; number = v })
+  difference : (run : List ℕ) (words : List Word) (v : ℤ) → is_name run ≡ true → NumberIs words v
+      → ExpressionIs (Run run ∷ minus ∷ words) (record { name = Some run; number = neg_ℤ v })
 
 -- an expression, %hi(expression), %lo(expression); hi and lo in lower case
 pub data ImmediateIs : List Word → Immediate → Type 0 where
@@ -90,49 +92,58 @@ pub data Operand : Type 0 where
 pub data OperandIs : List Word → Operand → Type 0 where
   register : (run : List ℕ) (r : ℕ) → register_of run ≡ Some r → OperandIs (Run run ∷ []) (Register r)
   value : (words : List Word) (i : Immediate) → ImmediateIs words i → OperandIs words (Value i)
-  offset : (words : List Word) (i : Immediate) (run : List ℕ) (r : ℕ) → ImmediateIs words i → register_of run ≡ Some r → OperandIs (words ++ opened ∷ Run run ∷ closed ∷ []) (At i r)
+  offset : (words : List Word) (i : Immediate) (run : List ℕ) (r : ℕ) → ImmediateIs words i → register_of run ≡ Some r
+      → OperandIs (words ++ opened ∷ Run run ∷ closed ∷ []) (At i r)
   no_offset : (run : List ℕ) (r : ℕ) → register_of run ≡ Some r → OperandIs (opened ∷ Run run ∷ closed ∷ []) (At (Whole zero_expression) r)
 
 -- operands with commas between them
 pub data OperandsAre : List Word → List Operand → Type 0 where
   none : OperandsAre [] []
-  last : (words : List Word) (o : Operand) → OperandIs words o → OperandsAre words (o ∷ [])
-  more : (words others : List Word) (o p : Operand) (os : List Operand) → OperandIs words o → OperandsAre others (p ∷ os) → OperandsAre (words ++ comma ∷ others) (o ∷ p ∷ os)
+  last : (words : List Word) (operand : Operand) → OperandIs words operand → OperandsAre words (operand ∷ [])
+  more : (words others : List Word) (operand next : Operand) (operands : List Operand) → OperandIs words operand
+      → OperandsAre others (next ∷ operands) → OperandsAre (words ++ comma ∷ others) (operand ∷ next ∷ operands)
 
 -- ---- instructions
 
 -- the operands that each mnemonic takes, and the instruction that they make
 pub data Takes : Mnemonic → List Operand → Instruction → Type 0 where
-  shift : (o : ShiftOp) (rd rt : ℕ) (sa : Expression) → Takes (op.Shift o) (Register rd ∷ Register rt ∷ Value (Whole sa) ∷ []) (Shift o rd rt sa)
-  shift_variable : (o : ShiftVariableOp) (rd rt rs : ℕ) → Takes (op.ShiftVariable o) (Register rd ∷ Register rt ∷ Register rs ∷ []) (ShiftVariable o rd rt rs)
-  three_registers : (o : RegisterOp) (rd rs rt : ℕ) → Takes (op.ThreeRegisters o) (Register rd ∷ Register rs ∷ Register rt ∷ []) (ThreeRegisters o rd rs rt)
-  multiply : (rd rs rt : ℕ) → Takes op.Multiply (Register rd ∷ Register rs ∷ Register rt ∷ []) (Multiply rd rs rt)
-  jump_register : (rs : ℕ) → Takes op.JumpRegister (Register rs ∷ []) (JumpRegister rs)
-  jump_link : (rs : ℕ) → Takes op.JumpLinkRegister (Register rs ∷ []) (JumpLinkRegister 31 rs)
-  jump_link_in : (rd rs : ℕ) → Takes op.JumpLinkRegister (Register rd ∷ Register rs ∷ []) (JumpLinkRegister rd rs)
-  syscall : Takes op.Syscall [] (Syscall zero_expression)
-  syscall_code : (code : Expression) → Takes op.Syscall (Value (Whole code) ∷ []) (Syscall code)
-  break_call : Takes op.Break [] (Break zero_expression)
-  break_code : (code : Expression) → Takes op.Break (Value (Whole code) ∷ []) (Break code)
-  sync : Takes op.Sync [] Sync
-  move_from : (o : MoveFromOp) (rd : ℕ) → Takes (op.MoveFrom o) (Register rd ∷ []) (MoveFrom o rd)
-  move_to : (o : MoveToOp) (rs : ℕ) → Takes (op.MoveTo o) (Register rs ∷ []) (MoveTo o rs)
-  product : (o : ProductOp) (rs rt : ℕ) → Takes (op.Product o) (Register rs ∷ Register rt ∷ []) (Product o rs rt)
-  accumulate : (o : AccumulateOp) (rs rt : ℕ) → Takes (op.Accumulate o) (Register rs ∷ Register rt ∷ []) (Accumulate o rs rt)
-  count : (o : CountOp) (rd rs : ℕ) → Takes (op.Count o) (Register rd ∷ Register rs ∷ []) (Count o rd rs)
-  trap : (o : TrapOp) (rs rt : ℕ) → Takes (op.Trap o) (Register rs ∷ Register rt ∷ []) (Trap o rs rt zero_expression)
-  trap_code : (o : TrapOp) (rs rt : ℕ) (code : Expression) → Takes (op.Trap o) (Register rs ∷ Register rt ∷ Value (Whole code) ∷ []) (Trap o rs rt code)
-  trap_immediate : (o : TrapImmediateOp) (rs : ℕ) (i : Immediate) → Takes (op.TrapImmediate o) (Register rs ∷ Value i ∷ []) (TrapImmediate o rs i)
-  jump : (o : JumpOp) (target : Expression) → Takes (op.Jump o) (Value (Whole target) ∷ []) (Jump o target)
-  branch : (o : BranchOp) (rs rt : ℕ) (target : Expression) → Takes (op.Branch o) (Register rs ∷ Register rt ∷ Value (Whole target) ∷ []) (Branch o rs rt target)
-  branch_sign : (o : BranchSignOp) (rs : ℕ) (target : Expression) → Takes (op.BranchSign o) (Register rs ∷ Value (Whole target) ∷ []) (BranchSign o rs target)
-  branch_zero : (o : BranchZeroOp) (rs : ℕ) (target : Expression) → Takes (op.BranchZero o) (Register rs ∷ Value (Whole target) ∷ []) (BranchZero o rs target)
-  with_immediate : (o : ImmediateOp) (rt rs : ℕ) (i : Immediate) → Takes (op.Immediate o) (Register rt ∷ Register rs ∷ Value i ∷ []) (WithImmediate o rt rs i)
-  load_upper : (rt : ℕ) (i : Immediate) → Takes op.LoadUpper (Register rt ∷ Value i ∷ []) (LoadUpper rt i)
-  load : (o : LoadOp) (rt base : ℕ) (i : Immediate) → Takes (op.Load o) (Register rt ∷ At i base ∷ []) (Load o rt base i)
-  store : (o : StoreOp) (rt base : ℕ) (i : Immediate) → Takes (op.Store o) (Register rt ∷ At i base ∷ []) (Store o rt base i)
-  linked : (o : LinkedOp) (rt base : ℕ) (i : Immediate) → Takes (op.Linked o) (Register rt ∷ At i base ∷ []) (Linked o rt base i)
-  prefetch : (hint : Expression) (base : ℕ) (i : Immediate) → Takes op.Prefetch (Value (Whole hint) ∷ At i base ∷ []) (Prefetch hint base i)
+  shift : (op : ShiftOp) (rd rt : ℕ) (sa : Expression) → Takes (mnemonics.Shift op) (Register rd ∷ Register rt ∷ Value (Whole sa) ∷ []) (Shift op rd rt sa)
+  shift_variable : (op : ShiftVariableOp) (rd rt rs : ℕ)
+      → Takes (mnemonics.ShiftVariable op) (Register rd ∷ Register rt ∷ Register rs ∷ []) (ShiftVariable op rd rt rs)
+  three_registers : (op : RegisterOp) (rd rs rt : ℕ)
+      → Takes (mnemonics.ThreeRegisters op) (Register rd ∷ Register rs ∷ Register rt ∷ []) (ThreeRegisters op rd rs rt)
+  multiply : (rd rs rt : ℕ) → Takes mnemonics.Multiply (Register rd ∷ Register rs ∷ Register rt ∷ []) (Multiply rd rs rt)
+  jump_register : (rs : ℕ) → Takes mnemonics.JumpRegister (Register rs ∷ []) (JumpRegister rs)
+  jump_link : (rs : ℕ) → Takes mnemonics.JumpLinkRegister (Register rs ∷ []) (JumpLinkRegister 31 rs)
+  jump_link_in : (rd rs : ℕ) → Takes mnemonics.JumpLinkRegister (Register rd ∷ Register rs ∷ []) (JumpLinkRegister rd rs)
+  syscall : Takes mnemonics.Syscall [] (Syscall zero_expression)
+  syscall_code : (code : Expression) → Takes mnemonics.Syscall (Value (Whole code) ∷ []) (Syscall code)
+  break_call : Takes mnemonics.Break [] (Break zero_expression)
+  break_code : (code : Expression) → Takes mnemonics.Break (Value (Whole code) ∷ []) (Break code)
+  sync : Takes mnemonics.Sync [] Sync
+  move_from : (op : MoveFromOp) (rd : ℕ) → Takes (mnemonics.MoveFrom op) (Register rd ∷ []) (MoveFrom op rd)
+  move_to : (op : MoveToOp) (rs : ℕ) → Takes (mnemonics.MoveTo op) (Register rs ∷ []) (MoveTo op rs)
+  product : (op : ProductOp) (rs rt : ℕ) → Takes (mnemonics.Product op) (Register rs ∷ Register rt ∷ []) (Product op rs rt)
+  accumulate : (op : AccumulateOp) (rs rt : ℕ) → Takes (mnemonics.Accumulate op) (Register rs ∷ Register rt ∷ []) (Accumulate op rs rt)
+  count : (op : CountOp) (rd rs : ℕ) → Takes (mnemonics.Count op) (Register rd ∷ Register rs ∷ []) (Count op rd rs)
+  trap : (op : TrapOp) (rs rt : ℕ) → Takes (mnemonics.Trap op) (Register rs ∷ Register rt ∷ []) (Trap op rs rt zero_expression)
+  trap_code : (op : TrapOp) (rs rt : ℕ) (code : Expression)
+      → Takes (mnemonics.Trap op) (Register rs ∷ Register rt ∷ Value (Whole code) ∷ []) (Trap op rs rt code)
+  trap_immediate : (op : TrapImmediateOp) (rs : ℕ) (i : Immediate) → Takes (mnemonics.TrapImmediate op) (Register rs ∷ Value i ∷ []) (TrapImmediate op rs i)
+  jump : (op : JumpOp) (target : Expression) → Takes (mnemonics.Jump op) (Value (Whole target) ∷ []) (Jump op target)
+  branch : (op : BranchOp) (rs rt : ℕ) (target : Expression)
+      → Takes (mnemonics.Branch op) (Register rs ∷ Register rt ∷ Value (Whole target) ∷ []) (Branch op rs rt target)
+  branch_sign : (op : BranchSignOp) (rs : ℕ) (target : Expression)
+      → Takes (mnemonics.BranchSign op) (Register rs ∷ Value (Whole target) ∷ []) (BranchSign op rs target)
+  branch_zero : (op : BranchZeroOp) (rs : ℕ) (target : Expression)
+      → Takes (mnemonics.BranchZero op) (Register rs ∷ Value (Whole target) ∷ []) (BranchZero op rs target)
+  with_immediate : (op : ImmediateOp) (rt rs : ℕ) (i : Immediate)
+      → Takes (mnemonics.Immediate op) (Register rt ∷ Register rs ∷ Value i ∷ []) (WithImmediate op rt rs i)
+  load_upper : (rt : ℕ) (i : Immediate) → Takes mnemonics.LoadUpper (Register rt ∷ Value i ∷ []) (LoadUpper rt i)
+  load : (op : LoadOp) (rt base : ℕ) (i : Immediate) → Takes (mnemonics.Load op) (Register rt ∷ At i base ∷ []) (Load op rt base i)
+  store : (op : StoreOp) (rt base : ℕ) (i : Immediate) → Takes (mnemonics.Store op) (Register rt ∷ At i base ∷ []) (Store op rt base i)
+  linked : (op : LinkedOp) (rt base : ℕ) (i : Immediate) → Takes (mnemonics.Linked op) (Register rt ∷ At i base ∷ []) (Linked op rt base i)
+  prefetch : (hint : Expression) (base : ℕ) (i : Immediate) → Takes mnemonics.Prefetch (Value (Whole hint) ∷ At i base ∷ []) (Prefetch hint base i)
 
 -- the instruction that a shorthand, in lower case, stands for
 pub data ShorthandIs : List ℕ → List Operand → Instruction → Type 0 where
@@ -148,7 +159,8 @@ pub data ShorthandIs : List ℕ → List Operand → Instruction → Type 0 wher
 -- values with commas between them, one at least
 pub data ValuesAre : List Word → List Expression → Type 0 where
   one : (words : List Word) (e : Expression) → ExpressionIs words e → ValuesAre words (e ∷ [])
-  many : (words others : List Word) (e : Expression) (es : List Expression) → ExpressionIs words e → ValuesAre others es → ValuesAre (words ++ comma ∷ others) (e ∷ es)
+  many : (words others : List Word) (e : Expression) (es : List Expression) → ExpressionIs words e → ValuesAre others es
+      → ValuesAre (words ++ comma ∷ others) (e ∷ es)
 
 -- the width of each value of a directive
 pub data WidthIs : List ℕ → Width → Type 0 where
@@ -165,19 +177,26 @@ pub data IsSetting : List ℕ → Type 0 where
 -- A mnemonic, a shorthand or a directive, in whatever case, and what stands behind it; or nothing. .globl and .set say nothing.
 pub data StatementIs : List Word → Statement → Type 0 where
   left_out : StatementIs [] Nothing
-  instruction : (run : List ℕ) (words : List Word) (m : Mnemonic) (os : List Operand) (i : Instruction) → mnemonic_named (lowered run) ≡ Some m → OperandsAre words os → Takes m os i → StatementIs (Run run ∷ words) (Instruct i)
-  shorthand : (run : List ℕ) (words : List Word) (os : List Operand) (i : Instruction) → OperandsAre words os → ShorthandIs (lowered run) os i → StatementIs (Run run ∷ words) (Instruct i)
+  instruction : (run : List ℕ) (words : List Word) (m : Mnemonic) (operands : List Operand) (i : Instruction)
+      → mnemonic_named (lowered run) ≡ Some m → OperandsAre words operands → Takes m operands i → StatementIs (Run run ∷ words) (Instruct i)
+  shorthand : (run : List ℕ) (words : List Word) (operands : List Operand) (i : Instruction) → OperandsAre words operands
+      → ShorthandIs (lowered run) operands i → StatementIs (Run run ∷ words) (Instruct i)
   org : (run : List ℕ) (words : List Word) (e : Expression) → lowered run ≡ codes ".org" → ExpressionIs words e → StatementIs (Run run ∷ words) (Org e)
   align : (run : List ℕ) (words : List Word) (e : Expression) → lowered run ≡ codes ".align" → ExpressionIs words e → StatementIs (Run run ∷ words) (Align e)
   space : (run : List ℕ) (words : List Word) (e : Expression) → lowered run ≡ codes ".space" → ExpressionIs words e → StatementIs (Run run ∷ words) (Space e)
-  values : (run : List ℕ) (words : List Word) (w : Width) (es : List Expression) → WidthIs (lowered run) w → ValuesAre words es → StatementIs (Run run ∷ words) (Data w es)
+  values : (run : List ℕ) (words : List Word) (w : Width) (es : List Expression) → WidthIs (lowered run) w → ValuesAre words es
+      → StatementIs (Run run ∷ words) (Data w es)
   ascii : (run text bytes : List ℕ) → lowered run ≡ codes ".ascii" → text_of text ≡ Ok bytes → StatementIs (Run run ∷ Quoted text ∷ []) (Text bytes)
-  asciiz : (run text bytes : List ℕ) → lowered run ≡ codes ".asciiz" → text_of text ≡ Ok bytes → StatementIs (Run run ∷ Quoted text ∷ []) (Text (bytes ++ 0 ∷ []))
-  equ : (run given : List ℕ) (words : List Word) (e : Expression) → lowered run ≡ codes ".equ" → is_name given ≡ true → ExpressionIs words e → StatementIs (Run run ∷ Run given ∷ comma ∷ words) (Equal given e)
+  asciiz : (run text bytes : List ℕ) → lowered run ≡ codes ".asciiz" → text_of text ≡ Ok bytes
+      → StatementIs (Run run ∷ Quoted text ∷ []) (Text (bytes ++ 0 ∷ []))
+  equ : (run given : List ℕ) (words : List Word) (e : Expression) → lowered run ≡ codes ".equ" → is_name given ≡ true → ExpressionIs words e
+      → StatementIs (Run run ∷ Run given ∷ comma ∷ words) (Equal given e)
   globl : (run given : List ℕ) → lowered run ≡ codes ".globl" → is_name given ≡ true → StatementIs (Run run ∷ Run given ∷ []) Nothing
   set : (run setting : List ℕ) → lowered run ≡ codes ".set" → IsSetting setting → StatementIs (Run run ∷ Run setting ∷ []) Nothing
 
 -- any number of labels, each with a colon, and then a statement
 pub data LineIs : List Word → Line → Type 0 where
   statement : (words : List Word) (s : Statement) → StatementIs words s → LineIs words (record { labels = []; statement = s })
-  label : (run : List ℕ) (words : List Word) (labels : List (List ℕ)) (s : Statement) → is_name run ≡ true → LineIs words (record { labels = labels; statement = s }) → LineIs (Run run ∷ colon ∷ words) (record { labels = run ∷ labels; statement = s })
+  label : (run : List ℕ) (words : List Word) (labels : List (List ℕ)) (s : Statement) → is_name run ≡ true
+      → LineIs words (record { labels = labels; statement = s })
+      → LineIs (Run run ∷ colon ∷ words) (record { labels = run ∷ labels; statement = s })

@@ -17,7 +17,11 @@ pub data Spells : List ℕ → List Word → Type 0 where
   blank : (b : ℕ) (bytes : List ℕ) (words : List Word) → is_blank b ≡ true → Spells bytes words → Spells (b ∷ bytes) words
   sharp_comment : (comment : List ℕ) → Spells (35 ∷ comment) []
   slash_comment : (comment : List ℕ) → Spells (47 ∷ 47 ∷ comment) []
-  run : (b : ℕ) (bs bytes : List ℕ) (words : List Word) → list_all is_word_byte (b ∷ bs) ≡ true → begins_with_word_byte bytes ≡ false → Spells bytes words → Spells (b ∷ (bs ++ bytes)) (Run (b ∷ bs) ∷ words)
-  percent_run : (bs bytes : List ℕ) (words : List Word) → list_all is_word_byte bs ≡ true → begins_with_word_byte bytes ≡ false → Spells bytes words → Spells (37 ∷ (bs ++ bytes)) (Percent bs ∷ words)
-  in_quotes : (text bytes : List ℕ) (words : List Word) → stays_open false text ≡ true → Spells bytes words → Spells (34 ∷ (text ++ 34 ∷ bytes)) (Quoted text ∷ words)
-  mark : (b : ℕ) (bytes : List ℕ) (words : List Word) → is_word_byte b ≡ false → is_blank b ≡ false → opens_comment b bytes ≡ false → (b ≡ 37 → ⊥) → (b ≡ 34 → ⊥) → Spells bytes words → Spells (b ∷ bytes) (Mark b ∷ words)
+  run : (b : ℕ) (bs bytes : List ℕ) (words : List Word) → list_all is_word_byte (b ∷ bs) ≡ true → begins_with_word_byte bytes ≡ false
+      → Spells bytes words → Spells (b ∷ (bs ++ bytes)) (Run (b ∷ bs) ∷ words)
+  percent_run : (bs bytes : List ℕ) (words : List Word) → list_all is_word_byte bs ≡ true → begins_with_word_byte bytes ≡ false
+      → Spells bytes words → Spells (37 ∷ (bs ++ bytes)) (Percent bs ∷ words)
+  in_quotes : (text bytes : List ℕ) (words : List Word) → stays_open false text ≡ true → Spells bytes words
+      → Spells (34 ∷ (text ++ 34 ∷ bytes)) (Quoted text ∷ words)
+  mark : (b : ℕ) (bytes : List ℕ) (words : List Word) → is_word_byte b ≡ false → is_blank b ≡ false → opens_comment b bytes ≡ false
+      → (b ≡ 37 → ⊥) → (b ≡ 34 → ⊥) → Spells bytes words → Spells (b ∷ bytes) (Mark b ∷ words)

@@ -1,10 +1,11 @@
 -- Words at the front of a text: blanks, comments, runs and marks.
-use Rattle.std.proofs.Common.{◌≡◌, ℕ, suc, ◌+◌, Bool, true, false, not, ◌&&◌, ◌||◌, List, [], ◌∷◌, drop, take, refl, ◌∙◌, inl, inr, arith}
+use Rattle.std.proofs.Common.{◌≡◌, ℕ, suc, ◌+◌, Bool, true, false, not, ◌&&◌, ◌||◌, List, [], ◌∷◌, length, drop, take, refl, ◌∙◌, inl, inr, arith}
+use Prim.Native.Nat.compare
 use Rattle.std.proofs.lemmas.Bool.{ne_eqb, cases_Bool, not-true, and_parts}
 use Rattle.std.proofs.lemmas.Bool.Decides.{nat_tests}
 use Rattle.std.specs.Prelude.{nat_eq, if◌then◌else◌}
-use Rattle.std.specs.List.{prefix_len}
-use Rattle.brd_text.specs.Bytes.{is_letter, is_digit, is_word_byte, is_blank, begins_with}
+use Rattle.std.specs.List.{list_all, prefix_len}
+use Rattle.brd_text.specs.Bytes.{is_letter, is_digit, is_word_byte, is_blank, begins_name, begins_with, is_name}
 use Rattle.brd_text.specs.Words.{Text, opens_comment, line_after, words_in}
 use Rattle.brd_text.specs.Words.Word.{Run, Mark}
 use Rattle.brd_text.specs.Words.Place.{Between, InRun, InLine, Opened, InBlock}
@@ -27,6 +28,20 @@ word_byte-is_newline b h = grind (arith, nat_tests)
 pub other-is_newline : (b : ℕ) → is_blank b ≡ false → nat_eq b 10 ≡ false
 unfolding is_blank
 other-is_newline b h = grind (arith, nat_tests)
+
+-- ---- names
+
+all_in_run : (bs : List ℕ) → nat_eq (prefix_len is_word_byte bs) (length bs) ≡ list_all is_word_byte bs
+all_in_run [] = refl
+all_in_run (b ∷ bs) =
+    elim (cases_Bool (is_word_byte b)) [
+      | inl is_one ↦ let one : 1 + prefix_len is_word_byte bs ≡ suc (prefix_len is_word_byte bs) = omega arith in
+          rw (is_one, one, compare.suc-suc (prefix_len is_word_byte bs) (length bs)) (all_in_run bs)
+      | inr is_other ↦ rw (is_other, ne_eqb 0 (suc (length bs)) (λ e. omega (arith, e))) refl
+    ]
+
+pub name_front : (b n : ℕ) (text bs : List ℕ) → text ≡ b ∷ bs → begins_name b ≡ true → n ≡ prefix_len is_word_byte bs → nat_eq n (length bs) ≡ is_name text
+name_front b n text bs e h len = rw (e, h, len) (all_in_run bs)
 
 -- ---- gaps
 

@@ -1,5 +1,6 @@
 -- The bytes of a text by kind: letters, digits, the bytes of words, and blanks. All by their ASCII codes.
 use Rattle.std.specs.Prelude.{ℕ, Bool, false, ◌||◌, ◌&&◌, ◌==◌, nat_le, List, [], ◌∷◌}
+use Rattle.std.specs.List.{list_all}
 
 -- A to Z and a to z
 unfoldable pub is_letter : ℕ → Bool
@@ -26,7 +27,7 @@ abbrev pub begins_with : ℕ → List ℕ → Bool
 begins_with a [] = false
 begins_with a (b ∷ bs) = b == a
 
--- Run of word bytes that is a name. (What it goes on with are word bytes.)
+-- a name: a run of word bytes that begins with a letter, underscore or dot
 abbrev pub is_name : List ℕ → Bool
 is_name [] = false
-is_name (b ∷ bs) = begins_name b
+is_name (b ∷ bs) = begins_name b && list_all is_word_byte bs

@@ -3,6 +3,8 @@
 ghost use Rattle.std.specs.Prelude.{◌≡◌};
 ghost use Rattle.brd_text.specs.Bytes as bytes;
 
+use crate::front::run_len;
+
 /// Whether a byte is an ASCII letter.
 #[tactic(auto, unfolding(crate::specs::Bytes::is_letter))]
 pub fn is_letter(byte: u8) -> bool
@@ -43,12 +45,12 @@ fn begins_name(byte: u8) -> bool
     is_letter(byte) || byte == b'_' || byte == b'.'
 }
 
-/// Whether a run of word bytes is a name: it begins with a letter, `_` or `.`.
-pub fn is_name(run: &[u8]) -> bool
-    ensures { result ≡ bytes.is_name run.now }
+/// Whether the bytes are a name: a run of word bytes that begins with a letter, `_` or `.`.
+pub fn is_name(text: &[u8]) -> bool
+    ensures { result ≡ bytes.is_name text.now }
 {
-    match run.split_first() {
+    match text.split_first() {
         None => false,
-        Some((first, _)) => begins_name(*first),
+        Some((first, others)) => begins_name(*first) && run_len(others) == others.len(),
     }
 }

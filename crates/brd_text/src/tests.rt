@@ -2,32 +2,22 @@
 
 use crate::{Scanner, Token, decimal, is_digit, is_letter, is_name, is_word_byte, number};
 
-/// The kind of a word, its bytes and its line.
-fn shown<'a>((token, line): (Token<'a>, usize)) -> (u8, &'a [u8], usize) {
-    match token {
-        Token::Run(run) => (0, run, line),
-        Token::Mark(mark) => (mark, b"", line),
-        Token::Unclosed => (1, b"", line),
-        Token::End => (2, b"", line),
-    }
-}
-
 #[test]
 fn words(rt: HostRuntime) {
     let text = b" a_1.$b(0x1f)/* \n */ / //c\n\n;*/\r\t\xff/*/\n";
     let mut words = Scanner::new(text);
-    assert!(rt; shown(words.next()) == (0, b"a_1.$b".as_slice(), 1));
-    assert!(rt; shown(words.next()) == (b'(', b"".as_slice(), 1));
-    assert!(rt; shown(words.next()) == (0, b"0x1f".as_slice(), 1));
-    assert!(rt; shown(words.next()) == (b')', b"".as_slice(), 1));
-    assert!(rt; shown(words.next()) == (b'/', b"".as_slice(), 2));
-    assert!(rt; shown(words.next()) == (b';', b"".as_slice(), 4));
-    assert!(rt; shown(words.next()) == (b'*', b"".as_slice(), 4));
-    assert!(rt; shown(words.next()) == (b'/', b"".as_slice(), 4));
-    assert!(rt; shown(words.next()) == (0xff, b"".as_slice(), 4));
-    assert!(rt; shown(words.next()) == (1, b"".as_slice(), 5));
-    assert!(rt; shown(words.next()) == (2, b"".as_slice(), 5));
-    assert!(rt; shown(words.next()) == (2, b"".as_slice(), 5));
+    assert!(rt; words.next() == (Token::Run(b"a_1.$b"), 1));
+    assert!(rt; words.next() == (Token::Mark(b'('), 1));
+    assert!(rt; words.next() == (Token::Run(b"0x1f"), 1));
+    assert!(rt; words.next() == (Token::Mark(b')'), 1));
+    assert!(rt; words.next() == (Token::Mark(b'/'), 2));
+    assert!(rt; words.next() == (Token::Mark(b';'), 4));
+    assert!(rt; words.next() == (Token::Mark(b'*'), 4));
+    assert!(rt; words.next() == (Token::Mark(b'/'), 4));
+    assert!(rt; words.next() == (Token::Mark(0xff), 4));
+    assert!(rt; words.next() == (Token::Unclosed, 5));
+    assert!(rt; words.next() == (Token::End, 5));
+    assert!(rt; words.next() == (Token::End, 5));
 }
 
 #[test]
@@ -45,7 +35,7 @@ fn numbers(rt: HostRuntime) {
 #[test]
 fn bytes(rt: HostRuntime) {
     assert!(rt; is_name(b"_a") && is_name(b".") && is_name(b"Z9$"));
-    assert!(rt; !is_name(b"$a") && !is_name(b"9") && !is_name(b""));
+    assert!(rt; !is_name(b"$a") && !is_name(b"9") && !is_name(b"") && !is_name(b"a b"));
     assert!(rt; is_letter(b'a') && is_letter(b'Z') && !is_letter(b'@') && !is_letter(b'{'));
     assert!(rt; is_digit(b'0') && is_digit(b'9') && !is_digit(b':') && !is_digit(b'/'));
     assert!(rt; is_word_byte(b'$') && is_word_byte(b'_') && !is_word_byte(b'-'));
