@@ -25,7 +25,7 @@ one_taken b bs is_one =
     let one : 1 + prefix_len is_word_byte bs ≡ suc (prefix_len is_word_byte bs) = omega arith in
     rw (is_one, one) refl
 
-taken : (bs : List ℕ) → list_all is_word_byte (take_while is_word_byte bs) ≡ true
+pub taken : (bs : List ℕ) → list_all is_word_byte (take_while is_word_byte bs) ≡ true
 taken [] = refl
 taken (b ∷ bs) =
     elim (cases_Bool (is_word_byte b)) [

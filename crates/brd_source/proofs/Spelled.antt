@@ -19,7 +19,7 @@ one_word : (words : List Word) (word : Word) → first words ≡ word → (word 
 one_word [] word e some = absurd (some (sym e))
 one_word (w ∷ ws) word e some = ap (λ (v : Word). v ∷ ws) e
 
-after_word : (line behind : List ℕ) (word : Word) (words : List Word) → Begins line word behind → (word ≡ End → ⊥) → words_in Between behind ≡ words → words_in Between line ≡ word ∷ words
+pub after_word : (line behind : List ℕ) (word : Word) (words : List Word) → Begins line word behind → (word ≡ End → ⊥) → words_in Between behind ≡ words → words_in Between line ≡ word ∷ words
 after_word line behind word words b some e = one_word (words_in Between line) word b.word some ∙ ap (λ (ws : List Word). word ∷ ws) (b.rest ∙ e)
 
 run_begins : (b : ℕ) (bs rest : List ℕ) → list_all is_word_byte (b ∷ bs) ≡ true → begins_with_word_byte rest ≡ false → Begins (b ∷ (bs ++ rest)) (Run (b ∷ bs)) rest
@@ -56,7 +56,7 @@ quoted_begins text rest h =
     let behind : words_in InString (text ++ 34 ∷ rest) ≡ words_in Between rest = behind_closed (length text) (text ++ 34 ∷ rest) (sym len) ∙ ap (words_in Between) back in
     string_front 34 (34 ∷ (text ++ 34 ∷ rest)) (text ++ 34 ∷ rest) (Quoted text) rest refl refl word behind
 
-mark_begins : (b : ℕ) (bytes : List ℕ) → is_word_byte b ≡ false → is_blank b ≡ false → opens_comment b bytes ≡ false → (b ≡ 37 → ⊥) → (b ≡ 34 → ⊥) → Begins (b ∷ bytes) (Mark b) bytes
+pub mark_begins : (b : ℕ) (bytes : List ℕ) → is_word_byte b ≡ false → is_blank b ≡ false → opens_comment b bytes ≡ false → (b ≡ 37 → ⊥) → (b ≡ 34 → ⊥) → Begins (b ∷ bytes) (Mark b) bytes
 mark_begins b bytes h visible opens percent quote = mark_front b (b ∷ bytes) bytes refl h (ne_eqb b 37 percent) (ne_eqb b 34 quote) (rw (visible, opens) refl)
 
 pub spelled : (bytes : List ℕ) (words : List Word) → Spells bytes words → words_in Between bytes ≡ words

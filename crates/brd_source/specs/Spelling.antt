@@ -1,11 +1,11 @@
 -- Which bytes spell which words: any blanks may stand between words, a comment behind them, and something has to stand
 -- between two runs.
-use Rattle.std.specs.Prelude.{◌≡◌, ℕ, Bool, true, false, ◌&&◌, not, List, [], ◌∷◌, ◌++◌}
-use Rattle.std.specs.List.{list_all}
+use Rattle.std.specs.Prelude.{◌≡◌, ◌≢◌, ℕ, Bool, true, false, ◌&&◌, not, List, [], ◌∷◌, ◌++◌}
+use Rattle.std.specs.List.{list_all, AllByRecursion}
 use Rattle.brd_text.specs.Bytes.{is_word_byte}
 use Rattle.brd_text.specs.Spelling.{begins_with_word_byte}
 use Rattle.brd_source.specs.Words.{Word, is_blank, opens_comment, ends_string, escapes}
-use Rattle.brd_source.specs.Words.Word.{Run, Percent, Quoted, Mark}
+use Rattle.brd_source.specs.Words.Word.{Run, Percent, Quoted, Mark, Wrong}
 
 -- no byte of a string ends it, and no backslash stands alone at its end
 abbrev pub stays_open : Bool → List ℕ → Bool
@@ -25,3 +25,7 @@ pub data Spells : List ℕ → List Word → Type 0 where
       → Spells (34 ∷ (text ++ 34 ∷ bytes)) (Quoted text ∷ words)
   mark : (b : ℕ) (bytes : List ℕ) (words : List Word) → is_word_byte b ≡ false → is_blank b ≡ false → opens_comment b bytes ≡ false
       → (b ≡ 37 → ⊥) → (b ≡ 34 → ⊥) → Spells bytes words → Spells (b ∷ bytes) (Mark b ∷ words)
+
+-- no string lacks its end
+abbrev pub HaveEnds : List Word → Type 0
+HaveEnds words = AllByRecursion (λ word. word ≢ Wrong) words

@@ -14,7 +14,7 @@ mod token;
 
 pub use fault::LineFault;
 pub use line::{lines_follow_the_grammar, lines_have_names, parse_line};
-pub use scanner::spelled_words_are_scanned;
+pub use scanner::{scanned_words_are_spelled, spelled_words_are_scanned};
 pub use statement::{Expression, Immediate, Instruction, Line, Statement, Width};
 
 #[cfg(test)]

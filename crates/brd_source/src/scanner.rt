@@ -5,7 +5,7 @@ ghost use Rattle.brd_source.specs.Words.{words_in, seen};
 ghost use Rattle.brd_source.specs.Words as words;
 ghost use Rattle.brd_source.specs.Words.Place.{Between, InString};
 ghost use Rattle.brd_source.specs.Fronts.{begins_word, Begins};
-ghost use Rattle.brd_source.specs.Spelling.{Spells};
+ghost use Rattle.brd_source.specs.Spelling.{Spells, HaveEnds};
 
 use crate::token::Token;
 use brd_text::{behind, is_word_byte, run_len};
@@ -165,4 +165,9 @@ impl<'a> Scanner<'a> {
 /// What spells words, with any blanks between them and a comment behind them, is scanned as these words.
 pub fn spelled_words_are_scanned()
     ensures { (bytes : List ℕ) (line : List words.Word) → Spells bytes line → words.words_of bytes ≡ line }
+{}
+
+/// The words of a line are spelled by its bytes, where no string lacks its end.
+pub fn scanned_words_are_spelled()
+    ensures { (bytes : List ℕ) → HaveEnds (words.words_of bytes) → Spells bytes (words.words_of bytes) }
 {}
