@@ -60,8 +60,9 @@ pub fn lines_have_names()
     ensures { (bytes : List ℕ) (line : Said) → lines.line_of bytes ≡ Ok line → HasNames line }
 {}
 
-/// What is read as a line is just what has the form of one, and it is read as what that spells.
+/// What is read as a line is just what has the form of one, by the words that its bytes have, and so by any words that
+/// its bytes spell; and it is read as what these say.
 pub fn lines_follow_the_grammar()
     ensures exact { (bytes : List ℕ) (line : Said) → (lines.line_of bytes ≡ Ok line) ↔ LineIs (words_of bytes) line }
-    ensures spelled { (bytes : List ℕ) (words : List Word) (line : Said) → Spells bytes words → LineIs words line → lines.line_of bytes ≡ Ok line }
+    ensures spelled { (bytes : List ℕ) (line : Said) → (lines.line_of bytes ≡ Ok line) ↔ ((words : List Word) × Spells bytes words × LineIs words line) }
 {}
