@@ -1,6 +1,6 @@
 -- What clauses see of the values of the code.
 use Rattle.std.specs.Prelude.{ℕ, ℤ, List, map}
-use Rattle.std.proofs.Common.{Bor}
+use Rattle.std.specs.Borrow.{Bor}
 use Rattle.brd_source.specs.View as source
 use Rattle.brd_asm.specs.declared.piece.Content as contents
 use Rattle.brd_asm.specs.declared.piece.Content.TheVariants as content_of

@@ -1,7 +1,7 @@
 -- The name of each mnemonic in assembler source (MD00086, chapter 3, the heads of the entries), in lower case: one line a mnemonic.
 -- The operations are those that Codes has the code of.
 use Rattle.std.specs.Prelude.{◌≡◌, ℕ, List, [], ◌∷◌, Option, Some, None, option_map, map, if◌then◌else◌, codes}
-use Rattle.std.proofs.Common.{Bor}
+use Rattle.std.specs.Borrow.{Bor}
 use Rattle.std.specs.Str.{bytes_eq}
 use Rattle.std.specs.Char.{to_ascii_lowercase}
 use Rattle.brd_isa.specs.declared.instruction.ShiftOp.{ShiftOp}
