@@ -14,7 +14,7 @@ abbrev pub InRam : (ℕ → Option ℕ) → Type 0
 InRam memory = (a : ℕ) → IsSome (memory a) → (base ≤ a) × (a < base + 2 ^ 24)
 
 -- no stretch has a byte below the first
-from_low : (ss : List Segment) (low a : ℕ) → AreApart low ss → IsSome (byte_in ss a) → low ≤ a
+pub from_low : (ss : List Segment) (low a : ℕ) → AreApart low ss → IsSome (byte_in ss a) → low ≤ a
 from_low [] low a apart there = absurd (cc)
 from_low (s ∷ ss) low a apart there =
     elim (cases_Bool (leb s.address a && ltb a (s.address + length s.bytes))) [
@@ -25,7 +25,7 @@ from_low (s ∷ ss) low a apart there =
 one_there : (bytes : List ℕ) (i : ℕ) → i < length bytes → IsSome (slice_get bytes i)
 one_there bytes i lt = subst IsSome (sym (slice_get-get_or bytes i 0 lt)) refl
 
-head_there : (s : Segment) (ss : List Segment) (a : ℕ) → s.address ≤ a → a < s.address + length s.bytes → IsSome (byte_in (s ∷ ss) a)
+pub head_there : (s : Segment) (ss : List Segment) (a : ℕ) → s.address ≤ a → a < s.address + length s.bytes → IsSome (byte_in (s ∷ ss) a)
 head_there s ss a le lt =
     let here : byte_in (s ∷ ss) a ≡ slice_get s.bytes (a - s.address) = rw (and_from (leb s.address a) (ltb a (s.address + length s.bytes)) (le-leb s.address a le) (lt-ltb a (s.address + length s.bytes) lt)) refl in
     subst IsSome (sym here) (one_there s.bytes (a - s.address) (omega arith))

@@ -12,3 +12,4 @@ mod AscendingLemmas
 mod PairLemmas
 mod LayoutLemmas
 mod LawLemmas
+mod OneImage

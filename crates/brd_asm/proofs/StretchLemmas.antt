@@ -15,7 +15,7 @@ stretch address bytes = record { address = address; bytes = bytes }
 eqb_same : (n : ℕ) → eqb n n ≡ true
 eqb_same n = grind (arith)
 
-leb_above : (a b : ℕ) → b < a → leb a b ≡ false
+pub leb_above : (a b : ℕ) → b < a → leb a b ≡ false
 leb_above a b lt = grind (arith)
 
 -- ---- what the code keeps

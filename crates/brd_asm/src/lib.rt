@@ -8,6 +8,7 @@ mod assembler;
 mod effect;
 mod fault;
 mod instruction;
+pub mod laws;
 mod layout;
 mod names;
 mod operand;
