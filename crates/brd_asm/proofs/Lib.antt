@@ -13,3 +13,4 @@ mod PairLemmas
 mod LayoutLemmas
 mod LawLemmas
 mod OneImage
+mod HalfLemmas
