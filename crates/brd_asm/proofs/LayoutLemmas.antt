@@ -16,7 +16,7 @@ use Rattle.brd_source.proofs.Names.{has_names, all_push}
 use Rattle.brd_asm.specs.declared.fault.AsmFault.{AsmFault}
 use Rattle.brd_asm.specs.declared.fault.AsmFault.TheVariants as fault
 use Rattle.brd_asm.specs.Values.{Name, named, value_of, known, within, up_to}
-use Rattle.brd_asm.specs.Layout.{Content, Piece, Layout, Effect, size_of, alignment_of, gap, effect_of, own_name, is_defined, define, labelled, free, are_in_ram, overlaps, filled, happened, read, placed, all_placed, nothing}
+use Rattle.brd_asm.specs.Layout.{Content, Piece, Layout, Effect, size_of, alignment_of, gap, effect_of, own_name, is_defined, define, labelled, check_is_new, are_in_ram, overlaps, filled, happened, read, placed, all_placed, nothing}
 use Rattle.brd_asm.specs.Layout.Content.{Code, Values, Bytes, Zeros}
 use Rattle.brd_asm.specs.Layout.Effect.{Stays, Moves, Equates, Fills}
 use Rattle.brd_asm.proofs.PairLemmas.{Pairwise, pairs_push}
@@ -306,9 +306,9 @@ was_read line (Err f) said e = absurd (cc)
 pub one_line : (line : ℕ) (bytes : List ℕ) (s t : Layout) → placed line bytes s ≡ Ok t → OneLine line bytes s t
 unfolding placed
 one_line line bytes s t e =
-    let l = bind_ok (read line (line_of bytes)) (λ l. labelled line s.place l.labels s.names >>= λ names. free line (own_name l.statement) names >>= λ is_free. effect_of line s.place s.names l.statement >>= λ effect. happened line effect (layout s.place names s.pieces)) t e in
-    let n = bind_ok (labelled line s.place l.0.labels s.names) (λ names. free line (own_name l.0.statement) names >>= λ is_free. effect_of line s.place s.names l.0.statement >>= λ effect. happened line effect (layout s.place names s.pieces)) t l.2 in
-    let f = bind_ok (free line (own_name l.0.statement) n.0) (λ is_free. effect_of line s.place s.names l.0.statement >>= λ effect. happened line effect (layout s.place n.0 s.pieces)) t n.2 in
+    let l = bind_ok (read line (line_of bytes)) (λ l. labelled line s.place l.labels s.names >>= λ names. check_is_new line (own_name l.statement) names >>= λ is_new. effect_of line s.place s.names l.statement >>= λ effect. happened line effect (layout s.place names s.pieces)) t e in
+    let n = bind_ok (labelled line s.place l.0.labels s.names) (λ names. check_is_new line (own_name l.0.statement) names >>= λ is_new. effect_of line s.place s.names l.0.statement >>= λ effect. happened line effect (layout s.place names s.pieces)) t l.2 in
+    let f = bind_ok (check_is_new line (own_name l.0.statement) n.0) (λ is_new. effect_of line s.place s.names l.0.statement >>= λ effect. happened line effect (layout s.place n.0 s.pieces)) t n.2 in
     let x = bind_ok (effect_of line s.place s.names l.0.statement) (λ effect. happened line effect (layout s.place n.0 s.pieces)) t f.2 in
     record {
       said = l.0;

@@ -1,12 +1,11 @@
 -- Names in a map, against the list of names.
-use Rattle.brd_mem.specs.declared.image.Symbol.{Symbol}
-use Rattle.brd_asm.specs.Image.{symbol_of}
-use Rattle.std.specs.Prelude.{slice_get}
-use Rattle.std.proofs.Common.{zero, suc, take, ◌+◌, ◌^◌, arith, ◌≡◌, ℕ, List, [], ◌∷◌, ◌++◌, Option, None, Some, Bor, refl, sym, ap, ◌∙◌}
+use Rattle.std.proofs.Common.{◌^◌, ◌≡◌, ℕ, List, [], ◌∷◌, ◌++◌, Option, None, Some, Bor, refl, sym, ap, ◌∙◌, append_assoc, append-nil}
 use Rattle.std.specs.Prelude.{ℤ, map, bytes_eq, is_some, false, Ok}
 use Rattle.std.specs.Map.{lookup}
+use Rattle.brd_mem.specs.declared.image.Symbol.{Symbol}
 use Rattle.brd_asm.specs.Values.{Name, named, modulo}
 use Rattle.brd_asm.specs.Layout.{is_defined, define}
+use Rattle.brd_asm.specs.Image.{symbol_of}
 use Rattle.brd_asm.specs.View as seen
 
 pub value_lookup : (name : List ℕ) (es : List (Bor (List ℕ) × ℤ)) → lookup (λ k. bytes_eq name k.now) es ≡ named (map seen.name es) name
@@ -35,36 +34,18 @@ defined_new line value name names es fs seen_is free stored is fs_is =
 
 -- ---- the symbols of the names
 
-entry_there : (es : List (Bor (List ℕ) × ℤ)) (i : ℕ) (name : Bor (List ℕ)) (value : ℤ) → Some (name, value) ≡ slice_get es i → take (i + 1) es ≡ take i es ++ (name, value) ∷ []
-entry_there [] i name value e = absurd (cc)
-entry_there (x ∷ es) zero name value e = ap (λ (p : Bor (List ℕ) × ℤ). p ∷ []) (sym (inside (name, value) x e))
-  where
-    inside : (p q : Bor (List ℕ) × ℤ) → Some p ≡ Some q → p ≡ q
-    inside p q h = cc
-entry_there (x ∷ es) (suc i) name value e =
-    let one : suc i + 1 ≡ suc (i + 1) = omega arith in
-    rw one (ap (λ (ps : List (Bor (List ℕ) × ℤ)). x ∷ ps) (entry_there es i name value e))
+-- with the symbol of the first of the names that are left, the symbols so far and those of what is left are still all
+pub symbols_more : (left rest : List (Bor (List ℕ) × ℤ)) (all symbols new : List Symbol) (name : Bor (List ℕ)) (value : ℤ) (bytes : List ℕ) (word : ℕ) → left ≡ (name, value) ∷ rest
+    → symbols ++ map symbol_of (map seen.name left) ≡ all → bytes ≡ name.now → word ≡ modulo value (2 ^ 32)
+    → new ≡ symbols ++ record { name = bytes; value = word } ∷ [] → new ++ map symbol_of (map seen.name rest) ≡ all
+symbols_more left rest all symbols new name value bytes word left_is so_far bytes_are word_is new_is =
+    ap (λ (ss : List Symbol). ss ++ map symbol_of (map seen.name rest)) new_is
+    ∙ append_assoc symbols (record { name = bytes; value = word } ∷ []) (map symbol_of (map seen.name rest))
+    ∙ ap (λ (n : List ℕ). symbols ++ record { name = n; value = word } ∷ map symbol_of (map seen.name rest)) bytes_are
+    ∙ ap (λ (v : ℕ). symbols ++ record { name = name.now; value = v } ∷ map symbol_of (map seen.name rest)) word_is
+    ∙ ap (λ (es : List (Bor (List ℕ) × ℤ)). symbols ++ map symbol_of (map seen.name es)) (sym left_is)
+    ∙ so_far
 
-take_names : (es : List (Bor (List ℕ) × ℤ)) (i : ℕ) → take i (map seen.name es) ≡ map seen.name (take i es)
-take_names [] zero = refl
-take_names [] (suc i) = refl
-take_names (x ∷ es) zero = refl
-take_names (x ∷ es) (suc i) = ap (λ (ns : List Name). seen.name x ∷ ns) (take_names es i)
-
-symbols_push : (ns : List Name) (n : Name) → map symbol_of (ns ++ n ∷ []) ≡ map symbol_of ns ++ symbol_of n ∷ []
-symbols_push [] n = refl
-symbols_push (x ∷ ns) n = ap (λ (ss : List Symbol). symbol_of x ∷ ss) (symbols_push ns n)
-
-pub symbols_more : (names : List Name) (es : List (Bor (List ℕ) × ℤ)) (i : ℕ) (name : Bor (List ℕ)) (value : ℤ) (symbols new : List Symbol) (bytes : List ℕ) (word : ℕ) → map seen.name es ≡ names
-    → Some (name, value) ≡ slice_get es i → symbols ≡ map symbol_of (take i names) → bytes ≡ name.now → word ≡ modulo value (2 ^ 32)
-    → new ≡ symbols ++ record { name = bytes; value = word } ∷ [] → new ≡ map symbol_of (take (i + 1) names)
-symbols_more names es i name value symbols new bytes word names_are there so_far bytes_are word_is new_is =
-    let taken : take (i + 1) names ≡ take i names ++ seen.name (name, value) ∷ [] =
-    ap (λ (ns : List Name). take (i + 1) ns) (sym names_are) ∙ take_names es (i + 1) ∙ ap (λ (ps : List (Bor (List ℕ) × ℤ)). map seen.name ps) (entry_there es i name value there)
-    ∙ names_push (take i es) (name, value) ∙ ap (λ (ns : List Name). ns ++ seen.name (name, value) ∷ []) (sym (take_names es i) ∙ ap (λ (ns : List Name). take i ns) names_are) in
-    new_is
-    ∙ ap (λ (ss : List Symbol). ss ++ record { name = bytes; value = word } ∷ []) so_far
-    ∙ ap (λ (n : List ℕ). map symbol_of (take i names) ++ record { name = n; value = word } ∷ []) bytes_are
-    ∙ ap (λ (v : ℕ). map symbol_of (take i names) ++ record { name = name.now; value = v } ∷ []) word_is
-    ∙ sym (symbols_push (take i names) (seen.name (name, value)))
-    ∙ ap (λ (ns : List Name). map symbol_of ns) (sym taken)
+-- where no name is left, they are all
+pub symbols_all : (left : List (Bor (List ℕ) × ℤ)) (all symbols : List Symbol) → left ≡ [] → symbols ++ map symbol_of (map seen.name left) ≡ all → symbols ≡ all
+symbols_all left all symbols left_is so_far = sym (append-nil symbols) ∙ ap (λ (es : List (Bor (List ℕ) × ℤ)). symbols ++ map symbol_of (map seen.name es)) (sym left_is) ∙ so_far

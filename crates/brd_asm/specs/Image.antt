@@ -50,7 +50,8 @@ abbrev pub AreApart : ℕ → List Segment → Type 0
 AreApart low [] = Unit {0}
 AreApart low (s ∷ ss) = (low ≤ s.address) × (0 < length s.bytes) × AreApart (s.address + length s.bytes + 1) ss
 
--- The longest stretches of consecutive addresses that have a byte in memory, ascending.
+-- The longest stretches of consecutive addresses that have a byte in memory, ascending. A memory has one such list
+-- (`laws::a_memory_has_one_list_of_stretches`).
 pub record AreStretches (memory : ℕ → Option ℕ) (stretches : List Segment) : Type 0 where
   pub apart : AreApart 0 stretches
   pub same : (a : ℕ) → byte_in stretches a ≡ memory a
@@ -64,7 +65,7 @@ entry_by None = base
 entry_by (Some v) = modulo v (2 ^ 32)
 
 -- The image of a program: its contents spelled at their places and joined to the longest stretches, its names in
--- order of definition, its entry.
+-- order of definition, its entry. A program has one image (`laws::a_program_has_one_image`).
 pub record IsImage (program : Program) (image : Image) : Type 0 where
   pub entry : image.entry ≡ entry_by (named program.names (codes "_start"))
   pub symbols : image.symbols ≡ map symbol_of program.names

@@ -1,5 +1,5 @@
 -- Where the statements of a source stand, and what its names are. Faults in the order in which they count on a line.
-use Rattle.std.specs.Prelude.{ℕ, ◌+◌, ◌-◌, ◌*◌, ◌%◌, ◌^◌, ℤ, pos, negsuc, Bool, true, not, ◌&&◌, ◌==◌, nat_lt, nat_le, if◌then◌else◌, List, [], ◌∷◌, ◌++◌, length, Option, None, Some, is_some, Result, Ok, Err}
+use Rattle.std.specs.Prelude.{ℕ, ◌+◌, ◌-◌, ◌*◌, ◌%◌, ◌^◌, ℤ, pos, negsuc, Bool, not, ◌&&◌, ◌==◌, nat_lt, nat_le, if◌then◌else◌, List, [], ◌∷◌, ◌++◌, length, Option, None, Some, is_some, Result, Ok, Err}
 use Rattle.std.specs.List.{list_any}
 use Rattle.brd_text.specs.Faults.{◌>>=◌}
 use Rattle.brd_mem.specs.Memory.{base}
@@ -108,9 +108,9 @@ labelled line place [] names = Ok names
 labelled line place (label ∷ labels) names = define line (pos place) label names >>= labelled line place labels
 
 -- the name that a statement gives a value to may not be defined yet
-unfoldable pub free : ℕ → Option (List ℕ) → List Name → Result Bool AsmFault
-free line None names = Ok true
-free line (Some name) names = if is_defined names name then Err (fault.Twice line) else Ok true
+unfoldable pub check_is_new : ℕ → Option (List ℕ) → List Name → Result (Unit {0}) AsmFault
+check_is_new line None names = Ok tt
+check_is_new line (Some name) names = if is_defined names name then Err (fault.Twice line) else Ok tt
 
 -- all of these addresses are from 0x80000000 to 0x80FFFFFF
 abbrev pub are_in_ram : ℕ → ℕ → Bool
@@ -150,7 +150,7 @@ unfoldable pub placed : ℕ → List ℕ → Layout → Result Layout AsmFault
 placed line bytes s = do
   l ← read line (line_of bytes)
   names ← labelled line s.place l.labels s.names
-  is_free ← free line (own_name l.statement) names
+  is_new ← check_is_new line (own_name l.statement) names
   effect ← effect_of line s.place s.names l.statement
   happened line effect (record { place = s.place; names = names; pieces = s.pieces })
 

@@ -76,6 +76,15 @@ index_to line place names target = do
   y ← aligned line v
   Ok (modulo (int_div_euclid y (pos 4)) (2 ^ 26))
 
+-- The hint and the offset of a prefetch. The names of both count before their ranges.
+unfoldable pub prefetch_in : ℕ → List Name → Expression → Immediate → Result (ℕ × ℕ) AsmFault
+prefetch_in line names hint offset = do
+  h ← known line (value_of names hint)
+  v ← known line (signed_value names offset)
+  n ← up_to line 31 h
+  x ← signed_field line v
+  Ok (n, x)
+
 -- the instruction, with its numbers, that stands at a place
 unfoldable pub instruction_of : ℕ → ℕ → List Name → Instruction → Result Insn AsmFault
 instruction_of line place names (Shift op rd rt sa) = do
@@ -132,11 +141,8 @@ instruction_of line place names (Linked op rt from offset) = do
   n ← signed_in line names offset
   Ok (insn.Linked op rt from n)
 instruction_of line place names (Prefetch hint from offset) = do
-  h ← known line (value_of names hint)
-  v ← known line (signed_value names offset)
-  n ← up_to line 31 h
-  x ← signed_field line v
-  Ok (insn.Prefetch n from x)
+  n ← prefetch_in line names hint offset
+  Ok (insn.Prefetch n.0 from n.1)
 
 -- the least and the greatest value of each width
 abbrev pub least_of : Width → ℤ

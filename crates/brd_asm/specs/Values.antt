@@ -34,7 +34,7 @@ modulo (pos a) n = a % n
 modulo (negsuc a) n = n - 1 - a % n
 
 -- The values of %hi and %lo: the halves of e such that the low one, read as signed, and 65,536 times the high one add up
--- to e modulo 2 to the 32nd.
+-- to e modulo 2 to the 32nd (`laws::halves_add_up`).
 abbrev pub high_half : ℤ → ℕ
 high_half v = modulo (int_div_euclid (v +ℤ pos 0x8000) (pos 0x10000)) (2 ^ 16)
 

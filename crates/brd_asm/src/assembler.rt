@@ -13,7 +13,7 @@ use crate::names::Names;
 use crate::output::output_of;
 use crate::stretches::segments_of;
 use crate::text::place_all;
-use crate::value::modulo;
+use crate::value::word;
 use brd_mem::{BASE, Image};
 use std::alloc::Global;
 
@@ -60,11 +60,4 @@ fn entry_of(names: &Names) -> u32
         None => BASE,
         Some(value) => word(value),
     }
-}
-
-/// A value modulo 2^32.
-pub fn word(value: i64) -> u32
-    ensures { result ≡ modulo value (2 ^ 32) }
-{
-    modulo(value as i128, 0x1_0000_0000) as u32
 }

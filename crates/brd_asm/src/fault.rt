@@ -21,11 +21,11 @@ pub enum AsmFault {
     /// A name is defined again.
     #[error("line {line}: found a name that is defined already, expected each once")]
     Twice { line: usize },
-    /// A value doesn't fit its operand, or an address isn't one of RAM.
-    #[error("line {line}: found a value or an address out of range, expected one that its operand holds, addresses 0x80000000 to 0x80ffffff")]
+    /// A value doesn't fit its operand, or an address that would be filled isn't from 0x80000000 to 0x80FFFFFF.
+    #[error("line {line}: found a value or an address out of range, expected a value that its operand holds, an address from 0x80000000 to 0x80ffffff")]
     Range { line: usize },
     /// An instruction, a word, a halfword or a target isn't aligned.
-    #[error("line {line}: found an odd place or target, expected a multiple of 4 for instructions, words and targets, of 2 for halfwords")]
+    #[error("line {line}: found an unaligned place or target, expected a multiple of 4 for instructions, words and targets, of 2 for halfwords")]
     Misaligned { line: usize },
     /// An address is filled already.
     #[error("line {line}: found bytes at an address that is filled already, expected each once")]

@@ -4,7 +4,7 @@ ghost use Rattle.std.specs.Prelude.{◌≡◌, ◌+◌, ◌<◌, ◌≤◌, ◌^
 ghost use Rattle.brd_source.specs.View as source;
 ghost use Rattle.brd_source.specs.Lines.{line_of};
 ghost use Rattle.brd_asm.specs.Faults.{Gives};
-ghost use Rattle.brd_asm.specs.Layout.{nothing, read, free, happened, filled, placed, are_in_ram};
+ghost use Rattle.brd_asm.specs.Layout.{nothing, read, check_is_new, happened, filled, placed, are_in_ram};
 ghost use Rattle.brd_asm.specs.View as view;
 ghost use Rattle.brd_asm.specs.LayoutView.{layout};
 
@@ -58,7 +58,7 @@ impl<'a> Layout<'a> {
         // By the names of earlier lines; a name that is defined twice comes before its faults.
         let effect = effect_of(line, place, &names, statement);
         let names = names.label(line, place, labels.as_slice())?;
-        free(line, own, &names)?;
+        check_is_new(line, own, &names)?;
         let effect = effect?;
         let labelled = Layout {
             place,
@@ -128,18 +128,18 @@ fn are_in_ram(place: u32, size: u128) -> bool
     place >= BASE && place as u128 + size <= TOP
 }
 
-/// Names that a line gives values to must be free: `own` is the one of its statement.
-#[tactic(auto, unfolding(crate::specs::Layout::free))]
-fn free(line: usize, own: Option<&[u8]>, names: &Names) -> Result<bool, AsmFault>
-    ensures { Gives (λ is_free. is_free) result (free line (option_map (λ name. name.now) own.entry) names.now) }
+/// The name that a statement gives a value to, if it does, may not have one yet.
+#[tactic(auto, unfolding(crate::specs::Layout::check_is_new))]
+fn check_is_new(line: usize, name: Option<&[u8]>, names: &Names) -> Result<(), AsmFault>
+    ensures { Gives (λ nothing. nothing) result (check_is_new line (option_map (λ name. name.now) name.entry) names.now) }
 {
-    match own {
-        None => Ok(true),
+    match name {
+        None => Ok(()),
         Some(name) => {
             if names.has(name) {
                 return Err(AsmFault::Twice { line });
             }
-            Ok(true)
+            Ok(())
         }
     }
 }

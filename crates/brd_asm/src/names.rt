@@ -6,8 +6,8 @@ ghost use Rattle.brd_asm.specs.Values.{named};
 ghost use Rattle.brd_asm.specs.Image.{symbol_of};
 ghost use Rattle.brd_asm.specs.Layout.{is_defined, define, labelled};
 
-use crate::assembler::word;
 use crate::fault::AsmFault;
+use crate::value::word;
 use brd_mem::{Bytes, NoMemory, Symbol, Symbols};
 use indexmap::IndexMap;
 use std::alloc::Global;
@@ -82,10 +82,7 @@ impl<'a> Names<'a> {
         ensures { IfOk result (λ symbols. symbols ≡ map symbol_of self.now) }
     {
         let mut symbols = Symbols::new(alloc);
-        for i in 0..self.values.len() {
-            let Some((name, value)) = self.values.get_index(i) else {
-                return Ok(symbols);
-            };
+        for (name, value) in self.values.iter() {
             let mut bytes = Bytes::new(alloc);
             bytes.append(*name)?;
             let value = word(*value);

@@ -96,7 +96,7 @@ fn put_value(output: &mut Vec<u8>, width: Width, value: i64) -> Result<(), NoMem
         Width::Byte => output.push(modulo(value, 0x100) as u8)?,
         Width::Half => {
             let half = modulo(value, 0x1_0000) as u16;
-            output.extend_from_slice(&[(half >> 8) as u8, (half % 0x100) as u8])?;
+            output.extend_from_slice(&half.to_be_bytes())?;
         }
         Width::Word => {
             let word = modulo(value, 0x1_0000_0000) as u32;

@@ -33,21 +33,21 @@ pub fn modulo(value: i128, n: u64) -> u64
     value.rem_euclid(n as i128) as u64
 }
 
+/// A value modulo 2^32.
+pub fn word(value: i64) -> u32
+    ensures { result ≡ modulo value (2 ^ 32) }
+{
+    modulo(value as i128, 0x1_0000_0000) as u32
+}
+
 /// The value of an immediate that is read as signed, unless it uses a name without one.
-#[tactic(auto, unfolding(crate::specs::Values::signed_value))]
+#[tactic(auto, unfolding(crate::specs::Values::signed_value, crate::specs::Values::unsigned_value))]
 pub fn signed_value(names: &Names, immediate: Immediate) -> Option<i128>
     ensures { result ≡ signed_value names.now (source.immediate_value immediate.entry) }
 {
     match immediate {
-        Immediate::Whole(e) => value_of(names, e),
-        Immediate::High(e) => match value_of(names, e) {
-            None => None,
-            Some(v) => Some(high_half(v) as i128),
-        },
-        Immediate::Low(e) => match value_of(names, e) {
-            None => None,
-            Some(v) => Some(signed_half(low_half(v))),
-        },
+        Immediate::Low(e) => value_of(names, e).map(|v| signed_half(low_half(v))),
+        Immediate::Whole(_) | Immediate::High(_) => unsigned_value(names, immediate),
     }
 }
 
@@ -58,14 +58,8 @@ pub fn unsigned_value(names: &Names, immediate: Immediate) -> Option<i128>
 {
     match immediate {
         Immediate::Whole(e) => value_of(names, e),
-        Immediate::High(e) => match value_of(names, e) {
-            None => None,
-            Some(v) => Some(high_half(v) as i128),
-        },
-        Immediate::Low(e) => match value_of(names, e) {
-            None => None,
-            Some(v) => Some(low_half(v) as i128),
-        },
+        Immediate::High(e) => value_of(names, e).map(|v| high_half(v) as i128),
+        Immediate::Low(e) => value_of(names, e).map(|v| low_half(v) as i128),
     }
 }
 

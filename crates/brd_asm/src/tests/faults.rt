@@ -231,11 +231,11 @@ fn texts(rt: HostRuntime) -> Result<(), Fail> {
         ),
         (
             AsmFault::Range { line: 4 },
-            "line 4: found a value or an address out of range, expected one that its operand holds, addresses 0x80000000 to 0x80ffffff",
+            "line 4: found a value or an address out of range, expected a value that its operand holds, an address from 0x80000000 to 0x80ffffff",
         ),
         (
             AsmFault::Misaligned { line: 5 },
-            "line 5: found an odd place or target, expected a multiple of 4 for instructions, words and targets, of 2 for halfwords",
+            "line 5: found an unaligned place or target, expected a multiple of 4 for instructions, words and targets, of 2 for halfwords",
         ),
         (
             AsmFault::Overlap { line: 6 },

@@ -3,11 +3,14 @@ use Rattle.std.specs.Prelude.{ℤ}
 use mir.Val.{SFits}
 use Rattle.std.proofs.lemmas.Int.{to_z-of_z}
 use Rattle.brd_asm.specs.Values.{modulo}
-use Rattle.brd_asm.proofs.NamesLemmas.{symbols_more}
+use Rattle.brd_asm.proofs.NamesLemmas.{symbols_more, symbols_all}
 use Rattle.brd_asm.proofs.names.Names.symbols.Goals as goal
 
-pub loop-i-preserved : goal.loop-i-preserved
-loop-i-preserved c =
+pub loop-name-preserved : goal.loop-name-preserved
+loop-name-preserved c =
     let fits : SFits w64 c.in-Some.value.now = search rules in
-    symbols_more c.args.self.now c.self.inside.values.entries c.loop-i.i _ _ c.loop-i.symbols c.push.new.self c.append.new.self c.word-value.result c.self.view_is
-    c.in-Some.ensures.entry c.loop-i.invariant (c.in_ok-append.ensures.ok ∙ ap (λ bytes. bytes ++ c.in-Some.name.now.now) c.new-bytes.ensures) (c.word-value.ensures ∙ ap (λ (v : ℤ). modulo v (2 ^ 32)) (to_z-of_z w64 c.in-Some.value.now fits)) c.in_ok-push.ensures.ok
+    symbols_more _ _ _ c.loop-name.symbols c.push.new.self c.in-Some.name.now c.in-Some.value.now c.append.new.self c.word-value.result
+    c.in-Some.ensures.steps c.loop-name.invariant (c.in_ok-append.ensures.ok ∙ ap (λ bytes. bytes ++ c.in-Some.name.now.now) c.new-bytes.ensures) (c.word-value.ensures ∙ ap (λ (v : ℤ). modulo v (2 ^ 32)) (to_z-of_z w64 c.in-Some.value.now fits)) c.in_ok-push.ensures.ok
+
+pub returns : goal.returns
+returns c = symbols_all _ _ c.loop-name.symbols c.in-None.ensures.steps.0 c.loop-name.invariant

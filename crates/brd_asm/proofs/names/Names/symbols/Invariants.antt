@@ -1,6 +1,8 @@
-use Rattle.std.proofs.Common.{◌≡◌, map, take}
+use Rattle.std.proofs.Common.{◌≡◌, ◌++◌, map}
+use Rattle.brd_asm.specs.View as seen
 use Rattle.brd_asm.specs.Image.{symbol_of}
 use Rattle.brd_asm.proofs.names.Names.symbols.Given as goal
 
-abbrev pub invariant-loop-i : goal.invariant-loop-i
-invariant-loop-i l = l.symbols ≡ map symbol_of (take l.i l.self)
+-- the symbols so far and those of what is left are those of all names
+abbrev pub invariant-loop-name : goal.invariant-loop-name
+invariant-loop-name l = l.symbols ++ map symbol_of (map seen.name l.name-iterator) ≡ map symbol_of l.self
