@@ -1,5 +1,6 @@
 #!/bin/sh
-# Assembles tests/every.s with the board's assembler and with GNU as and ld (Debian: binutils-mips-linux-gnu), and compares the bytes.
+# Assembles one source with the board's assembler and with GNU as and ld (Debian: binutils-mips-linux-gnu), and compares the bytes.
+# It is the source of crates/brd_asm/src/tests/every.rt, of every mnemonic, one-word form and directive.
 #
 #   tests/asm_binutils.sh [BOARD]       BOARD: the program, by default build/board
 #
@@ -21,22 +22,49 @@ fail() {
   exit 1
 }
 
-# GNU as has its own meaning for div and divu with two operands; with $0 in front they are the instructions. Its move is an or.
-sed -e 's/^\(.*[[:blank:]]\)\(divu*\)\([[:blank:]]*\)/\1\2\3$0, /' -e 's/^\(.*[[:blank:]]\)move\([[:blank:]]*.*\)$/\1addu\2, $0/' "$top/tests/every.s" > "$work/gnu.s"
+# The rows of the constant SOURCE, without their ends and escapes.
+sed -n '/^pub const SOURCE: &str = "\\$/,/";$/p' "$top/crates/brd_asm/src/tests/every.rt" |
+  sed -e 1d -e 's/\\n\\$//' -e 's/\\n";$//' -e 's/\\"/"/g' -e 's/\\\\/\\/g' > "$work/every.s"
+lines=$(wc -l < "$work/every.s")
+[ "$lines" -gt 100 ] || fail "no source in every.rt"
+
+# What GNU as wants written in another way.
+cat > "$work/gnu.sed" <<'END'
+# It knows no comments that begin with //.
+s|//.*||
+# Its div and divu with two operands are more than one instruction; with $0 in front they are the instruction.
+s/^(divu?) /\1 $0, /
+# Its move is an or.
+s/^move (.*)$/addu \1, $0/
+# It puts the code of break into the upper ten bits of the field, and a second one into the lower ten.
+s/^break ([0-9]+)$/break 0, \1/
+# It measures a branch to a number from the start of the section, which is at `first`.
+s/^(bgtz .*), 0x80000124$/\1, first+0x124/
+# Its .org takes an offset in the section.
+s/^\.org 0x80000800$/.org 0x800/
+END
+sed -E -f "$work/gnu.sed" "$work/every.s" > "$work/gnu.s"
 mips-linux-gnu-as -EB -mips32 -mabi=32 -o "$work/gnu.o" "$work/gnu.s" || fail "as"
 mips-linux-gnu-ld -EB -e _start -Ttext 0x80000000 -o "$work/gnu.elf" "$work/gnu.o" || fail "ld"
 mips-linux-gnu-objcopy -O binary -j .text "$work/gnu.elf" "$work/gnu" || fail "objcopy"
 
-"$board" asm "$top/tests/every.s" "$work/object" || fail "board asm"
-# field AT: the word at an offset of the object file
-field() {
-  echo $((0x$(od -An -v -tx1 -j "$1" -N 4 "$work/object" | tr -d ' \n')))
+"$board" asm "$work/every.s" "$work/object" || fail "board asm"
+# number AT BYTES: a number of the object file
+number() {
+  echo $((0x$(od -An -v -tx1 -j "$1" -N "$2" "$work/object" | tr -d ' \n')))
 }
-[ "$(field 60)" = 2147483648 ] || fail "the segment isn't at 0x80000000"
-size=$(field 68)
-tail -c +$(($(field 56) + 1)) "$work/object" | head -c "$size" > "$work/board"
+# The segments at their addresses from 0x80000000 on, with zeros in the gaps, as the section of GNU as has them.
+segments=$(number 44 2)
+[ "$segments" = 2 ] || fail "$segments segments, not 2"
+: > "$work/board"
+for header in 52 84; do
+  gap=$(($(number $((header + 8)) 4) - 0x80000000 - $(wc -c < "$work/board")))
+  head -c "$gap" /dev/zero >> "$work/board"
+  tail -c +$(($(number $((header + 4)) 4) + 1)) "$work/object" | head -c "$(number $((header + 16)) 4)" >> "$work/board"
+done
+size=$(wc -c < "$work/board")
 # The linker may put zeros behind the section's end.
 head -c "$size" "$work/gnu" > "$work/wanted"
 cmp "$work/board" "$work/wanted" || fail "other bytes than GNU as"
 [ -z "$(tail -c +$((size + 1)) "$work/gnu" | tr -d '\000')" ] || fail "GNU as has more bytes"
-echo "ok: asm_binutils: $size bytes, as GNU as and ld make them"
+echo "ok: asm_binutils: $lines lines, $size bytes, as GNU as and ld make them"
