@@ -1,3 +1,4 @@
+# For GNU as and ld (docs/ELF.md), with sections; `board asm` has no sections and refuses it.
         .set    noreorder
         .set    noat
         .section .text.start, "ax"
