@@ -21,6 +21,7 @@ mod value;
 
 pub use assembler::assemble;
 pub use fault::AsmFault;
+pub use text::line_len;
 
 #[cfg(test)]
 mod tests;

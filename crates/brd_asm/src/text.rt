@@ -32,8 +32,8 @@ pub fn place_all<'a>(alloc: Global, text: &'a [u8]) -> Result<Layout<'a>, AsmFau
     }
 }
 
-/// How many bytes the first line has.
-fn line_len(text: &[u8]) -> usize
+/// How many bytes the first line has, without the newline that ends it.
+pub fn line_len(text: &[u8]) -> usize
     ensures is { result ≡ prefix_len stays_on text.now }
     ensures within { result ≤ length text.now }
 {

@@ -5,7 +5,7 @@ use Rattle.std.specs.Io.KnownBytes.{Consumes}
 use Rattle.std.specs.declared.io.Error.{Error}
 use Rattle.brd_cli.specs.Command.{IsOfRead, KeepsFromReading, most_bytes}
 use Rattle.brd_cli.specs.declared.fault.CommandFault.{CommandFault}
-use Rattle.brd_cli.specs.declared.fault.CommandFault.TheVariants.{NoMemory, Words, Source, Open, Read, TooLong, TooManyReads, Write}
+use Rattle.brd_cli.specs.declared.fault.CommandFault.TheVariants.{NoMemory, Argument, Words, Source, Open, Read, TooLong, TooManyReads, Write}
 
 -- an input of which more bytes were read than it may have
 pub too_long : (old mid new : Option (List ℕ)) (bytes piece : List ℕ) (n : ℕ) → Consumes old mid bytes → Consumes mid new (take n piece) → n ≤ length piece → most_bytes < length bytes + n → KeepsFromReading old TooLong
@@ -22,6 +22,7 @@ read_failed input error (Read e) is = tt
 read_failed input error TooLong is = absurd is
 read_failed input error TooManyReads is = absurd is
 read_failed input error (Words fault) is = absurd is
-read_failed input error (Source fault) is = absurd is
+read_failed input error Argument is = absurd is
+read_failed input error (Source fault excerpt) is = absurd is
 read_failed input error (Open name e) is = absurd is
 read_failed input error (Write e) is = absurd is

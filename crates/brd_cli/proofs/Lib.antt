@@ -1,2 +1,3 @@
 pub mod WordTextLemmas
 pub mod InputLemmas
+pub mod ExcerptLemmas

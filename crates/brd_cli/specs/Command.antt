@@ -110,7 +110,7 @@ RefusesSource NoMemory source old new = Keeps old new
 RefusesSource Argument source old new = ⊥
 RefusesSource (Words fault) source old new = ⊥
 RefusesSource (Source fault excerpt) source old new =
-    (program_of source ≡ Err fault) × (fault ≢ asm_fault.NoMemory) × (excerpt.shown ≡ excerpt_of source (faulty_line fault)) × Keeps old new
+    (program_of source ≡ Err fault) × (fault ≢ asm_fault.NoMemory) × (excerpt.shown.items ≡ excerpt_of source (faulty_line fault)) × Keeps old new
 RefusesSource (Open name error) source old new = ⊥
 RefusesSource (Read error) source old new = Keeps old new
 RefusesSource TooLong source old new = (most_bytes < length source) × Keeps old new

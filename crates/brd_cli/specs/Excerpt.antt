@@ -1,6 +1,7 @@
 -- What the text of a fault shows of the line where the fault is.
-use Rattle.std.specs.Prelude.{ℕ, zero, suc, ◌-◌, ◌==◌, nat_le, Bool, not, ◌&&◌, if◌then◌else◌, List, [], ◌∷◌, map, take}
+use Rattle.std.specs.Prelude.{ℕ, zero, suc, ◌-◌, ◌==◌, nat_le, ◌&&◌, if◌then◌else◌, List, [], ◌∷◌, map, take}
 use Rattle.std.specs.List.{prefix_len}
+use Rattle.brd_asm.specs.Lines.{stays_on}
 
 -- the lines of a text but for the first
 abbrev pub behind_line : List ℕ → List ℕ
@@ -12,12 +13,8 @@ abbrev pub behind_lines : ℕ → List ℕ → List ℕ
 behind_lines zero text = text
 behind_lines (suc n) text = behind_lines n (behind_line text)
 
--- a byte of a line, and not its end
-abbrev pub is_of_line : ℕ → Bool
-is_of_line b = not (b == 10)
-
 abbrev pub first_line : List ℕ → List ℕ
-first_line text = take (prefix_len is_of_line text) text
+first_line text = take (prefix_len stays_on text) text
 
 -- a printable ASCII character as itself, a tab as a space, any other byte as a question mark
 abbrev pub shown_byte : ℕ → ℕ

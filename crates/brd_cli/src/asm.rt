@@ -1,6 +1,6 @@
 //! The command `asm`.
 
-ghost use Rattle.std.specs.Prelude.{IfErr, IfSome, OnOk};
+ghost use Rattle.std.specs.Prelude.{◌≡◌, IfErr, IfSome, OnOk};
 ghost use Rattle.brd_cli.specs.Command.{WritesObject, RefusesSource, faulty_line};
 
 use crate::excerpt::Excerpt;

@@ -1,9 +1,9 @@
 //! A line of a source, as the text of a fault shows it.
 
-ghost use Rattle.std.specs.Prelude.{◌≡◌, ◌-◌, ◌≤◌, IfOk, map, take, length};
-ghost use Rattle.std.specs.List.{prefix_len};
+ghost use Rattle.std.specs.Prelude.{◌≡◌, IfOk, take};
 ghost use Rattle.brd_cli.specs.Excerpt as excerpt;
 
+use brd_asm::line_len;
 use brd_mem::NoMemory;
 use std::alloc::Global;
 use std::fmt::{self, Write};
@@ -20,11 +20,10 @@ pub struct Excerpt {
 impl Excerpt {
     /// The front of a text's line. Lines are counted from 1.
     pub fn new(alloc: Global, text: &[u8], line: usize) -> Result<Self, NoMemory>
-        requires { 1 ≤ line }
         ensures { IfOk result (λ e. e.shown.items ≡ excerpt.excerpt_of text.now line) }
     {
         let mut shown = Vec::new(alloc);
-        for byte in front_of(first_line(behind_lines(text, line - 1))) {
+        for byte in front_of(first_line(behind_lines(text, line.saturating_sub(1)))) {
             shown.push(shown_byte(*byte))?;
         }
         Ok(Excerpt { shown })
@@ -71,19 +70,6 @@ fn first_line(text: &[u8]) -> &[u8]
 {
     let (line, _) = text.split_at(line_len(text));
     line
-}
-
-/// How many bytes the first line has.
-fn line_len(text: &[u8]) -> usize
-    ensures is { result ≡ prefix_len excerpt.is_of_line text.now }
-    ensures within { result ≤ length text.now }
-{
-    for (i, byte) in text.iter().enumerate() {
-        if *byte == b'\n' {
-            return i;
-        }
-    }
-    text.len()
 }
 
 /// No more than the first 60 bytes.
