@@ -1,6 +1,7 @@
 use crate::asm::asm;
 use crate::fault::CommandFault;
 use crate::words::words;
+use brd_mem::is_plain;
 use std::io::{self, ErrorKind, Read, Write};
 use std::test::Fail;
 
@@ -249,11 +250,11 @@ fn a_fault_shows_its_line(rt: HostRuntime) -> Result<(), Fail> {
         ("#\n\n.byte \u{e4}\n", ": .byte ??"),
         (
             ".org 0x80000000, 12345678901234567890123456789012345678901234567",
-            ": .org 0x80000000, 123456789012345678901234567890123456789012",
+            ": .org 0x80000000, 1234567890123456789012345678901234567890123",
         ),
         (
-            ".org 0x80000000, 123456789012345678901234567890123456789012",
-            ": .org 0x80000000, 123456789012345678901234567890123456789012",
+            ".org 0x80000000, 1234567890123456789012345678901234567890123",
+            ": .org 0x80000000, 1234567890123456789012345678901234567890123",
         ),
         ("a: nop\na: nop", ": a: nop"),
     ] {
@@ -286,6 +287,7 @@ fn an_object_file_is_read_again(rt: HostRuntime) -> Result<(), Fail> {
             assert_eq!(rt; image.entry, 0x8000_0000);
             assert_eq!(rt; image.segments.as_slice().len(), 2);
             assert_eq!(rt; image.symbols.as_slice().len(), 2);
+            assert!(rt; is_plain(&image));
             match brd_elf::write(alloc, &image) {
                 Err(fault) => assert!(rt; false, "{fault}"),
                 Ok(again) => assert_eq!(rt; again.as_slice(), written.as_slice()),
