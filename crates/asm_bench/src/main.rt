@@ -2,6 +2,8 @@
 //! 1 MiB, 16 MiB of zeros, 65,534 segments in ascending and in descending order, and 100,000 names, and prints times too.
 #![tactic(auto)]
 
+ghost use Rattle.std.specs.Prelude.{◌≡◌, ◌<◌, ◌-◌, ◌*◌, if◌then◌else◌};
+
 use brd_asm::{AsmFault, assemble};
 use brd_mem::Image;
 use std::alloc::{AllocError, Global};
@@ -23,12 +25,22 @@ fn instructions(alloc: Global, size: usize) -> Result<String, AllocError> {
     Ok(text)
 }
 
-/// As many words, each apart from the others: upward, or from the last one down.
+/// How many words there are at most: as many as an object file can have segments.
+const MOST_WORDS: u32 = 65_534;
+
+/// How far behind the start of RAM a word lies: eight bytes apart, upward, or from the last one down.
+fn offset_of(word: u32, downward: bool) -> u32
+    requires { word < 65534 }
+    ensures { result ≡ 8 * (if downward then 65534 - word else word) }
+{
+    8 * if downward { MOST_WORDS - word } else { word }
+}
+
+/// As many words, each apart from the others.
 fn islands(alloc: Global, count: u32, downward: bool) -> Result<String, AllocError> {
     let mut text = String::from_str(alloc, ".equ ram, 0x80000000\n")?;
-    for i in 0..count.min(65_534) {
-        let place = if downward { 65_534 - i } else { i };
-        let line = format!(in alloc; ".org ram+{}\n.word {i}\n", place * 8)?;
+    for i in 0..count.min(MOST_WORDS) {
+        let line = format!(in alloc; ".org ram+{}\n.word {i}\n", offset_of(i, downward))?;
         text.push_str(line.as_str())?;
     }
     Ok(text)

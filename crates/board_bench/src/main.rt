@@ -2,6 +2,10 @@
 //! the same work. Without EVENTS it does 16,000 of each and prints how often the loops were gone through.
 #![tactic(auto)]
 
+ghost use Rattle.std.specs.Prelude.{◌≡◌, ◌≤◌, replicate};
+ghost use Rattle.brd_board.specs.Board.{after};
+ghost use Rattle.brd_board.specs.declared.event.Event.TheVariants.{Step};
+
 use brd_board::{Board, Event, Report};
 use brd_isa::Register;
 use std::time::Instant;
@@ -94,7 +98,9 @@ fn measure_bare(rt: &HostRuntime, events: u64) -> anyhow::Result<()> {
 }
 
 /// Does so many steps of processor 1, and counts those that ran an instruction.
-fn run(board: &mut Board, events: u64) -> u64 {
+fn run(board: &mut Board, events: u64) -> u64
+    ensures { board.new ≡ after board.old (replicate events (Step 1)) }
+{
     let mut ran = 0u64;
     for _ in 0..events {
         if let Report::Ran(_) = board.event(Event::Step(1)) {

@@ -2,6 +2,8 @@
 //! `config_bench MEBIBYTES`, 1 to 64, prints times too.
 #![tactic(auto)]
 
+ghost use Rattle.std.specs.Prelude.{◌≡◌, ◌*◌, ◌≤◌, nat_le, if◌then◌else◌};
+
 use brd_config::{Config, ConfigFault, parse};
 use std::alloc::{AllocError, Global};
 use std::time::Instant;
@@ -57,8 +59,15 @@ fn small(rt: &(impl Print + AllocGlobal)) -> io::Result<()> {
     report(rt, text.len(), &parse(rt.alloc(), text.as_slice()))
 }
 
+/// How many bytes a text of so many mebibytes has, of no more than 64.
+fn size_of(mebibytes: usize) -> usize
+    ensures { result ≡ 1048576 * (if nat_le mebibytes 64 then mebibytes else 64) }
+{
+    1_048_576 * if mebibytes <= 64 { mebibytes } else { 64 }
+}
+
 fn timed(rt: &(impl Print + AllocGlobal + std::rt::Clock), mebibytes: usize) -> io::Result<()> {
-    let text = text_of(rt.alloc(), mebibytes.min(64) * 1024 * 1024)?;
+    let text = text_of(rt.alloc(), size_of(mebibytes))?;
     let start = Instant::now(rt)?;
     let answer = parse(rt.alloc(), text.as_slice());
     let took = start.elapsed(rt)?.as_micros();

@@ -3,6 +3,8 @@
 //! before each text behind it.
 #![tactic(auto)]
 
+ghost use Rattle.std.specs.Prelude.{◌≡◌, ◌≤◌, ◌-◌};
+
 use brd_config::{Config, ConfigFault, parse};
 use std::alloc::{AllocError, Global};
 use std::io;
@@ -17,7 +19,11 @@ enum Escape {
     HexadecimalDigit(u8),
 }
 
-fn digit(byte: u8) -> u8 {
+/// The value of a hexadecimal digit in lower case.
+fn digit(byte: u8) -> u8
+    ensures decimal { 48 ≤ byte → byte ≤ 57 → result ≡ byte - 48 }
+    ensures letter { 97 ≤ byte → byte ≤ 102 → result ≡ byte - 87 }
+{
     match byte {
         b'0'..=b'9' => byte - b'0',
         b'a'..=b'f' => byte - b'a' + 10,

@@ -1,6 +1,6 @@
 //! Files that are made to take long.
 
-ghost use Rattle.std.specs.Prelude.{◌*◌, ◌≤◌};
+ghost use Rattle.std.specs.Prelude.{◌≡◌, ◌/◌, ◌≤◌};
 
 use std::alloc::{AllocError, Global};
 
@@ -197,8 +197,10 @@ fn put_strings(out: &mut Vec<u8>, kind: Kind, size: Size) -> Result<(), AllocErr
     Ok(())
 }
 
-/// The byte at a place of a string that isn't its last.
-fn letter(kind: Kind, string: u32, place: u32) -> u8 {
+/// The byte at a place of a string that isn't its last. It isn't 0, which would end the string.
+fn letter(kind: Kind, string: u32, place: u32) -> u8
+    ensures { 1 ≤ result }
+{
     match (kind, place) {
         (Kind::Names, 11..=14) => b'a' + (string >> (4 * (14 - place)) & 15) as u8,
         (Kind::Bytes, 1) => (1 + string / 255 % 255) as u8,
@@ -207,11 +209,14 @@ fn letter(kind: Kind, string: u32, place: u32) -> u8 {
     }
 }
 
-/// How long each of 128 copies of a string is.
+/// How many copies of a string there are.
+const COPIES: u32 = 128;
+
+/// How long each copy of the string is.
 fn period_of(size: Size) -> u32
-    ensures { result * 128 ≤ size.strings }
+    ensures { result ≡ size.strings / 128 }
 {
-    size.strings / 128
+    size.strings / COPIES
 }
 
 /// Where the name of a symbol begins.
@@ -219,7 +224,7 @@ fn name_at(kind: Kind, size: Size, symbol: u32) -> u32 {
     match kind {
         Kind::Names => 16 * (symbol % (size.strings / 16).max(1)),
         Kind::Bytes => 4 * (symbol % (size.strings / 4).max(1)),
-        Kind::Copies => (symbol % 128) * period_of(size) + symbol / 128,
+        Kind::Copies => (symbol % COPIES) * period_of(size) + symbol / COPIES,
         Kind::Ends => size.strings.saturating_sub(2).saturating_sub(symbol),
         _ => 0,
     }
