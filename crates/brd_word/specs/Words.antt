@@ -1,6 +1,8 @@
--- Words: numbers below 2 ^ 32. Read as signed, a word of 2 ^ 31 or above stands for itself less 2 ^ 32; a halfword of 2 ^ 15 or
--- above for itself less 2 ^ 16, a byte of 2 ^ 7 or above for itself less 2 ^ 8 (two's complement, as everywhere in MD00086).
-use Rattle.std.specs.Prelude.{ℕ, ◌+◌, ◌-◌, ◌*◌, ◌/◌, ◌%◌, ◌^◌, ◌==◌, nat_lt, Bool, ◌&&◌, not, if◌then◌else◌, List, [], ◌∷◌, slice_index, ℤ, pos, negsuc, ◌+ℤ◌, ◌-ℤ◌, ◌*ℤ◌, int_div, int_rem}
+-- Words: numbers below 2 ^ 32. Read as signed, a word of 2 ^ 31 or above stands for itself less 2 ^ 32; a halfword of
+-- 2 ^ 15 or above for itself less 2 ^ 16, a byte of 2 ^ 7 or above for itself less 2 ^ 8 (two's complement, as
+-- everywhere in MD00086).
+use Rattle.std.specs.Prelude.{ℕ, ◌+◌, ◌-◌, ◌*◌, ◌/◌, ◌%◌, ◌^◌, ◌<◌, ◌==◌, nat_lt, Bool, ◌&&◌, not, if◌then◌else◌, List}
+use Rattle.std.specs.Prelude.{[], ◌∷◌, slice_index, ℤ, pos, negsuc, ◌+ℤ◌, ◌-ℤ◌, ◌*ℤ◌, int_div, int_rem}
 use Rattle.std.specs.Int.{w32, w64, cast_signed, cast_unsigned}
 
 -- the signed reading of a word
@@ -54,13 +56,28 @@ abbrev pub signed_quotient : ℕ → ℕ → Quotient
 signed_quotient a b =
     if b == 0 then divided_by_zero a
     else if (a == 2 ^ 31) && (b == 2 ^ 32 - 1) then record { quotient = 2 ^ 31; remainder = 0 }
-    else record { quotient = word_of_signed (int_div (signed a) (signed b)); remainder = word_of_signed (int_rem (signed a) (signed b)) }
+    else record {
+      quotient = word_of_signed (int_div (signed a) (signed b));
+      remainder = word_of_signed (int_rem (signed a) (signed b));
+    }
 
 -- the four bytes of a word, the most significant first
-abbrev pub big_endian_bytes : ℕ → List ℕ
-big_endian_bytes word = word / 2 ^ 24 % 256 ∷ word / 2 ^ 16 % 256 ∷ word / 2 ^ 8 % 256 ∷ word % 256 ∷ []
+abbrev pub bytes_of_word : ℕ → List ℕ
+bytes_of_word word = word / 2 ^ 24 % 256 ∷ word / 2 ^ 16 % 256 ∷ word / 2 ^ 8 % 256 ∷ word % 256 ∷ []
 
 -- the word of four bytes, the most significant first
-abbrev pub big_endian_word : List ℕ → ℕ
-big_endian_word bytes =
+abbrev pub word_of_bytes : List ℕ → ℕ
+word_of_bytes bytes =
     slice_index bytes 0 * 2 ^ 24 + slice_index bytes 1 * 2 ^ 16 + slice_index bytes 2 * 2 ^ 8 + slice_index bytes 3
+
+-- the two bytes of a halfword, the most significant first
+abbrev pub bytes_of_half : ℕ → List ℕ
+bytes_of_half half = half / 2 ^ 8 % 256 ∷ half % 256 ∷ []
+
+-- the halfword of two bytes, the most significant first
+abbrev pub half_of_bytes : List ℕ → ℕ
+half_of_bytes bytes = slice_index bytes 0 * 2 ^ 8 + slice_index bytes 1
+
+-- each of these numbers is a byte
+abbrev pub AreBytes : List ℕ → Type 0
+AreBytes bytes = (place : ℕ) → slice_index bytes place < 2 ^ 8

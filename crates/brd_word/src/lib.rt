@@ -14,8 +14,10 @@ ghost use Rattle.brd_word.specs.Words.{
   unsigned_product,
   unsigned_quotient,
   signed_quotient,
-  big_endian_bytes,
-  big_endian_word,
+  bytes_of_word,
+  word_of_bytes,
+  bytes_of_half,
+  half_of_bytes,
 };
 
 /// A byte's signed value as a word (MD00086, `sign_extend` of a loaded byte).
@@ -76,8 +78,8 @@ pub struct Division {
     pub remainder: u32,
 }
 
-/// Divides the signed readings (MD00086, DIV). Own choice: dividing by 0 gives all ones and the dividend; the least number by -1
-/// gives itself and 0.
+/// Divides the signed readings (MD00086, DIV). Own choice: dividing by 0 gives all ones and the dividend; the least
+/// number by -1 gives itself and 0.
 pub fn div_signed(a: u32, b: u32) -> Division
     ensures { record { quotient = result.quotient; remainder = result.remainder } ≡ signed_quotient a b }
 {
@@ -127,14 +129,32 @@ pub fn div_unsigned(a: u32, b: u32) -> Division
 
 /// The four bytes of a word, the most significant first.
 pub fn bytes_of(word: u32) -> [u8; 4]
-    ensures { result ≡ big_endian_bytes word }
+    ensures is { result ≡ bytes_of_word word }
+    ensures again { word_of_bytes result ≡ word }
 {
     word.to_be_bytes()
 }
 
 /// The word of four bytes, the most significant first.
 pub fn word_of(bytes: [u8; 4]) -> u32
-    ensures { result ≡ big_endian_word bytes }
+    ensures is { result ≡ word_of_bytes bytes }
+    ensures again { bytes_of_word result ≡ bytes }
 {
     u32::from_be_bytes(bytes)
+}
+
+/// The two bytes of a halfword, the most significant first.
+pub fn half_bytes_of(half: u16) -> [u8; 2]
+    ensures is { result ≡ bytes_of_half half }
+    ensures again { half_of_bytes result ≡ half }
+{
+    half.to_be_bytes()
+}
+
+/// The halfword of two bytes, the most significant first.
+pub fn half_of(bytes: [u8; 2]) -> u16
+    ensures is { result ≡ half_of_bytes bytes }
+    ensures again { bytes_of_half result ≡ bytes }
+{
+    u16::from_be_bytes(bytes)
 }
