@@ -17,7 +17,8 @@ abbrev pub IsLeast : (ℕ → Bool) → ℕ → ℕ → Option ℕ → Type 0
 IsLeast test start end None = NoneBetween test start end
 IsLeast test start end (Some i) = IsLeastAt test start end i
 
--- whether `current` satisfies a wait for the bits of `wanted`: all of them in mode 0, AND, and one of them in any other, OR
+-- whether `current` satisfies a wait for the bits of `wanted`: all of them in mode 0, AND, and one of them in any
+-- other, OR
 unfoldable pub is_satisfied : ℕ → ℕ → ℕ → Bool
 is_satisfied current mode wanted =
     if mode == 0 then bit_and current wanted == wanted else not (bit_and current wanted == 0)
@@ -31,15 +32,15 @@ is_satisfied_at patterns modes current i =
 abbrev pub is_due_at : List ℕ → ℕ → ℕ → Bool
 is_due_at dues now i = nat_le (slice_index dues i) now
 
--- whether the word at place i is this one
-abbrev pub is_word_at : List ℕ → ℕ → ℕ → Bool
-is_word_at words word i = slice_index words i == word
+-- whether the address at place i is this one
+abbrev pub is_address_at : List ℕ → ℕ → ℕ → Bool
+is_address_at addresses address i = slice_index addresses i == address
 
--- whether a word at this address lies in the 16 bytes from `block` on
+-- whether this address lies in the 16 bytes from `block` on
 abbrev pub is_in_block : ℕ → ℕ → Bool
 is_in_block block address = nat_le block address && nat_lt address (block + 16)
 
--- whether bit j goes: its word lies in the block, and it isn't `except`
+-- whether bit j goes: its address lies in the block, and it isn't `except`
 abbrev pub is_broken_at : List ℕ → ℕ → ℕ → ℕ → Bool
-is_broken_at words block except j =
-    is_in_block block (slice_index words j) && not (j == except)
+is_broken_at addresses block except j =
+    is_in_block block (slice_index addresses j) && not (j == except)

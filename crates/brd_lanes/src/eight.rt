@@ -1,7 +1,7 @@
 //! One block of eight elements of each scan, by lanes.
 ghost use Rattle.std.specs.Prelude.{◌≡◌, ◌≢◌, ℕ, ◌+◌, ◌-◌, ◌%◌, ◌^◌, ◌<◌, ◌≤◌, ◌==◌, if◌then◌else◌, length, slice_index, slice_range, MatchBool, Contains};
 ghost use Rattle.std.specs.Int.{bit_at};
-ghost use Rattle.brd_lanes.specs.Scan.{IsLeast, NoneBetween, is_satisfied_at, is_due_at, is_word_at, is_in_block};
+ghost use Rattle.brd_lanes.specs.Scan.{IsLeast, NoneBetween, is_satisfied_at, is_due_at, is_address_at, is_in_block};
 
 use std::simd::prelude::*;
 
@@ -38,7 +38,7 @@ pub(crate) fn first_due(dues: &[u64], now: u64, at: usize) -> Option<usize>
     first_lane(due.to_bitmask(), at)
 }
 
-/// Bit j says whether word j lies in the block.
+/// Bit j says whether the address `words[j]` lies in the block.
 #[inline(always)]
 pub(crate) fn in_block(words: &[u32; 8], block: u32) -> u8
     requires { block % 16 ≡ 0 }
@@ -68,7 +68,7 @@ pub(crate) fn has(addresses: &[u32], address: u32, at: usize) -> bool
     requires { at + LANES ≤ length addresses.now }
     ensures { MatchBool result
         (Contains addresses.now address)
-        (NoneBetween (is_word_at addresses.now address) at (at + LANES)) }
+        (NoneBetween (is_address_at addresses.now address) at (at + LANES)) }
 {
     let same = u32x8::from_slice(&addresses[at..]).simd_eq(u32x8::splat(address));
     same.to_bitmask() != 0

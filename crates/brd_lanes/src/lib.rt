@@ -55,12 +55,12 @@ pub fn next_due(dues: &[u64], now: u64, from: usize) -> Option<usize>
     plain::first_due(dues, now, at)
 }
 
-/// `valid` without the bits other than `except` whose word lies in the block.
+/// `valid` without the bits other than `except` whose address lies in the block.
 ///
-/// This is what a store leaves of the links: bit j says that processor j + 1 has one, `words[j]` is
-/// the address of its word, and `except` is the bit of the processor that stores. `block` is the
-/// first address of the block of 16 bytes, a multiple of 16 (the size is an own choice, which the
-/// MIPS32 manual MD00086 leaves open at SC).
+/// This is what a store leaves of the links of LL and SC: bit j says that processor j + 1 has one, to
+/// the word at the address `words[j]`, and `except` is the bit of the processor that stores. `block`
+/// is the first address of the block of 16 bytes, a multiple of 16 (the size is an own choice, which
+/// the MIPS32 manual MD00086 leaves open at SC).
 pub fn break_links(words: &[u32; 8], valid: u8, block: u32, except: u8) -> u8
     requires aligned { block % 16 ≡ 0 }
     requires processor { except < 8 }

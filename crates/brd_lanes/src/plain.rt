@@ -1,6 +1,6 @@
 //! The rest of each scan, from a place on, one element at a time.
 ghost use Rattle.std.specs.Prelude.{◌≡◌, ◌≢◌, ◌≤◌, length, drop, MatchBool, Contains};
-ghost use Rattle.brd_lanes.specs.Scan.{IsLeast, NoneBetween, is_satisfied, is_satisfied_at, is_due_at, is_word_at};
+ghost use Rattle.brd_lanes.specs.Scan.{IsLeast, NoneBetween, is_satisfied, is_satisfied_at, is_due_at, is_address_at};
 
 pub(crate) fn first_satisfied(
     pats: &[u32],
@@ -61,7 +61,7 @@ pub(crate) fn has(addresses: &[u32], address: u32, from: usize) -> bool
     requires { from ≤ length addresses.now }
     ensures { MatchBool result
         (Contains addresses.now address)
-        (NoneBetween (is_word_at addresses.now address) from (length addresses.now)) }
+        (NoneBetween (is_address_at addresses.now address) from (length addresses.now)) }
 {
     for i in from..addresses.len() {
         if addresses[i] == address {
