@@ -1,3 +1,4 @@
 pub mod LinkLemmas
+pub mod Pairs
 pub mod LayoutLemmas
 pub mod EqLemmas

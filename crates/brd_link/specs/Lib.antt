@@ -1,4 +1,3 @@
 pub mod LinkSet
 pub mod Layout
 pub mod LayoutBack
-pub mod LinkEq

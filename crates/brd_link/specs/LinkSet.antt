@@ -1,14 +1,15 @@
--- The links of the processors: a finite set of pairs of a processor and a word address, at most one pair for a processor.
---
+-- The links of the processors: a finite set of pairs of a processor and an address, at most one pair for a processor.
 -- A set stands as the list of its pairs by ascending processor, so two sets are equal exactly where their lists are.
-use Rattle.std.specs.Prelude.{ℕ, suc, ◌/◌, ◌≤◌, Bool, not, ◌&&◌, ◌||◌, ◌==◌, if◌then◌else◌, nat_lt, Option, Some, None, List, [], ◌∷◌, ◌++◌, filter, find}
+use Rattle.std.specs.Prelude.{ℕ, suc, ◌/◌, ◌≤◌, Bool, not, ◌&&◌, ◌||◌, ◌==◌, if◌then◌else◌, nat_lt, Option, Some, None}
+use Rattle.std.specs.Prelude.{List, [], ◌∷◌, ◌++◌, filter, find}
 use Rattle.std.specs.List.{list_any}
 use Rattle.std.specs.Option.{option_map}
+use Rattle.std.specs.Ordering.{on, eq_of_both}
 
--- processor `processor` has done an LL of the word at `word`, and its link still stands
+-- the processor has done an LL at the address, and its link still stands
 pub record Link : Type 0 where
   pub processor : ℕ
-  pub word : ℕ
+  pub address : ℕ
 
 abbrev pub LinkSet : Type 0
 LinkSet = List Link
@@ -23,38 +24,44 @@ AllFrom first (link ∷ links) =
 abbrev pub IsLinkSet : LinkSet → Type 0
 IsLinkSet links = AllFrom 1 links
 
--- the pair is in the set: the processor has a link, and it is to the word at this address
+-- the pair is in the set: the processor has a link, and it is to this address
 abbrev pub is_linked : LinkSet → ℕ → ℕ → Bool
 is_linked links cpu address =
-    list_any (λ link. link.processor == cpu && link.word == address) links
+    list_any (λ link. link.processor == cpu && link.address == address) links
 
--- the word of the processor's link, if it has one
-abbrev pub word_of : LinkSet → ℕ → Option ℕ
-word_of links cpu = option_map (λ link. link.word) (find (λ link. link.processor == cpu) links)
+-- the address of the processor's link, if it has one
+abbrev pub linked_address : LinkSet → ℕ → Option ℕ
+linked_address links cpu = option_map (λ link. link.address) (find (λ link. link.processor == cpu) links)
 
 -- the processor's link ends: the pairs of the others
 abbrev pub without : LinkSet → ℕ → LinkSet
 without links cpu = filter (λ link. not (link.processor == cpu)) links
 
+-- the links of these processors end
+abbrev pub without_all : LinkSet → List ℕ → LinkSet
+without_all links [] = links
+without_all links (cpu ∷ cpus) = without_all (without links cpu) cpus
+
 -- an LL: the pairs of the processors below, this pair, and those of the processors above
 abbrev pub with_link : LinkSet → ℕ → ℕ → LinkSet
 with_link links cpu address =
-    filter (λ link. nat_lt link.processor cpu) links ++ (record { processor = cpu; word = address }) ∷ filter (λ link. nat_lt cpu link.processor) links
+    filter (λ link. nat_lt link.processor cpu) links
+    ++ (record { processor = cpu; address = address }) ∷ filter (λ link. nat_lt cpu link.processor) links
 
 -- whether two addresses lie in one block of 16 bytes, aligned
 abbrev pub is_same_block : ℕ → ℕ → Bool
 is_same_block a b = a / 16 == b / 16
 
--- a store: its processor's own pair, and those of the others whose word lies outside the stored block
+-- a store: its processor's own pair, and those of the others whose address lies outside the stored block
 abbrev pub after_store : LinkSet → ℕ → ℕ → LinkSet
 after_store links cpu address =
-    filter (λ link. link.processor == cpu || not (is_same_block link.word address)) links
+    filter (λ link. link.processor == cpu || not (is_same_block link.address address)) links
 
--- the link to this word, if a store to `address` by another leaves it
+-- the address of a link, if a store to `address` by another leaves it
 abbrev pub outside_block : ℕ → Option ℕ → Option ℕ
 outside_block address None = None
-outside_block address (Some word) = if is_same_block word address then None else Some word
+outside_block address (Some linked) = if is_same_block linked address then None else Some linked
 
--- the same pair
+-- the same pair (in std's words, so that std proves that this is an equivalence)
 abbrev pub is_same_link : Link → Link → Bool
-is_same_link a b = a.processor == b.processor && a.word == b.word
+is_same_link = eq_of_both (on (λ link. link.processor) ◌==◌) (on (λ link. link.address) ◌==◌)

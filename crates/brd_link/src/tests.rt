@@ -57,7 +57,13 @@ fn ends_by_a_store_of_another_into_the_block(rt: HostRuntime) {
         (0, false, 0, false, "address 0"),
         (0xffff_fff0, false, 0xffff_ffff, false, "the last block"),
         (0xffff_fffc, false, 0, true, "blocks do not wrap"),
-        (WORD + 3, false, WORD, false, "an address that is no word's"),
+        (
+            WORD + 3,
+            false,
+            WORD,
+            false,
+            "an address that is no multiple of 4",
+        ),
         (0x0000_1000, false, WORD, true, "the same low bits"),
     ];
     for (linked, is_own, stored, stays, name) in rows {
@@ -102,7 +108,7 @@ fn keeps_two_processors_apart(rt: HostRuntime) {
     assert_eq!(rt; (links.state(1), links.state(2)), (Some(WORD), None));
 }
 
-fn word_of(cpu: u8) -> u32 {
+fn address_of(cpu: u8) -> u32 {
     WORD + 4 * cpu as u32
 }
 
@@ -111,20 +117,20 @@ fn word_of(cpu: u8) -> u32 {
 fn holds_a_link_for_each_processor(rt: HostRuntime) {
     let mut links = Links::new();
     for cpu in 1..9u8 {
-        links.set(cpu, word_of(cpu));
+        links.set(cpu, address_of(cpu));
     }
     let all = links;
-    links.stored(5, word_of(7));
+    links.stored(5, address_of(7));
     for cpu in 1..9u8 {
-        assert_eq!(rt; all.state(cpu), Some(word_of(cpu)), "the copy, {cpu}");
+        assert_eq!(rt; all.state(cpu), Some(address_of(cpu)), "the copy, {cpu}");
         let ends = cpu == 4 || cpu == 6 || cpu == 7;
-        let expected = if ends { None } else { Some(word_of(cpu)) };
+        let expected = if ends { None } else { Some(address_of(cpu)) };
         assert_eq!(rt; links.state(cpu), expected, "{cpu}");
     }
     assert!(rt; links != all);
-    links.set(7, word_of(7));
-    links.set(6, word_of(6));
-    links.set(4, word_of(4));
+    links.set(7, address_of(7));
+    links.set(6, address_of(6));
+    links.set(4, address_of(4));
     assert!(rt; links == all, "in whatever order they are set");
     for cpu in 1..9u8 {
         links.end(cpu);
