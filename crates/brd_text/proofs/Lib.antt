@@ -1,4 +1,6 @@
 pub mod Numerals
+pub mod LineLemmas
+pub mod HexLemmas
 pub mod Runs
 pub mod FaultLemmas
 pub mod TurnLemmas

@@ -1,6 +1,6 @@
 -- A loop that takes a step after the other, against `repeated`.
 use Rattle.std.proofs.Common.{◌≡◌, ℕ, zero, suc, ◌<◌, ◌≤◌, Bool, true, false, Result, Ok, Err, sym, ap, subst, ◌∙◌, arith}
-use Rattle.brd_text.proofs.FaultLemmas.{bind_ok, ok_is}
+use Rattle.brd_text.proofs.FaultLemmas.{bind_ok, ok_is, passed_on}
 use Rattle.std.specs.Prelude.{⊤}
 use Rattle.std.specs.Bool.{MatchBool}
 use Rattle.brd_text.specs.Faults.{◌>>=◌, Fails}
@@ -38,13 +38,9 @@ goes_wrong spent step m s e total g h =
     let f = first_turn spent step m g.turns s total g.enough g.same in
     sym f.2 ∙ ap (λ x. x >>= followed (repeated spent step f.0)) h
 
-fails_by : {F S R : Type 0} (is_memory : Bool) (e : F) (read : Result S F) (total : Result R F) → (read ≡ Err e → total ≡ Err e) → MatchBool is_memory ⊤ (read ≡ Err e) → MatchBool is_memory ⊤ (total ≡ Err e)
-fails_by true e read total f h = h
-fails_by false e read total f h = f h
-
 -- where a step fails, so does the whole
 pub goes_fails : {F S R : Type 0} (is_memory : F → Bool) (spent : F) (step : S → Result (Flow S R) F) (m : ℕ) (s : S) (e : F) (total : Result R F) → Goes spent step m s total → Fails is_memory e (step s) → Fails is_memory e total
-goes_fails is_memory spent step m s e total g h = fails_by (is_memory e) e (step s) total (goes_wrong spent step m s e total g) h
+goes_fails is_memory spent step m s e total g h = passed_on is_memory e (step s) total h (goes_wrong spent step m s e total g)
 
 -- ---- a loop whose turn says by a bool whether another one follows
 

@@ -1,7 +1,9 @@
 pub mod Bytes
-pub mod Words
+pub mod Lines
+pub mod Tokens
 pub mod Gaps
 pub mod Numbers
+pub mod Hex
 pub mod Faults
 pub mod Turns
 pub mod Spelling

@@ -22,19 +22,27 @@ pub fn is_digit(byte: u8) -> bool
 }
 
 /// Whether a byte belongs to a run: a letter, a digit, `_`, `.` or `$`.
-#[tactic(auto, unfolding(crate::specs::Bytes::is_word_byte))]
-pub fn is_word_byte(byte: u8) -> bool
-    ensures { result ≡ bytes.is_word_byte byte }
+#[tactic(auto, unfolding(crate::specs::Bytes::is_run_byte))]
+pub fn is_run_byte(byte: u8) -> bool
+    ensures { result ≡ bytes.is_run_byte byte }
 {
     is_letter(byte) || is_digit(byte) || byte == b'_' || byte == b'.' || byte == b'$'
 }
 
+/// Whether a byte is a space, a tab or a carriage return.
+#[tactic(auto, unfolding(crate::specs::Bytes::is_space))]
+pub fn is_space(byte: u8) -> bool
+    ensures { result ≡ bytes.is_space byte }
+{
+    byte == b' ' || byte == b'\t' || byte == b'\r'
+}
+
 /// Whether a byte is a space, a tab, a carriage return or a newline.
 #[tactic(auto, unfolding(crate::specs::Bytes::is_blank))]
-pub(crate) fn is_blank(byte: u8) -> bool
+pub fn is_blank(byte: u8) -> bool
     ensures { result ≡ bytes.is_blank byte }
 {
-    byte == b' ' || byte == b'\t' || byte == b'\r' || byte == b'\n'
+    is_space(byte) || byte == b'\n'
 }
 
 /// Whether a byte may begin a name: a letter, `_` or `.`.
@@ -45,7 +53,7 @@ fn begins_name(byte: u8) -> bool
     is_letter(byte) || byte == b'_' || byte == b'.'
 }
 
-/// Whether the bytes are a name: a run of word bytes that begins with a letter, `_` or `.`.
+/// Whether the bytes are a name: a run that begins with a letter, `_` or `.`.
 pub fn is_name(text: &[u8]) -> bool
     ensures { result ≡ bytes.is_name text.now }
 {

@@ -5,7 +5,7 @@ ghost use Rattle.std.specs.List.{prefix_len};
 ghost use Rattle.brd_text.specs.Bytes.{begins_with};
 ghost use Rattle.brd_text.specs.Bytes as bytes;
 
-use crate::byte::is_word_byte;
+use crate::byte::is_run_byte;
 
 /// The bytes behind `byte`, where they begin with it.
 pub fn behind(byte: u8, rest: &[u8]) -> Option<&[u8]>
@@ -20,10 +20,10 @@ pub fn behind(byte: u8, rest: &[u8]) -> Option<&[u8]>
 
 /// How many bytes the run at the front has.
 pub fn run_len(rest: &[u8]) -> usize
-    ensures { result ≡ prefix_len bytes.is_word_byte rest.now }
+    ensures { result ≡ prefix_len bytes.is_run_byte rest.now }
 {
     for (i, byte) in rest.iter().enumerate() {
-        if !is_word_byte(*byte) {
+        if !is_run_byte(*byte) {
             return i;
         }
     }

@@ -1,15 +1,16 @@
-//! The parts of the scanner: the gap before a word, and the word at the front of a text.
+//! The parts of the scanner: the gap before a token, and the token at the front of a text.
 
 ghost use Rattle.std.specs.Prelude.{◌≡◌, ℕ, ◌+◌, ◌<◌, ◌≤◌, ◌^◌, length, true};
-ghost use Rattle.brd_text.specs.Words.{words_in, seen};
-ghost use Rattle.brd_text.specs.Words.Place.{Between, InLine, InBlock};
-ghost use Rattle.brd_text.specs.Gaps.{words_behind, room_of, left_of, begins_word, IsAtWord, Begins};
+ghost use Rattle.brd_text.specs.Tokens.{tokens_in, seen};
+ghost use Rattle.brd_text.specs.Tokens.Place.{Between, InLine, InBlock};
+ghost use Rattle.brd_text.specs.Gaps.{tokens_behind, room_of, left_of, begins_token, IsAtToken, Begins};
 
-use crate::byte::{is_blank, is_word_byte};
+use crate::byte::{is_blank, is_run_byte};
 use crate::front::{behind, run_len};
+use crate::line::line_after;
 use crate::token::Token;
 
-/// Where a gap between words ends.
+/// Where a gap between tokens ends.
 pub(crate) enum Gap<'a> {
     /// The bytes behind it, and their line.
     Closed(&'a [u8], usize),
@@ -19,7 +20,7 @@ pub(crate) enum Gap<'a> {
 
 /// The end of the line: a newline and what follows it, or nothing.
 fn line_end(rest: &[u8]) -> &[u8]
-    ensures same { (line : ℕ) → words_in InLine line rest.now ≡ words_in Between line result.now }
+    ensures same { (line : ℕ) → tokens_in InLine line rest.now ≡ tokens_in Between line result.now }
     ensures room { length result.now ≤ length rest.now }
 {
     let mut left = rest;
@@ -35,7 +36,7 @@ fn line_end(rest: &[u8]) -> &[u8]
 /// What is behind a comment that ends with `*/`.
 fn after_block(rest: &[u8], line: usize) -> Gap<'_>
     requires { line + length rest.now < 2 ^ 64 }
-    ensures same { words_in InBlock line rest.now ≡ words_behind result }
+    ensures same { tokens_in InBlock line rest.now ≡ tokens_behind result }
     ensures room { room_of result ≤ line + length rest.now }
     ensures shorter { length (left_of result) ≤ length rest.now }
 {
@@ -47,9 +48,7 @@ fn after_block(rest: &[u8], line: usize) -> Gap<'_>
         {
             return Gap::Closed(end, at);
         }
-        if *byte == b'\n' {
-            at += 1;
-        }
+        at = line_after(at, *byte);
         left = after;
     }
     Gap::Open(at)
@@ -58,17 +57,15 @@ fn after_block(rest: &[u8], line: usize) -> Gap<'_>
 /// What is behind blanks, newlines and comments.
 pub(crate) fn after_gap(rest: &[u8], line: usize) -> Gap<'_>
     requires { line + length rest.now < 2 ^ 64 }
-    ensures same { words_in Between line rest.now ≡ words_behind result }
+    ensures same { tokens_in Between line rest.now ≡ tokens_behind result }
     ensures room { room_of result ≤ line + length rest.now }
-    ensures word { IsAtWord result }
+    ensures token { IsAtToken result }
 {
     let mut left = rest;
     let mut at = line;
     while let Some((byte, after)) = left.split_first() {
         if is_blank(*byte) {
-            if *byte == b'\n' {
-                at += 1;
-            }
+            at = line_after(at, *byte);
             left = after;
             continue;
         }
@@ -93,16 +90,16 @@ pub(crate) fn after_gap(rest: &[u8], line: usize) -> Gap<'_>
     Gap::Closed(left, at)
 }
 
-/// The word at the front, and what is behind it.
+/// The token at the front, and what is behind it.
 pub(crate) fn token_at(text: &[u8]) -> (Token<'_>, &[u8])
-    requires { begins_word text.now ≡ true }
-    ensures word { Begins text.now (seen result.0) result.1.now }
+    requires { begins_token text.now ≡ true }
+    ensures token { Begins text.now (seen result.0) result.1.now }
     ensures room { length result.1.now ≤ length text.now }
 {
     let Some((byte, after)) = text.split_first() else {
         return (Token::End, text);
     };
-    if is_word_byte(*byte) {
+    if is_run_byte(*byte) {
         let (run, behind) = text.split_at(run_len(text));
         return (Token::Run(run), behind);
     }

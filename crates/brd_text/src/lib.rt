@@ -1,18 +1,23 @@
-//! What the product's texts share: bytes to words with their lines, numbers, the shape of 'a value or the first
-//! fault', and a step that is repeated over the words of a text.
+//! What the product's texts share: bytes by kind, lines, numbers, bytes to tokens with their lines, the shape of 'a value
+//! or the first fault', and a step that is repeated over the tokens of a text.
 #![tactic(auto)]
 
 mod byte;
 mod front;
 mod gap;
+mod hex;
+pub mod laws;
+mod line;
 mod numeral;
 mod scanner;
 mod token;
 
-pub use byte::{is_digit, is_letter, is_name, is_word_byte};
+pub use byte::{is_blank, is_digit, is_letter, is_name, is_run_byte, is_space};
 pub use front::{behind, run_len};
-pub use numeral::{decimal, number};
-pub use scanner::{Scanner, spelled_words_are_scanned};
+pub use hex::{hex_digits, hex_word};
+pub use line::{line_after, line_at, split_line};
+pub use numeral::{decimal, hex_value, number, plain_decimal};
+pub use scanner::Scanner;
 pub use token::Token;
 
 #[cfg(test)]

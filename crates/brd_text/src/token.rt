@@ -1,12 +1,12 @@
-/// A word of a text, borrowed from its bytes.
+/// A token of a text, borrowed from its bytes.
 #[derive(Clone, Copy, Debug, PartialEq, Eq)]
 pub enum Token<'a> {
     /// A longest stretch of letters, digits, `_`, `.` and `$`.
     Run(&'a [u8]),
-    /// Any other byte that stands between no words, as `(`, or one that has no place in the text at all.
+    /// Any other byte that stands between no tokens, as `(`, or one that has no place in the text at all.
     Mark(u8),
     /// The text ends in a comment that begins with `/*`.
     Unclosed,
-    /// No more words.
+    /// No more tokens.
     End,
 }
