@@ -1,0 +1,2 @@
+pub mod RangesLemmas
+mod EntryLemmas
