@@ -1,0 +1,19 @@
+-- The rule by which a queue in the order of priority serves: higher priority, which is a lower number, before lower, and of equal
+-- priority whoever came earlier.
+use Rattle.std.specs.Prelude.{◌≡◌, ◌<◌, ◌≤◌, List, [], ◌∷◌, ◌++◌}
+use Rattle.std.specs.List.{AllByRecursion}
+use Rattle.brd_queue.specs.declared.entry.Entry.{Entry}
+
+-- no entry stands before one of higher priority
+abbrev pub IsByPriority : List Entry → Type 0
+IsByPriority [] = Unit {0}
+IsByPriority (x ∷ xs) = AllByRecursion (λ other. x.priority ≤ other.priority) xs × IsByPriority xs
+
+-- An entry came to a queue: the others stand as they stood, all that have its priority or a higher one before it, the rest behind it.
+pub record Enters (e : Entry) (old new : List Entry) : Type 0 where
+  pub before : List Entry
+  pub behind : List Entry
+  pub was : old ≡ before ++ behind
+  pub is : new ≡ before ++ e ∷ behind
+  pub not_below : AllByRecursion (λ other. other.priority ≤ e.priority) before
+  pub below : AllByRecursion (λ other. e.priority < other.priority) behind

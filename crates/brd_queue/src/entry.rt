@@ -1,0 +1,19 @@
+//! What a queue holds, and in which order.
+
+/// A task in a queue.
+#[derive(Clone, Copy, Debug, Default, PartialEq, Eq)]
+pub struct Entry {
+    /// The task's ID.
+    pub id: u16,
+    /// Its priority; a lower number is served first.
+    pub priority: u8,
+}
+
+/// Where a task enters a queue (uITRON 4.0 specification, the attributes TA_TFIFO and TA_TPRI).
+#[derive(Clone, Copy, Debug, PartialEq, Eq)]
+pub enum Order {
+    /// At the end.
+    Arrival,
+    /// Behind those of its own priority or a higher one, before those of a lower one.
+    Priority,
+}
