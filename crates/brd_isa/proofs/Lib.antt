@@ -1,3 +1,4 @@
 pub mod WordLemmas
 pub mod NameLemmas
-pub mod TableLemmas
+pub mod NameRows
+pub mod TableTheorem

@@ -1,208 +1,143 @@
 -- Each mnemonic has a name.
-use Rattle.std.proofs.Common.{refl}
-use Rattle.std.specs.Prelude.{codes}
-use Rattle.brd_isa.specs.declared.instruction.ShiftOp.{ShiftOp}
-use Rattle.brd_isa.specs.declared.instruction.ShiftOp.TheVariants.{Sll, Srl, Sra}
-use Rattle.brd_isa.specs.declared.instruction.ShiftVariableOp.{ShiftVariableOp}
-use Rattle.brd_isa.specs.declared.instruction.ShiftVariableOp.TheVariants.{Sllv, Srlv, Srav}
-use Rattle.brd_isa.specs.declared.instruction.RegisterOp.{RegisterOp}
-use Rattle.brd_isa.specs.declared.instruction.RegisterOp.TheVariants.{Movz, Movn, Add, Addu, Sub, Subu, And, Or, Xor, Nor, Slt, Sltu}
-use Rattle.brd_isa.specs.declared.instruction.MoveFromOp.{MoveFromOp}
-use Rattle.brd_isa.specs.declared.instruction.MoveFromOp.TheVariants.{Mfhi, Mflo}
-use Rattle.brd_isa.specs.declared.instruction.MoveToOp.{MoveToOp}
-use Rattle.brd_isa.specs.declared.instruction.MoveToOp.TheVariants.{Mthi, Mtlo}
-use Rattle.brd_isa.specs.declared.instruction.ProductOp.{ProductOp}
-use Rattle.brd_isa.specs.declared.instruction.ProductOp.TheVariants.{Mult, Multu, Div, Divu}
-use Rattle.brd_isa.specs.declared.instruction.TrapOp.{TrapOp}
-use Rattle.brd_isa.specs.declared.instruction.TrapOp.TheVariants.{Tge, Tgeu, Tlt, Tltu, Teq, Tne}
-use Rattle.brd_isa.specs.declared.instruction.BranchZeroOp.{BranchZeroOp}
-use Rattle.brd_isa.specs.declared.instruction.BranchZeroOp.TheVariants.{Bltz, Bgez, Bltzl, Bgezl, Bltzal, Bgezal, Bltzall, Bgezall}
-use Rattle.brd_isa.specs.declared.instruction.TrapImmediateOp.{TrapImmediateOp}
-use Rattle.brd_isa.specs.declared.instruction.TrapImmediateOp.TheVariants.{Tgei, Tgeiu, Tlti, Tltiu, Teqi, Tnei}
-use Rattle.brd_isa.specs.declared.instruction.AccumulateOp.{AccumulateOp}
-use Rattle.brd_isa.specs.declared.instruction.AccumulateOp.TheVariants.{Madd, Maddu, Msub, Msubu}
-use Rattle.brd_isa.specs.declared.instruction.CountOp.{CountOp}
-use Rattle.brd_isa.specs.declared.instruction.CountOp.TheVariants.{Clz, Clo}
-use Rattle.brd_isa.specs.declared.instruction.JumpOp.{JumpOp}
-use Rattle.brd_isa.specs.declared.instruction.JumpOp.TheVariants.{J, Jal}
-use Rattle.brd_isa.specs.declared.instruction.BranchOp.{BranchOp}
-use Rattle.brd_isa.specs.declared.instruction.BranchOp.TheVariants.{Beq, Bne, Beql, Bnel}
-use Rattle.brd_isa.specs.declared.instruction.BranchSignOp.{BranchSignOp}
-use Rattle.brd_isa.specs.declared.instruction.BranchSignOp.TheVariants.{Blez, Bgtz, Blezl, Bgtzl}
-use Rattle.brd_isa.specs.declared.instruction.ImmediateOp.{ImmediateOp}
-use Rattle.brd_isa.specs.declared.instruction.ImmediateOp.TheVariants.{Addi, Addiu, Slti, Sltiu, Andi, Ori, Xori}
-use Rattle.brd_isa.specs.declared.instruction.LoadOp.{LoadOp}
-use Rattle.brd_isa.specs.declared.instruction.LoadOp.TheVariants.{Lb, Lh, Lwl, Lw, Lbu, Lhu, Lwr}
-use Rattle.brd_isa.specs.declared.instruction.StoreOp.{StoreOp}
-use Rattle.brd_isa.specs.declared.instruction.StoreOp.TheVariants.{Sb, Sh, Swl, Sw, Swr}
-use Rattle.brd_isa.specs.declared.instruction.LinkedOp.{LinkedOp}
-use Rattle.brd_isa.specs.declared.instruction.LinkedOp.TheVariants.{Ll, Sc}
+use Rattle.std.proofs.Common.{ℕ, List, [], ◌∷◌, refl}
+use Rattle.std.specs.Prelude.{◌==◌, if◌then◌else◌, codes}
+use Rattle.brd_isa.specs.declared.instruction.{ShiftOp.ShiftOp, ShiftVariableOp.ShiftVariableOp}
+use Rattle.brd_isa.specs.declared.instruction.{RegisterOp.RegisterOp, MoveFromOp.MoveFromOp, MoveToOp.MoveToOp}
+use Rattle.brd_isa.specs.declared.instruction.{ProductOp.ProductOp, TrapOp.TrapOp, BranchRegimmOp.BranchRegimmOp}
+use Rattle.brd_isa.specs.declared.instruction.{TrapImmediateOp.TrapImmediateOp, AccumulateOp.AccumulateOp}
+use Rattle.brd_isa.specs.declared.instruction.{CountOp.CountOp, JumpOp.JumpOp, BranchOp.BranchOp}
+use Rattle.brd_isa.specs.declared.instruction.{BranchZeroOp.BranchZeroOp, ImmediateOp.ImmediateOp, LoadOp.LoadOp}
+use Rattle.brd_isa.specs.declared.instruction.{StoreOp.StoreOp, LinkedOp.LinkedOp}
 use Rattle.brd_isa.specs.declared.mnemonic.Mnemonic.{Mnemonic}
-use Rattle.brd_isa.specs.declared.mnemonic.Mnemonic.TheVariants.{Shift, ShiftVariable, ThreeRegisters, MoveFrom, MoveTo, Product, Trap, BranchZero, TrapImmediate, Accumulate, Count, Jump, Branch, BranchSign, Immediate, Load, Store, Linked, Multiply, JumpRegister, JumpLinkRegister, Syscall, Break, Sync, LoadUpper, Prefetch}
-use Rattle.brd_isa.specs.Names.{HasName, computing_named, other_named, mnemonic_named}
+use Rattle.brd_isa.specs.Codes as code
+use Rattle.brd_isa.specs.Names.{HasName, computing_named, other_named, mnemonic_named, shift_names}
+use Rattle.brd_isa.specs.Names.{shift_variable_names, register_names, move_from_names, move_to_names, product_names}
+use Rattle.brd_isa.specs.Names.{trap_names, branch_regimm_names, trap_immediate_names, accumulate_names, count_names}
+use Rattle.brd_isa.specs.Names.{jump_names, branch_names, branch_zero_names, immediate_names, load_names, store_names}
+use Rattle.brd_isa.specs.Names.{linked_names}
 
-shift_name : (op : ShiftOp) → HasName (Shift op)
-unfolding mnemonic_named computing_named other_named
-shift_name Sll = (codes "sll", refl)
-shift_name Srl = (codes "srl", refl)
-shift_name Sra = (codes "sra", refl)
+-- the name of the operation with this code
+abbrev coded : {A : Type 0} → List (List ℕ × A) → (A → ℕ) → ℕ → List ℕ
+coded [] code_of n = []
+coded (row ∷ rows) code_of n = if n == code_of row.1 then row.0 else coded rows code_of n
 
-shift_variable_name : (op : ShiftVariableOp) → HasName (ShiftVariable op)
-unfolding mnemonic_named computing_named other_named
-shift_variable_name Sllv = (codes "sllv", refl)
-shift_variable_name Srlv = (codes "srlv", refl)
-shift_variable_name Srav = (codes "srav", refl)
+-- each of a form's operations has one: the first by itself, so that the line behind it is read for each of the others
 
-register_name : (op : RegisterOp) → HasName (ThreeRegisters op)
+shift_name : (op : ShiftOp) → HasName (Mnemonic.Shift op)
 unfolding mnemonic_named computing_named other_named
-register_name Movz = (codes "movz", refl)
-register_name Movn = (codes "movn", refl)
-register_name Add = (codes "add", refl)
-register_name Addu = (codes "addu", refl)
-register_name Sub = (codes "sub", refl)
-register_name Subu = (codes "subu", refl)
-register_name And = (codes "and", refl)
-register_name Or = (codes "or", refl)
-register_name Xor = (codes "xor", refl)
-register_name Nor = (codes "nor", refl)
-register_name Slt = (codes "slt", refl)
-register_name Sltu = (codes "sltu", refl)
+shift_name ShiftOp.Sll = (coded shift_names code.shift_funct (code.shift_funct ShiftOp.Sll), refl)
+shift_name op = (coded shift_names code.shift_funct (code.shift_funct op), refl)
 
-move_from_name : (op : MoveFromOp) → HasName (MoveFrom op)
+shift_variable_name : (op : ShiftVariableOp) → HasName (Mnemonic.ShiftVariable op)
 unfolding mnemonic_named computing_named other_named
-move_from_name Mfhi = (codes "mfhi", refl)
-move_from_name Mflo = (codes "mflo", refl)
+shift_variable_name ShiftVariableOp.Sllv = (coded shift_variable_names code.shift_variable_funct (code.shift_variable_funct ShiftVariableOp.Sllv), refl)
+shift_variable_name op = (coded shift_variable_names code.shift_variable_funct (code.shift_variable_funct op), refl)
 
-move_to_name : (op : MoveToOp) → HasName (MoveTo op)
+register_name : (op : RegisterOp) → HasName (Mnemonic.ThreeRegisters op)
 unfolding mnemonic_named computing_named other_named
-move_to_name Mthi = (codes "mthi", refl)
-move_to_name Mtlo = (codes "mtlo", refl)
+register_name RegisterOp.Movz = (coded register_names code.register_funct (code.register_funct RegisterOp.Movz), refl)
+register_name op = (coded register_names code.register_funct (code.register_funct op), refl)
 
-product_name : (op : ProductOp) → HasName (Product op)
+move_from_name : (op : MoveFromOp) → HasName (Mnemonic.MoveFrom op)
 unfolding mnemonic_named computing_named other_named
-product_name Mult = (codes "mult", refl)
-product_name Multu = (codes "multu", refl)
-product_name Div = (codes "div", refl)
-product_name Divu = (codes "divu", refl)
+move_from_name MoveFromOp.Mfhi = (coded move_from_names code.move_from_funct (code.move_from_funct MoveFromOp.Mfhi), refl)
+move_from_name op = (coded move_from_names code.move_from_funct (code.move_from_funct op), refl)
 
-trap_name : (op : TrapOp) → HasName (Trap op)
+move_to_name : (op : MoveToOp) → HasName (Mnemonic.MoveTo op)
 unfolding mnemonic_named computing_named other_named
-trap_name Tge = (codes "tge", refl)
-trap_name Tgeu = (codes "tgeu", refl)
-trap_name Tlt = (codes "tlt", refl)
-trap_name Tltu = (codes "tltu", refl)
-trap_name Teq = (codes "teq", refl)
-trap_name Tne = (codes "tne", refl)
+move_to_name MoveToOp.Mthi = (coded move_to_names code.move_to_funct (code.move_to_funct MoveToOp.Mthi), refl)
+move_to_name op = (coded move_to_names code.move_to_funct (code.move_to_funct op), refl)
 
-branch_zero_name : (op : BranchZeroOp) → HasName (BranchZero op)
+product_name : (op : ProductOp) → HasName (Mnemonic.Product op)
 unfolding mnemonic_named computing_named other_named
-branch_zero_name Bltz = (codes "bltz", refl)
-branch_zero_name Bgez = (codes "bgez", refl)
-branch_zero_name Bltzl = (codes "bltzl", refl)
-branch_zero_name Bgezl = (codes "bgezl", refl)
-branch_zero_name Bltzal = (codes "bltzal", refl)
-branch_zero_name Bgezal = (codes "bgezal", refl)
-branch_zero_name Bltzall = (codes "bltzall", refl)
-branch_zero_name Bgezall = (codes "bgezall", refl)
+product_name ProductOp.Mult = (coded product_names code.product_funct (code.product_funct ProductOp.Mult), refl)
+product_name op = (coded product_names code.product_funct (code.product_funct op), refl)
 
-trap_immediate_name : (op : TrapImmediateOp) → HasName (TrapImmediate op)
+accumulate_name : (op : AccumulateOp) → HasName (Mnemonic.Accumulate op)
 unfolding mnemonic_named computing_named other_named
-trap_immediate_name Tgei = (codes "tgei", refl)
-trap_immediate_name Tgeiu = (codes "tgeiu", refl)
-trap_immediate_name Tlti = (codes "tlti", refl)
-trap_immediate_name Tltiu = (codes "tltiu", refl)
-trap_immediate_name Teqi = (codes "teqi", refl)
-trap_immediate_name Tnei = (codes "tnei", refl)
+accumulate_name AccumulateOp.Madd = (coded accumulate_names code.accumulate_funct (code.accumulate_funct AccumulateOp.Madd), refl)
+accumulate_name op = (coded accumulate_names code.accumulate_funct (code.accumulate_funct op), refl)
 
-accumulate_name : (op : AccumulateOp) → HasName (Accumulate op)
+count_name : (op : CountOp) → HasName (Mnemonic.Count op)
 unfolding mnemonic_named computing_named other_named
-accumulate_name Madd = (codes "madd", refl)
-accumulate_name Maddu = (codes "maddu", refl)
-accumulate_name Msub = (codes "msub", refl)
-accumulate_name Msubu = (codes "msubu", refl)
+count_name CountOp.Clz = (coded count_names code.count_funct (code.count_funct CountOp.Clz), refl)
+count_name op = (coded count_names code.count_funct (code.count_funct op), refl)
 
-count_name : (op : CountOp) → HasName (Count op)
+immediate_name : (op : ImmediateOp) → HasName (Mnemonic.WithImmediate op)
 unfolding mnemonic_named computing_named other_named
-count_name Clz = (codes "clz", refl)
-count_name Clo = (codes "clo", refl)
+immediate_name ImmediateOp.Addi = (coded immediate_names code.immediate_opcode (code.immediate_opcode ImmediateOp.Addi), refl)
+immediate_name op = (coded immediate_names code.immediate_opcode (code.immediate_opcode op), refl)
 
-jump_name : (op : JumpOp) → HasName (Jump op)
+trap_name : (op : TrapOp) → HasName (Mnemonic.Trap op)
 unfolding mnemonic_named computing_named other_named
-jump_name J = (codes "j", refl)
-jump_name Jal = (codes "jal", refl)
+trap_name TrapOp.Tge = (coded trap_names code.trap_funct (code.trap_funct TrapOp.Tge), refl)
+trap_name op = (coded trap_names code.trap_funct (code.trap_funct op), refl)
 
-branch_name : (op : BranchOp) → HasName (Branch op)
+trap_immediate_name : (op : TrapImmediateOp) → HasName (Mnemonic.TrapImmediate op)
 unfolding mnemonic_named computing_named other_named
-branch_name Beq = (codes "beq", refl)
-branch_name Bne = (codes "bne", refl)
-branch_name Beql = (codes "beql", refl)
-branch_name Bnel = (codes "bnel", refl)
+trap_immediate_name TrapImmediateOp.Tgei = (coded trap_immediate_names code.trap_immediate_rt (code.trap_immediate_rt TrapImmediateOp.Tgei), refl)
+trap_immediate_name op = (coded trap_immediate_names code.trap_immediate_rt (code.trap_immediate_rt op), refl)
 
-branch_sign_name : (op : BranchSignOp) → HasName (BranchSign op)
+jump_name : (op : JumpOp) → HasName (Mnemonic.Jump op)
 unfolding mnemonic_named computing_named other_named
-branch_sign_name Blez = (codes "blez", refl)
-branch_sign_name Bgtz = (codes "bgtz", refl)
-branch_sign_name Blezl = (codes "blezl", refl)
-branch_sign_name Bgtzl = (codes "bgtzl", refl)
+jump_name JumpOp.J = (coded jump_names code.jump_opcode (code.jump_opcode JumpOp.J), refl)
+jump_name op = (coded jump_names code.jump_opcode (code.jump_opcode op), refl)
 
-immediate_name : (op : ImmediateOp) → HasName (Immediate op)
+branch_name : (op : BranchOp) → HasName (Mnemonic.Branch op)
 unfolding mnemonic_named computing_named other_named
-immediate_name Addi = (codes "addi", refl)
-immediate_name Addiu = (codes "addiu", refl)
-immediate_name Slti = (codes "slti", refl)
-immediate_name Sltiu = (codes "sltiu", refl)
-immediate_name Andi = (codes "andi", refl)
-immediate_name Ori = (codes "ori", refl)
-immediate_name Xori = (codes "xori", refl)
+branch_name BranchOp.Beq = (coded branch_names code.branch_opcode (code.branch_opcode BranchOp.Beq), refl)
+branch_name op = (coded branch_names code.branch_opcode (code.branch_opcode op), refl)
 
-load_name : (op : LoadOp) → HasName (Load op)
+branch_zero_name : (op : BranchZeroOp) → HasName (Mnemonic.BranchZero op)
 unfolding mnemonic_named computing_named other_named
-load_name Lb = (codes "lb", refl)
-load_name Lh = (codes "lh", refl)
-load_name Lwl = (codes "lwl", refl)
-load_name Lw = (codes "lw", refl)
-load_name Lbu = (codes "lbu", refl)
-load_name Lhu = (codes "lhu", refl)
-load_name Lwr = (codes "lwr", refl)
+branch_zero_name BranchZeroOp.Blez = (coded branch_zero_names code.branch_zero_opcode (code.branch_zero_opcode BranchZeroOp.Blez), refl)
+branch_zero_name op = (coded branch_zero_names code.branch_zero_opcode (code.branch_zero_opcode op), refl)
 
-store_name : (op : StoreOp) → HasName (Store op)
+branch_regimm_name : (op : BranchRegimmOp) → HasName (Mnemonic.BranchRegimm op)
 unfolding mnemonic_named computing_named other_named
-store_name Sb = (codes "sb", refl)
-store_name Sh = (codes "sh", refl)
-store_name Swl = (codes "swl", refl)
-store_name Sw = (codes "sw", refl)
-store_name Swr = (codes "swr", refl)
+branch_regimm_name BranchRegimmOp.Bltz = (coded branch_regimm_names code.branch_regimm_rt (code.branch_regimm_rt BranchRegimmOp.Bltz), refl)
+branch_regimm_name op = (coded branch_regimm_names code.branch_regimm_rt (code.branch_regimm_rt op), refl)
 
-linked_name : (op : LinkedOp) → HasName (Linked op)
+load_name : (op : LoadOp) → HasName (Mnemonic.Load op)
 unfolding mnemonic_named computing_named other_named
-linked_name Ll = (codes "ll", refl)
-linked_name Sc = (codes "sc", refl)
+load_name LoadOp.Lb = (coded load_names code.load_opcode (code.load_opcode LoadOp.Lb), refl)
+load_name op = (coded load_names code.load_opcode (code.load_opcode op), refl)
 
-pub name_of : (m : Mnemonic) → HasName m
+store_name : (op : StoreOp) → HasName (Mnemonic.Store op)
 unfolding mnemonic_named computing_named other_named
-name_of (Shift op) = shift_name op
-name_of (ShiftVariable op) = shift_variable_name op
-name_of (ThreeRegisters op) = register_name op
-name_of (MoveFrom op) = move_from_name op
-name_of (MoveTo op) = move_to_name op
-name_of (Product op) = product_name op
-name_of (Trap op) = trap_name op
-name_of (BranchZero op) = branch_zero_name op
-name_of (TrapImmediate op) = trap_immediate_name op
-name_of (Accumulate op) = accumulate_name op
-name_of (Count op) = count_name op
-name_of (Jump op) = jump_name op
-name_of (Branch op) = branch_name op
-name_of (BranchSign op) = branch_sign_name op
-name_of (Immediate op) = immediate_name op
-name_of (Load op) = load_name op
-name_of (Store op) = store_name op
-name_of (Linked op) = linked_name op
-name_of Multiply = (codes "mul", refl)
-name_of JumpRegister = (codes "jr", refl)
-name_of JumpLinkRegister = (codes "jalr", refl)
-name_of Syscall = (codes "syscall", refl)
-name_of Break = (codes "break", refl)
-name_of Sync = (codes "sync", refl)
-name_of LoadUpper = (codes "lui", refl)
-name_of Prefetch = (codes "pref", refl)
+store_name StoreOp.Sb = (coded store_names code.store_opcode (code.store_opcode StoreOp.Sb), refl)
+store_name op = (coded store_names code.store_opcode (code.store_opcode op), refl)
+
+linked_name : (op : LinkedOp) → HasName (Mnemonic.Linked op)
+unfolding mnemonic_named computing_named other_named
+linked_name LinkedOp.Ll = (coded linked_names code.linked_opcode (code.linked_opcode LinkedOp.Ll), refl)
+linked_name op = (coded linked_names code.linked_opcode (code.linked_opcode op), refl)
+
+pub name_of : (mnemonic : Mnemonic) → HasName mnemonic
+unfolding mnemonic_named computing_named other_named
+name_of (Mnemonic.Shift op) = shift_name op
+name_of (Mnemonic.ShiftVariable op) = shift_variable_name op
+name_of (Mnemonic.ThreeRegisters op) = register_name op
+name_of (Mnemonic.MoveFrom op) = move_from_name op
+name_of (Mnemonic.MoveTo op) = move_to_name op
+name_of (Mnemonic.Product op) = product_name op
+name_of (Mnemonic.Accumulate op) = accumulate_name op
+name_of (Mnemonic.Count op) = count_name op
+name_of (Mnemonic.WithImmediate op) = immediate_name op
+name_of (Mnemonic.Trap op) = trap_name op
+name_of (Mnemonic.TrapImmediate op) = trap_immediate_name op
+name_of (Mnemonic.Jump op) = jump_name op
+name_of (Mnemonic.Branch op) = branch_name op
+name_of (Mnemonic.BranchZero op) = branch_zero_name op
+name_of (Mnemonic.BranchRegimm op) = branch_regimm_name op
+name_of (Mnemonic.Load op) = load_name op
+name_of (Mnemonic.Store op) = store_name op
+name_of (Mnemonic.Linked op) = linked_name op
+name_of Mnemonic.Multiply = (codes "mul", refl)
+name_of Mnemonic.JumpRegister = (codes "jr", refl)
+name_of Mnemonic.JumpLinkRegister = (codes "jalr", refl)
+name_of Mnemonic.Syscall = (codes "syscall", refl)
+name_of Mnemonic.Break = (codes "break", refl)
+name_of Mnemonic.Sync = (codes "sync", refl)
+name_of Mnemonic.LoadUpper = (codes "lui", refl)
+name_of Mnemonic.Prefetch = (codes "pref", refl)

@@ -1,7 +1,6 @@
 -- A word is known by its fields.
 use Rattle.std.proofs.Common.{◌≡◌, ℕ, ◌/◌, ◌^◌, arith}
 use Rattle.brd_isa.specs.declared.instruction.Insn.{Insn}
-use Rattle.brd_isa.specs.declared.instruction.Insn.TheVariants.{Shift, ShiftVariable, ThreeRegisters, Multiply, JumpRegister, JumpLinkRegister, Syscall, Break, Sync, MoveFrom, MoveTo, Product, Accumulate, Count, Trap, TrapImmediate, Jump, Branch, BranchSign, BranchZero, Immediate, LoadUpper, Load, Store, Linked, Prefetch}
 use Rattle.brd_isa.specs.Fields.{RType, AnySaType, IType, JType, LongCodeType, ShortCodeType}
 use Rattle.brd_isa.specs.Table.{StandsFor, IgnoresSa}
 use Rattle.brd_isa.specs.Decoding.{sa_of}
@@ -45,29 +44,29 @@ short_code_type v w opcode rs rt code funct a b =
     omega (arith, a.funct_is, b.funct_is)
 
 pub one_word : (v w : ℕ) (insn : Insn) → StandsFor v insn → StandsFor w insn → (IgnoresSa insn → sa_of v ≡ sa_of w) → v ≡ w
-one_word v w (Shift op rd rt sa) a b s = r_type v w _ _ _ _ _ _ a b
-one_word v w (ShiftVariable op rd rt rs) a b s = r_type v w _ _ _ _ _ _ a b
-one_word v w (ThreeRegisters op rd rs rt) a b s = r_type v w _ _ _ _ _ _ a b
-one_word v w (Multiply rd rs rt) a b s = r_type v w _ _ _ _ _ _ a b
-one_word v w (JumpRegister rs) a b s = any_sa_type v w _ _ _ _ _ a b (s tt)
-one_word v w (JumpLinkRegister rd rs) a b s = any_sa_type v w _ _ _ _ _ a b (s tt)
-one_word v w (Syscall code) a b s = long_code_type v w _ _ _ a b
-one_word v w (Break code) a b s = long_code_type v w _ _ _ a b
-one_word v w Sync a b s = any_sa_type v w _ _ _ _ _ a b (s tt)
-one_word v w (MoveFrom op rd) a b s = r_type v w _ _ _ _ _ _ a b
-one_word v w (MoveTo op rs) a b s = r_type v w _ _ _ _ _ _ a b
-one_word v w (Product op rs rt) a b s = r_type v w _ _ _ _ _ _ a b
-one_word v w (Accumulate op rs rt) a b s = r_type v w _ _ _ _ _ _ a b
-one_word v w (Count op rd rs) a b s = r_type v w _ _ _ _ _ _ a b
-one_word v w (Trap op rs rt code) a b s = short_code_type v w _ _ _ _ _ a b
-one_word v w (TrapImmediate op rs immediate) a b s = i_type v w _ _ _ _ a b
-one_word v w (Jump op index) a b s = j_type v w _ _ a b
-one_word v w (Branch op rs rt offset) a b s = i_type v w _ _ _ _ a b
-one_word v w (BranchSign op rs offset) a b s = i_type v w _ _ _ _ a b
-one_word v w (BranchZero op rs offset) a b s = i_type v w _ _ _ _ a b
-one_word v w (Immediate op rt rs immediate) a b s = i_type v w _ _ _ _ a b
-one_word v w (LoadUpper rt immediate) a b s = i_type v w _ _ _ _ a b
-one_word v w (Load op rt base offset) a b s = i_type v w _ _ _ _ a b
-one_word v w (Store op rt base offset) a b s = i_type v w _ _ _ _ a b
-one_word v w (Linked op rt base offset) a b s = i_type v w _ _ _ _ a b
-one_word v w (Prefetch hint base offset) a b s = i_type v w _ _ _ _ a b
+one_word v w (Insn.Shift op rd rt sa) a b s = r_type v w _ _ _ _ _ _ a b
+one_word v w (Insn.ShiftVariable op rd rt rs) a b s = r_type v w _ _ _ _ _ _ a b
+one_word v w (Insn.ThreeRegisters op rd rs rt) a b s = r_type v w _ _ _ _ _ _ a b
+one_word v w (Insn.Multiply rd rs rt) a b s = r_type v w _ _ _ _ _ _ a b
+one_word v w (Insn.JumpRegister rs) a b s = any_sa_type v w _ _ _ _ _ a b (s tt)
+one_word v w (Insn.JumpLinkRegister rd rs) a b s = any_sa_type v w _ _ _ _ _ a b (s tt)
+one_word v w (Insn.Syscall code) a b s = long_code_type v w _ _ _ a b
+one_word v w (Insn.Break code) a b s = long_code_type v w _ _ _ a b
+one_word v w Insn.Sync a b s = any_sa_type v w _ _ _ _ _ a b (s tt)
+one_word v w (Insn.MoveFrom op rd) a b s = r_type v w _ _ _ _ _ _ a b
+one_word v w (Insn.MoveTo op rs) a b s = r_type v w _ _ _ _ _ _ a b
+one_word v w (Insn.Product op rs rt) a b s = r_type v w _ _ _ _ _ _ a b
+one_word v w (Insn.Accumulate op rs rt) a b s = r_type v w _ _ _ _ _ _ a b
+one_word v w (Insn.Count op rd rs) a b s = r_type v w _ _ _ _ _ _ a b
+one_word v w (Insn.Trap op rs rt code) a b s = short_code_type v w _ _ _ _ _ a b
+one_word v w (Insn.TrapImmediate op rs immediate) a b s = i_type v w _ _ _ _ a b
+one_word v w (Insn.Jump op index) a b s = j_type v w _ _ a b
+one_word v w (Insn.Branch op rs rt offset) a b s = i_type v w _ _ _ _ a b
+one_word v w (Insn.BranchZero op rs offset) a b s = i_type v w _ _ _ _ a b
+one_word v w (Insn.BranchRegimm op rs offset) a b s = i_type v w _ _ _ _ a b
+one_word v w (Insn.WithImmediate op rt rs immediate) a b s = i_type v w _ _ _ _ a b
+one_word v w (Insn.LoadUpper rt immediate) a b s = i_type v w _ _ _ _ a b
+one_word v w (Insn.Load op rt base offset) a b s = i_type v w _ _ _ _ a b
+one_word v w (Insn.Store op rt base offset) a b s = i_type v w _ _ _ _ a b
+one_word v w (Insn.Linked op rt base offset) a b s = i_type v w _ _ _ _ a b
+one_word v w (Insn.Prefetch hint base offset) a b s = i_type v w _ _ _ _ a b

@@ -1,36 +1,18 @@
--- The instruction that a word stands for, as a function: what the meaning of a step is stated with. That it is the
--- table's, and nothing where the table has none, is proved as `laws::follows_the_table`.
-use Rattle.std.specs.Prelude.{ℕ, ◌/◌, ◌%◌, ◌^◌, ◌==◌, ◌&&◌, if◌then◌else◌, Option, None, Some}
-use Rattle.brd_isa.specs.declared.instruction.Insn.{Insn}
-use Rattle.brd_isa.specs.declared.instruction.Insn.TheVariants.{Shift, ShiftVariable, ThreeRegisters, Multiply, JumpRegister, JumpLinkRegister, Syscall, Break, Sync, MoveFrom, MoveTo, Product, Accumulate, Count, Trap, TrapImmediate, Jump, Branch, BranchSign, BranchZero, Immediate, LoadUpper, Load, Store, Linked, Prefetch}
-use Rattle.brd_isa.specs.declared.instruction.ShiftOp.{ShiftOp}
-use Rattle.brd_isa.specs.declared.instruction.ShiftOp.TheVariants.{Sll, Srl, Sra}
-use Rattle.brd_isa.specs.declared.instruction.ShiftVariableOp.{ShiftVariableOp}
-use Rattle.brd_isa.specs.declared.instruction.ShiftVariableOp.TheVariants.{Sllv, Srlv, Srav}
-use Rattle.brd_isa.specs.declared.instruction.RegisterOp.{RegisterOp}
-use Rattle.brd_isa.specs.declared.instruction.RegisterOp.TheVariants.{Movz, Movn, Add, Addu, Sub, Subu, And, Or, Xor, Nor, Slt, Sltu}
-use Rattle.brd_isa.specs.declared.instruction.MoveFromOp.{MoveFromOp}
-use Rattle.brd_isa.specs.declared.instruction.MoveFromOp.TheVariants.{Mfhi, Mflo}
-use Rattle.brd_isa.specs.declared.instruction.MoveToOp.{MoveToOp}
-use Rattle.brd_isa.specs.declared.instruction.MoveToOp.TheVariants.{Mthi, Mtlo}
-use Rattle.brd_isa.specs.declared.instruction.ProductOp.{ProductOp}
-use Rattle.brd_isa.specs.declared.instruction.ProductOp.TheVariants.{Mult, Multu, Div, Divu}
-use Rattle.brd_isa.specs.declared.instruction.TrapOp.TheVariants.{Tge, Tgeu, Tlt, Tltu, Teq, Tne}
-use Rattle.brd_isa.specs.declared.instruction.BranchZeroOp.TheVariants.{Bltz, Bgez, Bltzl, Bgezl, Bltzal, Bgezal, Bltzall, Bgezall}
-use Rattle.brd_isa.specs.declared.instruction.TrapImmediateOp.TheVariants.{Tgei, Tgeiu, Tlti, Tltiu, Teqi, Tnei}
-use Rattle.brd_isa.specs.declared.instruction.AccumulateOp.{AccumulateOp}
-use Rattle.brd_isa.specs.declared.instruction.AccumulateOp.TheVariants.{Madd, Maddu, Msub, Msubu}
-use Rattle.brd_isa.specs.declared.instruction.CountOp.{CountOp}
-use Rattle.brd_isa.specs.declared.instruction.CountOp.TheVariants.{Clz, Clo}
-use Rattle.brd_isa.specs.declared.instruction.JumpOp.TheVariants.{J, Jal}
-use Rattle.brd_isa.specs.declared.instruction.BranchOp.TheVariants.{Beq, Bne, Beql, Bnel}
-use Rattle.brd_isa.specs.declared.instruction.BranchSignOp.{BranchSignOp}
-use Rattle.brd_isa.specs.declared.instruction.BranchSignOp.TheVariants.{Blez, Bgtz, Blezl, Bgtzl}
-use Rattle.brd_isa.specs.declared.instruction.ImmediateOp.TheVariants.{Addi, Addiu, Slti, Sltiu, Andi, Ori, Xori}
-use Rattle.brd_isa.specs.declared.instruction.LoadOp.TheVariants.{Lb, Lh, Lwl, Lw, Lbu, Lhu, Lwr}
-use Rattle.brd_isa.specs.declared.instruction.StoreOp.TheVariants.{Sb, Sh, Swl, Sw, Swr}
-use Rattle.brd_isa.specs.declared.instruction.LinkedOp.TheVariants.{Ll, Sc}
+-- Skip this file and read the table (Table.antt). Here is the table's inverse, an instruction as a function of its word,
+-- which the meaning of a step needs. It gives an instruction exactly where the word stands for that one: this is the
+-- theorem `laws::follows_the_table`.
+use Rattle.std.specs.Prelude.{ℕ, ◌/◌, ◌%◌, ◌^◌, ◌==◌, ◌&&◌, if◌then◌else◌, List, [], ◌∷◌, Option, None, Some}
+use Rattle.brd_isa.specs.declared.instruction.{Insn.Insn, ShiftOp.ShiftOp, ShiftVariableOp.ShiftVariableOp}
+use Rattle.brd_isa.specs.declared.instruction.{RegisterOp.RegisterOp, MoveFromOp.MoveFromOp, MoveToOp.MoveToOp}
+use Rattle.brd_isa.specs.declared.instruction.{ProductOp.ProductOp, TrapOp.TrapOp, BranchRegimmOp.BranchRegimmOp}
+use Rattle.brd_isa.specs.declared.instruction.{TrapImmediateOp.TrapImmediateOp, AccumulateOp.AccumulateOp}
+use Rattle.brd_isa.specs.declared.instruction.{CountOp.CountOp, JumpOp.JumpOp, BranchOp.BranchOp}
+use Rattle.brd_isa.specs.declared.instruction.{BranchZeroOp.BranchZeroOp, ImmediateOp.ImmediateOp, LoadOp.LoadOp}
+use Rattle.brd_isa.specs.declared.instruction.{StoreOp.StoreOp, LinkedOp.LinkedOp}
+use Rattle.brd_isa.specs.Codes as code
+use Rattle.brd_isa.specs.Names as names
 
+-- the fields of a word
 abbrev pub rs_of : ℕ → ℕ
 rs_of word = word / 2 ^ 21 % 2 ^ 5
 
@@ -46,168 +28,152 @@ sa_of word = word / 2 ^ 6 % 2 ^ 5
 abbrev pub low_of : ℕ → ℕ
 low_of word = word % 2 ^ 16
 
+abbrev pub index_of : ℕ → ℕ
+index_of word = word % 2 ^ 26
+
 abbrev pub long_code_of : ℕ → ℕ
 long_code_of word = word / 2 ^ 6 % 2 ^ 20
 
 abbrev pub short_code_of : ℕ → ℕ
 short_code_of word = word / 2 ^ 6 % 2 ^ 10
 
+-- the forms that are reserved where a field isn't 0, or where two fields differ
 abbrev pub shift : ShiftOp → ℕ → Option Insn
-shift op word = if rs_of word == 0 then Some (Shift op (rd_of word) (rt_of word) (sa_of word)) else None
+shift op word = if rs_of word == 0 then Some (Insn.Shift op (rd_of word) (rt_of word) (sa_of word)) else None
 
 abbrev pub shift_variable : ShiftVariableOp → ℕ → Option Insn
-shift_variable op word = if sa_of word == 0 then Some (ShiftVariable op (rd_of word) (rt_of word) (rs_of word)) else None
+shift_variable op word =
+    if sa_of word == 0 then Some (Insn.ShiftVariable op (rd_of word) (rt_of word) (rs_of word)) else None
 
 abbrev pub three_registers : RegisterOp → ℕ → Option Insn
-three_registers op word = if sa_of word == 0 then Some (ThreeRegisters op (rd_of word) (rs_of word) (rt_of word)) else None
+three_registers op word =
+    if sa_of word == 0 then Some (Insn.ThreeRegisters op (rd_of word) (rs_of word) (rt_of word)) else None
 
 abbrev pub multiply : ℕ → Option Insn
-multiply word = if sa_of word == 0 then Some (Multiply (rd_of word) (rs_of word) (rt_of word)) else None
+multiply word = if sa_of word == 0 then Some (Insn.Multiply (rd_of word) (rs_of word) (rt_of word)) else None
 
 abbrev pub jump_register : ℕ → Option Insn
-jump_register word = if (rt_of word == 0) && (rd_of word == 0) then Some (JumpRegister (rs_of word)) else None
+jump_register word = if (rt_of word == 0) && (rd_of word == 0) then Some (Insn.JumpRegister (rs_of word)) else None
 
 abbrev pub jump_link_register : ℕ → Option Insn
-jump_link_register word = if rt_of word == 0 then Some (JumpLinkRegister (rd_of word) (rs_of word)) else None
+jump_link_register word = if rt_of word == 0 then Some (Insn.JumpLinkRegister (rd_of word) (rs_of word)) else None
 
 abbrev pub sync : ℕ → Option Insn
-sync word = if (rs_of word == 0) && (rt_of word == 0) && (rd_of word == 0) then Some Sync else None
+sync word = if (rs_of word == 0) && (rt_of word == 0) && (rd_of word == 0) then Some Insn.Sync else None
 
 abbrev pub move_from : MoveFromOp → ℕ → Option Insn
-move_from op word = if (rs_of word == 0) && (rt_of word == 0) && (sa_of word == 0) then Some (MoveFrom op (rd_of word)) else None
+move_from op word =
+    if (rs_of word == 0) && (rt_of word == 0) && (sa_of word == 0) then Some (Insn.MoveFrom op (rd_of word)) else None
 
 abbrev pub move_to : MoveToOp → ℕ → Option Insn
-move_to op word = if (rt_of word == 0) && (rd_of word == 0) && (sa_of word == 0) then Some (MoveTo op (rs_of word)) else None
+move_to op word =
+    if (rt_of word == 0) && (rd_of word == 0) && (sa_of word == 0) then Some (Insn.MoveTo op (rs_of word)) else None
 
 abbrev pub product : ProductOp → ℕ → Option Insn
-product op word = if (rd_of word == 0) && (sa_of word == 0) then Some (Product op (rs_of word) (rt_of word)) else None
+product op word =
+    if (rd_of word == 0) && (sa_of word == 0) then Some (Insn.Product op (rs_of word) (rt_of word)) else None
 
 abbrev pub accumulate : AccumulateOp → ℕ → Option Insn
-accumulate op word = if (rd_of word == 0) && (sa_of word == 0) then Some (Accumulate op (rs_of word) (rt_of word)) else None
+accumulate op word =
+    if (rd_of word == 0) && (sa_of word == 0) then Some (Insn.Accumulate op (rs_of word) (rt_of word)) else None
 
 abbrev pub count : CountOp → ℕ → Option Insn
-count op word = if (rt_of word == rd_of word) && (sa_of word == 0) then Some (Count op (rd_of word) (rs_of word)) else None
+count op word =
+    if (rt_of word == rd_of word) && (sa_of word == 0) then Some (Insn.Count op (rd_of word) (rs_of word)) else None
 
-abbrev pub branch_sign : BranchSignOp → ℕ → Option Insn
-branch_sign op word = if rt_of word == 0 then Some (BranchSign op (rs_of word) (low_of word)) else None
+abbrev pub branch_zero : BranchZeroOp → ℕ → Option Insn
+branch_zero op word = if rt_of word == 0 then Some (Insn.BranchZero op (rs_of word) (low_of word)) else None
 
 abbrev pub load_upper : ℕ → Option Insn
-load_upper word = if rs_of word == 0 then Some (LoadUpper (rt_of word) (low_of word)) else None
+load_upper word = if rs_of word == 0 then Some (Insn.LoadUpper (rt_of word) (low_of word)) else None
 
--- by the function field, under the opcode SPECIAL
+-- the forms of which every word is an instruction
+abbrev pub trap : TrapOp → ℕ → Option Insn
+trap op word = Some (Insn.Trap op (rs_of word) (rt_of word) (short_code_of word))
+
+abbrev pub trap_immediate : TrapImmediateOp → ℕ → Option Insn
+trap_immediate op word = Some (Insn.TrapImmediate op (rs_of word) (low_of word))
+
+abbrev pub branch_regimm : BranchRegimmOp → ℕ → Option Insn
+branch_regimm op word = Some (Insn.BranchRegimm op (rs_of word) (low_of word))
+
+abbrev pub jump : JumpOp → ℕ → Option Insn
+jump op word = Some (Insn.Jump op (index_of word))
+
+abbrev pub branch : BranchOp → ℕ → Option Insn
+branch op word = Some (Insn.Branch op (rs_of word) (rt_of word) (low_of word))
+
+abbrev pub with_immediate : ImmediateOp → ℕ → Option Insn
+with_immediate op word = Some (Insn.WithImmediate op (rt_of word) (rs_of word) (low_of word))
+
+abbrev pub load : LoadOp → ℕ → Option Insn
+load op word = Some (Insn.Load op (rt_of word) (rs_of word) (low_of word))
+
+abbrev pub store : StoreOp → ℕ → Option Insn
+store op word = Some (Insn.Store op (rt_of word) (rs_of word) (low_of word))
+
+abbrev pub linked : LinkedOp → ℕ → Option Insn
+linked op word = Some (Insn.Linked op (rt_of word) (rs_of word) (low_of word))
+
+-- what the operation with this code makes of the word, where one of a form's operations has the code; else the rest. A
+-- form's operations are those of its list of names.
+abbrev pub by_code :
+    {A : Type 0} → List (List ℕ × A) → (A → ℕ) → (A → ℕ → Option Insn) → ℕ → ℕ → Option Insn → Option Insn
+by_code [] code_of make n word rest = rest
+by_code (row ∷ rows) code_of make n word rest =
+    if n == code_of row.1 then make row.1 word else by_code rows code_of make n word rest
+
+-- under the opcode SPECIAL, by the function field
 abbrev pub special_of : ℕ → ℕ → Option Insn
 special_of funct word =
-    if funct == 0x00 then shift Sll word
-    else if funct == 0x02 then shift Srl word
-    else if funct == 0x03 then shift Sra word
-    else if funct == 0x04 then shift_variable Sllv word
-    else if funct == 0x06 then shift_variable Srlv word
-    else if funct == 0x07 then shift_variable Srav word
-    else if funct == 0x08 then jump_register word
+    if funct == 0x08 then jump_register word
     else if funct == 0x09 then jump_link_register word
-    else if funct == 0x0a then three_registers Movz word
-    else if funct == 0x0b then three_registers Movn word
-    else if funct == 0x0c then Some (Syscall (long_code_of word))
-    else if funct == 0x0d then Some (Break (long_code_of word))
+    else if funct == 0x0c then Some (Insn.Syscall (long_code_of word))
+    else if funct == 0x0d then Some (Insn.Break (long_code_of word))
     else if funct == 0x0f then sync word
-    else if funct == 0x10 then move_from Mfhi word
-    else if funct == 0x11 then move_to Mthi word
-    else if funct == 0x12 then move_from Mflo word
-    else if funct == 0x13 then move_to Mtlo word
-    else if funct == 0x18 then product Mult word
-    else if funct == 0x19 then product Multu word
-    else if funct == 0x1a then product Div word
-    else if funct == 0x1b then product Divu word
-    else if funct == 0x20 then three_registers Add word
-    else if funct == 0x21 then three_registers Addu word
-    else if funct == 0x22 then three_registers Sub word
-    else if funct == 0x23 then three_registers Subu word
-    else if funct == 0x24 then three_registers And word
-    else if funct == 0x25 then three_registers Or word
-    else if funct == 0x26 then three_registers Xor word
-    else if funct == 0x27 then three_registers Nor word
-    else if funct == 0x2a then three_registers Slt word
-    else if funct == 0x2b then three_registers Sltu word
-    else if funct == 0x30 then Some (Trap Tge (rs_of word) (rt_of word) (short_code_of word))
-    else if funct == 0x31 then Some (Trap Tgeu (rs_of word) (rt_of word) (short_code_of word))
-    else if funct == 0x32 then Some (Trap Tlt (rs_of word) (rt_of word) (short_code_of word))
-    else if funct == 0x33 then Some (Trap Tltu (rs_of word) (rt_of word) (short_code_of word))
-    else if funct == 0x34 then Some (Trap Teq (rs_of word) (rt_of word) (short_code_of word))
-    else if funct == 0x36 then Some (Trap Tne (rs_of word) (rt_of word) (short_code_of word))
-    else None
+    else
+    by_code names.shift_names code.shift_funct shift funct word (
+    by_code names.shift_variable_names code.shift_variable_funct shift_variable funct word (
+    by_code names.register_names code.register_funct three_registers funct word (
+    by_code names.move_from_names code.move_from_funct move_from funct word (
+    by_code names.move_to_names code.move_to_funct move_to funct word (
+    by_code names.product_names code.product_funct product funct word (
+    by_code names.trap_names code.trap_funct trap funct word None))))))
 
--- by the field rt, under the opcode REGIMM
+-- under the opcode REGIMM, by the field rt
 abbrev pub regimm_of : ℕ → ℕ → Option Insn
 regimm_of rt word =
-    if rt == 0x00 then Some (BranchZero Bltz (rs_of word) (low_of word))
-    else if rt == 0x01 then Some (BranchZero Bgez (rs_of word) (low_of word))
-    else if rt == 0x02 then Some (BranchZero Bltzl (rs_of word) (low_of word))
-    else if rt == 0x03 then Some (BranchZero Bgezl (rs_of word) (low_of word))
-    else if rt == 0x08 then Some (TrapImmediate Tgei (rs_of word) (low_of word))
-    else if rt == 0x09 then Some (TrapImmediate Tgeiu (rs_of word) (low_of word))
-    else if rt == 0x0a then Some (TrapImmediate Tlti (rs_of word) (low_of word))
-    else if rt == 0x0b then Some (TrapImmediate Tltiu (rs_of word) (low_of word))
-    else if rt == 0x0c then Some (TrapImmediate Teqi (rs_of word) (low_of word))
-    else if rt == 0x0e then Some (TrapImmediate Tnei (rs_of word) (low_of word))
-    else if rt == 0x10 then Some (BranchZero Bltzal (rs_of word) (low_of word))
-    else if rt == 0x11 then Some (BranchZero Bgezal (rs_of word) (low_of word))
-    else if rt == 0x12 then Some (BranchZero Bltzall (rs_of word) (low_of word))
-    else if rt == 0x13 then Some (BranchZero Bgezall (rs_of word) (low_of word))
-    else None
+    by_code names.branch_regimm_names code.branch_regimm_rt branch_regimm rt word (
+    by_code names.trap_immediate_names code.trap_immediate_rt trap_immediate rt word None)
 
--- by the function field, under the opcode SPECIAL2
+-- under the opcode SPECIAL2, by the function field
 abbrev pub special2_of : ℕ → ℕ → Option Insn
 special2_of funct word =
-    if funct == 0x00 then accumulate Madd word
-    else if funct == 0x01 then accumulate Maddu word
-    else if funct == 0x02 then multiply word
-    else if funct == 0x04 then accumulate Msub word
-    else if funct == 0x05 then accumulate Msubu word
-    else if funct == 0x20 then count Clz word
-    else if funct == 0x21 then count Clo word
-    else None
+    if funct == 0x02 then multiply word
+    else
+    by_code names.accumulate_names code.accumulate_funct accumulate funct word (
+    by_code names.count_names code.count_funct count funct word None)
 
--- by the opcode
+-- under any other opcode, by the opcode
 abbrev pub others_of : ℕ → ℕ → Option Insn
 others_of opcode word =
-    if opcode == 0x02 then Some (Jump J (word % 2 ^ 26))
-    else if opcode == 0x03 then Some (Jump Jal (word % 2 ^ 26))
-    else if opcode == 0x04 then Some (Branch Beq (rs_of word) (rt_of word) (low_of word))
-    else if opcode == 0x05 then Some (Branch Bne (rs_of word) (rt_of word) (low_of word))
-    else if opcode == 0x06 then branch_sign Blez word
-    else if opcode == 0x07 then branch_sign Bgtz word
-    else if opcode == 0x08 then Some (Immediate Addi (rt_of word) (rs_of word) (low_of word))
-    else if opcode == 0x09 then Some (Immediate Addiu (rt_of word) (rs_of word) (low_of word))
-    else if opcode == 0x0a then Some (Immediate Slti (rt_of word) (rs_of word) (low_of word))
-    else if opcode == 0x0b then Some (Immediate Sltiu (rt_of word) (rs_of word) (low_of word))
-    else if opcode == 0x0c then Some (Immediate Andi (rt_of word) (rs_of word) (low_of word))
-    else if opcode == 0x0d then Some (Immediate Ori (rt_of word) (rs_of word) (low_of word))
-    else if opcode == 0x0e then Some (Immediate Xori (rt_of word) (rs_of word) (low_of word))
-    else if opcode == 0x0f then load_upper word
-    else if opcode == 0x14 then Some (Branch Beql (rs_of word) (rt_of word) (low_of word))
-    else if opcode == 0x15 then Some (Branch Bnel (rs_of word) (rt_of word) (low_of word))
-    else if opcode == 0x16 then branch_sign Blezl word
-    else if opcode == 0x17 then branch_sign Bgtzl word
-    else if opcode == 0x20 then Some (Load Lb (rt_of word) (rs_of word) (low_of word))
-    else if opcode == 0x21 then Some (Load Lh (rt_of word) (rs_of word) (low_of word))
-    else if opcode == 0x22 then Some (Load Lwl (rt_of word) (rs_of word) (low_of word))
-    else if opcode == 0x23 then Some (Load Lw (rt_of word) (rs_of word) (low_of word))
-    else if opcode == 0x24 then Some (Load Lbu (rt_of word) (rs_of word) (low_of word))
-    else if opcode == 0x25 then Some (Load Lhu (rt_of word) (rs_of word) (low_of word))
-    else if opcode == 0x26 then Some (Load Lwr (rt_of word) (rs_of word) (low_of word))
-    else if opcode == 0x28 then Some (Store Sb (rt_of word) (rs_of word) (low_of word))
-    else if opcode == 0x29 then Some (Store Sh (rt_of word) (rs_of word) (low_of word))
-    else if opcode == 0x2a then Some (Store Swl (rt_of word) (rs_of word) (low_of word))
-    else if opcode == 0x2b then Some (Store Sw (rt_of word) (rs_of word) (low_of word))
-    else if opcode == 0x2e then Some (Store Swr (rt_of word) (rs_of word) (low_of word))
-    else if opcode == 0x30 then Some (Linked Ll (rt_of word) (rs_of word) (low_of word))
-    else if opcode == 0x33 then Some (Prefetch (rt_of word) (rs_of word) (low_of word))
-    else if opcode == 0x38 then Some (Linked Sc (rt_of word) (rs_of word) (low_of word))
-    else None
+    if opcode == 0x0f then load_upper word
+    else if opcode == 0x33 then Some (Insn.Prefetch (rt_of word) (rs_of word) (low_of word))
+    else
+    by_code names.jump_names code.jump_opcode jump opcode word (
+    by_code names.branch_names code.branch_opcode branch opcode word (
+    by_code names.branch_zero_names code.branch_zero_opcode branch_zero opcode word (
+    by_code names.immediate_names code.immediate_opcode with_immediate opcode word (
+    by_code names.load_names code.load_opcode load opcode word (
+    by_code names.store_names code.store_opcode store opcode word (
+    by_code names.linked_names code.linked_opcode linked opcode word None))))))
+
+abbrev pub of_opcode : ℕ → ℕ → Option Insn
+of_opcode opcode word =
+    if opcode == 0x00 then special_of (word % 2 ^ 6) word
+    else if opcode == 0x01 then regimm_of (rt_of word) word
+    else if opcode == 0x1c then special2_of (word % 2 ^ 6) word
+    else others_of opcode word
 
 unfoldable pub decoded : ℕ → Option Insn
-decoded word =
-    if word / 2 ^ 26 == 0x00 then special_of (word % 2 ^ 6) word
-    else if word / 2 ^ 26 == 0x01 then regimm_of (rt_of word) word
-    else if word / 2 ^ 26 == 0x1c then special2_of (word % 2 ^ 6) word
-    else others_of (word / 2 ^ 26) word
+decoded word = of_opcode (word / 2 ^ 26) word

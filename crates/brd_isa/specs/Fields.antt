@@ -1,5 +1,5 @@
--- How the fields of an instruction lie in its word: the formats of the CPU instructions (MD00086, the encoding at the head of each
--- entry). A field is stated by its place: `word / 2 ^ 21 % 2 ^ 5` are the five bits 25..21.
+-- How the fields of an instruction lie in its word: the formats of the CPU instructions (MD00086, the encoding at the
+-- head of each entry). A field is stated by its place: `word / 2 ^ 21 % 2 ^ 5` are the five bits 25..21.
 use Rattle.std.specs.Prelude.{◌≡◌, ℕ, ◌/◌, ◌%◌, ◌^◌}
 
 -- the R-type format: opcode 31..26, rs 25..21, rt 20..16, rd 15..11, sa 10..6, function 5..0

@@ -1,5 +1,5 @@
 pub mod Fields
 pub mod Codes
+pub mod Names
 pub mod Table
 pub mod Decoding
-pub mod Names

@@ -1,49 +1,18 @@
--- The name of each mnemonic in assembler source (MD00086, chapter 3, the heads of the entries), in lower case: one line a mnemonic.
--- The operations are those that Codes has the code of.
+-- The name of each mnemonic in assembler source (MD00086, chapter 3, the heads of the entries), in lower case: one line
+-- a mnemonic. No mnemonic is without a name (`laws::every_mnemonic_has_a_name`).
 use Rattle.std.specs.Prelude.{◌≡◌, ℕ, List, [], ◌∷◌, Option, Some, None, option_map, map, if◌then◌else◌, codes}
-use Rattle.std.specs.Borrow.{Bor}
 use Rattle.std.specs.Str.{bytes_eq}
 use Rattle.std.specs.Char.{to_ascii_lowercase}
-use Rattle.brd_isa.specs.declared.instruction.ShiftOp.{ShiftOp}
-use Rattle.brd_isa.specs.declared.instruction.ShiftOp.TheVariants.{Sll, Srl, Sra}
-use Rattle.brd_isa.specs.declared.instruction.ShiftVariableOp.{ShiftVariableOp}
-use Rattle.brd_isa.specs.declared.instruction.ShiftVariableOp.TheVariants.{Sllv, Srlv, Srav}
-use Rattle.brd_isa.specs.declared.instruction.RegisterOp.{RegisterOp}
-use Rattle.brd_isa.specs.declared.instruction.RegisterOp.TheVariants.{Movz, Movn, Add, Addu, Sub, Subu, And, Or, Xor, Nor, Slt, Sltu}
-use Rattle.brd_isa.specs.declared.instruction.MoveFromOp.{MoveFromOp}
-use Rattle.brd_isa.specs.declared.instruction.MoveFromOp.TheVariants.{Mfhi, Mflo}
-use Rattle.brd_isa.specs.declared.instruction.MoveToOp.{MoveToOp}
-use Rattle.brd_isa.specs.declared.instruction.MoveToOp.TheVariants.{Mthi, Mtlo}
-use Rattle.brd_isa.specs.declared.instruction.ProductOp.{ProductOp}
-use Rattle.brd_isa.specs.declared.instruction.ProductOp.TheVariants.{Mult, Multu, Div, Divu}
-use Rattle.brd_isa.specs.declared.instruction.TrapOp.{TrapOp}
-use Rattle.brd_isa.specs.declared.instruction.TrapOp.TheVariants.{Tge, Tgeu, Tlt, Tltu, Teq, Tne}
-use Rattle.brd_isa.specs.declared.instruction.BranchZeroOp.{BranchZeroOp}
-use Rattle.brd_isa.specs.declared.instruction.BranchZeroOp.TheVariants.{Bltz, Bgez, Bltzl, Bgezl, Bltzal, Bgezal, Bltzall, Bgezall}
-use Rattle.brd_isa.specs.declared.instruction.TrapImmediateOp.{TrapImmediateOp}
-use Rattle.brd_isa.specs.declared.instruction.TrapImmediateOp.TheVariants.{Tgei, Tgeiu, Tlti, Tltiu, Teqi, Tnei}
-use Rattle.brd_isa.specs.declared.instruction.AccumulateOp.{AccumulateOp}
-use Rattle.brd_isa.specs.declared.instruction.AccumulateOp.TheVariants.{Madd, Maddu, Msub, Msubu}
-use Rattle.brd_isa.specs.declared.instruction.CountOp.{CountOp}
-use Rattle.brd_isa.specs.declared.instruction.CountOp.TheVariants.{Clz, Clo}
-use Rattle.brd_isa.specs.declared.instruction.JumpOp.{JumpOp}
-use Rattle.brd_isa.specs.declared.instruction.JumpOp.TheVariants.{J, Jal}
-use Rattle.brd_isa.specs.declared.instruction.BranchOp.{BranchOp}
-use Rattle.brd_isa.specs.declared.instruction.BranchOp.TheVariants.{Beq, Bne, Beql, Bnel}
-use Rattle.brd_isa.specs.declared.instruction.BranchSignOp.{BranchSignOp}
-use Rattle.brd_isa.specs.declared.instruction.BranchSignOp.TheVariants.{Blez, Bgtz, Blezl, Bgtzl}
-use Rattle.brd_isa.specs.declared.instruction.ImmediateOp.{ImmediateOp}
-use Rattle.brd_isa.specs.declared.instruction.ImmediateOp.TheVariants.{Addi, Addiu, Slti, Sltiu, Andi, Ori, Xori}
-use Rattle.brd_isa.specs.declared.instruction.LoadOp.{LoadOp}
-use Rattle.brd_isa.specs.declared.instruction.LoadOp.TheVariants.{Lb, Lh, Lwl, Lw, Lbu, Lhu, Lwr}
-use Rattle.brd_isa.specs.declared.instruction.StoreOp.{StoreOp}
-use Rattle.brd_isa.specs.declared.instruction.StoreOp.TheVariants.{Sb, Sh, Swl, Sw, Swr}
-use Rattle.brd_isa.specs.declared.instruction.LinkedOp.{LinkedOp}
-use Rattle.brd_isa.specs.declared.instruction.LinkedOp.TheVariants.{Ll, Sc}
+use Rattle.brd_isa.specs.declared.instruction.{ShiftOp.ShiftOp, ShiftVariableOp.ShiftVariableOp}
+use Rattle.brd_isa.specs.declared.instruction.{RegisterOp.RegisterOp, MoveFromOp.MoveFromOp, MoveToOp.MoveToOp}
+use Rattle.brd_isa.specs.declared.instruction.{ProductOp.ProductOp, TrapOp.TrapOp, BranchRegimmOp.BranchRegimmOp}
+use Rattle.brd_isa.specs.declared.instruction.{TrapImmediateOp.TrapImmediateOp, AccumulateOp.AccumulateOp}
+use Rattle.brd_isa.specs.declared.instruction.{CountOp.CountOp, JumpOp.JumpOp, BranchOp.BranchOp}
+use Rattle.brd_isa.specs.declared.instruction.{BranchZeroOp.BranchZeroOp, ImmediateOp.ImmediateOp, LoadOp.LoadOp}
+use Rattle.brd_isa.specs.declared.instruction.{StoreOp.StoreOp, LinkedOp.LinkedOp}
 use Rattle.brd_isa.specs.declared.mnemonic.Mnemonic.{Mnemonic}
-use Rattle.brd_isa.specs.declared.mnemonic.Mnemonic.TheVariants.{Shift, ShiftVariable, ThreeRegisters, Multiply, JumpRegister, JumpLinkRegister, Syscall, Break, Sync, MoveFrom, MoveTo, Product, Accumulate, Count, Trap, TrapImmediate, Jump, Branch, BranchSign, BranchZero, Immediate, LoadUpper, Load, Store, Linked, Prefetch}
 
--- a word without regard to case: A to Z as a to z
+-- a text without regard to case: A to Z as a to z
 abbrev pub lowered : List ℕ → List ℕ
 lowered bytes = map to_ascii_lowercase bytes
 
@@ -52,159 +21,154 @@ abbrev pub named_in : {A : Type 0} → List (List ℕ × A) → List ℕ → Opt
 named_in [] name = None
 named_in (row ∷ rows) name = if bytes_eq name row.0 then Some row.1 else named_in rows name
 
--- what a table of words has for a name in lower case
-abbrev pub found_in : List (Bor (List ℕ) × Mnemonic) → List ℕ → Option Mnemonic
-found_in [] name = None
-found_in (row ∷ rows) name = if bytes_eq name (lowered row.0.now) then Some row.1 else found_in rows name
-
 abbrev pub shift_names : List (List ℕ × ShiftOp)
 shift_names =
-    (codes "sll", Sll) ∷
-    (codes "srl", Srl) ∷
-    (codes "sra", Sra) ∷ []
+    (codes "sll", ShiftOp.Sll) ∷
+    (codes "srl", ShiftOp.Srl) ∷
+    (codes "sra", ShiftOp.Sra) ∷ []
 
 abbrev pub shift_variable_names : List (List ℕ × ShiftVariableOp)
 shift_variable_names =
-    (codes "sllv", Sllv) ∷
-    (codes "srlv", Srlv) ∷
-    (codes "srav", Srav) ∷ []
+    (codes "sllv", ShiftVariableOp.Sllv) ∷
+    (codes "srlv", ShiftVariableOp.Srlv) ∷
+    (codes "srav", ShiftVariableOp.Srav) ∷ []
 
 abbrev pub register_names : List (List ℕ × RegisterOp)
 register_names =
-    (codes "movz", Movz) ∷
-    (codes "movn", Movn) ∷
-    (codes "add", Add) ∷
-    (codes "addu", Addu) ∷
-    (codes "sub", Sub) ∷
-    (codes "subu", Subu) ∷
-    (codes "and", And) ∷
-    (codes "or", Or) ∷
-    (codes "xor", Xor) ∷
-    (codes "nor", Nor) ∷
-    (codes "slt", Slt) ∷
-    (codes "sltu", Sltu) ∷ []
+    (codes "movz", RegisterOp.Movz) ∷
+    (codes "movn", RegisterOp.Movn) ∷
+    (codes "add", RegisterOp.Add) ∷
+    (codes "addu", RegisterOp.Addu) ∷
+    (codes "sub", RegisterOp.Sub) ∷
+    (codes "subu", RegisterOp.Subu) ∷
+    (codes "and", RegisterOp.And) ∷
+    (codes "or", RegisterOp.Or) ∷
+    (codes "xor", RegisterOp.Xor) ∷
+    (codes "nor", RegisterOp.Nor) ∷
+    (codes "slt", RegisterOp.Slt) ∷
+    (codes "sltu", RegisterOp.Sltu) ∷ []
 
 abbrev pub move_from_names : List (List ℕ × MoveFromOp)
 move_from_names =
-    (codes "mfhi", Mfhi) ∷
-    (codes "mflo", Mflo) ∷ []
+    (codes "mfhi", MoveFromOp.Mfhi) ∷
+    (codes "mflo", MoveFromOp.Mflo) ∷ []
 
 abbrev pub move_to_names : List (List ℕ × MoveToOp)
 move_to_names =
-    (codes "mthi", Mthi) ∷
-    (codes "mtlo", Mtlo) ∷ []
+    (codes "mthi", MoveToOp.Mthi) ∷
+    (codes "mtlo", MoveToOp.Mtlo) ∷ []
 
 abbrev pub product_names : List (List ℕ × ProductOp)
 product_names =
-    (codes "mult", Mult) ∷
-    (codes "multu", Multu) ∷
-    (codes "div", Div) ∷
-    (codes "divu", Divu) ∷ []
+    (codes "mult", ProductOp.Mult) ∷
+    (codes "multu", ProductOp.Multu) ∷
+    (codes "div", ProductOp.Div) ∷
+    (codes "divu", ProductOp.Divu) ∷ []
 
 abbrev pub trap_names : List (List ℕ × TrapOp)
 trap_names =
-    (codes "tge", Tge) ∷
-    (codes "tgeu", Tgeu) ∷
-    (codes "tlt", Tlt) ∷
-    (codes "tltu", Tltu) ∷
-    (codes "teq", Teq) ∷
-    (codes "tne", Tne) ∷ []
+    (codes "tge", TrapOp.Tge) ∷
+    (codes "tgeu", TrapOp.Tgeu) ∷
+    (codes "tlt", TrapOp.Tlt) ∷
+    (codes "tltu", TrapOp.Tltu) ∷
+    (codes "teq", TrapOp.Teq) ∷
+    (codes "tne", TrapOp.Tne) ∷ []
 
-abbrev pub branch_zero_names : List (List ℕ × BranchZeroOp)
-branch_zero_names =
-    (codes "bltz", Bltz) ∷
-    (codes "bgez", Bgez) ∷
-    (codes "bltzl", Bltzl) ∷
-    (codes "bgezl", Bgezl) ∷
-    (codes "bltzal", Bltzal) ∷
-    (codes "bgezal", Bgezal) ∷
-    (codes "bltzall", Bltzall) ∷
-    (codes "bgezall", Bgezall) ∷ []
+abbrev pub branch_regimm_names : List (List ℕ × BranchRegimmOp)
+branch_regimm_names =
+    (codes "bltz", BranchRegimmOp.Bltz) ∷
+    (codes "bgez", BranchRegimmOp.Bgez) ∷
+    (codes "bltzl", BranchRegimmOp.Bltzl) ∷
+    (codes "bgezl", BranchRegimmOp.Bgezl) ∷
+    (codes "bltzal", BranchRegimmOp.Bltzal) ∷
+    (codes "bgezal", BranchRegimmOp.Bgezal) ∷
+    (codes "bltzall", BranchRegimmOp.Bltzall) ∷
+    (codes "bgezall", BranchRegimmOp.Bgezall) ∷ []
 
 abbrev pub trap_immediate_names : List (List ℕ × TrapImmediateOp)
 trap_immediate_names =
-    (codes "tgei", Tgei) ∷
-    (codes "tgeiu", Tgeiu) ∷
-    (codes "tlti", Tlti) ∷
-    (codes "tltiu", Tltiu) ∷
-    (codes "teqi", Teqi) ∷
-    (codes "tnei", Tnei) ∷ []
+    (codes "tgei", TrapImmediateOp.Tgei) ∷
+    (codes "tgeiu", TrapImmediateOp.Tgeiu) ∷
+    (codes "tlti", TrapImmediateOp.Tlti) ∷
+    (codes "tltiu", TrapImmediateOp.Tltiu) ∷
+    (codes "teqi", TrapImmediateOp.Teqi) ∷
+    (codes "tnei", TrapImmediateOp.Tnei) ∷ []
 
 abbrev pub accumulate_names : List (List ℕ × AccumulateOp)
 accumulate_names =
-    (codes "madd", Madd) ∷
-    (codes "maddu", Maddu) ∷
-    (codes "msub", Msub) ∷
-    (codes "msubu", Msubu) ∷ []
+    (codes "madd", AccumulateOp.Madd) ∷
+    (codes "maddu", AccumulateOp.Maddu) ∷
+    (codes "msub", AccumulateOp.Msub) ∷
+    (codes "msubu", AccumulateOp.Msubu) ∷ []
 
 abbrev pub count_names : List (List ℕ × CountOp)
 count_names =
-    (codes "clz", Clz) ∷
-    (codes "clo", Clo) ∷ []
+    (codes "clz", CountOp.Clz) ∷
+    (codes "clo", CountOp.Clo) ∷ []
 
 abbrev pub jump_names : List (List ℕ × JumpOp)
 jump_names =
-    (codes "j", J) ∷
-    (codes "jal", Jal) ∷ []
+    (codes "j", JumpOp.J) ∷
+    (codes "jal", JumpOp.Jal) ∷ []
 
 abbrev pub branch_names : List (List ℕ × BranchOp)
 branch_names =
-    (codes "beq", Beq) ∷
-    (codes "bne", Bne) ∷
-    (codes "beql", Beql) ∷
-    (codes "bnel", Bnel) ∷ []
+    (codes "beq", BranchOp.Beq) ∷
+    (codes "bne", BranchOp.Bne) ∷
+    (codes "beql", BranchOp.Beql) ∷
+    (codes "bnel", BranchOp.Bnel) ∷ []
 
-abbrev pub branch_sign_names : List (List ℕ × BranchSignOp)
-branch_sign_names =
-    (codes "blez", Blez) ∷
-    (codes "bgtz", Bgtz) ∷
-    (codes "blezl", Blezl) ∷
-    (codes "bgtzl", Bgtzl) ∷ []
+abbrev pub branch_zero_names : List (List ℕ × BranchZeroOp)
+branch_zero_names =
+    (codes "blez", BranchZeroOp.Blez) ∷
+    (codes "bgtz", BranchZeroOp.Bgtz) ∷
+    (codes "blezl", BranchZeroOp.Blezl) ∷
+    (codes "bgtzl", BranchZeroOp.Bgtzl) ∷ []
 
 abbrev pub immediate_names : List (List ℕ × ImmediateOp)
 immediate_names =
-    (codes "addi", Addi) ∷
-    (codes "addiu", Addiu) ∷
-    (codes "slti", Slti) ∷
-    (codes "sltiu", Sltiu) ∷
-    (codes "andi", Andi) ∷
-    (codes "ori", Ori) ∷
-    (codes "xori", Xori) ∷ []
+    (codes "addi", ImmediateOp.Addi) ∷
+    (codes "addiu", ImmediateOp.Addiu) ∷
+    (codes "slti", ImmediateOp.Slti) ∷
+    (codes "sltiu", ImmediateOp.Sltiu) ∷
+    (codes "andi", ImmediateOp.Andi) ∷
+    (codes "ori", ImmediateOp.Ori) ∷
+    (codes "xori", ImmediateOp.Xori) ∷ []
 
 abbrev pub load_names : List (List ℕ × LoadOp)
 load_names =
-    (codes "lb", Lb) ∷
-    (codes "lh", Lh) ∷
-    (codes "lwl", Lwl) ∷
-    (codes "lw", Lw) ∷
-    (codes "lbu", Lbu) ∷
-    (codes "lhu", Lhu) ∷
-    (codes "lwr", Lwr) ∷ []
+    (codes "lb", LoadOp.Lb) ∷
+    (codes "lh", LoadOp.Lh) ∷
+    (codes "lwl", LoadOp.Lwl) ∷
+    (codes "lw", LoadOp.Lw) ∷
+    (codes "lbu", LoadOp.Lbu) ∷
+    (codes "lhu", LoadOp.Lhu) ∷
+    (codes "lwr", LoadOp.Lwr) ∷ []
 
 abbrev pub store_names : List (List ℕ × StoreOp)
 store_names =
-    (codes "sb", Sb) ∷
-    (codes "sh", Sh) ∷
-    (codes "swl", Swl) ∷
-    (codes "sw", Sw) ∷
-    (codes "swr", Swr) ∷ []
+    (codes "sb", StoreOp.Sb) ∷
+    (codes "sh", StoreOp.Sh) ∷
+    (codes "swl", StoreOp.Swl) ∷
+    (codes "sw", StoreOp.Sw) ∷
+    (codes "swr", StoreOp.Swr) ∷ []
 
 abbrev pub linked_names : List (List ℕ × LinkedOp)
 linked_names =
-    (codes "ll", Ll) ∷
-    (codes "sc", Sc) ∷ []
+    (codes "ll", LinkedOp.Ll) ∷
+    (codes "sc", LinkedOp.Sc) ∷ []
 
 -- the mnemonics of one instruction each
 abbrev pub single_names : List (List ℕ × Mnemonic)
 single_names =
-    (codes "mul", Multiply) ∷
-    (codes "jr", JumpRegister) ∷
-    (codes "jalr", JumpLinkRegister) ∷
-    (codes "syscall", Syscall) ∷
-    (codes "break", Break) ∷
-    (codes "sync", Sync) ∷
-    (codes "lui", LoadUpper) ∷
-    (codes "pref", Prefetch) ∷ []
+    (codes "mul", Mnemonic.Multiply) ∷
+    (codes "jr", Mnemonic.JumpRegister) ∷
+    (codes "jalr", Mnemonic.JumpLinkRegister) ∷
+    (codes "syscall", Mnemonic.Syscall) ∷
+    (codes "break", Mnemonic.Break) ∷
+    (codes "sync", Mnemonic.Sync) ∷
+    (codes "lui", Mnemonic.LoadUpper) ∷
+    (codes "pref", Mnemonic.Prefetch) ∷ []
 
 infixr 10 ◌or_else◌
 abbrev pub ◌or_else◌ : {A : Type 0} → Option A → Option A → Option A
@@ -214,28 +178,28 @@ None or_else y = y
 -- those that compute in registers
 unfoldable pub computing_named : List ℕ → Option Mnemonic
 computing_named name =
-    option_map (λ op. Shift op) (named_in shift_names name) or_else
-    option_map (λ op. ShiftVariable op) (named_in shift_variable_names name) or_else
-    option_map (λ op. ThreeRegisters op) (named_in register_names name) or_else
-    option_map (λ op. MoveFrom op) (named_in move_from_names name) or_else
-    option_map (λ op. MoveTo op) (named_in move_to_names name) or_else
-    option_map (λ op. Product op) (named_in product_names name) or_else
-    option_map (λ op. Accumulate op) (named_in accumulate_names name) or_else
-    option_map (λ op. Count op) (named_in count_names name) or_else
-    option_map (λ op. Immediate op) (named_in immediate_names name)
+    option_map (λ op. Mnemonic.Shift op) (named_in shift_names name) or_else
+    option_map (λ op. Mnemonic.ShiftVariable op) (named_in shift_variable_names name) or_else
+    option_map (λ op. Mnemonic.ThreeRegisters op) (named_in register_names name) or_else
+    option_map (λ op. Mnemonic.MoveFrom op) (named_in move_from_names name) or_else
+    option_map (λ op. Mnemonic.MoveTo op) (named_in move_to_names name) or_else
+    option_map (λ op. Mnemonic.Product op) (named_in product_names name) or_else
+    option_map (λ op. Mnemonic.Accumulate op) (named_in accumulate_names name) or_else
+    option_map (λ op. Mnemonic.Count op) (named_in count_names name) or_else
+    option_map (λ op. Mnemonic.WithImmediate op) (named_in immediate_names name)
 
 -- those that trap, jump, branch, load and store
 unfoldable pub other_named : List ℕ → Option Mnemonic
 other_named name =
-    option_map (λ op. Trap op) (named_in trap_names name) or_else
-    option_map (λ op. TrapImmediate op) (named_in trap_immediate_names name) or_else
-    option_map (λ op. Jump op) (named_in jump_names name) or_else
-    option_map (λ op. Branch op) (named_in branch_names name) or_else
-    option_map (λ op. BranchSign op) (named_in branch_sign_names name) or_else
-    option_map (λ op. BranchZero op) (named_in branch_zero_names name) or_else
-    option_map (λ op. Load op) (named_in load_names name) or_else
-    option_map (λ op. Store op) (named_in store_names name) or_else
-    option_map (λ op. Linked op) (named_in linked_names name)
+    option_map (λ op. Mnemonic.Trap op) (named_in trap_names name) or_else
+    option_map (λ op. Mnemonic.TrapImmediate op) (named_in trap_immediate_names name) or_else
+    option_map (λ op. Mnemonic.Jump op) (named_in jump_names name) or_else
+    option_map (λ op. Mnemonic.Branch op) (named_in branch_names name) or_else
+    option_map (λ op. Mnemonic.BranchZero op) (named_in branch_zero_names name) or_else
+    option_map (λ op. Mnemonic.BranchRegimm op) (named_in branch_regimm_names name) or_else
+    option_map (λ op. Mnemonic.Load op) (named_in load_names name) or_else
+    option_map (λ op. Mnemonic.Store op) (named_in store_names name) or_else
+    option_map (λ op. Mnemonic.Linked op) (named_in linked_names name)
 
 -- the mnemonic that a name is, in lower case
 unfoldable pub mnemonic_named : List ℕ → Option Mnemonic

@@ -1,26 +1,34 @@
 //! From a word to the instruction that it stands for.
 
-ghost use Rattle.std.specs.Prelude.{◌≡◌, ◌≢◌, ◌↔◌, ◌/◌, ◌%◌, ◌^◌, Some};
+ghost use Rattle.std.specs.Prelude.{◌≡◌, ◌↔◌, ◌/◌, ◌%◌, ◌^◌, Some};
 ghost use Rattle.brd_isa.specs.Table.{StandsFor};
-ghost use Rattle.brd_isa.specs.Decoding.{decoded, rt_of, special_of, regimm_of, special2_of, others_of};
+ghost use Rattle.brd_isa.specs.Decoding.{decoded, rt_of, special_of, regimm_of, special2_of, others_of, of_opcode};
 
-use crate::fields::{Hint, JumpIndex, LongCode, ShortCode};
+use crate::fields::{Hint, LongCode};
 use crate::forms::{
-    REGIMM, SPECIAL, SPECIAL2, accumulate, branch_sign, count, jump_link_register, jump_register,
-    load_upper, low, move_from, move_to, multiply, product, rs, rt, shift, shift_variable, sync,
-    three_registers,
+    accumulate, branch, branch_regimm, branch_zero, count, jump, jump_link_register, jump_register,
+    linked, load, load_upper, move_from, move_to, multiply, product, shift, shift_variable, store,
+    sync, three_registers, trap, trap_immediate, with_immediate,
 };
 use crate::instruction::{
-    AccumulateOp, BranchOp, BranchSignOp, BranchZeroOp, CountOp, ImmediateOp, Insn, JumpOp,
+    AccumulateOp, BranchOp, BranchRegimmOp, BranchZeroOp, CountOp, ImmediateOp, Insn, JumpOp,
     LinkedOp, LoadOp, MoveFromOp, MoveToOp, ProductOp, RegisterOp, ShiftOp, ShiftVariableOp,
     StoreOp, TrapImmediateOp, TrapOp,
 };
+use crate::word::{REGIMM, SPECIAL, SPECIAL2, low, rs};
 
 /// The instruction that a word stands for; None where it stands for none (a reserved instruction).
 #[tactic(auto, unfolding(crate::specs::Decoding::decoded))]
 pub fn decode(word: u32) -> Option<Insn>
     ensures is { result ≡ decoded word }
     ensures exactly { (insn : Insn) → (result ≡ Some insn) ↔ StandsFor word insn }
+{
+    by_opcode(word)
+}
+
+/// By the opcode, which names the instruction or another field that does.
+fn by_opcode(word: u32) -> Option<Insn>
+    ensures { result ≡ of_opcode (word / 2 ^ 26) word }
 {
     match word >> 26 {
         SPECIAL => special(word),
@@ -32,9 +40,7 @@ pub fn decode(word: u32) -> Option<Insn>
 
 /// The opcode SPECIAL: the function field names the instruction.
 fn special(word: u32) -> Option<Insn>
-    requires { word / 2 ^ 26 ≡ 0x00 }
-    ensures is { result ≡ special_of (word % 2 ^ 6) word }
-    ensures exactly { (insn : Insn) → (result ≡ Some insn) ↔ StandsFor word insn }
+    ensures { result ≡ special_of (word % 2 ^ 6) word }
 {
     match word % 64 {
         0x00 => shift(ShiftOp::Sll, word),
@@ -68,46 +74,42 @@ fn special(word: u32) -> Option<Insn>
         0x27 => three_registers(RegisterOp::Nor, word),
         0x2a => three_registers(RegisterOp::Slt, word),
         0x2b => three_registers(RegisterOp::Sltu, word),
-        0x30 => Some(Insn::Trap(TrapOp::Tge, rs(word), rt(word), ShortCode::low(word >> 6))),
-        0x31 => Some(Insn::Trap(TrapOp::Tgeu, rs(word), rt(word), ShortCode::low(word >> 6))),
-        0x32 => Some(Insn::Trap(TrapOp::Tlt, rs(word), rt(word), ShortCode::low(word >> 6))),
-        0x33 => Some(Insn::Trap(TrapOp::Tltu, rs(word), rt(word), ShortCode::low(word >> 6))),
-        0x34 => Some(Insn::Trap(TrapOp::Teq, rs(word), rt(word), ShortCode::low(word >> 6))),
-        0x36 => Some(Insn::Trap(TrapOp::Tne, rs(word), rt(word), ShortCode::low(word >> 6))),
+        0x30 => trap(TrapOp::Tge, word),
+        0x31 => trap(TrapOp::Tgeu, word),
+        0x32 => trap(TrapOp::Tlt, word),
+        0x33 => trap(TrapOp::Tltu, word),
+        0x34 => trap(TrapOp::Teq, word),
+        0x36 => trap(TrapOp::Tne, word),
         _ => None,
     }
 }
 
 /// The opcode REGIMM: the field rt names the instruction.
 fn regimm(word: u32) -> Option<Insn>
-    requires { word / 2 ^ 26 ≡ 0x01 }
-    ensures is { result ≡ regimm_of (rt_of word) word }
-    ensures exactly { (insn : Insn) → (result ≡ Some insn) ↔ StandsFor word insn }
+    ensures { result ≡ regimm_of (rt_of word) word }
 {
     match (word >> 16) % 32 {
-        0x00 => Some(Insn::BranchZero(BranchZeroOp::Bltz, rs(word), low(word))),
-        0x01 => Some(Insn::BranchZero(BranchZeroOp::Bgez, rs(word), low(word))),
-        0x02 => Some(Insn::BranchZero(BranchZeroOp::Bltzl, rs(word), low(word))),
-        0x03 => Some(Insn::BranchZero(BranchZeroOp::Bgezl, rs(word), low(word))),
-        0x08 => Some(Insn::TrapImmediate(TrapImmediateOp::Tgei, rs(word), low(word))),
-        0x09 => Some(Insn::TrapImmediate(TrapImmediateOp::Tgeiu, rs(word), low(word))),
-        0x0a => Some(Insn::TrapImmediate(TrapImmediateOp::Tlti, rs(word), low(word))),
-        0x0b => Some(Insn::TrapImmediate(TrapImmediateOp::Tltiu, rs(word), low(word))),
-        0x0c => Some(Insn::TrapImmediate(TrapImmediateOp::Teqi, rs(word), low(word))),
-        0x0e => Some(Insn::TrapImmediate(TrapImmediateOp::Tnei, rs(word), low(word))),
-        0x10 => Some(Insn::BranchZero(BranchZeroOp::Bltzal, rs(word), low(word))),
-        0x11 => Some(Insn::BranchZero(BranchZeroOp::Bgezal, rs(word), low(word))),
-        0x12 => Some(Insn::BranchZero(BranchZeroOp::Bltzall, rs(word), low(word))),
-        0x13 => Some(Insn::BranchZero(BranchZeroOp::Bgezall, rs(word), low(word))),
+        0x00 => branch_regimm(BranchRegimmOp::Bltz, word),
+        0x01 => branch_regimm(BranchRegimmOp::Bgez, word),
+        0x02 => branch_regimm(BranchRegimmOp::Bltzl, word),
+        0x03 => branch_regimm(BranchRegimmOp::Bgezl, word),
+        0x08 => trap_immediate(TrapImmediateOp::Tgei, word),
+        0x09 => trap_immediate(TrapImmediateOp::Tgeiu, word),
+        0x0a => trap_immediate(TrapImmediateOp::Tlti, word),
+        0x0b => trap_immediate(TrapImmediateOp::Tltiu, word),
+        0x0c => trap_immediate(TrapImmediateOp::Teqi, word),
+        0x0e => trap_immediate(TrapImmediateOp::Tnei, word),
+        0x10 => branch_regimm(BranchRegimmOp::Bltzal, word),
+        0x11 => branch_regimm(BranchRegimmOp::Bgezal, word),
+        0x12 => branch_regimm(BranchRegimmOp::Bltzall, word),
+        0x13 => branch_regimm(BranchRegimmOp::Bgezall, word),
         _ => None,
     }
 }
 
 /// The opcode SPECIAL2: the function field names the instruction.
 fn special2(word: u32) -> Option<Insn>
-    requires { word / 2 ^ 26 ≡ 0x1c }
-    ensures is { result ≡ special2_of (word % 2 ^ 6) word }
-    ensures exactly { (insn : Insn) → (result ≡ Some insn) ↔ StandsFor word insn }
+    ensures { result ≡ special2_of (word % 2 ^ 6) word }
 {
     match word % 64 {
         0x00 => accumulate(AccumulateOp::Madd, word),
@@ -123,46 +125,42 @@ fn special2(word: u32) -> Option<Insn>
 
 /// Every other opcode: the opcode itself names the instruction.
 fn others(word: u32) -> Option<Insn>
-    requires no_special { word / 2 ^ 26 ≢ 0x00 }
-    requires no_regimm { word / 2 ^ 26 ≢ 0x01 }
-    requires no_special2 { word / 2 ^ 26 ≢ 0x1c }
-    ensures is { result ≡ others_of (word / 2 ^ 26) word }
-    ensures exactly { (insn : Insn) → (result ≡ Some insn) ↔ StandsFor word insn }
+    ensures { result ≡ others_of (word / 2 ^ 26) word }
 {
     match word >> 26 {
-        0x02 => Some(Insn::Jump(JumpOp::J, JumpIndex::low(word))),
-        0x03 => Some(Insn::Jump(JumpOp::Jal, JumpIndex::low(word))),
-        0x04 => Some(Insn::Branch(BranchOp::Beq, rs(word), rt(word), low(word))),
-        0x05 => Some(Insn::Branch(BranchOp::Bne, rs(word), rt(word), low(word))),
-        0x06 => branch_sign(BranchSignOp::Blez, word),
-        0x07 => branch_sign(BranchSignOp::Bgtz, word),
-        0x08 => Some(Insn::Immediate(ImmediateOp::Addi, rt(word), rs(word), low(word))),
-        0x09 => Some(Insn::Immediate(ImmediateOp::Addiu, rt(word), rs(word), low(word))),
-        0x0a => Some(Insn::Immediate(ImmediateOp::Slti, rt(word), rs(word), low(word))),
-        0x0b => Some(Insn::Immediate(ImmediateOp::Sltiu, rt(word), rs(word), low(word))),
-        0x0c => Some(Insn::Immediate(ImmediateOp::Andi, rt(word), rs(word), low(word))),
-        0x0d => Some(Insn::Immediate(ImmediateOp::Ori, rt(word), rs(word), low(word))),
-        0x0e => Some(Insn::Immediate(ImmediateOp::Xori, rt(word), rs(word), low(word))),
+        0x02 => jump(JumpOp::J, word),
+        0x03 => jump(JumpOp::Jal, word),
+        0x04 => branch(BranchOp::Beq, word),
+        0x05 => branch(BranchOp::Bne, word),
+        0x06 => branch_zero(BranchZeroOp::Blez, word),
+        0x07 => branch_zero(BranchZeroOp::Bgtz, word),
+        0x08 => with_immediate(ImmediateOp::Addi, word),
+        0x09 => with_immediate(ImmediateOp::Addiu, word),
+        0x0a => with_immediate(ImmediateOp::Slti, word),
+        0x0b => with_immediate(ImmediateOp::Sltiu, word),
+        0x0c => with_immediate(ImmediateOp::Andi, word),
+        0x0d => with_immediate(ImmediateOp::Ori, word),
+        0x0e => with_immediate(ImmediateOp::Xori, word),
         0x0f => load_upper(word),
-        0x14 => Some(Insn::Branch(BranchOp::Beql, rs(word), rt(word), low(word))),
-        0x15 => Some(Insn::Branch(BranchOp::Bnel, rs(word), rt(word), low(word))),
-        0x16 => branch_sign(BranchSignOp::Blezl, word),
-        0x17 => branch_sign(BranchSignOp::Bgtzl, word),
-        0x20 => Some(Insn::Load(LoadOp::Lb, rt(word), rs(word), low(word))),
-        0x21 => Some(Insn::Load(LoadOp::Lh, rt(word), rs(word), low(word))),
-        0x22 => Some(Insn::Load(LoadOp::Lwl, rt(word), rs(word), low(word))),
-        0x23 => Some(Insn::Load(LoadOp::Lw, rt(word), rs(word), low(word))),
-        0x24 => Some(Insn::Load(LoadOp::Lbu, rt(word), rs(word), low(word))),
-        0x25 => Some(Insn::Load(LoadOp::Lhu, rt(word), rs(word), low(word))),
-        0x26 => Some(Insn::Load(LoadOp::Lwr, rt(word), rs(word), low(word))),
-        0x28 => Some(Insn::Store(StoreOp::Sb, rt(word), rs(word), low(word))),
-        0x29 => Some(Insn::Store(StoreOp::Sh, rt(word), rs(word), low(word))),
-        0x2a => Some(Insn::Store(StoreOp::Swl, rt(word), rs(word), low(word))),
-        0x2b => Some(Insn::Store(StoreOp::Sw, rt(word), rs(word), low(word))),
-        0x2e => Some(Insn::Store(StoreOp::Swr, rt(word), rs(word), low(word))),
-        0x30 => Some(Insn::Linked(LinkedOp::Ll, rt(word), rs(word), low(word))),
+        0x14 => branch(BranchOp::Beql, word),
+        0x15 => branch(BranchOp::Bnel, word),
+        0x16 => branch_zero(BranchZeroOp::Blezl, word),
+        0x17 => branch_zero(BranchZeroOp::Bgtzl, word),
+        0x20 => load(LoadOp::Lb, word),
+        0x21 => load(LoadOp::Lh, word),
+        0x22 => load(LoadOp::Lwl, word),
+        0x23 => load(LoadOp::Lw, word),
+        0x24 => load(LoadOp::Lbu, word),
+        0x25 => load(LoadOp::Lhu, word),
+        0x26 => load(LoadOp::Lwr, word),
+        0x28 => store(StoreOp::Sb, word),
+        0x29 => store(StoreOp::Sh, word),
+        0x2a => store(StoreOp::Swl, word),
+        0x2b => store(StoreOp::Sw, word),
+        0x2e => store(StoreOp::Swr, word),
+        0x30 => linked(LinkedOp::Ll, word),
         0x33 => Some(Insn::Prefetch(Hint::low(word >> 16), rs(word), low(word))),
-        0x38 => Some(Insn::Linked(LinkedOp::Sc, rt(word), rs(word), low(word))),
+        0x38 => linked(LinkedOp::Sc, word),
         _ => None,
     }
 }

@@ -4,8 +4,8 @@ ghost use Rattle.std.specs.Prelude.{◌≡◌, ℕ, ◌%◌, ◌^◌, ◌<◌};
 
 use std::marker::Model;
 
-/// The number of a general register, 0 to 31. It is kept in a word, so that the fields of an instruction lie apart and the compiler can keep each in a
-/// register of its own.
+/// The number of a general register, 0 to 31. It is kept in a `u32`, so that the fields of an instruction lie apart and
+/// the compiler can keep each in a register of its own.
 #[derive(Clone, Copy, Debug, PartialEq, Eq)]
 pub struct Register {
     number: u32,

@@ -1,92 +1,16 @@
-//! The fields of a word, and the instructions of each form that is reserved where a field isn't 0.
+//! The instruction of a word, by the form of its operands. Some forms are reserved where a field isn't 0, or where two
+//! fields differ.
 
-ghost use Rattle.std.specs.Prelude.{◌≡◌, ◌==◌};
+ghost use Rattle.std.specs.Prelude.{◌≡◌};
 ghost use Rattle.brd_isa.specs.Decoding as decoding;
 
-use crate::fields::{Register, ShiftAmount};
+use crate::fields::{JumpIndex, ShortCode};
 use crate::instruction::{
-    AccumulateOp, BranchSignOp, CountOp, Insn, MoveFromOp, MoveToOp, ProductOp, RegisterOp,
-    ShiftOp, ShiftVariableOp,
+    AccumulateOp, BranchOp, BranchRegimmOp, BranchZeroOp, CountOp, ImmediateOp, Insn, JumpOp,
+    LinkedOp, LoadOp, MoveFromOp, MoveToOp, ProductOp, RegisterOp, ShiftOp, ShiftVariableOp,
+    StoreOp, TrapImmediateOp, TrapOp,
 };
-
-/// The opcode under which the function field names the instruction.
-pub const SPECIAL: u32 = 0x00;
-
-/// The opcode under which the field rt names the instruction.
-pub const REGIMM: u32 = 0x01;
-
-/// The second opcode under which the function field names the instruction.
-pub const SPECIAL2: u32 = 0x1c;
-
-/// The field rs.
-pub fn rs(word: u32) -> Register
-    ensures { result ≡ decoding.rs_of word }
-{
-    Register::low(word >> 21)
-}
-
-/// The field rt.
-pub fn rt(word: u32) -> Register
-    ensures { result ≡ decoding.rt_of word }
-{
-    Register::low(word >> 16)
-}
-
-/// The field rd.
-fn rd(word: u32) -> Register
-    ensures { result ≡ decoding.rd_of word }
-{
-    Register::low(word >> 11)
-}
-
-/// The field sa.
-fn sa(word: u32) -> ShiftAmount
-    ensures { result ≡ decoding.sa_of word }
-{
-    ShiftAmount::low(word >> 6)
-}
-
-/// The low half.
-pub fn low(word: u32) -> u16
-    ensures { result ≡ decoding.low_of word }
-{
-    (word % 0x1_0000) as u16
-}
-
-/// Whether the field rs is 0.
-fn no_rs(word: u32) -> bool
-    ensures { result ≡ (decoding.rs_of word == 0) }
-{
-    (word >> 21) % 32 == 0
-}
-
-/// Whether the field rt is 0.
-fn no_rt(word: u32) -> bool
-    ensures { result ≡ (decoding.rt_of word == 0) }
-{
-    (word >> 16) % 32 == 0
-}
-
-/// Whether the field rd is 0.
-fn no_rd(word: u32) -> bool
-    ensures { result ≡ (decoding.rd_of word == 0) }
-{
-    (word >> 11) % 32 == 0
-}
-
-/// Whether the field sa is 0.
-fn no_sa(word: u32) -> bool
-    ensures { result ≡ (decoding.sa_of word == 0) }
-{
-    (word >> 6) % 32 == 0
-}
-
-/// Whether the fields rt and rd are the same.
-fn rt_is_rd(word: u32) -> bool
-    ensures { result ≡ (decoding.rt_of word == decoding.rd_of word) }
-{
-    (word >> 16) % 32 == (word >> 11) % 32
-}
+use crate::word::{low, no_rd, no_rs, no_rt, no_sa, rd, rs, rt, rt_is_rd, sa};
 
 /// `op rd, rt, sa`, where rs is 0.
 pub fn shift(op: ShiftOp, word: u32) -> Option<Insn>
@@ -173,10 +97,10 @@ pub fn count(op: CountOp, word: u32) -> Option<Insn>
 }
 
 /// `op rs, target`, where rt is 0.
-pub fn branch_sign(op: BranchSignOp, word: u32) -> Option<Insn>
-    ensures { result ≡ decoding.branch_sign op word }
+pub fn branch_zero(op: BranchZeroOp, word: u32) -> Option<Insn>
+    ensures { result ≡ decoding.branch_zero op word }
 {
-    no_rt(word).then_some(Insn::BranchSign(op, rs(word), low(word)))
+    no_rt(word).then_some(Insn::BranchZero(op, rs(word), low(word)))
 }
 
 /// `lui rt, immediate`, where rs is 0.
@@ -184,4 +108,67 @@ pub fn load_upper(word: u32) -> Option<Insn>
     ensures { result ≡ decoding.load_upper word }
 {
     no_rs(word).then_some(Insn::LoadUpper(rt(word), low(word)))
+}
+
+/// `op rs, rt, code`
+pub fn trap(op: TrapOp, word: u32) -> Option<Insn>
+    ensures { result ≡ decoding.trap op word }
+{
+    Some(Insn::Trap(op, rs(word), rt(word), ShortCode::low(word >> 6)))
+}
+
+/// `op rs, immediate`
+pub fn trap_immediate(op: TrapImmediateOp, word: u32) -> Option<Insn>
+    ensures { result ≡ decoding.trap_immediate op word }
+{
+    Some(Insn::TrapImmediate(op, rs(word), low(word)))
+}
+
+/// `op rs, target`, under the opcode REGIMM
+pub fn branch_regimm(op: BranchRegimmOp, word: u32) -> Option<Insn>
+    ensures { result ≡ decoding.branch_regimm op word }
+{
+    Some(Insn::BranchRegimm(op, rs(word), low(word)))
+}
+
+/// `op target`
+pub fn jump(op: JumpOp, word: u32) -> Option<Insn>
+    ensures { result ≡ decoding.jump op word }
+{
+    Some(Insn::Jump(op, JumpIndex::low(word)))
+}
+
+/// `op rs, rt, target`
+pub fn branch(op: BranchOp, word: u32) -> Option<Insn>
+    ensures { result ≡ decoding.branch op word }
+{
+    Some(Insn::Branch(op, rs(word), rt(word), low(word)))
+}
+
+/// `op rt, rs, immediate`
+pub fn with_immediate(op: ImmediateOp, word: u32) -> Option<Insn>
+    ensures { result ≡ decoding.with_immediate op word }
+{
+    Some(Insn::WithImmediate(op, rt(word), rs(word), low(word)))
+}
+
+/// `op rt, offset(base)`
+pub fn load(op: LoadOp, word: u32) -> Option<Insn>
+    ensures { result ≡ decoding.load op word }
+{
+    Some(Insn::Load(op, rt(word), rs(word), low(word)))
+}
+
+/// `op rt, offset(base)`
+pub fn store(op: StoreOp, word: u32) -> Option<Insn>
+    ensures { result ≡ decoding.store op word }
+{
+    Some(Insn::Store(op, rt(word), rs(word), low(word)))
+}
+
+/// `op rt, offset(base)`
+pub fn linked(op: LinkedOp, word: u32) -> Option<Insn>
+    ensures { result ≡ decoding.linked op word }
+{
+    Some(Insn::Linked(op, rt(word), rs(word), low(word)))
 }

@@ -103,7 +103,7 @@ pub enum TrapOp {
 
 /// Branches that compare with 0, under the opcode REGIMM: `op rs, target`.
 #[derive(Clone, Copy, Debug, PartialEq, Eq)]
-pub enum BranchZeroOp {
+pub enum BranchRegimmOp {
     /// Below 0.
     Bltz,
     /// At or above 0.
@@ -185,7 +185,7 @@ pub enum BranchOp {
 
 /// Branches that compare with 0: `op rs, target`.
 #[derive(Clone, Copy, Debug, PartialEq, Eq)]
-pub enum BranchSignOp {
+pub enum BranchZeroOp {
     /// At or below 0.
     Blez,
     /// Above 0.
@@ -258,8 +258,8 @@ pub enum LinkedOp {
     Sc,
 }
 
-/// An instruction of MIPS32 Release 1 (MD00086, chapter 3). Offsets of branches count words from the delay slot, those of loads and stores bytes; both are
-/// signed.
+/// An instruction of MIPS32 Release 1 (MD00086, chapter 3). Offsets of branches count words from the delay slot, those of
+/// loads and stores bytes; both are signed.
 #[derive(Clone, Copy, Debug, PartialEq, Eq)]
 pub enum Insn {
     /// `op rd, rt, sa`
@@ -299,11 +299,11 @@ pub enum Insn {
     /// `op rs, rt, target`
     Branch(BranchOp, Register, Register, u16),
     /// `op rs, target`
-    BranchSign(BranchSignOp, Register, u16),
-    /// `op rs, target`
     BranchZero(BranchZeroOp, Register, u16),
+    /// `op rs, target`
+    BranchRegimm(BranchRegimmOp, Register, u16),
     /// `op rt, rs, immediate`
-    Immediate(ImmediateOp, Register, Register, u16),
+    WithImmediate(ImmediateOp, Register, Register, u16),
     /// LUI: `lui rt, immediate`
     LoadUpper(Register, u16),
     /// `op rt, offset(base)`: rt, base, offset

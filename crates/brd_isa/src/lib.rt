@@ -3,20 +3,23 @@
 //! `specs/Table.antt` relates a word to the instruction that it stands for; `decode` and `encode` follow it both ways.
 #![tactic(auto)]
 
+mod codes;
 mod decoder;
 mod encoder;
 mod fields;
+mod formats;
 mod forms;
 mod instruction;
 pub mod laws;
 mod mnemonic;
+mod word;
 
 pub use decoder::decode;
 pub use encoder::encode;
 pub use fields::{Hint, JumpIndex, LongCode, Register, ShiftAmount, ShortCode};
 pub use instruction::{
-    AccumulateOp, BranchOp, BranchSignOp, BranchZeroOp, CountOp, ImmediateOp, Insn, JumpOp,
+    AccumulateOp, BranchOp, BranchRegimmOp, BranchZeroOp, CountOp, ImmediateOp, Insn, JumpOp,
     LinkedOp, LoadOp, MoveFromOp, MoveToOp, ProductOp, RegisterOp, ShiftOp, ShiftVariableOp,
     StoreOp, TrapImmediateOp, TrapOp,
 };
-pub use mnemonic::{Mnemonic, every_mnemonic_has_a_name, is_same_word, mnemonic_named};
+pub use mnemonic::{Mnemonic, is_same_word, mnemonic_named};

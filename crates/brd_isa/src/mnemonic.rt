@@ -1,12 +1,11 @@
 //! The names of the instructions in assembler source.
 
-ghost use Rattle.std.specs.Prelude.{◌≡◌};
+ghost use Rattle.std.specs.Prelude.{◌≡◌, map};
 ghost use Rattle.std.specs.Str.{bytes_eq};
 ghost use Rattle.brd_isa.specs.Names as names;
-ghost use Rattle.brd_isa.specs.declared.mnemonic.Mnemonic.{Mnemonic as MnemonicOf};
 
 use crate::instruction::{
-    AccumulateOp, BranchOp, BranchSignOp, BranchZeroOp, CountOp, ImmediateOp, JumpOp, LinkedOp,
+    AccumulateOp, BranchOp, BranchRegimmOp, BranchZeroOp, CountOp, ImmediateOp, JumpOp, LinkedOp,
     LoadOp, MoveFromOp, MoveToOp, ProductOp, RegisterOp, ShiftOp, ShiftVariableOp, StoreOp,
     TrapImmediateOp, TrapOp,
 };
@@ -51,11 +50,11 @@ pub enum Mnemonic {
     /// `op rs, rt, target`
     Branch(BranchOp),
     /// `op rs, target`
-    BranchSign(BranchSignOp),
-    /// `op rs, target`
     BranchZero(BranchZeroOp),
+    /// `op rs, target`
+    BranchRegimm(BranchRegimmOp),
     /// `op rt, rs, immediate`
-    Immediate(ImmediateOp),
+    WithImmediate(ImmediateOp),
     /// LUI: `lui rt, immediate`
     LoadUpper,
     /// `op rt, offset(base)`
@@ -76,7 +75,7 @@ pub fn is_same_word(word: &[u8], other: &[u8]) -> bool
 }
 
 /// The name of each mnemonic, in lower case.
-const NAMES: [(&[u8], Mnemonic); 91] = [
+const NAMES: &[(&[u8], Mnemonic)] = &[
     (b"sll", Mnemonic::Shift(ShiftOp::Sll)),
     (b"srl", Mnemonic::Shift(ShiftOp::Srl)),
     (b"sra", Mnemonic::Shift(ShiftOp::Sra)),
@@ -109,13 +108,13 @@ const NAMES: [(&[u8], Mnemonic); 91] = [
     (b"msubu", Mnemonic::Accumulate(AccumulateOp::Msubu)),
     (b"clz", Mnemonic::Count(CountOp::Clz)),
     (b"clo", Mnemonic::Count(CountOp::Clo)),
-    (b"addi", Mnemonic::Immediate(ImmediateOp::Addi)),
-    (b"addiu", Mnemonic::Immediate(ImmediateOp::Addiu)),
-    (b"slti", Mnemonic::Immediate(ImmediateOp::Slti)),
-    (b"sltiu", Mnemonic::Immediate(ImmediateOp::Sltiu)),
-    (b"andi", Mnemonic::Immediate(ImmediateOp::Andi)),
-    (b"ori", Mnemonic::Immediate(ImmediateOp::Ori)),
-    (b"xori", Mnemonic::Immediate(ImmediateOp::Xori)),
+    (b"addi", Mnemonic::WithImmediate(ImmediateOp::Addi)),
+    (b"addiu", Mnemonic::WithImmediate(ImmediateOp::Addiu)),
+    (b"slti", Mnemonic::WithImmediate(ImmediateOp::Slti)),
+    (b"sltiu", Mnemonic::WithImmediate(ImmediateOp::Sltiu)),
+    (b"andi", Mnemonic::WithImmediate(ImmediateOp::Andi)),
+    (b"ori", Mnemonic::WithImmediate(ImmediateOp::Ori)),
+    (b"xori", Mnemonic::WithImmediate(ImmediateOp::Xori)),
     (b"tge", Mnemonic::Trap(TrapOp::Tge)),
     (b"tgeu", Mnemonic::Trap(TrapOp::Tgeu)),
     (b"tlt", Mnemonic::Trap(TrapOp::Tlt)),
@@ -134,18 +133,18 @@ const NAMES: [(&[u8], Mnemonic); 91] = [
     (b"bne", Mnemonic::Branch(BranchOp::Bne)),
     (b"beql", Mnemonic::Branch(BranchOp::Beql)),
     (b"bnel", Mnemonic::Branch(BranchOp::Bnel)),
-    (b"blez", Mnemonic::BranchSign(BranchSignOp::Blez)),
-    (b"bgtz", Mnemonic::BranchSign(BranchSignOp::Bgtz)),
-    (b"blezl", Mnemonic::BranchSign(BranchSignOp::Blezl)),
-    (b"bgtzl", Mnemonic::BranchSign(BranchSignOp::Bgtzl)),
-    (b"bltz", Mnemonic::BranchZero(BranchZeroOp::Bltz)),
-    (b"bgez", Mnemonic::BranchZero(BranchZeroOp::Bgez)),
-    (b"bltzl", Mnemonic::BranchZero(BranchZeroOp::Bltzl)),
-    (b"bgezl", Mnemonic::BranchZero(BranchZeroOp::Bgezl)),
-    (b"bltzal", Mnemonic::BranchZero(BranchZeroOp::Bltzal)),
-    (b"bgezal", Mnemonic::BranchZero(BranchZeroOp::Bgezal)),
-    (b"bltzall", Mnemonic::BranchZero(BranchZeroOp::Bltzall)),
-    (b"bgezall", Mnemonic::BranchZero(BranchZeroOp::Bgezall)),
+    (b"blez", Mnemonic::BranchZero(BranchZeroOp::Blez)),
+    (b"bgtz", Mnemonic::BranchZero(BranchZeroOp::Bgtz)),
+    (b"blezl", Mnemonic::BranchZero(BranchZeroOp::Blezl)),
+    (b"bgtzl", Mnemonic::BranchZero(BranchZeroOp::Bgtzl)),
+    (b"bltz", Mnemonic::BranchRegimm(BranchRegimmOp::Bltz)),
+    (b"bgez", Mnemonic::BranchRegimm(BranchRegimmOp::Bgez)),
+    (b"bltzl", Mnemonic::BranchRegimm(BranchRegimmOp::Bltzl)),
+    (b"bgezl", Mnemonic::BranchRegimm(BranchRegimmOp::Bgezl)),
+    (b"bltzal", Mnemonic::BranchRegimm(BranchRegimmOp::Bltzal)),
+    (b"bgezal", Mnemonic::BranchRegimm(BranchRegimmOp::Bgezal)),
+    (b"bltzall", Mnemonic::BranchRegimm(BranchRegimmOp::Bltzall)),
+    (b"bgezall", Mnemonic::BranchRegimm(BranchRegimmOp::Bgezall)),
     (b"lb", Mnemonic::Load(LoadOp::Lb)),
     (b"lh", Mnemonic::Load(LoadOp::Lh)),
     (b"lwl", Mnemonic::Load(LoadOp::Lwl)),
@@ -172,7 +171,8 @@ const NAMES: [(&[u8], Mnemonic); 91] = [
 
 /// What a table has for a name, without regard to case.
 fn find(rows: &[(&[u8], Mnemonic)], name: &[u8]) -> Option<Mnemonic>
-    ensures { result ≡ names.found_in rows.now (names.lowered name.now) }
+    ensures { let lowered_rows = map (λ row. (names.lowered row.0.now, row.1)) rows.now in
+        result ≡ names.named_in lowered_rows (names.lowered name.now) }
 {
     for (known, mnemonic) in rows {
         if is_same_word(name, known) {
@@ -186,10 +186,5 @@ fn find(rows: &[(&[u8], Mnemonic)], name: &[u8]) -> Option<Mnemonic>
 pub fn mnemonic_named(name: &[u8]) -> Option<Mnemonic>
     ensures { result ≡ names.mnemonic_named (names.lowered name.now) }
 {
-    find(&NAMES, name)
+    find(NAMES, name)
 }
-
-/// No mnemonic is left out of the table of names.
-pub fn every_mnemonic_has_a_name()
-    ensures { (mnemonic : MnemonicOf) → names.HasName mnemonic }
-{}

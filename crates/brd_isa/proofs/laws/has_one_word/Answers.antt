@@ -1,4 +1,3 @@
--- The law is a lemma on each form.
 use Rattle.brd_isa.proofs.WordLemmas.{one_word}
 use Rattle.brd_isa.proofs.laws.has_one_word.Goals as goal
 
