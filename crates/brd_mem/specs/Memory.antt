@@ -1,44 +1,57 @@
 -- RAM: a map from addresses to bytes, kept as the list of the bytes from address 0x80000000 upward.
-use Rattle.std.specs.Prelude.{◌*◌, ◌≡◌, ℕ, ◌+◌, ◌-◌, ◌/◌, ◌%◌, ◌^◌, ◌≤◌, Bool, ◌&&◌, nat_le, if◌then◌else◌, List, [], ◌∷◌, ◌++◌, length, take, drop, slice_get, slice_index, slice_set, Option, None}
-use Rattle.brd_word.specs.Words.{big_endian_word}
+use Rattle.std.specs.Prelude.{ℕ, ◌+◌, ◌-◌, Bool, ◌&&◌, nat_le, if◌then◌else◌, List, [], ◌∷◌, ◌++◌, length, take, drop}
+use Rattle.std.specs.Prelude.{replicate, slice_index, Option, Some, None}
+use Rattle.brd_base.specs.Space.{base}
+use Rattle.brd_word.specs.Words.{bytes_of_half, half_of_bytes, bytes_of_word, word_of_bytes}
 
--- the address of the first byte (own choice: kseg0, where MIPS firmware without a TLB runs)
-abbrev pub base : ℕ
-base = 0x80000000
+pub record Memory : Type 0 where
+  pub bytes : List ℕ
 
--- 64 KiB to 16 MiB, in steps of 64 KiB
-pub record IsRamSize (size : ℕ) : Type 0 where
-  pub least : 2 ^ 16 ≤ size
-  pub most : size ≤ 2 ^ 24
-  pub whole : size % 2 ^ 16 ≡ 0
+-- how many bytes there are
+abbrev pub size_of : Memory → ℕ
+size_of memory = length memory.bytes
+
+-- so many bytes, all zero
+abbrev pub zeros : ℕ → Memory
+zeros size = record { bytes = replicate size 0 }
 
 -- the addresses from this one on, as many as len, all lie in a RAM of that size
 abbrev pub contains : ℕ → ℕ → ℕ → Bool
 contains size address len = nat_le base address && nat_le (address + len) (base + size)
 
+-- the bytes from a place on, so many; with the next, what every access reads and writes by
+abbrev pub bytes_at : Memory → ℕ → ℕ → List ℕ
+bytes_at memory at len = take len (drop at memory.bytes)
+
+-- the memory with these bytes from a place on
+abbrev pub with_bytes : Memory → ℕ → List ℕ → Memory
+with_bytes memory at bytes =
+    record memory { bytes = take at memory.bytes ++ bytes ++ drop (at + length bytes) memory.bytes }
+
+-- the byte at a place, and the halfword and the word that begin at a place
+abbrev pub byte_from : Memory → ℕ → ℕ
+byte_from memory at = slice_index (bytes_at memory at 1) 0
+
+abbrev pub half_at : Memory → ℕ → ℕ
+half_at memory at = half_of_bytes (bytes_at memory at 2)
+
+abbrev pub word_at : Memory → ℕ → ℕ
+word_at memory at = word_of_bytes (bytes_at memory at 4)
+
+-- the memory with a byte at a place, and with a halfword or a word that begins there
+abbrev pub put_byte : Memory → ℕ → ℕ → Memory
+put_byte memory at byte = with_bytes memory at (byte ∷ [])
+
+abbrev pub put_half : Memory → ℕ → ℕ → Memory
+put_half memory at half = with_bytes memory at (bytes_of_half half)
+
+abbrev pub put_word : Memory → ℕ → ℕ → Memory
+put_word memory at word = with_bytes memory at (bytes_of_word word)
+
 -- the byte at an address, where RAM has one
-abbrev pub byte_at : List ℕ → ℕ → Option ℕ
-byte_at memory address = if contains (length memory) address 1 then slice_get memory (address - base) else None
-
--- the word in the four bytes from a place on, the most significant first
-abbrev pub word_at : List ℕ → ℕ → ℕ
-word_at memory at =
-    big_endian_word (slice_index memory at ∷ slice_index memory (at + 1) ∷ slice_index memory (at + 2) ∷ slice_index memory (at + 3) ∷ [])
-
--- the halfword in the two bytes from a place on, the most significant first
-abbrev pub half_at : List ℕ → ℕ → ℕ
-half_at memory at = slice_index memory at * 2 ^ 8 + slice_index memory (at + 1)
-
--- the memory with a halfword in the two bytes from a place on, the most significant first
-abbrev pub put_half : List ℕ → ℕ → ℕ → List ℕ
-put_half memory at half = slice_set (slice_set memory at (half / 2 ^ 8 % 256)) (at + 1) (half % 256)
-
--- the memory with a word in the four bytes from a place on, the most significant first
-abbrev pub put_word : List ℕ → ℕ → ℕ → List ℕ
-put_word memory at word =
-    slice_set (slice_set (slice_set (slice_set memory at (word / 2 ^ 24 % 256)) (at + 1) (word / 2 ^ 16 % 256)) (at + 2) (word / 2 ^ 8 % 256)) (at + 3) (word % 256)
+abbrev pub byte_at : Memory → ℕ → Option ℕ
+byte_at memory address = if contains (size_of memory) address 1 then Some (byte_from memory (address - base)) else None
 
 -- the memory with these bytes from an address on
-abbrev pub copied : List ℕ → ℕ → List ℕ → List ℕ
-copied memory address bytes =
-    take (address - base) memory ++ bytes ++ drop (address - base + length bytes) memory
+abbrev pub copied : Memory → ℕ → List ℕ → Memory
+copied memory address bytes = with_bytes memory (address - base) bytes

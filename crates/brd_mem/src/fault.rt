@@ -1,24 +1,6 @@
 //! What can be refused.
 
-use std::alloc::{AllocError, AllocFailed};
 use thiserror::Error;
-
-/// A growth was refused: there is no memory left.
-#[derive(Clone, Copy, Debug, PartialEq, Eq, Error)]
-#[error("out of memory")]
-pub struct NoMemory;
-
-impl From<AllocError> for NoMemory {
-    fn from(_e: AllocError) -> Self {
-        NoMemory
-    }
-}
-
-impl<T: Drop> From<AllocFailed<T>> for NoMemory {
-    fn from(_e: AllocFailed<T>) -> Self {
-        NoMemory
-    }
-}
 
 /// Why there is no RAM.
 #[derive(Clone, Copy, Debug, PartialEq, Eq, Error)]

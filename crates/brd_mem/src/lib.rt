@@ -3,14 +3,15 @@
 
 mod fault;
 mod image;
+pub mod laws;
 mod plain;
 mod ram;
 mod words;
 
-pub use fault::{Exc, NoMemory, RamFault};
+pub use fault::{Exc, RamFault};
 pub use image::{Bytes, Image, Segment, Segments, Symbol, Symbols};
 pub use plain::is_plain;
-pub use ram::{BASE, Ram};
+pub use ram::Ram;
 
 #[cfg(test)]
 mod tests;

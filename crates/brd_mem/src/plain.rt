@@ -2,17 +2,15 @@
 
 ghost use Rattle.std.specs.Prelude.{◌≢◌, ◌↔◌, IsTrue};
 ghost use Rattle.std.specs.List.{AllByRecursion};
-ghost use Rattle.brd_mem.specs.Memory.{base};
+ghost use Rattle.brd_base.specs.Space.{base};
 ghost use Rattle.brd_mem.specs.Image.{AreAscending, AreNamed, IsName, IsPlain};
 
 use crate::image::{Image, Segment, Symbol};
-use crate::ram::BASE;
+use brd_base::{BASE, TOP};
 
-/// One more than the last address that a segment may have.
-const TOP: u64 = 0x8100_0000;
-
-/// Whether the segments have bytes, ascend, don't overlap and lie in 0x80000000 to 0x80FFFFFF, and whether the names aren't empty, have no
-/// byte 0 and are distinct. It takes no memory, and a time of the square of the number of symbols.
+/// Whether the segments have bytes, ascend, don't overlap and lie in 0x80000000 to 0x80FFFFFF, and whether the names
+/// aren't empty, have no byte 0 and are distinct. It takes no memory, and a time of the square of the number of
+/// symbols.
 pub fn is_plain(image: &Image) -> bool
     ensures { IsTrue result ↔ IsPlain image.now }
 {
@@ -24,11 +22,12 @@ fn are_ascending(segments: &[Segment]) -> bool
     ensures { IsTrue result ↔ AreAscending base segments.now }
 {
     let mut low = u64::from(BASE);
+    let top = u64::from(TOP);
     let mut left = segments;
     while let Some((segment, others)) = left.split_first() {
         let start = u64::from(segment.address);
         let len = segment.bytes.len() as u64;
-        if start < low || start >= TOP || len == 0 || len > TOP - start {
+        if start < low || start >= top || len == 0 || len > top - start {
             return false;
         }
         low = start + len;

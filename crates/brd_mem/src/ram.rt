@@ -1,7 +1,9 @@
 //! The RAM.
 
-ghost use Rattle.std.specs.Prelude.{◌≡◌, ℕ, ◌+◌, ◌<◌, ◌≤◌, List, ◌↔◌, length, replicate, true, IfOk, IsErrOf};
-ghost use Rattle.brd_mem.specs.Memory.{IsRamSize, contains, copied, byte_at, half_at, word_at, put_word};
+ghost use Rattle.std.specs.Prelude.{◌≡◌, ℕ, ◌+◌, ◌-◌, ◌<◌, ◌≤◌, ◌↔◌, length, true, IfOk, IsErrOf};
+ghost use Rattle.brd_base.specs.Space.{base, IsRamSize};
+ghost use Rattle.brd_word.specs.Words.{bytes_of_word};
+ghost use Rattle.brd_mem.specs.Memory.{Memory, size_of, zeros, contains, bytes_at, with_bytes, copied, byte_at};
 ghost use Rattle.brd_mem.specs.Access.{
   place_of,
   fetched,
@@ -16,12 +18,10 @@ ghost use Rattle.brd_mem.specs.Access.{
 };
 
 use crate::fault::{Exc, RamFault};
-use brd_word::{bytes_of, word_of};
+use brd_base::{BASE, is_ram_size};
+use brd_word::{bytes_of, half_bytes_of, half_of, word_of};
 use std::alloc::Global;
 use std::marker::Model;
-
-/// The address of RAM's first byte.
-pub const BASE: u32 = 0x8000_0000;
 
 /// 64 KiB to 16 MiB of bytes from `BASE` upward. Words are big-endian.
 #[derive(Drop)]
@@ -30,9 +30,9 @@ pub struct Ram {
 }
 
 impl Model for Ram {
-    ghost Value = { List ℕ };
+    ghost Value = { Memory };
 
-    ghost view = { λ ram. ram.bytes.items };
+    ghost view = { λ ram. record { bytes = ram.bytes.items } };
 
     ghost invariant = { λ ram. IsRamSize (length ram.bytes.items) };
 }
@@ -40,11 +40,11 @@ impl Model for Ram {
 impl Ram {
     /// RAM of this many bytes, all zero.
     pub fn new(alloc: Global, size: u32) -> Result<Ram, RamFault>
-        ensures zero { IfOk result (λ ram. ram ≡ replicate size 0) }
+        ensures zero { IfOk result (λ ram. ram ≡ zeros size) }
         ensures fits { IfOk result (λ _. IsRamSize size) }
         ensures bad_size { IsErrOf result RamFault.BadSize ↔ ¬ (IsRamSize size) }
     {
-        if size < 0x1_0000 || size > 0x100_0000 || size % 0x1_0000 != 0 {
+        if !is_ram_size(size) {
             return Err(RamFault::BadSize);
         }
         let bytes = vec![in alloc; 0; size as usize].map_err(|_| RamFault::NoMemory)?;
@@ -53,7 +53,7 @@ impl Ram {
 
     /// How many bytes it has.
     pub fn size(&self) -> usize
-        ensures is { result ≡ length self.now }
+        ensures is { result ≡ size_of self.now }
         ensures fits { IsRamSize result }
     {
         self.bytes.len()
@@ -61,7 +61,7 @@ impl Ram {
 
     /// Whether the `len` addresses from this one on are all in RAM.
     pub fn contains(&self, address: u32, len: usize) -> bool
-        ensures { result ≡ contains (length self.now) address len }
+        ensures { result ≡ contains (size_of self.now) address len }
     {
         let size = self.bytes.len();
         address >= BASE && len <= size && (address - BASE) as usize <= size - len
@@ -82,7 +82,7 @@ impl Ram {
         ensures { result ≡ fetched self.now address }
     {
         let at = self.place(address, 4, Exc::AdEL, Exc::IBE)?;
-        Ok(word_from(&self.bytes, at))
+        Ok(word_of(self.bytes_at(at)))
     }
 
     /// The data byte at an address: DBE where it isn't in RAM.
@@ -98,15 +98,16 @@ impl Ram {
         ensures { result ≡ loaded16 self.now address }
     {
         let at = self.place(address, 2, Exc::AdEL, Exc::DBE)?;
-        Ok(half_from(&self.bytes, at))
+        Ok(half_of(self.bytes_at(at)))
     }
 
     /// The data word at an address: AdEL where it isn't aligned, then DBE where it isn't in RAM.
     pub fn load32(&self, address: u32) -> Result<u32, Exc>
-        ensures { result ≡ loaded32 self.now address }
+        ensures is { result ≡ loaded32 self.now address }
+        ensures bytes { IfOk result (λ word. bytes_of_word word ≡ bytes_at self.now (address - base) 4) }
     {
         let at = self.place(address, 4, Exc::AdEL, Exc::DBE)?;
-        Ok(word_from(&self.bytes, at))
+        Ok(word_of(self.bytes_at(at)))
     }
 
     /// Stores a data byte at an address: DBE where it isn't in RAM.
@@ -114,7 +115,7 @@ impl Ram {
         ensures { Stores (stored8 self.old address byte) self.old result self.new }
     {
         let at = self.place(address, 1, Exc::AdES, Exc::DBE)?;
-        self.bytes[at] = byte;
+        self.put_bytes(at, &[byte]);
         Ok(())
     }
 
@@ -123,9 +124,7 @@ impl Ram {
         ensures { Stores (stored16 self.old address half) self.old result self.new }
     {
         let at = self.place(address, 2, Exc::AdES, Exc::DBE)?;
-        let [high, low] = half.to_be_bytes();
-        self.bytes[at] = high;
-        self.bytes[at + 1] = low;
+        self.put_bytes(at, &half_bytes_of(half));
         Ok(())
     }
 
@@ -134,7 +133,7 @@ impl Ram {
         ensures { Stores (stored32 self.old address word) self.old result self.new }
     {
         let at = self.place(address, 4, Exc::AdES, Exc::DBE)?;
-        put_word(&mut self.bytes, at, word);
+        self.put_bytes(at, &bytes_of(word));
         Ok(())
     }
 
@@ -146,11 +145,12 @@ impl Ram {
         Ok(())
     }
 
-    /// The place of `len` bytes from an address on: `unaligned` where it is no multiple of `len`, then `outside` where they aren't in RAM.
+    /// The place of `len` bytes from an address on: `unaligned` where it is no multiple of `len`, then `outside` where
+    /// they aren't in RAM.
     fn place(&self, address: u32, len: u32, unaligned: Exc, outside: Exc) -> Result<usize, Exc>
         requires some { 0 < len }
         requires few { len ≤ 4 }
-        ensures { result ≡ place_of (length self.now) address len unaligned outside }
+        ensures { result ≡ place_of self.now address len unaligned outside }
     {
         if address % len != 0 {
             return Err(unaligned);
@@ -164,39 +164,29 @@ impl Ram {
 
     /// Writes these bytes from an address on.
     pub fn copy_in(&mut self, address: u32, bytes: &[u8])
-        requires { contains (length self.old) address (length bytes.now) ≡ true }
+        requires { contains (size_of self.old) address (length bytes.now) ≡ true }
         ensures is { self.new ≡ copied self.old address bytes.now }
-        ensures same_size { length self.new ≡ length self.old }
+        ensures same_size { size_of self.new ≡ size_of self.old }
     {
-        let at = (address - BASE) as usize;
+        self.put_bytes((address - BASE) as usize, bytes);
+    }
+
+    /// The bytes from a place on.
+    fn bytes_at<const N: usize>(&self, at: usize) -> [u8; N]
+        requires { at + N ≤ size_of self.now }
+        ensures { result ≡ bytes_at self.now at N }
+    {
+        let mut bytes = [0; N];
+        bytes.copy_from_slice(&self.bytes[at..at + N]);
+        bytes
+    }
+
+    /// Puts these bytes from a place on.
+    fn put_bytes(&mut self, at: usize, bytes: &[u8])
+        requires { at + length bytes.now ≤ size_of self.old }
+        ensures is { self.new ≡ with_bytes self.old at bytes.now }
+        ensures same_size { size_of self.new ≡ size_of self.old }
+    {
         self.bytes[at..at + bytes.len()].copy_from_slice(bytes);
     }
-}
-
-/// The halfword in the two bytes from a place on.
-fn half_from(bytes: &[u8], at: usize) -> u16
-    requires { at + 1 < length bytes.now }
-    ensures { result ≡ half_at bytes.now at }
-{
-    u16::from_be_bytes([bytes[at], bytes[at + 1]])
-}
-
-/// The word in the four bytes from a place on.
-fn word_from(bytes: &[u8], at: usize) -> u32
-    requires { at + 3 < length bytes.now }
-    ensures { result ≡ word_at bytes.now at }
-{
-    word_of([bytes[at], bytes[at + 1], bytes[at + 2], bytes[at + 3]])
-}
-
-/// Puts a word into the four bytes from a place on.
-fn put_word(bytes: &mut [u8], at: usize, word: u32)
-    requires { at + 3 < length bytes.old }
-    ensures { bytes.new ≡ put_word bytes.old at word }
-{
-    let [first, second, third, fourth] = bytes_of(word);
-    bytes[at] = first;
-    bytes[at + 1] = second;
-    bytes[at + 2] = third;
-    bytes[at + 3] = fourth;
 }

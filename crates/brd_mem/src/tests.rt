@@ -1,4 +1,5 @@
 use super::*;
+use brd_base::NoMemory;
 use std::alloc::Global;
 use std::test::Fail;
 

@@ -1,9 +1,9 @@
 -- The bytes so far, and those of the words that are left, are those of all the words.
 use Rattle.std.proofs.Common.{◌≡◌, ◌++◌, drop}
 use Rattle.std.specs.Prelude.{flat_map}
-use Rattle.brd_word.specs.Words.{big_endian_bytes}
+use Rattle.brd_word.specs.Words.{bytes_of_word}
 use Rattle.brd_mem.proofs.words.bytes_of_words.Given as goal
 
 abbrev pub invariant-loop-word : goal.invariant-loop-word
 invariant-loop-word l =
-    l.bytes ++ flat_map big_endian_bytes (drop l.word-index l.words) ≡ flat_map big_endian_bytes l.words
+    l.bytes ++ flat_map bytes_of_word (drop l.word-index l.words) ≡ flat_map bytes_of_word l.words
