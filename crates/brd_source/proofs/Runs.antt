@@ -1,83 +1,83 @@
--- Words at the front of a line: blanks, comments, runs, strings and marks.
+-- Tokens at the front of a line: blanks, comments, runs, strings and marks.
 use Rattle.std.proofs.Common.{◌≡◌, ℕ, suc, ◌+◌, sym, Bool, true, false, not, ◌||◌, List, [], ◌∷◌, drop, take, Option, Some, None, refl, ap, ◌∙◌, inl, inr, arith}
 use Rattle.std.proofs.lemmas.Bool.{cases_Bool, not-true, and_parts}
 use Rattle.std.proofs.lemmas.Bool.Decides.{nat_tests}
 use Rattle.std.specs.Prelude.{nat_eq, option_map}
 use Rattle.std.specs.List.{prefix_len}
-use Rattle.brd_text.specs.Bytes.{is_letter, is_digit, is_word_byte}
+use Rattle.brd_text.specs.Bytes.{is_letter, is_digit, is_run_byte, is_space}
 use Rattle.brd_text.proofs.Runs.{run_len}
-use Rattle.brd_source.specs.Words.{Word, Place, is_blank, opens_comment, ends_string, escapes, string_len, quoted, words_in}
-use Rattle.brd_source.specs.Words.Word.{Run, Percent, Mark}
-use Rattle.brd_source.specs.Words.Place.{Between, InRun, InString, Escaped, InComment}
-use Rattle.brd_source.specs.Fronts.{begins_word, Begins}
+use Rattle.brd_source.specs.Tokens.{Token, Place, opens_comment, ends_string, escapes, string_len, quoted, tokens_in}
+use Rattle.brd_source.specs.Tokens.Token.{Run, Percent, Mark}
+use Rattle.brd_source.specs.Tokens.Place.{Between, InRun, InString, Escaped, InComment}
+use Rattle.brd_source.specs.Fronts.{begins_token, Begins}
 
 -- ---- bytes by kind
 
-pub blank-is_word_byte : (b : ℕ) → is_blank b ≡ true → is_word_byte b ≡ false
-unfolding is_word_byte is_blank is_letter is_digit
-blank-is_word_byte b h = grind (arith, nat_tests)
+pub blank-is_run_byte : (b : ℕ) → is_space b ≡ true → is_run_byte b ≡ false
+unfolding is_run_byte is_space is_letter is_digit
+blank-is_run_byte b h = grind (arith, nat_tests)
 
 -- ---- gaps
 
-pub in_comment : (bs : List ℕ) → words_in InComment bs ≡ []
+pub in_comment : (bs : List ℕ) → tokens_in InComment bs ≡ []
 in_comment [] = refl
 in_comment (b ∷ bs) = in_comment bs
 
-pub blank_step : (b : ℕ) (left bs : List ℕ) → left ≡ b ∷ bs → is_blank b ≡ true → words_in Between bs ≡ words_in Between left
-unfolding is_blank
+pub blank_step : (b : ℕ) (left bs : List ℕ) → left ≡ b ∷ bs → is_space b ≡ true → tokens_in Between bs ≡ tokens_in Between left
+unfolding is_space
 blank_step b left bs e h =
     let percent : nat_eq b 37 ≡ false = grind (arith, nat_tests) in
     let sharp : nat_eq b 35 ≡ false = grind (arith, nat_tests) in
     let slash : nat_eq b 47 ≡ false = grind (arith, nat_tests) in
     let quote : nat_eq b 34 ≡ false = grind (arith, nat_tests) in
-    rw (e, blank-is_word_byte b h, h, percent, sharp, slash, quote) refl
+    rw (e, blank-is_run_byte b h, h, percent, sharp, slash, quote) refl
 
 or_true : (x : Bool) → (x || true) ≡ true
 or_true true = refl
 or_true false = refl
 
 -- the bytes that begin a comment are no others
-opens-is : (b : ℕ) (bs : List ℕ) → opens_comment b bs ≡ true → (is_word_byte b ≡ false) × (nat_eq b 37 ≡ false)
-unfolding is_word_byte is_letter is_digit
+opens-is : (b : ℕ) (bs : List ℕ) → opens_comment b bs ≡ true → (is_run_byte b ≡ false) × (nat_eq b 37 ≡ false)
+unfolding is_run_byte is_letter is_digit
 opens-is b bs h = (grind (arith, nat_tests), grind (arith, nat_tests))
 
-pub comment_step : (b : ℕ) (left bs : List ℕ) → left ≡ b ∷ bs → opens_comment b bs ≡ true → words_in Between left ≡ []
+pub comment_step : (b : ℕ) (left bs : List ℕ) → left ≡ b ∷ bs → opens_comment b bs ≡ true → tokens_in Between left ≡ []
 comment_step b left bs e opens =
     let none = opens-is b bs opens in
-    rw (e, none.0, none.1, opens, or_true (is_blank b)) (in_comment bs)
+    rw (e, none.0, none.1, opens, or_true (is_space b)) (in_comment bs)
 
-pub at_word : (b : ℕ) (left bs : List ℕ) → left ≡ b ∷ bs → is_blank b ≡ false → opens_comment b bs ≡ false → begins_word left ≡ true
-at_word b left bs e blank opens = rw (e, blank, opens) refl
+pub at_token : (b : ℕ) (left bs : List ℕ) → left ≡ b ∷ bs → is_space b ≡ false → opens_comment b bs ≡ false → begins_token left ≡ true
+at_token b left bs e blank opens = rw (e, blank, opens) refl
 
 -- ---- runs
 
 -- behind the run that stands here
-pub run_rest : (bs : List ℕ) → words_in InRun bs ≡ words_in Between (drop (prefix_len is_word_byte bs) bs)
+pub run_rest : (bs : List ℕ) → tokens_in InRun bs ≡ tokens_in Between (drop (prefix_len is_run_byte bs) bs)
 run_rest [] = refl
 run_rest (b ∷ bs) =
-    elim (cases_Bool (is_word_byte b)) [
-      | inl is_one ↦ let one : 1 + prefix_len is_word_byte bs ≡ suc (prefix_len is_word_byte bs) = omega arith in
+    elim (cases_Bool (is_run_byte b)) [
+      | inl is_one ↦ let one : 1 + prefix_len is_run_byte bs ≡ suc (prefix_len is_run_byte bs) = omega arith in
           rw (is_one, one) (run_rest bs)
       | inr is_other ↦ rw is_other (rw is_other refl)
     ]
 
-run_behind : (b n : ℕ) (bs : List ℕ) → n ≡ suc (prefix_len is_word_byte bs) → words_in InRun bs ≡ words_in Between (drop n (b ∷ bs))
+run_behind : (b n : ℕ) (bs : List ℕ) → n ≡ suc (prefix_len is_run_byte bs) → tokens_in InRun bs ≡ tokens_in Between (drop n (b ∷ bs))
 run_behind b n bs e = rw e (run_rest bs)
 
-run_at : (b n : ℕ) (bs : List ℕ) → is_word_byte b ≡ true → n ≡ prefix_len is_word_byte (b ∷ bs) → Begins (b ∷ bs) (Run (take n (b ∷ bs))) (drop n (b ∷ bs))
+run_at : (b n : ℕ) (bs : List ℕ) → is_run_byte b ≡ true → n ≡ prefix_len is_run_byte (b ∷ bs) → Begins (b ∷ bs) (Run (take n (b ∷ bs))) (drop n (b ∷ bs))
 run_at b n bs h e = record {
-  word = rw (e, h) refl;
+  token = rw (e, h) refl;
   rest = rw h (run_behind b n bs (run_len b n bs h e));
 }
 
-pub run_front : (b n : ℕ) (line bs : List ℕ) → line ≡ b ∷ bs → is_word_byte b ≡ true → n ≡ prefix_len is_word_byte line → Begins line (Run (take n line)) (drop n line)
+pub run_front : (b n : ℕ) (line bs : List ℕ) → line ≡ b ∷ bs → is_run_byte b ≡ true → n ≡ prefix_len is_run_byte line → Begins line (Run (take n line)) (drop n line)
 run_front b n line bs e h len = rw e (run_at b n bs h (rw e at len))
 
-percent_at : (n : ℕ) (bs : List ℕ) → n ≡ prefix_len is_word_byte bs → Begins (37 ∷ bs) (Percent (take n bs)) (drop n bs)
-unfolding is_blank is_word_byte is_letter is_digit
-percent_at n bs e = record { word = rw e refl; rest = rw e (run_rest bs) }
+percent_at : (n : ℕ) (bs : List ℕ) → n ≡ prefix_len is_run_byte bs → Begins (37 ∷ bs) (Percent (take n bs)) (drop n bs)
+unfolding is_space is_run_byte is_letter is_digit
+percent_at n bs e = record { token = rw e refl; rest = rw e (run_rest bs) }
 
-pub percent_front : (b n : ℕ) (line bs : List ℕ) → line ≡ b ∷ bs → b ≡ 37 → n ≡ prefix_len is_word_byte bs → Begins line (Percent (take n bs)) (drop n bs)
+pub percent_front : (b n : ℕ) (line bs : List ℕ) → line ≡ b ∷ bs → b ≡ 37 → n ≡ prefix_len is_run_byte bs → Begins line (Percent (take n bs)) (drop n bs)
 percent_front b n line bs e h len = rw (e, h) (percent_at n bs len)
 
 -- ---- strings
@@ -86,9 +86,9 @@ in_string : Bool → Place
 in_string true = Escaped
 in_string false = InString
 
--- the words behind a string of n bytes
-behind_string : Option ℕ → List ℕ → List Word
-behind_string (Some n) bs = words_in Between (drop (suc n) bs)
+-- the tokens behind a string of n bytes
+behind_string : Option ℕ → List ℕ → List Token
+behind_string (Some n) bs = tokens_in Between (drop (suc n) bs)
 behind_string None bs = []
 
 one_more : (o : Option ℕ) (b : ℕ) (bs : List ℕ) → behind_string (option_map (λ n. suc n) o) (b ∷ bs) ≡ behind_string o bs
@@ -96,7 +96,7 @@ unfolding behind_string
 one_more (Some n) b bs = refl
 one_more None b bs = refl
 
-string_over : (escaped : Bool) (bs : List ℕ) → words_in (in_string escaped) bs ≡ behind_string (string_len escaped bs) bs
+string_over : (escaped : Bool) (bs : List ℕ) → tokens_in (in_string escaped) bs ≡ behind_string (string_len escaped bs) bs
 unfolding in_string behind_string
 string_over escaped [] = refl
 string_over true (b ∷ bs) = rw (one_more (string_len false bs) b bs) (string_over false bs)
@@ -110,22 +110,22 @@ string_over false (b ∷ bs) =
           ]
     ]
 
-pub behind_closed : (n : ℕ) (bs : List ℕ) → Some n ≡ string_len false bs → words_in InString bs ≡ words_in Between (drop (n + 1) bs)
+pub behind_closed : (n : ℕ) (bs : List ℕ) → Some n ≡ string_len false bs → tokens_in InString bs ≡ tokens_in Between (drop (n + 1) bs)
 unfolding in_string behind_string
 behind_closed n bs e =
     let one : n + 1 ≡ suc n = omega arith in
     rw one (string_over false bs ∙ ap (λ (o : Option ℕ). behind_string o bs) (sym e))
 
-pub behind_open : (bs : List ℕ) → None ≡ string_len false bs → words_in InString bs ≡ []
+pub behind_open : (bs : List ℕ) → None ≡ string_len false bs → tokens_in InString bs ≡ []
 unfolding in_string behind_string
 behind_open bs e = string_over false bs ∙ ap (λ (o : Option ℕ). behind_string o bs) (sym e)
 
-string_at_front : (bs : List ℕ) (word : Word) (behind : List ℕ) → quoted (string_len false bs) bs ≡ word → words_in InString bs ≡ words_in Between behind → Begins (34 ∷ bs) word behind
-unfolding is_blank is_word_byte is_letter is_digit
-string_at_front bs word behind e f = record { word = e; rest = f }
+string_at_front : (bs : List ℕ) (token : Token) (behind : List ℕ) → quoted (string_len false bs) bs ≡ token → tokens_in InString bs ≡ tokens_in Between behind → Begins (34 ∷ bs) token behind
+unfolding is_space is_run_byte is_letter is_digit
+string_at_front bs token behind e f = record { token = e; rest = f }
 
-pub string_front : (b : ℕ) (line bs : List ℕ) (word : Word) (behind : List ℕ) → line ≡ b ∷ bs → b ≡ 34 → quoted (string_len false bs) bs ≡ word → words_in InString bs ≡ words_in Between behind → Begins line word behind
-string_front b line bs word behind e h f g = rw (e, h) (string_at_front bs word behind f g)
+pub string_front : (b : ℕ) (line bs : List ℕ) (token : Token) (behind : List ℕ) → line ≡ b ∷ bs → b ≡ 34 → quoted (string_len false bs) bs ≡ token → tokens_in InString bs ≡ tokens_in Between behind → Begins line token behind
+string_front b line bs token behind e h f g = rw (e, h) (string_at_front bs token behind f g)
 
 -- one byte of a string on
 counted : (n : ℕ) (o : Option ℕ) → option_map (λ k. n + k) (option_map (λ k. suc k) o) ≡ option_map (λ k. n + 1 + k) o
@@ -137,13 +137,13 @@ string_more n i b escaped next bytes bs e h f = rw (e, h, f) (counted n (string_
 
 -- ---- marks
 
-mark_at_front : (b : ℕ) (bs : List ℕ) → is_word_byte b ≡ false → nat_eq b 37 ≡ false → nat_eq b 34 ≡ false → is_blank b ≡ false → opens_comment b bs ≡ false → Begins (b ∷ bs) (Mark b) bs
+mark_at_front : (b : ℕ) (bs : List ℕ) → is_run_byte b ≡ false → nat_eq b 37 ≡ false → nat_eq b 34 ≡ false → is_space b ≡ false → opens_comment b bs ≡ false → Begins (b ∷ bs) (Mark b) bs
 mark_at_front b bs h percent quote blank opens = record {
-  word = rw (h, percent, quote, blank, opens) refl;
+  token = rw (h, percent, quote, blank, opens) refl;
   rest = rw (h, percent, quote, blank, opens) refl;
 }
 
-pub mark_front : (b : ℕ) (line bs : List ℕ) → line ≡ b ∷ bs → is_word_byte b ≡ false → nat_eq b 37 ≡ false → nat_eq b 34 ≡ false → begins_word line ≡ true → Begins line (Mark b) bs
+pub mark_front : (b : ℕ) (line bs : List ℕ) → line ≡ b ∷ bs → is_run_byte b ≡ false → nat_eq b 37 ≡ false → nat_eq b 34 ≡ false → begins_token line ≡ true → Begins line (Mark b) bs
 mark_front b line bs e h percent quote at =
-    let parts = and_parts (not (is_blank b)) (not (opens_comment b bs)) (rw e at at) in
-    rw e (mark_at_front b bs h percent quote (not-true (is_blank b) parts.0) (not-true (opens_comment b bs) parts.1))
+    let parts = and_parts (not (is_space b)) (not (opens_comment b bs)) (rw e at at) in
+    rw e (mark_at_front b bs h percent quote (not-true (is_space b) parts.0) (not-true (opens_comment b bs) parts.1))

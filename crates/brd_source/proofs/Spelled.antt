@@ -1,37 +1,37 @@
--- What spells words has these words.
+-- What spells tokens has these tokens.
 use Rattle.std.proofs.Common.{◌≡◌, ℕ, ◌+◌, Bool, true, false, not, List, [], ◌∷◌, ◌++◌, length, drop, take, Some, refl, sym, ap, ◌∙◌, append_assoc, length-append}
 use Rattle.std.specs.List.{list_all, prefix_len}
 use Rattle.std.proofs.lemmas.Bool.{and_parts, not-true, ne_eqb}
 use Rattle.std.proofs.lemmas.List.{take_at, drop_at}
-use Rattle.brd_text.specs.Bytes.{is_word_byte}
-use Rattle.brd_text.specs.Spelling.{begins_with_word_byte}
+use Rattle.brd_text.specs.Bytes.{is_run_byte, is_space}
+use Rattle.brd_text.specs.Spelling.{begins_with_run_byte}
 use Rattle.brd_text.proofs.Spelled.{prefix_of_run}
-use Rattle.brd_source.specs.Words.{Word, is_blank, opens_comment, ends_string, escapes, string_len, quoted, words_in, first, others}
-use Rattle.brd_source.specs.Words.Word.{Run, Percent, Quoted, Mark, End}
-use Rattle.brd_source.specs.Words.Place.{Between, InString}
+use Rattle.brd_source.specs.Tokens.{Token, opens_comment, ends_string, escapes, string_len, quoted, tokens_in, first, others}
+use Rattle.brd_source.specs.Tokens.Token.{Run, Percent, Quoted, Mark, End}
+use Rattle.brd_source.specs.Tokens.Place.{Between, InString}
 use Rattle.brd_source.specs.Fronts.{Begins}
 use Rattle.brd_source.specs.Spelling.{stays_open, Spells}
 use Rattle.brd_source.specs.Spelling.Spells.{nothing, blank, sharp_comment, slash_comment, run, percent_run, in_quotes, mark}
 use Rattle.brd_source.proofs.Runs.{blank_step, comment_step, run_front, percent_front, behind_closed, string_front, mark_front}
 
--- a line that begins with a word
-one_word : (words : List Word) (word : Word) → first words ≡ word → (word ≡ End → ⊥) → words ≡ word ∷ others words
-one_word [] word e some = absurd (some (sym e))
-one_word (w ∷ ws) word e some = ap (λ (v : Word). v ∷ ws) e
+-- a line that begins with a token
+one_token : (tokens : List Token) (token : Token) → first tokens ≡ token → (token ≡ End → ⊥) → tokens ≡ token ∷ others tokens
+one_token [] token e some = absurd (some (sym e))
+one_token (w ∷ ws) token e some = ap (λ (v : Token). v ∷ ws) e
 
-pub after_word : (line behind : List ℕ) (word : Word) (words : List Word) → Begins line word behind → (word ≡ End → ⊥) → words_in Between behind ≡ words → words_in Between line ≡ word ∷ words
-after_word line behind word words b some e = one_word (words_in Between line) word b.word some ∙ ap (λ (ws : List Word). word ∷ ws) (b.rest ∙ e)
+pub after_token : (line behind : List ℕ) (token : Token) (tokens : List Token) → Begins line token behind → (token ≡ End → ⊥) → tokens_in Between behind ≡ tokens → tokens_in Between line ≡ token ∷ tokens
+after_token line behind token tokens b some e = one_token (tokens_in Between line) token b.token some ∙ ap (λ (ws : List Token). token ∷ ws) (b.rest ∙ e)
 
-run_begins : (b : ℕ) (bs rest : List ℕ) → list_all is_word_byte (b ∷ bs) ≡ true → begins_with_word_byte rest ≡ false → Begins (b ∷ (bs ++ rest)) (Run (b ∷ bs)) rest
+run_begins : (b : ℕ) (bs rest : List ℕ) → list_all is_run_byte (b ∷ bs) ≡ true → begins_with_run_byte rest ≡ false → Begins (b ∷ (bs ++ rest)) (Run (b ∷ bs)) rest
 run_begins b bs rest h e =
-    let first_byte = and_parts (is_word_byte b) (list_all is_word_byte bs) h in
-    let len : length (b ∷ bs) ≡ prefix_len is_word_byte (b ∷ (bs ++ rest)) = sym (prefix_of_run (b ∷ bs) rest h e) in
+    let first_byte = and_parts (is_run_byte b) (list_all is_run_byte bs) h in
+    let len : length (b ∷ bs) ≡ prefix_len is_run_byte (b ∷ (bs ++ rest)) = sym (prefix_of_run (b ∷ bs) rest h e) in
     let begins = run_front b (length (b ∷ bs)) (b ∷ (bs ++ rest)) (bs ++ rest) refl first_byte.0 len in
     let front : take (length (b ∷ bs)) ((b ∷ bs) ++ rest) ≡ b ∷ bs = take_at (b ∷ bs) rest (length (b ∷ bs)) refl in
     let back : drop (length (b ∷ bs)) ((b ∷ bs) ++ rest) ≡ rest = drop_at (b ∷ bs) rest (length (b ∷ bs)) refl in
     rw (front, back) at begins
 
-percent_begins : (bs rest : List ℕ) → list_all is_word_byte bs ≡ true → begins_with_word_byte rest ≡ false → Begins (37 ∷ (bs ++ rest)) (Percent bs) rest
+percent_begins : (bs rest : List ℕ) → list_all is_run_byte bs ≡ true → begins_with_run_byte rest ≡ false → Begins (37 ∷ (bs ++ rest)) (Percent bs) rest
 percent_begins bs rest h e =
     let begins = percent_front 37 (length bs) (37 ∷ (bs ++ rest)) (bs ++ rest) refl refl (sym (prefix_of_run bs rest h e)) in
     let front : take (length bs) (bs ++ rest) ≡ bs = take_at bs rest (length bs) refl in
@@ -52,19 +52,19 @@ quoted_begins text rest h =
     let split : (text ++ 34 ∷ []) ++ rest ≡ text ++ 34 ∷ rest = append_assoc text (34 ∷ []) rest in
     let one : length text + 1 ≡ length (text ++ 34 ∷ []) = sym (length-append text (34 ∷ [])) in
     let back : drop (length text + 1) (text ++ 34 ∷ rest) ≡ rest = ap (drop (length text + 1)) (sym split) ∙ drop_at (text ++ 34 ∷ []) rest (length text + 1) (sym one) in
-    let word : quoted (string_len false (text ++ 34 ∷ rest)) (text ++ 34 ∷ rest) ≡ Quoted text = rw (len, front) refl in
-    let behind : words_in InString (text ++ 34 ∷ rest) ≡ words_in Between rest = behind_closed (length text) (text ++ 34 ∷ rest) (sym len) ∙ ap (words_in Between) back in
-    string_front 34 (34 ∷ (text ++ 34 ∷ rest)) (text ++ 34 ∷ rest) (Quoted text) rest refl refl word behind
+    let token : quoted (string_len false (text ++ 34 ∷ rest)) (text ++ 34 ∷ rest) ≡ Quoted text = rw (len, front) refl in
+    let behind : tokens_in InString (text ++ 34 ∷ rest) ≡ tokens_in Between rest = behind_closed (length text) (text ++ 34 ∷ rest) (sym len) ∙ ap (tokens_in Between) back in
+    string_front 34 (34 ∷ (text ++ 34 ∷ rest)) (text ++ 34 ∷ rest) (Quoted text) rest refl refl token behind
 
-pub mark_begins : (b : ℕ) (bytes : List ℕ) → is_word_byte b ≡ false → is_blank b ≡ false → opens_comment b bytes ≡ false → (b ≡ 37 → ⊥) → (b ≡ 34 → ⊥) → Begins (b ∷ bytes) (Mark b) bytes
+pub mark_begins : (b : ℕ) (bytes : List ℕ) → is_run_byte b ≡ false → is_space b ≡ false → opens_comment b bytes ≡ false → (b ≡ 37 → ⊥) → (b ≡ 34 → ⊥) → Begins (b ∷ bytes) (Mark b) bytes
 mark_begins b bytes h visible opens percent quote = mark_front b (b ∷ bytes) bytes refl h (ne_eqb b 37 percent) (ne_eqb b 34 quote) (rw (visible, opens) refl)
 
-pub spelled : (bytes : List ℕ) (words : List Word) → Spells bytes words → words_in Between bytes ≡ words
+pub spelled : (bytes : List ℕ) (tokens : List Token) → Spells bytes tokens → tokens_in Between bytes ≡ tokens
 spelled _ _ nothing = refl
-spelled _ _ (blank b bytes words h s) = sym (blank_step b (b ∷ bytes) bytes refl h) ∙ spelled bytes words s
+spelled _ _ (blank b bytes tokens h s) = sym (blank_step b (b ∷ bytes) bytes refl h) ∙ spelled bytes tokens s
 spelled _ _ (sharp_comment comment) = comment_step 35 (35 ∷ comment) comment refl refl
 spelled _ _ (slash_comment comment) = comment_step 47 (47 ∷ 47 ∷ comment) (47 ∷ comment) refl refl
-spelled _ _ (run b bs bytes words h e s) = after_word (b ∷ (bs ++ bytes)) bytes (Run (b ∷ bs)) words (run_begins b bs bytes h e) (λ e. cc) (spelled bytes words s)
-spelled _ _ (percent_run bs bytes words h e s) = after_word (37 ∷ (bs ++ bytes)) bytes (Percent bs) words (percent_begins bs bytes h e) (λ e. cc) (spelled bytes words s)
-spelled _ _ (in_quotes text bytes words h s) = after_word (34 ∷ (text ++ 34 ∷ bytes)) bytes (Quoted text) words (quoted_begins text bytes h) (λ e. cc) (spelled bytes words s)
-spelled _ _ (mark b bytes words h visible opens percent quote s) = after_word (b ∷ bytes) bytes (Mark b) words (mark_begins b bytes h visible opens percent quote) (λ e. cc) (spelled bytes words s)
+spelled _ _ (run b bs bytes tokens h e s) = after_token (b ∷ (bs ++ bytes)) bytes (Run (b ∷ bs)) tokens (run_begins b bs bytes h e) (λ e. cc) (spelled bytes tokens s)
+spelled _ _ (percent_run bs bytes tokens h e s) = after_token (37 ∷ (bs ++ bytes)) bytes (Percent bs) tokens (percent_begins bs bytes h e) (λ e. cc) (spelled bytes tokens s)
+spelled _ _ (in_quotes text bytes tokens h s) = after_token (34 ∷ (text ++ 34 ∷ bytes)) bytes (Quoted text) tokens (quoted_begins text bytes h) (λ e. cc) (spelled bytes tokens s)
+spelled _ _ (mark b bytes tokens h visible opens percent quote s) = after_token (b ∷ bytes) bytes (Mark b) tokens (mark_begins b bytes h visible opens percent quote) (λ e. cc) (spelled bytes tokens s)

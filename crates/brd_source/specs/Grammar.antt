@@ -1,13 +1,13 @@
--- The grammar of lines: which words, of those that bytes spell (Spelling), say what. What a single word stands for (a register, a number, a string)
+-- The grammar of lines: which tokens, of those that bytes spell (Spelling), say what. What a single token stands for (a register, a number, a string)
 -- is shared with the reading: Registers, brd_text's Numbers, Texts. What is read as a line is just what has this form.
 use Rattle.std.specs.Prelude.{◌≡◌, ℕ, ℤ, pos, true, List, [], ◌∷◌, ◌++◌, Some, None, Ok, codes}
 use lib.IntN.{neg_ℤ}
 use Rattle.brd_isa.specs.declared.instruction.AccumulateOp.{AccumulateOp}
 use Rattle.brd_isa.specs.declared.instruction.BranchOp.{BranchOp}
 use Rattle.brd_isa.specs.declared.instruction.BranchOp.TheVariants.{Beq, Bne}
-use Rattle.brd_isa.specs.declared.instruction.BranchSignOp.{BranchSignOp}
 use Rattle.brd_isa.specs.declared.instruction.BranchZeroOp.{BranchZeroOp}
-use Rattle.brd_isa.specs.declared.instruction.BranchZeroOp.TheVariants.{Bgezal}
+use Rattle.brd_isa.specs.declared.instruction.BranchRegimmOp.{BranchRegimmOp}
+use Rattle.brd_isa.specs.declared.instruction.BranchRegimmOp.TheVariants.{Bgezal}
 use Rattle.brd_isa.specs.declared.instruction.CountOp.{CountOp}
 use Rattle.brd_isa.specs.declared.instruction.ImmediateOp.{ImmediateOp}
 use Rattle.brd_isa.specs.declared.instruction.JumpOp.{JumpOp}
@@ -34,53 +34,53 @@ use Rattle.brd_source.specs.declared.statement.Width.TheVariants as width
 use Rattle.brd_source.specs.Registers.{register_of}
 use Rattle.brd_source.specs.Statement.{Expression, Immediate, Instruction, Statement, Line}
 use Rattle.brd_source.specs.Statement.Immediate.{Whole, High, Low}
-use Rattle.brd_source.specs.Statement.Instruction.{Shift, ShiftVariable, ThreeRegisters, Multiply, JumpRegister, JumpLinkRegister, Syscall, Break, Sync, MoveFrom, MoveTo, Product, Accumulate, Count, Trap, TrapImmediate, Jump, Branch, BranchSign, BranchZero, WithImmediate, LoadUpper, Load, Store, Linked, Prefetch}
+use Rattle.brd_source.specs.Statement.Instruction.{Shift, ShiftVariable, ThreeRegisters, Multiply, JumpRegister, JumpLinkRegister, Syscall, Break, Sync, MoveFrom, MoveTo, Product, Accumulate, Count, Trap, TrapImmediate, Jump, Branch, BranchZero, BranchRegimm, WithImmediate, LoadUpper, Load, Store, Linked, Prefetch}
 use Rattle.brd_source.specs.Statement.Statement.{Nothing, Instruct, Org, Align, Space, Data, Text, Equal}
 use Rattle.brd_source.specs.Reading.{zero_expression}
 use Rattle.brd_source.specs.Texts.{text_of}
-use Rattle.brd_source.specs.Words.{Word}
-use Rattle.brd_source.specs.Words.Word.{Run, Percent, Quoted, Mark}
+use Rattle.brd_source.specs.Tokens.{Token}
+use Rattle.brd_source.specs.Tokens.Token.{Run, Percent, Quoted, Mark}
 
 -- the marks , : + - ( ) by their ASCII codes
-abbrev pub comma : Word
+abbrev pub comma : Token
 comma = Mark 44
 
-abbrev pub colon : Word
+abbrev pub colon : Token
 colon = Mark 58
 
-abbrev pub plus : Word
+abbrev pub plus : Token
 plus = Mark 43
 
-abbrev pub minus : Word
+abbrev pub minus : Token
 minus = Mark 45
 
-abbrev pub opened : Word
+abbrev pub opened : Token
 opened = Mark 40
 
-abbrev pub closed : Word
+abbrev pub closed : Token
 closed = Mark 41
 
 -- ---- operands
 
 -- decimal digits, or 0x and hexadecimal digits, below 2 to the 32nd; a - may stand before them
-pub data NumberIs : List Word → ℤ → Type 0 where
+pub data NumberIs : List Token → ℤ → Type 0 where
   unsigned : (run : List ℕ) (n : ℕ) → number_of run ≡ Some n → NumberIs (Run run ∷ []) (pos n)
   negative : (run : List ℕ) (n : ℕ) → number_of run ≡ Some n → NumberIs (minus ∷ Run run ∷ []) (neg_ℤ (pos n))
 
 -- a number, a name, a name + a number, a name - a number
-pub data ExpressionIs : List Word → Expression → Type 0 where
-  number : (words : List Word) (v : ℤ) → NumberIs words v → ExpressionIs words (record { name = None; number = v })
+pub data ExpressionIs : List Token → Expression → Type 0 where
+  number : (tokens : List Token) (v : ℤ) → NumberIs tokens v → ExpressionIs tokens (record { name = None; number = v })
   name : (run : List ℕ) → is_name run ≡ true → ExpressionIs (Run run ∷ []) (record { name = Some run; number = pos 0 })
-  sum : (run : List ℕ) (words : List Word) (v : ℤ) → is_name run ≡ true → NumberIs words v
-      → ExpressionIs (Run run ∷ plus ∷ words) (record { name = Some run; number = v })
-  difference : (run : List ℕ) (words : List Word) (v : ℤ) → is_name run ≡ true → NumberIs words v
-      → ExpressionIs (Run run ∷ minus ∷ words) (record { name = Some run; number = neg_ℤ v })
+  sum : (run : List ℕ) (tokens : List Token) (v : ℤ) → is_name run ≡ true → NumberIs tokens v
+      → ExpressionIs (Run run ∷ plus ∷ tokens) (record { name = Some run; number = v })
+  difference : (run : List ℕ) (tokens : List Token) (v : ℤ) → is_name run ≡ true → NumberIs tokens v
+      → ExpressionIs (Run run ∷ minus ∷ tokens) (record { name = Some run; number = neg_ℤ v })
 
 -- an expression, %hi(expression), %lo(expression); hi and lo in lower case
-pub data ImmediateIs : List Word → Immediate → Type 0 where
-  whole : (words : List Word) (e : Expression) → ExpressionIs words e → ImmediateIs words (Whole e)
-  high : (words : List Word) (e : Expression) → ExpressionIs words e → ImmediateIs (Percent (codes "hi") ∷ opened ∷ (words ++ closed ∷ [])) (High e)
-  low : (words : List Word) (e : Expression) → ExpressionIs words e → ImmediateIs (Percent (codes "lo") ∷ opened ∷ (words ++ closed ∷ [])) (Low e)
+pub data ImmediateIs : List Token → Immediate → Type 0 where
+  whole : (tokens : List Token) (e : Expression) → ExpressionIs tokens e → ImmediateIs tokens (Whole e)
+  high : (tokens : List Token) (e : Expression) → ExpressionIs tokens e → ImmediateIs (Percent (codes "hi") ∷ opened ∷ (tokens ++ closed ∷ [])) (High e)
+  low : (tokens : List Token) (e : Expression) → ExpressionIs tokens e → ImmediateIs (Percent (codes "lo") ∷ opened ∷ (tokens ++ closed ∷ [])) (Low e)
 
 -- a register, a value, or an offset from a register
 pub data Operand : Type 0 where
@@ -89,19 +89,19 @@ pub data Operand : Type 0 where
   At : Immediate → ℕ → Operand
 
 -- a register; an immediate; offset(register), or (register) for the offset 0
-pub data OperandIs : List Word → Operand → Type 0 where
+pub data OperandIs : List Token → Operand → Type 0 where
   register : (run : List ℕ) (r : ℕ) → register_of run ≡ Some r → OperandIs (Run run ∷ []) (Register r)
-  value : (words : List Word) (i : Immediate) → ImmediateIs words i → OperandIs words (Value i)
-  offset : (words : List Word) (i : Immediate) (run : List ℕ) (r : ℕ) → ImmediateIs words i → register_of run ≡ Some r
-      → OperandIs (words ++ opened ∷ Run run ∷ closed ∷ []) (At i r)
+  value : (tokens : List Token) (i : Immediate) → ImmediateIs tokens i → OperandIs tokens (Value i)
+  offset : (tokens : List Token) (i : Immediate) (run : List ℕ) (r : ℕ) → ImmediateIs tokens i → register_of run ≡ Some r
+      → OperandIs (tokens ++ opened ∷ Run run ∷ closed ∷ []) (At i r)
   no_offset : (run : List ℕ) (r : ℕ) → register_of run ≡ Some r → OperandIs (opened ∷ Run run ∷ closed ∷ []) (At (Whole zero_expression) r)
 
 -- operands with commas between them
-pub data OperandsAre : List Word → List Operand → Type 0 where
+pub data OperandsAre : List Token → List Operand → Type 0 where
   none : OperandsAre [] []
-  last : (words : List Word) (operand : Operand) → OperandIs words operand → OperandsAre words (operand ∷ [])
-  more : (words others : List Word) (operand next : Operand) (operands : List Operand) → OperandIs words operand
-      → OperandsAre others (next ∷ operands) → OperandsAre (words ++ comma ∷ others) (operand ∷ next ∷ operands)
+  last : (tokens : List Token) (operand : Operand) → OperandIs tokens operand → OperandsAre tokens (operand ∷ [])
+  more : (tokens others : List Token) (operand next : Operand) (operands : List Operand) → OperandIs tokens operand
+      → OperandsAre others (next ∷ operands) → OperandsAre (tokens ++ comma ∷ others) (operand ∷ next ∷ operands)
 
 -- ---- instructions
 
@@ -133,12 +133,12 @@ pub data Takes : Mnemonic → List Operand → Instruction → Type 0 where
   jump : (op : JumpOp) (target : Expression) → Takes (mnemonics.Jump op) (Value (Whole target) ∷ []) (Jump op target)
   branch : (op : BranchOp) (rs rt : ℕ) (target : Expression)
       → Takes (mnemonics.Branch op) (Register rs ∷ Register rt ∷ Value (Whole target) ∷ []) (Branch op rs rt target)
-  branch_sign : (op : BranchSignOp) (rs : ℕ) (target : Expression)
-      → Takes (mnemonics.BranchSign op) (Register rs ∷ Value (Whole target) ∷ []) (BranchSign op rs target)
   branch_zero : (op : BranchZeroOp) (rs : ℕ) (target : Expression)
       → Takes (mnemonics.BranchZero op) (Register rs ∷ Value (Whole target) ∷ []) (BranchZero op rs target)
+  branch_regimm : (op : BranchRegimmOp) (rs : ℕ) (target : Expression)
+      → Takes (mnemonics.BranchRegimm op) (Register rs ∷ Value (Whole target) ∷ []) (BranchRegimm op rs target)
   with_immediate : (op : ImmediateOp) (rt rs : ℕ) (i : Immediate)
-      → Takes (mnemonics.Immediate op) (Register rt ∷ Register rs ∷ Value i ∷ []) (WithImmediate op rt rs i)
+      → Takes (mnemonics.WithImmediate op) (Register rt ∷ Register rs ∷ Value i ∷ []) (WithImmediate op rt rs i)
   load_upper : (rt : ℕ) (i : Immediate) → Takes mnemonics.LoadUpper (Register rt ∷ Value i ∷ []) (LoadUpper rt i)
   load : (op : LoadOp) (rt base : ℕ) (i : Immediate) → Takes (mnemonics.Load op) (Register rt ∷ At i base ∷ []) (Load op rt base i)
   store : (op : StoreOp) (rt base : ℕ) (i : Immediate) → Takes (mnemonics.Store op) (Register rt ∷ At i base ∷ []) (Store op rt base i)
@@ -152,15 +152,15 @@ pub data ShorthandIs : List ℕ → List Operand → Instruction → Type 0 wher
   always : (target : Expression) → ShorthandIs (codes "b") (Value (Whole target) ∷ []) (Branch Beq 0 0 target)
   if_zero : (rs : ℕ) (target : Expression) → ShorthandIs (codes "beqz") (Register rs ∷ Value (Whole target) ∷ []) (Branch Beq rs 0 target)
   unless_zero : (rs : ℕ) (target : Expression) → ShorthandIs (codes "bnez") (Register rs ∷ Value (Whole target) ∷ []) (Branch Bne rs 0 target)
-  and_link : (target : Expression) → ShorthandIs (codes "bal") (Value (Whole target) ∷ []) (BranchZero Bgezal 0 target)
+  and_link : (target : Expression) → ShorthandIs (codes "bal") (Value (Whole target) ∷ []) (BranchRegimm Bgezal 0 target)
 
 -- ---- statements
 
 -- values with commas between them, one at least
-pub data ValuesAre : List Word → List Expression → Type 0 where
-  one : (words : List Word) (e : Expression) → ExpressionIs words e → ValuesAre words (e ∷ [])
-  many : (words others : List Word) (e : Expression) (es : List Expression) → ExpressionIs words e → ValuesAre others es
-      → ValuesAre (words ++ comma ∷ others) (e ∷ es)
+pub data ValuesAre : List Token → List Expression → Type 0 where
+  one : (tokens : List Token) (e : Expression) → ExpressionIs tokens e → ValuesAre tokens (e ∷ [])
+  many : (tokens others : List Token) (e : Expression) (es : List Expression) → ExpressionIs tokens e → ValuesAre others es
+      → ValuesAre (tokens ++ comma ∷ others) (e ∷ es)
 
 -- the width of each value of a directive
 pub data WidthIs : List ℕ → Width → Type 0 where
@@ -168,35 +168,35 @@ pub data WidthIs : List ℕ → Width → Type 0 where
   half : WidthIs (codes ".half") width.Half
   word : WidthIs (codes ".word") width.Word
 
--- the words behind .set, in lower case only; they have no effect
+-- the tokens behind .set, in lower case only; they have no effect
 pub data IsSetting : List ℕ → Type 0 where
   noreorder : IsSetting (codes "noreorder")
   noat : IsSetting (codes "noat")
   nomacro : IsSetting (codes "nomacro")
 
 -- A mnemonic, a shorthand or a directive, in whatever case, and what stands behind it; or nothing. .globl and .set say nothing.
-pub data StatementIs : List Word → Statement → Type 0 where
+pub data StatementIs : List Token → Statement → Type 0 where
   left_out : StatementIs [] Nothing
-  instruction : (run : List ℕ) (words : List Word) (m : Mnemonic) (operands : List Operand) (i : Instruction)
-      → mnemonic_named (lowered run) ≡ Some m → OperandsAre words operands → Takes m operands i → StatementIs (Run run ∷ words) (Instruct i)
-  shorthand : (run : List ℕ) (words : List Word) (operands : List Operand) (i : Instruction) → OperandsAre words operands
-      → ShorthandIs (lowered run) operands i → StatementIs (Run run ∷ words) (Instruct i)
-  org : (run : List ℕ) (words : List Word) (e : Expression) → lowered run ≡ codes ".org" → ExpressionIs words e → StatementIs (Run run ∷ words) (Org e)
-  align : (run : List ℕ) (words : List Word) (e : Expression) → lowered run ≡ codes ".align" → ExpressionIs words e → StatementIs (Run run ∷ words) (Align e)
-  space : (run : List ℕ) (words : List Word) (e : Expression) → lowered run ≡ codes ".space" → ExpressionIs words e → StatementIs (Run run ∷ words) (Space e)
-  values : (run : List ℕ) (words : List Word) (w : Width) (es : List Expression) → WidthIs (lowered run) w → ValuesAre words es
-      → StatementIs (Run run ∷ words) (Data w es)
+  instruction : (run : List ℕ) (tokens : List Token) (m : Mnemonic) (operands : List Operand) (i : Instruction)
+      → mnemonic_named (lowered run) ≡ Some m → OperandsAre tokens operands → Takes m operands i → StatementIs (Run run ∷ tokens) (Instruct i)
+  shorthand : (run : List ℕ) (tokens : List Token) (operands : List Operand) (i : Instruction) → OperandsAre tokens operands
+      → ShorthandIs (lowered run) operands i → StatementIs (Run run ∷ tokens) (Instruct i)
+  org : (run : List ℕ) (tokens : List Token) (e : Expression) → lowered run ≡ codes ".org" → ExpressionIs tokens e → StatementIs (Run run ∷ tokens) (Org e)
+  align : (run : List ℕ) (tokens : List Token) (e : Expression) → lowered run ≡ codes ".align" → ExpressionIs tokens e → StatementIs (Run run ∷ tokens) (Align e)
+  space : (run : List ℕ) (tokens : List Token) (e : Expression) → lowered run ≡ codes ".space" → ExpressionIs tokens e → StatementIs (Run run ∷ tokens) (Space e)
+  values : (run : List ℕ) (tokens : List Token) (w : Width) (es : List Expression) → WidthIs (lowered run) w → ValuesAre tokens es
+      → StatementIs (Run run ∷ tokens) (Data w es)
   ascii : (run text bytes : List ℕ) → lowered run ≡ codes ".ascii" → text_of text ≡ Ok bytes → StatementIs (Run run ∷ Quoted text ∷ []) (Text bytes)
   asciiz : (run text bytes : List ℕ) → lowered run ≡ codes ".asciiz" → text_of text ≡ Ok bytes
       → StatementIs (Run run ∷ Quoted text ∷ []) (Text (bytes ++ 0 ∷ []))
-  equ : (run given : List ℕ) (words : List Word) (e : Expression) → lowered run ≡ codes ".equ" → is_name given ≡ true → ExpressionIs words e
-      → StatementIs (Run run ∷ Run given ∷ comma ∷ words) (Equal given e)
+  equ : (run given : List ℕ) (tokens : List Token) (e : Expression) → lowered run ≡ codes ".equ" → is_name given ≡ true → ExpressionIs tokens e
+      → StatementIs (Run run ∷ Run given ∷ comma ∷ tokens) (Equal given e)
   globl : (run given : List ℕ) → lowered run ≡ codes ".globl" → is_name given ≡ true → StatementIs (Run run ∷ Run given ∷ []) Nothing
   set : (run setting : List ℕ) → lowered run ≡ codes ".set" → IsSetting setting → StatementIs (Run run ∷ Run setting ∷ []) Nothing
 
 -- any number of labels, each with a colon, and then a statement
-pub data LineIs : List Word → Line → Type 0 where
-  statement : (words : List Word) (s : Statement) → StatementIs words s → LineIs words (record { labels = []; statement = s })
-  label : (run : List ℕ) (words : List Word) (labels : List (List ℕ)) (s : Statement) → is_name run ≡ true
-      → LineIs words (record { labels = labels; statement = s })
-      → LineIs (Run run ∷ colon ∷ words) (record { labels = run ∷ labels; statement = s })
+pub data LineIs : List Token → Line → Type 0 where
+  statement : (tokens : List Token) (s : Statement) → StatementIs tokens s → LineIs tokens (record { labels = []; statement = s })
+  label : (run : List ℕ) (tokens : List Token) (labels : List (List ℕ)) (s : Statement) → is_name run ≡ true
+      → LineIs tokens (record { labels = labels; statement = s })
+      → LineIs (Run run ∷ colon ∷ tokens) (record { labels = run ∷ labels; statement = s })

@@ -1,7 +1,7 @@
 pub mod Statement
 pub mod View
 pub mod Faults
-pub mod Words
+pub mod Tokens
 pub mod Fronts
 pub mod Registers
 pub mod Reading

@@ -4,23 +4,23 @@ use Rattle.std.specs.Prelude.{ℕ, if◌then◌else◌, List, [], ◌∷◌, ◌
 use Rattle.brd_text.specs.Faults.{◌>>=◌}
 use Rattle.brd_source.specs.declared.fault.LineFault.{LineFault}
 use Rattle.brd_source.specs.Statement.{Line}
-use Rattle.brd_source.specs.Words.{Word, words_of}
+use Rattle.brd_source.specs.Tokens.{Token, tokens_of}
 use Rattle.brd_source.specs.Reading.{is_mark, name_at, end_at}
 use Rattle.brd_source.specs.Statements.{statement_at}
 
--- The names with a colon at the front, behind those that are read already, and the words behind them. A word before a colon
+-- The names with a colon at the front, behind those that are read already, and the tokens behind them. A token before a colon
 -- has to be a name.
-abbrev pub labelled : List (List ℕ) → List Word → Result (List (List ℕ) × List Word) LineFault
+abbrev pub labelled : List (List ℕ) → List Token → Result (List (List ℕ) × List Token) LineFault
 labelled labels [] = Ok (labels, [])
-labelled labels (word ∷ []) = Ok (labels, word ∷ [])
-labelled labels (word ∷ mark ∷ words) =
-    if is_mark 58 mark then (name_at (word ∷ mark ∷ words) >>= λ name. labelled (labels ++ name.0 ∷ []) words)
-    else Ok (labels, word ∷ mark ∷ words)
+labelled labels (token ∷ []) = Ok (labels, token ∷ [])
+labelled labels (token ∷ mark ∷ tokens) =
+    if is_mark 58 mark then (name_at (token ∷ mark ∷ tokens) >>= λ name. labelled (labels ++ name.0 ∷ []) tokens)
+    else Ok (labels, token ∷ mark ∷ tokens)
 
 -- what a line says
 unfoldable pub line_of : List ℕ → Result Line LineFault
 line_of bytes = do
-  labels ← labelled [] (words_of bytes)
+  labels ← labelled [] (tokens_of bytes)
   statement ← statement_at labels.1
   ended ← end_at statement.1
   Ok (record { labels = labels.0; statement = statement.0 })

@@ -1,7 +1,7 @@
 -- The registers: $0 to $31, and their names (MD00086, and the System V ABI's names of them) in the order 0 to 31.
-use Rattle.std.specs.Prelude.{ℕ, suc, ◌&&◌, ◌==◌, not, nat_lt, if◌then◌else◌, List, [], ◌∷◌, length, Option, Some, None, codes}
+use Rattle.std.specs.Prelude.{ℕ, suc, ◌==◌, if◌then◌else◌, List, [], ◌∷◌, Option, Some, None, codes}
 use Rattle.std.specs.Str.{bytes_eq}
-use Rattle.brd_text.specs.Numbers.{decimal_of}
+use Rattle.brd_text.specs.Numbers.{plain_decimal_of}
 use Rattle.brd_isa.specs.Names.{◌or_else◌}
 
 -- the place of a name in a list, counted from n
@@ -34,19 +34,10 @@ register_named run =
     place_in high_names 24 run or_else
     other_names run
 
-abbrev pub below_32 : Option ℕ → Option ℕ
-below_32 None = None
-below_32 (Some n) = if nat_lt n 32 then Some n else None
-
--- a decimal number below 32, without leading zeros
-abbrev pub plain_number : List ℕ → Option ℕ
-plain_number [] = None
-plain_number (d ∷ ds) = if (d == 48) && not (length ds == 0) then None else below_32 (decimal_of (d ∷ ds))
-
--- $ and such a number
+-- $ and a decimal number below 32, without leading zeros
 unfoldable pub register_numbered : List ℕ → Option ℕ
 register_numbered [] = None
-register_numbered (b ∷ digits) = if b == 36 then plain_number digits else None
+register_numbered (b ∷ digits) = if b == 36 then plain_decimal_of digits 31 else None
 
 unfoldable pub register_of : List ℕ → Option ℕ
 register_of run = register_numbered run or_else register_named run

@@ -8,13 +8,13 @@ use Rattle.brd_isa.specs.declared.instruction.MoveFromOp.{MoveFromOp}
 use Rattle.brd_isa.specs.declared.instruction.MoveToOp.{MoveToOp}
 use Rattle.brd_isa.specs.declared.instruction.ProductOp.{ProductOp}
 use Rattle.brd_isa.specs.declared.instruction.TrapOp.{TrapOp}
-use Rattle.brd_isa.specs.declared.instruction.BranchZeroOp.{BranchZeroOp}
+use Rattle.brd_isa.specs.declared.instruction.BranchRegimmOp.{BranchRegimmOp}
 use Rattle.brd_isa.specs.declared.instruction.TrapImmediateOp.{TrapImmediateOp}
 use Rattle.brd_isa.specs.declared.instruction.AccumulateOp.{AccumulateOp}
 use Rattle.brd_isa.specs.declared.instruction.CountOp.{CountOp}
 use Rattle.brd_isa.specs.declared.instruction.JumpOp.{JumpOp}
 use Rattle.brd_isa.specs.declared.instruction.BranchOp.{BranchOp}
-use Rattle.brd_isa.specs.declared.instruction.BranchSignOp.{BranchSignOp}
+use Rattle.brd_isa.specs.declared.instruction.BranchZeroOp.{BranchZeroOp}
 use Rattle.brd_isa.specs.declared.instruction.ImmediateOp.{ImmediateOp}
 use Rattle.brd_isa.specs.declared.instruction.LoadOp.{LoadOp}
 use Rattle.brd_isa.specs.declared.instruction.StoreOp.{StoreOp}
@@ -52,8 +52,8 @@ pub data Instruction : Type 0 where
   TrapImmediate : TrapImmediateOp → ℕ → Immediate → Instruction
   Jump : JumpOp → Expression → Instruction
   Branch : BranchOp → ℕ → ℕ → Expression → Instruction
-  BranchSign : BranchSignOp → ℕ → Expression → Instruction
   BranchZero : BranchZeroOp → ℕ → Expression → Instruction
+  BranchRegimm : BranchRegimmOp → ℕ → Expression → Instruction
   WithImmediate : ImmediateOp → ℕ → ℕ → Immediate → Instruction
   LoadUpper : ℕ → Immediate → Instruction
   Load : LoadOp → ℕ → ℕ → Immediate → Instruction

@@ -3,8 +3,8 @@ use Rattle.std.specs.Prelude.{ℕ, Bool, true, false, not, ◌&&◌, ◌==◌, n
 use Rattle.brd_text.specs.Faults.{◌>>=◌, or_fault}
 use Rattle.brd_source.specs.declared.fault.LineFault.{LineFault}
 use Rattle.brd_source.specs.declared.fault.LineFault.TheVariants.{Syntax}
-use Rattle.brd_source.specs.Words.{Word, escapes, first, others}
-use Rattle.brd_source.specs.Words.Word.{Run, Percent, Quoted, Mark, Wrong, End}
+use Rattle.brd_source.specs.Tokens.{Token, escapes, first, others}
+use Rattle.brd_source.specs.Tokens.Token.{Run, Percent, Quoted, Mark, Wrong, End}
 
 -- behind a backslash: n a newline, t a tab, 0 the byte 0, and \ and " themselves
 unfoldable pub escape_of : ℕ → Option ℕ
@@ -33,8 +33,8 @@ text_from text escaped (b ∷ bs) =
 unfoldable pub text_of : List ℕ → Result (List ℕ) LineFault
 text_of bytes = text_from [] false bytes
 
--- the bytes between the quotes of a word that has to be a string
-abbrev pub quoted_of : Word → Result (List ℕ) LineFault
+-- the bytes between the quotes of a token that has to be a string
+abbrev pub quoted_of : Token → Result (List ℕ) LineFault
 quoted_of (Run run) = Err Syntax
 quoted_of (Percent run) = Err Syntax
 quoted_of (Quoted text) = Ok text
@@ -43,8 +43,8 @@ quoted_of Wrong = Err Syntax
 quoted_of End = Err Syntax
 
 -- a string
-unfoldable pub text_at : List Word → Result (List ℕ × List Word) LineFault
-text_at words = do
-  quoted ← quoted_of (first words)
+unfoldable pub text_at : List Token → Result (List ℕ × List Token) LineFault
+text_at tokens = do
+  quoted ← quoted_of (first tokens)
   text ← text_of quoted
-  Ok (text, others words)
+  Ok (text, others tokens)

@@ -10,7 +10,7 @@ use Rattle.brd_source.specs.declared.statement.Statement.TheVariants as statemen
 use Rattle.brd_source.specs.declared.statement.Line as lines
 use Rattle.brd_source.specs.Statement.{Expression, Immediate, Instruction, Statement, Line}
 use Rattle.brd_source.specs.Statement.Immediate.{Whole, High, Low}
-use Rattle.brd_source.specs.Statement.Instruction.{Shift, ShiftVariable, ThreeRegisters, Multiply, JumpRegister, JumpLinkRegister, Syscall, Break, Sync, MoveFrom, MoveTo, Product, Accumulate, Count, Trap, TrapImmediate, Jump, Branch, BranchSign, BranchZero, WithImmediate, LoadUpper, Load, Store, Linked, Prefetch}
+use Rattle.brd_source.specs.Statement.Instruction.{Shift, ShiftVariable, ThreeRegisters, Multiply, JumpRegister, JumpLinkRegister, Syscall, Break, Sync, MoveFrom, MoveTo, Product, Accumulate, Count, Trap, TrapImmediate, Jump, Branch, BranchZero, BranchRegimm, WithImmediate, LoadUpper, Load, Store, Linked, Prefetch}
 use Rattle.brd_source.specs.Statement.Statement.{Nothing, Instruct, Org, Align, Space, Data, Text, Equal}
 
 abbrev pub expression_value : expressions.Expression → Expression
@@ -40,8 +40,8 @@ instruction_value (instruction.Trap op rs rt code) = Trap op rs rt (expression_v
 instruction_value (instruction.TrapImmediate op rs value) = TrapImmediate op rs (immediate_value value)
 instruction_value (instruction.Jump op target) = Jump op (expression_value target)
 instruction_value (instruction.Branch op rs rt target) = Branch op rs rt (expression_value target)
-instruction_value (instruction.BranchSign op rs target) = BranchSign op rs (expression_value target)
 instruction_value (instruction.BranchZero op rs target) = BranchZero op rs (expression_value target)
+instruction_value (instruction.BranchRegimm op rs target) = BranchRegimm op rs (expression_value target)
 instruction_value (instruction.WithImmediate op rt rs value) = WithImmediate op rt rs (immediate_value value)
 instruction_value (instruction.LoadUpper rt value) = LoadUpper rt (immediate_value value)
 instruction_value (instruction.Load op rt base offset) = Load op rt base (immediate_value offset)
@@ -55,9 +55,9 @@ statement_value (statement.Instruction i) = Instruct (instruction_value i)
 statement_value (statement.Org place) = Org (expression_value place)
 statement_value (statement.Align n) = Align (expression_value n)
 statement_value (statement.Space n) = Space (expression_value n)
-statement_value (statement.Data width values) = Data width (map expression_value values.items)
-statement_value (statement.Text bytes) = Text bytes.items
+statement_value (statement.Data width values) = Data width (map expression_value values)
+statement_value (statement.Text bytes) = Text bytes
 statement_value (statement.Equal name value) = Equal name.now (expression_value value)
 
 abbrev pub line_value : lines.Line → Line
-line_value l = record { labels = map (λ name. name.now) l.labels.items; statement = statement_value l.statement }
+line_value l = record { labels = map (λ name. name.now) l.labels; statement = statement_value l.statement }

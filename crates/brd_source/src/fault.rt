@@ -1,31 +1,23 @@
 //! Why a line is no statement.
 
 ghost use Rattle.std.specs.Prelude.{◌≡◌};
-ghost use Rattle.brd_source.specs.declared.fault.LineFault.TheVariants.{NoMemory};
+ghost use Rattle.brd_source.specs.declared.fault.LineFault.TheVariants.{NoMemory as no_memory};
 
-use std::alloc::{AllocError, AllocFailed};
+use brd_base::NoMemory;
 
 /// What keeps a line from being read.
 #[derive(Clone, Copy, Debug, PartialEq, Eq)]
 pub enum LineFault {
-    /// Memory ran out.
+    /// The program ran out of memory.
     NoMemory,
     /// The line has none of the language's forms.
     Syntax,
 }
 
-impl From<AllocError> for LineFault {
-    ghost from_gives = { λ _ e. e ≡ NoMemory };
+impl From<NoMemory> for LineFault {
+    ghost from_gives = { λ _ e. e ≡ no_memory };
 
-    fn from(_e: AllocError) -> LineFault {
-        LineFault::NoMemory
-    }
-}
-
-impl<T: Drop> From<AllocFailed<T>> for LineFault {
-    ghost from_gives = { λ _ e. e ≡ NoMemory };
-
-    fn from(_e: AllocFailed<T>) -> LineFault {
+    fn from(_e: NoMemory) -> LineFault {
         LineFault::NoMemory
     }
 }

@@ -2,6 +2,7 @@
 #![tactic(auto)]
 
 mod fault;
+pub mod laws;
 mod line;
 mod operands;
 mod reading;
@@ -13,8 +14,7 @@ mod text;
 mod token;
 
 pub use fault::LineFault;
-pub use line::{lines_follow_the_grammar, lines_have_names, parse_line};
-pub use scanner::{scanned_words_are_spelled, spelled_words_are_scanned};
+pub use line::parse_line;
 pub use statement::{Expression, Immediate, Instruction, Line, Statement, Width};
 
 #[cfg(test)]

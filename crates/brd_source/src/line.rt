@@ -1,15 +1,11 @@
 //! A whole line.
 
-ghost use Rattle.std.specs.Prelude.{◌≡◌, ◌↔◌, [], map, Ok, List, ℕ};
+ghost use Rattle.std.specs.Prelude.{◌≡◌, [], map};
 ghost use Rattle.brd_source.specs.Faults.{Gives};
-ghost use Rattle.brd_source.specs.Grammar.{LineIs};
 ghost use Rattle.brd_source.specs.Lines as lines;
-ghost use Rattle.brd_source.specs.Names.{HasNames};
 ghost use Rattle.brd_source.specs.Reading.{is_mark};
-ghost use Rattle.brd_source.specs.Spelling.{Spells};
-ghost use Rattle.brd_source.specs.Statement.{Line as Said};
 ghost use Rattle.brd_source.specs.View.{line_value};
-ghost use Rattle.brd_source.specs.Words.{Word, words_of, first, others};
+ghost use Rattle.brd_source.specs.Tokens.{first, others};
 
 use crate::fault::LineFault;
 use crate::reading::{end, name};
@@ -17,23 +13,24 @@ use crate::scanner::Scanner;
 use crate::statement::Line;
 use crate::statements::statement;
 use crate::token::Token;
+use brd_base::List;
 use std::alloc::Global;
 
-/// Whether a colon stands behind the word at the front.
-fn has_label(words: &Scanner) -> bool
-    ensures { result ≡ is_mark 58 (first (others words.now)) }
+/// Whether a colon stands behind the token at the front.
+fn has_label(tokens: &Scanner) -> bool
+    ensures { result ≡ is_mark 58 (first (others tokens.now)) }
 {
-    matches!(words.peek_behind(), Token::Mark(b':'))
+    matches!(tokens.peek_behind(), Token::Mark(b':'))
 }
 
 /// Takes the names with a colon.
-fn labels<'a>(alloc: Global, words: &mut Scanner<'a>) -> Result<Vec<&'a [u8]>, LineFault>
-    ensures { Gives (λ labels. (map (λ name. name.now) labels.items, words.new)) result (lines.labelled [] words.old) }
+fn labels<'a>(alloc: Global, tokens: &mut Scanner<'a>) -> Result<List<&'a [u8]>, LineFault>
+    ensures { Gives (λ labels. (map (λ name. name.now) labels, tokens.new)) result (lines.labelled [] tokens.old) }
 {
-    let mut labels = Vec::new(alloc);
-    'labels: while has_label(words) {
-        let label = name(words)?;
-        words.next();
+    let mut labels = List::new(alloc);
+    'labels: while has_label(tokens) {
+        let label = name(tokens)?;
+        tokens.next();
         labels.push(label)?;
     }
     Ok(labels)
@@ -48,21 +45,9 @@ fn labels<'a>(alloc: Global, words: &mut Scanner<'a>) -> Result<Vec<&'a [u8]>, L
 pub fn parse_line<'a>(alloc: Global, bytes: &'a [u8]) -> Result<Line<'a>, LineFault>
     ensures { Gives line_value result (lines.line_of bytes.now) }
 {
-    let mut words = Scanner::new(bytes);
-    let labels = labels(alloc, &mut words)?;
-    let statement = statement(alloc, &mut words)?;
-    end(&words)?;
+    let mut tokens = Scanner::new(bytes);
+    let labels = labels(alloc, &mut tokens)?;
+    let statement = statement(alloc, &mut tokens)?;
+    end(&tokens)?;
     Ok(Line { labels, statement })
 }
-
-/// The labels of a line are names, and so is what its statement gives a value to.
-pub fn lines_have_names()
-    ensures { (bytes : List ℕ) (line : Said) → lines.line_of bytes ≡ Ok line → HasNames line }
-{}
-
-/// What is read as a line is just what has the form of one, by the words that its bytes have, and so by any words that
-/// its bytes spell; and it is read as what these say.
-pub fn lines_follow_the_grammar()
-    ensures exact { (bytes : List ℕ) (line : Said) → (lines.line_of bytes ≡ Ok line) ↔ LineIs (words_of bytes) line }
-    ensures spelled { (bytes : List ℕ) (line : Said) → (lines.line_of bytes ≡ Ok line) ↔ ((words : List Word) × Spells bytes words × LineIs words line) }
-{}

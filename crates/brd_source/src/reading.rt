@@ -4,7 +4,7 @@ ghost use Rattle.std.specs.Prelude.{◌≡◌, ◌<◌, ◌≤◌, pos, neg_ℤ,
 ghost use Rattle.brd_source.specs.Faults.{Gives};
 ghost use Rattle.brd_source.specs.Reading as reads;
 ghost use Rattle.brd_source.specs.View.{expression_value, immediate_value};
-ghost use Rattle.brd_source.specs.Words.{first, others, seen};
+ghost use Rattle.brd_source.specs.Tokens.{first, others, seen};
 
 use crate::fault::LineFault;
 use crate::register::register_of;
@@ -19,36 +19,36 @@ pub(crate) const ZERO: Expression<'static> = Expression {
     number: 0,
 };
 
-/// Whether a word is this mark.
-fn is_mark(mark: u8, word: Token) -> bool
-    ensures { result ≡ reads.is_mark mark (seen word.entry) }
+/// Whether a token is this mark.
+fn is_mark(mark: u8, token: Token) -> bool
+    ensures { result ≡ reads.is_mark mark (seen token.entry) }
 {
-    matches!(word, Token::Mark(found) if found == mark)
+    matches!(token, Token::Mark(found) if found == mark)
 }
 
 /// Whether this mark stands at the front.
-pub(crate) fn has_mark(words: &Scanner, mark: u8) -> bool
-    ensures { result ≡ reads.is_mark mark (first words.now) }
+pub(crate) fn has_mark(tokens: &Scanner, mark: u8) -> bool
+    ensures { result ≡ reads.is_mark mark (first tokens.now) }
 {
-    is_mark(mark, words.peek())
+    is_mark(mark, tokens.peek())
 }
 
 /// Whether the line ends here.
-pub(crate) fn is_end(words: &Scanner) -> bool
-    ensures { result ≡ reads.is_end (first words.now) }
+pub(crate) fn is_end(tokens: &Scanner) -> bool
+    ensures { result ≡ reads.is_end (first tokens.now) }
 {
-    matches!(words.peek(), Token::End)
+    matches!(tokens.peek(), Token::End)
 }
 
 /// Takes this mark where it stands at the front, and says whether it does.
 #[tactic(auto, unfolding(crate::specs::Reading::past))]
-pub(crate) fn take_mark(words: &mut Scanner, mark: u8) -> bool
-    ensures is { result ≡ reads.is_mark mark (first words.old) }
-    ensures behind { words.new ≡ reads.past mark words.old }
-    ensures room { length words.new ≤ length words.old }
+pub(crate) fn take_mark(tokens: &mut Scanner, mark: u8) -> bool
+    ensures is { result ≡ reads.is_mark mark (first tokens.old) }
+    ensures behind { tokens.new ≡ reads.past mark tokens.old }
+    ensures room { length tokens.new ≤ length tokens.old }
 {
-    if has_mark(words, mark) {
-        words.next();
+    if has_mark(tokens, mark) {
+        tokens.next();
         return true;
     }
     false
@@ -56,23 +56,23 @@ pub(crate) fn take_mark(words: &mut Scanner, mark: u8) -> bool
 
 /// Takes this mark.
 #[tactic(auto, unfolding(crate::specs::Reading::mark_at))]
-pub(crate) fn mark(words: &mut Scanner, mark: u8) -> Result<(), LineFault>
-    ensures read { Gives (λ _. words.new) result (reads.mark_at mark words.old) }
-    ensures shorter { OnOk result (length words.new < length words.old) }
+pub(crate) fn mark(tokens: &mut Scanner, mark: u8) -> Result<(), LineFault>
+    ensures read { Gives (λ _. tokens.new) result (reads.mark_at mark tokens.old) }
+    ensures shorter { OnOk result (length tokens.new < length tokens.old) }
 {
-    if is_mark(mark, words.next()) {
+    if is_mark(mark, tokens.next()) {
         return Ok(());
     }
     Err(LineFault::Syntax)
 }
 
-/// Takes a run of word bytes.
+/// Takes a run.
 #[tactic(auto, unfolding(crate::specs::Reading::run_at))]
-pub(crate) fn run<'a>(words: &mut Scanner<'a>) -> Result<&'a [u8], LineFault>
-    ensures read { Gives (λ run. (run.now, words.new)) result (reads.run_at words.old) }
-    ensures shorter { OnOk result (length words.new < length words.old) }
+pub(crate) fn run<'a>(tokens: &mut Scanner<'a>) -> Result<&'a [u8], LineFault>
+    ensures read { Gives (λ run. (run.now, tokens.new)) result (reads.run_at tokens.old) }
+    ensures shorter { OnOk result (length tokens.new < length tokens.old) }
 {
-    match words.next() {
+    match tokens.next() {
         Token::Run(run) => Ok(run),
         _ => Err(LineFault::Syntax),
     }
@@ -80,10 +80,10 @@ pub(crate) fn run<'a>(words: &mut Scanner<'a>) -> Result<&'a [u8], LineFault>
 
 /// Sees to it that the line ends here.
 #[tactic(auto, unfolding(crate::specs::Reading::end_at))]
-pub(crate) fn end(words: &Scanner) -> Result<(), LineFault>
-    ensures { Gives (λ x. x) result (reads.end_at words.now) }
+pub(crate) fn end(tokens: &Scanner) -> Result<(), LineFault>
+    ensures { Gives (λ x. x) result (reads.end_at tokens.now) }
 {
-    if is_end(words) {
+    if is_end(tokens) {
         return Ok(());
     }
     Err(LineFault::Syntax)
@@ -91,11 +91,11 @@ pub(crate) fn end(words: &Scanner) -> Result<(), LineFault>
 
 /// Takes a name.
 #[tactic(auto, unfolding(crate::specs::Reading::name_at))]
-pub(crate) fn name<'a>(words: &mut Scanner<'a>) -> Result<&'a [u8], LineFault>
-    ensures read { Gives (λ run. (run.now, words.new)) result (reads.name_at words.old) }
-    ensures shorter { OnOk result (length words.new < length words.old) }
+pub(crate) fn name<'a>(tokens: &mut Scanner<'a>) -> Result<&'a [u8], LineFault>
+    ensures read { Gives (λ run. (run.now, tokens.new)) result (reads.name_at tokens.old) }
+    ensures shorter { OnOk result (length tokens.new < length tokens.old) }
 {
-    let run = run(words)?;
+    let run = run(tokens)?;
     if brd_text::is_name(run) {
         return Ok(run);
     }
@@ -104,10 +104,10 @@ pub(crate) fn name<'a>(words: &mut Scanner<'a>) -> Result<&'a [u8], LineFault>
 
 /// Takes a register.
 #[tactic(auto, unfolding(crate::specs::Reading::register_at))]
-pub(crate) fn register(words: &mut Scanner) -> Result<Register, LineFault>
-    ensures { Gives (λ r. (r, words.new)) result (reads.register_at words.old) }
+pub(crate) fn register(tokens: &mut Scanner) -> Result<Register, LineFault>
+    ensures { Gives (λ r. (r, tokens.new)) result (reads.register_at tokens.old) }
 {
-    let run = run(words)?;
+    let run = run(tokens)?;
     match register_of(run) {
         Some(register) => Ok(register),
         None => Err(LineFault::Syntax),
@@ -116,11 +116,11 @@ pub(crate) fn register(words: &mut Scanner) -> Result<Register, LineFault>
 
 /// Takes a number without a sign.
 #[tactic(auto, unfolding(crate::specs::Reading::unsigned_at))]
-fn unsigned(words: &mut Scanner) -> Result<u32, LineFault>
-    ensures read { Gives (λ n. (n, words.new)) result (reads.unsigned_at words.old) }
-    ensures shorter { OnOk result (length words.new < length words.old) }
+fn unsigned(tokens: &mut Scanner) -> Result<u32, LineFault>
+    ensures read { Gives (λ n. (n, tokens.new)) result (reads.unsigned_at tokens.old) }
+    ensures shorter { OnOk result (length tokens.new < length tokens.old) }
 {
-    let run = run(words)?;
+    let run = run(tokens)?;
     match brd_text::number(run) {
         Some(number) => Ok(number),
         None => Err(LineFault::Syntax),
@@ -141,14 +141,14 @@ fn signed(is_negative: bool, number: u32) -> i64
 
 /// Takes a number, which may have a sign.
 #[tactic(auto, unfolding(crate::specs::Reading::number_at))]
-fn number(words: &mut Scanner) -> Result<i64, LineFault>
-    ensures read { Gives (λ n. (n, words.new)) result (reads.number_at words.old) }
+fn number(tokens: &mut Scanner) -> Result<i64, LineFault>
+    ensures read { Gives (λ n. (n, tokens.new)) result (reads.number_at tokens.old) }
     ensures least { IfOk result (λ n. neg_ℤ (pos 4294967295) ≤ℤ n) }
     ensures most { IfOk result (λ n. n ≤ℤ pos 4294967295) }
-    ensures shorter { OnOk result (length words.new < length words.old) }
+    ensures shorter { OnOk result (length tokens.new < length tokens.old) }
 {
-    let is_negative = take_mark(words, b'-');
-    let number = unsigned(words)?;
+    let is_negative = take_mark(tokens, b'-');
+    let number = unsigned(tokens)?;
     Ok(signed(is_negative, number))
 }
 
@@ -162,27 +162,27 @@ fn negated(number: i64) -> i64
 
 /// Takes what may stand behind a name: `+` or `-` and a number.
 #[tactic(auto, unfolding(crate::specs::Reading::addend_at))]
-fn addend(words: &mut Scanner) -> Result<i64, LineFault>
-    ensures read { Gives (λ n. (n, words.new)) result (reads.addend_at words.old) }
-    ensures room { OnOk result (length words.new ≤ length words.old) }
+fn addend(tokens: &mut Scanner) -> Result<i64, LineFault>
+    ensures read { Gives (λ n. (n, tokens.new)) result (reads.addend_at tokens.old) }
+    ensures room { OnOk result (length tokens.new ≤ length tokens.old) }
 {
-    if has_mark(words, b'+') {
-        words.next();
-        return number(words);
+    if has_mark(tokens, b'+') {
+        tokens.next();
+        return number(tokens);
     }
-    if has_mark(words, b'-') {
-        words.next();
-        let number = number(words)?;
+    if has_mark(tokens, b'-') {
+        tokens.next();
+        let number = number(tokens)?;
         return Ok(negated(number));
     }
     Ok(0)
 }
 
 /// Whether a name stands at the front.
-fn has_name(words: &Scanner) -> bool
-    ensures { result ≡ reads.is_name_word (first words.now) }
+fn has_name(tokens: &Scanner) -> bool
+    ensures { result ≡ reads.is_name_token (first tokens.now) }
 {
-    match words.peek() {
+    match tokens.peek() {
         Token::Run(run) => brd_text::is_name(run),
         _ => false,
     }
@@ -190,12 +190,12 @@ fn has_name(words: &Scanner) -> bool
 
 /// Takes a name and what may stand behind it.
 #[tactic(auto, unfolding(crate::specs::Reading::name_sum_at))]
-fn name_sum<'a>(words: &mut Scanner<'a>) -> Result<Expression<'a>, LineFault>
-    ensures read { Gives (λ e. (expression_value e, words.new)) result (reads.name_sum_at words.old) }
-    ensures shorter { OnOk result (length words.new < length words.old) }
+fn name_sum<'a>(tokens: &mut Scanner<'a>) -> Result<Expression<'a>, LineFault>
+    ensures read { Gives (λ e. (expression_value e, tokens.new)) result (reads.name_sum_at tokens.old) }
+    ensures shorter { OnOk result (length tokens.new < length tokens.old) }
 {
-    let run = run(words)?;
-    let number = addend(words)?;
+    let run = run(tokens)?;
+    let number = addend(tokens)?;
     Ok(Expression {
         name: Some(run),
         number,
@@ -204,24 +204,24 @@ fn name_sum<'a>(words: &mut Scanner<'a>) -> Result<Expression<'a>, LineFault>
 
 /// Takes a number as an expression.
 #[tactic(auto, unfolding(crate::specs::Reading::plain_at))]
-fn plain<'a>(words: &mut Scanner<'a>) -> Result<Expression<'a>, LineFault>
-    ensures read { Gives (λ e. (expression_value e, words.new)) result (reads.plain_at words.old) }
-    ensures shorter { OnOk result (length words.new < length words.old) }
+fn plain<'a>(tokens: &mut Scanner<'a>) -> Result<Expression<'a>, LineFault>
+    ensures read { Gives (λ e. (expression_value e, tokens.new)) result (reads.plain_at tokens.old) }
+    ensures shorter { OnOk result (length tokens.new < length tokens.old) }
 {
-    let number = number(words)?;
+    let number = number(tokens)?;
     Ok(Expression { name: None, number })
 }
 
 /// Takes an expression.
 #[tactic(auto, unfolding(crate::specs::Reading::expression_at))]
-pub(crate) fn expression<'a>(words: &mut Scanner<'a>) -> Result<Expression<'a>, LineFault>
-    ensures read { Gives (λ e. (expression_value e, words.new)) result (reads.expression_at words.old) }
-    ensures shorter { OnOk result (length words.new < length words.old) }
+pub(crate) fn expression<'a>(tokens: &mut Scanner<'a>) -> Result<Expression<'a>, LineFault>
+    ensures read { Gives (λ e. (expression_value e, tokens.new)) result (reads.expression_at tokens.old) }
+    ensures shorter { OnOk result (length tokens.new < length tokens.old) }
 {
-    if has_name(words) {
-        return name_sum(words);
+    if has_name(tokens) {
+        return name_sum(tokens);
     }
-    plain(words)
+    plain(tokens)
 }
 
 /// `%hi` or `%lo` of an expression, by the run behind the `%`.
@@ -239,119 +239,119 @@ fn half<'a>(run: &[u8], expression: Expression<'a>) -> Result<Immediate<'a>, Lin
 
 /// Takes what stands behind `%hi` or `%lo`.
 #[tactic(auto, unfolding(crate::specs::Reading::half_at))]
-fn half_behind<'a>(words: &mut Scanner<'a>, run: &[u8]) -> Result<Immediate<'a>, LineFault>
-    ensures { Gives (λ i. (immediate_value i, words.new)) result (reads.half_at run.now words.old) }
+fn half_behind<'a>(tokens: &mut Scanner<'a>, run: &[u8]) -> Result<Immediate<'a>, LineFault>
+    ensures { Gives (λ i. (immediate_value i, tokens.new)) result (reads.half_at run.now tokens.old) }
 {
-    mark(words, b'(')?;
-    let expression = expression(words)?;
-    mark(words, b')')?;
+    mark(tokens, b'(')?;
+    let expression = expression(tokens)?;
+    mark(tokens, b')')?;
     half(run, expression)
 }
 
 /// Takes an expression as an immediate.
 #[tactic(auto, unfolding(crate::specs::Reading::whole_at))]
-fn whole<'a>(words: &mut Scanner<'a>) -> Result<Immediate<'a>, LineFault>
-    ensures { Gives (λ i. (immediate_value i, words.new)) result (reads.whole_at words.old) }
+fn whole<'a>(tokens: &mut Scanner<'a>) -> Result<Immediate<'a>, LineFault>
+    ensures { Gives (λ i. (immediate_value i, tokens.new)) result (reads.whole_at tokens.old) }
 {
-    let expression = expression(words)?;
+    let expression = expression(tokens)?;
     Ok(Immediate::Whole(expression))
 }
 
 /// Takes an immediate.
 #[tactic(auto, unfolding(crate::specs::Reading::immediate_at))]
-pub(crate) fn immediate<'a>(words: &mut Scanner<'a>) -> Result<Immediate<'a>, LineFault>
-    ensures { Gives (λ i. (immediate_value i, words.new)) result (reads.immediate_at words.old) }
+pub(crate) fn immediate<'a>(tokens: &mut Scanner<'a>) -> Result<Immediate<'a>, LineFault>
+    ensures { Gives (λ i. (immediate_value i, tokens.new)) result (reads.immediate_at tokens.old) }
 {
-    if let Token::Percent(run) = words.peek() {
-        words.next();
-        return half_behind(words, run);
+    if let Token::Percent(run) = tokens.peek() {
+        tokens.next();
+        return half_behind(tokens, run);
     }
-    whole(words)
+    whole(tokens)
 }
 
 /// Takes an offset, where one stands before the parenthesis of its register.
 #[tactic(auto, unfolding(crate::specs::Reading::offset_at))]
-pub(crate) fn offset<'a>(words: &mut Scanner<'a>) -> Result<Immediate<'a>, LineFault>
-    ensures { Gives (λ i. (immediate_value i, words.new)) result (reads.offset_at words.old) }
+pub(crate) fn offset<'a>(tokens: &mut Scanner<'a>) -> Result<Immediate<'a>, LineFault>
+    ensures { Gives (λ i. (immediate_value i, tokens.new)) result (reads.offset_at tokens.old) }
 {
-    if has_mark(words, b'(') {
+    if has_mark(tokens, b'(') {
         return Ok(Immediate::Whole(ZERO));
     }
-    immediate(words)
+    immediate(tokens)
 }
 
 /// Takes a register in parentheses.
 #[tactic(auto, unfolding(crate::specs::Reading::base_at))]
-pub(crate) fn base(words: &mut Scanner) -> Result<Register, LineFault>
-    ensures { Gives (λ r. (r, words.new)) result (reads.base_at words.old) }
+pub(crate) fn base(tokens: &mut Scanner) -> Result<Register, LineFault>
+    ensures { Gives (λ r. (r, tokens.new)) result (reads.base_at tokens.old) }
 {
-    mark(words, b'(')?;
-    let base = register(words)?;
-    mark(words, b')')?;
+    mark(tokens, b'(')?;
+    let base = register(tokens)?;
+    mark(tokens, b')')?;
     Ok(base)
 }
 
 /// Takes `register ,`.
 #[tactic(auto, unfolding(crate::specs::Reading::register_comma_at))]
-pub(crate) fn register_comma(words: &mut Scanner) -> Result<Register, LineFault>
-    ensures { Gives (λ r. (r, words.new)) result (reads.register_comma_at words.old) }
+pub(crate) fn register_comma(tokens: &mut Scanner) -> Result<Register, LineFault>
+    ensures { Gives (λ r. (r, tokens.new)) result (reads.register_comma_at tokens.old) }
 {
-    let register = register(words)?;
-    mark(words, b',')?;
+    let register = register(tokens)?;
+    mark(tokens, b',')?;
     Ok(register)
 }
 
 /// Takes `register , register`.
 #[tactic(auto, unfolding(crate::specs::Reading::two_registers_at))]
-pub(crate) fn two_registers(words: &mut Scanner) -> Result<(Register, Register), LineFault>
-    ensures { Gives (λ r. (r.0, r.1, words.new)) result (reads.two_registers_at words.old) }
+pub(crate) fn two_registers(tokens: &mut Scanner) -> Result<(Register, Register), LineFault>
+    ensures { Gives (λ r. (r.0, r.1, tokens.new)) result (reads.two_registers_at tokens.old) }
 {
-    let first = register_comma(words)?;
-    let second = register(words)?;
+    let first = register_comma(tokens)?;
+    let second = register(tokens)?;
     Ok((first, second))
 }
 
 /// Takes `register , register ,`.
 #[tactic(auto, unfolding(crate::specs::Reading::two_registers_comma_at))]
-pub(crate) fn two_registers_comma(words: &mut Scanner) -> Result<(Register, Register), LineFault>
-    ensures { Gives (λ r. (r.0, r.1, words.new)) result (reads.two_registers_comma_at words.old) }
+pub(crate) fn two_registers_comma(tokens: &mut Scanner) -> Result<(Register, Register), LineFault>
+    ensures { Gives (λ r. (r.0, r.1, tokens.new)) result (reads.two_registers_comma_at tokens.old) }
 {
-    let first = register_comma(words)?;
-    let second = register_comma(words)?;
+    let first = register_comma(tokens)?;
+    let second = register_comma(tokens)?;
     Ok((first, second))
 }
 
 /// Takes `register , register , register`.
 #[tactic(auto, unfolding(crate::specs::Reading::three_registers_at))]
 pub(crate) fn three_registers(
-    words: &mut Scanner,
+    tokens: &mut Scanner,
 ) -> Result<(Register, Register, Register), LineFault>
-    ensures { Gives (λ r. (r.0, r.1, r.2, words.new)) result (reads.three_registers_at words.old) }
+    ensures { Gives (λ r. (r.0, r.1, r.2, tokens.new)) result (reads.three_registers_at tokens.old) }
 {
-    let first = register_comma(words)?;
-    let (second, third) = two_registers(words)?;
+    let first = register_comma(tokens)?;
+    let (second, third) = two_registers(tokens)?;
     Ok((first, second, third))
 }
 
 /// Takes a code, where the line goes on.
 #[tactic(auto, unfolding(crate::specs::Reading::code_at))]
-pub(crate) fn code<'a>(words: &mut Scanner<'a>) -> Result<Expression<'a>, LineFault>
-    ensures { Gives (λ e. (expression_value e, words.new)) result (reads.code_at words.old) }
+pub(crate) fn code<'a>(tokens: &mut Scanner<'a>) -> Result<Expression<'a>, LineFault>
+    ensures { Gives (λ e. (expression_value e, tokens.new)) result (reads.code_at tokens.old) }
 {
-    if is_end(words) {
+    if is_end(tokens) {
         return Ok(ZERO);
     }
-    expression(words)
+    expression(tokens)
 }
 
 /// Takes a comma and a code, where a comma stands here.
 #[tactic(auto, unfolding(crate::specs::Reading::comma_code_at))]
-pub(crate) fn comma_code<'a>(words: &mut Scanner<'a>) -> Result<Expression<'a>, LineFault>
-    ensures { Gives (λ e. (expression_value e, words.new)) result (reads.comma_code_at words.old) }
+pub(crate) fn comma_code<'a>(tokens: &mut Scanner<'a>) -> Result<Expression<'a>, LineFault>
+    ensures { Gives (λ e. (expression_value e, tokens.new)) result (reads.comma_code_at tokens.old) }
 {
-    if has_mark(words, b',') {
-        words.next();
-        return expression(words);
+    if has_mark(tokens, b',') {
+        tokens.next();
+        return expression(tokens);
     }
     Ok(ZERO)
 }

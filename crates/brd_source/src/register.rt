@@ -1,9 +1,11 @@
 //! The names of the registers.
 
 ghost use Rattle.std.specs.Prelude.{◌≡◌};
+ghost use Rattle.brd_text.specs.Numbers.{plain_decimal_of};
 ghost use Rattle.brd_source.specs.Registers as registers;
 
 use brd_isa::Register;
+use brd_text::plain_decimal;
 
 /// `$zero` to `$a3`: 0 to 7.
 fn low_register(run: &[u8]) -> Option<Register>
@@ -149,19 +151,14 @@ fn register_named(run: &[u8]) -> Option<Register>
     (run == b"$s8".as_slice()).then_some(Register::low(30))
 }
 
-/// A decimal number below 32, without leading zeros.
-fn plain_number(digits: &[u8]) -> Option<Register>
-    ensures { result ≡ registers.plain_number digits.now }
+/// The register of a decimal number below 32, without leading zeros.
+fn register_at(digits: &[u8]) -> Option<Register>
+    ensures { result ≡ plain_decimal_of digits.now 31 }
 {
-    let (first, others) = digits.split_first()?;
-    if *first == b'0' && !others.is_empty() {
-        return None;
+    match plain_decimal(digits, 31) {
+        None => None,
+        Some(number) => Some(Register::low(number as u32)),
     }
-    let number = brd_text::decimal(digits)?;
-    if number < 32 {
-        return Some(Register::low(number));
-    }
-    None
 }
 
 /// A register by its number.
@@ -170,12 +167,12 @@ fn register_numbered(run: &[u8]) -> Option<Register>
     ensures { result ≡ registers.register_numbered run.now }
 {
     match run.split_first() {
-        Some((b'$', digits)) => plain_number(digits),
+        Some((b'$', digits)) => register_at(digits),
         _ => None,
     }
 }
 
-/// The register that a run of word bytes is.
+/// The register that a run is.
 #[tactic(auto, unfolding(crate::specs::Registers::register_of))]
 pub(crate) fn register_of(run: &[u8]) -> Option<Register>
     ensures { result ≡ registers.register_of run.now }

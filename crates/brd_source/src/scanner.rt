@@ -1,53 +1,44 @@
-//! The bytes of a line to words.
+//! The bytes of a line to tokens.
 
-ghost use Rattle.std.specs.Prelude.{◌≡◌, ◌∷◌, ◌<◌, ◌≤◌, length, false, true, IfSome, IfNone, List, ℕ};
-ghost use Rattle.brd_source.specs.Words.{words_in, seen};
-ghost use Rattle.brd_source.specs.Words as words;
-ghost use Rattle.brd_source.specs.Words.Place.{Between, InString};
-ghost use Rattle.brd_source.specs.Fronts.{begins_word, Begins};
-ghost use Rattle.brd_source.specs.Spelling.{Spells, HaveEnds};
+ghost use Rattle.std.specs.Prelude.{◌≡◌, ◌<◌, length, false, true, IfSome};
+ghost use Rattle.brd_source.specs.Tokens.{tokens_in, seen};
+ghost use Rattle.brd_source.specs.Tokens as tokens;
+ghost use Rattle.brd_source.specs.Tokens.Place.{Between, InString};
+ghost use Rattle.brd_source.specs.Fronts.{begins_token, Begins};
 
 use crate::token::Token;
-use brd_text::{behind, is_word_byte, run_len};
+use brd_text::{behind, is_run_byte, is_space, run_len};
 use std::marker::Model;
-
-/// Whether a byte is a space, a tab or a carriage return.
-#[tactic(auto, unfolding(crate::specs::Words::is_blank))]
-fn is_blank(byte: u8) -> bool
-    ensures { result ≡ words.is_blank byte }
-{
-    byte == b' ' || byte == b'\t' || byte == b'\r'
-}
 
 /// Whether a comment begins at a byte, with these behind it.
 fn opens_comment(byte: u8, after: &[u8]) -> bool
-    ensures { result ≡ words.opens_comment byte after.now }
+    ensures { result ≡ tokens.opens_comment byte after.now }
 {
     byte == b'#' || (byte == b'/' && behind(b'/', after).is_some())
 }
 
 /// Whether a byte of a string ends it.
 fn ends_string(is_escaped: bool, byte: u8) -> bool
-    ensures { result ≡ words.ends_string is_escaped byte }
+    ensures { result ≡ tokens.ends_string is_escaped byte }
 {
     !is_escaped && byte == b'"'
 }
 
 /// Whether a byte of a string is a backslash before another byte of it.
 pub(crate) fn escapes(is_escaped: bool, byte: u8) -> bool
-    ensures { result ≡ words.escapes is_escaped byte }
+    ensures { result ≡ tokens.escapes is_escaped byte }
 {
     !is_escaped && byte == b'\\'
 }
 
 /// What is behind blanks, nothing where a comment stands there.
 fn after_blanks(line: &[u8]) -> &[u8]
-    ensures same { words_in Between line.now ≡ words_in Between result.now }
-    ensures word { begins_word result.now ≡ true }
+    ensures same { tokens_in Between line.now ≡ tokens_in Between result.now }
+    ensures token { begins_token result.now ≡ true }
 {
     let mut left = line;
     while let Some((byte, after)) = left.split_first() {
-        if is_blank(*byte) {
+        if is_space(*byte) {
             left = after;
             continue;
         }
@@ -61,7 +52,7 @@ fn after_blanks(line: &[u8]) -> &[u8]
 
 /// How many bytes stand before the quote that ends a string.
 fn string_len(rest: &[u8]) -> Option<usize>
-    ensures len { result ≡ words.string_len false rest.now }
+    ensures len { result ≡ tokens.string_len false rest.now }
     ensures inside { IfSome result (λ n. n < length rest.now) }
 {
     let mut is_escaped = false;
@@ -76,8 +67,8 @@ fn string_len(rest: &[u8]) -> Option<usize>
 
 /// The string behind a quote, and what is behind it.
 fn string_at(rest: &[u8]) -> (Token<'_>, &[u8])
-    ensures word { words.quoted (words.string_len false rest.now) rest.now ≡ seen result.0 }
-    ensures rest { words_in InString rest.now ≡ words_in Between result.1.now }
+    ensures token { tokens.quoted (tokens.string_len false rest.now) rest.now ≡ seen result.0 }
+    ensures rest { tokens_in InString rest.now ≡ tokens_in Between result.1.now }
 {
     let Some(len) = string_len(rest) else {
         return (Token::Wrong, &[]);
@@ -87,15 +78,15 @@ fn string_at(rest: &[u8]) -> (Token<'_>, &[u8])
     (Token::Quoted(text), behind)
 }
 
-/// The word at the front, and what is behind it.
+/// The token at the front, and what is behind it.
 fn token_at(line: &[u8]) -> (Token<'_>, &[u8])
-    requires { begins_word line.now ≡ true }
+    requires { begins_token line.now ≡ true }
     ensures { Begins line.now (seen result.0) result.1.now }
 {
     let Some((byte, after)) = line.split_first() else {
         return (Token::End, line);
     };
-    if is_word_byte(*byte) {
+    if is_run_byte(*byte) {
         let (run, behind) = line.split_at(run_len(line));
         return (Token::Run(run), behind);
     }
@@ -109,7 +100,7 @@ fn token_at(line: &[u8]) -> (Token<'_>, &[u8])
     (Token::Mark(*byte), after)
 }
 
-/// Reads the words of a line from the front.
+/// Reads the tokens of a line from the front.
 #[derive(Debug, Drop)]
 pub(crate) struct Scanner<'a> {
     rest: &'a [u8],
@@ -117,26 +108,26 @@ pub(crate) struct Scanner<'a> {
 
 impl<'a> Model for Scanner<'a> {
     ghost use Rattle.std.specs.Prelude.{List};
-    ghost use Rattle.brd_source.specs.Words.{Word, words_of};
+    ghost use Rattle.brd_source.specs.Tokens.{Token, tokens_of};
 
-    ghost Value = { List Word };
+    ghost Value = { List Token };
 
-    ghost view = { λ s. words_of s.rest.now };
+    ghost view = { λ s. tokens_of s.rest.now };
 }
 
 impl<'a> Scanner<'a> {
-    ghost use Rattle.brd_source.specs.Words.{words_of, first, others, seen};
+    ghost use Rattle.brd_source.specs.Tokens.{tokens_of, first, others, seen};
 
     /// A scanner over all of a line.
     pub(crate) fn new(line: &'a [u8]) -> Scanner<'a>
-        ensures { result ≡ words_of line.now }
+        ensures { result ≡ tokens_of line.now }
     {
         Scanner { rest: line }
     }
 
-    /// Takes the first word. `End` stands behind the last word, as often as it is asked for.
+    /// Takes the first token. `End` stands behind the last token, as often as it is asked for.
     pub(crate) fn next(&mut self) -> Token<'a>
-        ensures word { first self.old ≡ seen result }
+        ensures token { first self.old ≡ seen result }
         ensures behind { self.new ≡ others self.old }
     {
         let (token, behind) = token_at(after_blanks(self.rest));
@@ -144,7 +135,7 @@ impl<'a> Scanner<'a> {
         token
     }
 
-    /// The first word, which stays.
+    /// The first token, which stays.
     pub(crate) fn peek(&self) -> Token<'a>
         ensures { first self.now ≡ seen result }
     {
@@ -152,7 +143,7 @@ impl<'a> Scanner<'a> {
         token
     }
 
-    /// The word behind the first one; both stay.
+    /// The token behind the first one; both stay.
     pub(crate) fn peek_behind(&self) -> Token<'a>
         ensures { first (others self.now) ≡ seen result }
     {
@@ -161,13 +152,3 @@ impl<'a> Scanner<'a> {
         token
     }
 }
-
-/// What spells words, with any blanks between them and a comment behind them, is scanned as these words.
-pub fn spelled_words_are_scanned()
-    ensures { (bytes : List ℕ) (line : List words.Word) → Spells bytes line → words.words_of bytes ≡ line }
-{}
-
-/// The words of a line are spelled by its bytes, where no string lacks its end.
-pub fn scanned_words_are_spelled()
-    ensures { (bytes : List ℕ) → HaveEnds (words.words_of bytes) → Spells bytes (words.words_of bytes) }
-{}

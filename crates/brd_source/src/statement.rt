@@ -1,7 +1,8 @@
 //! What a line of assembler source says.
 
+use brd_base::List;
 use brd_isa::{
-    AccumulateOp, BranchOp, BranchSignOp, BranchZeroOp, CountOp, ImmediateOp, JumpOp, LinkedOp,
+    AccumulateOp, BranchOp, BranchRegimmOp, BranchZeroOp, CountOp, ImmediateOp, JumpOp, LinkedOp,
     LoadOp, MoveFromOp, MoveToOp, ProductOp, Register, RegisterOp, ShiftOp, ShiftVariableOp,
     StoreOp, TrapImmediateOp, TrapOp,
 };
@@ -67,9 +68,9 @@ pub enum Instruction<'a> {
     /// `op rs, rt, target`
     Branch(BranchOp, Register, Register, Expression<'a>),
     /// `op rs, target`
-    BranchSign(BranchSignOp, Register, Expression<'a>),
-    /// `op rs, target`
     BranchZero(BranchZeroOp, Register, Expression<'a>),
+    /// `op rs, target`
+    BranchRegimm(BranchRegimmOp, Register, Expression<'a>),
     /// `op rt, rs, immediate`
     WithImmediate(ImmediateOp, Register, Register, Immediate<'a>),
     /// `lui rt, immediate`
@@ -109,9 +110,9 @@ pub enum Statement<'a> {
     /// `.space n`: so many bytes of zero.
     Space(Expression<'a>),
     /// `.byte`, `.half` or `.word` and its values, one at least.
-    Data(Width, Vec<Expression<'a>>),
+    Data(Width, List<Expression<'a>>),
     /// The bytes of `.ascii`, or of `.asciiz` with the byte 0 behind them.
-    Text(Vec<u8>),
+    Text(List<u8>),
     /// `.equ name, value`
     Equal(&'a [u8], Expression<'a>),
 }
@@ -120,7 +121,7 @@ pub enum Statement<'a> {
 #[derive(Debug, Drop)]
 pub struct Line<'a> {
     /// The names with a colon before the statement, in order.
-    pub labels: Vec<&'a [u8]>,
+    pub labels: List<&'a [u8]>,
     /// The statement.
     pub statement: Statement<'a>,
 }

@@ -14,12 +14,13 @@ use crate::scanner::Scanner;
 use crate::statement::{Expression, Instruction, Statement, Width};
 use crate::text::text;
 use crate::token::Token;
+use brd_base::List;
 use brd_isa::{
-    BranchOp, BranchZeroOp, Register, RegisterOp, ShiftOp, is_same_word, mnemonic_named,
+    BranchOp, BranchRegimmOp, Register, RegisterOp, ShiftOp, is_same_word, mnemonic_named,
 };
 use std::alloc::Global;
 
-/// Words for instructions that another mnemonic has too.
+/// Names for instructions that another mnemonic has too.
 #[derive(Clone, Copy, Debug)]
 pub(crate) enum Shorthand {
     Nop,
@@ -30,7 +31,7 @@ pub(crate) enum Shorthand {
     BranchAndLink,
 }
 
-/// Words that begin with a dot.
+/// Names that begin with a dot.
 #[derive(Clone, Copy, Debug)]
 pub(crate) enum Directive {
     Org,
@@ -129,84 +130,84 @@ fn directive_named(run: &[u8]) -> Option<Directive>
 
 /// Takes `target`, behind `b`.
 #[tactic(auto, unfolding(crate::specs::Statements::branch_at))]
-fn branch<'a>(words: &mut Scanner<'a>) -> Result<Instruction<'a>, LineFault>
-    ensures { Gives (λ i. (instruction_value i, words.new)) result (statements.branch_at words.old) }
+fn branch<'a>(tokens: &mut Scanner<'a>) -> Result<Instruction<'a>, LineFault>
+    ensures { Gives (λ i. (instruction_value i, tokens.new)) result (statements.branch_at tokens.old) }
 {
-    let target = expression(words)?;
+    let target = expression(tokens)?;
     let zero = Register::low(0);
     Ok(Instruction::Branch(BranchOp::Beq, zero, zero, target))
 }
 
 /// Takes `rs, target`, behind `beqz` or `bnez`.
-#[tactic(auto, unfolding(crate::specs::Statements::branch_zero_at))]
-fn branch_zero<'a>(words: &mut Scanner<'a>, op: BranchOp) -> Result<Instruction<'a>, LineFault>
-    ensures { Gives (λ i. (instruction_value i, words.new)) result (statements.branch_zero_at op words.old) }
+#[tactic(auto, unfolding(crate::specs::Statements::branch_regimm_at))]
+fn branch_regimm<'a>(tokens: &mut Scanner<'a>, op: BranchOp) -> Result<Instruction<'a>, LineFault>
+    ensures { Gives (λ i. (instruction_value i, tokens.new)) result (statements.branch_regimm_at op tokens.old) }
 {
-    let rs = register_comma(words)?;
-    let target = expression(words)?;
+    let rs = register_comma(tokens)?;
+    let target = expression(tokens)?;
     Ok(Instruction::Branch(op, rs, Register::low(0), target))
 }
 
 /// Takes `target`, behind `bal`.
 #[tactic(auto, unfolding(crate::specs::Statements::branch_and_link_at))]
-fn branch_and_link<'a>(words: &mut Scanner<'a>) -> Result<Instruction<'a>, LineFault>
-    ensures { Gives (λ i. (instruction_value i, words.new)) result (statements.branch_and_link_at words.old) }
+fn branch_and_link<'a>(tokens: &mut Scanner<'a>) -> Result<Instruction<'a>, LineFault>
+    ensures { Gives (λ i. (instruction_value i, tokens.new)) result (statements.branch_and_link_at tokens.old) }
 {
-    let target = expression(words)?;
+    let target = expression(tokens)?;
     let zero = Register::low(0);
-    Ok(Instruction::BranchZero(BranchZeroOp::Bgezal, zero, target))
+    Ok(Instruction::BranchRegimm(BranchRegimmOp::Bgezal, zero, target))
 }
 
 /// Takes `rd, rs`, behind `move`.
 #[tactic(auto, unfolding(crate::specs::Statements::move_at))]
-fn moved<'a>(words: &mut Scanner<'a>) -> Result<Instruction<'a>, LineFault>
-    ensures { Gives (λ i. (instruction_value i, words.new)) result (statements.move_at words.old) }
+fn moved<'a>(tokens: &mut Scanner<'a>) -> Result<Instruction<'a>, LineFault>
+    ensures { Gives (λ i. (instruction_value i, tokens.new)) result (statements.move_at tokens.old) }
 {
-    let (rd, rs) = two_registers(words)?;
+    let (rd, rs) = two_registers(tokens)?;
     let zero = Register::low(0);
     Ok(Instruction::ThreeRegisters(RegisterOp::Addu, rd, rs, zero))
 }
 
 /// Takes the operands behind a shorthand.
 fn behind_shorthand<'a>(
-    words: &mut Scanner<'a>,
+    tokens: &mut Scanner<'a>,
     form: Shorthand,
 ) -> Result<Instruction<'a>, LineFault>
-    ensures { Gives (λ i. (instruction_value i, words.new)) result (statements.shorthand_at form words.old) }
+    ensures { Gives (λ i. (instruction_value i, tokens.new)) result (statements.shorthand_at form tokens.old) }
 {
     match form {
         Shorthand::Nop => {
             let zero = Register::low(0);
             Ok(Instruction::Shift(ShiftOp::Sll, zero, zero, ZERO))
         }
-        Shorthand::Move => moved(words),
-        Shorthand::Branch => branch(words),
-        Shorthand::BranchIfZero => branch_zero(words, BranchOp::Beq),
-        Shorthand::BranchUnlessZero => branch_zero(words, BranchOp::Bne),
-        Shorthand::BranchAndLink => branch_and_link(words),
+        Shorthand::Move => moved(tokens),
+        Shorthand::Branch => branch(tokens),
+        Shorthand::BranchIfZero => branch_regimm(tokens, BranchOp::Beq),
+        Shorthand::BranchUnlessZero => branch_regimm(tokens, BranchOp::Bne),
+        Shorthand::BranchAndLink => branch_and_link(tokens),
     }
 }
 
 /// Takes one more value, and a comma where one follows: then another value stands behind it.
 #[tactic(auto, unfolding(crate::specs::Statements::value_step))]
-fn value<'a>(words: &mut Scanner<'a>, values: &mut Vec<Expression<'a>>) -> Result<bool, LineFault>
-    ensures read { Gives (λ more. flow_of more (map expression_value values.new.items, words.new) (map expression_value values.new.items, words.new)) result
-        (statements.value_step (map expression_value values.old.items, words.old)) }
-    ensures shorter { OnOk result (length words.new < length words.old) }
+fn value<'a>(tokens: &mut Scanner<'a>, values: &mut List<Expression<'a>>) -> Result<bool, LineFault>
+    ensures read { Gives (λ more. flow_of more (map expression_value values.new, tokens.new) (map expression_value values.new, tokens.new)) result
+        (statements.value_step (map expression_value values.old, tokens.old)) }
+    ensures shorter { OnOk result (length tokens.new < length tokens.old) }
 {
-    let value = expression(words)?;
+    let value = expression(tokens)?;
     values.push(value)?;
-    Ok(take_mark(words, b','))
+    Ok(take_mark(tokens, b','))
 }
 
 /// Takes values with commas between them.
 #[tactic(auto, unfolding(crate::specs::Statements::values_at))]
-fn values<'a>(alloc: Global, words: &mut Scanner<'a>) -> Result<Vec<Expression<'a>>, LineFault>
-    ensures { Gives (λ v. (map expression_value v.items, words.new)) result (statements.values_at words.old) }
+fn values<'a>(alloc: Global, tokens: &mut Scanner<'a>) -> Result<List<Expression<'a>>, LineFault>
+    ensures { Gives (λ v. (map expression_value v, tokens.new)) result (statements.values_at tokens.old) }
 {
-    let mut values = Vec::new(alloc);
+    let mut values = List::new(alloc);
     'values: loop {
-        match value(words, &mut values) {
+        match value(tokens, &mut values) {
             Ok(more) => {
                 if more {
                     continue;
@@ -220,31 +221,31 @@ fn values<'a>(alloc: Global, words: &mut Scanner<'a>) -> Result<Vec<Expression<'
 
 /// Takes a string and puts the byte 0 behind it.
 #[tactic(auto, unfolding(crate::specs::Statements::ended_text_at))]
-fn ended_text(alloc: Global, words: &mut Scanner) -> Result<Vec<u8>, LineFault>
-    ensures { Gives (λ text. (text.items, words.new)) result (statements.ended_text_at words.old) }
+fn ended_text(alloc: Global, tokens: &mut Scanner) -> Result<List<u8>, LineFault>
+    ensures { Gives (λ text. (text, tokens.new)) result (statements.ended_text_at tokens.old) }
 {
-    let mut text = text(alloc, words)?;
+    let mut text = text(alloc, tokens)?;
     text.push(0)?;
     Ok(text)
 }
 
 /// Takes `name, value`, behind `.equ`.
 #[tactic(auto, unfolding(crate::specs::Statements::equal_at))]
-fn equal<'a>(words: &mut Scanner<'a>) -> Result<Statement<'a>, LineFault>
-    ensures { Gives (λ s. (statement_value s, words.new)) result (statements.equal_at words.old) }
+fn equal<'a>(tokens: &mut Scanner<'a>) -> Result<Statement<'a>, LineFault>
+    ensures { Gives (λ s. (statement_value s, tokens.new)) result (statements.equal_at tokens.old) }
 {
-    let name = name(words)?;
-    mark(words, b',')?;
-    let value = expression(words)?;
+    let name = name(tokens)?;
+    mark(tokens, b',')?;
+    let value = expression(tokens)?;
     Ok(Statement::Equal(name, value))
 }
 
-/// Takes the word behind `.set`.
+/// Takes the token behind `.set`.
 #[tactic(auto, unfolding(crate::specs::Statements::setting_at))]
-fn setting<'a>(words: &mut Scanner<'a>) -> Result<Statement<'a>, LineFault>
-    ensures { Gives (λ s. (statement_value s, words.new)) result (statements.setting_at words.old) }
+fn setting<'a>(tokens: &mut Scanner<'a>) -> Result<Statement<'a>, LineFault>
+    ensures { Gives (λ s. (statement_value s, tokens.new)) result (statements.setting_at tokens.old) }
 {
-    let run = run(words)?;
+    let run = run(tokens)?;
     if run == b"noreorder".as_slice() || run == b"noat".as_slice() || run == b"nomacro".as_slice() {
         return Ok(Statement::Nothing);
     }
@@ -254,50 +255,50 @@ fn setting<'a>(words: &mut Scanner<'a>) -> Result<Statement<'a>, LineFault>
 /// Takes the operands behind a directive.
 fn behind_directive<'a>(
     alloc: Global,
-    words: &mut Scanner<'a>,
+    tokens: &mut Scanner<'a>,
     directive: Directive,
 ) -> Result<Statement<'a>, LineFault>
-    ensures { Gives (λ s. (statement_value s, words.new)) result (statements.directive_at directive words.old) }
+    ensures { Gives (λ s. (statement_value s, tokens.new)) result (statements.directive_at directive tokens.old) }
 {
     match directive {
-        Directive::Org => Ok(Statement::Org(expression(words)?)),
-        Directive::Align => Ok(Statement::Align(expression(words)?)),
-        Directive::Space => Ok(Statement::Space(expression(words)?)),
-        Directive::Values(width) => Ok(Statement::Data(width, values(alloc, words)?)),
-        Directive::Ascii => Ok(Statement::Text(text(alloc, words)?)),
-        Directive::Asciiz => Ok(Statement::Text(ended_text(alloc, words)?)),
-        Directive::Equ => equal(words),
+        Directive::Org => Ok(Statement::Org(expression(tokens)?)),
+        Directive::Align => Ok(Statement::Align(expression(tokens)?)),
+        Directive::Space => Ok(Statement::Space(expression(tokens)?)),
+        Directive::Values(width) => Ok(Statement::Data(width, values(alloc, tokens)?)),
+        Directive::Ascii => Ok(Statement::Text(text(alloc, tokens)?)),
+        Directive::Asciiz => Ok(Statement::Text(ended_text(alloc, tokens)?)),
+        Directive::Equ => equal(tokens),
         Directive::Globl => {
-            name(words)?;
+            name(tokens)?;
             Ok(Statement::Nothing)
         }
-        Directive::Set => setting(words),
+        Directive::Set => setting(tokens),
     }
 }
 
-/// Takes what stands behind the word with which a statement begins.
+/// Takes what stands behind the token with which a statement begins.
 #[tactic(auto, unfolding(crate::specs::Statements::statement_named))]
 fn statement_named<'a>(
     alloc: Global,
-    words: &mut Scanner<'a>,
+    tokens: &mut Scanner<'a>,
     run: &[u8],
 ) -> Result<Statement<'a>, LineFault>
-    ensures { Gives (λ s. (statement_value s, words.new)) result (statements.statement_named (lowered run.now) words.old) }
+    ensures { Gives (λ s. (statement_value s, tokens.new)) result (statements.statement_named (lowered run.now) tokens.old) }
 {
     if let Some(mnemonic) = mnemonic_named(run) {
-        return match operands(words, mnemonic) {
+        return match operands(tokens, mnemonic) {
             Ok(instruction) => Ok(Statement::Instruction(instruction)),
             Err(fault) => Err(fault),
         };
     }
     if let Some(form) = shorthand_named(run) {
-        return match behind_shorthand(words, form) {
+        return match behind_shorthand(tokens, form) {
             Ok(instruction) => Ok(Statement::Instruction(instruction)),
             Err(fault) => Err(fault),
         };
     }
     match directive_named(run) {
-        Some(name) => behind_directive(alloc, words, name),
+        Some(name) => behind_directive(alloc, tokens, name),
         None => Err(LineFault::Syntax),
     }
 }
@@ -306,13 +307,13 @@ fn statement_named<'a>(
 #[tactic(auto, unfolding(crate::specs::Statements::statement_at))]
 pub(crate) fn statement<'a>(
     alloc: Global,
-    words: &mut Scanner<'a>,
+    tokens: &mut Scanner<'a>,
 ) -> Result<Statement<'a>, LineFault>
-    ensures { Gives (λ s. (statement_value s, words.new)) result (statements.statement_at words.old) }
+    ensures { Gives (λ s. (statement_value s, tokens.new)) result (statements.statement_at tokens.old) }
 {
-    match words.next() {
+    match tokens.next() {
         Token::End => Ok(Statement::Nothing),
-        Token::Run(run) => statement_named(alloc, words, run),
+        Token::Run(run) => statement_named(alloc, tokens, run),
         _ => Err(LineFault::Syntax),
     }
 }

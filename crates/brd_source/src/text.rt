@@ -7,6 +7,7 @@ ghost use Rattle.brd_source.specs.Texts as texts;
 use crate::fault::LineFault;
 use crate::scanner::{Scanner, escapes};
 use crate::token::Token;
+use brd_base::List;
 use std::alloc::Global;
 
 /// What a byte behind a backslash stands for.
@@ -44,10 +45,10 @@ fn byte_for(is_escaped: bool, byte: u8) -> Option<u8>
 
 /// What the bytes between two quotes stand for.
 #[tactic(auto, unfolding(crate::specs::Texts::text_of))]
-fn text_of(alloc: Global, bytes: &[u8]) -> Result<Vec<u8>, LineFault>
-    ensures { Gives (λ text. text.items) result (texts.text_of bytes.now) }
+fn text_of(alloc: Global, bytes: &[u8]) -> Result<List<u8>, LineFault>
+    ensures { Gives (λ text. text) result (texts.text_of bytes.now) }
 {
-    let mut text = Vec::new(alloc);
+    let mut text = List::new(alloc);
     let mut is_escaped = false;
     for byte in bytes {
         if escapes(is_escaped, *byte) {
@@ -68,10 +69,10 @@ fn text_of(alloc: Global, bytes: &[u8]) -> Result<Vec<u8>, LineFault>
 
 /// Takes a string.
 #[tactic(auto, unfolding(crate::specs::Texts::text_at))]
-pub(crate) fn text(alloc: Global, words: &mut Scanner) -> Result<Vec<u8>, LineFault>
-    ensures { Gives (λ text. (text.items, words.new)) result (texts.text_at words.old) }
+pub(crate) fn text(alloc: Global, tokens: &mut Scanner) -> Result<List<u8>, LineFault>
+    ensures { Gives (λ text. (text, tokens.new)) result (texts.text_at tokens.old) }
 {
-    let Token::Quoted(bytes) = words.next() else {
+    let Token::Quoted(bytes) = tokens.next() else {
         return Err(LineFault::Syntax);
     };
     text_of(alloc, bytes)

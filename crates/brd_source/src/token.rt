@@ -1,4 +1,4 @@
-/// A word of a line, borrowed from its bytes.
+/// A token of a line, borrowed from its bytes.
 #[derive(Clone, Copy, Debug)]
 pub(crate) enum Token<'a> {
     /// A longest stretch of letters, digits, `_`, `.` and `$`.
@@ -11,6 +11,6 @@ pub(crate) enum Token<'a> {
     Mark(u8),
     /// A string without an end.
     Wrong,
-    /// No more words.
+    /// No more tokens.
     End,
 }

@@ -3,7 +3,7 @@
 use super::{is_instruction, is_same, n, r, sum, whole};
 use crate::{Expression, Immediate, Instruction};
 use brd_isa::{
-    AccumulateOp, BranchOp, BranchSignOp, BranchZeroOp, CountOp, ImmediateOp, JumpOp, LinkedOp,
+    AccumulateOp, BranchOp, BranchRegimmOp, BranchZeroOp, CountOp, ImmediateOp, JumpOp, LinkedOp,
     LoadOp, MoveFromOp, MoveToOp, ProductOp, RegisterOp, ShiftOp, ShiftVariableOp, StoreOp,
     TrapImmediateOp, TrapOp,
 };
@@ -57,9 +57,9 @@ fn control(rt: HostRuntime) {
     assert!(rt; is_instruction(&rt, "jal main", &jal));
     let bnel = Instruction::Branch(BranchOp::Bnel, r(4), r(0), sum(b".L1", -8));
     assert!(rt; is_instruction(&rt, "bnel $a0, $zero, .L1-8", &bnel));
-    let bgtz = Instruction::BranchSign(BranchSignOp::Bgtz, r(5), n(0x80000000));
+    let bgtz = Instruction::BranchZero(BranchZeroOp::Bgtz, r(5), n(0x80000000));
     assert!(rt; is_instruction(&rt, "bgtz $a1, 0x80000000", &bgtz));
-    let bltzall = Instruction::BranchZero(BranchZeroOp::Bltzall, r(6), sum(b"x$y", 0));
+    let bltzall = Instruction::BranchRegimm(BranchRegimmOp::Bltzall, r(6), sum(b"x$y", 0));
     assert!(rt; is_instruction(&rt, "bltzall $a2, x$y", &bltzall));
 }
 

@@ -5,5 +5,5 @@ use Rattle.brd_source.proofs.line.labels.Goals as goal
 
 pub labels-preserved : goal.labels-preserved
 labels-preserved c =
-    rw (c.in_ok-push.ensures.items, map-append, c.next.ensures.behind)
-    (label_step (map (λ name. name.now) c.labels.labels.items) c.labels.words c.in_ok-label.label.now c.name.new.words (sym c.has_label.ensures ∙ c.labels-test.true) c.in_ok-label.ensures.read ∙ c.labels.invariant)
+    rw (c.in_ok-push.ensures.ok, map-append, c.next.ensures.behind)
+    (label_step (map (λ name. name.now) c.labels.labels) c.labels.tokens c.in_ok-label.label.now c.name.new.tokens (sym c.has_label.ensures ∙ c.labels-test.true) c.in_ok-label.ensures.read ∙ c.labels.invariant)

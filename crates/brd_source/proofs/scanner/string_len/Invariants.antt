@@ -1,6 +1,6 @@
 use Rattle.std.proofs.Common.{◌≡◌, ◌+◌, drop, false}
 use Rattle.std.specs.Prelude.{option_map}
-use Rattle.brd_source.specs.Words.{string_len}
+use Rattle.brd_source.specs.Tokens.{string_len}
 use Rattle.brd_source.proofs.scanner.string_len.Given as goal
 
 abbrev pub invariant-loop-i : goal.invariant-loop-i

@@ -7,10 +7,10 @@ use Rattle.brd_source.specs.View.{expression_value}
 use Rattle.brd_source.proofs.statements.values.Goals as goal
 
 pub values-preserved : goal.values-preserved
-values-preserved c = flow_more NoMemory value_step (length c.values.words) (length c.value.new.words) (map expression_value c.values.values.items, c.values.words) (map expression_value c.value.new.values.items, c.value.new.words) (map expression_value c.value.new.values.items, c.value.new.words) c.in-Ok.more (values_at c.args.words.now) c.values.invariant c.in-Ok.ensures.read c.if-more.true c.in-Ok.ensures.shorter
+values-preserved c = flow_more NoMemory value_step (length c.values.tokens) (length c.value.new.tokens) (map expression_value c.values.values, c.values.tokens) (map expression_value c.value.new.values, c.value.new.tokens) (map expression_value c.value.new.values, c.value.new.tokens) c.in-Ok.more (values_at c.args.tokens.now) c.values.invariant c.in-Ok.ensures.read c.if-more.true c.in-Ok.ensures.shorter
 
 pub returns-in-Ok : goal.returns-in-Ok
-returns-in-Ok c = flow_done NoMemory value_step (length c.values.words) (map expression_value c.values.values.items, c.values.words) (map expression_value c.value.new.values.items, c.value.new.words) (map expression_value c.value.new.values.items, c.value.new.words) c.in-Ok.more (values_at c.args.words.now) c.values.invariant c.in-Ok.ensures.read c.if-more.false
+returns-in-Ok c = flow_done NoMemory value_step (length c.values.tokens) (map expression_value c.values.values, c.values.tokens) (map expression_value c.value.new.values, c.value.new.tokens) (map expression_value c.value.new.values, c.value.new.tokens) c.in-Ok.more (values_at c.args.tokens.now) c.values.invariant c.in-Ok.ensures.read c.if-more.false
 
 pub returns-in-Err : goal.returns-in-Err
-returns-in-Err c = goes_fails is_no_memory NoMemory value_step (length c.values.words) (map expression_value c.values.values.items, c.values.words) c.in-Err.fault (values_at c.args.words.now) c.values.invariant c.in-Err.ensures.read
+returns-in-Err c = goes_fails is_no_memory NoMemory value_step (length c.values.tokens) (map expression_value c.values.values, c.values.tokens) c.in-Err.fault (values_at c.args.tokens.now) c.values.invariant c.in-Err.ensures.read

@@ -6,7 +6,7 @@ use Rattle.brd_source.specs.View.{expression_value}
 use Rattle.brd_source.proofs.statements.values.Given as goal
 
 abbrev pub invariant-values : goal.invariant-values
-invariant-values l = Goes NoMemory value_step (length l.words) (map expression_value l.values.items, l.words) (values_at l.fn.words)
+invariant-values l = Goes NoMemory value_step (length l.tokens) (map expression_value l.values, l.tokens) (values_at l.fn.tokens)
 
 abbrev pub decreases-values : goal.decreases-values
-decreases-values l = length l.words
+decreases-values l = length l.tokens

@@ -1,5 +1,5 @@
 use Rattle.brd_source.proofs.SpelledBack.{spelled_back}
-use Rattle.brd_source.proofs.scanner.scanned_words_are_spelled.Goals as goal
+use Rattle.brd_source.proofs.laws.scanned_tokens_are_spelled.Goals as goal
 
 pub returns : goal.returns
 returns c = λ bytes ends. spelled_back bytes ends

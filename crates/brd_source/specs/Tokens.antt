@@ -1,0 +1,105 @@
+-- The tokens of a line. Spaces, tabs and carriage returns may stand between tokens; # and // begin a comment, which
+-- goes to the end of the line.
+use Rattle.std.specs.Prelude.{ℕ, suc, Bool, false, not, ◌&&◌, ◌||◌, ◌==◌, if◌then◌else◌, List, [], ◌∷◌, drop, take, take_while, Option, Some, None, option_map}
+use Rattle.brd_text.specs.Bytes.{is_run_byte, is_space, begins_with}
+use Rattle.brd_source.specs.declared.token.Token as code
+use Rattle.brd_source.specs.declared.token.Token.TheVariants as code_of
+
+-- A run is a longest stretch of letters, digits, `_`, `.` and `$`; Percent is % and the run directly behind it, of which
+-- the bytes are given, none where no run is there; Quoted has the bytes between two quotes as they are written. A mark
+-- is any other byte that is no blank. Wrong stands where a string has no end, End where a line has no more tokens.
+pub data Token : Type 0 where
+  Run : List ℕ → Token
+  Percent : List ℕ → Token
+  Quoted : List ℕ → Token
+  Mark : ℕ → Token
+  Wrong : Token
+  End : Token
+
+-- Where in a line a byte stands: between tokens; behind a byte of a run; in a string; behind a backslash in a string; in a
+-- comment.
+pub data Place : Type 0 where
+  Between : Place
+  InRun : Place
+  InString : Place
+  Escaped : Place
+  InComment : Place
+
+-- whether a comment begins at b, before bs
+abbrev pub opens_comment : ℕ → List ℕ → Bool
+opens_comment b bs = (b == 35) || ((b == 47) && begins_with 47 bs)
+
+-- whether a byte ends a string, and whether it is a backslash before another byte of it; the byte behind a backslash is neither
+abbrev pub ends_string : Bool → ℕ → Bool
+ends_string escaped b = not escaped && (b == 34)
+
+abbrev pub escapes : Bool → ℕ → Bool
+escapes escaped b = not escaped && (b == 92)
+
+-- how many bytes stand before the quote that ends a string
+abbrev pub string_len : Bool → List ℕ → Option ℕ
+string_len escaped [] = None
+string_len escaped (b ∷ bs) = if ends_string escaped b then Some 0 else option_map (λ n. suc n) (string_len (escapes escaped b) bs)
+
+abbrev pub quoted : Option ℕ → List ℕ → Token
+quoted (Some n) bs = Quoted (take n bs)
+quoted None bs = Wrong
+
+-- the token that begins with b, which is no byte of a run, before bs
+abbrev pub sign_at : ℕ → List ℕ → Option Token
+sign_at b bs =
+    if is_space b || opens_comment b bs then None
+    else (if b == 37 then Some (Percent (take_while is_run_byte bs))
+    else (if b == 34 then Some (quoted (string_len false bs) bs)
+    else Some (Mark b)))
+
+-- the token that begins with b, before bs, at this place
+abbrev pub token_at : Place → ℕ → List ℕ → Option Token
+token_at Between b bs = if is_run_byte b then Some (Run (take_while is_run_byte (b ∷ bs))) else sign_at b bs
+token_at InRun b bs = if is_run_byte b then None else sign_at b bs
+token_at InString b bs = None
+token_at Escaped b bs = None
+token_at InComment b bs = None
+
+abbrev pub place_outside : ℕ → List ℕ → Place
+place_outside b bs =
+    if is_run_byte b || (b == 37) then InRun
+    else (if opens_comment b bs then InComment
+    else (if b == 34 then InString else Between))
+
+-- the place of the byte after b, before bs
+abbrev pub place_after : Place → ℕ → List ℕ → Place
+place_after Between b bs = place_outside b bs
+place_after InRun b bs = place_outside b bs
+place_after InString b bs = if b == 34 then Between else (if b == 92 then Escaped else InString)
+place_after Escaped b bs = InString
+place_after InComment b bs = InComment
+
+abbrev pub with_token : Option Token → List Token → List Token
+with_token None tokens = tokens
+with_token (Some token) tokens = token ∷ tokens
+
+abbrev pub tokens_in : Place → List ℕ → List Token
+tokens_in place [] = []
+tokens_in place (b ∷ bs) = with_token (token_at place b bs) (tokens_in (place_after place b bs) bs)
+
+abbrev pub tokens_of : List ℕ → List Token
+tokens_of bytes = tokens_in Between bytes
+
+-- the first token, End where there is none
+abbrev pub first : List Token → Token
+first [] = End
+first (token ∷ tokens) = token
+
+-- the tokens behind the first
+abbrev pub others : List Token → List Token
+others tokens = drop 1 tokens
+
+-- a token of the code, without the place of its bytes
+abbrev pub seen : code.Token → Token
+seen (code_of.Run run) = Run run.now
+seen (code_of.Percent run) = Percent run.now
+seen (code_of.Quoted text) = Quoted text.now
+seen (code_of.Mark b) = Mark b
+seen code_of.Wrong = Wrong
+seen code_of.End = End

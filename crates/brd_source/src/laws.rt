@@ -1,0 +1,31 @@
+//! What the definitions of this crate say by themselves.
+
+ghost use Rattle.std.specs.Prelude.{◌≡◌, ◌↔◌, ℕ, List, Ok};
+ghost use Rattle.brd_source.specs.Grammar.{LineIs};
+ghost use Rattle.brd_source.specs.Lines.{line_of};
+ghost use Rattle.brd_source.specs.Names.{HasNames};
+ghost use Rattle.brd_source.specs.Spelling.{Spells, HaveEnds};
+ghost use Rattle.brd_source.specs.Statement.{Line};
+ghost use Rattle.brd_source.specs.Tokens.{Token, tokens_of};
+
+/// What spells tokens, with any blanks between them and a comment behind them, is scanned as these tokens.
+pub fn spelled_tokens_are_scanned()
+    ensures { (bytes : List ℕ) (tokens : List Token) → Spells bytes tokens → tokens_of bytes ≡ tokens }
+{}
+
+/// The tokens of a line are spelled by its bytes, where no string lacks its end.
+pub fn scanned_tokens_are_spelled()
+    ensures { (bytes : List ℕ) → HaveEnds (tokens_of bytes) → Spells bytes (tokens_of bytes) }
+{}
+
+/// The labels of a line are names, and so is what its statement gives a value to.
+pub fn lines_have_names()
+    ensures { (bytes : List ℕ) (line : Line) → line_of bytes ≡ Ok line → HasNames line }
+{}
+
+/// What is read as a line is just what has the form of one, by the tokens that its bytes have, and so by any tokens that
+/// its bytes spell; and it is read as what these say.
+pub fn lines_follow_the_grammar()
+    ensures exact { (bytes : List ℕ) (line : Line) → (line_of bytes ≡ Ok line) ↔ LineIs (tokens_of bytes) line }
+    ensures spelled { (bytes : List ℕ) (line : Line) → (line_of bytes ≡ Ok line) ↔ ((tokens : List Token) × Spells bytes tokens × LineIs tokens line) }
+{}
