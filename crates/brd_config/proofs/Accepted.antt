@@ -8,13 +8,14 @@ use Rattle.std.proofs.lemmas.Nat.{and_mask}
 use Rattle.std.proofs.Math.Nat.{mod-eq_of_lt}
 use Rattle.std.proofs.lemmas.List.{append-nil, get_or_append_left, get_or_at, length-append, length-map}
 use Rattle.std.proofs.lemmas.List.Folds.{list_any_none}
-use Rattle.brd_text.specs.Words.{Word, Placed, Text, first, others, words_of}
-use Rattle.brd_text.specs.Words.Word.{End}
+use Rattle.brd_text.specs.Tokens.{Token, Placed, Text, first, others, tokens_of}
+use Rattle.brd_text.specs.Tokens.Token.{End}
 use Rattle.brd_text.specs.Turns.{repeated}
 use Rattle.brd_text.specs.Turns.Flow.{More, Done}
-use Rattle.brd_text.specs.Spelling.{bare_words}
+use Rattle.brd_text.specs.Spelling.{bare_tokens}
 use Rattle.brd_text.proofs.Spelled.{spelled}
 use Rattle.brd_text.proofs.TurnLemmas.{more_turns}
+use Rattle.brd_base.specs.Space.{IsRamSize}
 use Rattle.brd_config.specs.declared.fault.ConfigFault.{ConfigFault}
 use Rattle.brd_config.specs.declared.fault.ConfigFault.TheVariants.{NoMemory, BadId, BadAttribute, BadPriority, BadCount, BadProcessor}
 use Rattle.brd_config.specs.declared.objects.TaskConfig.{TaskConfig}
@@ -29,9 +30,10 @@ use Rattle.brd_config.specs.declared.statement.SemaphoreStatement.{SemaphoreStat
 use Rattle.brd_config.specs.declared.statement.FlagStatement.{FlagStatement}
 use Rattle.brd_config.specs.declared.statement.QueueStatement.{QueueStatement}
 use Rattle.brd_config.specs.declared.statement.HandlerStatement.{HandlerStatement}
-use Rattle.brd_config.specs.Configuration.{Configuration, IsWithin, IsRamSize, IsTask, IsSemaphore, IsFlag, IsQueue, IsHandler, IsConfiguration}
+use Rattle.brd_config.specs.Configuration.{Configuration, IsWithin, IsTask, IsSemaphore, IsFlag, IsQueue, IsHandler, IsConfiguration}
 use Rattle.brd_config.specs.Statements.{statement_at}
-use Rattle.brd_config.specs.Meaning.{State, within, only_bits, is_ram_size, task_of, semaphore_of, flag_of, queue_of, handler_of, added, processor_of, is_end, one_more, statement_step, statements_from, board_of, first_board, first_statement, config_of}
+use Rattle.brd_config.specs.Meaning.{State, within, only_bits, task_of, semaphore_of, flag_of, queue_of, handler_of, added, processor_of, is_end, one_more, statement_step, statements_from, board_of, first_board, first_statement, config_of}
+use Rattle.brd_config.proofs.RamSize.{ram_again}
 use Rattle.brd_config.specs.Grammar.Piece.{Exactly, Sign, Numeral, Attributes, Value, StackValue, Area, ClassName}
 use Rattle.brd_config.specs.Grammar.{Piece, IsSpelled, AreSpelled, form, IsText, tasks_of, semaphores_of, flags_of, queues_of, handlers_of, task_said, semaphore_said, flag_said, queue_said, handler_said, said, AreNested, AreValid, Says}
 use Rattle.brd_config.proofs.Forms.{Ahead, MayStand, exactly_step, first_sign, object_pieces, board_again, statement_again}
@@ -208,26 +210,26 @@ may_stand processors class (Flag x) ss nested = tt
 may_stand processors class (Queue x) ss nested = tt
 may_stand processors class (Handler x) ss nested = tt
 
--- a text of no words
-at_its_end : (t : Text) → bare_words t ≡ [] → (first t).word ≡ End
-at_its_end t e = by_words t.words e
+-- a text of no tokens
+at_its_end : (t : Text) → bare_tokens t ≡ [] → (first t).token ≡ End
+at_its_end t e = by_tokens t.tokens e
   where
-    by_words : (ps : List Placed) → map (λ p. p.word) ps ≡ [] → (first (record { words = ps; end = t.end })).word ≡ End
-    by_words [] e = refl
-    by_words (p ∷ ps) e = absurd (cc)
+    by_tokens : (ps : List Placed) → map (λ p. p.token) ps ≡ [] → (first (record { tokens = ps; end = t.end })).token ≡ End
+    by_tokens [] e = refl
+    by_tokens (p ∷ ps) e = absurd (cc)
 
-abbrev IsOneWord : Piece → Type 0
-IsOneWord (Exactly run) = Unit {0}
-IsOneWord (Sign b) = Unit {0}
-IsOneWord (Numeral n) = ⊥
-IsOneWord (Attributes n) = ⊥
-IsOneWord (Value v) = ⊥
-IsOneWord (StackValue v) = ⊥
-IsOneWord Area = ⊥
-IsOneWord (ClassName n) = ⊥
+abbrev IsOneToken : Piece → Type 0
+IsOneToken (Exactly run) = Unit {0}
+IsOneToken (Sign b) = Unit {0}
+IsOneToken (Numeral n) = ⊥
+IsOneToken (Attributes n) = ⊥
+IsOneToken (Value v) = ⊥
+IsOneToken (StackValue v) = ⊥
+IsOneToken Area = ⊥
+IsOneToken (ClassName n) = ⊥
 
--- a text that begins with this piece, which is one word
-not_at_end : (p : Piece) (ps : List Piece) (t : Text) → IsOneWord p → Ahead (p ∷ ps) t → is_end (first t).word ≡ false
+-- a text that begins with this piece, which is one token
+not_at_end : (p : Piece) (ps : List Piece) (t : Text) → IsOneToken p → Ahead (p ∷ ps) t → is_end (first t).token ≡ false
 not_at_end (Exactly run) ps t one s = rw (exactly_step run ps t s).0 refl
 not_at_end (Sign b) ps t one s = rw (first_sign b ps t s).0 refl
 not_at_end (Numeral n) ps t one s = absurd one
@@ -237,7 +239,7 @@ not_at_end (StackValue v) ps t one s = absurd one
 not_at_end Area ps t one s = absurd one
 not_at_end (ClassName n) ps t one s = absurd one
 
-begins_statement : (x : Statement) (ps : List Piece) (t : Text) → Ahead (form x ++ ps) t → is_end (first t).word ≡ false
+begins_statement : (x : Statement) (ps : List Piece) (t : Text) → Ahead (form x ++ ps) t → is_end (first t).token ≡ false
 begins_statement (Board processors ram) ps t s = not_at_end (Exactly (codes "BOARD")) (Sign 40 ∷ Numeral processors ∷ Sign 44 ∷ Numeral ram ∷ Sign 41 ∷ Sign 59 ∷ ps) t tt s
 begins_statement (Class n) ps t s = not_at_end (Exactly (codes "CLASS")) (Sign 40 ∷ ClassName n ∷ Sign 41 ∷ Sign 123 ∷ ps) t tt s
 begins_statement ClassEnd ps t s = not_at_end (Sign 125) (ps) t tt s
@@ -259,12 +261,12 @@ same : (p q : ℕ) → p ≡ q → (r s : ℕ) → r ≡ s → (ts us : List Tas
 same p q e0 r s e1 ts us e2 ss vs e3 fs gs e4 qs rs e5 hs ks e6 = rw (e0, e1, e2, e3, e4, e5, e6) refl
 
 -- one turn over a statement
-step_again : (c : Configuration) (class : Option ℕ) (x : Statement) (next : State) (t u : Text) → is_end (first t).word ≡ false → statement_at (is_some class) t ≡ Ok (x, u) → added (first t).line (record { config = c; class = class }) x ≡ Ok next
+step_again : (c : Configuration) (class : Option ℕ) (x : Statement) (next : State) (t u : Text) → is_end (first t).token ≡ false → statement_at (is_some class) t ≡ Ok (x, u) → added (first t).line (record { config = c; class = class }) x ≡ Ok next
     → statement_step (record { config = c; class = class }, t) ≡ Ok (More (next, u))
 unfolding statement_step one_more
 step_again c class x next t u begins read accepted = rw (begins, and_false (is_none class), read, accepted) refl
 
-last_step : (c : Configuration) (t : Text) → bare_words t ≡ [] → statement_step (record { config = c; class = None }, t) ≡ Ok (Done c)
+last_step : (c : Configuration) (t : Text) → bare_tokens t ≡ [] → statement_step (record { config = c; class = None }, t) ≡ Ok (Done c)
 unfolding statement_step
 last_step c t e = rw (at_its_end t e) refl
 
@@ -278,7 +280,7 @@ all_said whole c class l =
     let handlers = l.handlers ∙ append-nil c.handlers in
     sym (same whole.processors c.processors l.processors whole.ram c.ram l.ram whole.tasks c.tasks tasks whole.semaphores c.semaphores semaphores whole.flags c.flags flags whole.queues c.queues queues whole.handlers c.handlers handlers)
 
-run_again : (whole c : Configuration) (class : Option ℕ) (ss : List Statement) (t : Text) → IsConfiguration whole → Leads whole c class ss → AreNested c.processors class ss → AreSpelled (flat_map form ss) (bare_words t)
+run_again : (whole c : Configuration) (class : Option ℕ) (ss : List Statement) (t : Text) → IsConfiguration whole → Leads whole c class ss → AreNested c.processors class ss → AreSpelled (flat_map form ss) (bare_tokens t)
     → repeated NoMemory statement_step (suc (length ss)) (record { config = c; class = class }, t) ≡ Ok whole
 unfolding repeated
 run_again whole c None [] t valid l nested s = rw (last_step c t s) (ap (λ (w : Configuration). Ok w) (all_said whole c None l))
@@ -291,19 +293,19 @@ run_again whole c class (x ∷ ss) t valid l nested s =
 
 -- ---- turns enough
 
--- the words behind pieces
-behind : (ps qs : List Piece) (words : List Word) → AreSpelled (ps ++ qs) words → (rest : List Word) × AreSpelled qs rest × (length rest ≤ length words)
-behind [] qs words s = (words, s, omega arith)
-behind (p ∷ ps) qs words s =
+-- the tokens behind pieces
+behind : (ps qs : List Piece) (tokens : List Token) → AreSpelled (ps ++ qs) tokens → (rest : List Token) × AreSpelled qs rest × (length rest ≤ length tokens)
+behind [] qs tokens s = (tokens, s, omega arith)
+behind (p ∷ ps) qs tokens s =
     let b = behind ps qs s.1 s.3 in
     (b.0, b.1, omega (arith, b.2, ap length s.4, length-append s.0 s.1))
 
-first_less : (p : Piece) (ps qs : List Piece) (words : List Word) → IsOneWord p → AreSpelled (p ∷ (ps ++ qs)) words → (rest : List Word) × AreSpelled qs rest × (length rest < length words)
-first_less p ps qs words one s =
+first_less : (p : Piece) (ps qs : List Piece) (tokens : List Token) → IsOneToken p → AreSpelled (p ∷ (ps ++ qs)) tokens → (rest : List Token) × AreSpelled qs rest × (length rest < length tokens)
+first_less p ps qs tokens one s =
     let b = behind ps qs s.1 s.3 in
     (b.0, b.1, omega (arith, b.2, ap length s.4, length-append s.0 s.1, one_long p s.0 one s.2))
   where
-    one_long : (p : Piece) (front : List Word) → IsOneWord p → IsSpelled p front → length front ≡ 1
+    one_long : (p : Piece) (front : List Token) → IsOneToken p → IsSpelled p front → length front ≡ 1
     one_long (Exactly run) front one e = ap length e
     one_long (Sign b) front one e = ap length e
     one_long (Numeral n) front one e = absurd one
@@ -313,28 +315,24 @@ first_less p ps qs words one s =
     one_long Area front one e = absurd one
     one_long (ClassName n) front one e = absurd one
 
-form_less : (x : Statement) (qs : List Piece) (words : List Word) → AreSpelled (form x ++ qs) words → (rest : List Word) × AreSpelled qs rest × (length rest < length words)
-form_less (Board processors ram) qs words s = first_less (Exactly (codes "BOARD")) (Sign 40 ∷ Numeral processors ∷ Sign 44 ∷ Numeral ram ∷ Sign 41 ∷ Sign 59 ∷ []) qs words tt s
-form_less (Class n) qs words s = first_less (Exactly (codes "CLASS")) (Sign 40 ∷ ClassName n ∷ Sign 41 ∷ Sign 123 ∷ []) qs words tt s
-form_less ClassEnd qs words s = first_less (Sign 125) ([]) qs words tt s
-form_less (Task x) qs words s = first_less (Exactly (codes "CRE_TSK")) (object_pieces x.id x.attributes (Value x.exinf ∷ Sign 44 ∷ Value x.address ∷ Sign 44 ∷ Numeral x.priority ∷ Sign 44 ∷ Numeral x.stack_size ∷ Sign 44 ∷ StackValue x.stack ∷ []) []) qs words tt s
-form_less (Semaphore x) qs words s = first_less (Exactly (codes "CRE_SEM")) (object_pieces x.id x.attributes (Numeral x.initial ∷ Sign 44 ∷ Numeral x.maximum ∷ []) []) qs words tt s
-form_less (Flag x) qs words s = first_less (Exactly (codes "CRE_FLG")) (object_pieces x.id x.attributes (Numeral x.pattern ∷ []) []) qs words tt s
-form_less (Queue x) qs words s = first_less (Exactly (codes "CRE_DTQ")) (object_pieces x.id x.attributes (Numeral x.capacity ∷ Sign 44 ∷ Area ∷ []) []) qs words tt s
-form_less (Handler x) qs words s = first_less (Exactly (codes "DEF_INH")) (object_pieces x.line x.attributes (Value x.address ∷ []) []) qs words tt s
+form_less : (x : Statement) (qs : List Piece) (tokens : List Token) → AreSpelled (form x ++ qs) tokens → (rest : List Token) × AreSpelled qs rest × (length rest < length tokens)
+form_less (Board processors ram) qs tokens s = first_less (Exactly (codes "BOARD")) (Sign 40 ∷ Numeral processors ∷ Sign 44 ∷ Numeral ram ∷ Sign 41 ∷ Sign 59 ∷ []) qs tokens tt s
+form_less (Class n) qs tokens s = first_less (Exactly (codes "CLASS")) (Sign 40 ∷ ClassName n ∷ Sign 41 ∷ Sign 123 ∷ []) qs tokens tt s
+form_less ClassEnd qs tokens s = first_less (Sign 125) ([]) qs tokens tt s
+form_less (Task x) qs tokens s = first_less (Exactly (codes "CRE_TSK")) (object_pieces x.id x.attributes (Value x.exinf ∷ Sign 44 ∷ Value x.address ∷ Sign 44 ∷ Numeral x.priority ∷ Sign 44 ∷ Numeral x.stack_size ∷ Sign 44 ∷ StackValue x.stack ∷ []) []) qs tokens tt s
+form_less (Semaphore x) qs tokens s = first_less (Exactly (codes "CRE_SEM")) (object_pieces x.id x.attributes (Numeral x.initial ∷ Sign 44 ∷ Numeral x.maximum ∷ []) []) qs tokens tt s
+form_less (Flag x) qs tokens s = first_less (Exactly (codes "CRE_FLG")) (object_pieces x.id x.attributes (Numeral x.pattern ∷ []) []) qs tokens tt s
+form_less (Queue x) qs tokens s = first_less (Exactly (codes "CRE_DTQ")) (object_pieces x.id x.attributes (Numeral x.capacity ∷ Sign 44 ∷ Area ∷ []) []) qs tokens tt s
+form_less (Handler x) qs tokens s = first_less (Exactly (codes "DEF_INH")) (object_pieces x.line x.attributes (Value x.address ∷ []) []) qs tokens tt s
 
--- each statement has a word
-enough : (ss : List Statement) (words : List Word) → AreSpelled (flat_map form ss) words → length ss ≤ length words
-enough [] words s = omega arith
-enough (x ∷ ss) words s =
-    let b = form_less x (flat_map form ss) words s in
+-- each statement has a token
+enough : (ss : List Statement) (tokens : List Token) → AreSpelled (flat_map form ss) tokens → length ss ≤ length tokens
+enough [] tokens s = omega arith
+enough (x ∷ ss) tokens s =
+    let b = form_less x (flat_map form ss) tokens s in
     omega (arith, b.2, enough ss b.0 b.1)
 
 -- ---- the first statement
-
-ram_again : (ram : ℕ) → IsRamSize ram → is_ram_size ram ≡ true
-unfolding is_ram_size
-ram_again ram v = rw (le-leb 65536 ram v.range.least, le-leb ram 16777216 v.range.most, eq-eqb _ _ v.steps) refl
 
 started : ℕ → ℕ → Configuration
 started processors ram = record { processors = processors; ram = ram; tasks = []; semaphores = []; flags = []; queues = []; handlers = [] }
@@ -353,14 +351,14 @@ first_again processors ram ps t v w s =
 pub config_again : (bytes : List ℕ) (processors ram : ℕ) (ss : List Statement) → IsText bytes (Board processors ram ∷ ss) → AreValid processors ram ss → config_of bytes ≡ Ok (said processors ram ss)
 unfolding config_of statements_from started
 config_again bytes processors ram ss text valid =
-    let t = words_of bytes in
-    let words : bare_words t ≡ text.0 = spelled 1 bytes text.0 text.1 in
-    let s : AreSpelled (flat_map form (Board processors ram ∷ ss)) (bare_words t) = subst (AreSpelled (flat_map form (Board processors ram ∷ ss))) (sym words) text.2 in
+    let t = tokens_of bytes in
+    let tokens : bare_tokens t ≡ text.0 = spelled 1 bytes text.0 text.1 in
+    let s : AreSpelled (flat_map form (Board processors ram ∷ ss)) (bare_tokens t) = subst (AreSpelled (flat_map form (Board processors ram ∷ ss))) (sym tokens) text.2 in
     let f = first_again processors ram (flat_map form ss) t valid.values.processors valid.values.ram s in
     let leads : Leads (said processors ram ss) (started processors ram) None ss = record { processors = refl; ram = refl; tasks = refl; semaphores = refl; flags = refl; queues = refl; handlers = refl } in
     let run = run_again (said processors ram ss) (started processors ram) None ss f.0 valid.values leads valid.nested f.2 in
-    let long : suc (length ss) ≤ suc (length f.0.words) = omega (arith, enough ss (bare_words f.0) f.2, length-map f.0.words (λ p. p.word)) in
-    rw f.1 (more_turns NoMemory statement_step (suc (length ss)) (suc (length f.0.words)) (record { config = started processors ram; class = None }, f.0) (said processors ram ss) long run)
+    let long : suc (length ss) ≤ suc (length f.0.tokens) = omega (arith, enough ss (bare_tokens f.0) f.2, length-map f.0.tokens (λ p. p.token)) in
+    rw f.1 (more_turns NoMemory statement_step (suc (length ss)) (suc (length f.0.tokens)) (record { config = started processors ram; class = None }, f.0) (said processors ram ss) long run)
 
 pub says_again : (bytes : List ℕ) (c : Configuration) → Says bytes c → config_of bytes ≡ Ok c
 says_again bytes c s = config_again bytes s.0 s.1 s.2 s.3 s.4 ∙ ap (λ (d : Configuration). Ok d) (sym s.5)

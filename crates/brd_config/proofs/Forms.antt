@@ -4,10 +4,10 @@ use Rattle.std.proofs.lemmas.Bool.{eq-eqb}
 use Rattle.std.proofs.lemmas.List.{length-append, length-map}
 use Rattle.std.specs.Prelude.{codes}
 use Rattle.std.specs.Int.RustNames.{bit_or}
-use Rattle.brd_text.specs.Words.{Word, Placed, Text, first, others}
-use Rattle.brd_text.specs.Words.Word.{Run, Mark}
+use Rattle.brd_text.specs.Tokens.{Token, Placed, Text, first, others}
+use Rattle.brd_text.specs.Tokens.Token.{Run, Mark}
 use Rattle.brd_text.specs.Turns.{repeated, flow_of}
-use Rattle.brd_text.specs.Spelling.{bare_words}
+use Rattle.brd_text.specs.Spelling.{bare_tokens}
 use Rattle.brd_config.specs.declared.fault.ConfigFault.{ConfigFault}
 use Rattle.brd_config.specs.declared.fault.ConfigFault.TheVariants.{NoMemory}
 use Rattle.brd_config.specs.declared.objects.Operand.{Operand}
@@ -25,22 +25,22 @@ use Rattle.brd_config.specs.Grammar.{Piece, Joined, AreSpelled, form}
 use Rattle.brd_config.specs.Grammar.Piece.{Exactly, Sign, Numeral, Attributes, Value, StackValue, Area, ClassName}
 use Rattle.brd_config.specs.Grammar.Joined.{last, bar}
 
--- the first word of a text, and the rest
-pub first_bare : (t : Text) (w : Word) (ws : List Word) → bare_words t ≡ w ∷ ws → ((first t).word ≡ w) × (bare_words (others t) ≡ ws)
-first_bare t w ws e = by_words t.words e
+-- the first token of a text, and the rest
+pub first_bare : (t : Text) (w : Token) (ws : List Token) → bare_tokens t ≡ w ∷ ws → ((first t).token ≡ w) × (bare_tokens (others t) ≡ ws)
+first_bare t w ws e = by_tokens t.tokens e
   where
-    by_words : (ps : List Placed) → map (λ p. p.word) ps ≡ w ∷ ws → ((first (record { words = ps; end = t.end })).word ≡ w) × (map (λ p. p.word) (drop 1 ps) ≡ ws)
-    by_words [] e = absurd (cc)
-    by_words (p ∷ ps) e = (cc, cc)
+    by_tokens : (ps : List Placed) → map (λ p. p.token) ps ≡ w ∷ ws → ((first (record { tokens = ps; end = t.end })).token ≡ w) × (map (λ p. p.token) (drop 1 ps) ≡ ws)
+    by_tokens [] e = absurd (cc)
+    by_tokens (p ∷ ps) e = (cc, cc)
 
 -- The pieces are spelled at the front of the text.
 abbrev pub Ahead : List Piece → Text → Type 0
-Ahead ps t = AreSpelled ps (bare_words t)
+Ahead ps t = AreSpelled ps (bare_tokens t)
 
--- a piece of one word
-one_piece : (w : Word) (ps : List Piece) (t : Text) (front rest : List Word) → front ≡ w ∷ [] → AreSpelled ps rest → bare_words t ≡ front ++ rest → ((first t).word ≡ w) × Ahead ps (others t)
+-- a piece of one token
+one_piece : (w : Token) (ps : List Piece) (t : Text) (front rest : List Token) → front ≡ w ∷ [] → AreSpelled ps rest → bare_tokens t ≡ front ++ rest → ((first t).token ≡ w) × Ahead ps (others t)
 one_piece w ps t front rest one later e =
-    let f = first_bare t w rest (e ∙ ap (λ (ws : List Word). ws ++ rest) one) in
+    let f = first_bare t w rest (e ∙ ap (λ (ws : List Token). ws ++ rest) one) in
     (f.0, subst (AreSpelled ps) (sym f.1) later)
 
 pub sign_step : (b : ℕ) (ps : List Piece) (t : Text) → Ahead (Sign b ∷ ps) t → (mark_at b t ≡ Ok (others t)) × Ahead ps (others t)
@@ -79,32 +79,32 @@ class_name_step n ps t s =
     let one = one_piece (Run s.2.0) ps t s.0 s.1 s.2.1 s.3 s.4 in
     (rw (one.0, s.2.2) refl, one.1)
 
-pub exactly_step : (run : List ℕ) (ps : List Piece) (t : Text) → Ahead (Exactly run ∷ ps) t → ((first t).word ≡ Run run) × Ahead ps (others t)
+pub exactly_step : (run : List ℕ) (ps : List Piece) (t : Text) → Ahead (Exactly run ∷ ps) t → ((first t).token ≡ Run run) × Ahead ps (others t)
 exactly_step run ps t s = one_piece (Run run) ps t s.0 s.1 s.2 s.3 s.4
 
-pub first_sign : (b : ℕ) (ps : List Piece) (t : Text) → Ahead (Sign b ∷ ps) t → ((first t).word ≡ Mark b) × Ahead ps (others t)
+pub first_sign : (b : ℕ) (ps : List Piece) (t : Text) → Ahead (Sign b ∷ ps) t → ((first t).token ≡ Mark b) × Ahead ps (others t)
 first_sign b ps t s = one_piece (Mark b) ps t s.0 s.1 s.2 s.3 s.4
 
 -- ---- attributes
 
 -- a run, a mark and what follows
-one_attribute : (before bits b : ℕ) (run : List ℕ) (t : Text) (more : Bool) (rest : List Word) → attribute_of run ≡ Some bits → bare_words t ≡ Run run ∷ Mark b ∷ rest
+one_attribute : (before bits b : ℕ) (run : List ℕ) (t : Text) (more : Bool) (rest : List Token) → attribute_of run ≡ Some bits → bare_tokens t ≡ Run run ∷ Mark b ∷ rest
     → joint_at 44 (others t) ≡ Ok (more, others (others t)) → attribute_step 44 (before, t) ≡ Ok (flow_of more (bit_or before bits, others (others t)) (bit_or before bits, others (others t)))
 unfolding attribute_step attribute_at
 one_attribute before bits b run t more rest h e joint =
     let f = first_bare t (Run run) (Mark b ∷ rest) e in
     rw (f.0, h, joint) refl
 
-joint_ends : (t : Text) → (first t).word ≡ Mark 44 → joint_at 44 t ≡ Ok (false, others t)
+joint_ends : (t : Text) → (first t).token ≡ Mark 44 → joint_at 44 t ≡ Ok (false, others t)
 unfolding joint_at
 joint_ends t e = rw e refl
 
-joint_goes_on : (t : Text) → (first t).word ≡ Mark 124 → joint_at 44 t ≡ Ok (true, others t)
+joint_goes_on : (t : Text) → (first t).token ≡ Mark 124 → joint_at 44 t ≡ Ok (true, others t)
 unfolding joint_at
 joint_goes_on t e = rw e refl
 
--- with as many turns as there are words
-joined : (before bits : ℕ) (words : List Word) → Joined before bits words → (n : ℕ) (ps : List Piece) (t : Text) (rest : List Word) → length words ≤ n → AreSpelled ps rest → bare_words t ≡ words ++ Mark 44 ∷ rest
+-- with as many turns as there are tokens
+joined : (before bits : ℕ) (tokens : List Token) → Joined before bits tokens → (n : ℕ) (ps : List Piece) (t : Text) (rest : List Token) → length tokens ≤ n → AreSpelled ps rest → bare_tokens t ≡ tokens ++ Mark 44 ∷ rest
     → (u : Text) × (repeated NoMemory (attribute_step 44) n (before, t) ≡ Ok (bits, u)) × Ahead ps u
 unfolding repeated
 joined before _ _ (last _ run bits h) zero ps t rest le later e = absurd (omega arith)
@@ -113,20 +113,20 @@ joined before _ _ (last _ run bits h) (suc n) ps t rest le later e =
     let g = first_bare (others t) (Mark 44) rest f.1 in
     let step = one_attribute before bits 44 run t false rest h e (joint_ends (others t) g.0) in
     (others (others t), rw step refl, subst (AreSpelled ps) (sym g.1) later)
-joined before _ _ (bar _ run bits all words h j) zero ps t rest le later e = absurd (omega arith)
-joined before _ _ (bar _ run bits all words h j) (suc n) ps t rest le later e =
-    let f = first_bare t (Run run) (Mark 124 ∷ (words ++ Mark 44 ∷ rest)) e in
-    let g = first_bare (others t) (Mark 124) (words ++ Mark 44 ∷ rest) f.1 in
-    let step = one_attribute before bits 124 run t true (words ++ Mark 44 ∷ rest) h e (joint_goes_on (others t) g.0) in
-    let again = joined (bit_or before bits) all words j n ps (others (others t)) rest (omega arith) later g.1 in
+joined before _ _ (bar _ run bits all tokens h j) zero ps t rest le later e = absurd (omega arith)
+joined before _ _ (bar _ run bits all tokens h j) (suc n) ps t rest le later e =
+    let f = first_bare t (Run run) (Mark 124 ∷ (tokens ++ Mark 44 ∷ rest)) e in
+    let g = first_bare (others t) (Mark 124) (tokens ++ Mark 44 ∷ rest) f.1 in
+    let step = one_attribute before bits 124 run t true (tokens ++ Mark 44 ∷ rest) h e (joint_goes_on (others t) g.0) in
+    let again = joined (bit_or before bits) all tokens j n ps (others (others t)) rest (omega arith) later g.1 in
     (again.0, rw step again.1, again.2)
 
 attributes_step : (bits : ℕ) (ps : List Piece) (t : Text) → Ahead (Attributes bits ∷ Sign 44 ∷ ps) t → (u : Text) × (attributes_at 44 t ≡ Ok (bits, u)) × Ahead ps u
 unfolding attributes_at
 attributes_step bits ps t s =
-    let e : bare_words t ≡ s.0 ++ Mark 44 ∷ s.3.1 = s.4 ∙ ap (λ (ws : List Word). s.0 ++ ws) (s.3.4 ∙ ap (λ (ws : List Word). ws ++ s.3.1) s.3.2) in
-    let long : length s.0 ≤ suc (length t.words) = omega (arith, ap length e, length-append s.0 (Mark 44 ∷ s.3.1), length-map t.words (λ p. p.word)) in
-    joined 0 bits s.0 s.2 (suc (length t.words)) ps t s.3.1 long s.3.3 e
+    let e : bare_tokens t ≡ s.0 ++ Mark 44 ∷ s.3.1 = s.4 ∙ ap (λ (ws : List Token). s.0 ++ ws) (s.3.4 ∙ ap (λ (ws : List Token). ws ++ s.3.1) s.3.2) in
+    let long : length s.0 ≤ suc (length t.tokens) = omega (arith, ap length e, length-append s.0 (Mark 44 ∷ s.3.1), length-map t.tokens (λ p. p.token)) in
+    joined 0 bits s.0 s.2 (suc (length t.tokens)) ps t s.3.1 long s.3.3 e
 
 -- ---- statements
 

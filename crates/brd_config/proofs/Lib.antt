@@ -1,3 +1,4 @@
+pub mod RamSize
 pub mod Validity
 pub mod Forms
 pub mod Accepted

@@ -1,5 +1,5 @@
 -- What a text says is a configuration: each value is within its limits, and IDs of one kind are distinct.
-use Rattle.std.proofs.Common.{◌≡◌, ◌≢◌, ℕ, suc, ◌<◌, ◌≤◌, ◌%◌, Bool, true, false, cond, not, ◌&&◌, List, [], ◌∷◌, ◌++◌, length, get_or, Some, None, Result, Ok, Err, refl, sym, ap, subst, ◌∙◌, inl, inr, arith}
+use Rattle.std.proofs.Common.{◌≡◌, ◌≢◌, ℕ, suc, ◌<◌, ◌≤◌, Bool, true, false, cond, not, ◌&&◌, List, [], ◌∷◌, ◌++◌, length, get_or, Some, None, Result, Ok, Err, refl, sym, ap, subst, ◌∙◌, inl, inr, arith}
 use Rattle.std.specs.Prelude.{AllPairs, nat_eq, nat_le}
 use Rattle.std.specs.List.{list_any}
 use Rattle.std.specs.Int.RustNames.{bit_and}
@@ -10,7 +10,7 @@ use Rattle.std.proofs.lemmas.List.{length_push, get_or_push, get_or_append_left}
 use Rattle.std.proofs.lemmas.List.Elements.{All-push}
 use Rattle.std.proofs.lemmas.List.Folds.{list_any_at}
 use Rattle.std.specs.Prelude.{is_none, is_some}
-use Rattle.brd_text.specs.Words.{Text, first, others, words_of}
+use Rattle.brd_text.specs.Tokens.{Text, first, others, tokens_of}
 use Rattle.brd_text.specs.Faults.{◌>>=◌}
 use Rattle.brd_text.specs.Turns.{Flow}
 use Rattle.brd_text.specs.Turns.Flow.{More, Done}
@@ -33,6 +33,7 @@ use Rattle.brd_config.specs.declared.statement.Statement.TheVariants.{Board, Cla
 use Rattle.brd_config.specs.Statements.{statement_at, board_at}
 use Rattle.brd_config.specs.Configuration.{Configuration, IsWithin, IsTask, IsSemaphore, IsFlag, IsQueue, IsHandler, IsConfiguration}
 use Rattle.brd_config.specs.Meaning.{State, within, only_bits, refused, is_ram_size, task_of, semaphore_of, flag_of, queue_of, handler_of, added, processor_of, is_end, is_board, one_more, statement_step, statements_from, board_of, first_board, first_statement, config_of}
+use Rattle.brd_config.proofs.RamSize.{has_ram_size}
 
 -- ---- lists
 
@@ -263,24 +264,22 @@ done_by false s c e h = absurd (one_more_goes_on s c e)
 
 step_more : (s t : State × Text) → statement_step s ≡ Ok (More t) → IsState s.0 → IsState t.0
 unfolding statement_step
-step_more s t e h = more_by (is_none s.0.class && is_end (first s.1).word) s t e h
+step_more s t e h = more_by (is_none s.0.class && is_end (first s.1).token) s t e h
 
 step_done : (s : State × Text) (c : Configuration) → statement_step s ≡ Ok (Done c) → IsState s.0 → IsConfiguration c
 unfolding statement_step
-step_done s c e h = done_by (is_none s.0.class && is_end (first s.1).word) s c e h
+step_done s c e h = done_by (is_none s.0.class && is_end (first s.1).token) s c e h
 
 -- nothing but a board
 board_ok : (line processors ram : ℕ) (c : Configuration) → board_of line processors ram ≡ Ok c → IsConfiguration c
-unfolding board_of is_ram_size
+unfolding board_of
 board_ok line processors ram c e =
     let p = two_ok (within 1 8 (BadProcessor line) processors) (refused (not (is_ram_size ram)) (BadCount line))
     (λ count sized. record { processors = count; ram = ram; tasks = []; semaphores = []; flags = []; queues = []; handlers = [] }) c e in
     let sized = not-false (is_ram_size ram) (refused_ok (not (is_ram_size ram)) (BadCount line) p.1 p.3) in
-    let range = and_parts (nat_le 65536 ram && nat_le ram 16777216) (nat_eq (ram % 65536) 0) sized in
-    let ends = and_parts (nat_le 65536 ram) (nat_le ram 16777216) range.0 in
     rw (← p.4) (record {
       processors = (within_ok 1 8 (BadProcessor line) processors p.0 p.2).1;
-      ram = record { range = record { least = leb-true _ _ ends.0; most = leb-true _ _ ends.1 }; steps = eqb-true _ _ range.1 };
+      ram = has_ram_size ram sized;
       tasks = λ k d lt. absurd (omega arith);
       semaphores = λ k d lt. absurd (omega arith);
       flags = λ k d lt. absurd (omega arith);
@@ -308,7 +307,7 @@ first_board_ok line t s e =
 
 first_ok : (t : Text) (s : State × Text) → first_statement t ≡ Ok s → IsState s.0
 unfolding first_statement
-first_ok t s e = first_board_ok (first t).line (others t) s (passed_by (is_board (first t).word) e)
+first_ok t s e = first_board_ok (first t).line (others t) s (passed_by (is_board (first t).token) e)
   where
     passed_by : (b : Bool) → cond b (first_board (first t).line (others t)) (Err (Syntax (first t).line)) ≡ Ok s → first_board (first t).line (others t) ≡ Ok s
     passed_by true e = e
@@ -317,5 +316,5 @@ first_ok t s e = first_board_ok (first t).line (others t) s (passed_by (is_board
 pub config_is_valid : (bytes : List ℕ) (c : Configuration) → config_of bytes ≡ Ok c → IsConfiguration c
 unfolding config_of statements_from
 config_is_valid bytes c e =
-    let a = bind_ok (first_statement (words_of bytes)) statements_from c e in
-    keeps NoMemory statement_step (λ s. IsState s.0) IsConfiguration step_more step_done (suc (length a.0.1.words)) a.0 c (first_ok (words_of bytes) a.0 a.1) a.2
+    let a = bind_ok (first_statement (tokens_of bytes)) statements_from c e in
+    keeps NoMemory statement_step (λ s. IsState s.0) IsConfiguration step_more step_done (suc (length a.0.1.tokens)) a.0 c (first_ok (tokens_of bytes) a.0 a.1) a.2

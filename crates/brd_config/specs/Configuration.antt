@@ -1,5 +1,6 @@
 -- A configuration, and what is one: the limits of each value, and IDs that are distinct.
-use Rattle.std.specs.Prelude.{◌≡◌, ◌≢◌, ℕ, ◌≤◌, ◌%◌, List, All, AllPairs}
+use Rattle.std.specs.Prelude.{◌≢◌, ℕ, ◌≤◌, List, All, AllPairs}
+use Rattle.brd_base.specs.Space.{IsRamSize}
 use Rattle.brd_config.specs.declared.objects.TaskConfig.{TaskConfig}
 use Rattle.brd_config.specs.declared.objects.SemaphoreConfig.{SemaphoreConfig}
 use Rattle.brd_config.specs.declared.objects.FlagConfig.{FlagConfig}
@@ -20,11 +21,6 @@ pub record Configuration : Type 0 where
 pub record IsWithin (low high n : ℕ) : Type 0 where
   pub least : low ≤ n
   pub most : n ≤ high
-
--- 64 KiB to 16 MiB, in steps of 64 KiB
-pub record IsRamSize (ram : ℕ) : Type 0 where
-  pub range : IsWithin 65536 16777216 ram
-  pub steps : ram % 65536 ≡ 0
 
 pub record IsTask (processors : ℕ) (t : TaskConfig) : Type 0 where
   pub id : IsWithin 1 255 t.id

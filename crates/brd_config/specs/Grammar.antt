@@ -1,10 +1,10 @@
--- The language as a grammar, apart from how it is read: the form of each statement, which words spell a form, and what
+-- The language as a grammar, apart from how it is read: the form of each statement, which tokens spell a form, and what
 -- configuration a list of statements says.
 use Rattle.std.specs.Prelude.{◌≡◌, ℕ, ◌≤◌, true, List, [], ◌∷◌, ◌++◌, Option, Some, None, codes}
 use Rattle.std.specs.List.{flat_map}
 use Rattle.std.specs.Int.RustNames.{bit_or}
-use Rattle.brd_text.specs.Words.{Word}
-use Rattle.brd_text.specs.Words.Word.{Run, Mark}
+use Rattle.brd_text.specs.Tokens.{Token}
+use Rattle.brd_text.specs.Tokens.Token.{Run, Mark}
 use Rattle.brd_text.specs.Numbers.{number_of}
 use Rattle.brd_text.specs.Spelling.{Spells}
 use Rattle.brd_config.specs.declared.objects.Operand.{Operand}
@@ -25,9 +25,9 @@ use Rattle.brd_config.specs.Reading.{attribute_of, class_of, operand_of, stack_o
 use Rattle.brd_config.specs.Configuration.{Configuration, IsWithin, IsConfiguration}
 use Rattle.brd_config.specs.Meaning.{processor_of}
 
--- ---- words
+-- ---- tokens
 
--- A piece of a statement: a word that stands for itself, a mark, or words for a value.
+-- A piece of a statement: a token that stands for itself, a mark, or tokens for a value.
 pub data Piece : Type 0 where
   Exactly : List ℕ → Piece
   Sign : ℕ → Piece
@@ -39,28 +39,28 @@ pub data Piece : Type 0 where
   ClassName : ℕ → Piece
 
 -- Attributes with bars between them, whose bits are joined to those before them and come to all of them.
-pub data Joined : ℕ → ℕ → List Word → Type 0 where
+pub data Joined : ℕ → ℕ → List Token → Type 0 where
   last : (before : ℕ) (run : List ℕ) (bits : ℕ) → attribute_of run ≡ Some bits → Joined before (bit_or before bits) (Run run ∷ [])
-  bar : (before : ℕ) (run : List ℕ) (bits all : ℕ) (words : List Word) → attribute_of run ≡ Some bits → Joined (bit_or before bits) all words → Joined before all (Run run ∷ Mark 124 ∷ words)
+  bar : (before : ℕ) (run : List ℕ) (bits all : ℕ) (tokens : List Token) → attribute_of run ≡ Some bits → Joined (bit_or before bits) all tokens → Joined before all (Run run ∷ Mark 124 ∷ tokens)
 
 -- one run, of which this is true
-abbrev pub OneRun : (List ℕ → Type 0) → List Word → Type 0
-OneRun P words = (run : List ℕ) × (words ≡ Run run ∷ []) × P run
+abbrev pub OneRun : (List ℕ → Type 0) → List Token → Type 0
+OneRun P tokens = (run : List ℕ) × (tokens ≡ Run run ∷ []) × P run
 
-abbrev pub IsSpelled : Piece → List Word → Type 0
-IsSpelled (Exactly bytes) words = words ≡ Run bytes ∷ []
-IsSpelled (Sign b) words = words ≡ Mark b ∷ []
-IsSpelled (Numeral n) words = OneRun (λ run. number_of run ≡ Some n) words
-IsSpelled (Attributes bits) words = Joined 0 bits words
-IsSpelled (Value v) words = OneRun (λ run. operand_of run ≡ Some v) words
-IsSpelled (StackValue v) words = OneRun (λ run. stack_of run ≡ Some v) words
-IsSpelled Area words = OneRun (λ run. is_area run ≡ true) words
-IsSpelled (ClassName n) words = OneRun (λ run. class_of run ≡ Some n) words
+abbrev pub IsSpelled : Piece → List Token → Type 0
+IsSpelled (Exactly bytes) tokens = tokens ≡ Run bytes ∷ []
+IsSpelled (Sign b) tokens = tokens ≡ Mark b ∷ []
+IsSpelled (Numeral n) tokens = OneRun (λ run. number_of run ≡ Some n) tokens
+IsSpelled (Attributes bits) tokens = Joined 0 bits tokens
+IsSpelled (Value v) tokens = OneRun (λ run. operand_of run ≡ Some v) tokens
+IsSpelled (StackValue v) tokens = OneRun (λ run. stack_of run ≡ Some v) tokens
+IsSpelled Area tokens = OneRun (λ run. is_area run ≡ true) tokens
+IsSpelled (ClassName n) tokens = OneRun (λ run. class_of run ≡ Some n) tokens
 
 -- one piece after the other
-abbrev pub AreSpelled : List Piece → List Word → Type 0
-AreSpelled [] words = words ≡ []
-AreSpelled (p ∷ ps) words = (front : List Word) × (rest : List Word) × IsSpelled p front × AreSpelled ps rest × (words ≡ front ++ rest)
+abbrev pub AreSpelled : List Piece → List Token → Type 0
+AreSpelled [] tokens = tokens ≡ []
+AreSpelled (p ∷ ps) tokens = (front : List Token) × (rest : List Token) × IsSpelled p front × AreSpelled ps rest × (tokens ≡ front ++ rest)
 
 -- ---- forms
 
@@ -80,7 +80,7 @@ form (Handler h) = object (codes "DEF_INH") h.line h.attributes (Value h.address
 
 -- The bytes spell the statements, in their forms.
 abbrev pub IsText : List ℕ → List Statement → Type 0
-IsText bytes statements = (words : List Word) × Spells bytes words × AreSpelled (flat_map form statements) words
+IsText bytes statements = (tokens : List Token) × Spells bytes tokens × AreSpelled (flat_map form statements) tokens
 
 -- ---- what statements say
 

@@ -1,11 +1,11 @@
 -- The configuration that a text says, or the fault of its first faulty statement. Of the faults of one statement the
 -- first in this order is answered: Syntax, BadProcessor, BadId, Duplicate, BadAttribute, BadPriority, BadCount.
-use Rattle.std.specs.Prelude.{ℕ, suc, ◌%◌, Bool, true, false, not, ◌&&◌, nat_le, ◌==◌, if◌then◌else◌, List, [], ◌∷◌, ◌++◌, length, Option, Some, None, is_none, is_some, unwrap_or, Result, Ok, Err, codes}
+use Rattle.std.specs.Prelude.{ℕ, suc, ◌%◌, ◌^◌, Bool, true, false, not, ◌&&◌, nat_le, ◌==◌, if◌then◌else◌, List, [], ◌∷◌, ◌++◌, length, Option, Some, None, is_none, is_some, unwrap_or, Result, Ok, Err, codes}
 use Rattle.std.specs.List.{list_any}
 use Rattle.std.specs.Str.{bytes_eq}
 use Rattle.std.specs.Int.RustNames.{bit_and}
-use Rattle.brd_text.specs.Words.{Word, Text, words_of, first, others}
-use Rattle.brd_text.specs.Words.Word.{Run, Mark, Unclosed, End}
+use Rattle.brd_text.specs.Tokens.{Token, Text, tokens_of, first, others}
+use Rattle.brd_text.specs.Tokens.Token.{Run, Mark, Unclosed, End}
 use Rattle.brd_text.specs.Faults.{◌>>=◌}
 use Rattle.brd_text.specs.Turns.{Flow, repeated}
 use Rattle.brd_text.specs.Turns.Flow.{More, Done}
@@ -40,8 +40,9 @@ only_bits allowed fault bits = if bit_and bits allowed == bits then Ok bits else
 abbrev pub refused : Bool → ConfigFault → Result (Unit {0}) ConfigFault
 refused test fault = if test then Err fault else Ok tt
 
+-- `IsRamSize`, as a test
 unfoldable pub is_ram_size : ℕ → Bool
-is_ram_size ram = nat_le 65536 ram && nat_le ram 16777216 && (ram % 65536 == 0)
+is_ram_size ram = nat_le (2 ^ 16) ram && nat_le ram (2 ^ 24) && (ram % 2 ^ 16 == 0)
 
 -- ---- what statements say
 
@@ -130,7 +131,7 @@ added line s (Handler x) = do
 
 -- ---- the text
 
-abbrev pub is_end : Word → Bool
+abbrev pub is_end : Token → Bool
 is_end (Run run) = false
 is_end (Mark b) = false
 is_end Unclosed = false
@@ -145,19 +146,19 @@ one_more x = do
 
 -- The text ends between statements, outside of classes, or one more statement stands there.
 unfoldable pub statement_step : State × Text → Result (Flow (State × Text) Configuration) ConfigFault
-statement_step x = if is_none x.0.class && is_end (first x.1).word then Ok (Done x.0.config) else one_more x
+statement_step x = if is_none x.0.class && is_end (first x.1).token then Ok (Done x.0.config) else one_more x
 
 -- the statements up to the end of the text
 unfoldable pub statements_from : State × Text → Result Configuration ConfigFault
-statements_from x = repeated NoMemory statement_step (suc (length x.1.words)) x
+statements_from x = repeated NoMemory statement_step (suc (length x.1.tokens)) x
 
-abbrev pub is_board : Word → Bool
+abbrev pub is_board : Token → Bool
 is_board (Run run) = bytes_eq run (codes "BOARD")
 is_board (Mark b) = false
 is_board Unclosed = false
 is_board End = false
 
--- BOARD(processors, ram); behind its first word, which stands on this line
+-- BOARD(processors, ram); behind its first token, which stands on this line
 unfoldable pub first_board : ℕ → Text → Result (State × Text) ConfigFault
 first_board line t = do
   board ← board_at t
@@ -166,8 +167,8 @@ first_board line t = do
 
 -- The first statement is BOARD.
 unfoldable pub first_statement : Text → Result (State × Text) ConfigFault
-first_statement t = if is_board (first t).word then first_board (first t).line (others t) else Err (Syntax (first t).line)
+first_statement t = if is_board (first t).token then first_board (first t).line (others t) else Err (Syntax (first t).line)
 
 -- what a text says, or its first fault
 unfoldable pub config_of : List ℕ → Result Configuration ConfigFault
-config_of bytes = first_statement (words_of bytes) >>= statements_from
+config_of bytes = first_statement (tokens_of bytes) >>= statements_from

@@ -1,11 +1,11 @@
--- Numbers, marks, attributes and operands at the front of a text. Syntax has the line of the word that does not fit.
+-- Numbers, marks, attributes and operands at the front of a text. Syntax has the line of the token that does not fit.
 use Rattle.std.specs.Prelude.{ℕ, Bool, true, false, List, length, take, drop, ◌==◌, if◌then◌else◌, ◌||◌, Option, Some, None, is_some, option_map, Result, Ok, Err, suc, codes}
 use Rattle.std.specs.Str.{bytes_eq}
 use Rattle.std.specs.Int.RustNames.{bit_or}
 use Rattle.brd_text.specs.Bytes.{is_name}
-use Rattle.brd_text.specs.Words.{Word, Text, first, others}
-use Rattle.brd_text.specs.Words.Word.{Run, Mark, Unclosed, End}
-use Rattle.brd_text.specs.Numbers.{number_of, decimal_of}
+use Rattle.brd_text.specs.Tokens.{Token, Text, first, others}
+use Rattle.brd_text.specs.Tokens.Token.{Run, Mark, Unclosed, End}
+use Rattle.brd_text.specs.Numbers.{number_of, decimal_of, most_word}
 use Rattle.brd_text.specs.Faults.{◌>>=◌, or_fault}
 use Rattle.brd_text.specs.Turns.{Flow, flow_of, repeated}
 use Rattle.brd_config.specs.declared.fault.ConfigFault.{ConfigFault}
@@ -40,7 +40,7 @@ attribute_of run = named_or_number (attribute_named run) run
 
 -- TCL_ and a decimal number
 unfoldable pub class_of : List ℕ → Option ℕ
-class_of run = if bytes_eq (take 4 run) (codes "TCL_") then decimal_of (drop 4 run) else None
+class_of run = if bytes_eq (take 4 run) (codes "TCL_") then decimal_of (drop 4 run) most_word else None
 
 unfoldable pub is_null : List ℕ → Bool
 is_null run = bytes_eq run (codes "NULL")
@@ -52,10 +52,10 @@ number_or_name None run = if is_name run then Some (Name run) else None
 unfoldable pub operand_of : List ℕ → Option Operand
 operand_of run = number_or_name (number_of run) run
 
--- ---- words at the front
+-- ---- tokens at the front
 
--- the bytes of a word that has to be a run
-abbrev pub run_of : Word → ℕ → Result (List ℕ) ConfigFault
+-- the bytes of a token that has to be a run
+abbrev pub run_of : Token → ℕ → Result (List ℕ) ConfigFault
 run_of (Run run) line = Ok run
 run_of (Mark b) line = Err (Syntax line)
 run_of Unclosed line = Err (Syntax line)
@@ -63,11 +63,11 @@ run_of End line = Err (Syntax line)
 
 unfoldable pub number_at : Text → Result (ℕ × Text) ConfigFault
 number_at t = do
-  run ← run_of (first t).word (first t).line
+  run ← run_of (first t).token (first t).line
   n ← or_fault (Syntax (first t).line) (number_of run)
   Ok (n, others t)
 
-abbrev pub expect_mark : ℕ → Word → ℕ → Text → Result Text ConfigFault
+abbrev pub expect_mark : ℕ → Token → ℕ → Text → Result Text ConfigFault
 expect_mark mark (Run run) line rest = Err (Syntax line)
 expect_mark mark (Mark b) line rest = if b == mark then Ok rest else Err (Syntax line)
 expect_mark mark Unclosed line rest = Err (Syntax line)
@@ -75,15 +75,15 @@ expect_mark mark End line rest = Err (Syntax line)
 
 -- this mark, and the text behind it
 unfoldable pub mark_at : ℕ → Text → Result Text ConfigFault
-mark_at mark t = expect_mark mark (first t).word (first t).line (others t)
+mark_at mark t = expect_mark mark (first t).token (first t).line (others t)
 
 unfoldable pub attribute_at : Text → Result (ℕ × Text) ConfigFault
 attribute_at t = do
-  run ← run_of (first t).word (first t).line
+  run ← run_of (first t).token (first t).line
   bits ← or_fault (Syntax (first t).line) (attribute_of run)
   Ok (bits, others t)
 
-abbrev pub expect_joint : ℕ → Word → ℕ → Text → Result (Bool × Text) ConfigFault
+abbrev pub expect_joint : ℕ → Token → ℕ → Text → Result (Bool × Text) ConfigFault
 expect_joint end (Run run) line rest = Err (Syntax line)
 expect_joint end (Mark b) line rest = if b == 124 then Ok (true, rest) else (if b == end then Ok (false, rest) else Err (Syntax line))
 expect_joint end Unclosed line rest = Err (Syntax line)
@@ -91,7 +91,7 @@ expect_joint end End line rest = Err (Syntax line)
 
 -- a bar, behind which another attribute stands, or the mark that ends attributes
 unfoldable pub joint_at : ℕ → Text → Result (Bool × Text) ConfigFault
-joint_at end t = expect_joint end (first t).word (first t).line (others t)
+joint_at end t = expect_joint end (first t).token (first t).line (others t)
 
 -- one more attribute, its bits joined to those before it
 unfoldable pub attribute_step : ℕ → ℕ × Text → Result (Flow (ℕ × Text) (ℕ × Text)) ConfigFault
@@ -102,11 +102,11 @@ attribute_step end s = do
 
 -- attributes up to the mark that ends them
 unfoldable pub attributes_at : ℕ → Text → Result (ℕ × Text) ConfigFault
-attributes_at end t = repeated NoMemory (attribute_step end) (suc (length t.words)) (0, t)
+attributes_at end t = repeated NoMemory (attribute_step end) (suc (length t.tokens)) (0, t)
 
 unfoldable pub operand_at : Text → Result (Operand × Text) ConfigFault
 operand_at t = do
-  run ← run_of (first t).word (first t).line
+  run ← run_of (first t).token (first t).line
   operand ← or_fault (Syntax (first t).line) (operand_of run)
   Ok (operand, others t)
 
@@ -116,7 +116,7 @@ stack_of run = if is_null run then Some Automatic else option_map (λ o. At o) (
 
 unfoldable pub stack_at : Text → Result (Stack × Text) ConfigFault
 stack_at t = do
-  run ← run_of (first t).word (first t).line
+  run ← run_of (first t).token (first t).line
   stack ← or_fault (Syntax (first t).line) (stack_of run)
   Ok (stack, others t)
 
@@ -126,13 +126,13 @@ is_area run = is_null run || is_some (number_of run)
 
 unfoldable pub area_at : Text → Result Text ConfigFault
 area_at t = do
-  run ← run_of (first t).word (first t).line
+  run ← run_of (first t).token (first t).line
   if is_area run then Ok (others t) else Err (Syntax (first t).line)
 
 -- TCL_ and a decimal number
 unfoldable pub class_number_at : Text → Result (ℕ × Text) ConfigFault
 class_number_at t = do
-  run ← run_of (first t).word (first t).line
+  run ← run_of (first t).token (first t).line
   n ← or_fault (Syntax (first t).line) (class_of run)
   Ok (n, others t)
 

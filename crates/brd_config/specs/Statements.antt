@@ -2,8 +2,8 @@
 -- CLASS as in the kernel configuration of TOPPERS/FMP; BOARD is of this product.
 use Rattle.std.specs.Prelude.{ℕ, Bool, ◌&&◌, List, ◌==◌, if◌then◌else◌, Option, Some, None, Result, Ok, Err, codes}
 use Rattle.std.specs.Str.{bytes_eq}
-use Rattle.brd_text.specs.Words.{Word, Text, first, others}
-use Rattle.brd_text.specs.Words.Word.{Run, Mark, Unclosed, End}
+use Rattle.brd_text.specs.Tokens.{Token, Text, first, others}
+use Rattle.brd_text.specs.Tokens.Token.{Run, Mark, Unclosed, End}
 use Rattle.brd_text.specs.Faults.{◌>>=◌, or_fault}
 use Rattle.brd_config.specs.declared.fault.ConfigFault.{ConfigFault}
 use Rattle.brd_config.specs.declared.fault.ConfigFault.TheVariants.{Syntax}
@@ -108,8 +108,8 @@ behind_keyword in_class line keywords.Flag t = flag_at t
 behind_keyword in_class line keywords.Queue t = queue_at t
 behind_keyword in_class line keywords.Handler t = handler_at t
 
--- What the first word of a statement begins, before rest. A closing brace ends a class.
-abbrev pub statement_by : Bool → Word → ℕ → Text → Result (Statement × Text) ConfigFault
+-- What the first token of a statement begins, before rest. A closing brace ends a class.
+abbrev pub statement_by : Bool → Token → ℕ → Text → Result (Statement × Text) ConfigFault
 statement_by in_class (Run run) line rest = do
   keyword ← or_fault (Syntax line) (keyword_of run)
   behind_keyword in_class line keyword rest
@@ -119,4 +119,4 @@ statement_by in_class End line rest = Err (Syntax line)
 
 -- the statement at the front, in a class or outside
 unfoldable pub statement_at : Bool → Text → Result (Statement × Text) ConfigFault
-statement_at in_class t = statement_by in_class (first t).word (first t).line (others t)
+statement_at in_class t = statement_by in_class (first t).token (first t).line (others t)

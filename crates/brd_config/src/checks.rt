@@ -42,14 +42,6 @@ fn only_bits(bits: u32, allowed: u32, fault: ConfigFault) -> Result<u32, ConfigF
     Err(fault)
 }
 
-/// Whether a size is one of RAM: 64 KiB to 16 MiB, in steps of 64 KiB.
-#[tactic(auto, unfolding(crate::specs::Meaning::is_ram_size))]
-pub(crate) fn is_ram_size(ram: u32) -> bool
-    ensures { result ≡ meaning.is_ram_size ram }
-{
-    0x10000 <= ram && ram <= 0x1000000 && ram % 0x10000 == 0
-}
-
 /// Whether one of the tasks has this ID.
 fn has_task(tasks: &[TaskConfig], id: u32) -> bool
     ensures { result ≡ list_any (λ other. other.id == id) tasks.now }

@@ -2,8 +2,8 @@
 
 ghost use Rattle.brd_config.specs.Configuration.{IsConfiguration};
 
-use crate::list::List;
 use crate::objects::{FlagConfig, HandlerConfig, QueueConfig, SemaphoreConfig, TaskConfig};
+use brd_base::List;
 
 /// What a configuration text says. Each value is within its limits, and IDs of one kind are distinct, as `valid` says.
 #[derive(Debug, Drop)]

@@ -1,7 +1,7 @@
 //! What the statements so far have said.
 
-use crate::list::List;
 use crate::objects::{FlagConfig, HandlerConfig, QueueConfig, SemaphoreConfig, TaskConfig};
+use brd_base::List;
 
 /// A configuration that is not finished yet.
 #[derive(Debug, Drop)]

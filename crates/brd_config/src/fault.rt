@@ -3,7 +3,6 @@
 ghost use Rattle.std.specs.Prelude.{◌≡◌};
 ghost use Rattle.brd_config.specs.declared.fault.ConfigFault.TheVariants.{NoMemory};
 
-use std::alloc::{AllocError, AllocFailed};
 use thiserror::Error;
 
 /// The first fault of a text, with the line on which the faulty statement begins, `Syntax` with the line on which
@@ -36,18 +35,10 @@ pub enum ConfigFault {
     BadProcessor { line: usize },
 }
 
-impl From<AllocError> for ConfigFault {
+impl From<brd_base::NoMemory> for ConfigFault {
     ghost from_gives = { λ _ e. e ≡ NoMemory };
 
-    fn from(_e: AllocError) -> ConfigFault {
-        ConfigFault::NoMemory
-    }
-}
-
-impl<T: Drop> From<AllocFailed<T>> for ConfigFault {
-    ghost from_gives = { λ _ e. e ≡ NoMemory };
-
-    fn from(_e: AllocFailed<T>) -> ConfigFault {
+    fn from(_refused: brd_base::NoMemory) -> ConfigFault {
         ConfigFault::NoMemory
     }
 }

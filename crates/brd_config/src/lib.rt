@@ -6,7 +6,6 @@ mod checks;
 mod config;
 mod draft;
 mod fault;
-mod list;
 mod objects;
 mod parser;
 mod reading;
@@ -14,9 +13,9 @@ mod statement;
 mod statements;
 
 pub use attributes::{FlagAttributes, QueueAttributes, SemaphoreAttributes, TaskAttributes};
+pub use brd_base::List;
 pub use config::Config;
 pub use fault::ConfigFault;
-pub use list::List;
 pub use objects::{
     FlagConfig, HandlerConfig, Operand, QueueConfig, SemaphoreConfig, Stack, TaskConfig,
 };

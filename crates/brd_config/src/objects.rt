@@ -1,7 +1,7 @@
 //! What a configuration says of each kernel object.
 
 use crate::attributes::{FlagAttributes, QueueAttributes, SemaphoreAttributes, TaskAttributes};
-use crate::list::List;
+use brd_base::List;
 
 /// A number, or the name of a symbol of the image, whose value it then is.
 #[derive(Debug, Drop)]

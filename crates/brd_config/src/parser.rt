@@ -12,9 +12,9 @@ use crate::checks;
 use crate::config::Config;
 use crate::draft::Draft;
 use crate::fault::ConfigFault;
-use crate::list::List;
 use crate::statement::Statement;
 use crate::statements::{board, statement};
+use brd_base::{List, is_ram_size};
 use brd_text::{Scanner, Token};
 use std::alloc::Global;
 
@@ -25,7 +25,7 @@ fn begun(alloc: Global, line: usize, processors: u32, ram: u32) -> Result<Draft,
     ensures class { IfOk result (λ d. d.class ≡ None) }
 {
     let processors = checks::within(processors, 1, 8, ConfigFault::BadProcessor { line })?;
-    if !checks::is_ram_size(ram) {
+    if !is_ram_size(ram) {
         return Err(ConfigFault::BadCount { line });
     }
     Ok(Draft {
@@ -84,28 +84,28 @@ fn add(draft: &mut Draft, line: usize, statement: Statement) -> Result<(), Confi
 
 /// Takes one more statement, and says whether there was one: else the text ends here.
 #[tactic(auto, unfolding(crate::specs::Meaning::statement_step, crate::specs::Meaning::one_more, crate::specs::Statements::statement_at))]
-fn turn(alloc: Global, draft: &mut Draft, words: &mut Scanner) -> Result<bool, ConfigFault>
-    ensures read { Gives (λ more. flow_of more (state_of draft.new, words.new) (drafted draft.new)) result
-        (meaning.statement_step (state_of draft.old, words.old)) }
-    ensures shorter { IfOk result (λ more. IsTrue more → length words.new.words < length words.old.words) }
+fn turn(alloc: Global, draft: &mut Draft, tokens: &mut Scanner) -> Result<bool, ConfigFault>
+    ensures read { Gives (λ more. flow_of more (state_of draft.new, tokens.new) (drafted draft.new)) result
+        (meaning.statement_step (state_of draft.old, tokens.old)) }
+    ensures shorter { IfOk result (λ more. IsTrue more → length tokens.new.tokens < length tokens.old.tokens) }
 {
-    let (word, line) = words.next();
+    let (token, line) = tokens.next();
     let in_class = draft.class.is_some();
-    if !in_class && matches!(word, Token::End) {
+    if !in_class && matches!(token, Token::End) {
         return Ok(false);
     }
-    let statement = statement(alloc, in_class, word, line, words)?;
+    let statement = statement(alloc, in_class, token, line, tokens)?;
     add(draft, line, statement)?;
     Ok(true)
 }
 
 /// Takes the statements up to the end of the text.
 #[tactic(auto, unfolding(crate::specs::Meaning::statements_from))]
-fn finished(alloc: Global, mut draft: Draft, words: &mut Scanner) -> Result<Draft, ConfigFault>
-    ensures { Gives drafted result (meaning.statements_from (state_of draft, words.old)) }
+fn finished(alloc: Global, mut draft: Draft, tokens: &mut Scanner) -> Result<Draft, ConfigFault>
+    ensures { Gives drafted result (meaning.statements_from (state_of draft, tokens.old)) }
 {
     'statements: loop {
-        match turn(alloc, &mut draft, words) {
+        match turn(alloc, &mut draft, tokens) {
             Ok(more) => {
                 if more {
                     continue;
@@ -119,17 +119,17 @@ fn finished(alloc: Global, mut draft: Draft, words: &mut Scanner) -> Result<Draf
 
 /// Takes the first statement, which is `BOARD`.
 #[tactic(auto, unfolding(crate::specs::Meaning::first_statement, crate::specs::Meaning::first_board))]
-fn first(alloc: Global, words: &mut Scanner) -> Result<Draft, ConfigFault>
-    ensures { Gives (λ d. (state_of d, words.new)) result (meaning.first_statement words.old) }
+fn first(alloc: Global, tokens: &mut Scanner) -> Result<Draft, ConfigFault>
+    ensures { Gives (λ d. (state_of d, tokens.new)) result (meaning.first_statement tokens.old) }
 {
-    let (word, line) = words.next();
-    let Token::Run(run) = word else {
+    let (token, line) = tokens.next();
+    let Token::Run(run) = token else {
         return Err(ConfigFault::Syntax { line });
     };
     if run != b"BOARD".as_slice() {
         return Err(ConfigFault::Syntax { line });
     }
-    let (processors, ram) = board(words)?;
+    let (processors, ram) = board(tokens)?;
     begun(alloc, line, processors, ram)
 }
 
@@ -138,9 +138,9 @@ fn first(alloc: Global, words: &mut Scanner) -> Result<Draft, ConfigFault>
 fn read(alloc: Global, text: &[u8]) -> Result<Draft, ConfigFault>
     ensures { Gives drafted result (meaning.config_of text.now) }
 {
-    let mut words = Scanner::new(text);
-    let draft = first(alloc, &mut words)?;
-    finished(alloc, draft, &mut words)
+    let mut tokens = Scanner::new(text);
+    let draft = first(alloc, &mut tokens)?;
+    finished(alloc, draft, &mut tokens)
 }
 
 /// A draft whose values are within their limits is a configuration.
@@ -172,8 +172,9 @@ fn parsed(alloc: Global, text: &[u8]) -> Result<Config, ConfigFault>
 /// # Errors
 ///
 /// The fault of the first faulty statement: `Syntax` with the line on which the text fails, the others with the line of
-/// the statement's first word. Of the faults of one statement the first in this order: `Syntax`, `BadProcessor`, `BadId`,
-/// `Duplicate`, `BadAttribute`, `BadPriority`, `BadCount`. `NoMemory` where memory runs out, at whatever point.
+/// the statement's first token. Of the faults of one statement the first in this order: `Syntax`, `BadProcessor`,
+/// `BadId`, `Duplicate`, `BadAttribute`, `BadPriority`, `BadCount`. `NoMemory` where memory runs out, at whatever
+/// point.
 pub fn parse(alloc: Global, text: &[u8]) -> Result<Config, ConfigFault>
     // What the text says, or its first fault.
     ensures meaning { Gives view result (meaning.config_of text.now) }

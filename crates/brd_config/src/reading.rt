@@ -7,8 +7,8 @@ ghost use Rattle.brd_config.specs.Faults.{Gives};
 ghost use Rattle.brd_config.specs.Reading as reads;
 
 use crate::fault::ConfigFault;
-use crate::list::List;
 use crate::objects::{Operand, Stack};
+use brd_base::List;
 use brd_text::{Scanner, Token};
 use std::alloc::Global;
 
@@ -67,7 +67,10 @@ fn class_of(run: &[u8]) -> Option<u32>
     if prefix != b"TCL_".as_slice() {
         return None;
     }
-    brd_text::decimal(digits)
+    match brd_text::decimal(digits, u32::MAX as u64) {
+        None => None,
+        Some(number) => Some(number as u32),
+    }
 }
 
 #[tactic(auto, unfolding(crate::specs::Reading::is_null))]
@@ -93,12 +96,12 @@ fn operand_of(alloc: Global, run: &[u8], line: usize) -> Result<Operand, ConfigF
 
 /// Takes a number.
 #[tactic(auto, unfolding(crate::specs::Reading::number_at))]
-pub(crate) fn number(words: &mut Scanner) -> Result<u32, ConfigFault>
-    ensures read { Gives (λ n. (n, words.new)) result (reads.number_at words.old) }
-    ensures shorter { OnOk result (length words.new.words < length words.old.words) }
+pub(crate) fn number(tokens: &mut Scanner) -> Result<u32, ConfigFault>
+    ensures read { Gives (λ n. (n, tokens.new)) result (reads.number_at tokens.old) }
+    ensures shorter { OnOk result (length tokens.new.tokens < length tokens.old.tokens) }
 {
-    let (word, line) = words.next();
-    let Token::Run(run) = word else {
+    let (token, line) = tokens.next();
+    let Token::Run(run) = token else {
         return Err(ConfigFault::Syntax { line });
     };
     match brd_text::number(run) {
@@ -109,12 +112,12 @@ pub(crate) fn number(words: &mut Scanner) -> Result<u32, ConfigFault>
 
 /// Takes this mark.
 #[tactic(auto, unfolding(crate::specs::Reading::mark_at))]
-pub(crate) fn mark(words: &mut Scanner, mark: u8) -> Result<(), ConfigFault>
-    ensures read { Gives (λ _. words.new) result (reads.mark_at mark words.old) }
-    ensures shorter { OnOk result (length words.new.words < length words.old.words) }
+pub(crate) fn mark(tokens: &mut Scanner, mark: u8) -> Result<(), ConfigFault>
+    ensures read { Gives (λ _. tokens.new) result (reads.mark_at mark tokens.old) }
+    ensures shorter { OnOk result (length tokens.new.tokens < length tokens.old.tokens) }
 {
-    let (word, line) = words.next();
-    match word {
+    let (token, line) = tokens.next();
+    match token {
         Token::Mark(found) if found == mark => Ok(()),
         _ => Err(ConfigFault::Syntax { line }),
     }
@@ -122,12 +125,12 @@ pub(crate) fn mark(words: &mut Scanner, mark: u8) -> Result<(), ConfigFault>
 
 /// Takes an attribute.
 #[tactic(auto, unfolding(crate::specs::Reading::attribute_at))]
-fn attribute(words: &mut Scanner) -> Result<u32, ConfigFault>
-    ensures read { Gives (λ bits. (bits, words.new)) result (reads.attribute_at words.old) }
-    ensures shorter { OnOk result (length words.new.words < length words.old.words) }
+fn attribute(tokens: &mut Scanner) -> Result<u32, ConfigFault>
+    ensures read { Gives (λ bits. (bits, tokens.new)) result (reads.attribute_at tokens.old) }
+    ensures shorter { OnOk result (length tokens.new.tokens < length tokens.old.tokens) }
 {
-    let (word, line) = words.next();
-    let Token::Run(run) = word else {
+    let (token, line) = tokens.next();
+    let Token::Run(run) = token else {
         return Err(ConfigFault::Syntax { line });
     };
     match attribute_of(run) {
@@ -138,12 +141,12 @@ fn attribute(words: &mut Scanner) -> Result<u32, ConfigFault>
 
 /// Takes a bar, behind which another attribute stands, or the mark that ends attributes; says whether it is a bar.
 #[tactic(auto, unfolding(crate::specs::Reading::joint_at))]
-fn joint(words: &mut Scanner, end: u8) -> Result<bool, ConfigFault>
-    ensures read { Gives (λ more. (more, words.new)) result (reads.joint_at end words.old) }
-    ensures shorter { OnOk result (length words.new.words < length words.old.words) }
+fn joint(tokens: &mut Scanner, end: u8) -> Result<bool, ConfigFault>
+    ensures read { Gives (λ more. (more, tokens.new)) result (reads.joint_at end tokens.old) }
+    ensures shorter { OnOk result (length tokens.new.tokens < length tokens.old.tokens) }
 {
-    let (word, line) = words.next();
-    match word {
+    let (token, line) = tokens.next();
+    match token {
         Token::Mark(b'|') => Ok(true),
         Token::Mark(found) if found == end => Ok(false),
         _ => Err(ConfigFault::Syntax { line }),
@@ -152,24 +155,24 @@ fn joint(words: &mut Scanner, end: u8) -> Result<bool, ConfigFault>
 
 /// Takes one more attribute, and joins its bits to these; says whether another one follows.
 #[tactic(auto, unfolding(crate::specs::Reading::attribute_step))]
-fn joined(words: &mut Scanner, end: u8, bits: u32) -> Result<(u32, bool), ConfigFault>
-    ensures read { Gives (λ x. flow_of x.1 (x.0, words.new) (x.0, words.new)) result (reads.attribute_step end (bits, words.old)) }
-    ensures shorter { OnOk result (length words.new.words < length words.old.words) }
+fn joined(tokens: &mut Scanner, end: u8, bits: u32) -> Result<(u32, bool), ConfigFault>
+    ensures read { Gives (λ x. flow_of x.1 (x.0, tokens.new) (x.0, tokens.new)) result (reads.attribute_step end (bits, tokens.old)) }
+    ensures shorter { OnOk result (length tokens.new.tokens < length tokens.old.tokens) }
 {
-    let attribute = attribute(words)?;
-    let more = joint(words, end)?;
+    let attribute = attribute(tokens)?;
+    let more = joint(tokens, end)?;
     Ok((bits | attribute, more))
 }
 
 /// Takes attributes and the mark that ends them.
 #[tactic(auto, unfolding(crate::specs::Reading::attributes_at))]
-pub(crate) fn attributes(words: &mut Scanner, end: u8) -> Result<u32, ConfigFault>
-    ensures read { Gives (λ bits. (bits, words.new)) result (reads.attributes_at end words.old) }
-    ensures shorter { OnOk result (length words.new.words < length words.old.words) }
+pub(crate) fn attributes(tokens: &mut Scanner, end: u8) -> Result<u32, ConfigFault>
+    ensures read { Gives (λ bits. (bits, tokens.new)) result (reads.attributes_at end tokens.old) }
+    ensures shorter { OnOk result (length tokens.new.tokens < length tokens.old.tokens) }
 {
     let mut bits = 0;
     'attributes: loop {
-        match joined(words, end, bits) {
+        match joined(tokens, end, bits) {
             Ok((all, more)) => {
                 bits = all;
                 if more {
@@ -184,12 +187,12 @@ pub(crate) fn attributes(words: &mut Scanner, end: u8) -> Result<u32, ConfigFaul
 
 /// Takes a number or a name.
 #[tactic(auto, unfolding(crate::specs::Reading::operand_at))]
-pub(crate) fn operand(alloc: Global, words: &mut Scanner) -> Result<Operand, ConfigFault>
-    ensures read { Gives (λ o. (o, words.new)) result (reads.operand_at words.old) }
-    ensures shorter { OnOk result (length words.new.words < length words.old.words) }
+pub(crate) fn operand(alloc: Global, tokens: &mut Scanner) -> Result<Operand, ConfigFault>
+    ensures read { Gives (λ o. (o, tokens.new)) result (reads.operand_at tokens.old) }
+    ensures shorter { OnOk result (length tokens.new.tokens < length tokens.old.tokens) }
 {
-    let (word, line) = words.next();
-    let Token::Run(run) = word else {
+    let (token, line) = tokens.next();
+    let Token::Run(run) = token else {
         return Err(ConfigFault::Syntax { line });
     };
     operand_of(alloc, run, line)
@@ -197,12 +200,12 @@ pub(crate) fn operand(alloc: Global, words: &mut Scanner) -> Result<Operand, Con
 
 /// Takes `NULL`, a number or a name.
 #[tactic(auto, unfolding(crate::specs::Reading::stack_at, crate::specs::Reading::stack_of))]
-pub(crate) fn stack(alloc: Global, words: &mut Scanner) -> Result<Stack, ConfigFault>
-    ensures read { Gives (λ o. (o, words.new)) result (reads.stack_at words.old) }
-    ensures shorter { OnOk result (length words.new.words < length words.old.words) }
+pub(crate) fn stack(alloc: Global, tokens: &mut Scanner) -> Result<Stack, ConfigFault>
+    ensures read { Gives (λ o. (o, tokens.new)) result (reads.stack_at tokens.old) }
+    ensures shorter { OnOk result (length tokens.new.tokens < length tokens.old.tokens) }
 {
-    let (word, line) = words.next();
-    let Token::Run(run) = word else {
+    let (token, line) = tokens.next();
+    let Token::Run(run) = token else {
         return Err(ConfigFault::Syntax { line });
     };
     if is_null(run) {
@@ -213,12 +216,12 @@ pub(crate) fn stack(alloc: Global, words: &mut Scanner) -> Result<Stack, ConfigF
 
 /// Takes `NULL` or a number.
 #[tactic(auto, unfolding(crate::specs::Reading::area_at, crate::specs::Reading::is_area))]
-pub(crate) fn area(words: &mut Scanner) -> Result<(), ConfigFault>
-    ensures read { Gives (λ _. words.new) result (reads.area_at words.old) }
-    ensures shorter { OnOk result (length words.new.words < length words.old.words) }
+pub(crate) fn area(tokens: &mut Scanner) -> Result<(), ConfigFault>
+    ensures read { Gives (λ _. tokens.new) result (reads.area_at tokens.old) }
+    ensures shorter { OnOk result (length tokens.new.tokens < length tokens.old.tokens) }
 {
-    let (word, line) = words.next();
-    let Token::Run(run) = word else {
+    let (token, line) = tokens.next();
+    let Token::Run(run) = token else {
         return Err(ConfigFault::Syntax { line });
     };
     if is_null(run) || brd_text::number(run).is_some() {
@@ -229,12 +232,12 @@ pub(crate) fn area(words: &mut Scanner) -> Result<(), ConfigFault>
 
 /// Takes the name of a class.
 #[tactic(auto, unfolding(crate::specs::Reading::class_number_at))]
-pub(crate) fn class_number(words: &mut Scanner) -> Result<u32, ConfigFault>
-    ensures read { Gives (λ n. (n, words.new)) result (reads.class_number_at words.old) }
-    ensures shorter { OnOk result (length words.new.words < length words.old.words) }
+pub(crate) fn class_number(tokens: &mut Scanner) -> Result<u32, ConfigFault>
+    ensures read { Gives (λ n. (n, tokens.new)) result (reads.class_number_at tokens.old) }
+    ensures shorter { OnOk result (length tokens.new.tokens < length tokens.old.tokens) }
 {
-    let (word, line) = words.next();
-    let Token::Run(run) = word else {
+    let (token, line) = tokens.next();
+    let Token::Run(run) = token else {
         return Err(ConfigFault::Syntax { line });
     };
     match class_of(run) {
@@ -245,25 +248,25 @@ pub(crate) fn class_number(words: &mut Scanner) -> Result<u32, ConfigFault>
 
 /// Takes `( id , { attributes ,`: the ID and the attributes.
 #[tactic(auto, unfolding(crate::specs::Reading::head_at))]
-pub(crate) fn head(words: &mut Scanner) -> Result<(u32, u32), ConfigFault>
-    ensures read { Gives (λ x. (x.0, x.1, words.new)) result (reads.head_at words.old) }
-    ensures shorter { OnOk result (length words.new.words < length words.old.words) }
+pub(crate) fn head(tokens: &mut Scanner) -> Result<(u32, u32), ConfigFault>
+    ensures read { Gives (λ x. (x.0, x.1, tokens.new)) result (reads.head_at tokens.old) }
+    ensures shorter { OnOk result (length tokens.new.tokens < length tokens.old.tokens) }
 {
-    mark(words, b'(')?;
-    let id = number(words)?;
-    mark(words, b',')?;
-    mark(words, b'{')?;
-    let attributes = attributes(words, b',')?;
+    mark(tokens, b'(')?;
+    let id = number(tokens)?;
+    mark(tokens, b',')?;
+    mark(tokens, b'{')?;
+    let attributes = attributes(tokens, b',')?;
     Ok((id, attributes))
 }
 
 /// Takes `} ) ;`.
 #[tactic(auto, unfolding(crate::specs::Reading::tail_at))]
-pub(crate) fn tail(words: &mut Scanner) -> Result<(), ConfigFault>
-    ensures read { Gives (λ _. words.new) result (reads.tail_at words.old) }
-    ensures shorter { OnOk result (length words.new.words < length words.old.words) }
+pub(crate) fn tail(tokens: &mut Scanner) -> Result<(), ConfigFault>
+    ensures read { Gives (λ _. tokens.new) result (reads.tail_at tokens.old) }
+    ensures shorter { OnOk result (length tokens.new.tokens < length tokens.old.tokens) }
 {
-    mark(words, b'}')?;
-    mark(words, b')')?;
-    mark(words, b';')
+    mark(tokens, b'}')?;
+    mark(tokens, b')')?;
+    mark(tokens, b';')
 }

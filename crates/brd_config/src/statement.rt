@@ -62,7 +62,7 @@ pub(crate) struct HandlerStatement {
     pub(crate) address: Operand,
 }
 
-/// The word with which a statement begins.
+/// The token with which a statement begins.
 #[derive(Clone, Copy, Debug, PartialEq, Eq)]
 pub(crate) enum Keyword {
     Board,

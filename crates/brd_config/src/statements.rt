@@ -1,7 +1,7 @@
 //! Statements at the front of a text.
 
 ghost use Rattle.std.specs.Prelude.{◌≡◌, ◌<◌, ◌≤◌, length, OnOk};
-ghost use Rattle.brd_text.specs.Words.{seen};
+ghost use Rattle.brd_text.specs.Tokens.{seen};
 ghost use Rattle.brd_config.specs.Faults.{Gives};
 ghost use Rattle.brd_config.specs.Statements as statements;
 
@@ -45,49 +45,49 @@ fn keyword_of(run: &[u8]) -> Option<Keyword>
 
 /// Takes what follows `BOARD`: the number of processors and the size of RAM.
 #[tactic(auto, unfolding(crate::specs::Statements::board_at))]
-pub(crate) fn board(words: &mut Scanner) -> Result<(u32, u32), ConfigFault>
-    ensures read { Gives (λ x. (x.0, x.1, words.new)) result (statements.board_at words.old) }
-    ensures shorter { OnOk result (length words.new.words < length words.old.words) }
+pub(crate) fn board(tokens: &mut Scanner) -> Result<(u32, u32), ConfigFault>
+    ensures read { Gives (λ x. (x.0, x.1, tokens.new)) result (statements.board_at tokens.old) }
+    ensures shorter { OnOk result (length tokens.new.tokens < length tokens.old.tokens) }
 {
-    mark(words, b'(')?;
-    let processors = number(words)?;
-    mark(words, b',')?;
-    let ram = number(words)?;
-    mark(words, b')')?;
-    mark(words, b';')?;
+    mark(tokens, b'(')?;
+    let processors = number(tokens)?;
+    mark(tokens, b',')?;
+    let ram = number(tokens)?;
+    mark(tokens, b')')?;
+    mark(tokens, b';')?;
     Ok((processors, ram))
 }
 
 /// Takes what follows `CLASS`.
 #[tactic(auto, unfolding(crate::specs::Statements::class_at))]
-fn class(words: &mut Scanner) -> Result<Statement, ConfigFault>
-    ensures read { Gives (λ s. (s, words.new)) result (statements.class_at words.old) }
-    ensures shorter { OnOk result (length words.new.words < length words.old.words) }
+fn class(tokens: &mut Scanner) -> Result<Statement, ConfigFault>
+    ensures read { Gives (λ s. (s, tokens.new)) result (statements.class_at tokens.old) }
+    ensures shorter { OnOk result (length tokens.new.tokens < length tokens.old.tokens) }
 {
-    mark(words, b'(')?;
-    let processor = class_number(words)?;
-    mark(words, b')')?;
-    mark(words, b'{')?;
+    mark(tokens, b'(')?;
+    let processor = class_number(tokens)?;
+    mark(tokens, b')')?;
+    mark(tokens, b'{')?;
     Ok(Statement::Class(processor))
 }
 
 /// Takes what follows `CRE_TSK`.
 #[tactic(auto, unfolding(crate::specs::Statements::task_at))]
-fn task(alloc: Global, words: &mut Scanner) -> Result<Statement, ConfigFault>
-    ensures read { Gives (λ s. (s, words.new)) result (statements.task_at words.old) }
-    ensures shorter { OnOk result (length words.new.words < length words.old.words) }
+fn task(alloc: Global, tokens: &mut Scanner) -> Result<Statement, ConfigFault>
+    ensures read { Gives (λ s. (s, tokens.new)) result (statements.task_at tokens.old) }
+    ensures shorter { OnOk result (length tokens.new.tokens < length tokens.old.tokens) }
 {
-    let (id, attributes) = head(words)?;
-    let exinf = operand(alloc, words)?;
-    mark(words, b',')?;
-    let address = operand(alloc, words)?;
-    mark(words, b',')?;
-    let priority = number(words)?;
-    mark(words, b',')?;
-    let stack_size = number(words)?;
-    mark(words, b',')?;
-    let stack = stack(alloc, words)?;
-    tail(words)?;
+    let (id, attributes) = head(tokens)?;
+    let exinf = operand(alloc, tokens)?;
+    mark(tokens, b',')?;
+    let address = operand(alloc, tokens)?;
+    mark(tokens, b',')?;
+    let priority = number(tokens)?;
+    mark(tokens, b',')?;
+    let stack_size = number(tokens)?;
+    mark(tokens, b',')?;
+    let stack = stack(alloc, tokens)?;
+    tail(tokens)?;
     Ok(Statement::Task(TaskStatement {
         id,
         attributes,
@@ -101,15 +101,15 @@ fn task(alloc: Global, words: &mut Scanner) -> Result<Statement, ConfigFault>
 
 /// Takes what follows `CRE_SEM`.
 #[tactic(auto, unfolding(crate::specs::Statements::semaphore_at))]
-fn semaphore(words: &mut Scanner) -> Result<Statement, ConfigFault>
-    ensures read { Gives (λ s. (s, words.new)) result (statements.semaphore_at words.old) }
-    ensures shorter { OnOk result (length words.new.words < length words.old.words) }
+fn semaphore(tokens: &mut Scanner) -> Result<Statement, ConfigFault>
+    ensures read { Gives (λ s. (s, tokens.new)) result (statements.semaphore_at tokens.old) }
+    ensures shorter { OnOk result (length tokens.new.tokens < length tokens.old.tokens) }
 {
-    let (id, attributes) = head(words)?;
-    let initial = number(words)?;
-    mark(words, b',')?;
-    let maximum = number(words)?;
-    tail(words)?;
+    let (id, attributes) = head(tokens)?;
+    let initial = number(tokens)?;
+    mark(tokens, b',')?;
+    let maximum = number(tokens)?;
+    tail(tokens)?;
     Ok(Statement::Semaphore(SemaphoreStatement {
         id,
         attributes,
@@ -120,13 +120,13 @@ fn semaphore(words: &mut Scanner) -> Result<Statement, ConfigFault>
 
 /// Takes what follows `CRE_FLG`.
 #[tactic(auto, unfolding(crate::specs::Statements::flag_at))]
-fn flag(words: &mut Scanner) -> Result<Statement, ConfigFault>
-    ensures read { Gives (λ s. (s, words.new)) result (statements.flag_at words.old) }
-    ensures shorter { OnOk result (length words.new.words < length words.old.words) }
+fn flag(tokens: &mut Scanner) -> Result<Statement, ConfigFault>
+    ensures read { Gives (λ s. (s, tokens.new)) result (statements.flag_at tokens.old) }
+    ensures shorter { OnOk result (length tokens.new.tokens < length tokens.old.tokens) }
 {
-    let (id, attributes) = head(words)?;
-    let pattern = number(words)?;
-    tail(words)?;
+    let (id, attributes) = head(tokens)?;
+    let pattern = number(tokens)?;
+    tail(tokens)?;
     Ok(Statement::Flag(FlagStatement {
         id,
         attributes,
@@ -136,15 +136,15 @@ fn flag(words: &mut Scanner) -> Result<Statement, ConfigFault>
 
 /// Takes what follows `CRE_DTQ`.
 #[tactic(auto, unfolding(crate::specs::Statements::queue_at))]
-fn queue(words: &mut Scanner) -> Result<Statement, ConfigFault>
-    ensures read { Gives (λ s. (s, words.new)) result (statements.queue_at words.old) }
-    ensures shorter { OnOk result (length words.new.words < length words.old.words) }
+fn queue(tokens: &mut Scanner) -> Result<Statement, ConfigFault>
+    ensures read { Gives (λ s. (s, tokens.new)) result (statements.queue_at tokens.old) }
+    ensures shorter { OnOk result (length tokens.new.tokens < length tokens.old.tokens) }
 {
-    let (id, attributes) = head(words)?;
-    let capacity = number(words)?;
-    mark(words, b',')?;
-    area(words)?;
-    tail(words)?;
+    let (id, attributes) = head(tokens)?;
+    let capacity = number(tokens)?;
+    mark(tokens, b',')?;
+    area(tokens)?;
+    tail(tokens)?;
     Ok(Statement::Queue(QueueStatement {
         id,
         attributes,
@@ -154,13 +154,13 @@ fn queue(words: &mut Scanner) -> Result<Statement, ConfigFault>
 
 /// Takes what follows `DEF_INH`.
 #[tactic(auto, unfolding(crate::specs::Statements::handler_at))]
-fn handler(alloc: Global, words: &mut Scanner) -> Result<Statement, ConfigFault>
-    ensures read { Gives (λ s. (s, words.new)) result (statements.handler_at words.old) }
-    ensures shorter { OnOk result (length words.new.words < length words.old.words) }
+fn handler(alloc: Global, tokens: &mut Scanner) -> Result<Statement, ConfigFault>
+    ensures read { Gives (λ s. (s, tokens.new)) result (statements.handler_at tokens.old) }
+    ensures shorter { OnOk result (length tokens.new.tokens < length tokens.old.tokens) }
 {
-    let (line, attributes) = head(words)?;
-    let address = operand(alloc, words)?;
-    tail(words)?;
+    let (line, attributes) = head(tokens)?;
+    let address = operand(alloc, tokens)?;
+    tail(tokens)?;
     Ok(Statement::Handler(HandlerStatement {
         line,
         attributes,
@@ -175,47 +175,47 @@ fn behind_keyword(
     in_class: bool,
     line: usize,
     keyword: Keyword,
-    words: &mut Scanner,
+    tokens: &mut Scanner,
 ) -> Result<Statement, ConfigFault>
-    ensures read { Gives (λ s. (s, words.new)) result (statements.behind_keyword in_class line keyword words.old) }
-    ensures shorter { OnOk result (length words.new.words < length words.old.words) }
+    ensures read { Gives (λ s. (s, tokens.new)) result (statements.behind_keyword in_class line keyword tokens.old) }
+    ensures shorter { OnOk result (length tokens.new.tokens < length tokens.old.tokens) }
 {
     match keyword {
         Keyword::Board => {
-            let (processors, ram) = board(words)?;
+            let (processors, ram) = board(tokens)?;
             Ok(Statement::Board(processors, ram))
         }
         Keyword::Class => {
             if in_class {
                 return Err(ConfigFault::Syntax { line });
             }
-            class(words)
+            class(tokens)
         }
-        Keyword::Task => task(alloc, words),
-        Keyword::Semaphore => semaphore(words),
-        Keyword::Flag => flag(words),
-        Keyword::Queue => queue(words),
-        Keyword::Handler => handler(alloc, words),
+        Keyword::Task => task(alloc, tokens),
+        Keyword::Semaphore => semaphore(tokens),
+        Keyword::Flag => flag(tokens),
+        Keyword::Queue => queue(tokens),
+        Keyword::Handler => handler(alloc, tokens),
     }
 }
 
-/// Takes the rest of the statement that begins with this word.
+/// Takes the rest of the statement that begins with this token.
 pub(crate) fn statement(
     alloc: Global,
     in_class: bool,
-    word: Token,
+    token: Token,
     line: usize,
-    words: &mut Scanner,
+    tokens: &mut Scanner,
 ) -> Result<Statement, ConfigFault>
-    ensures read { Gives (λ s. (s, words.new)) result (statements.statement_by in_class (seen word.entry) line words.old) }
-    ensures shorter { OnOk result (length words.new.words ≤ length words.old.words) }
+    ensures read { Gives (λ s. (s, tokens.new)) result (statements.statement_by in_class (seen token.entry) line tokens.old) }
+    ensures shorter { OnOk result (length tokens.new.tokens ≤ length tokens.old.tokens) }
 {
-    match word {
+    match token {
         Token::Run(run) => {
             let Some(keyword) = keyword_of(run) else {
                 return Err(ConfigFault::Syntax { line });
             };
-            behind_keyword(alloc, in_class, line, keyword, words)
+            behind_keyword(alloc, in_class, line, keyword, tokens)
         }
         Token::Mark(b'}') if in_class => Ok(Statement::ClassEnd),
         _ => Err(ConfigFault::Syntax { line }),

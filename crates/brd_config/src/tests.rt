@@ -1,6 +1,7 @@
 //! Texts with answers that were worked out by hand.
 
 mod changed;
+mod many;
 mod values;
 
 use crate::{Config, ConfigFault};

@@ -6,9 +6,9 @@ use Rattle.brd_config.proofs.reading.attributes.Given as goal
 
 abbrev pub invariant-attributes : goal.invariant-attributes
 invariant-attributes l = record {
-  goes : Goes NoMemory (attribute_step l.end) (length l.words.words) (l.bits, l.words) (attributes_at l.end l.fn.words);
-  room : length l.words.words ≤ length l.fn.words.words;
+  goes : Goes NoMemory (attribute_step l.end) (length l.tokens.tokens) (l.bits, l.tokens) (attributes_at l.end l.fn.tokens);
+  room : length l.tokens.tokens ≤ length l.fn.tokens.tokens;
 }
 
 abbrev pub decreases-attributes : goal.decreases-attributes
-decreases-attributes l = length l.words.words
+decreases-attributes l = length l.tokens.tokens
