@@ -1,8 +1,8 @@
 -- How the parts of a file lie behind one another.
-use Rattle.std.proofs.Common.{◌≡◌, ℕ, ◌+◌, ◌*◌, ◌^◌, ◌≤◌, List, [], ◌∷◌, ◌++◌, length, replicate, refl, sym, ap, ◌∙◌, append_assoc, length-append, inl, inr, arith}
+use Rattle.std.proofs.Common.{◌≡◌, ℕ, ◌+◌, ◌*◌, ◌≤◌, List, [], ◌∷◌, ◌++◌, length, replicate, refl, sym, ap, ◌∙◌, append_assoc, length-append, inl, inr, arith}
 use Rattle.std.proofs.lemmas.Bool.{cases_lt}
 use Rattle.std.proofs.lemmas.List.{nil_from_length}
-use Rattle.brd_mem.specs.Memory.{base}
+use Rattle.brd_base.specs.Space.{top}
 use Rattle.brd_mem.specs.Image.{AreAscending}
 use Rattle.brd_mem.specs.declared.image.Image.{Image}
 use Rattle.brd_mem.specs.declared.image.Segment.{Segment}
@@ -23,7 +23,7 @@ length-program_headers_from offset (segment ∷ segments) =
     omega (arith, one, others, both)
 
 -- segments that ascend have a byte each, so there are no more of them than addresses
-pub are_few : (low : ℕ) (segments : List Segment) → AreAscending low segments → low ≤ base + 2 ^ 24 → length segments + low ≤ base + 2 ^ 24
+pub are_few : (low : ℕ) (segments : List Segment) → AreAscending low segments → low ≤ top → length segments + low ≤ top
 are_few low [] ascending below = omega arith
 are_few low (segment ∷ segments) ascending below =
     let others = are_few (segment.address + length segment.bytes) segments ascending.3 ascending.2 in

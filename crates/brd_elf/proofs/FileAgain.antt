@@ -4,7 +4,7 @@ use Rattle.std.specs.Prelude.{flat_map}
 use Rattle.std.specs.List.{AllByRecursion}
 use Rattle.std.proofs.lemmas.Bool.{le-leb, ne_eqb, eq-eqb, and_from, or_right}
 use Rattle.std.proofs.lemmas.List.{append-nil, take_at, drop_at, drop-drop}
-use Rattle.brd_mem.specs.Memory.{base}
+use Rattle.brd_base.specs.Space.{base}
 use Rattle.brd_mem.specs.Image.{IsPlain, AreAscending, AreNamed}
 use Rattle.brd_mem.specs.declared.image.Image.{Image}
 use Rattle.brd_mem.specs.declared.image.Segment.{Segment}
@@ -15,7 +15,7 @@ use Rattle.brd_elf.specs.declared.header.Table.{Table}
 use Rattle.brd_elf.specs.declared.sections.Section.{Section}
 use Rattle.brd_elf.specs.declared.symbols.Entry.{Entry}
 use Rattle.brd_elf.specs.Fields.{half_at, word_at, word, has_bytes}
-use Rattle.brd_elf.specs.Fault.{◌>>=◌}
+use Rattle.brd_text.specs.Faults.{◌>>=◌}
 use Rattle.brd_elf.specs.Header.{header_of}
 use Rattle.brd_elf.specs.Segments.{loaded_from, segments_of}
 use Rattle.brd_elf.specs.Symbols.{section_at, section_bytes, symbol_table_from, is_symbol_table, is_string_table, linked, strings_of, entry_at, kept, kept_from, symbols_by, symbols_of}
@@ -98,6 +98,9 @@ lies image = record { parts = split; segments_len = first; table_len = second; t
         ap (λ (list : List ℕ). length list) split.at_sections
         ∙ longer ((((header_part image ++ programs_part image) ++ data_of image.segments) ++ symbol_table image.symbols) ++ text_part image) (sections_part image) (sections_at image) fourth
         ∙ ap (λ (n : ℕ). sections_at image + n) (length-section_headers (symbols_at image) (length (symbol_table image.symbols)) (strings_at image) (length (strings image.symbols)) (names_at image))
+
+pub length-file : (image : Image) → length (file image) ≡ sections_at image + 160
+length-file image = (lies image).whole
 
 -- ---- the segments
 
@@ -263,7 +266,7 @@ symbols_are image bytes lie short values are_named =
 
 -- ---- the whole file
 
-by_three : (bytes : List ℕ) (header : Header) (segments : List Segment) (symbols : List Symbol) → header_of bytes ≡ Ok header → segments_of bytes header.programs ≡ Ok segments → symbols_of bytes header.sections ≡ Ok symbols
+pub by_three : (bytes : List ℕ) (header : Header) (segments : List Segment) (symbols : List Symbol) → header_of bytes ≡ Ok header → segments_of bytes header.programs ≡ Ok segments → symbols_of bytes header.sections ≡ Ok symbols
     → meaning bytes ≡ Ok (record { entry = header.entry; segments = segments; symbols = symbols })
 unfolding meaning
 by_three bytes header segments symbols header_is segments_is symbols_is = rw (header_is, segments_is, symbols_is) refl

@@ -1,8 +1,9 @@
-pub mod Faults
+pub mod FaultLemmas
 pub mod SegmentLoop
 pub mod SymbolLoop
 pub mod LoadedLemmas
-pub mod Loadable
+pub mod HeaderFaults
+pub mod LoadableLemmas
 pub mod SectionLemmas
 pub mod TrieLemmas
 pub mod PlaceLemmas
@@ -15,3 +16,4 @@ pub mod SegmentsAgain
 pub mod SymbolsAgain
 pub mod FileAgain
 pub mod WriteLemmas
+pub mod SizeLemmas

@@ -23,7 +23,10 @@ entries_step table strings symbol symbols =
     append_assoc table (symbol_entry (length strings) symbol.value) (symbol_entries_from (length ((strings ++ symbol.name) ++ 0 ∷ [])) symbols)
     ∙ ap (λ (name : ℕ). table ++ (symbol_entry (length strings) symbol.value ++ symbol_entries_from name symbols)) place
 
+pub all_push : {A : Type 0} (P : A → Type 0) (xs : List A) (x : A) → AllByRecursion P xs → P x → AllByRecursion P (xs ++ x ∷ [])
+all_push P [] x are is = (is, tt)
+all_push P (first ∷ xs) x are is = (are.0, all_push P xs x are.1 is)
+
 pub words_push : (symbols : List Symbol) (symbol : Symbol) → AllByRecursion (λ symbol. symbol.value < 2 ^ 32) symbols → symbol.value < 2 ^ 32
     → AllByRecursion (λ symbol. symbol.value < 2 ^ 32) (symbols ++ symbol ∷ [])
-words_push [] symbol are is = (is, tt)
-words_push (first ∷ symbols) symbol are is = (are.0, words_push symbols symbol are.1 is)
+words_push symbols symbol are is = all_push (λ (s : Symbol). s.value < 2 ^ 32) symbols symbol are is

@@ -1,11 +1,12 @@
 -- Strings by their places, and the numbering with more strings or one place more.
-use Rattle.std.proofs.Common.{◌≡◌, ℕ, zero, suc, ◌+◌, ◌<◌, ◌≤◌, List, [], ◌∷◌, length, set, drop, Option, Some, None, refl, sym, ap, ◌∙◌, inl, inr, arith}
-use Rattle.std.specs.Prelude.{slice_index_or}
+use Rattle.std.proofs.Common.{◌≡◌, ℕ, zero, suc, ◌+◌, ◌^◌, ◌<◌, ◌≤◌, Bool, cond, List, [], ◌∷◌, length, set, drop, Option, Some, None, refl, sym, ap, ◌∙◌, inl, inr, arith}
+use Rattle.std.specs.Prelude.{slice_index_or, count_by, is_some}
 use Rattle.std.proofs.lemmas.Bool.{cases_eq, ne_eqb}
 use Rattle.std.proofs.lemmas.List.{length-set, length-append, get_or-set_same, get_or-set_other, get_or_append_left}
+use Rattle.std.proofs.lemmas.List.Sums.{sum_by-set, count_by-le-length}
 use Rattle.brd_elf.specs.Symbols.{string_of}
 use Rattle.brd_elf.specs.Trie.{path_of, AreDistinct, IsMore}
-use Rattle.brd_elf.specs.Places.{AreLetters, IsNumbering}
+use Rattle.brd_elf.specs.Places.{Numbered, AreLetters, IsNumbering}
 
 -- a string with its first byte
 pub letter_before : (strings : List ℕ) (at : ℕ) (path : List ℕ) → at < length strings → (slice_index_or strings at 0 ≡ 0 → ⊥)
@@ -32,32 +33,46 @@ more_there paths more number longer lt =
     let len : length more ≡ length paths + length longer.0 = ap length longer.1 ∙ length-append paths longer.0 in
     omega (arith, len, lt)
 
-pub with_more : (numbers : List (Option ℕ)) (strings : List ℕ) (paths more : List (List ℕ)) → IsNumbering numbers (record { strings = strings; paths = paths })
-    → IsMore paths more → AreDistinct more → IsNumbering numbers (record { strings = strings; paths = more })
-with_more numbers strings paths more numbering longer distinct = record {
-  places = numbering.places;
+abbrev one_if : Bool → ℕ
+one_if b = cond b 1 0
+
+-- one place more has a number
+one_more : (numbers : List (Option ℕ)) (at number : ℕ) → at < length numbers → slice_index_or numbers at None ≡ None
+    → count_by is_some (set numbers at (Some number)) ≡ suc (count_by is_some numbers)
+one_more numbers at number within new =
+    let e = sum_by-set (λ (n : Option ℕ). one_if (is_some n)) numbers at (Some number) None within in
+    let none : one_if (is_some (slice_index_or numbers at None)) ≡ 0 = rw new refl in
+    omega (arith, e, none)
+
+-- strings that have numbers are fewer than places, where one has no number
+pub room_for_one : (numbered : Numbered) (at : ℕ) → IsNumbering numbered → at < length numbered.strings → slice_index_or numbered.numbers at None ≡ None
+    → length numbered.paths < 2 ^ 32
+room_for_one numbered at numbering within new =
+    let more = one_more numbered.numbers at 0 (omega (arith, within, numbering.places)) new in
+    let all = count_by-le-length is_some (set numbered.numbers at (Some 0)) in
+    omega (arith, more, all, length-set numbered.numbers at (Some 0), numbering.places, numbering.short, numbering.few)
+
+-- a place that had no number has that of its string, which may be a new one
+pub with_place : (numbers : List (Option ℕ)) (strings : List ℕ) (paths more : List (List ℕ)) (at number : ℕ) → IsNumbering (record { strings = strings; numbers = numbers; paths = paths })
+    → IsMore paths more → AreDistinct more → length more ≤ length paths + 1
+    → at < length strings → slice_index_or numbers at None ≡ None → number < length more → string_of (drop at strings) ≡ Some (path_of more number)
+    → IsNumbering (record { strings = strings; numbers = set numbers at (Some number); paths = more })
+with_place numbers strings paths more at number numbering longer distinct few within new there string = record {
+  short = numbering.short;
+  places = length-set numbers at (Some number) ∙ numbering.places;
+  few = omega (arith, few, numbering.few, one_more numbers at number (omega (arith, within, numbering.places)) new);
   there = more_there paths more 0 longer numbering.there;
   empty = same_path paths more 0 longer numbering.there ∙ numbering.empty;
   distinct = distinct;
-  within = λ place number is. more_there paths more number longer (numbering.within place number is);
-  strings = λ place number is. numbering.strings place number is ∙ ap Some (sym (same_path paths more number longer (numbering.within place number is)));
-}
-
-pub with_place : (numbers : List (Option ℕ)) (strings : List ℕ) (paths : List (List ℕ)) (at number : ℕ) → IsNumbering numbers (record { strings = strings; paths = paths })
-    → at < length strings → number < length paths → string_of (drop at strings) ≡ Some (path_of paths number)
-    → IsNumbering (set numbers at (Some number)) (record { strings = strings; paths = paths })
-with_place numbers strings paths at number numbering within there string = record {
-  places = length-set numbers at (Some number) ∙ numbering.places;
-  there = numbering.there;
-  empty = numbering.empty;
-  distinct = numbering.distinct;
   within = λ place other is. elim (cases_eq place at) [
     | inl same ↦ rw (← (here place other same is)) there
-    | inr not ↦ numbering.within place other (elsewhere place other not is)
+    | inr not ↦ more_there paths more other longer (numbering.within place other (elsewhere place other not is))
   ];
   strings = λ place other is. elim (cases_eq place at) [
     | inl same ↦ rw (same, ← (here place other same is)) string
-    | inr not ↦ numbering.strings place other (elsewhere place other not is)
+    | inr not ↦
+        numbering.strings place other (elsewhere place other not is)
+        ∙ ap Some (sym (same_path paths more other longer (numbering.within place other (elsewhere place other not is))))
   ];
 }
   where

@@ -2,8 +2,9 @@
 use Rattle.std.proofs.Common.{◌≡◌, ℕ, suc, ◌+◌, ◌-◌, ◌<◌, ◌≤◌, List, drop, Result, Ok, Err, refl, sym, ◌∙◌, arith}
 use Rattle.brd_mem.specs.declared.image.Segment.{Segment}
 use Rattle.brd_elf.specs.declared.fault.ElfFault.{ElfFault}
-use Rattle.brd_elf.specs.Fault.{◌>>=◌, Fails}
-use Rattle.brd_elf.proofs.Faults.{passed_on}
+use Rattle.brd_text.specs.Faults.{◌>>=◌, Fails}
+use Rattle.brd_elf.specs.Faults.{is_no_memory}
+use Rattle.brd_elf.proofs.FaultLemmas.{passed_on}
 use Rattle.brd_elf.specs.Segments.{program_header_at, loaded, loaded_from}
 
 one_more : (file : List ℕ) (at count i : ℕ) (segments : List Segment) → i < count
@@ -22,8 +23,8 @@ goes_on file at count i segments more total lt step so_far =
     sym g ∙ sym e ∙ so_far
 
 pub ends : (f : ElfFault) (file : List ℕ) (at count i : ℕ) (segments : List Segment) (total : Result (List Segment) ElfFault) → i < count
-    → Fails f (loaded file at (program_header_at (drop at file)) segments)
-    → loaded_from file at (count - i) segments ≡ total → Fails f total
+    → Fails is_no_memory f (loaded file at (program_header_at (drop at file)) segments)
+    → loaded_from file at (count - i) segments ≡ total → Fails is_no_memory f total
 ends f file at count i segments total lt fails so_far =
     passed_on f (loaded file at (program_header_at (drop at file)) segments) total fails
     (λ step. let e = one_more file at count i segments lt in

@@ -3,13 +3,13 @@ use Rattle.std.proofs.Common.{◌≡◌, ℕ, zero, suc, ◌+◌, ◌-◌, ◌^�
 use Rattle.std.specs.Prelude.{◌&&◌}
 use Rattle.std.proofs.lemmas.Bool.{le-ltb, le-leb, ne_eqb, or_from, and_right}
 use Rattle.std.proofs.lemmas.List.{append-nil, take_at, drop_at, nil_from_length}
-use Rattle.brd_mem.specs.Memory.{base}
+use Rattle.brd_base.specs.Space.{base, top}
 use Rattle.brd_mem.specs.Image.{AreAscending}
 use Rattle.brd_mem.specs.declared.image.Segment.{Segment}
 use Rattle.brd_elf.specs.declared.fault.ElfFault.{ElfFault}
 use Rattle.brd_elf.specs.declared.segments.ProgramHeader.{ProgramHeader}
 use Rattle.brd_elf.specs.Fields.{has_bytes}
-use Rattle.brd_elf.specs.Fault.{◌>>=◌}
+use Rattle.brd_text.specs.Faults.{◌>>=◌}
 use Rattle.brd_elf.specs.Segments.{program_header_at, lies_in, is_dynamic, is_skipped, has_bad_sizes, is_cut, is_outside, loaded_bytes, load_fault, loaded, loaded_from}
 use Rattle.brd_elf.specs.File.{padding, padded, program_header, program_headers_from, data_of}
 use Rattle.brd_elf.proofs.LoadedLemmas.{lies_in-push}
@@ -28,7 +28,7 @@ unfolding loaded load_fault
 by_tests file at header segments dynamic skipped sizes cut outside free = rw (dynamic, skipped, sizes, cut, outside, free) refl
 
 load_again : (file : List ℕ) (at offset : ℕ) (segment : Segment) (segments : List Segment) (back : List ℕ) → drop offset file ≡ padded segment.bytes ++ back → offset + length segment.bytes ≤ length file
-    → 0 < length segment.bytes → base ≤ segment.address → segment.address + length segment.bytes ≤ base + 2 ^ 24 → lies_in segments segment.address (segment.address + length segment.bytes) ≡ false
+    → 0 < length segment.bytes → base ≤ segment.address → segment.address + length segment.bytes ≤ top → lies_in segments segment.address (segment.address + length segment.bytes) ≡ false
     → loaded file at (header_for offset segment) segments ≡ Ok (segments ++ segment ∷ [])
 load_again file at offset segment segments back here long some above below free =
     by_tests file at (header_for offset segment) segments refl skipped sizes cut outside free
@@ -50,7 +50,7 @@ load_again file at offset segment segments back here long some above below free 
     cut = and_right (not (eqb (length segment.bytes) 0)) _ whole
 
     outside : is_outside (header_for offset segment) ≡ false
-    outside = or_from (ltb segment.address base) _ (le-ltb segment.address base above) (le-ltb (base + 2 ^ 24) (segment.address + length segment.bytes) below)
+    outside = or_from (ltb segment.address base) _ (le-ltb segment.address base above) (le-ltb top (segment.address + length segment.bytes) below)
 
     made : List ℕ → Result (List Segment) ElfFault
     made list = Ok (segments ++ record { address = segment.address; bytes = list } ∷ [])

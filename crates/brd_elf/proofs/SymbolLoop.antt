@@ -3,8 +3,9 @@ use Rattle.std.proofs.Common.{◌≡◌, ℕ, suc, ◌+◌, ◌-◌, ◌<◌, �
 use Rattle.brd_mem.specs.declared.image.Symbol.{Symbol}
 use Rattle.brd_elf.specs.declared.fault.ElfFault.{ElfFault}
 use Rattle.brd_elf.specs.declared.symbols.Entry.{Entry}
-use Rattle.brd_elf.specs.Fault.{◌>>=◌, Fails}
-use Rattle.brd_elf.proofs.Faults.{passed_on}
+use Rattle.brd_text.specs.Faults.{◌>>=◌, Fails}
+use Rattle.brd_elf.specs.Faults.{is_no_memory}
+use Rattle.brd_elf.proofs.FaultLemmas.{passed_on}
 use Rattle.brd_elf.specs.Symbols.{entry_at, kept, kept_from}
 
 one_more : (file strings : List ℕ) (at count i : ℕ) (symbols : List Symbol) → i < count
@@ -23,8 +24,8 @@ goes_on file strings at count i symbols more total lt step so_far =
     sym g ∙ sym e ∙ so_far
 
 pub ends : (f : ElfFault) (file strings : List ℕ) (at count i : ℕ) (symbols : List Symbol) (total : Result (List Symbol) ElfFault) → i < count
-    → Fails f (kept strings at (entry_at (drop at file)) symbols)
-    → kept_from file strings at (count - i) symbols ≡ total → Fails f total
+    → Fails is_no_memory f (kept strings at (entry_at (drop at file)) symbols)
+    → kept_from file strings at (count - i) symbols ≡ total → Fails is_no_memory f total
 ends f file strings at count i symbols total lt fails so_far =
     passed_on f (kept strings at (entry_at (drop at file)) symbols) total fails
     (λ step. let e = one_more file strings at count i symbols lt in
@@ -47,7 +48,7 @@ goes_on_copied file strings own at count i entry symbols more total same read lt
     goes_on file strings at count i symbols more total lt (rw (same, read) at step) so_far
 
 pub ends_copied : (f : ElfFault) (file strings own : List ℕ) (at count i : ℕ) (entry : Entry) (symbols : List Symbol) (total : Result (List Symbol) ElfFault) → own ≡ strings → entry ≡ entry_at (drop at file)
-    → i < count → Fails f (kept own at entry symbols)
-    → kept_from file strings at (count - i) symbols ≡ total → Fails f total
+    → i < count → Fails is_no_memory f (kept own at entry symbols)
+    → kept_from file strings at (count - i) symbols ≡ total → Fails is_no_memory f total
 ends_copied f file strings own at count i entry symbols total same read lt fails so_far =
     ends f file strings at count i symbols total lt (rw (same, read) at fails) so_far

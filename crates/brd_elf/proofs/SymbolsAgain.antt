@@ -11,7 +11,7 @@ use Rattle.brd_mem.specs.declared.image.Symbol.{Symbol}
 use Rattle.brd_elf.specs.declared.fault.ElfFault.{ElfFault}
 use Rattle.brd_elf.specs.declared.symbols.Entry.{Entry}
 use Rattle.brd_elf.specs.Fields.{half, word}
-use Rattle.brd_elf.specs.Fault.{◌>>=◌}
+use Rattle.brd_text.specs.Faults.{◌>>=◌}
 use Rattle.brd_elf.specs.Symbols.{entry_at, string_of, is_named, named, kept, kept_from}
 use Rattle.brd_elf.specs.File.{symbol_entry, symbol_entries_from}
 use Rattle.brd_elf.proofs.NamedLemmas.{is_named-push}

@@ -3,7 +3,7 @@ use Rattle.std.proofs.Common.{◌≡◌, ℕ, List, Result, Ok, Err, ap, ◌∙�
 use Rattle.std.specs.Prelude.{IfOk}
 use Rattle.std.specs.Global.{Vec}
 use Rattle.brd_mem.specs.Image.{IsPlain}
-use Rattle.brd_mem.specs.declared.fault.NoMemory.{NoMemory}
+use Rattle.brd_base.specs.declared.no_memory.NoMemory.{NoMemory}
 use Rattle.brd_mem.specs.declared.image.Image.{Image}
 use Rattle.brd_elf.specs.File.{file, Fits, HasWords}
 use Rattle.brd_elf.specs.Meaning.{meaning}

@@ -1,5 +1,5 @@
 pub mod Fields
-pub mod Fault
+pub mod Faults
 pub mod Header
 pub mod Segments
 pub mod Loaded

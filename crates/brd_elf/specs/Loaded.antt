@@ -1,11 +1,10 @@
--- An index of segments, by which it is seen at once whether one more overlaps one of them.
-use Rattle.std.specs.Prelude.{◌≡◌, ℕ, ◌<◌, ◌≤◌, List, Option, Some, true}
+-- Only private contracts name this: ranges by which it is seen at once whether one more segment overlaps another.
+use Rattle.std.specs.Prelude.{◌≡◌, ℕ, List}
+use Rattle.brd_ranges.specs.declared.range.Range.{Range}
+use Rattle.brd_ranges.specs.Ranges.{overlaps}
 use Rattle.brd_mem.specs.declared.image.Segment.{Segment}
 use Rattle.brd_elf.specs.Segments.{lies_in}
 
--- By its first address, each segment's end. They lie apart, and wherever one lies, one of the segments does, and the other way round.
-pub record IsIndex (end_at : ℕ → Option ℕ) (segments : List Segment) : Type 0 where
-  pub filled : (first end : ℕ) → end_at first ≡ Some end → first < end
-  pub apart : (first end other other_end : ℕ) → end_at first ≡ Some end → end_at other ≡ Some other_end → first < other → end ≤ other
-  pub found : (first end low high : ℕ) → end_at first ≡ Some end → first < high → low < end → lies_in segments low high ≡ true
-  pub all : (low high : ℕ) → lies_in segments low high ≡ true → (first : ℕ) × (end : ℕ) × (end_at first ≡ Some end) × (first < high) × (low < end)
+-- ranges lie wherever segments do
+pub record AreRangesOf {T : Type 0} (ranges : List (Range T)) (segments : List Segment) : Type 0 where
+  pub same : (low high : ℕ) → overlaps ranges low high ≡ lies_in segments low high

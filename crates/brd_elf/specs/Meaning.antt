@@ -2,7 +2,7 @@
 use Rattle.std.specs.Prelude.{ℕ, List, Result, Ok}
 use Rattle.brd_mem.specs.declared.image.Image.{Image}
 use Rattle.brd_elf.specs.declared.fault.ElfFault.{ElfFault}
-use Rattle.brd_elf.specs.Fault.{◌>>=◌}
+use Rattle.brd_text.specs.Faults.{◌>>=◌}
 use Rattle.brd_elf.specs.Header.{header_of}
 use Rattle.brd_elf.specs.Segments.{segments_of}
 use Rattle.brd_elf.specs.Symbols.{symbols_of}

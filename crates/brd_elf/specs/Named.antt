@@ -1,4 +1,5 @@
--- A register of symbols, by which it is seen at once whether a string of the string table would be a new name.
+-- Only private contracts name this: a register of symbols, by which it is seen at once whether a string of the string
+-- table would be a new name.
 use Rattle.std.specs.Prelude.{◌≡◌, ℕ, ◌<◌, ◌≤◌, Bool, true, false, List, [], ◌∷◌, length, slice_index_or, Option, None, Some}
 use Rattle.brd_mem.specs.declared.image.Symbol.{Symbol}
 use Rattle.brd_elf.specs.Symbols.{is_named}

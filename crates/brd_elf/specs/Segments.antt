@@ -1,13 +1,13 @@
 -- Program headers, 32 bytes each (System V ABI, "Program Header"), and the segments that they load.
 use Rattle.std.specs.Prelude.{ℕ, zero, suc, ◌+◌, ◌-◌, ◌*◌, ◌^◌, Bool, not, ◌&&◌, ◌||◌, ◌==◌, nat_lt, if◌then◌else◌, List, [], ◌∷◌, ◌++◌, length, take, drop, replicate, Option, None, Some, Result, Ok, Err}
 use Rattle.std.specs.List.{list_any}
-use Rattle.brd_mem.specs.Memory.{base}
+use Rattle.brd_base.specs.Space.{base, top}
 use Rattle.brd_mem.specs.declared.image.Segment.{Segment}
 use Rattle.brd_elf.specs.declared.fault.ElfFault.{ElfFault}
 use Rattle.brd_elf.specs.declared.fault.ElfFault.TheVariants as fault
 use Rattle.brd_elf.specs.declared.header.Table.{Table}
 use Rattle.brd_elf.specs.declared.segments.ProgramHeader.{ProgramHeader}
-use Rattle.brd_elf.specs.Fault.{◌>>=◌}
+use Rattle.brd_text.specs.Faults.{◌>>=◌}
 use Rattle.brd_elf.specs.Fields.{word_at, has_bytes}
 
 -- the program header that bytes begin with
@@ -44,7 +44,7 @@ is_cut file header = not (header.file_size == 0) && not (has_bytes file header.o
 
 -- not all of it is loaded to 0x80000000 to 0x80FFFFFF
 abbrev pub is_outside : ProgramHeader → Bool
-is_outside header = nat_lt header.address base || nat_lt (base + 2 ^ 24) (header.address + header.memory_size)
+is_outside header = nat_lt header.address base || nat_lt top (header.address + header.memory_size)
 
 -- the bytes of the file, then zero up to the size in memory
 abbrev pub loaded_bytes : List ℕ → ProgramHeader → List ℕ

@@ -1,4 +1,5 @@
--- Section headers, 40 bytes each, and the symbol table, 16 bytes a symbol (System V ABI, "Sections", "Symbol Table", "String Table").
+-- Section headers, 40 bytes each, and the symbol table, 16 bytes a symbol (System V ABI, "Sections", "Symbol Table",
+-- "String Table").
 use Rattle.std.specs.Prelude.{ℕ, zero, suc, ◌+◌, ◌*◌, ◌/◌, ◌%◌, Bool, not, ◌&&◌, ◌||◌, ◌==◌, nat_le, if◌then◌else◌, List, [], ◌∷◌, ◌++◌, take, drop, Option, None, Some, option_map, Result, Ok, Err}
 use Rattle.std.specs.List.{list_any}
 use Rattle.std.specs.Str.{bytes_eq}
@@ -8,7 +9,7 @@ use Rattle.brd_elf.specs.declared.fault.ElfFault.TheVariants as fault
 use Rattle.brd_elf.specs.declared.header.Table.{Table}
 use Rattle.brd_elf.specs.declared.sections.Section.{Section}
 use Rattle.brd_elf.specs.declared.symbols.Entry.{Entry}
-use Rattle.brd_elf.specs.Fault.{◌>>=◌}
+use Rattle.brd_text.specs.Faults.{◌>>=◌}
 use Rattle.brd_elf.specs.Fields.{half_at, word_at, has_bytes}
 
 -- the section header that bytes begin with

@@ -1,5 +1,5 @@
--- Strings by their numbers: 0 is the empty one, and each node of a list makes one more, a byte in front of an earlier one.
--- Only private functions' contracts name this; what a file means doesn't.
+-- Only private contracts name this: strings by their numbers. 0 is the empty string, and each node of a list makes one
+-- more string, a byte in front of an earlier one.
 use Rattle.std.specs.Prelude.{◌≡◌, ℕ, suc, ◌^◌, ◌<◌, ◌≤◌, List, [], ◌∷◌, ◌++◌, length, slice_index_or, Option, None, Some}
 use Rattle.brd_elf.specs.declared.trie.Node.{Node}
 
@@ -32,7 +32,8 @@ abbrev pub IsUpTo : Option ℕ → ℕ → Type 0
 IsUpTo None at = ⊥
 IsUpTo (Some last) at = at ≤ last
 
--- For each number, `lasts` has the last node in front of its string, and each node the one before it in front of the same string.
+-- For each number, `lasts` has the last node in front of its string, and each node the one before it in front of the
+-- same string.
 pub record IsTrie (lasts : List (Option ℕ)) (nodes : List Node) : Type 0 where
   pub small : length nodes < 2 ^ 32
   pub enough : suc (length nodes) ≤ length lasts

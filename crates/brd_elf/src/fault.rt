@@ -3,13 +3,13 @@
 ghost use Rattle.std.specs.Prelude.{◌≡◌};
 ghost use Rattle.brd_elf.specs.declared.fault.ElfFault.TheVariants as fault;
 
-use std::alloc::{AllocError, AllocFailed};
+use brd_base::NoMemory;
 use thiserror::Error;
 
 /// Why there is no image. `at` is the offset in the file of the field, header or symbol that is at fault.
 #[derive(Clone, Copy, Debug, PartialEq, Eq, Error)]
 pub enum ElfFault {
-    /// A growth was refused.
+    /// Memory ran out.
     #[error("out of memory")]
     NoMemory,
     /// The file doesn't begin with 7F 45 4C 46.
@@ -27,7 +27,8 @@ pub enum ElfFault {
         /// The offset of the ELF header, of the field that places the table, or of the segment's program header.
         at: usize,
     },
-    /// A table's headers aren't of the size they have to be, or a segment is larger in the file than in memory or ends behind the last address.
+    /// A table's headers aren't of the size they have to be, or a segment is larger in the file than in memory or ends
+    /// behind the last address.
     #[error("offset {at}: a size given here is wrong: of a table's headers, or of a segment")]
     Sizes {
         /// The offset of the field or program header.
@@ -53,26 +54,10 @@ pub enum ElfFault {
     },
 }
 
-impl From<brd_mem::NoMemory> for ElfFault {
+impl From<NoMemory> for ElfFault {
     ghost from_gives = { λ _ f. f ≡ fault.NoMemory };
 
-    fn from(_refused: brd_mem::NoMemory) -> ElfFault {
-        ElfFault::NoMemory
-    }
-}
-
-impl From<AllocError> for ElfFault {
-    ghost from_gives = { λ _ f. f ≡ fault.NoMemory };
-
-    fn from(_refused: AllocError) -> ElfFault {
-        ElfFault::NoMemory
-    }
-}
-
-impl<T: Drop> From<AllocFailed<T>> for ElfFault {
-    ghost from_gives = { λ _ f. f ≡ fault.NoMemory };
-
-    fn from(_refused: AllocFailed<T>) -> ElfFault {
+    fn from(_refused: NoMemory) -> ElfFault {
         ElfFault::NoMemory
     }
 }

@@ -3,7 +3,7 @@
 ghost use Rattle.std.specs.Prelude.{◌≡◌, ◌+◌, ◌≤◌, ◌++◌, length, OnOk};
 ghost use Rattle.brd_elf.specs.Fields.{half_at, word_at, half, word, has_bytes};
 
-use brd_mem::NoMemory;
+use brd_base::NoMemory;
 use byteorder::{BigEndian, ByteOrder};
 
 /// The number in the two bytes from a place on.

@@ -1,7 +1,7 @@
 //! The ELF header.
 
 ghost use Rattle.std.specs.Prelude.{◌≡◌, ◌≤◌, length};
-ghost use Rattle.brd_elf.specs.Fault.{Gives};
+ghost use Rattle.brd_elf.specs.Faults.{Gives};
 ghost use Rattle.brd_elf.specs.Header.{header_at, header_of, unsupported_at};
 
 use crate::fault::ElfFault;

@@ -1,7 +1,7 @@
 //! ELF32 object files for MIPS (System V ABI): a reader of files that nobody vouches for, and a writer.
 //!
-//! `read` answers what `specs/Meaning.antt` says a file means, `write` what `specs/File.antt` says is the file of an
-//! image, and a plain image that fits is read again as itself.
+//! `read` answers what `specs/Meaning.antt` says a file means, an image that can be loaded; `write` answers what
+//! `specs/File.antt` says is the file of an image. A plain image that `fits` is read again as itself.
 #![tactic(auto)]
 
 mod fault;
@@ -15,13 +15,15 @@ mod places;
 mod reading;
 mod sections;
 mod segments;
+mod size;
 mod symbols;
 mod trie;
 mod writing;
 
 pub use fault::ElfFault;
-pub use laws::files_are_read_again;
+pub use laws::{files_are_read_again, read_images_are_loadable};
 pub use reading::read;
+pub use size::fits;
 pub use writing::write;
 
 #[cfg(test)]

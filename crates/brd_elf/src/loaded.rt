@@ -1,33 +1,32 @@
-//! The segments that are loaded, with an index for the test whether one more overlaps one of them.
+//! The segments that are loaded, and the ranges of addresses that they fill.
 
 ghost use Rattle.std.specs.Prelude.{◌≡◌, ℕ, ◌+◌, ◌<◌, ◌^◌, List, [], ◌∷◌, ◌++◌, false, length, OnOk, IfOk};
 ghost use Rattle.brd_elf.specs.Segments.{lies_in};
 
-use brd_mem::{NoMemory, Segment, Segments};
+use brd_base::NoMemory;
+use brd_mem::{Segment, Segments};
+use brd_ranges::{Range, Ranges};
 use std::alloc::Global;
-use std::collections::BTreeMap;
 use std::marker::Model;
 
 /// Segments in the order in which they were loaded, none over another.
 #[derive(Drop)]
 pub struct Loaded {
     segments: Segments,
-    /// Each segment's first address, and the address behind its last.
-    ends: BTreeMap<u32, u32>,
+    /// The addresses of each.
+    ranges: Ranges<()>,
 }
 
 impl Model for Loaded {
     ghost use Rattle.std.specs.Prelude.{List};
-    ghost use Rattle.std.specs.Ordering.{nat_cmp};
-    ghost use Rattle.std.specs.BTreeMap.{get};
     ghost use Rattle.brd_mem.specs.declared.image.Segment.{Segment};
-    ghost use Rattle.brd_elf.specs.Loaded.{IsIndex};
+    ghost use Rattle.brd_elf.specs.Loaded.{AreRangesOf};
 
     ghost Value = { List Segment };
 
     ghost view = { λ loaded. loaded.segments };
 
-    ghost invariant = { λ loaded. IsIndex (get nat_cmp loaded.ends) loaded.segments };
+    ghost invariant = { λ loaded. AreRangesOf loaded.ranges loaded.segments };
 }
 
 impl Loaded {
@@ -37,19 +36,15 @@ impl Loaded {
     {
         Loaded {
             segments: Segments::new(alloc),
-            ends: BTreeMap::new(alloc),
+            ranges: Ranges::new(alloc),
         }
     }
 
-    /// Whether a segment has bytes at addresses from `low` up to, not including, `high`. It is one search in the tree of
-    /// ends, however many segments there are.
+    /// Whether a segment has bytes at addresses from `low` up to, not including, `high`.
     pub fn lies_in(&self, low: u32, high: u32) -> bool
         ensures { result ≡ lies_in self.now low high }
     {
-        match self.ends.range(..high).next_back() {
-            Some((_, end)) => low < *end,
-            None => false,
-        }
+        self.ranges.overlaps(low, high)
     }
 
     /// With one segment more.
@@ -61,18 +56,25 @@ impl Loaded {
     {
         let Loaded {
             mut segments,
-            mut ends,
+            mut ranges,
         } = self;
-        ends.insert(segment.address, end)?;
+        ranges.insert(Range {
+            start: segment.address,
+            end,
+            item: (),
+        })?;
         segments.push(segment)?;
-        Ok(Loaded { segments, ends })
+        Ok(Loaded { segments, ranges })
     }
 
     /// The segments.
     pub fn into_segments(self) -> Segments
         ensures { result ≡ self }
     {
-        let Loaded { segments, ends: _ } = self;
+        let Loaded {
+            segments,
+            ranges: _,
+        } = self;
         segments
     }
 }

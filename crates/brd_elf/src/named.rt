@@ -1,7 +1,7 @@
 //! The symbols that are kept, with a register for the test whether a name is new.
 
 ghost use Rattle.std.specs.Prelude.{◌≡◌, ℕ, ◌^◌, ◌<◌, ◌≤◌, List, [], ◌∷◌, ◌++◌, length, drop, slice_index_or, true, false, option_map, Some, IfOk, OnOk, IfSome};
-ghost use Rattle.brd_elf.specs.Fault.{Gives};
+ghost use Rattle.brd_elf.specs.Faults.{Gives};
 ghost use Rattle.brd_elf.specs.Symbols.{string_of, kept};
 ghost use Rattle.brd_elf.specs.Trie.{path_of};
 ghost use Rattle.brd_elf.specs.Named.{Known, is_known};
@@ -9,7 +9,8 @@ ghost use Rattle.brd_elf.specs.Named.{Known, is_known};
 use crate::fault::ElfFault;
 use crate::places::Places;
 use crate::symbols::Entry;
-use brd_mem::{Bytes, NoMemory, Symbol, Symbols};
+use brd_base::NoMemory;
+use brd_mem::{Bytes, Symbol, Symbols};
 use std::alloc::Global;
 use std::marker::Model;
 
@@ -37,6 +38,7 @@ impl<'a> Model for Named<'a> {
 impl<'a> Named<'a> {
     /// No symbols, with names from these strings.
     pub fn new(alloc: Global, strings: &'a [u8]) -> Result<Self, NoMemory>
+        requires { length strings.now < 2 ^ 32 }
         ensures { IfOk result (λ named. named ≡ record { strings = strings.now; symbols = []; paths = [] ∷ [] }) }
     {
         let places = Places::new(alloc, strings)?;

@@ -5,14 +5,15 @@ ghost use Rattle.std.specs.List.{AllByRecursion};
 ghost use Rattle.brd_elf.specs.File.{halves, words, padding, padded, program_header, program_headers_from, data_of, symbol_entry, symbol_table, strings, section_headers, header_bytes};
 
 use crate::fields::{put_half, put_word};
-use brd_mem::{NoMemory, Segment, Symbol};
+use brd_base::NoMemory;
+use brd_mem::{Segment, Symbol};
 use std::alloc::Global;
 
 /// How many bytes the ELF header has.
 pub const HEADER_LEN: usize = 52;
 
 /// How many bytes a program header has.
-const PROGRAM_LEN: usize = 32;
+pub const PROGRAM_LEN: usize = 32;
 
 /// The sections' names, at 1, 9 and 17.
 pub const SECTION_NAMES: &[u8] = b"\0.symtab\0.strtab\0.shstrtab\0";

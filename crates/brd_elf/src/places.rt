@@ -1,12 +1,12 @@
 //! Numbers for the strings at the places of a string table: two places have one number exactly if they have one string.
 
-ghost use Rattle.std.specs.Prelude.{◌≡◌, ℕ, ◌+◌, ◌<◌, ◌≤◌, [], ◌∷◌, length, drop, slice_index_or, option_copied, option_map, Some, None, IfOk, IfSome, IfNone};
+ghost use Rattle.std.specs.Prelude.{◌≡◌, ℕ, ◌+◌, ◌^◌, ◌<◌, ◌≤◌, [], ◌∷◌, length, drop, replicate, slice_index_or, slice_set, option_copied, option_map, Some, None, IfOk, IfSome, IfNone};
 ghost use Rattle.brd_elf.specs.Symbols.{string_of};
 ghost use Rattle.brd_elf.specs.Trie.{path_of, AreDistinct, IsMore};
-ghost use Rattle.brd_elf.specs.Places.{AreLetters};
+ghost use Rattle.brd_elf.specs.Places.{AreLetters, AreNew};
 
 use crate::trie::Trie;
-use brd_mem::NoMemory;
+use brd_base::NoMemory;
 use std::alloc::Global;
 use std::marker::Model;
 
@@ -28,15 +28,21 @@ impl<'a> Model for Places<'a> {
 
     ghost Value = { Numbered };
 
-    ghost view = { λ places. record { strings = places.strings.now; paths = places.trie } };
+    ghost view = { λ places. record { strings = places.strings.now; numbers = places.numbers.items; paths = places.trie } };
 
-    ghost invariant = { λ places. IsNumbering places.numbers.items (record { strings = places.strings.now; paths = places.trie }) };
+    ghost invariant = { λ places. IsNumbering
+        (record { strings = places.strings.now; numbers = places.numbers.items; paths = places.trie }) };
 }
 
 impl<'a> Places<'a> {
     /// A string table of which no place has a number.
     pub fn new(alloc: Global, strings: &'a [u8]) -> Result<Self, NoMemory>
-        ensures { IfOk result (λ places. places ≡ record { strings = strings.now; paths = [] ∷ [] }) }
+        requires { length strings.now < 2 ^ 32 }
+        ensures { IfOk result (λ places. places ≡ record {
+          strings = strings.now;
+          numbers = replicate (length strings.now) None;
+          paths = [] ∷ [];
+        }) }
     {
         let numbers = vec![in alloc; None; strings.len()]?;
         let trie = Trie::new(alloc)?;
@@ -79,6 +85,7 @@ impl<'a> Places<'a> {
         ensures none { IfNone result (string_of (drop start self.now.strings) ≡ None) }
         ensures within { IfSome result (λ found. (start ≤ found.0) × (found.0 < length self.now.strings)) }
         ensures letters { IfSome result (λ found. AreLetters self.now.strings start found.0) }
+        ensures new { IfSome result (λ found. AreNew self.now.numbers start found.0) }
         ensures string { IfSome result (λ found. string_of (drop found.0 self.now.strings) ≡ Some (path_of self.now.paths found.1)) }
         ensures there { IfSome result (λ found. found.1 < length self.now.paths) }
         ensures distinct { AreDistinct self.now.paths }
@@ -94,13 +101,15 @@ impl<'a> Places<'a> {
         None
     }
 
-    /// Numbers a place before one whose string has a number.
+    /// Numbers a place that has no number, before one whose string has one.
     fn number_before(&mut self, at: usize, rest: u32) -> Result<u32, NoMemory>
         requires within { at < length self.old.strings }
         requires letter { slice_index_or self.old.strings at 0 ≡ 0 → ⊥ }
+        requires new { slice_index_or self.old.numbers at None ≡ None }
         requires there { rest < length self.old.paths }
         requires string { string_of (drop (at + 1) self.old.strings) ≡ Some (path_of self.old.paths rest) }
         ensures strings { self.new.strings ≡ self.old.strings }
+        ensures numbers { IfOk result (λ number. self.new.numbers ≡ slice_set self.old.numbers at (Some number)) }
         ensures string { IfOk result (λ number. string_of (drop at self.old.strings) ≡ Some (path_of self.new.paths number)) }
         ensures there { IfOk result (λ number. number < length self.new.paths) }
         ensures kept { IsMore self.old.paths self.new.paths }

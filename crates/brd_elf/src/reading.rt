@@ -1,7 +1,8 @@
 //! The reader.
 
-ghost use Rattle.std.specs.Prelude.{◌≡◌};
-ghost use Rattle.brd_elf.specs.Fault.{Gives};
+ghost use Rattle.std.specs.Prelude.{◌≡◌, IfOk};
+ghost use Rattle.brd_mem.specs.Image.{IsLoadable};
+ghost use Rattle.brd_elf.specs.Faults.{Gives};
 ghost use Rattle.brd_elf.specs.Meaning.{meaning};
 
 use crate::fault::ElfFault;
@@ -14,7 +15,9 @@ use std::alloc::Global;
 /// What an ELF file means: its image, or the first fault from the header over the program headers to the symbols.
 #[tactic(auto, unfolding(crate::specs::Meaning::meaning))]
 pub fn read(alloc: Global, bytes: &[u8]) -> Result<Image, ElfFault>
-    ensures { Gives (λ image. image) result (meaning bytes.now) }
+    ensures meaning { Gives (λ image. image) result (meaning bytes.now) }
+    // Segments have bytes and lie apart, and no name stands twice.
+    ensures loadable { IfOk result IsLoadable }
 {
     let header = header_of(bytes)?;
     let segments = segments_of(alloc, bytes, header.programs)?;

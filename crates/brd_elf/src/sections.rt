@@ -1,7 +1,7 @@
 //! Section headers: which section is the symbol table, and which has its strings.
 
-ghost use Rattle.std.specs.Prelude.{◌≡◌, ℕ, ◌+◌, ◌*◌, ◌≤◌, ◌<◌, length, drop, true, IfSome, IsOk};
-ghost use Rattle.brd_elf.specs.Fault.{Gives};
+ghost use Rattle.std.specs.Prelude.{◌≡◌, ℕ, ◌+◌, ◌*◌, ◌≤◌, ◌<◌, ◌^◌, length, drop, true, IfOk, IfSome, IsOk};
+ghost use Rattle.brd_elf.specs.Faults.{Gives};
 ghost use Rattle.brd_elf.specs.Symbols.{section_at, is_whole, section_bytes, symbol_table_from, is_symbol_table, is_string_table, linked, strings_of};
 
 use crate::fault::ElfFault;
@@ -62,6 +62,7 @@ pub fn strings_of(file: &[u8], table: Table, at: usize) -> Result<&[u8], ElfFaul
     requires table { table.offset + 40 * table.count ≤ length file.now }
     requires section { at + 40 ≤ length file.now }
     ensures strings { Gives (λ strings. strings.now) result (strings_of file.now table at) }
+    ensures short { IfOk result (λ strings. length strings.now < 2 ^ 32) }
     ensures whole { IsOk result → is_symbol_table file.now table (section_at (drop at file.now)) ≡ true }
 {
     let symbols = section_at(&file[at..]);
@@ -112,7 +113,8 @@ fn linked(file: &[u8], table: Table, section: Section) -> Section
 /// The bytes of a section that lie in the file.
 fn section_bytes(file: &[u8], section: Section) -> &[u8]
     requires { is_whole file.now section ≡ true }
-    ensures { result.now ≡ section_bytes file.now section }
+    ensures bytes { result.now ≡ section_bytes file.now section }
+    ensures short { length result.now < 2 ^ 32 }
 {
     if section.size == 0 {
         return &[];

@@ -1,22 +1,19 @@
 //! Program headers, and the segments that they load.
 
 ghost use Rattle.std.specs.Prelude.{◌≡◌, ℕ, ◌+◌, ◌*◌, ◌≤◌, ◌<◌, ◌^◌, [], ◌∷◌, ◌++◌, length, drop, IfOk, false};
-ghost use Rattle.brd_mem.specs.Memory.{base};
-ghost use Rattle.brd_elf.specs.Fault.{Gives};
+ghost use Rattle.brd_elf.specs.Faults.{Gives};
 ghost use Rattle.brd_elf.specs.Segments.{program_header_at, is_dynamic, is_skipped, has_bad_sizes, is_cut, is_outside, lies_in, loaded_bytes, load_fault, loaded, loaded_from, segments_of};
 
 use crate::fault::ElfFault;
 use crate::fields::{has_bytes, word_at};
 use crate::header::Table;
 use crate::loaded::Loaded;
-use brd_mem::{BASE, Bytes, NoMemory, Segment, Segments};
+use brd_base::{BASE, NoMemory, TOP};
+use brd_mem::{Bytes, Segment, Segments};
 use std::alloc::Global;
 
 /// How many bytes a program header has.
 const LEN: usize = 32;
-
-/// One more than the last address that is loaded to.
-const TOP: u64 = 0x8100_0000;
 
 /// A program header: what it describes, where its bytes lie in the file, and where they go.
 #[derive(Clone, Copy)]
@@ -175,7 +172,7 @@ fn is_cut(file: &[u8], header: ProgramHeader) -> bool
 fn is_outside(header: ProgramHeader) -> bool
     ensures { result ≡ is_outside header }
 {
-    header.address < BASE || header.address as u64 + header.memory_size as u64 > TOP
+    header.address < BASE || header.address as u64 + header.memory_size as u64 > TOP as u64
 }
 
 /// The bytes of the file, then zero up to the size in memory.

@@ -1,7 +1,7 @@
 //! The symbol table.
 
-ghost use Rattle.std.specs.Prelude.{◌≡◌, ℕ, ◌+◌, ◌*◌, ◌≤◌, ◌<◌, [], length, drop, Some};
-ghost use Rattle.brd_elf.specs.Fault.{Gives};
+ghost use Rattle.std.specs.Prelude.{◌≡◌, ℕ, ◌+◌, ◌*◌, ◌≤◌, ◌<◌, ◌^◌, [], length, drop, Some};
+ghost use Rattle.brd_elf.specs.Faults.{Gives};
 ghost use Rattle.brd_elf.specs.Symbols.{entry_at, kept_from, symbols_by, symbols_of};
 
 use crate::fault::ElfFault;
@@ -69,7 +69,8 @@ fn keep_all(
     start: usize,
     count: usize,
 ) -> Result<Symbols, ElfFault>
-    requires { 0 < count → start + 16 * count ≤ length file.now }
+    requires file { 0 < count → start + 16 * count ≤ length file.now }
+    requires strings { length strings.now < 2 ^ 32 }
     ensures { Gives (λ symbols. symbols) result (kept_from file.now strings.now start count []) }
 {
     let mut symbols = Named::new(alloc, strings)?;

@@ -1,3 +1,5 @@
+mod large;
+
 use super::*;
 use brd_mem::{Bytes, Image, Segment, Symbol};
 use std::alloc::{AllocError, Global};
@@ -374,7 +376,8 @@ fn accepted(rt: HostRuntime) -> Result<(), Fail> {
         (&[(34, 0), (35, 0)], unnamed),
         (&[(235, 11)], unnamed),
         (&[(251, 0), (244, 0xff)], unnamed),
-        // Of two symbol tables the first counts: section 1 before section 3, and section 0, with one symbol less, before section 1.
+        // Of two symbol tables the first counts: section 1 before section 3, and section 0, with one symbol less,
+        // before section 1.
         (&[(315, 2)], ASSEMBLED_SHOWN),
         (
             &[(195, 2), (207, 0x64), (211, 0x20), (215, 2), (227, 16)],

@@ -1,9 +1,9 @@
 //! A trie: numbers for strings, each of which but the empty one is a byte in front of an earlier one.
 
-ghost use Rattle.std.specs.Prelude.{◌≡◌, ℕ, ◌<◌, [], ◌∷◌, length, IfOk, IfSome, IfNone};
+ghost use Rattle.std.specs.Prelude.{◌≡◌, ℕ, ◌+◌, ◌^◌, ◌<◌, ◌≤◌, [], ◌∷◌, length, IfOk, OnErr, IfSome, IfNone};
 ghost use Rattle.brd_elf.specs.Trie.{path_of, AreDistinct, IsMore};
 
-use brd_mem::NoMemory;
+use brd_base::NoMemory;
 use std::alloc::Global;
 use std::marker::Model;
 
@@ -23,7 +23,8 @@ pub struct Node {
 pub struct Trie {
     /// The strings from number 1 on.
     nodes: Vec<Node>,
-    /// For each string, the last node that is a byte in front of it. A growth that is refused may leave room for one string more.
+    /// For each string, the last node that is a byte in front of it. A growth that is refused may leave room for one
+    /// string more.
     lasts: Vec<Option<u32>>,
 }
 
@@ -52,9 +53,12 @@ impl Trie {
 
     /// The number of the string that is a byte in front of another one, a new number if the string has none.
     pub fn with_byte(&mut self, rest: u32, byte: u8) -> Result<u32, NoMemory>
-        requires { rest < length self.old }
+        requires rest { rest < length self.old }
+        requires room { length self.old < 2 ^ 32 }
         ensures path { IfOk result (λ number. path_of self.new number ≡ byte ∷ path_of self.old rest) }
         ensures there { IfOk result (λ number. number < length self.new) }
+        ensures few { length self.new ≤ length self.old + 1 }
+        ensures err { OnErr result (self.new ≡ self.old) }
         ensures kept { IsMore self.old self.new }
         ensures distinct { AreDistinct self.new }
     {
@@ -84,23 +88,23 @@ impl Trie {
         None
     }
 
-    /// Gives the next number to the string that is a byte in front of another one. `NoMemory` also where 32 bits hold no more numbers.
+    /// Gives the next number to the string that is a byte in front of another one.
     fn add(&mut self, rest: u32, byte: u8) -> Result<u32, NoMemory>
         requires rest { rest < length self.old }
+        requires room { length self.old < 2 ^ 32 }
         requires new { (number : ℕ) → number < length self.old → path_of self.old number ≡ byte ∷ path_of self.old rest → ⊥ }
         ensures path { IfOk result (λ number. path_of self.new number ≡ byte ∷ path_of self.old rest) }
         ensures there { IfOk result (λ number. number < length self.new) }
+        ensures few { length self.new ≤ length self.old + 1 }
+        ensures err { OnErr result (self.new ≡ self.old) }
         ensures kept { IsMore self.old self.new }
         ensures distinct { AreDistinct self.new }
     {
-        let at = self.nodes.len();
-        if at >= u32::MAX as usize {
-            return Err(NoMemory);
-        }
+        let at = self.nodes.len() as u32;
         self.lasts.push(None)?;
         let before = self.lasts[rest as usize];
         self.nodes.push(Node { byte, rest, before })?;
-        self.lasts[rest as usize] = Some(at as u32);
-        Ok(at as u32 + 1)
+        self.lasts[rest as usize] = Some(at);
+        Ok(at + 1)
     }
 }

@@ -10,7 +10,8 @@ use crate::parts::{
     HEADER_LEN, SECTION_NAMES, lay_out_segments, lay_out_symbols, padding, put_header,
     put_section_headers, put_zeros,
 };
-use brd_mem::{Image, NoMemory};
+use brd_base::NoMemory;
+use brd_mem::Image;
 use std::alloc::Global;
 
 /// What lies between the header and the section headers of a file, and where its parts lie in the file.
@@ -24,7 +25,7 @@ struct Body {
     names_at: usize,
 }
 
-/// The file of a plain image. If it has at most 65,534 segments and its file is shorter than 2^32 bytes, the file means the image again.
+/// The file of a plain image. If the image fits (`fits`), the file means the image again.
 pub fn write(alloc: Global, image: &Image) -> Result<Vec<u8>, NoMemory>
     requires { IsPlain image.now }
     ensures is { IfOk result (λ bytes. bytes.items ≡ file image.now) }

@@ -1,5 +1,5 @@
 use Rattle.std.proofs.Common.{sym}
-use Rattle.brd_elf.proofs.Loadable.{without_fault}
+use Rattle.brd_elf.proofs.HeaderFaults.{without_fault}
 use Rattle.brd_elf.proofs.segments.load.Goals as goal
 
 pub load_segment-requires : goal.load_segment-requires

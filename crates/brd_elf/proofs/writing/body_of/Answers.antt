@@ -1,5 +1,5 @@
 use Rattle.std.proofs.Common.{◌≡◌, ℕ, ◌+◌, List, ◌++◌, length, replicate, ap, ◌∙◌, arith}
-use Rattle.brd_mem.specs.Memory.{base}
+use Rattle.brd_base.specs.Space.{base}
 use Rattle.brd_elf.specs.File.{padding, section_names}
 use Rattle.brd_elf.proofs.BodyLemmas.{laid_out, are_few}
 use Rattle.brd_elf.proofs.writing.body_of.Goals as goal

@@ -15,4 +15,4 @@ returns-in-Some-clause-there c =
 pub returns-clause-none : goal.returns-clause-none
 returns-clause-none c =
     let strings : c.self.inside.strings.now ≡ c.args.self.now.strings = ap (λ (numbered : Numbered). numbered.strings) c.self.view_is in
-    rw (← strings) (no_end c.self.inside.strings.now c.args.start c.loop-at.at c.loop-at-test.false (rw strings c.loop-at.invariant))
+    rw (← strings) (no_end c.self.inside.strings.now c.args.start c.loop-at.at c.loop-at-test.false (rw strings c.loop-at.invariant.letters))

@@ -1,4 +1,4 @@
-use Rattle.std.proofs.Common.{◌≡◌, ℕ, suc, List, ◌∷◌, ◌++◌, ◌+◌, ◌<◌, ◌≤◌, [], Option, None, Some, length, set, ap, ◌∙◌, arith}
+use Rattle.std.proofs.Common.{◌≡◌, ℕ, suc, List, ◌∷◌, ◌++◌, ◌+◌, ◌^◌, ◌<◌, ◌≤◌, [], Option, None, Some, length, set, ap, ◌∙◌, arith}
 use Rattle.std.proofs.lemmas.List.{get_or_default}
 use Rattle.std.specs.Prelude.{slice_index_or}
 use Rattle.brd_elf.specs.declared.trie.Node.{Node}
@@ -19,6 +19,11 @@ module _ (c : goal.After-self-1) where
 
   within : c.args.rest < length (paths_of nodes)
   within = rw c.self.view_is c.requires.rest
+
+  small : suc (length nodes) < 2 ^ 32
+  small =
+      let paths : length (paths_of nodes) < 2 ^ 32 = rw c.self.view_is c.requires.room in
+      omega (arith, paths, c.self.invariant.count)
 
   trie : IsTrie lasts nodes
   trie = with_room c.self.inside.lasts.items nodes c.self.invariant
@@ -41,7 +46,7 @@ module _ (c : goal.After-self-1) where
   nodes_is = c.in_ok-push-2.ensures.items ∙ ap (λ before. nodes ++ record { byte = c.args.byte; rest = c.args.rest; before = before } ∷ []) before_is
 
   whole : IsTrie (set lasts c.args.rest (Some (length nodes))) (nodes ++ next_node lasts c.args.rest c.args.byte ∷ [])
-  whole = trie_more lasts nodes c.args.rest c.args.byte trie room within (omega (arith, c.if-at.false, len_is)) (rw c.self.view_is c.requires.new)
+  whole = trie_more lasts nodes c.args.rest c.args.byte trie room within small (rw c.self.view_is c.requires.new)
 
   path : path_of (paths_of (nodes ++ next_node lasts c.args.rest c.args.byte ∷ [])) (c.len-at.result + 1) ≡ c.args.byte ∷ path_of (paths_of nodes) c.args.rest
   path =
@@ -59,6 +64,11 @@ returns-clause-path c = rw (nodes_is c) (path c ∙ ap (λ paths. c.args.byte �
 
 pub returns-clause-there : goal.returns-clause-there
 returns-clause-there c = rw (nodes_is c) (there c)
+
+pub returns-clause-few : goal.returns-clause-few
+returns-clause-few c =
+    let before : length (paths_of (nodes c)) ≡ length c.args.self.now = ap (λ (paths : List (List ℕ)). length paths) c.self.view_is in
+    rw (nodes_is c) (omega (arith, count_now (lasts c) (nodes c) c.args.rest c.args.byte (trie c) (room c) (within c), c.self.invariant.count, before))
 
 pub returns-clause-kept : goal.returns-clause-kept
 returns-clause-kept c =

@@ -1,11 +1,11 @@
--- What a program header without a fault is.
+-- A program header without a fault.
 use Rattle.std.proofs.Common.{◌≡◌, ℕ, ◌+◌, Bool, true, false, cond, List, Option, Some, None, refl}
 use Rattle.brd_mem.specs.declared.image.Segment.{Segment}
 use Rattle.brd_elf.specs.declared.fault.ElfFault.{ElfFault}
 use Rattle.brd_elf.specs.declared.segments.ProgramHeader.{ProgramHeader}
 use Rattle.brd_elf.specs.Segments.{has_bad_sizes, is_cut, is_outside, lies_in, load_fault}
 
-pub record IsLoadable (file : List ℕ) (header : ProgramHeader) (segments : List Segment) : Type 0 where
+pub record IsRight (file : List ℕ) (header : ProgramHeader) (segments : List Segment) : Type 0 where
   pub sizes : has_bad_sizes header ≡ false
   pub whole : is_cut file header ≡ false
   pub inside : is_outside header ≡ false
@@ -15,7 +15,7 @@ passed : (b : Bool) (f : ElfFault) (others : Option ElfFault) → cond b (Some f
 passed true f others e = absurd cc
 passed false f others e = (refl, e)
 
-pub without_fault : (file : List ℕ) (at : ℕ) (header : ProgramHeader) (segments : List Segment) → load_fault file at header segments ≡ None → IsLoadable file header segments
+pub without_fault : (file : List ℕ) (at : ℕ) (header : ProgramHeader) (segments : List Segment) → load_fault file at header segments ≡ None → IsRight file header segments
 unfolding load_fault
 without_fault file at header segments e =
     let sizes = passed (has_bad_sizes header) _ _ e in
