@@ -5,7 +5,7 @@ use Rattle.brd_mem.specs.declared.image.Image.{Image}
 use Rattle.brd_asm.specs.declared.fault.AsmFault.{AsmFault}
 use Rattle.brd_asm.specs.Faults.{Meets}
 use Rattle.brd_asm.specs.Values.{Name, named}
-use Rattle.brd_asm.specs.Lines.{lines_of}
+use Rattle.brd_text.specs.Lines.{lines_of}
 use Rattle.brd_asm.specs.Layout.{Piece, Layout, all_placed, nothing}
 use Rattle.brd_asm.specs.Meaning.{Placed, meanings}
 use Rattle.brd_asm.specs.Image.{Program, program_of, IsImage, AreStretches, symbol_of, entry_by}
@@ -40,7 +40,7 @@ image_is text s output bytes image placed bytes_are meets stretches symbols entr
       spelled = m.2.spelled;
       are_spelled = m.2.are_spelled;
       segments = record {
-        apart = stretches.apart;
+        separate = stretches.separate;
         same = λ a. stretches.same a ∙ ap (λ (xs : List ℕ). byte_at xs s.pieces a) (bytes_are ∙ m.2.output_is) ∙ sym (agree.bytes a);
       };
     } in

@@ -4,32 +4,31 @@ use Rattle.std.specs.Prelude.{ℤ, pos, map, slice_get, bytes_eq, option_map, op
 use Rattle.std.specs.List.{AllByRecursion, list_all}
 use Rattle.std.proofs.lemmas.Bool.{cases_Bool, leb-true, ltb-true, lt-ltb, le-leb, and_parts, and_from, true≢false}
 use Rattle.std.proofs.Math.Nat.{mod-eq_of_lt}
-use Rattle.brd_text.specs.Bytes.{is_name, is_word_byte, is_letter, is_digit}
+use Rattle.brd_text.specs.Bytes.{is_name, is_run_byte, begins_name, is_letter, is_digit}
 use Rattle.brd_text.specs.Faults.{◌>>=◌}
 use Rattle.brd_text.proofs.FaultLemmas.{bind_ok, ok_is}
-use Rattle.brd_mem.specs.Memory.{base}
-use Rattle.brd_mem.specs.Image.{AreNamed, IsPlain}
+use Rattle.brd_base.specs.Space.{base, top}
+use Rattle.brd_mem.specs.Image.{AreNamed, IsPlain, byte_in, symbol_value}
 use Rattle.brd_mem.specs.Image as images
 use Rattle.brd_mem.specs.declared.image.Image.{Image}
 use Rattle.brd_mem.specs.declared.image.Segment.{Segment}
 use Rattle.brd_mem.specs.declared.image.Symbol.{Symbol}
 use Rattle.brd_isa.specs.declared.instruction.Insn.{Insn}
-use Rattle.brd_source.specs.Names.{IsSourceName}
 use Rattle.brd_source.specs.Statement.{Instruction, Line}
 use Rattle.brd_source.specs.Statement.Statement.{Instruct}
 use Rattle.brd_source.specs.Lines.{line_of}
 use Rattle.brd_asm.specs.declared.fault.AsmFault.{AsmFault}
 use Rattle.brd_asm.specs.Values.{Name, named, modulo}
-use Rattle.brd_asm.specs.Lines.{lines_of}
+use Rattle.brd_text.specs.Lines.{lines_of}
 use Rattle.brd_asm.specs.Layout.{Piece, Layout, size_of, effect_of, placed, all_placed, nothing}
 use Rattle.brd_asm.specs.Layout.Content.{Code}
 use Rattle.brd_asm.specs.Layout.Effect.{Fills}
 use Rattle.brd_asm.specs.Meaning.{Meaning, Placed, instruction_of, content_meaning, meanings}
 use Rattle.brd_asm.specs.Meaning.Meaning.{Means}
-use Rattle.brd_asm.specs.Image.{Program, program_of, IsImage, Spells, AreSpelled, byte_in, symbol_of}
+use Rattle.brd_asm.specs.Image.{Program, program_of, IsImage, Spells, AreSpelled, symbol_of}
 use Rattle.brd_asm.specs.Output.{all_bytes}
 use Rattle.brd_asm.specs.Index.{covers, offset_at}
-use Rattle.brd_asm.specs.Laws.{symbol_value, HasLines, HasLabels, Lies, HasInstructions}
+use Rattle.brd_asm.specs.Laws.{HasLines, HasLabels, Lies, HasInstructions}
 use Rattle.brd_asm.proofs.AscendingLemmas.{ascending}
 use Rattle.brd_asm.proofs.AscendingLemmas as memory
 use Rattle.brd_asm.proofs.LayoutLemmas.{Differ, Apart, InRam, GoesOn, OneLine, still, fills, one_line, statement_goes_on, lines_go_on, lines_behind, all_sound}
@@ -53,22 +52,30 @@ laid_out text program e =
 
 -- ---- plain images
 
--- no word byte is 0
-some_bytes : (name : List ℕ) → list_all is_word_byte name ≡ true → AllByRecursion (λ b. b ≡ 0 → ⊥) name
-unfolding is_word_byte is_letter is_digit
+-- no byte of a run is 0
+some_bytes : (name : List ℕ) → list_all is_run_byte name ≡ true → AllByRecursion (λ b. b ≡ 0 → ⊥) name
+unfolding is_run_byte is_letter is_digit
 some_bytes [] e = tt
 some_bytes (b ∷ name) e =
-    let parts = and_parts (is_word_byte b) (list_all is_word_byte name) e in
-    (λ zero. true≢false (sym parts.0 ∙ ap is_word_byte zero), some_bytes name parts.1)
+    let parts = and_parts (is_run_byte b) (list_all is_run_byte name) e in
+    (λ zero. true≢false (sym parts.0 ∙ ap is_run_byte zero), some_bytes name parts.1)
 
-is_some_name : (name : List ℕ) → IsSourceName name → images.IsName name
-is_some_name name is = (λ none. true≢false (sym is.0 ∙ ap (λ (n : List ℕ). is_name n) none), some_bytes name is.1)
+-- nor of a name
+name_bytes : (name : List ℕ) → is_name name ≡ true → AllByRecursion (λ b. b ≡ 0 → ⊥) name
+unfolding begins_name is_letter
+name_bytes [] e = tt
+name_bytes (b ∷ name) e =
+    let parts = and_parts (begins_name b) (list_all is_run_byte name) e in
+    (λ zero. true≢false (sym parts.0 ∙ ap begins_name zero), some_bytes name parts.1)
+
+is_some_name : (name : List ℕ) → is_name name ≡ true → images.IsName name
+is_some_name name is = (λ none. true≢false (sym is ∙ ap (λ (n : List ℕ). is_name n) none), name_bytes name is)
 
 differ_from : (n : Name) (ns : List Name) → AllByRecursion (λ m. Differ n m) ns → AllByRecursion (λ other. other.name ≡ n.name → ⊥) (map symbol_of ns)
 differ_from n [] differ = tt
 differ_from n (m ∷ ns) differ = (differ.0, differ_from n ns differ.1)
 
-are_named : (ns : List Name) → AllByRecursion (λ n. IsSourceName n.name) ns → Pairwise Differ ns → AreNamed (map symbol_of ns)
+are_named : (ns : List Name) → AllByRecursion (λ n. is_name n.name ≡ true) ns → Pairwise Differ ns → AreNamed (map symbol_of ns)
 are_named [] are differ = tt
 are_named (n ∷ ns) are differ = (is_some_name n.name are.0, differ_from n ns differ.0, are_named ns are.1 differ.1)
 
@@ -76,14 +83,14 @@ none_there : (size : ℕ) (o : Option ℕ) → IsSome (option_map (λ k. size + 
 none_there size (Some k) there = refl
 none_there size None there = absurd (cc)
 
-filled_in_ram : (pieces : List Piece) (a : ℕ) → AllByRecursion InRam pieces → IsSome (offset_at pieces a) → (base ≤ a) × (a < base + 2 ^ 24)
+filled_in_ram : (pieces : List Piece) (a : ℕ) → AllByRecursion InRam pieces → IsSome (offset_at pieces a) → (base ≤ a) × (a < top)
 filled_in_ram [] a ram there = absurd (cc)
 filled_in_ram (p ∷ pieces) a ram there =
     elim (cases_Bool (covers p a)) [
       | inl here ↦
           let at = and_parts (leb p.place a) (ltb a (p.place + size_of p.content)) here in
-          let limits = and_parts (leb base p.place) (leb (p.place + size_of p.content) (base + 2 ^ 24)) ram.0 in
-          (omega (arith, leb-true base p.place limits.0, leb-true p.place a at.0), omega (arith, ltb-true a (p.place + size_of p.content) at.1, leb-true (p.place + size_of p.content) (base + 2 ^ 24) limits.1))
+          let limits = and_parts (leb base p.place) (leb (p.place + size_of p.content) top) ram.0 in
+          (omega (arith, leb-true base p.place limits.0, leb-true p.place a at.0), omega (arith, ltb-true a (p.place + size_of p.content) at.1, leb-true (p.place + size_of p.content) top limits.1))
       | inr not_here ↦ filled_in_ram pieces a ram.1 (none_there (size_of p.content) (offset_at pieces a) (rw not_here at there))
     ]
 

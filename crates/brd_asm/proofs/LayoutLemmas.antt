@@ -4,11 +4,11 @@ use Rattle.std.specs.Prelude.{ℤ, pos, negsuc, bytes_eq, is_some, ◌⊎◌, �
 use Rattle.std.specs.List.{AllByRecursion}
 use Rattle.std.proofs.lemmas.Bool.{cases_Bool, leb-true, and_parts, true≢false}
 use Rattle.std.proofs.lemmas.Slice.Eq.{bytes_eq-Decides}
+use Rattle.brd_text.specs.Bytes.{is_name}
 use Rattle.brd_text.specs.Faults.{◌>>=◌}
 use Rattle.brd_text.proofs.FaultLemmas.{bind_ok}
-use Rattle.brd_mem.specs.Memory.{base}
+use Rattle.brd_base.specs.Space.{base, top}
 use Rattle.brd_source.specs.declared.fault.LineFault.{LineFault}
-use Rattle.brd_source.specs.Names.{IsSourceName}
 use Rattle.brd_source.specs.Statement.{Expression, Statement, Line}
 use Rattle.brd_source.specs.Statement.Statement.{Nothing, Instruct, Org, Align, Space, Data, Text, Equal}
 use Rattle.brd_source.specs.Lines.{line_of}
@@ -61,7 +61,7 @@ is_new (n ∷ names) name value e =
 
 -- names, no two of them the same
 pub record AreNames (names : List Name) : Type 0 where
-  pub are : AllByRecursion (λ n. IsSourceName n.name) names
+  pub are : AllByRecursion (λ n. is_name n.name ≡ true) names
   pub differ : Pairwise Differ names
 
 -- names that begin with these
@@ -84,7 +84,7 @@ still names after name value adds e = ap (λ (ns : List Name). named ns name) ad
 record Defines (value : ℤ) (name : List ℕ) (names after : List Name) : Type 0 where
   adds : Adds names after
   has : named after name ≡ Some value
-  are : IsSourceName name → AreNames names → AreNames after
+  are : is_name name ≡ true → AreNames names → AreNames after
 
 defines : (line : ℕ) (value : ℤ) (name : List ℕ) (names after : List Name) → define line value name names ≡ Ok after → Defines value name names after
 unfolding define
@@ -94,7 +94,7 @@ defines line value name names after e =
       adds = record { more = entry name value ∷ []; after_is = refl };
       has = named_last names name value p.0;
       are = λ is are. record {
-        are = all_push (λ n. IsSourceName n.name) names (entry name value) are.are is;
+        are = all_push (λ n. is_name n.name ≡ true) names (entry name value) are.are is;
         differ = pairs_push Differ names (entry name value) are.differ (is_new names name value p.0);
       };
     })
@@ -104,7 +104,7 @@ defines line value name names after e =
 pub record Labels (place : ℕ) (labels : List (List ℕ)) (names after : List Name) : Type 0 where
   pub adds : Adds names after
   pub have : AllByRecursion (λ label. named after label ≡ Some (pos place)) labels
-  pub are : AllByRecursion IsSourceName labels → AreNames names → AreNames after
+  pub are : AllByRecursion (λ name. is_name name ≡ true) labels → AreNames names → AreNames after
 
 pub labels_are : (line place : ℕ) (labels : List (List ℕ)) (names after : List Name) → labelled line place labels names ≡ Ok after → Labels place labels names after
 labels_are line place [] names after e = subst (λ (ns : List Name). Labels place [] names ns) (inside names after e) (record { adds = add_none names; have = tt; are = λ is are. are })
@@ -124,7 +124,7 @@ labels_are line place (label ∷ labels) names after e =
 abbrev IsEffect : Effect → Type 0
 IsEffect Stays = Unit {0}
 IsEffect (Moves place) = place < 2 ^ 32
-IsEffect (Equates name value) = IsSourceName name
+IsEffect (Equates name value) = is_name name ≡ true
 IsEffect (Fills content) = Unit {0}
 
 -- a value that is at most high
@@ -143,7 +143,7 @@ at_most line high (negsuc m) n e = absurd (cc)
 given : (made effect : Effect) → IsEffect made → made ≡ effect → IsEffect effect
 given made effect is e = subst IsEffect e is
 
-is_effect : (line place : ℕ) (names : List Name) (statement : Statement) (effect : Effect) → ((name : List ℕ) (value : Expression) → statement ≡ Equal name value → IsSourceName name) → effect_of line place names statement ≡ Ok effect → IsEffect effect
+is_effect : (line place : ℕ) (names : List Name) (statement : Statement) (effect : Effect) → ((name : List ℕ) (value : Expression) → statement ≡ Equal name value → is_name name ≡ true) → effect_of line place names statement ≡ Ok effect → IsEffect effect
 unfolding effect_of
 is_effect line place names Nothing effect is e = given Stays effect tt (inside Stays effect e)
 is_effect line place names (Instruct instruction) effect is e = given (Fills (Code instruction)) effect tt (inside (Fills (Code instruction)) effect e)
@@ -262,9 +262,9 @@ pieces_go_on line content s t fill = record {
   more = piece_at s.place line content ∷ [];
   pieces = fill.pieces_are;
   sound = λ sound.
-      let ram = and_parts (leb base s.place) (leb (s.place + size_of content) (base + 2 ^ 24)) fill.in_ram in
+      let ram = and_parts (leb base s.place) (leb (s.place + size_of content) top) fill.in_ram in
       record {
-        place = omega (arith, fill.place_is, leb-true (s.place + size_of content) (base + 2 ^ 24) ram.1);
+        place = omega (arith, fill.place_is, leb-true (s.place + size_of content) top ram.1);
         names = subst AreNames (sym fill.names_are) sound.names;
         apart = subst (λ (ps : List Piece). Pairwise Apart ps) (sym fill.pieces_are) (pairs_push Apart s.pieces (piece_at s.place line content) sound.apart fill.apart);
         in_ram = subst (λ (ps : List Piece). AllByRecursion InRam ps) (sym fill.pieces_are) (all_push InRam s.pieces (piece_at s.place line content) sound.in_ram fill.in_ram);

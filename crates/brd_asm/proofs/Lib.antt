@@ -2,7 +2,6 @@ mod NamesLemmas
 mod IndexLemmas
 mod PieceLemmas
 mod TextLemmas
-mod FaultLemmas
 mod OutputLemmas
 mod StretchLemmas
 mod RangeLemmas

@@ -1,10 +1,10 @@
 -- Names in a map, against the list of names.
 use Rattle.std.proofs.Common.{◌^◌, ◌≡◌, ℕ, List, [], ◌∷◌, ◌++◌, Option, None, Some, Bor, refl, sym, ap, ◌∙◌, append_assoc, append-nil}
-use Rattle.std.specs.Prelude.{ℤ, map, bytes_eq, is_some, false, Ok}
+use Rattle.std.specs.Prelude.{ℤ, map, bytes_eq, is_some, false}
 use Rattle.std.specs.Map.{lookup}
 use Rattle.brd_mem.specs.declared.image.Symbol.{Symbol}
 use Rattle.brd_asm.specs.Values.{Name, named, modulo}
-use Rattle.brd_asm.specs.Layout.{is_defined, define}
+use Rattle.brd_asm.specs.Layout.{is_defined}
 use Rattle.brd_asm.specs.Image.{symbol_of}
 use Rattle.brd_asm.specs.View as seen
 
@@ -24,13 +24,13 @@ none_of (Some v) e = absurd (cc)
 pub absent : (name : List ℕ) (names : List Name) (es : List (Bor (List ℕ) × ℤ)) → map seen.name es ≡ names → is_defined names name ≡ false → lookup (λ k. bytes_eq name k.now) es ≡ None
 absent name names es seen_is free = value_lookup name es ∙ ap (λ ns. named ns name) seen_is ∙ none_of (named names name) free
 
-pub defined_new : (line : ℕ) (value : ℤ) (name : Bor (List ℕ)) (names : List Name) (es fs : List (Bor (List ℕ) × ℤ)) → map seen.name es ≡ names
-    → is_defined names name.now ≡ false → (stored : ℤ) → stored ≡ value → fs ≡ es ++ (name, stored) ∷ [] → define line value name.now names ≡ Ok (map seen.name fs)
-unfolding define
-defined_new line value name names es fs seen_is free stored is fs_is =
-    let e : map seen.name fs ≡ names ++ record { name = name.now; value = value } ∷ [] =
-    ap (λ xs. map seen.name xs) fs_is ∙ names_push es (name, stored) ∙ ap (λ (v : ℤ). map seen.name es ++ record { name = name.now; value = v } ∷ []) is ∙ ap (λ ns. ns ++ record { name = name.now; value = value } ∷ []) seen_is in
-    rw (free, e) refl
+pub with_new : (value : ℤ) (name : Bor (List ℕ)) (names : List Name) (es fs : List (Bor (List ℕ) × ℤ)) → map seen.name es ≡ names
+    → (stored : ℤ) → stored ≡ value → fs ≡ es ++ (name, stored) ∷ [] → map seen.name fs ≡ names ++ record { name = name.now; value = value } ∷ []
+with_new value name names es fs seen_is stored is fs_is =
+    ap (λ xs. map seen.name xs) fs_is
+    ∙ names_push es (name, stored)
+    ∙ ap (λ (v : ℤ). map seen.name es ++ record { name = name.now; value = v } ∷ []) is
+    ∙ ap (λ ns. ns ++ record { name = name.now; value = value } ∷ []) seen_is
 
 -- ---- the symbols of the names
 

@@ -4,21 +4,22 @@ use Rattle.std.specs.Prelude.{slice_get, IsSome, ◌&&◌}
 use Rattle.std.proofs.lemmas.Bool.{cases_lt, lt-ltb, le-ltb, le-leb, and_from, and_left, and_right}
 use Rattle.std.proofs.lemmas.Option.{slice_get-get_or}
 use Rattle.std.proofs.lemmas.List.{same_lists}
-use Rattle.brd_word.specs.Words.{big_endian_bytes}
+use Rattle.brd_word.specs.Words.{bytes_of_word}
 use Rattle.brd_isa.proofs.WordLemmas.{one_word}
 use Rattle.brd_mem.specs.declared.image.Image.{Image}
 use Rattle.brd_mem.specs.declared.image.Segment.{Segment}
 use Rattle.brd_mem.specs.declared.image.Symbol.{Symbol}
 use Rattle.brd_asm.specs.Meaning.{Meaning, Placed}
 use Rattle.brd_asm.specs.Meaning.Meaning.{Means, Is}
-use Rattle.brd_asm.specs.Image.{Program, IsImage, Spells, AreSpelled, byte_in, AreApart, AreStretches}
+use Rattle.brd_mem.specs.Image.{byte_in}
+use Rattle.brd_asm.specs.Image.{Program, IsImage, Spells, AreSpelled, AreSeparate, AreStretches}
 use Rattle.brd_asm.proofs.AscendingLemmas.{from_low, head_there}
 use Rattle.brd_asm.proofs.StretchLemmas.{stretch, skipped, leb_above}
 
 -- ---- bytes in stretches
 
 -- below the first there is none
-none_below : (ss : List Segment) (low a : ℕ) → AreApart low ss → a < low → byte_in ss a ≡ None
+none_below : (ss : List Segment) (low a : ℕ) → AreSeparate low ss → a < low → byte_in ss a ≡ None
 none_below [] low a apart lt = refl
 none_below (s ∷ ss) low a apart lt =
     skipped (leb s.address a && ltb a (s.address + length s.bytes)) (slice_get s.bytes (a - s.address)) (byte_in ss a) (and_left (leb s.address a) (ltb a (s.address + length s.bytes)) (leb_above s.address a (omega (arith, apart.0))))
@@ -37,7 +38,7 @@ past_first s ss a le =
     skipped (leb s.address a && ltb a (s.address + length s.bytes)) (slice_get s.bytes (a - s.address)) (byte_in ss a) (and_right (leb s.address a) (ltb a (s.address + length s.bytes)) (le-ltb a (s.address + length s.bytes) le))
 
 -- right behind it there is none
-gap_behind : (s : Segment) (ss : List Segment) → AreApart (s.address + length s.bytes + 1) ss → byte_in (s ∷ ss) (s.address + length s.bytes) ≡ None
+gap_behind : (s : Segment) (ss : List Segment) → AreSeparate (s.address + length s.bytes + 1) ss → byte_in (s ∷ ss) (s.address + length s.bytes) ≡ None
 gap_behind s ss apart = past_first s ss (s.address + length s.bytes) (omega arith) ∙ none_below ss (s.address + length s.bytes + 1) (s.address + length s.bytes) apart (omega arith)
 
 is_none : (o : Option ℕ) → IsSome o → o ≡ None → ⊥
@@ -53,12 +54,12 @@ turned : (ss ts : List Segment) → AreSame ss ts → AreSame ts ss
 turned ss ts same = λ a. sym (same a)
 
 -- a stretch doesn't begin before the first of the others
-begins_by : (s t : Segment) (ss ts : List Segment) (low high : ℕ) → AreApart low (s ∷ ss) → AreApart high (t ∷ ts) → AreSame (s ∷ ss) (t ∷ ts) → t.address ≤ s.address
+begins_by : (s t : Segment) (ss ts : List Segment) (low high : ℕ) → AreSeparate low (s ∷ ss) → AreSeparate high (t ∷ ts) → AreSame (s ∷ ss) (t ∷ ts) → t.address ≤ s.address
 begins_by s t ss ts low high one other same =
     from_low (t ∷ ts) t.address s.address (omega arith, other.1, other.2) (subst IsSome (same s.address) (head_there s ss s.address (omega arith) (omega (arith, one.1))))
 
 -- where both begin at one address, it doesn't end behind the first of the others
-ends_by : (s t : Segment) (ss ts : List Segment) (low high : ℕ) → AreApart low (s ∷ ss) → AreApart high (t ∷ ts) → AreSame (s ∷ ss) (t ∷ ts) → s.address ≡ t.address → length s.bytes ≤ length t.bytes
+ends_by : (s t : Segment) (ss ts : List Segment) (low high : ℕ) → AreSeparate low (s ∷ ss) → AreSeparate high (t ∷ ts) → AreSame (s ∷ ss) (t ∷ ts) → s.address ≡ t.address → length s.bytes ≤ length t.bytes
 ends_by s t ss ts low high one other same at =
     elim (cases_lt (length t.bytes) (length s.bytes)) [
       | inl lt ↦
@@ -77,14 +78,14 @@ same_bytes s t ss ts same at long = same_lists s.bytes t.bytes long each
         sym (slice_get-get_or s.bytes k d lt) ∙ sym (first_at s ss k lt) ∙ same (s.address + k) ∙ ap (λ (n : ℕ). byte_in (t ∷ ts) (n + k)) at ∙ first_at t ts k within ∙ slice_get-get_or t.bytes k d within in
         cc
 
-same_others : (s t : Segment) (ss ts : List Segment) (low high : ℕ) → AreApart low (s ∷ ss) → AreApart high (t ∷ ts) → AreSame (s ∷ ss) (t ∷ ts) → s.address ≡ t.address → length s.bytes ≡ length t.bytes → AreSame ss ts
+same_others : (s t : Segment) (ss ts : List Segment) (low high : ℕ) → AreSeparate low (s ∷ ss) → AreSeparate high (t ∷ ts) → AreSame (s ∷ ss) (t ∷ ts) → s.address ≡ t.address → length s.bytes ≡ length t.bytes → AreSame ss ts
 same_others s t ss ts low high one other same at long = λ a.
     elim (cases_lt a (s.address + length s.bytes + 1)) [
       | inl lt ↦ none_below ss (s.address + length s.bytes + 1) a one.2 lt ∙ sym (none_below ts (t.address + length t.bytes + 1) a other.2 (omega (arith, at, long, lt)))
       | inr le ↦ sym (past_first s ss a (omega arith)) ∙ same a ∙ past_first t ts a (omega (arith, at, long, le))
     ]
 
-one_list : (ss ts : List Segment) (low high : ℕ) → AreApart low ss → AreApart high ts → AreSame ss ts → ss ≡ ts
+one_list : (ss ts : List Segment) (low high : ℕ) → AreSeparate low ss → AreSeparate high ts → AreSame ss ts → ss ≡ ts
 one_list [] [] low high one other same = refl
 one_list [] (t ∷ ts) low high one other same = absurd (is_none (byte_in (t ∷ ts) t.address) (head_there t ts t.address (omega arith) (omega (arith, other.1))) (sym (same t.address)))
 one_list (s ∷ ss) [] low high one other same = absurd (is_none (byte_in (s ∷ ss) s.address) (head_there s ss s.address (omega arith) (omega (arith, one.1))) (same s.address))
@@ -97,12 +98,12 @@ one_list (s ∷ ss) (t ∷ ts) low high one other same =
     ap (λ (n : ℕ). stretch n s.bytes ∷ ss) at ∙ ap (λ (xs : List ℕ). stretch t.address xs ∷ ss) bytes ∙ ap (λ (us : List Segment). t ∷ us) others
 
 pub one_list_of_stretches : (memory : ℕ → Option ℕ) (ss ts : List Segment) → AreStretches memory ss → AreStretches memory ts → ss ≡ ts
-one_list_of_stretches memory ss ts one other = one_list ss ts 0 0 one.apart other.apart (λ a. one.same a ∙ sym (other.same a))
+one_list_of_stretches memory ss ts one other = one_list ss ts 0 0 one.separate other.separate (λ a. one.same a ∙ sym (other.same a))
 
 -- ---- one spelling
 
 spelled_so : (m : Meaning) (xs ys : List ℕ) → Spells m xs → Spells m ys → xs ≡ ys
-spelled_so (Means insn) xs ys v w = v.3 ∙ ap big_endian_bytes (one_word v.0 w.0 insn v.1 w.1 (λ ignores. v.2 ignores ∙ sym (w.2 ignores))) ∙ sym w.3
+spelled_so (Means insn) xs ys v w = v.3 ∙ ap bytes_of_word (one_word v.0 w.0 insn v.1 w.1 (λ ignores. v.2 ignores ∙ sym (w.2 ignores))) ∙ sym w.3
 spelled_so (Is numbers) xs ys v w = v ∙ sym w
 
 one_spelling : (ps : List Placed) (ss ts : List Segment) → AreSpelled ps ss → AreSpelled ps ts → ss ≡ ts

@@ -10,7 +10,7 @@ use Rattle.brd_mem.specs.declared.image.Segment.{Segment}
 use Rattle.brd_asm.specs.declared.fault.AsmFault.{AsmFault}
 use Rattle.brd_text.specs.Faults.{Fails}
 use Rattle.brd_asm.specs.Faults.{is_no_memory, Meets}
-use Rattle.brd_asm.proofs.FaultLemmas.{passed_on}
+use Rattle.brd_text.proofs.FaultLemmas.{passed_on}
 use Rattle.brd_asm.specs.Values.{Name}
 use Rattle.brd_asm.specs.Layout.{Piece}
 use Rattle.brd_asm.specs.Meaning.{Meaning, Placed, content_meaning, meanings}
@@ -87,7 +87,7 @@ progress_more names pieces rest p before after so_far meets =
 pub progress_fails : (names : List Name) (pieces rest : List Piece) (p : Piece) (before : List ℕ) (e : AsmFault) → Progress names pieces (p ∷ rest) before
     → Fails is_no_memory e (content_meaning p.line p.place names p.content) → Fails is_no_memory e (meanings names pieces)
 progress_fails names pieces rest p before e so_far fails =
-    passed_on e (content_meaning p.line p.place names p.content) (meanings names pieces) fails (λ h.
+    passed_on is_no_memory e (content_meaning p.line p.place names p.content) (meanings names pieces) fails (λ h.
     let f : in_front_of so_far.done (meanings names (p ∷ rest)) ≡ Err e = rw h refl in
     sym so_far.same ∙ f)
 
@@ -120,6 +120,6 @@ pub data_fails : (line : ℕ) (width : Width) (values : List ℤ) (i : ℕ) (e :
     → Fails is_no_memory e (within line (least_of width) (greatest_of width) (get_or values i (pos 0)))
     → behind before (data_of line width (drop i values)) ≡ total → Fails is_no_memory e total
 data_fails line width values i e before total lt fails so_far =
-    passed_on e (within line (least_of width) (greatest_of width) (get_or values i (pos 0))) total fails (λ h.
+    passed_on is_no_memory e (within line (least_of width) (greatest_of width) (get_or values i (pos 0))) total fails (λ h.
     let f : behind before (data_of line width (get_or values i (pos 0) ∷ drop (i + 1) values)) ≡ Err e = rw h refl in
     sym so_far ∙ ap (λ (vs : List ℤ). behind before (data_of line width vs)) (drop_more values i (pos 0) lt) ∙ f)

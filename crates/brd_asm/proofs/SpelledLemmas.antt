@@ -15,10 +15,11 @@ use Rattle.brd_asm.specs.Layout.{Content, Piece, size_of, bytes_in}
 use Rattle.brd_asm.specs.Layout.Content.{Code, Values, Bytes, Zeros}
 use Rattle.brd_asm.specs.Meaning.{Meaning, Placed, instruction_of, values_of, data_of, bytes_of, least_of, greatest_of, content_meaning, meanings}
 use Rattle.brd_asm.specs.Meaning.Meaning.{Means, Is}
-use Rattle.brd_asm.specs.Image.{Spells, AreSpelled, byte_in}
+use Rattle.brd_mem.specs.Image.{byte_in}
+use Rattle.brd_asm.specs.Image.{Spells, AreSpelled}
 use Rattle.brd_asm.specs.Output.{all_bytes}
 use Rattle.brd_asm.specs.Index.{total_size, covers, offset_at, byte_at}
-use Rattle.brd_asm.proofs.RangeLemmas.{offset_below}
+use Rattle.brd_asm.proofs.IndexLemmas.{offset_below}
 use Rattle.brd_asm.proofs.StretchLemmas.{front_of, back_of}
 
 abbrev ok : {A : Type 0} → A → Result A AsmFault

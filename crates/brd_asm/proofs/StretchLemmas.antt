@@ -5,7 +5,8 @@ use Rattle.std.proofs.lemmas.Bool.{cases_lt, cases_eq, lt-ltb, le-ltb, le-leb, n
 use Rattle.std.proofs.lemmas.Option.{slice_get-get_or}
 use Rattle.std.proofs.lemmas.List.{get_or_append_left, get_or-append-add}
 use Rattle.brd_mem.specs.declared.image.Segment.{Segment}
-use Rattle.brd_asm.specs.Image.{byte_in, AreApart, AreStretches}
+use Rattle.brd_mem.specs.Image.{byte_in}
+use Rattle.brd_asm.specs.Image.{AreSeparate, AreStretches}
 use Rattle.brd_asm.specs.Output.{last_stretch, joined}
 
 -- a stretch of bytes
@@ -51,7 +52,7 @@ below_from low high (s ∷ ss) le below = (omega (arith, below.0), below_from lo
 
 -- The stretches are those of memory below an address, and end there.
 pub record Covers (memory : ℕ → Option ℕ) (high : ℕ) (ss : List Segment) : Type 0 where
-  pub apart : AreApart 0 ss
+  pub separate : AreSeparate 0 ss
   pub below : AreBelow high ss
   pub same : (a : ℕ) → a < high → byte_in ss a ≡ memory a
 
@@ -136,11 +137,11 @@ joined_here (s ∷ t ∷ ss) address i more below lt =
     (and_right (leb s.address (address + i)) (ltb (address + i) (s.address + length s.bytes)) (le-ltb (address + i) (s.address + length s.bytes) (omega (arith, below.0))))
     ∙ joined_here (t ∷ ss) address i more below.1 lt
 
-joined_apart_one : (s : Segment) (low address : ℕ) (more : List ℕ) → low ≤ s.address → 0 < length s.bytes → s.address + length s.bytes ≤ address → 0 < length more → AreApart low (joined (s ∷ []) address more)
+joined_apart_one : (s : Segment) (low address : ℕ) (more : List ℕ) → low ≤ s.address → 0 < length s.bytes → s.address + length s.bytes ≤ address → 0 < length more → AreSeparate low (joined (s ∷ []) address more)
 joined_apart_one s low address more le some below filled =
     elim (cases_eq (s.address + length s.bytes) address) [
-      | inl ends ↦ subst (λ (ss : List Segment). AreApart low ss) (sym (one_joined s.address address s.bytes more ends)) (le, omega (arith, length-append s.bytes more), tt)
-      | inr gap ↦ subst (λ (ss : List Segment). AreApart low ss) (sym (one_apart s.address address s.bytes more gap)) (le, some, (apart gap, filled, tt))
+      | inl ends ↦ subst (λ (ss : List Segment). AreSeparate low ss) (sym (one_joined s.address address s.bytes more ends)) (le, omega (arith, length-append s.bytes more), tt)
+      | inr gap ↦ subst (λ (ss : List Segment). AreSeparate low ss) (sym (one_apart s.address address s.bytes more gap)) (le, some, (apart gap, filled, tt))
     ]
   where
     apart : (s.address + length s.bytes ≡ address → ⊥) → s.address + length s.bytes + 1 ≤ address
@@ -149,13 +150,13 @@ joined_apart_one s low address more le some below filled =
       | inr ge ↦ absurd (gap (omega arith))
     ]
 
-joined_apart : (ss : List Segment) (low address : ℕ) (more : List ℕ) → AreApart low ss → AreBelow address ss → low ≤ address → 0 < length more → AreApart low (joined ss address more)
+joined_apart : (ss : List Segment) (low address : ℕ) (more : List ℕ) → AreSeparate low ss → AreBelow address ss → low ≤ address → 0 < length more → AreSeparate low (joined ss address more)
 joined_apart [] low address more apart below le filled = (le, filled, tt)
 joined_apart (s ∷ []) low address more apart below le filled = joined_apart_one s low address more apart.0 apart.1 below.0 filled
 joined_apart (s ∷ t ∷ ss) low address more apart below le filled =
     (apart.0, apart.1, joined_apart (t ∷ ss) (s.address + length s.bytes + 1) address more apart.2 below.1 (before t ss apart.2 below.1) filled)
   where
-    before : (t : Segment) (ss : List Segment) → AreApart (s.address + length s.bytes + 1) (t ∷ ss) → AreBelow address (t ∷ ss) → s.address + length s.bytes + 1 ≤ address
+    before : (t : Segment) (ss : List Segment) → AreSeparate (s.address + length s.bytes + 1) (t ∷ ss) → AreBelow address (t ∷ ss) → s.address + length s.bytes + 1 ≤ address
     before t ss apart below = omega (arith, apart.0, below.0)
 
 joined_ends_one : (s : Segment) (address : ℕ) (more : List ℕ) → s.address + length s.bytes ≤ address → AreBelow (address + length more) (joined (s ∷ []) address more)
@@ -175,7 +176,7 @@ pub covers_more : (memory : ℕ → Option ℕ) (high address : ℕ) (ss : List 
     → ((a : ℕ) → high ≤ a → a < address → memory a ≡ None) → ((i : ℕ) → i < length more → memory (address + i) ≡ slice_get more i)
     → Covers memory (address + length more) (joined ss address more)
 covers_more memory high address ss more covers le filled nothing has = record {
-  apart = joined_apart ss 0 address more covers.apart below (omega arith) filled;
+  separate = joined_apart ss 0 address more covers.separate below (omega arith) filled;
   below = joined_ends ss address more below;
   same = λ a lt. elim (cases_lt a address) [
     | inl before ↦ joined_below ss address a more below before ∙ elim (cases_lt a high) [
@@ -195,7 +196,7 @@ covers_more memory high address ss more covers le filled nothing has = record {
 -- where memory has nothing from the end on, they are all of it
 pub covers_all : (memory : ℕ → Option ℕ) (high : ℕ) (ss : List Segment) → Covers memory high ss → ((a : ℕ) → high ≤ a → memory a ≡ None) → AreStretches memory ss
 covers_all memory high ss covers nothing = record {
-  apart = covers.apart;
+  separate = covers.separate;
   same = λ a. elim (cases_lt a high) [
     | inl below ↦ covers.same a below
     | inr above ↦ none_above ss high a covers.below above ∙ sym (nothing a above)
@@ -203,7 +204,7 @@ covers_all memory high ss covers nothing = record {
 }
 
 pub covers_nothing : (memory : ℕ → Option ℕ) → Covers memory 0 []
-covers_nothing memory = record { apart = tt; below = tt; same = λ a lt. absurd (omega arith) }
+covers_nothing memory = record { separate = tt; below = tt; same = λ a lt. absurd (omega arith) }
 
 -- ---- the last stretch of the code
 

@@ -1,15 +1,20 @@
--- What a function of this crate answers, unless memory ran out.
+-- What a function of this crate answers, unless the program ran out of memory.
 use Rattle.std.specs.Prelude.{◌≡◌, Bool, true, false, ⊤, Result, Ok, Err}
 use Rattle.std.specs.Bool.{MatchBool}
 use Rattle.brd_text.specs.Faults as text
 use Rattle.brd_asm.specs.declared.fault.AsmFault.{AsmFault}
-use Rattle.brd_asm.specs.declared.fault.AsmFault.TheVariants.{NoMemory}
+use Rattle.brd_asm.specs.declared.fault.AsmFault.TheVariants.{NoMemory, Syntax, UnknownName, Twice, Range, Misaligned, Overlap}
 
 abbrev pub is_no_memory : AsmFault → Bool
 is_no_memory NoMemory = true
-is_no_memory _ = false
+is_no_memory (Syntax line) = false
+is_no_memory (UnknownName line) = false
+is_no_memory (Twice line) = false
+is_no_memory (Range line) = false
+is_no_memory (Misaligned line) = false
+is_no_memory (Overlap line) = false
 
--- what a function returned, seen by view, is `meant`, unless memory ran out
+-- what a function returned, seen by view, is `meant`, unless the program ran out of memory
 abbrev pub Gives : {X Y : Type 0} → (X → Y) → Result X AsmFault → Result Y AsmFault → Type 0
 Gives view answer meant = text.Gives is_no_memory view answer meant
 

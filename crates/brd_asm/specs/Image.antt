@@ -1,8 +1,10 @@
 -- The image of a source.
-use Rattle.std.specs.Prelude.{◌≡◌, ℕ, ◌+◌, ◌-◌, ◌^◌, ◌<◌, ◌≤◌, ℤ, ◌&&◌, nat_le, nat_lt, if◌then◌else◌, List, [], ◌∷◌, length, map, slice_get, Option, None, Some, Result, Ok, codes}
+use Rattle.std.specs.Prelude.{◌≡◌, ℕ, ◌+◌, ◌^◌, ◌<◌, ◌≤◌, ℤ, List, [], ◌∷◌, length, map, Option, None, Some, Result, Ok, codes}
 use Rattle.brd_text.specs.Faults.{◌>>=◌}
-use Rattle.brd_word.specs.Words.{big_endian_bytes}
-use Rattle.brd_mem.specs.Memory.{base}
+use Rattle.brd_text.specs.Lines.{lines_of}
+use Rattle.brd_word.specs.Words.{bytes_of_word}
+use Rattle.brd_base.specs.Space.{base}
+use Rattle.brd_mem.specs.Image.{byte_in}
 use Rattle.brd_mem.specs.declared.image.Image.{Image}
 use Rattle.brd_mem.specs.declared.image.Segment.{Segment}
 use Rattle.brd_mem.specs.declared.image.Symbol.{Symbol}
@@ -10,7 +12,6 @@ use Rattle.brd_isa.specs.Table.{StandsFor, IgnoresSa}
 use Rattle.brd_isa.specs.Decoding.{sa_of}
 use Rattle.brd_asm.specs.declared.fault.AsmFault.{AsmFault}
 use Rattle.brd_asm.specs.Values.{Name, named, modulo}
-use Rattle.brd_asm.specs.Lines.{lines_of}
 use Rattle.brd_asm.specs.Layout.{all_placed, nothing}
 use Rattle.brd_asm.specs.Meaning.{Meaning, Placed, meanings}
 use Rattle.brd_asm.specs.Meaning.Meaning.{Means, Is}
@@ -30,7 +31,7 @@ program_of text = do
 -- An instruction is spelled by the bytes of a word that stands for it, with 0 in a field that it ignores.
 abbrev pub Spells : Meaning → List ℕ → Type 0
 Spells (Means insn) bytes =
-    (word : ℕ) × StandsFor word insn × (IgnoresSa insn → sa_of word ≡ 0) × (bytes ≡ big_endian_bytes word)
+    (word : ℕ) × StandsFor word insn × (IgnoresSa insn → sa_of word ≡ 0) × (bytes ≡ bytes_of_word word)
 Spells (Is numbers) bytes = bytes ≡ numbers
 
 -- the bytes of each content, at its place
@@ -40,20 +41,15 @@ AreSpelled [] (s ∷ ss) = ⊥
 AreSpelled (p ∷ ps) [] = ⊥
 AreSpelled (p ∷ ps) (s ∷ ss) = (s.address ≡ p.place) × Spells p.meaning s.bytes × AreSpelled ps ss
 
--- the byte at an address, where one of these stretches of bytes has one
-abbrev pub byte_in : List Segment → ℕ → Option ℕ
-byte_in [] a = None
-byte_in (s ∷ ss) a = if nat_le s.address a && nat_lt a (s.address + length s.bytes) then slice_get s.bytes (a - s.address) else byte_in ss a
-
 -- From an address on, stretches that have bytes ascend, with a gap between one and the next.
-abbrev pub AreApart : ℕ → List Segment → Type 0
-AreApart low [] = Unit {0}
-AreApart low (s ∷ ss) = (low ≤ s.address) × (0 < length s.bytes) × AreApart (s.address + length s.bytes + 1) ss
+abbrev pub AreSeparate : ℕ → List Segment → Type 0
+AreSeparate low [] = Unit {0}
+AreSeparate low (s ∷ ss) = (low ≤ s.address) × (0 < length s.bytes) × AreSeparate (s.address + length s.bytes + 1) ss
 
 -- The longest stretches of consecutive addresses that have a byte in memory, ascending. A memory has one such list
 -- (`laws::a_memory_has_one_list_of_stretches`).
 pub record AreStretches (memory : ℕ → Option ℕ) (stretches : List Segment) : Type 0 where
-  pub apart : AreApart 0 stretches
+  pub separate : AreSeparate 0 stretches
   pub same : (a : ℕ) → byte_in stretches a ≡ memory a
 
 abbrev pub symbol_of : Name → Symbol

@@ -1,9 +1,9 @@
--- An index of pieces, by which it is seen at once whether one more overlaps one of them, and where the bytes of each lie in
--- the output: in the order of the source, each behind those of the pieces before it.
--- Only private functions' contracts name this; what a source means doesn't.
-use Rattle.std.specs.Prelude.{◌≡◌, ℕ, ◌+◌, ◌-◌, ◌^◌, ◌<◌, ◌≤◌, Bool, true, ◌&&◌, nat_le, nat_lt, if◌then◌else◌, List, [], ◌∷◌, slice_get, Option, None, Some, option_map, option_and_then}
-use Rattle.brd_mem.specs.Memory.{base}
-use Rattle.brd_asm.specs.declared.pieces.Range.{Range}
+-- Only private contracts name this: where in the output the bytes of each piece lie, in the order of the source each
+-- behind those of the pieces before it, and the ranges by which they are found.
+use Rattle.std.specs.Prelude.{◌≡◌, ℕ, ◌+◌, ◌-◌, ◌≤◌, Bool, ◌&&◌, nat_le, nat_lt, if◌then◌else◌, List, [], ◌∷◌, slice_get, Option, None, Some, option_map, option_and_then}
+use Rattle.std.specs.List.{AllByRecursion}
+use Rattle.brd_ranges.specs.declared.range.Range.{Range}
+use Rattle.brd_ranges.specs.Ranges as ranges
 use Rattle.brd_asm.specs.Layout.{Piece, size_of, overlaps}
 
 abbrev pub total_size : List Piece → ℕ
@@ -22,13 +22,13 @@ offset_at (p ∷ ps) a = if covers p a then Some (a - p.place) else option_map (
 abbrev pub byte_at : List ℕ → List Piece → ℕ → Option ℕ
 byte_at output pieces a = option_and_then (slice_get output) (offset_at pieces a)
 
--- By its first address, each piece's end and the place of its bytes in the output. They lie apart and in RAM, and
--- wherever one lies, one of the pieces does, and the other way round.
-pub record IsIndex (range_at : ℕ → Option Range) (size : ℕ) (pieces : List Piece) : Type 0 where
-  pub total : size ≡ total_size pieces
-  pub filled : (first : ℕ) (range : Range) → range_at first ≡ Some range → first < range.end
-  pub inside : (first : ℕ) (range : Range) → range_at first ≡ Some range → (base ≤ first) × (range.end ≤ base + 2 ^ 24)
-  pub apart : (first : ℕ) (range : Range) (other : ℕ) (next : Range) → range_at first ≡ Some range → range_at other ≡ Some next → first < other → range.end ≤ other
-  pub found : (first : ℕ) (range : Range) (low high : ℕ) → range_at first ≡ Some range → first < high → low < range.end → overlaps pieces low high ≡ true
-  pub all : (low high : ℕ) → overlaps pieces low high ≡ true → (first : ℕ) × (range : Range) × (range_at first ≡ Some range) × (first < high) × (low < range.end)
-  pub bytes : (first : ℕ) (range : Range) (a : ℕ) → range_at first ≡ Some range → first ≤ a → a < range.end → offset_at pieces a ≡ Some (range.offset + (a - first))
+-- the same by ranges, each with the place of its first byte in the output
+abbrev pub offset_in : List (Range ℕ) → ℕ → Option ℕ
+offset_in all a = option_map (λ range. range.item + (a - range.start)) (ranges.range_at all a)
+
+-- Ranges lie where pieces do, and say where in the output their bytes are.
+pub record AreRangesOf (all : List (Range ℕ)) (pieces : List Piece) : Type 0 where
+  pub size : ranges.total_size all ≡ total_size pieces
+  pub overlap : (low high : ℕ) → ranges.overlaps all low high ≡ overlaps pieces low high
+  pub offset : (a : ℕ) → offset_in all a ≡ offset_at pieces a
+  pub within : AllByRecursion (λ range. range.item + (range.end - range.start) ≤ total_size pieces) all

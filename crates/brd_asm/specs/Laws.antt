@@ -1,21 +1,21 @@
 -- What the image of a source has for each of its lines.
-use Rattle.std.specs.Prelude.{◌≡◌, ℕ, ◌+◌, ◌<◌, if◌then◌else◌, List, [], ◌∷◌, ◌++◌, length, slice_get, Option, None, Some, bytes_eq, Ok}
+use Rattle.std.specs.Prelude.{◌≡◌, ℕ, ◌+◌, ◌<◌, List, ◌∷◌, ◌++◌, length, slice_get, Some, Ok}
 use Rattle.std.specs.List.{AllByRecursion}
+use Rattle.brd_text.specs.Lines.{lines_of}
 use Rattle.brd_isa.specs.declared.instruction.Insn.{Insn}
+use Rattle.brd_mem.specs.Image.{byte_in, symbol_value}
 use Rattle.brd_mem.specs.declared.image.Image.{Image}
 use Rattle.brd_mem.specs.declared.image.Segment.{Segment}
-use Rattle.brd_mem.specs.declared.image.Symbol.{Symbol}
 use Rattle.brd_source.specs.Statement.{Instruction, Line}
 use Rattle.brd_source.specs.Statement.Statement.{Instruct}
 use Rattle.brd_source.specs.Lines.{line_of}
-use Rattle.brd_asm.specs.Lines.{lines_of}
 use Rattle.brd_asm.specs.Layout.{Layout, all_placed, nothing}
 use Rattle.brd_asm.specs.Meaning.{instruction_of}
 use Rattle.brd_asm.specs.Meaning.Meaning.{Means}
-use Rattle.brd_asm.specs.Image.{Program, program_of, Spells, byte_in}
+use Rattle.brd_asm.specs.Image.{Program, program_of, Spells}
 
--- A line of a text: its number, its address, and what it says. The address is the location counter before the line, so before an
--- `.org` or `.align` on it takes effect.
+-- A line of a text: its number, its address, and what it says. The address is the location counter before the line, so
+-- before an `.org` or `.align` on it takes effect.
 pub record IsLine (text : List ℕ) (number address : ℕ) (said : Line) : Type 0 where
   pub before : List (List ℕ)
   pub bytes : List ℕ
@@ -31,11 +31,6 @@ pub record IsLine (text : List ℕ) (number address : ℕ) (said : Line) : Type 
 abbrev pub HasLines : List ℕ → Type 0
 HasLines text =
     (before : List (List ℕ)) (bytes : List ℕ) (behind : List (List ℕ)) → lines_of text ≡ before ++ bytes ∷ behind → (address : ℕ) × (said : Line) × IsLine text (1 + length before) address said × (line_of bytes ≡ Ok said)
-
--- the value of a name, if there is such a symbol
-abbrev pub symbol_value : List Symbol → List ℕ → Option ℕ
-symbol_value [] name = None
-symbol_value (s ∷ ss) name = if bytes_eq name s.name then Some s.value else symbol_value ss name
 
 -- every label's value is the address of its line
 abbrev pub HasLabels : List ℕ → Image → Type 0

@@ -2,7 +2,7 @@
 use Rattle.std.specs.Prelude.{ℕ, ◌+◌, ◌-◌, ◌*◌, ◌%◌, ◌^◌, ℤ, pos, negsuc, Bool, not, ◌&&◌, ◌==◌, nat_lt, nat_le, if◌then◌else◌, List, [], ◌∷◌, ◌++◌, length, Option, None, Some, is_some, Result, Ok, Err}
 use Rattle.std.specs.List.{list_any}
 use Rattle.brd_text.specs.Faults.{◌>>=◌}
-use Rattle.brd_mem.specs.Memory.{base}
+use Rattle.brd_base.specs.Space.{base, top}
 use Rattle.brd_source.specs.declared.fault.LineFault.{LineFault}
 use Rattle.brd_source.specs.declared.statement.Width.{Width}
 use Rattle.brd_source.specs.declared.statement.Width.TheVariants.{Byte, Half, Word}
@@ -114,7 +114,7 @@ check_is_new line (Some name) names = if is_defined names name then Err (fault.T
 
 -- all of these addresses are from 0x80000000 to 0x80FFFFFF
 abbrev pub are_in_ram : ℕ → ℕ → Bool
-are_in_ram place size = nat_le base place && nat_le (place + size) (base + 2 ^ 24)
+are_in_ram place size = nat_le base place && nat_le (place + size) top
 
 -- some of the addresses from low up to, not including, high are filled
 abbrev pub overlaps : List Piece → ℕ → ℕ → Bool

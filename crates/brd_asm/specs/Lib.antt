@@ -1,4 +1,3 @@
-pub mod Lines
 pub mod Values
 pub mod Layout
 pub mod Meaning

@@ -3,7 +3,7 @@
 use Rattle.std.specs.Prelude.{ℕ, ◌+◌, ◌-◌, ◌*◌, ◌/◌, ◌%◌, ◌^◌, ℤ, pos, negsuc, ◌-ℤ◌, ◌==◌, if◌then◌else◌, List, [], ◌∷◌, ◌++◌, replicate, Result, Ok, Err}
 use Rattle.std.specs.Int.{int_div_euclid}
 use Rattle.brd_text.specs.Faults.{◌>>=◌}
-use Rattle.brd_word.specs.Words.{big_endian_bytes}
+use Rattle.brd_word.specs.Words.{bytes_of_word}
 use Rattle.brd_isa.specs.declared.instruction.Insn.{Insn}
 use Rattle.brd_isa.specs.declared.instruction.Insn.TheVariants as insn
 use Rattle.brd_isa.specs.declared.instruction.ImmediateOp.{ImmediateOp}
@@ -11,7 +11,7 @@ use Rattle.brd_isa.specs.declared.instruction.ImmediateOp.TheVariants.{Addi, Add
 use Rattle.brd_source.specs.declared.statement.Width.{Width}
 use Rattle.brd_source.specs.declared.statement.Width.TheVariants.{Byte, Half, Word}
 use Rattle.brd_source.specs.Statement.{Expression, Immediate, Instruction}
-use Rattle.brd_source.specs.Statement.Instruction.{Shift, ShiftVariable, ThreeRegisters, Multiply, JumpRegister, JumpLinkRegister, Syscall, Break, Sync, MoveFrom, MoveTo, Product, Accumulate, Count, Trap, TrapImmediate, Jump, Branch, BranchSign, BranchZero, WithImmediate, LoadUpper, Load, Store, Linked, Prefetch}
+use Rattle.brd_source.specs.Statement.Instruction.{Shift, ShiftVariable, ThreeRegisters, Multiply, JumpRegister, JumpLinkRegister, Syscall, Break, Sync, MoveFrom, MoveTo, Product, Accumulate, Count, Trap, TrapImmediate, Jump, Branch, BranchZero, BranchRegimm, WithImmediate, LoadUpper, Load, Store, Linked, Prefetch}
 use Rattle.brd_asm.specs.declared.fault.AsmFault.{AsmFault}
 use Rattle.brd_asm.specs.declared.fault.AsmFault.TheVariants as fault
 use Rattle.brd_asm.specs.Values.{Name, value_of, modulo, signed_value, unsigned_value, known, within, up_to}
@@ -119,15 +119,15 @@ instruction_of line place names (Jump op target) = do
 instruction_of line place names (Branch op rs rt target) = do
   n ← offset_to line place names target
   Ok (insn.Branch op rs rt n)
-instruction_of line place names (BranchSign op rs target) = do
-  n ← offset_to line place names target
-  Ok (insn.BranchSign op rs n)
 instruction_of line place names (BranchZero op rs target) = do
   n ← offset_to line place names target
   Ok (insn.BranchZero op rs n)
+instruction_of line place names (BranchRegimm op rs target) = do
+  n ← offset_to line place names target
+  Ok (insn.BranchRegimm op rs n)
 instruction_of line place names (WithImmediate op rt rs immediate) = do
   n ← immediate_in op line names immediate
-  Ok (insn.Immediate op rt rs n)
+  Ok (insn.WithImmediate op rt rs n)
 instruction_of line place names (LoadUpper rt immediate) = do
   n ← unsigned_in line names immediate
   Ok (insn.LoadUpper rt n)
@@ -159,7 +159,7 @@ greatest_of Word = pos 4294967295
 abbrev pub bytes_of : Width → ℤ → List ℕ
 bytes_of Byte v = modulo v (2 ^ 8) ∷ []
 bytes_of Half v = modulo v (2 ^ 16) / 2 ^ 8 ∷ modulo v (2 ^ 16) % 2 ^ 8 ∷ []
-bytes_of Word v = big_endian_bytes (modulo v (2 ^ 32))
+bytes_of Word v = bytes_of_word (modulo v (2 ^ 32))
 
 -- the values of some expressions, unless a name in one of them has none
 abbrev pub values_of : ℕ → List Name → List Expression → Result (List ℤ) AsmFault

@@ -17,8 +17,8 @@ name entry = record { name = entry.0.now; value = entry.1 }
 
 abbrev pub content : contents.Content → Content
 content (content_of.Code instruction) = Code (source.instruction_value instruction)
-content (content_of.Values width values) = Values width (map source.expression_value values.items)
-content (content_of.Bytes bytes) = Bytes bytes.items
+content (content_of.Values width values) = Values width (map source.expression_value values)
+content (content_of.Bytes bytes) = Bytes bytes
 content (content_of.Zeros n) = Zeros n
 
 abbrev pub piece : pieces.Piece → Piece

@@ -14,7 +14,8 @@ use crate::output::output_of;
 use crate::stretches::segments_of;
 use crate::text::place_all;
 use crate::value::word;
-use brd_mem::{BASE, Image};
+use brd_base::BASE;
+use brd_mem::Image;
 use std::alloc::Global;
 
 /// The image of a source, in the language of docs/ASSEMBLER.md.

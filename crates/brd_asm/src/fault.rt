@@ -1,15 +1,15 @@
 //! Why a source has no image.
 
 ghost use Rattle.std.specs.Prelude.{◌≡◌};
-ghost use Rattle.brd_asm.specs.declared.fault.AsmFault.TheVariants.{NoMemory};
+ghost use Rattle.brd_asm.specs.declared.fault.AsmFault.TheVariants.{NoMemory as no_memory};
 
-use std::alloc::{AllocError, AllocFailed};
+use brd_base::NoMemory;
 use thiserror::Error;
 
 /// The first fault of a source, with its line. Lines are counted from 1.
 #[derive(Clone, Copy, Debug, PartialEq, Eq, Error)]
 pub enum AsmFault {
-    /// Memory ran out.
+    /// The program ran out of memory.
     #[error("out of memory")]
     NoMemory,
     /// The line has none of the language's forms.
@@ -32,26 +32,10 @@ pub enum AsmFault {
     Overlap { line: usize },
 }
 
-impl From<AllocError> for AsmFault {
-    ghost from_gives = { λ _ e. e ≡ NoMemory };
+impl From<NoMemory> for AsmFault {
+    ghost from_gives = { λ _ e. e ≡ no_memory };
 
-    fn from(_e: AllocError) -> AsmFault {
-        AsmFault::NoMemory
-    }
-}
-
-impl<T: Drop> From<AllocFailed<T>> for AsmFault {
-    ghost from_gives = { λ _ e. e ≡ NoMemory };
-
-    fn from(_e: AllocFailed<T>) -> AsmFault {
-        AsmFault::NoMemory
-    }
-}
-
-impl From<brd_mem::NoMemory> for AsmFault {
-    ghost from_gives = { λ _ e. e ≡ NoMemory };
-
-    fn from(_e: brd_mem::NoMemory) -> AsmFault {
+    fn from(_e: NoMemory) -> AsmFault {
         AsmFault::NoMemory
     }
 }

@@ -43,10 +43,14 @@ pub fn instruction_of(
         Instruction::TrapImmediate(op, rs, n) => Ok(Insn::TrapImmediate(*op, *rs, at.signed(*n)?)),
         Instruction::Jump(op, to) => Ok(Insn::Jump(*op, at.index_to(*to)?)),
         Instruction::Branch(op, rs, rt, to) => Ok(Insn::Branch(*op, *rs, *rt, at.offset_to(*to)?)),
-        Instruction::BranchSign(op, rs, to) => Ok(Insn::BranchSign(*op, *rs, at.offset_to(*to)?)),
         Instruction::BranchZero(op, rs, to) => Ok(Insn::BranchZero(*op, *rs, at.offset_to(*to)?)),
+        Instruction::BranchRegimm(op, rs, to) => Ok(Insn::BranchRegimm(
+            *op,
+            *rs,
+            at.offset_to(*to)?,
+        )),
         Instruction::WithImmediate(op, rt, rs, n) => {
-            Ok(Insn::Immediate(*op, *rt, *rs, at.immediate(*op, *n)?))
+            Ok(Insn::WithImmediate(*op, *rt, *rs, at.immediate(*op, *n)?))
         }
         Instruction::LoadUpper(rt, n) => Ok(Insn::LoadUpper(*rt, at.unsigned(*n)?)),
         Instruction::Load(op, rt, base, n) => Ok(Insn::Load(*op, *rt, *base, at.signed(*n)?)),

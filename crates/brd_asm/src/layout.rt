@@ -13,12 +13,9 @@ use crate::fault::AsmFault;
 use crate::names::Names;
 use crate::piece::{Content, Piece};
 use crate::pieces::Pieces;
-use brd_mem::BASE;
+use brd_base::{BASE, TOP};
 use brd_source::{Line, LineFault, parse_line};
 use std::alloc::Global;
-
-/// One more than the last address that can be filled.
-const TOP: u128 = 0x8100_0000;
 
 /// What the lines so far have placed and named.
 #[derive(Drop)]
@@ -125,7 +122,7 @@ fn are_in_ram(place: u32, size: u128) -> bool
     requires { size < 2 ^ 100 }
     ensures { result ≡ are_in_ram place size }
 {
-    place >= BASE && place as u128 + size <= TOP
+    place >= BASE && place as u128 + size <= TOP as u128
 }
 
 /// The name that a statement gives a value to, if it does, may not have one yet.

@@ -1,7 +1,7 @@
 //! The assembler: source text to an image.
 //!
-//! `specs/Image.antt` says what the image of a source is: `specs/Layout.antt` where its statements stand and what its names are,
-//! `specs/Meaning.antt` what stands there once all names are known.
+//! `specs/Image.antt` says what the image of a source is: `specs/Layout.antt` where its statements stand and what its
+//! names are, `specs/Meaning.antt` what stands there once all names are known.
 #![tactic(auto)]
 
 mod assembler;
@@ -21,7 +21,6 @@ mod value;
 
 pub use assembler::assemble;
 pub use fault::AsmFault;
-pub use text::line_len;
 
 #[cfg(test)]
 mod tests;

@@ -1,6 +1,6 @@
 //! The names of a source and their values.
 
-ghost use Rattle.std.specs.Prelude.{◌≡◌, [], map, IfOk};
+ghost use Rattle.std.specs.Prelude.{◌≡◌, [], ◌∷◌, ◌++◌, false, map, IfOk};
 ghost use Rattle.brd_asm.specs.Faults.{Gives};
 ghost use Rattle.brd_asm.specs.Values.{named};
 ghost use Rattle.brd_asm.specs.Image.{symbol_of};
@@ -8,7 +8,8 @@ ghost use Rattle.brd_asm.specs.Layout.{is_defined, define, labelled};
 
 use crate::fault::AsmFault;
 use crate::value::word;
-use brd_mem::{Bytes, NoMemory, Symbol, Symbols};
+use brd_base::NoMemory;
+use brd_mem::{Bytes, Symbol, Symbols};
 use indexmap::IndexMap;
 use std::alloc::Global;
 use std::marker::Model;
@@ -61,6 +62,14 @@ impl<'a> Names<'a> {
         if self.has(name) {
             return Err(AsmFault::Twice { line });
         }
+        Ok(self.with(name, value)?)
+    }
+
+    /// With a name that has no value yet.
+    fn with(self, name: &'a [u8], value: i64) -> Result<Self, NoMemory>
+        requires { is_defined self name.now ≡ false }
+        ensures { IfOk result (λ names. names ≡ self.entry ++ record { name = name.entry.now; value = value } ∷ []) }
+    {
         let Names { mut values } = self;
         values.insert(name, value)?;
         Ok(Names { values })

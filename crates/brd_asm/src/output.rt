@@ -1,6 +1,6 @@
 //! The bytes of the pieces, one behind the other in the order of the source.
 
-ghost use Rattle.std.specs.Prelude.{◌≡◌, ℕ, List, [], ◌++◌, map, OnOk, Ok};
+ghost use Rattle.std.specs.Prelude.{◌≡◌, ◌++◌, map, replicate, OnOk};
 ghost use Rattle.brd_source.specs.View as source;
 ghost use Rattle.brd_asm.specs.Faults.{Gives, Meets};
 ghost use Rattle.brd_asm.specs.Values.{within};
@@ -13,8 +13,8 @@ use crate::instruction::instruction_of;
 use crate::names::Names;
 use crate::piece::{Content, Piece};
 use crate::value::{known, modulo, value_of, within};
+use brd_base::{List, NoMemory};
 use brd_isa::encode;
-use brd_mem::NoMemory;
 use brd_source::{Expression, Width};
 use brd_word::bytes_of;
 use std::alloc::Global;
@@ -38,24 +38,40 @@ fn put(alloc: Global, output: &mut Vec<u8>, names: &Names, piece: &Piece) -> Res
     match &piece.content {
         Content::Code(instruction) => {
             let insn = instruction_of(piece.line, piece.place, names, instruction)?;
-            output.extend_from_slice(&bytes_of(encode(insn)))?;
+            put_bytes(output, &bytes_of(encode(insn)))?;
             Ok(())
         }
         Content::Values(width, values) => {
             let numbers = values_of(alloc, piece.line, names, values.as_slice())?;
             let bytes = data_of(alloc, piece.line, *width, numbers.as_slice())?;
-            output.extend_from_slice(bytes.as_slice())?;
+            put_bytes(output, bytes.as_slice())?;
             Ok(())
         }
         Content::Bytes(bytes) => {
-            output.extend_from_slice(bytes.as_slice())?;
+            put_bytes(output, bytes.as_slice())?;
             Ok(())
         }
         Content::Zeros(n) => {
-            output.resize(output.len() + *n as usize, 0)?;
+            put_zeros(output, *n)?;
             Ok(())
         }
     }
+}
+
+/// Puts bytes behind others.
+fn put_bytes(output: &mut Vec<u8>, bytes: &[u8]) -> Result<(), NoMemory>
+    ensures { OnOk result (output.new.items ≡ output.old.items ++ bytes.now) }
+{
+    output.extend_from_slice(bytes)?;
+    Ok(())
+}
+
+/// Puts bytes of zero behind others.
+fn put_zeros(output: &mut Vec<u8>, n: u32) -> Result<(), NoMemory>
+    ensures { OnOk result (output.new.items ≡ output.old.items ++ replicate n 0) }
+{
+    output.resize(output.len() + n as usize, 0)?;
+    Ok(())
 }
 
 /// The values of expressions on a line.
@@ -64,10 +80,10 @@ fn values_of(
     line: usize,
     names: &Names,
     expressions: &[Expression],
-) -> Result<Vec<i128>, AsmFault>
-    ensures { Gives (λ values. values.items) result (values_of line names.now (map source.expression_value expressions.now)) }
+) -> Result<List<i128>, AsmFault>
+    ensures { Gives (λ values. values) result (values_of line names.now (map source.expression_value expressions.now)) }
 {
-    let mut values = Vec::new(alloc);
+    let mut values = List::new(alloc);
     for expression in expressions {
         values.push(known(line, value_of(names, *expression))?)?;
     }
@@ -76,10 +92,10 @@ fn values_of(
 
 /// The bytes of values of a width.
 #[tactic(auto, using(crate::proofs::OutputLemmas::behind_more))]
-fn data_of(alloc: Global, line: usize, width: Width, values: &[i128]) -> Result<Vec<u8>, AsmFault>
-    ensures { Gives (λ bytes. bytes.items) result (data_of line width values.now) }
+fn data_of(alloc: Global, line: usize, width: Width, values: &[i128]) -> Result<List<u8>, AsmFault>
+    ensures { Gives (λ bytes. bytes) result (data_of line width values.now) }
 {
-    let mut data = Vec::new(alloc);
+    let mut data = List::new(alloc);
     for value in values {
         let value = ranged(line, width, *value)?;
         put_value(&mut data, width, value)?;
@@ -88,19 +104,19 @@ fn data_of(alloc: Global, line: usize, width: Width, values: &[i128]) -> Result<
 }
 
 /// Puts the bytes of a value behind others.
-fn put_value(output: &mut Vec<u8>, width: Width, value: i64) -> Result<(), NoMemory>
-    ensures { OnOk result (output.new.items ≡ output.old.items ++ bytes_of width value) }
+fn put_value(output: &mut List<u8>, width: Width, value: i64) -> Result<(), NoMemory>
+    ensures { OnOk result (output.new ≡ output.old ++ bytes_of width value) }
 {
     let value = value as i128;
     match width {
         Width::Byte => output.push(modulo(value, 0x100) as u8)?,
         Width::Half => {
             let half = modulo(value, 0x1_0000) as u16;
-            output.extend_from_slice(&half.to_be_bytes())?;
+            output.append(&half.to_be_bytes())?;
         }
         Width::Word => {
             let word = modulo(value, 0x1_0000_0000) as u32;
-            output.extend_from_slice(&bytes_of(word))?;
+            output.append(&bytes_of(word))?;
         }
     }
     Ok(())

@@ -4,6 +4,7 @@ ghost use Rattle.std.specs.Prelude.{◌≡◌, ◌<◌, ◌^◌};
 ghost use Rattle.brd_asm.specs.Layout.{bytes_in, size_of, alignment_of};
 ghost use Rattle.brd_asm.specs.View as view;
 
+use brd_base::List;
 use brd_source::{Expression, Instruction, Width};
 
 /// What fills addresses, with names whose values may not be known yet.
@@ -12,9 +13,9 @@ pub enum Content<'a> {
     /// An instruction.
     Code(Instruction<'a>),
     /// Values of so many bytes each.
-    Values(Width, Vec<Expression<'a>>),
+    Values(Width, List<Expression<'a>>),
     /// Bytes.
-    Bytes(Vec<u8>),
+    Bytes(List<u8>),
     /// As many bytes of zero.
     Zeros(u32),
 }

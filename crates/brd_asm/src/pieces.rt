@@ -1,50 +1,35 @@
-//! The pieces of a source, with an index for the test whether one more overlaps one of them.
+//! The pieces of a source, and the ranges of addresses that they fill.
 
 ghost use Rattle.std.specs.Prelude.{◌≡◌, ◌+◌, ◌<◌, [], ◌∷◌, ◌++◌, true, false, map, length, IfOk};
 ghost use Rattle.brd_asm.specs.Layout.{size_of, are_in_ram, overlaps};
-ghost use Rattle.brd_asm.specs.Index.{IsIndex as IsIndexOf, total_size};
-ghost use Rattle.std.specs.Ordering.{nat_cmp};
-ghost use Rattle.std.specs.BTreeMap.{get};
+ghost use Rattle.brd_asm.specs.Index.{AreRangesOf as AreRangesOfPieces};
 ghost use Rattle.brd_asm.specs.View as seen;
 
 use crate::piece::Piece;
-use brd_mem::NoMemory;
+use brd_base::{List, NoMemory};
+use brd_ranges::{Range, Ranges};
 use std::alloc::Global;
-use std::collections::BTreeMap;
 use std::marker::Model;
-
-/// Where a piece ends, and where its bytes lie in the output.
-#[derive(Clone, Copy)]
-pub struct Range {
-    /// The address behind its last byte.
-    pub end: u32,
-    /// How many bytes of other pieces lie before it in the output.
-    pub offset: usize,
-}
 
 /// Pieces in the order of the source, none over another.
 #[derive(Drop)]
 pub struct Pieces<'a> {
-    pieces: Vec<Piece<'a>>,
-    /// The range of each, by its first address.
-    ranges: BTreeMap<u32, Range>,
-    /// How many bytes they have together.
-    size: usize,
+    pieces: List<Piece<'a>>,
+    /// The addresses of each, with how many bytes of other pieces lie before its own in the output.
+    ranges: Ranges<u32>,
 }
 
 impl<'a> Model for Pieces<'a> {
     ghost use Rattle.std.specs.Prelude.{List, map};
-    ghost use Rattle.std.specs.Ordering.{nat_cmp};
-    ghost use Rattle.std.specs.BTreeMap.{get};
     ghost use Rattle.brd_asm.specs.Layout.{Piece as PieceValue};
-    ghost use Rattle.brd_asm.specs.Index.{IsIndex};
+    ghost use Rattle.brd_asm.specs.Index.{AreRangesOf};
     ghost use Rattle.brd_asm.specs.View as seen_here;
 
     ghost Value = { List PieceValue };
 
-    ghost view = { λ all. map seen_here.piece all.pieces.items };
+    ghost view = { λ all. map seen_here.piece all.pieces };
 
-    ghost invariant = { λ all. IsIndex (get nat_cmp all.ranges) all.size (map seen_here.piece all.pieces.items) };
+    ghost invariant = { λ all. AreRangesOf all.ranges (map seen_here.piece all.pieces) };
 }
 
 impl<'a> Pieces<'a> {
@@ -53,9 +38,8 @@ impl<'a> Pieces<'a> {
         ensures { result ≡ [] }
     {
         Pieces {
-            pieces: Vec::new(alloc),
-            ranges: BTreeMap::new(alloc),
-            size: 0,
+            pieces: List::new(alloc),
+            ranges: Ranges::new(alloc),
         }
     }
 
@@ -64,10 +48,7 @@ impl<'a> Pieces<'a> {
     pub fn overlaps(&self, low: u32, high: u32) -> bool
         ensures { result ≡ overlaps self.now low high }
     {
-        match self.ranges.range(..high).next_back() {
-            Some((_, range)) => low < range.end,
-            None => false,
-        }
+        self.ranges.overlaps(low, high)
     }
 
     /// With one piece more, of this size.
@@ -81,31 +62,22 @@ impl<'a> Pieces<'a> {
         let Pieces {
             mut pieces,
             mut ranges,
-            size: offset,
         } = self;
-        // No output is longer than the addresses of a machine, so there is no memory for such a one.
-        let Some(total) = offset.checked_add(size as usize) else {
-            return Err(NoMemory);
-        };
-        let end = piece.place + size;
-        ranges.insert(piece.place, Range { end, offset })?;
+        let offset = ranges.size();
+        ranges.insert(Range {
+            start: piece.place,
+            end: piece.place + size,
+            item: offset,
+        })?;
         pieces.push(piece)?;
-        Ok(Pieces {
-            pieces,
-            ranges,
-            size: total,
-        })
+        Ok(Pieces { pieces, ranges })
     }
 
-    /// The range of each piece, by its first address.
-    pub fn into_ranges(self) -> BTreeMap<u32, Range>
-        ensures { IsIndexOf (get nat_cmp result) (total_size self.entry) self.entry }
+    /// The range of each piece.
+    pub fn into_ranges(self) -> Ranges<u32>
+        ensures { AreRangesOfPieces result self.entry }
     {
-        let Pieces {
-            pieces: _,
-            ranges,
-            size: _,
-        } = self;
+        let Pieces { pieces: _, ranges } = self;
         ranges
     }
 

@@ -6,7 +6,8 @@ ghost use Rattle.brd_asm.specs.Image.{AreStretches};
 ghost use Rattle.brd_asm.specs.Index.{total_size, byte_at};
 
 use crate::pieces::Pieces;
-use brd_mem::{Bytes, NoMemory, Segment, Segments};
+use brd_base::NoMemory;
+use brd_mem::{Bytes, Segment, Segments};
 use std::alloc::Global;
 use std::marker::Model;
 
@@ -104,9 +105,10 @@ pub fn segments_of(alloc: Global, pieces: Pieces, output: &[u8]) -> Result<Segme
 {
     let mut ranges = pieces.into_ranges();
     let mut stretches = Stretches::new(alloc);
-    while let Some((first, range)) = ranges.pop_first() {
-        let len = (range.end - first) as usize;
-        stretches = stretches.with(alloc, first, &output[range.offset..range.offset + len])?;
+    while let Some(range) = ranges.pop_first() {
+        let offset = range.item as usize;
+        let len = (range.end - range.start) as usize;
+        stretches = stretches.with(alloc, range.start, &output[offset..offset + len])?;
     }
     stretches.into_segments()
 }

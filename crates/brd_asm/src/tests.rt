@@ -5,6 +5,7 @@ use std::test::Fail;
 
 mod every;
 mod faults;
+mod large;
 
 /// What is answered for a source: the fault, or the entry, each segment's address and bytes, and each symbol.
 fn shown(alloc: Global, source: &[u8]) -> Result<String, AllocError> {

@@ -1,14 +1,14 @@
 //! A text, line by line.
 
-ghost use Rattle.std.specs.Prelude.{◌≡◌, ◌≤◌, length};
-ghost use Rattle.std.specs.List.{prefix_len};
+ghost use Rattle.std.specs.Prelude.{◌≡◌};
+ghost use Rattle.brd_text.specs.Lines.{lines_of};
 ghost use Rattle.brd_asm.specs.Faults.{Gives};
-ghost use Rattle.brd_asm.specs.Lines.{lines_of, stays_on};
 ghost use Rattle.brd_asm.specs.Layout.{all_placed, nothing};
 ghost use Rattle.brd_asm.specs.LayoutView.{layout};
 
 use crate::fault::AsmFault;
 use crate::layout::Layout;
+use brd_text::split_line;
 use std::alloc::Global;
 
 /// What the lines of a text place and name.
@@ -19,36 +19,15 @@ pub fn place_all<'a>(alloc: Global, text: &'a [u8]) -> Result<Layout<'a>, AsmFau
     let mut rest = text;
     let mut line = 1;
     'lines: loop {
-        let (bytes, behind) = rest.split_at(line_len(rest));
+        let (bytes, behind) = split_line(rest);
         placed = match placed.place(alloc, line, bytes) {
             Ok(more) => more,
             Err(fault) => return Err(fault),
         };
-        let Some((_, after)) = behind.split_first() else {
+        let Some(after) = behind else {
             return Ok(placed);
         };
         rest = after;
         line += 1;
     }
-}
-
-/// How many bytes the first line has, without the newline that ends it.
-pub fn line_len(text: &[u8]) -> usize
-    ensures is { result ≡ prefix_len stays_on text.now }
-    ensures within { result ≤ length text.now }
-{
-    for (i, byte) in text.iter().enumerate() {
-        if !stays_on(*byte) {
-            return i;
-        }
-    }
-    text.len()
-}
-
-/// Whether a byte isn't the end of its line.
-#[tactic(auto, unfolding(crate::specs::Lines::stays_on))]
-fn stays_on(byte: u8) -> bool
-    ensures { result ≡ stays_on byte }
-{
-    byte != b'\n'
 }

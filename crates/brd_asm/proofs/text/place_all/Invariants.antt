@@ -1,5 +1,5 @@
 use Rattle.std.proofs.Common.{◌≡◌, ◌+◌, ◌≤◌, length}
-use Rattle.brd_asm.specs.Lines.{lines_of}
+use Rattle.brd_text.specs.Lines.{lines_of}
 use Rattle.brd_asm.specs.Layout.{all_placed, nothing}
 use Rattle.brd_asm.specs.LayoutView.{layout}
 use Rattle.brd_asm.proofs.text.place_all.Given as goal
