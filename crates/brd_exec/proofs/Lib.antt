@@ -1,1 +1,2 @@
-pub mod UnalignedLemmas
+mod UnalignedLemmas
+mod LocalLemmas

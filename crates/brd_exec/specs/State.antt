@@ -1,5 +1,6 @@
 -- The context of a processor: what a task takes along when it is interrupted or moved.
-use Rattle.std.specs.Prelude.{ℕ, ◌+◌, ◌*◌, ◌/◌, ◌%◌, ◌^◌, ◌==◌, Bool, true, false, if◌then◌else◌, List, slice_index, slice_set, replicate}
+use Rattle.std.specs.Prelude.{ℕ, ◌+◌, ◌*◌, ◌/◌, ◌%◌, ◌^◌, ◌==◌, Bool, true, false, if◌then◌else◌, List, slice_index}
+use Rattle.std.specs.Prelude.{slice_set, replicate}
 use Rattle.brd_word.specs.Words.{sign_extended16}
 
 pub record State : Type 0 where
@@ -42,6 +43,10 @@ product_in s = s.hi * 2 ^ 32 + s.lo
 abbrev pub advanced : State → State
 advanced s = record s { pc = s.npc; npc = (s.npc + 4) % 2 ^ 32; slot = false }
 
+-- a word for a register, and on to the next instruction
+abbrev pub with_register : State → ℕ → ℕ → State
+with_register s register word = write (advanced s) register word
+
 -- on to the delay slot of a jump, and from there to its target
 abbrev pub jumped : State → ℕ → State
 jumped s target = record s { pc = s.npc; npc = target; slot = true }
@@ -62,9 +67,17 @@ skipped s = record s { pc = (s.npc + 4) % 2 ^ 32; npc = (s.npc + 8) % 2 ^ 32; sl
 abbrev pub branched_likely : State → Bool → ℕ → State
 branched_likely s taken offset = if taken then branched s true offset else skipped s
 
+-- a branch, which may be likely
+abbrev pub after_branch : State → Bool → Bool → ℕ → State
+after_branch s likely taken offset = if likely then branched_likely s taken offset else branched s taken offset
+
 -- the address of the instruction behind the delay slot, to which a call returns
 abbrev pub return_address_of : State → ℕ
 return_address_of s = (s.pc + 8) % 2 ^ 32
+
+-- the return address in register 31, for an instruction that calls
+abbrev pub with_return_address_if : State → Bool → State
+with_return_address_if s calls = if calls then write s 31 (return_address_of s) else s
 
 -- a jump's target: the top four bits are those of the delay slot's address, the index counts words
 abbrev pub jump_target : State → ℕ → ℕ

@@ -1,33 +1,15 @@
 -- What the instructions compute: one line a mnemonic (MD00086, the "Operation" of its entry).
-use Rattle.std.specs.Prelude.{ℕ, ◌+◌, ◌-◌, ◌*◌, ◌/◌, ◌%◌, ◌^◌, ◌==◌, nat_lt, bit_and, bit_or, bit_xor, Bool, true, false, not, ◌||◌, if◌then◌else◌, Result, Ok, Err, int_lt}
+use Rattle.std.specs.Prelude.{ℕ, ◌+◌, ◌-◌, ◌*◌, ◌/◌, ◌%◌, ◌^◌, ◌==◌, nat_lt, bit_and, bit_or, bit_xor, Bool, true}
+use Rattle.std.specs.Prelude.{false, not, ◌||◌, if◌then◌else◌, Result, Ok, Err, int_lt}
 use Rattle.std.specs.Int.{w32, bit_not, leading_zeros, leading_ones}
-use Rattle.brd_word.specs.Words.{signed, sign_extended16, sum_overflows, difference_overflows, signed_product, unsigned_product, Quotient, signed_quotient, unsigned_quotient}
+use Rattle.brd_word.specs.Words.{signed, sign_extended16, sum_overflows, difference_overflows, signed_product}
+use Rattle.brd_word.specs.Words.{unsigned_product, Quotient, signed_quotient, unsigned_quotient}
 use Rattle.brd_exec.specs.declared.outcome.ExceptionCode.{ExceptionCode}
-use Rattle.brd_exec.specs.declared.outcome.ExceptionCode.TheVariants.{Ov}
-use Rattle.brd_isa.specs.declared.instruction.ShiftOp.{ShiftOp}
-use Rattle.brd_isa.specs.declared.instruction.ShiftOp.TheVariants.{Sll, Srl, Sra}
-use Rattle.brd_isa.specs.declared.instruction.ShiftVariableOp.{ShiftVariableOp}
-use Rattle.brd_isa.specs.declared.instruction.ShiftVariableOp.TheVariants.{Sllv, Srlv, Srav}
-use Rattle.brd_isa.specs.declared.instruction.RegisterOp.{RegisterOp}
-use Rattle.brd_isa.specs.declared.instruction.RegisterOp.TheVariants.{Movz, Movn, Add, Addu, Sub, Subu, And, Or, Xor, Nor, Slt, Sltu}
-use Rattle.brd_isa.specs.declared.instruction.ProductOp.{ProductOp}
-use Rattle.brd_isa.specs.declared.instruction.ProductOp.TheVariants.{Mult, Multu, Div, Divu}
-use Rattle.brd_isa.specs.declared.instruction.AccumulateOp.{AccumulateOp}
-use Rattle.brd_isa.specs.declared.instruction.AccumulateOp.TheVariants.{Madd, Maddu, Msub, Msubu}
-use Rattle.brd_isa.specs.declared.instruction.CountOp.{CountOp}
-use Rattle.brd_isa.specs.declared.instruction.CountOp.TheVariants.{Clz, Clo}
-use Rattle.brd_isa.specs.declared.instruction.TrapOp.{TrapOp}
-use Rattle.brd_isa.specs.declared.instruction.TrapOp.TheVariants.{Tge, Tgeu, Tlt, Tltu, Teq, Tne}
-use Rattle.brd_isa.specs.declared.instruction.TrapImmediateOp.{TrapImmediateOp}
-use Rattle.brd_isa.specs.declared.instruction.TrapImmediateOp.TheVariants.{Tgei, Tgeiu, Tlti, Tltiu, Teqi, Tnei}
-use Rattle.brd_isa.specs.declared.instruction.BranchOp.{BranchOp}
-use Rattle.brd_isa.specs.declared.instruction.BranchOp.TheVariants.{Beq, Bne, Beql, Bnel}
-use Rattle.brd_isa.specs.declared.instruction.BranchSignOp.{BranchSignOp}
-use Rattle.brd_isa.specs.declared.instruction.BranchSignOp.TheVariants.{Blez, Bgtz, Blezl, Bgtzl}
-use Rattle.brd_isa.specs.declared.instruction.BranchZeroOp.{BranchZeroOp}
-use Rattle.brd_isa.specs.declared.instruction.BranchZeroOp.TheVariants.{Bltz, Bgez, Bltzl, Bgezl, Bltzal, Bgezal, Bltzall, Bgezall}
-use Rattle.brd_isa.specs.declared.instruction.ImmediateOp.{ImmediateOp}
-use Rattle.brd_isa.specs.declared.instruction.ImmediateOp.TheVariants.{Addi, Addiu, Slti, Sltiu, Andi, Ori, Xori}
+use Rattle.brd_isa.specs.declared.instruction.{ShiftOp.ShiftOp, ShiftVariableOp.ShiftVariableOp, RegisterOp.RegisterOp}
+use Rattle.brd_isa.specs.declared.instruction.{ImmediateOp.ImmediateOp, ProductOp.ProductOp, AccumulateOp.AccumulateOp}
+use Rattle.brd_isa.specs.declared.instruction.{CountOp.CountOp, TrapOp.TrapOp, TrapImmediateOp.TrapImmediateOp}
+use Rattle.brd_isa.specs.declared.instruction.{JumpOp.JumpOp, BranchOp.BranchOp, BranchZeroOp.BranchZeroOp}
+use Rattle.brd_isa.specs.declared.instruction.BranchRegimmOp.{BranchRegimmOp}
 
 -- whether the sign bit is set
 abbrev pub is_negative : ℕ → Bool
@@ -56,7 +38,7 @@ difference_of a b = (a + (2 ^ 32 - b)) % 2 ^ 32
 
 -- a word, unless there was an overflow
 abbrev pub unless_overflow : Bool → ℕ → Result ℕ ExceptionCode
-unless_overflow overflows word = if overflows then Err Ov else Ok word
+unless_overflow overflows word = if overflows then Err ExceptionCode.Ov else Ok word
 
 -- 1 or 0
 abbrev pub one_if : Bool → ℕ
@@ -64,40 +46,46 @@ one_if holds = if holds then 1 else 0
 
 -- rd of `op rd, rt, sa`, from rt and sa
 abbrev pub shift_gives : ShiftOp → ℕ → ℕ → ℕ
-shift_gives Sll word amount = shifted_left word amount
-shift_gives Srl word amount = shifted_right word amount
-shift_gives Sra word amount = shifted_with_sign word amount
+shift_gives ShiftOp.Sll word amount = shifted_left word amount
+shift_gives ShiftOp.Srl word amount = shifted_right word amount
+shift_gives ShiftOp.Sra word amount = shifted_with_sign word amount
 
 -- rd of `op rd, rt, rs`, from rt and the low five bits of rs
 abbrev pub shift_variable_gives : ShiftVariableOp → ℕ → ℕ → ℕ
-shift_variable_gives Sllv word amount = shifted_left word amount
-shift_variable_gives Srlv word amount = shifted_right word amount
-shift_variable_gives Srav word amount = shifted_with_sign word amount
+shift_variable_gives ShiftVariableOp.Sllv word amount = shifted_left word amount
+shift_variable_gives ShiftVariableOp.Srlv word amount = shifted_right word amount
+shift_variable_gives ShiftVariableOp.Srav word amount = shifted_with_sign word amount
+
+-- What an operation gives for a register. Whether it may raise an exception doesn't depend on its operands.
+pub data Given : Type 0 where
+  Always : ℕ → Given  -- this word
+  MayRaise : Result ℕ ExceptionCode → Given  -- this word, or an exception
 
 -- rd of `op rd, rs, rt`, from what it was, rs and rt
-abbrev pub register_gives : RegisterOp → ℕ → ℕ → ℕ → Result ℕ ExceptionCode
-register_gives Movz old a b = Ok (if b == 0 then a else old)
-register_gives Movn old a b = Ok (if b == 0 then old else a)
-register_gives Add old a b = unless_overflow (sum_overflows a b) (sum_of a b)
-register_gives Addu old a b = Ok (sum_of a b)
-register_gives Sub old a b = unless_overflow (difference_overflows a b) (difference_of a b)
-register_gives Subu old a b = Ok (difference_of a b)
-register_gives And old a b = Ok (bit_and a b)
-register_gives Or old a b = Ok (bit_or a b)
-register_gives Xor old a b = Ok (bit_xor a b)
-register_gives Nor old a b = Ok (bit_not w32 (bit_or a b))
-register_gives Slt old a b = Ok (one_if (is_below a b))
-register_gives Sltu old a b = Ok (one_if (nat_lt a b))
+abbrev pub register_gives : RegisterOp → ℕ → ℕ → ℕ → Given
+register_gives RegisterOp.Movz old a b = Always (if b == 0 then a else old)
+register_gives RegisterOp.Movn old a b = Always (if b == 0 then old else a)
+register_gives RegisterOp.Add old a b = MayRaise (unless_overflow (sum_overflows a b) (sum_of a b))
+register_gives RegisterOp.Addu old a b = Always (sum_of a b)
+register_gives RegisterOp.Sub old a b = MayRaise (unless_overflow (difference_overflows a b) (difference_of a b))
+register_gives RegisterOp.Subu old a b = Always (difference_of a b)
+register_gives RegisterOp.And old a b = Always (bit_and a b)
+register_gives RegisterOp.Or old a b = Always (bit_or a b)
+register_gives RegisterOp.Xor old a b = Always (bit_xor a b)
+register_gives RegisterOp.Nor old a b = Always (bit_not w32 (bit_or a b))
+register_gives RegisterOp.Slt old a b = Always (one_if (is_below a b))
+register_gives RegisterOp.Sltu old a b = Always (one_if (nat_lt a b))
 
 -- rt of `op rt, rs, immediate`, from rs and the immediate
-abbrev pub immediate_gives : ImmediateOp → ℕ → ℕ → Result ℕ ExceptionCode
-immediate_gives Addi a immediate = unless_overflow (sum_overflows a (sign_extended16 immediate)) (sum_of a (sign_extended16 immediate))
-immediate_gives Addiu a immediate = Ok (sum_of a (sign_extended16 immediate))
-immediate_gives Slti a immediate = Ok (one_if (is_below a (sign_extended16 immediate)))
-immediate_gives Sltiu a immediate = Ok (one_if (nat_lt a (sign_extended16 immediate)))
-immediate_gives Andi a immediate = Ok (bit_and a immediate)
-immediate_gives Ori a immediate = Ok (bit_or a immediate)
-immediate_gives Xori a immediate = Ok (bit_xor a immediate)
+abbrev pub immediate_gives : ImmediateOp → ℕ → ℕ → Given
+immediate_gives ImmediateOp.Addi a immediate =
+    MayRaise (unless_overflow (sum_overflows a (sign_extended16 immediate)) (sum_of a (sign_extended16 immediate)))
+immediate_gives ImmediateOp.Addiu a immediate = Always (sum_of a (sign_extended16 immediate))
+immediate_gives ImmediateOp.Slti a immediate = Always (one_if (is_below a (sign_extended16 immediate)))
+immediate_gives ImmediateOp.Sltiu a immediate = Always (one_if (nat_lt a (sign_extended16 immediate)))
+immediate_gives ImmediateOp.Andi a immediate = Always (bit_and a immediate)
+immediate_gives ImmediateOp.Ori a immediate = Always (bit_or a immediate)
+immediate_gives ImmediateOp.Xori a immediate = Always (bit_xor a immediate)
 
 -- MUL: the low word of the product; HI and LO stay (own choice)
 abbrev pub multiply_gives : ℕ → ℕ → ℕ
@@ -109,40 +97,40 @@ in_hi_lo q = q.remainder * 2 ^ 32 + q.quotient
 
 -- HI and LO after `op rs, rt`, as one number of 64 bits
 abbrev pub product_gives : ProductOp → ℕ → ℕ → ℕ
-product_gives Mult a b = signed_product a b
-product_gives Multu a b = unsigned_product a b
-product_gives Div a b = in_hi_lo (signed_quotient a b)
-product_gives Divu a b = in_hi_lo (unsigned_quotient a b)
+product_gives ProductOp.Mult a b = signed_product a b
+product_gives ProductOp.Multu a b = unsigned_product a b
+product_gives ProductOp.Div a b = in_hi_lo (signed_quotient a b)
+product_gives ProductOp.Divu a b = in_hi_lo (unsigned_quotient a b)
 
 -- HI and LO after `op rs, rt`, from what they were, rs and rt, modulo 2 ^ 64
 abbrev pub accumulate_gives : AccumulateOp → ℕ → ℕ → ℕ → ℕ
-accumulate_gives Madd old a b = (old + signed_product a b) % 2 ^ 64
-accumulate_gives Maddu old a b = (old + unsigned_product a b) % 2 ^ 64
-accumulate_gives Msub old a b = (old + (2 ^ 64 - signed_product a b)) % 2 ^ 64
-accumulate_gives Msubu old a b = (old + (2 ^ 64 - unsigned_product a b)) % 2 ^ 64
+accumulate_gives AccumulateOp.Madd old a b = (old + signed_product a b) % 2 ^ 64
+accumulate_gives AccumulateOp.Maddu old a b = (old + unsigned_product a b) % 2 ^ 64
+accumulate_gives AccumulateOp.Msub old a b = (old + (2 ^ 64 - signed_product a b)) % 2 ^ 64
+accumulate_gives AccumulateOp.Msubu old a b = (old + (2 ^ 64 - unsigned_product a b)) % 2 ^ 64
 
 -- rd of `op rd, rs`, from rs: 0 to 32
 abbrev pub count_gives : CountOp → ℕ → ℕ
-count_gives Clz word = leading_zeros w32 word
-count_gives Clo word = leading_ones w32 word
+count_gives CountOp.Clz word = leading_zeros w32 word
+count_gives CountOp.Clo word = leading_ones w32 word
 
 -- whether `op rs, rt` traps
 abbrev pub traps : TrapOp → ℕ → ℕ → Bool
-traps Tge a b = not (is_below a b)
-traps Tgeu a b = not (nat_lt a b)
-traps Tlt a b = is_below a b
-traps Tltu a b = nat_lt a b
-traps Teq a b = a == b
-traps Tne a b = not (a == b)
+traps TrapOp.Tge a b = not (is_below a b)
+traps TrapOp.Tgeu a b = not (nat_lt a b)
+traps TrapOp.Tlt a b = is_below a b
+traps TrapOp.Tltu a b = nat_lt a b
+traps TrapOp.Teq a b = a == b
+traps TrapOp.Tne a b = not (a == b)
 
 -- the same comparison on registers
 abbrev pub trap_of : TrapImmediateOp → TrapOp
-trap_of Tgei = Tge
-trap_of Tgeiu = Tgeu
-trap_of Tlti = Tlt
-trap_of Tltiu = Tltu
-trap_of Teqi = Teq
-trap_of Tnei = Tne
+trap_of TrapImmediateOp.Tgei = TrapOp.Tge
+trap_of TrapImmediateOp.Tgeiu = TrapOp.Tgeu
+trap_of TrapImmediateOp.Tlti = TrapOp.Tlt
+trap_of TrapImmediateOp.Tltiu = TrapOp.Tltu
+trap_of TrapImmediateOp.Teqi = TrapOp.Teq
+trap_of TrapImmediateOp.Tnei = TrapOp.Tne
 
 -- whether `op rs, immediate` traps: the immediate is sign-extended, also where it is read unsigned
 abbrev pub traps_immediate : TrapImmediateOp → ℕ → ℕ → Bool
@@ -150,57 +138,62 @@ traps_immediate op a immediate = traps (trap_of op) a (sign_extended16 immediate
 
 -- whether `op rs, rt, target` is taken, and whether it is likely
 abbrev pub is_taken : BranchOp → ℕ → ℕ → Bool
-is_taken Beq a b = a == b
-is_taken Bne a b = not (a == b)
-is_taken Beql a b = a == b
-is_taken Bnel a b = not (a == b)
+is_taken BranchOp.Beq a b = a == b
+is_taken BranchOp.Bne a b = not (a == b)
+is_taken BranchOp.Beql a b = a == b
+is_taken BranchOp.Bnel a b = not (a == b)
 
 abbrev pub is_likely : BranchOp → Bool
-is_likely Beq = false
-is_likely Bne = false
-is_likely Beql = true
-is_likely Bnel = true
+is_likely BranchOp.Beq = false
+is_likely BranchOp.Bne = false
+is_likely BranchOp.Beql = true
+is_likely BranchOp.Bnel = true
 
 -- whether `op rs, target` is taken, and whether it is likely
-abbrev pub is_taken_by_sign : BranchSignOp → ℕ → Bool
-is_taken_by_sign Blez a = is_negative a || (a == 0)
-is_taken_by_sign Bgtz a = not (is_negative a || (a == 0))
-is_taken_by_sign Blezl a = is_negative a || (a == 0)
-is_taken_by_sign Bgtzl a = not (is_negative a || (a == 0))
+abbrev pub is_zero_branch_taken : BranchZeroOp → ℕ → Bool
+is_zero_branch_taken BranchZeroOp.Blez a = is_negative a || (a == 0)
+is_zero_branch_taken BranchZeroOp.Bgtz a = not (is_negative a || (a == 0))
+is_zero_branch_taken BranchZeroOp.Blezl a = is_negative a || (a == 0)
+is_zero_branch_taken BranchZeroOp.Bgtzl a = not (is_negative a || (a == 0))
 
-abbrev pub is_likely_by_sign : BranchSignOp → Bool
-is_likely_by_sign Blez = false
-is_likely_by_sign Bgtz = false
-is_likely_by_sign Blezl = true
-is_likely_by_sign Bgtzl = true
+abbrev pub is_zero_branch_likely : BranchZeroOp → Bool
+is_zero_branch_likely BranchZeroOp.Blez = false
+is_zero_branch_likely BranchZeroOp.Bgtz = false
+is_zero_branch_likely BranchZeroOp.Blezl = true
+is_zero_branch_likely BranchZeroOp.Bgtzl = true
 
 -- whether `op rs, target` under REGIMM is taken, whether it is likely, and whether it writes the return address
-abbrev pub is_taken_by_zero : BranchZeroOp → ℕ → Bool
-is_taken_by_zero Bltz a = is_negative a
-is_taken_by_zero Bgez a = not (is_negative a)
-is_taken_by_zero Bltzl a = is_negative a
-is_taken_by_zero Bgezl a = not (is_negative a)
-is_taken_by_zero Bltzal a = is_negative a
-is_taken_by_zero Bgezal a = not (is_negative a)
-is_taken_by_zero Bltzall a = is_negative a
-is_taken_by_zero Bgezall a = not (is_negative a)
+abbrev pub is_regimm_branch_taken : BranchRegimmOp → ℕ → Bool
+is_regimm_branch_taken BranchRegimmOp.Bltz a = is_negative a
+is_regimm_branch_taken BranchRegimmOp.Bgez a = not (is_negative a)
+is_regimm_branch_taken BranchRegimmOp.Bltzl a = is_negative a
+is_regimm_branch_taken BranchRegimmOp.Bgezl a = not (is_negative a)
+is_regimm_branch_taken BranchRegimmOp.Bltzal a = is_negative a
+is_regimm_branch_taken BranchRegimmOp.Bgezal a = not (is_negative a)
+is_regimm_branch_taken BranchRegimmOp.Bltzall a = is_negative a
+is_regimm_branch_taken BranchRegimmOp.Bgezall a = not (is_negative a)
 
-abbrev pub is_likely_by_zero : BranchZeroOp → Bool
-is_likely_by_zero Bltz = false
-is_likely_by_zero Bgez = false
-is_likely_by_zero Bltzl = true
-is_likely_by_zero Bgezl = true
-is_likely_by_zero Bltzal = false
-is_likely_by_zero Bgezal = false
-is_likely_by_zero Bltzall = true
-is_likely_by_zero Bgezall = true
+abbrev pub is_regimm_branch_likely : BranchRegimmOp → Bool
+is_regimm_branch_likely BranchRegimmOp.Bltz = false
+is_regimm_branch_likely BranchRegimmOp.Bgez = false
+is_regimm_branch_likely BranchRegimmOp.Bltzl = true
+is_regimm_branch_likely BranchRegimmOp.Bgezl = true
+is_regimm_branch_likely BranchRegimmOp.Bltzal = false
+is_regimm_branch_likely BranchRegimmOp.Bgezal = false
+is_regimm_branch_likely BranchRegimmOp.Bltzall = true
+is_regimm_branch_likely BranchRegimmOp.Bgezall = true
 
-abbrev pub is_linking : BranchZeroOp → Bool
-is_linking Bltz = false
-is_linking Bgez = false
-is_linking Bltzl = false
-is_linking Bgezl = false
-is_linking Bltzal = true
-is_linking Bgezal = true
-is_linking Bltzall = true
-is_linking Bgezall = true
+abbrev pub is_regimm_branch_calling : BranchRegimmOp → Bool
+is_regimm_branch_calling BranchRegimmOp.Bltz = false
+is_regimm_branch_calling BranchRegimmOp.Bgez = false
+is_regimm_branch_calling BranchRegimmOp.Bltzl = false
+is_regimm_branch_calling BranchRegimmOp.Bgezl = false
+is_regimm_branch_calling BranchRegimmOp.Bltzal = true
+is_regimm_branch_calling BranchRegimmOp.Bgezal = true
+is_regimm_branch_calling BranchRegimmOp.Bltzall = true
+is_regimm_branch_calling BranchRegimmOp.Bgezall = true
+
+-- whether `op target` writes the return address
+abbrev pub is_jump_calling : JumpOp → Bool
+is_jump_calling JumpOp.J = false
+is_jump_calling JumpOp.Jal = true

@@ -1,18 +1,18 @@
 //! Loads and stores.
 
-ghost use Rattle.std.specs.Prelude.{◌≡◌, ◌+◌, ◌<◌, ◌≤◌, length};
+ghost use Rattle.std.specs.Prelude.{◌≡◌, ◌+◌, ◌-◌, ◌<◌, ◌≤◌, ◌++◌, length, take, drop};
+ghost use Rattle.brd_word.specs.Words.{bytes_of_word, word_of_bytes};
+ghost use Rattle.brd_mem.specs.Memory.{copied};
+ghost use Rattle.brd_mem.specs.Access.{Stores};
 ghost use Rattle.brd_exec.specs.Step.{load_gives, store_gives};
 ghost use Rattle.brd_exec.specs.Unaligned.{
   aligned,
-  left_merged,
-  right_merged,
+  if_inside,
   loaded_left,
   loaded_right,
-  stored_part,
   stored_left,
   stored_right,
 };
-ghost use Rattle.brd_mem.specs.Access.{Stores};
 
 use brd_isa::{LoadOp, StoreOp};
 use brd_mem::{Exc, Ram};
@@ -41,6 +41,7 @@ fn aligned(address: u32) -> u32
 }
 
 /// What LWL finds.
+#[tactic(auto, using(crate::proofs::UnalignedLemmas::left_bytes))]
 fn load_left(ram: &Ram, address: u32, old: u32) -> Result<u32, Exc>
     ensures { result ≡ loaded_left ram.now address old }
 {
@@ -59,7 +60,7 @@ fn load_right(ram: &Ram, address: u32, old: u32) -> Result<u32, Exc>
 /// The bytes of a word from this one on, followed by the low ones of `old`.
 fn merge_left(word: u32, old: u32, byte: u32) -> u32
     requires { byte < 4 }
-    ensures { result ≡ left_merged word old byte }
+    ensures { result ≡ word_of_bytes (drop byte (bytes_of_word word) ++ drop (4 - byte) (bytes_of_word old)) }
 {
     match byte {
         0 => word,
@@ -72,7 +73,7 @@ fn merge_left(word: u32, old: u32, byte: u32) -> u32
 /// The bytes of a word up to this one, behind the high ones of `old`.
 fn merge_right(word: u32, old: u32, byte: u32) -> u32
     requires { byte < 4 }
-    ensures { result ≡ right_merged word old byte }
+    ensures { result ≡ word_of_bytes (take (3 - byte) (bytes_of_word old) ++ take (byte + 1) (bytes_of_word word)) }
 {
     match byte {
         0 => (word >> 24) + ((old >> 8) << 8),
@@ -115,7 +116,7 @@ fn store_right(ram: &mut Ram, address: u32, word: u32) -> Result<(), Exc>
 fn store_part(ram: &mut Ram, address: u32, start: u32, part: &[u8]) -> Result<(), Exc>
     requires first { aligned address ≤ start }
     requires last { start + length part.now ≤ aligned address + 4 }
-    ensures { Stores (stored_part ram.old address start part.now) ram.old result ram.new }
+    ensures { Stores (if_inside ram.old address (copied ram.old start part.now)) ram.old result ram.new }
 {
     if !ram.contains(aligned(address), 4) {
         return Err(Exc::DBE);

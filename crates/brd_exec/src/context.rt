@@ -1,7 +1,6 @@
 //! The context of a processor.
 
 ghost use Rattle.std.specs.Prelude.{◌≡◌, length, slice_index};
-ghost use Rattle.brd_isa.specs.declared.instruction.MoveToOp.TheVariants.{Mthi, Mtlo};
 ghost use Rattle.brd_exec.specs.State.{
   opening,
   read,
@@ -9,20 +8,22 @@ ghost use Rattle.brd_exec.specs.State.{
   write_product,
   product_in,
   advanced,
+  with_register,
   jumped,
+  after_branch,
   return_address_of,
+  with_return_address_if,
   jump_target,
   address_of,
 };
-ghost use Rattle.brd_exec.specs.Step.{with_register, after_branch, with_return_address_if, moved_to};
 
 use brd_isa::{JumpIndex, Register};
 use brd_word::sign16;
 use std::marker::Model;
 
-/// 32 registers, of which register 0 is always 0, HI, LO, the addresses of the next instruction and of the one after it,
-/// and whether the next one is in a delay slot (the CPU registers of MIPS32, MD00082: *MIPS32 Architecture for Programmers, volume I:
-/// introduction*; own choice: `npc` and `slot` in place of a pending branch).
+/// 32 registers, of which register 0 is always 0, HI, LO, the addresses of the next instruction and of the one after
+/// it, and whether the next one is in a delay slot (the CPU registers of MIPS32, MD00082: *MIPS32 Architecture for
+/// Programmers, volume I: introduction*; own choice: `npc` and `slot` in place of a pending branch).
 #[derive(Clone, Copy, Debug, PartialEq, Eq)]
 pub struct Context {
     registers: [u32; 32],
@@ -39,11 +40,13 @@ impl Model for Context {
 
     ghost Value = { State };
 
-    ghost view = { λ c. record { registers = c.registers; hi = c.hi; lo = c.lo; pc = c.pc; npc = c.npc; slot = c.slot } };
+    ghost view = { λ c.
+        record { registers = c.registers; hi = c.hi; lo = c.lo; pc = c.pc; npc = c.npc; slot = c.slot } };
 
     ghost invariant = { λ c. slice_index c.registers 0 ≡ 0 };
 
-    ghost inverse = { λ s. record { registers = s.registers; hi = s.hi; lo = s.lo; pc = s.pc; npc = s.npc; slot = s.slot } };
+    ghost inverse = { λ s.
+        record { registers = s.registers; hi = s.hi; lo = s.lo; pc = s.pc; npc = s.npc; slot = s.slot } };
 }
 
 impl Context {
@@ -159,7 +162,7 @@ impl Context {
 
     /// Writes HI and goes on to the next instruction.
     pub fn set_hi(&mut self, word: u32)
-        ensures { self.new ≡ moved_to Mthi (advanced self.old) word }
+        ensures { self.new ≡ record (advanced self.old) { hi = word } }
     {
         self.advance();
         self.hi = word;
@@ -167,7 +170,7 @@ impl Context {
 
     /// Writes LO and goes on to the next instruction.
     pub fn set_lo(&mut self, word: u32)
-        ensures { self.new ≡ moved_to Mtlo (advanced self.old) word }
+        ensures { self.new ≡ record (advanced self.old) { lo = word } }
     {
         self.advance();
         self.lo = word;
@@ -206,8 +209,8 @@ impl Context {
         }
     }
 
-    /// Goes on to the delay slot of a branch, which is followed by its target where it is taken; a branch-likely that isn't taken goes on behind its delay
-    /// slot.
+    /// Goes on to the delay slot of a branch, which is followed by its target where it is taken; a branch-likely that
+    /// isn't taken goes on behind its delay slot.
     pub fn branch(&mut self, likely: bool, taken: bool, offset: u16)
         ensures { self.new ≡ after_branch self.old likely taken offset }
     {

@@ -1,22 +1,43 @@
-//! Laws of the loads and stores of the parts of an unaligned word: the two parts together are the whole word, whatever the alignment.
+//! Laws of the definitions.
 
-ghost use Rattle.std.specs.Prelude.{◌≡◌, ℕ, ◌+◌, ◌-◌, ◌^◌, ◌<◌, ◌≤◌, List, length, slice_index, Ok, IsOkAnd};
-ghost use Rattle.brd_word.specs.Words.{big_endian_bytes};
-ghost use Rattle.brd_mem.specs.Memory.{base, IsRamSize, copied, word_at};
+ghost use Rattle.std.specs.Prelude.{◌≡◌, ℕ, ◌+◌, ◌-◌, ◌≤◌, Ok, Some, IsOkAnd, is_some};
+ghost use Rattle.brd_isa.specs.declared.instruction.Insn.{Insn};
+ghost use Rattle.brd_word.specs.Words.{bytes_of_word, AreBytes};
+ghost use Rattle.brd_base.specs.Space.{base, IsRamSize};
+ghost use Rattle.brd_mem.specs.Memory.{Memory, size_of, copied, word_at};
+ghost use Rattle.brd_link.specs.LinkSet.{LinkSet};
+ghost use Rattle.brd_exec.specs.State.{State};
+ghost use Rattle.brd_exec.specs.Action.{local_meaning};
+ghost use Rattle.brd_exec.specs.Step.{meaning};
+ghost use Rattle.brd_exec.specs.Step.Effect.{Goes};
 ghost use Rattle.brd_exec.specs.Unaligned.{loaded_left, loaded_right, stored_left, stored_right};
 
-/// An LWL at an address, and then an LWR three bytes on, give the word of the four bytes from the address on, whatever the register was.
+/// A local instruction leads to the context that `local_meaning` says, for each processor and over each memory and
+/// links, which stay.
+pub fn local_instruction_touches_the_context_alone()
+    ensures { (cpu : ℕ) (insn : Insn) (s after : State) (memory : Memory) (links : LinkSet) →
+        local_meaning insn s ≡ Some after → meaning cpu insn s memory links ≡ Goes after memory links }
+{}
+
+/// Whether an instruction is local doesn't depend on the context.
+pub fn local_in_one_context_is_local_in_all()
+    ensures { (insn : Insn) (s other : State) → is_some (local_meaning insn s) ≡ is_some (local_meaning insn other) }
+{}
+
+/// An LWL at an address, and then an LWR three bytes on, give the word of the four bytes from the address on, whatever
+/// the register was.
 pub fn unaligned_word_is_loaded()
-    ensures { (memory : List ℕ) (address old : ℕ) → ((place : ℕ) → slice_index memory place < 2 ^ 8) →
-        IsRamSize (length memory) → base ≤ address → address + 4 ≤ base + length memory →
+    ensures { (memory : Memory) (address old : ℕ) → AreBytes memory.bytes → IsRamSize (size_of memory) →
+        base ≤ address → address + 4 ≤ base + size_of memory →
         IsOkAnd (loaded_left memory address old)
         (λ part. loaded_right memory (address + 3) part ≡ Ok (word_at memory (address - base))) }
 {}
 
-/// An SWL at an address, and then an SWR three bytes on, put the register's four bytes there, and leave all other bytes.
+/// An SWL at an address, and then an SWR three bytes on, put the register's four bytes there, and leave all other
+/// bytes.
 pub fn unaligned_word_is_stored()
-    ensures { (memory : List ℕ) (address word : ℕ) →
-        IsRamSize (length memory) → base ≤ address → address + 4 ≤ base + length memory →
+    ensures { (memory : Memory) (address word : ℕ) → IsRamSize (size_of memory) →
+        base ≤ address → address + 4 ≤ base + size_of memory →
         IsOkAnd (stored_left memory address word)
-        (λ part. stored_right part (address + 3) word ≡ Ok (copied memory address (big_endian_bytes word))) }
+        (λ part. stored_right part (address + 3) word ≡ Ok (copied memory address (bytes_of_word word))) }
 {}

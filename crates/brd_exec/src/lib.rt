@@ -4,9 +4,12 @@
 #![tactic(auto)]
 
 mod access;
+mod branch;
+mod compute;
 mod context;
 mod execute;
 pub mod laws;
+mod memory;
 mod outcome;
 mod value;
 

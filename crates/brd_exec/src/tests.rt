@@ -81,8 +81,8 @@ fn exception(code: ExceptionCode) -> Outcome {
     }
 }
 
-/// Does these instructions, each of which has to end as it says, and then an SC of processor 1 with `LAST`. That has to be done and to end the link; where
-/// it leaves `LAST` in the word it has to answer 1, and else 0. Gives the word.
+/// Does these instructions, each of which has to end as it says, and then an SC of processor 1 with `LAST`. That has to
+/// be done and to end the link; where it leaves `LAST` in the word it has to answer 1, and else 0. Gives the word.
 fn word_after_sc(
     rt: &(impl Abort + AllocGlobal),
     name: &str,

@@ -24,18 +24,19 @@ ghost use Rattle.brd_exec.specs.Values.{
   traps_immediate,
   is_taken,
   is_likely,
-  is_taken_by_sign,
-  is_likely_by_sign,
-  is_taken_by_zero,
-  is_likely_by_zero,
-  is_linking,
+  is_zero_branch_taken,
+  is_zero_branch_likely,
+  is_regimm_branch_taken,
+  is_regimm_branch_likely,
+  is_regimm_branch_calling,
 };
+ghost use Rattle.brd_exec.specs.Effects.{result_of};
 
 use crate::context::Context;
 use crate::outcome::ExceptionCode;
 use brd_isa::{
-    AccumulateOp, BranchOp, BranchSignOp, BranchZeroOp, CountOp, ImmediateOp, ProductOp, Register,
-    RegisterOp, ShiftAmount, ShiftOp, ShiftVariableOp, TrapImmediateOp, TrapOp,
+    AccumulateOp, BranchOp, BranchRegimmOp, BranchZeroOp, CountOp, ImmediateOp, ProductOp,
+    Register, RegisterOp, ShiftAmount, ShiftOp, ShiftVariableOp, TrapImmediateOp, TrapOp,
 };
 use brd_word::{
     Division, add_overflows, div_signed, div_unsigned, mul_signed, mul_unsigned, sign16,
@@ -89,7 +90,8 @@ fn is_signed_below(a: u32, b: u32) -> bool
     a.cast_signed() < b.cast_signed()
 }
 
-/// rd of `op rd, rs, rt`. The registers are read in each arm, so that the compiler can lead an arm of the decoder straight to its own.
+/// rd of `op rd, rs, rt`. The registers are read in each arm, so that the compiler can lead an arm of the decoder
+/// straight to its own.
 pub fn register_value(
     op: RegisterOp,
     context: &Context,
@@ -97,7 +99,7 @@ pub fn register_value(
     rs: Register,
     rt: Register,
 ) -> Result<u32, ExceptionCode>
-    ensures { result ≡ register_gives op (read context.now rd) (read context.now rs) (read context.now rt) }
+    ensures { result ≡ result_of (register_gives op (read context.now rd) (read context.now rs) (read context.now rt)) }
 {
     match op {
         RegisterOp::Movz => Ok(context.read(if context.read(rt) == 0 { rs } else { rd })),
@@ -137,7 +139,7 @@ fn difference(a: u32, b: u32) -> Result<u32, ExceptionCode>
 
 /// rt of `op rt, rs, immediate`.
 pub fn immediate_value(op: ImmediateOp, a: u32, immediate: u16) -> Result<u32, ExceptionCode>
-    ensures { result ≡ immediate_gives op a immediate }
+    ensures { result ≡ result_of (immediate_gives op a immediate) }
 {
     match op {
         ImmediateOp::Addi => sum(a, sign16(immediate)),
@@ -251,52 +253,60 @@ pub fn is_branch_likely(op: BranchOp) -> bool
 }
 
 /// Whether `op rs, target` is taken.
-pub fn is_sign_branch_taken(op: BranchSignOp, a: u32) -> bool
-    ensures { result ≡ is_taken_by_sign op a }
+pub fn is_zero_branch_taken(op: BranchZeroOp, a: u32) -> bool
+    ensures { result ≡ is_zero_branch_taken op a }
 {
     match op {
-        BranchSignOp::Blez | BranchSignOp::Blezl => is_below_zero(a) || a == 0,
-        BranchSignOp::Bgtz | BranchSignOp::Bgtzl => !is_below_zero(a) && a != 0,
+        BranchZeroOp::Blez | BranchZeroOp::Blezl => is_below_zero(a) || a == 0,
+        BranchZeroOp::Bgtz | BranchZeroOp::Bgtzl => !is_below_zero(a) && a != 0,
     }
 }
 
 /// Whether `op rs, target` is likely.
-pub fn is_sign_branch_likely(op: BranchSignOp) -> bool
-    ensures { result ≡ is_likely_by_sign op }
+pub fn is_zero_branch_likely(op: BranchZeroOp) -> bool
+    ensures { result ≡ is_zero_branch_likely op }
 {
-    matches!(op, BranchSignOp::Blezl | BranchSignOp::Bgtzl)
+    matches!(op, BranchZeroOp::Blezl | BranchZeroOp::Bgtzl)
 }
 
 /// Whether `op rs, target` under REGIMM is taken.
-pub fn is_zero_branch_taken(op: BranchZeroOp, a: u32) -> bool
-    ensures { result ≡ is_taken_by_zero op a }
+pub fn is_regimm_branch_taken(op: BranchRegimmOp, a: u32) -> bool
+    ensures { result ≡ is_regimm_branch_taken op a }
 {
     match op {
-        BranchZeroOp::Bltz | BranchZeroOp::Bltzl | BranchZeroOp::Bltzal | BranchZeroOp::Bltzall => {
-            is_below_zero(a)
-        }
-        BranchZeroOp::Bgez | BranchZeroOp::Bgezl | BranchZeroOp::Bgezal | BranchZeroOp::Bgezall => {
-            !is_below_zero(a)
-        }
+        BranchRegimmOp::Bltz
+        | BranchRegimmOp::Bltzl
+        | BranchRegimmOp::Bltzal
+        | BranchRegimmOp::Bltzall => { is_below_zero(a) }
+        BranchRegimmOp::Bgez
+        | BranchRegimmOp::Bgezl
+        | BranchRegimmOp::Bgezal
+        | BranchRegimmOp::Bgezall => { !is_below_zero(a) }
     }
 }
 
 /// Whether `op rs, target` under REGIMM is likely.
-pub fn is_zero_branch_likely(op: BranchZeroOp) -> bool
-    ensures { result ≡ is_likely_by_zero op }
+pub fn is_regimm_branch_likely(op: BranchRegimmOp) -> bool
+    ensures { result ≡ is_regimm_branch_likely op }
 {
     matches!(
         op,
-        BranchZeroOp::Bltzl | BranchZeroOp::Bgezl | BranchZeroOp::Bltzall | BranchZeroOp::Bgezall
+        BranchRegimmOp::Bltzl
+            | BranchRegimmOp::Bgezl
+            | BranchRegimmOp::Bltzall
+            | BranchRegimmOp::Bgezall
     )
 }
 
 /// Whether `op rs, target` under REGIMM writes the return address.
-pub fn is_zero_branch_linking(op: BranchZeroOp) -> bool
-    ensures { result ≡ is_linking op }
+pub fn is_regimm_branch_calling(op: BranchRegimmOp) -> bool
+    ensures { result ≡ is_regimm_branch_calling op }
 {
     matches!(
         op,
-        BranchZeroOp::Bltzal | BranchZeroOp::Bgezal | BranchZeroOp::Bltzall | BranchZeroOp::Bgezall
+        BranchRegimmOp::Bltzal
+            | BranchRegimmOp::Bgezal
+            | BranchRegimmOp::Bltzall
+            | BranchRegimmOp::Bgezall
     )
 }
