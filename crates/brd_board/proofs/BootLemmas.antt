@@ -1,23 +1,26 @@
 -- The board of a list of words is the one that their image makes.
-use Rattle.std.proofs.Common.{◌≡◌, ℕ, ◌+◌, ◌-◌, ◌*◌, List, [], ◌∷◌, ◌++◌, length, refl, arith, length-append}
+use Rattle.std.proofs.Common.{◌≡◌, ℕ, ◌+◌, ◌-◌, ◌*◌, List, [], ◌∷◌, ◌++◌, length, refl, sym, ap, ◌∙◌, arith, length-append}
 use Rattle.std.proofs.lemmas.Bool.Decides.{nat_tests}
-use Rattle.std.specs.Prelude.{Bool, true, ◌&&◌, nat_le, flat_map, replicate, Result, Ok, Err, if◌then◌else◌}
-use Rattle.std.proofs.lemmas.List.{drop-replicate}
-use Rattle.brd_word.specs.Words.{big_endian_bytes}
-use Rattle.brd_mem.specs.Memory.{base, contains, copied}
-use Rattle.brd_mem.specs.Image.{image_of_words}
+use Rattle.std.specs.Prelude.{Bool, true, ◌&&◌, nat_le, flat_map, replicate, false, unwrap_or, Result, Ok, Err, if◌then◌else◌}
+use Rattle.std.proofs.lemmas.List.{drop-replicate, length-replicate}
+use Rattle.brd_word.specs.Words.{bytes_of_word}
+use Rattle.brd_base.specs.Space.{base}
+use Rattle.brd_mem.specs.Memory.{Memory, zeros, contains, copied}
+use Rattle.brd_mem.specs.Image.{byte_in, segments_of_words, image_of_words}
+use Rattle.brd_mem.specs.declared.image.Segment.{Segment}
 use Rattle.brd_board.specs.Board.{BoardState}
-use Rattle.brd_board.specs.Boot.{boot, boot_words, ram_size, started, memory_of_words}
+use Rattle.brd_board.specs.Boot.{boot, boot_words, ram_size, started, memory_of, memory_of_words}
+use Rattle.brd_board.proofs.LoadLemmas.{turn, all_loaded, zero_bytes, copied-size}
 use Rattle.brd_board.specs.declared.boot.BootFault.{BootFault}
 use Rattle.brd_board.specs.declared.boot.BootFault.TheVariants.{Outside}
 
 -- each word takes four bytes
-pub length-bytes : (words : List ℕ) → length (flat_map big_endian_bytes words) ≡ 4 * length words
+pub length-bytes : (words : List ℕ) → length (flat_map bytes_of_word words) ≡ 4 * length words
 length-bytes [] = refl
-length-bytes (word ∷ words) = omega (arith, length-append (big_endian_bytes word) (flat_map big_endian_bytes words), length-bytes words)
+length-bytes (word ∷ words) = omega (arith, length-append (bytes_of_word word) (flat_map bytes_of_word words), length-bytes words)
 
 -- bytes at the start of an empty memory
-copied-zero : (size : ℕ) (bytes : List ℕ) → copied (replicate size 0) base bytes ≡ bytes ++ replicate (size - length bytes) 0
+copied-zero : (size : ℕ) (bytes : List ℕ) → copied (zeros size) base bytes ≡ record { bytes = bytes ++ replicate (size - length bytes) 0 }
 copied-zero size bytes =
     let front : base - base + length bytes ≡ length bytes = omega arith in
     let zero : ℕ = 0 in
@@ -28,18 +31,35 @@ fits : (n : ℕ) → contains ram_size base (4 * n) && true ≡ nat_le n 16384
 unfolding ram_size
 fits n = grind (arith, nat_tests)
 
-chosen : (a b : Bool) (x y : List ℕ) → a ≡ b → x ≡ y →
+chosen : (a b : Bool) (x y : Memory) → a ≡ b → (a ≡ true → x ≡ y) →
     ◌≡◌ {A = Result BoardState BootFault} (if a then Ok (started x) else Err Outside) (if b then Ok (started y) else Err Outside)
-chosen a b x y e f = cc
+chosen true b x y e f = rw (← e, f refl) refl
+chosen false b x y e f = rw (← e) refl
+
+one_inside : (inside : Bool) → inside && true ≡ true → inside ≡ true
+one_inside true e = refl
+one_inside false e = e
+
+-- without a segment there are zeros alone
+none_loaded : (size : ℕ) → zeros size ≡ memory_of size []
+none_loaded size = all_loaded size [] (zeros size) (length-replicate size 0) (λ at. zero_bytes size at)
+
+-- with one segment, its bytes are in their place
+one_loaded : (size : ℕ) (segment : Segment) → contains size segment.address (length segment.bytes) ≡ true →
+    copied (zeros size) segment.address segment.bytes ≡ memory_of size (segment ∷ [])
+one_loaded size segment inside =
+    let long : length (replicate size 0) ≡ size = length-replicate size 0 in
+    all_loaded size (segment ∷ []) (copied (zeros size) segment.address segment.bytes) (copied-size size segment (zeros size) long inside ∙ long)
+    (λ at. turn size segment [] (zeros size) at long inside tt ∙ ap (λ byte. unwrap_or (byte_in (segment ∷ []) (base + at)) byte) (zero_bytes size at))
 
 pub boot-image_of_words : (words : List ℕ) → boot (image_of_words words) ≡ boot_words words
 boot-image_of_words [] =
     let whole : ram_size - 0 ≡ ram_size = omega arith in
-    rw whole refl
+    rw (← none_loaded ram_size, whole) refl
 boot-image_of_words (word ∷ words) =
-    let bytes : List ℕ = flat_map big_endian_bytes (word ∷ words) in
+    let bytes : List ℕ = flat_map bytes_of_word (word ∷ words) in
     let long : length bytes ≡ 4 * length (word ∷ words) = length-bytes (word ∷ words) in
     chosen (contains ram_size base (length bytes) && true) (nat_le (length (word ∷ words)) 16384)
-    (copied (replicate ram_size 0) base bytes) (memory_of_words (word ∷ words))
+    (memory_of ram_size (segments_of_words (word ∷ words))) (memory_of_words (word ∷ words))
     (rw long (fits (length (word ∷ words))))
-    (rw (← long) (copied-zero ram_size bytes))
+    (λ inside. sym (one_loaded ram_size (record { address = base; bytes = bytes }) (one_inside _ inside)) ∙ rw (← long) (copied-zero ram_size bytes))

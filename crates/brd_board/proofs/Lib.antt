@@ -1,1 +1,2 @@
+pub mod LoadLemmas
 pub mod BootLemmas

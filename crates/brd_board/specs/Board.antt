@@ -1,7 +1,8 @@
 -- The board: what it consists of, what one event does to it, and what a list of events does.
 -- It has one processor, number 1, and one task, number 1, which is assigned to it; it has no interrupt handler.
 use Rattle.std.specs.Prelude.{ℕ, ◌+◌, ◌-◌, ◌^◌, ◌==◌, nat_lt, Bool, true, false, if◌then◌else◌, List, [], ◌∷◌, Option, Some, None}
-use Rattle.brd_link.specs.LinkSet.{LinkSet, word_of, without}
+use Rattle.brd_link.specs.LinkSet.{LinkSet, linked_address, without}
+use Rattle.brd_mem.specs.Memory.{Memory}
 use Rattle.brd_exec.specs.State.{State, write, advanced}
 use Rattle.brd_exec.specs.Step.{Ran, ran}
 use Rattle.brd_exec.specs.declared.outcome.Outcome.{Outcome}
@@ -20,7 +21,7 @@ use Rattle.brd_board.specs.declared.task.TaskView.{TaskView}
 pub record BoardState : Type 0 where
   pub off : Bool
   pub count : ℕ  -- the ticks so far
-  pub memory : List ℕ
+  pub memory : Memory
   pub links : LinkSet
   pub state : TaskState  -- the task's
   pub context : State  -- the task's, also while it is dormant
@@ -107,7 +108,7 @@ registers_of b cpu = if cpu == 1 then (if is_running b.state then Some b.context
 
 -- the word that a processor's link is to, where it has one
 abbrev pub linked_word_of : BoardState → ℕ → Option ℕ
-linked_word_of b cpu = if cpu == 1 then word_of b.links 1 else None
+linked_word_of b cpu = if cpu == 1 then linked_address b.links 1 else None
 
 -- a processor's last fault
 abbrev pub fault_of : BoardState → ℕ → Option Fault

@@ -1,10 +1,13 @@
--- Boot: the board that an image makes. RAM has 64 KiB. Task 1 is started with priority 1 at RAM's first address, 0x80000000,
--- whatever entry the image names; its stack of 256 bytes ends where RAM ends.
-use Rattle.std.specs.Prelude.{◌≡◌, ℕ, ◌+◌, ◌-◌, ◌*◌, ◌^◌, nat_le, Bool, true, false, ◌&&◌, if◌then◌else◌, List, [], ◌∷◌, ◌++◌, length, flat_map, replicate, None, Result, Ok, Err}
+-- Boot: the board that an image makes. RAM has 64 KiB. Task 1 is started with priority 1 at RAM's first address,
+-- 0x80000000, whatever entry the image names; its stack of 256 bytes ends where RAM ends.
+use Rattle.std.specs.Prelude.{◌≡◌, ℕ, ◌+◌, ◌-◌, ◌*◌, ◌^◌, nat_le, Bool, true, false, ◌&&◌, if◌then◌else◌, List, [], ◌∷◌, ◌++◌, length, map, flat_map, replicate, None, unwrap_or, Result, Ok, Err}
+use Rattle.std.specs.List.{range_with_len}
 use Rattle.brd_mem.specs.declared.image.Image.{Image}
 use Rattle.brd_mem.specs.declared.image.Segment.{Segment}
-use Rattle.brd_mem.specs.Memory.{base, contains, copied}
-use Rattle.brd_word.specs.Words.{big_endian_bytes}
+use Rattle.brd_base.specs.Space.{base}
+use Rattle.brd_mem.specs.Memory.{Memory, contains}
+use Rattle.brd_mem.specs.Image.{byte_in}
+use Rattle.brd_word.specs.Words.{bytes_of_word}
 use Rattle.brd_exec.specs.State.{opening}
 use Rattle.brd_board.specs.Board.{BoardState}
 use Rattle.brd_board.specs.declared.boot.BootFault.{BootFault}
@@ -20,13 +23,12 @@ abbrev pub are_inside : ℕ → List Segment → Bool
 are_inside size [] = true
 are_inside size (segment ∷ others) = contains size segment.address (length segment.bytes) && are_inside size others
 
--- the memory with the segments' bytes in their places
-abbrev pub loaded : List ℕ → List Segment → List ℕ
-loaded memory [] = memory
-loaded memory (segment ∷ others) = loaded (copied memory segment.address segment.bytes) others
+-- RAM of that size as boot leaves it: at each address the byte of the segment that holds it, and 0 where none does
+unfoldable pub memory_of : ℕ → List Segment → Memory
+memory_of size segments = record { bytes = map (λ at. unwrap_or (byte_in segments (base + at)) 0) (range_with_len 0 size) }
 
 -- a board that starts over a memory: on, at count 0, without links, its task about to run
-abbrev pub started : List ℕ → BoardState
+abbrev pub started : Memory → BoardState
 started memory = record {
   off = false;
   count = 0;
@@ -37,14 +39,13 @@ started memory = record {
   fault = None;
 }
 
--- the board that an image makes: its bytes, and zero elsewhere; or what keeps it from starting
+-- the board that an image makes, or what keeps it from starting
 abbrev pub boot : Image → Result BoardState BootFault
-boot image =
-    if are_inside ram_size image.segments then Ok (started (loaded (replicate ram_size 0) image.segments)) else Err Outside
+boot image = if are_inside ram_size image.segments then Ok (started (memory_of ram_size image.segments)) else Err Outside
 
 -- the memory of a list of words: they lie from its start on, and zero behind them
-abbrev pub memory_of_words : List ℕ → List ℕ
-memory_of_words words = flat_map big_endian_bytes words ++ replicate (ram_size - 4 * length words) 0
+abbrev pub memory_of_words : List ℕ → Memory
+memory_of_words words = record { bytes = flat_map bytes_of_word words ++ replicate (ram_size - 4 * length words) 0 }
 
 -- the board of a list of words, of which 16,384 fit into RAM
 abbrev pub boot_words : List ℕ → Result BoardState BootFault

@@ -4,17 +4,18 @@ ghost use Rattle.std.specs.Prelude.{◌≡◌};
 ghost use Rattle.brd_board.specs.Board.{happens, called, faulted, stepped, ticked, after, standing_of, registers_of, linked_word_of, fault_of, task_of};
 ghost use Rattle.brd_board.specs.Boot.{boot, boot_words, Boots};
 ghost use Rattle.brd_mem.specs.Memory.{byte_at};
-ghost use Rattle.brd_mem.specs.Image.{image_of_words};
+ghost use Rattle.brd_mem.specs.Image.{image_of_words, IsLoadable};
 
 use crate::boot::BootFault;
 use crate::event::{Event, Report};
 use crate::load::{empty_ram, load};
 use crate::task::{TaskState, TaskView};
 use crate::view::{Fault, Standing};
+use brd_base::BASE;
 use brd_exec::{Context, Outcome, run};
 use brd_isa::Register;
 use brd_link::Links;
-use brd_mem::{BASE, Image, Ram};
+use brd_mem::{Image, Ram};
 use std::alloc::Global;
 use std::marker::Model;
 
@@ -61,6 +62,7 @@ impl Board {
     /// The board of an image, as `from_words` says.
     #[tactic(auto, unfolding(crate::specs::Boot::ram_size))]
     fn boot(alloc: Global, image: &Image) -> Result<Board, BootFault>
+        requires { IsLoadable image.now }
         ensures { Boots (boot image.now) result }
     {
         let mut ram = empty_ram(alloc)?;

@@ -3,7 +3,7 @@
 ghost use Rattle.std.specs.Prelude.{◌≡◌};
 ghost use Rattle.brd_board.specs.declared.boot.BootFault.TheVariants.{NoMemory as no_memory};
 
-use brd_mem::NoMemory;
+use brd_base::NoMemory;
 use thiserror::Error;
 
 /// Why a board doesn't start.

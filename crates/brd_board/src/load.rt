@@ -1,10 +1,13 @@
 //! Putting an image into memory.
 
-ghost use Rattle.std.specs.Prelude.{◌≡◌, length, replicate, IfOk, true};
-ghost use Rattle.brd_board.specs.Boot.{are_inside, loaded, ram_size};
+ghost use Rattle.std.specs.Prelude.{◌≡◌, IfOk, true};
+ghost use Rattle.brd_mem.specs.Image.{AreApart};
+ghost use Rattle.brd_mem.specs.Memory.{zeros};
+ghost use Rattle.brd_board.specs.Boot.{are_inside, memory_of, ram_size};
 
 use crate::boot::BootFault;
-use brd_mem::{NoMemory, Ram, Segment};
+use brd_base::NoMemory;
+use brd_mem::{Ram, Segment};
 use std::alloc::Global;
 
 /// How many bytes of RAM the board has.
@@ -13,7 +16,7 @@ const RAM_SIZE: u32 = 0x1_0000;
 /// The RAM, all zero.
 #[tactic(auto, unfolding(crate::specs::Boot::ram_size))]
 pub fn empty_ram(alloc: Global) -> Result<Ram, NoMemory>
-    ensures { IfOk result (λ ram. ram ≡ replicate ram_size 0) }
+    ensures { IfOk result (λ ram. ram ≡ zeros ram_size) }
 {
     match Ram::new(alloc, RAM_SIZE) {
         Ok(ram) => Ok(ram),
@@ -21,10 +24,12 @@ pub fn empty_ram(alloc: Global) -> Result<Ram, NoMemory>
     }
 }
 
-/// Puts each segment into its place. Answers whether all of them are inside RAM.
+/// Puts each segment into its place in RAM that is all zero. Answers whether all of them are inside RAM.
 pub fn load(ram: &mut Ram, segments: &[Segment]) -> bool
-    ensures inside { result ≡ are_inside (length ram.old) segments.now }
-    ensures is { result ≡ true → ram.new ≡ loaded ram.old segments.now }
+    requires empty { ram.old ≡ zeros ram_size }
+    requires apart { AreApart segments.now }
+    ensures inside { result ≡ are_inside ram_size segments.now }
+    ensures is { result ≡ true → ram.new ≡ memory_of ram_size segments.now }
 {
     for segment in segments {
         let bytes = segment.bytes.as_slice();

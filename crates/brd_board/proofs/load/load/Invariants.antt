@@ -1,11 +1,7 @@
--- What is left to load decides, as all of it does, over the memory so far.
-use Rattle.std.proofs.Common.{◌≡◌, drop, length}
-use Rattle.brd_board.specs.Boot.{are_inside, loaded}
+-- What is left to load, over the memory so far, gives what all of it gives over a memory of zeros.
+use Rattle.std.proofs.Common.{drop}
+use Rattle.brd_board.proofs.LoadLemmas.{IsUnderWay}
 use Rattle.brd_board.proofs.load.load.Given as goal
 
 abbrev pub invariant-loop-segment : goal.invariant-loop-segment
-invariant-loop-segment l = record {
-  inside : are_inside (length l.fn.ram) (drop l.segment-index l.segments) ≡ are_inside (length l.fn.ram) l.segments;
-  memory : loaded l.ram (drop l.segment-index l.segments) ≡ loaded l.fn.ram l.segments;
-  size : length l.ram ≡ length l.fn.ram;
-}
+invariant-loop-segment l = IsUnderWay l.segments (drop l.segment-index l.segments) l.ram
