@@ -1,0 +1,4 @@
+pub mod WordTextLemmas
+pub mod InputLemmas
+pub mod OutputLemmas
+pub mod ExcerptLemmas

@@ -1,0 +1,4 @@
+use Rattle.brd_command.proofs.request.perform.Goals as goal
+
+pub returns-in-Asm-clause-asm_object : goal.returns-in-Asm-clause-asm_object
+returns-in-Asm-clause-asm_object g c = rw c.in-Asm.is c.asm_files.ensures

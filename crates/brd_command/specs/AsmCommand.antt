@@ -1,0 +1,70 @@
+-- The command `asm`: what it writes for what it reads, and how it ends where it doesn't.
+use Rattle.std.specs.Prelude.{◌≡◌, ◌≢◌, ℕ, ◌<◌, List, length, Option, Result, Ok, Err}
+use Rattle.std.specs.Io.KnownBytes.{Keeps}
+use Rattle.brd_mem.specs.declared.image.Image.{Image}
+use Rattle.brd_elf.specs.File.{file, Fits}
+use Rattle.brd_elf.specs.Meaning.{meaning}
+use Rattle.brd_asm.specs.Image.{Program, program_of, IsImage}
+use Rattle.brd_asm.specs.declared.fault.AsmFault.{AsmFault}
+use Rattle.brd_asm.specs.declared.fault.AsmFault.TheVariants as asm_fault
+use Rattle.brd_command.specs.Excerpt.{line_excerpt}
+use Rattle.brd_command.specs.Input.{most_bytes}
+use Rattle.brd_command.specs.Output.{Writes, WritesFront}
+use Rattle.brd_command.specs.declared.fault.CommandFault.{CommandFault}
+use Rattle.brd_command.specs.declared.fault.CommandFault.TheVariants.{NoMemory, Argument, Words, Source, ImageTooLarge, Open, Read, TooLong, TooManyReads, Write}
+
+-- the image of a source
+pub record IsImageOf (source : List ℕ) (image : Image) : Type 0 where
+  pub program : Program
+  pub is_program : program_of source ≡ Ok program
+  pub is_image : IsImage program image
+
+-- the object file of a source: the file of its image, which is read as that image again
+pub record IsObjectFile (source bytes : List ℕ) : Type 0 where
+  pub image : Image
+  pub is_image : IsImageOf source image
+  pub is_file : bytes ≡ file image
+  pub is_read : meaning bytes ≡ Ok image
+
+-- no object file can hold the source's image
+pub record IsTooLarge (source : List ℕ) : Type 0 where
+  pub image : Image
+  pub is_image : IsImageOf source image
+  pub misfits : ¬ Fits image
+
+-- the line of a source that a fault is in
+abbrev pub faulty_line : AsmFault → ℕ
+faulty_line asm_fault.NoMemory = 1
+faulty_line (asm_fault.Syntax line) = line
+faulty_line (asm_fault.UnknownName line) = line
+faulty_line (asm_fault.Twice line) = line
+faulty_line (asm_fault.Range line) = line
+faulty_line (asm_fault.Misaligned line) = line
+faulty_line (asm_fault.Overlap line) = line
+
+-- what may keep a source from having an object file: its first fault, with the front of the faulty line, or an image
+-- that is too large
+abbrev pub KeepsFromAssembling : List ℕ → CommandFault → Type 0
+KeepsFromAssembling source NoMemory = Unit {0}
+KeepsFromAssembling source (Source fault excerpt) =
+    (program_of source ≡ Err fault) × (fault ≢ asm_fault.NoMemory) × (excerpt ≡ line_excerpt source (faulty_line fault))
+KeepsFromAssembling source ImageTooLarge = IsTooLarge source
+KeepsFromAssembling source _ = ⊥
+
+-- A fault of the source comes before anything is written. Where writing failed, a front of the object file was written.
+abbrev pub RefusesSource : CommandFault → List ℕ → Option (List ℕ) → Option (List ℕ) → Type 0
+RefusesSource NoMemory source old new = Keeps old new
+RefusesSource Argument source old new = ⊥
+RefusesSource (Words fault) source old new = ⊥
+RefusesSource (Source fault excerpt) source old new = KeepsFromAssembling source (Source fault excerpt) × Keeps old new
+RefusesSource ImageTooLarge source old new = KeepsFromAssembling source ImageTooLarge × Keeps old new
+RefusesSource (Open name error) source old new = ⊥
+RefusesSource (Read error) source old new = Keeps old new
+RefusesSource TooLong source old new = (most_bytes < length source) × Keeps old new
+RefusesSource TooManyReads source old new = Keeps old new
+RefusesSource (Write error) source old new = WritesFront (IsObjectFile source) old new
+
+-- how `asm` ends: the source's object file was written, or it was refused
+abbrev pub AsmEnds : Result Unit CommandFault → List ℕ → Option (List ℕ) → Option (List ℕ) → Type 0
+AsmEnds (Ok done) source old new = Writes (IsObjectFile source) old new
+AsmEnds (Err fault) source old new = RefusesSource fault source old new

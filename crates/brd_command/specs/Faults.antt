@@ -1,0 +1,40 @@
+-- The faults of the commands: which errors make them, and the status that each ends with.
+use Rattle.std.specs.Prelude.{◌≡◌, ◌≢◌, ℕ, List}
+use Rattle.std.specs.declared.io.Error.{Error}
+use Rattle.std.specs.IoError.{error_kind}
+use Rattle.std.specs.declared.io.ErrorKind.TheVariants.{OutOfMemory}
+use Rattle.brd_command.specs.Excerpt.{name_excerpt}
+use Rattle.brd_command.specs.declared.fault.CommandFault.{CommandFault}
+use Rattle.brd_command.specs.declared.fault.CommandFault.TheVariants.{NoMemory, Argument, Words, Source, ImageTooLarge, Open, Read, TooLong, TooManyReads, Write}
+
+-- the status that the program ends with
+abbrev pub status_of : CommandFault → ℕ
+status_of NoMemory = 3
+status_of Argument = 2
+status_of (Words fault) = 1
+status_of (Source fault excerpt) = 1
+status_of ImageTooLarge = 1
+status_of (Open name error) = 4
+status_of (Read error) = 4
+status_of TooLong = 4
+status_of TooManyReads = 4
+status_of (Write error) = 4
+
+-- the fault of a read that failed with this error: want of memory where its kind says so, else the error
+abbrev pub IsOfRead : Error → CommandFault → Type 0
+IsOfRead error NoMemory = error_kind error ≡ OutOfMemory
+IsOfRead error (Read e) = (e ≡ error) × (error_kind error ≢ OutOfMemory)
+IsOfRead error _ = ⊥
+
+-- the fault of a file of that name that couldn't be opened: the error with the front of the name, or want of memory
+abbrev pub IsOfOpen : List ℕ → Error → CommandFault → Type 0
+IsOfOpen name error NoMemory = Unit {0}
+IsOfOpen name error (Open shown e) = (shown ≡ name_excerpt name) × (e ≡ error) × (error_kind error ≢ OutOfMemory)
+IsOfOpen name error _ = ⊥
+
+-- the fault of a command line that couldn't be taken: want of memory where the error's kind says so, else an argument
+-- that isn't UTF-8
+abbrev pub IsOfArguments : Error → CommandFault → Type 0
+IsOfArguments error NoMemory = error_kind error ≡ OutOfMemory
+IsOfArguments error Argument = error_kind error ≢ OutOfMemory
+IsOfArguments error _ = ⊥

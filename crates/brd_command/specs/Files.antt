@@ -1,0 +1,23 @@
+-- What the files of a command give it, and how `asm` ends on them. `opened` and `created` say what a call on files did:
+-- the files before, a name, what the call gave, and the files after.
+use Rattle.std.specs.Prelude.{ℕ, List, Option, IfSome, Result, Ok, Err, IsErrAnd}
+use Rattle.std.specs.declared.io.Error.{Error}
+use Rattle.brd_command.specs.AsmCommand.{AsmEnds}
+use Rattle.brd_command.specs.Faults.{IsOfOpen}
+use Rattle.brd_command.specs.declared.fault.CommandFault.{CommandFault}
+
+-- SOURCE is opened first; OUT is created only where SOURCE was opened; the source is read and the object file is
+-- written only where both succeeded. The fault of a file that couldn't be opened or created has that file's name.
+pub data AsmFilesEnd {F R W : Type 0}
+    (opened : F → List ℕ → Result R Error → F → Type 0) (created : F → List ℕ → Result W Error → F → Type 0)
+    (remaining : R → Option (List ℕ)) (contents : W → Option (List ℕ))
+    (old : F) (source out : List ℕ) (result : Result Unit CommandFault) (new : F) : Type 0 where
+  not_opened : {error : Error} → opened old source (Err error) new → IsErrAnd result (IsOfOpen source error) →
+      AsmFilesEnd opened created remaining contents old source out result new
+  not_created : {between : F} {reader : R} {error : Error} →
+      opened old source (Ok reader) between → created between out (Err error) new → IsErrAnd result (IsOfOpen out error) →
+      AsmFilesEnd opened created remaining contents old source out result new
+  ended : {between : F} {reader : R} {writer : W} (last : W) →
+      opened old source (Ok reader) between → created between out (Ok writer) new →
+      IfSome (remaining reader) (λ text. AsmEnds result text (contents writer) (contents last)) →
+      AsmFilesEnd opened created remaining contents old source out result new

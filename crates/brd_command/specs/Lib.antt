@@ -1,0 +1,10 @@
+pub mod WordText
+pub mod Shown
+pub mod Excerpt
+pub mod Faults
+pub mod Input
+pub mod Output
+pub mod WordsCommand
+pub mod AsmCommand
+pub mod Files
+pub mod Request

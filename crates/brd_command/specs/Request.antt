@@ -1,0 +1,14 @@
+-- What a command line asks for.
+use Rattle.std.specs.Prelude.{ℕ, List}
+use Rattle.brd_command.specs.declared.request.Request.{Request}
+use Rattle.brd_command.specs.declared.request.Request.TheVariants.{Words, Asm}
+
+-- of `words`, what holds of its steps
+abbrev pub IfWords : Request → (ℕ → Type 0) → Type 0
+IfWords (Words steps) P = P steps
+IfWords (Asm source out) P = Unit {0}
+
+-- of `asm`, what holds of the names SOURCE and OUT
+abbrev pub IfAsm : Request → (List ℕ → List ℕ → Type 0) → Type 0
+IfAsm (Words steps) P = Unit {0}
+IfAsm (Asm source out) P = P source.now out.now

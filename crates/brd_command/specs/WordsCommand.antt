@@ -1,0 +1,45 @@
+-- The command `words`: what it writes for what it reads, and how it ends where it doesn't.
+use Rattle.std.specs.Prelude.{◌≡◌, ◌≢◌, ℕ, ◌<◌, List, length, replicate, Option, Result, Ok, Err}
+use Rattle.std.specs.Io.KnownBytes.{Keeps}
+use Rattle.brd_board.specs.declared.event.Event.TheVariants.{Step}
+use Rattle.brd_board.specs.Board.{BoardState, after}
+use Rattle.brd_board.specs.Boot.{boot_words}
+use Rattle.brd_command.specs.Input.{most_bytes}
+use Rattle.brd_command.specs.Output.{Writes, WritesFront}
+use Rattle.brd_command.specs.Shown.{board_shown}
+use Rattle.brd_command.specs.WordText.{words_of_text}
+use Rattle.brd_command.specs.declared.word_text.WordsFault.TheVariants as words_fault
+use Rattle.brd_command.specs.declared.fault.CommandFault.{CommandFault}
+use Rattle.brd_command.specs.declared.fault.CommandFault.TheVariants.{NoMemory, Argument, Words, Source, ImageTooLarge, Open, Read, TooLong, TooManyReads, Write}
+
+-- the bytes that show the board of these words after so many steps of processor 1
+pub record ShowsWords (words : List ℕ) (steps : ℕ) (bytes : List ℕ) : Type 0 where
+  pub board : BoardState
+  pub boots : boot_words words ≡ Ok board
+  pub shown : bytes ≡ board_shown (after board (replicate steps (Step 1)))
+
+-- the bytes that show the board of a text's words after so many steps of processor 1
+pub record ShowsText (text : List ℕ) (steps : ℕ) (bytes : List ℕ) : Type 0 where
+  pub words : List ℕ
+  pub are_words : words_of_text text ≡ Ok words
+  pub are_shown : ShowsWords words steps bytes
+
+-- A fault of the input is the input's first, and comes before anything is written. Where writing failed, a front of the
+-- output was written.
+abbrev pub RefusesWords : CommandFault → List ℕ → ℕ → Option (List ℕ) → Option (List ℕ) → Type 0
+RefusesWords NoMemory input steps old new = Keeps old new
+RefusesWords Argument input steps old new = ⊥
+RefusesWords (Words fault) input steps old new =
+    (words_of_text input ≡ Err fault) × (fault ≢ words_fault.NoMemory) × Keeps old new
+RefusesWords (Source fault excerpt) input steps old new = ⊥
+RefusesWords ImageTooLarge input steps old new = ⊥
+RefusesWords (Open name error) input steps old new = ⊥
+RefusesWords (Read error) input steps old new = Keeps old new
+RefusesWords TooLong input steps old new = (most_bytes < length input) × Keeps old new
+RefusesWords TooManyReads input steps old new = Keeps old new
+RefusesWords (Write error) input steps old new = WritesFront (ShowsText input steps) old new
+
+-- how `words` ends: the board of the input was written, or it was refused
+abbrev pub WordsEnds : Result Unit CommandFault → List ℕ → ℕ → Option (List ℕ) → Option (List ℕ) → Type 0
+WordsEnds (Ok done) input steps old new = Writes (ShowsText input steps) old new
+WordsEnds (Err fault) input steps old new = RefusesWords fault input steps old new

@@ -1,0 +1,79 @@
+//! The command `asm`.
+
+ghost use Rattle.std.specs.Prelude.{◌≡◌, IfSome, MatchResult};
+ghost use Rattle.brd_command.specs.AsmCommand.{AsmEnds, IsObjectFile, KeepsFromAssembling, faulty_line};
+
+use crate::excerpt::Excerpt;
+use crate::fault::CommandFault;
+use crate::input::read_whole;
+use crate::output::write_whole;
+use brd_asm::{AsmFault, assemble};
+use std::alloc::Global;
+use std::io::{Read, Write};
+
+/// The mark of extended numbering, which no count of segments may reach.
+const EXTENDED: usize = 0xffff;
+
+/// The greatest length of an object file, whose offsets are words.
+const MOST_BYTES: usize = 0xffff_ffff;
+
+/// Reads assembler source to its end and writes the object file of its image. Nothing is written before a fault of the
+/// source is known.
+pub fn asm<R: Read, W: Write>(
+    alloc: Global,
+    reader: &mut R,
+    writer: &mut W,
+) -> Result<(), CommandFault>
+    ensures { IfSome (R.remaining reader.old) (λ source.
+        AsmEnds result source (W.contents writer.old) (W.contents writer.new)) }
+{
+    let source = match read_whole(alloc, reader) {
+        Ok(source) => source,
+        Err(fault) => return Err(fault),
+    };
+    let file = match object_file(alloc, &source) {
+        Ok(file) => file,
+        Err(fault) => return Err(fault),
+    };
+    match write_whole(writer, &file) {
+        Ok(()) => Ok(()),
+        Err(error) => Err(CommandFault::Write(error)),
+    }
+}
+
+/// The object file of a source.
+fn object_file(alloc: Global, source: &[u8]) -> Result<Vec<u8>, CommandFault>
+    ensures { MatchResult result (λ file. IsObjectFile source.now file.items) (KeepsFromAssembling source.now) }
+{
+    let image = match assemble(alloc, source) {
+        Ok(image) => image,
+        Err(AsmFault::NoMemory) => return Err(CommandFault::NoMemory),
+        Err(fault) => {
+            let excerpt = Excerpt::of_line(alloc, source, line_of(fault))?;
+            return Err(CommandFault::Source(fault, excerpt));
+        }
+    };
+    if image.segments.len() >= EXTENDED {
+        return Err(CommandFault::ImageTooLarge);
+    }
+    let file = brd_elf::write(alloc, &image)?;
+    if file.len() > MOST_BYTES {
+        return Err(CommandFault::ImageTooLarge);
+    }
+    Ok(file)
+}
+
+/// The line that a fault is in, counted from 1.
+fn line_of(fault: AsmFault) -> usize
+    ensures { result ≡ faulty_line fault }
+{
+    match fault {
+        AsmFault::NoMemory => 1,
+        AsmFault::Syntax { line }
+        | AsmFault::UnknownName { line }
+        | AsmFault::Twice { line }
+        | AsmFault::Range { line }
+        | AsmFault::Misaligned { line }
+        | AsmFault::Overlap { line } => line,
+    }
+}

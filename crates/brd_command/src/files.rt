@@ -1,0 +1,59 @@
+//! The files of a command.
+
+ghost use Rattle.std.specs.Prelude.{IfOk, IfErr, Ok, Err};
+ghost use Rattle.brd_command.specs.Faults.{IsOfOpen};
+ghost use Rattle.brd_command.specs.Files.{AsmFilesEnd};
+
+use crate::asm_command::asm;
+use crate::fault::CommandFault;
+use std::alloc::Global;
+use std::io::{self, Read, Write};
+
+/// Files that are reached by their names.
+///
+/// The members `opened` and `created` relate the files before a call, the name, what the call gave, and the files after
+/// it. So a function that is generic over its files can say by its contract which files it opens and creates, and in
+/// which order.
+pub trait Files {
+    ghost use Rattle.std.specs.Prelude.{ℕ, List, Result};
+    ghost use Rattle.std.specs.declared.io.Error.{Error};
+
+    /// A file that is read.
+    type Input: Read + Drop;
+
+    /// A file that is written.
+    type Output: Write + Drop;
+
+    ghost opened: { Self → List ℕ → Result Self.Input Error → Self → Type 0 } = { λ _ _ _ _. Unit {0} };
+
+    ghost created: { Self → List ℕ → Result Self.Output Error → Self → Type 0 } = { λ _ _ _ _. Unit {0} };
+
+    /// Opens the file of that name, to be read.
+    fn open(&mut self, name: &str) -> io::Result<Self::Input>
+        ensures { opened self.old name.now result self.new };
+
+    /// Creates the file of that name, or empties it, to be written.
+    fn create(&mut self, name: &str) -> io::Result<Self::Output>
+        ensures { created self.old name.now result self.new };
+}
+
+/// Does `asm` on its files: SOURCE is opened, then OUT is created or emptied, then the source is read.
+pub fn asm_files<F: Files>(
+    alloc: Global,
+    files: &mut F,
+    source: &str,
+    out: &str,
+) -> Result<(), CommandFault>
+    ensures { AsmFilesEnd F.opened F.created F.Input.remaining F.Output.contents
+        files.old source.now out.now result files.new }
+{
+    let mut reader = match files.open(source) {
+        Ok(reader) => reader,
+        Err(error) => return Err(CommandFault::of_open(alloc, source, error)),
+    };
+    let mut writer = match files.create(out) {
+        Ok(writer) => writer,
+        Err(error) => return Err(CommandFault::of_open(alloc, out, error)),
+    };
+    asm(alloc, &mut reader, &mut writer)
+}

@@ -1,0 +1,82 @@
+//! Reading an input to its end.
+
+ghost use Rattle.std.specs.Prelude.{MatchResult};
+ghost use Rattle.brd_command.specs.Input.{IsWhole, KeepsFromReading};
+
+use crate::fault::CommandFault;
+use std::alloc::Global;
+use std::io::{ErrorKind, Read};
+
+/// How many bytes an input may have.
+const MOST_BYTES: usize = 134_217_728;
+
+/// How often an input is read at most.
+const MOST_READS: u32 = 268_435_456;
+
+/// All the bytes that a reader has left. It gives up past 134,217,728 bytes, and after 268,435,456 reads.
+pub fn read_whole<R: Read>(alloc: Global, reader: &mut R) -> Result<Vec<u8>, CommandFault>
+    ensures { MatchResult result (λ bytes. IsWhole (R.remaining reader.old) bytes.items)
+        (KeepsFromReading (R.remaining reader.old)) }
+{
+    read_within(alloc, reader, MOST_READS)
+}
+
+/// All the bytes that a reader has left. It gives up past 134,217,728 bytes, and after so many reads.
+fn read_within<R: Read>(
+    alloc: Global,
+    reader: &mut R,
+    most_reads: u32,
+) -> Result<Vec<u8>, CommandFault>
+    ensures { MatchResult result (λ bytes. IsWhole (R.remaining reader.old) bytes.items)
+        (KeepsFromReading (R.remaining reader.old)) }
+{
+    let mut bytes = Vec::new(alloc);
+    let mut piece = [0u8; 8192];
+    for _ in 0..most_reads {
+        match reader.read(piece.as_mut_slice()) {
+            Ok(0) => return Ok(bytes),
+            Ok(n) => {
+                if n > MOST_BYTES - bytes.len() {
+                    return Err(CommandFault::TooLong);
+                }
+                bytes.extend_from_slice(&piece[..n])?;
+            }
+            Err(error) => {
+                if error.kind() != ErrorKind::Interrupted {
+                    return Err(CommandFault::of_read(error));
+                }
+            }
+        }
+    }
+    Err(CommandFault::TooManyReads)
+}
+
+#[cfg(test)]
+mod tests {
+    use super::*;
+    use std::io;
+
+    /// Interrupts each read, and counts them.
+    #[derive(Drop)]
+    struct Busy {
+        reads: u32,
+    }
+
+    impl Read for Busy {
+        fn read(&mut self, _buf: &mut [u8]) -> io::Result<usize> {
+            self.reads = self.reads.wrapping_add(1);
+            Err(io::Error::from(ErrorKind::Interrupted))
+        }
+    }
+
+    #[test]
+    fn reads_end(rt: HostRuntime) {
+        for most_reads in [0, 1, 5, 300_000] {
+            let mut reader = Busy { reads: 0 };
+            let read = read_within(rt.alloc(), &mut reader, most_reads);
+            assert!(rt; matches!(read, Err(CommandFault::TooManyReads)));
+            assert_eq!(rt; reader.reads, most_reads);
+        }
+        assert_eq!(rt; MOST_READS, 268_435_456);
+    }
+}

@@ -1,0 +1,104 @@
+//! Readers and writers that go a byte at a time, count, and fail where they are told to.
+
+use std::alloc::Global;
+use std::io::{self, ErrorKind, Read, Write};
+
+/// Gives a byte a read. The read of this number fails, with this kind; or each read is interrupted once before it gives
+/// something.
+#[derive(Drop)]
+pub struct Bytewise<'a> {
+    pub left: &'a [u8],
+    pub reads: usize,
+    pub fails_at: usize,
+    pub kind: ErrorKind,
+    pub interrupts: bool,
+}
+
+impl<'a> Bytewise<'a> {
+    pub fn new(left: &'a [u8]) -> Self {
+        Bytewise {
+            left,
+            reads: 0,
+            fails_at: 0,
+            kind: ErrorKind::ConnectionReset,
+            interrupts: false,
+        }
+    }
+}
+
+impl<'a> Read for Bytewise<'a> {
+    fn read(&mut self, buf: &mut [u8]) -> io::Result<usize> {
+        self.reads = self.reads.wrapping_add(1);
+        if self.reads == self.fails_at {
+            return Err(io::Error::new(self.kind, "the reader's own words"));
+        }
+        if self.interrupts && self.reads % 2 == 1 {
+            return Err(io::Error::from(ErrorKind::Interrupted));
+        }
+        match (self.left.split_first(), buf.first_mut()) {
+            (Some((byte, rest)), Some(place)) => {
+                *place = *byte;
+                self.left = rest;
+                Ok(1)
+            }
+            _ => Ok(0),
+        }
+    }
+}
+
+/// Takes a byte a write. The write of this number fails, with this kind, or takes nothing; or each write is interrupted
+/// once before it takes something. A flush counts as a write.
+#[derive(Drop)]
+pub struct Taking {
+    pub taken: Vec<u8>,
+    pub writes: usize,
+    pub fails_at: usize,
+    pub kind: ErrorKind,
+    pub is_full: bool,
+    pub interrupts: bool,
+}
+
+impl Taking {
+    pub fn new(alloc: Global) -> Self {
+        Taking {
+            taken: Vec::new(alloc),
+            writes: 0,
+            fails_at: 0,
+            kind: ErrorKind::BrokenPipe,
+            is_full: false,
+            interrupts: false,
+        }
+    }
+
+    /// One more write, or flush.
+    fn count(&mut self) -> io::Result<()> {
+        self.writes = self.writes.wrapping_add(1);
+        if self.writes == self.fails_at {
+            return Err(io::Error::new(self.kind, "the writer's own words"));
+        }
+        Ok(())
+    }
+}
+
+impl Write for Taking {
+    fn write(&mut self, buf: &[u8]) -> io::Result<usize> {
+        self.count()?;
+        if self.is_full {
+            return Ok(0);
+        }
+        if self.interrupts && self.writes % 2 == 1 {
+            return Err(io::Error::from(ErrorKind::Interrupted));
+        }
+        match buf.first() {
+            Some(byte) => {
+                self.taken.push(*byte)?;
+                Ok(1)
+            }
+            None => Ok(0),
+        }
+    }
+
+    fn flush(&mut self) -> io::Result<()> {
+        self.count()
+    }
+}

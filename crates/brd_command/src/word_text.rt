@@ -1,0 +1,89 @@
+//! The text that `words` reads.
+
+ghost use Rattle.std.specs.Prelude.{◌≡◌, ◌-◌, ◌≤◌, length, MatchResult, IfOk, Ok};
+ghost use Rattle.std.specs.List.{prefix_len};
+ghost use Rattle.brd_text.specs.Hex.{hex_word_of};
+ghost use Rattle.brd_command.specs.Input.{most_bytes};
+ghost use Rattle.brd_command.specs.WordText.{in_run, word_or_fault, words_of_text, IsFaultOf};
+
+use brd_text::{hex_word, is_blank, line_after};
+use std::alloc::{AllocFailed, Global};
+use thiserror::Error;
+
+/// How many words there may be.
+const LIMIT: usize = 16_384;
+
+/// What is wrong with the text.
+#[derive(Clone, Copy, Debug, PartialEq, Eq, Error)]
+pub enum WordsFault {
+    /// A growth was refused.
+    #[error("out of memory")]
+    NoMemory,
+    /// Something in this line, counted from 1, isn't a word.
+    #[error("line {line}: a word must have eight hexadecimal digits")]
+    Syntax { line: usize },
+    /// There is one word more than may be.
+    #[error("there are more than 16,384 words")]
+    TooMany,
+}
+
+impl<T: Drop> From<AllocFailed<T>> for WordsFault {
+    ghost use Rattle.brd_command.specs.declared.word_text.WordsFault.TheVariants.{NoMemory};
+
+    ghost from_gives = { λ _ fault. fault ≡ NoMemory };
+
+    fn from(_e: AllocFailed<T>) -> Self {
+        WordsFault::NoMemory
+    }
+}
+
+/// The words of a text, or its first fault.
+pub fn parse_words(alloc: Global, text: &[u8]) -> Result<Vec<u32>, WordsFault>
+    requires { length text.now ≤ most_bytes }
+    ensures exact { MatchResult result (λ words. words_of_text text.now ≡ Ok words.items)
+        (IsFaultOf (words_of_text text.now)) }
+    ensures few { IfOk result (λ words. length words.items ≤ 16384) }
+{
+    let mut words = Vec::new(alloc);
+    let mut line = 1;
+    let mut left = text;
+    while let Some((byte, rest)) = left.split_first() {
+        if is_blank(*byte) {
+            line = line_after(line, *byte);
+            left = rest;
+        } else {
+            let (run, behind) = left.split_at(run_len(left));
+            words.push(checked_word(words.len(), line, run)?)?;
+            left = behind;
+        }
+    }
+    Ok(words)
+}
+
+/// The word of a run, where there is room for it.
+fn checked_word(count: usize, line: usize, run: &[u8]) -> Result<u32, WordsFault>
+    requires { count ≤ 16384 }
+    ensures { result ≡ word_or_fault (16384 - count) line (hex_word_of run.now) }
+{
+    match hex_word(run) {
+        None => Err(WordsFault::Syntax { line }),
+        Some(word) => {
+            if count == LIMIT {
+                return Err(WordsFault::TooMany);
+            }
+            Ok(word)
+        }
+    }
+}
+
+/// How many bytes come before the first blank.
+fn run_len(text: &[u8]) -> usize
+    ensures { result ≡ prefix_len in_run text.now }
+{
+    for (i, byte) in text.iter().enumerate() {
+        if is_blank(*byte) {
+            return i;
+        }
+    }
+    text.len()
+}

@@ -1,0 +1,79 @@
+//! The command `words`.
+
+ghost use Rattle.std.specs.Prelude.{◌≡◌, ◌≤◌, length, replicate, IfOk, IfSome};
+ghost use Rattle.brd_board.specs.Board.{after};
+ghost use Rattle.brd_board.specs.declared.event.Event.TheVariants.{Step};
+ghost use Rattle.brd_command.specs.Shown.{board_shown};
+ghost use Rattle.brd_command.specs.WordsCommand.{ShowsWords, WordsEnds};
+
+use crate::fault::CommandFault;
+use crate::input::read_whole;
+use crate::output::write_whole;
+use crate::shown::{show_context, show_fault};
+use crate::word_text::{WordsFault, parse_words};
+use brd_base::NoMemory;
+use brd_board::{Board, BootFault, Event};
+use std::alloc::Global;
+use std::io::{Read, Write};
+
+/// Reads words to the input's end, lets processor 1 of their board execute so many instructions, and writes task 1's
+/// context and the last fault. Nothing is written before a fault of the input is known.
+pub fn words<R: Read, W: Write>(
+    alloc: Global,
+    reader: &mut R,
+    writer: &mut W,
+    steps: u32,
+) -> Result<(), CommandFault>
+    ensures { IfSome (R.remaining reader.old) (λ input.
+        WordsEnds result input steps (W.contents writer.old) (W.contents writer.new)) }
+{
+    let text = match read_whole(alloc, reader) {
+        Ok(text) => text,
+        Err(fault) => return Err(fault),
+    };
+    let words = match parse_words(alloc, &text) {
+        Ok(words) => words,
+        Err(WordsFault::NoMemory) => return Err(CommandFault::NoMemory),
+        Err(fault) => return Err(CommandFault::Words(fault)),
+    };
+    let output = output_of(alloc, &words, steps)?;
+    match write_whole(writer, &output) {
+        Ok(()) => Ok(()),
+        Err(error) => Err(CommandFault::Write(error)),
+    }
+}
+
+/// What is written for these words.
+fn output_of(alloc: Global, words: &[u32], steps: u32) -> Result<Vec<u8>, NoMemory>
+    requires { length words.now ≤ 16384 }
+    ensures { IfOk result (λ output. ShowsWords words.now steps output.items) }
+{
+    let mut board = match Board::from_words(alloc, words) {
+        Ok(board) => board,
+        Err(BootFault::NoMemory) => return Err(NoMemory),
+        Err(_) => unreachable!(),
+    };
+    step_board(&mut board, steps);
+    shown_board(alloc, &board)
+}
+
+/// Lets processor 1 execute so many instructions.
+fn step_board(board: &mut Board, steps: u32)
+    ensures { board.new ≡ after board.old (replicate steps (Step 1)) }
+{
+    for _ in 0..steps {
+        let _ = board.event(Event::Step(1));
+    }
+}
+
+/// What is written of a board.
+fn shown_board(alloc: Global, board: &Board) -> Result<Vec<u8>, NoMemory>
+    ensures { IfOk result (λ output. output.items ≡ board_shown board.now) }
+{
+    let mut output = Vec::new(alloc);
+    if let Some(task) = board.task(1) {
+        show_context(alloc, &mut output, &task.context)?;
+    }
+    show_fault(alloc, &mut output, board.last_fault(1))?;
+    Ok(output)
+}
