@@ -1,5 +1,2 @@
-pub mod Bytes
-pub mod WordText
-pub mod Shown
-pub mod Excerpt
-pub mod Command
+pub mod End
+pub mod Usage

@@ -1,3 +1,0 @@
-pub mod WordTextLemmas
-pub mod InputLemmas
-pub mod ExcerptLemmas

@@ -1,8 +1,0 @@
--- What was passed has no separator.
-use Rattle.std.proofs.Common.{◌≡◌, ◌+◌, drop}
-use Rattle.std.specs.List.{prefix_len}
-use Rattle.brd_cli.specs.Bytes.{is_word_byte}
-use Rattle.brd_cli.proofs.word_text.run_len.Given as goal
-
-abbrev pub invariant-loop-i : goal.invariant-loop-i
-invariant-loop-i l = l.i + prefix_len is_word_byte (drop l.i l.text) ≡ prefix_len is_word_byte l.text

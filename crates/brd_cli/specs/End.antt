@@ -1,0 +1,32 @@
+-- How the program ends.
+use Rattle.std.specs.Prelude.{◌≡◌, ◌≢◌, ℕ, Result, Ok, Err}
+use Rattle.clap.specs.Words.{kind_of}
+use Rattle.clap.specs.declared.error.Error.{Error}
+use Rattle.clap.specs.declared.error.kind.ErrorKind.{ErrorKind}
+use Rattle.clap.specs.declared.error.kind.ErrorKind.TheVariants.{DisplayHelp, DisplayVersion, OutOfMemory}
+use Rattle.brd_command.specs.Faults.{status_of}
+use Rattle.brd_command.specs.declared.fault.CommandFault.TheVariants.{NoMemory}
+use Rattle.brd_cli.specs.declared.end.Stop.{Stop}
+use Rattle.brd_cli.specs.declared.end.Stop.TheVariants.{Fault, Usage}
+
+-- the status of a command line that isn't done: help that was asked for is no fault
+abbrev pub status_of_usage : ErrorKind → ℕ
+status_of_usage DisplayHelp = 0
+status_of_usage DisplayVersion = 0
+status_of_usage OutOfMemory = 3
+status_of_usage _ = 2
+
+-- the status that the program ends with
+abbrev pub status_of_end : Result Unit Stop → ℕ
+status_of_end (Ok done) = 0
+status_of_end (Err (Fault fault)) = status_of fault
+status_of_end (Err (Usage error)) = status_of_usage (kind_of error)
+
+-- the program has run out of memory
+abbrev pub IsWantOfMemory : Stop → Type 0
+IsWantOfMemory stop = stop ≡ Fault NoMemory
+
+-- a parse that failed: of want of memory, or of the command line
+abbrev pub IsStopOf : Error → Stop → Type 0
+IsStopOf error (Fault fault) = (kind_of error ≡ OutOfMemory) × (fault ≡ NoMemory)
+IsStopOf error (Usage e) = (kind_of error ≢ OutOfMemory) × (e ≡ error)

@@ -1,0 +1,74 @@
+//! The command line.
+
+ghost use Rattle.std.specs.Prelude.{codes};
+ghost use Rattle.clap.specs.Words.{found_of, first_value, subcommand_name_of};
+ghost use Rattle.brd_cli.specs.Usage.{IsNamed, IsAsmOf};
+
+use brd_command::Request;
+use clap::{Arg, ArgAction, ArgMatches, Command, Error};
+use std::alloc::Global;
+
+/// What the program takes: a command and its arguments.
+pub fn board_command<'a>(alloc: Global) -> Result<Command<'a>, Error> {
+    let board = Command::new(alloc, "board")
+        .about("An emulated MIPS32 board for real-time software")
+        .subcommand_required(true)
+        .subcommand(words_command(alloc)?)?
+        .subcommand(asm_command(alloc)?)?;
+    Ok(board)
+}
+
+/// What `words` takes.
+fn words_command<'a>(alloc: Global) -> Result<Command<'a>, Error> {
+    let steps = Arg::new(alloc, "STEPS")
+        .required(true)
+        .action(ArgAction::Set)
+        .value_parser(clap::value_parser!(u32).range(0..=1_000_000))
+        .help("How many instructions processor 1 executes, 0 to 1,000,000");
+    let command = Command::new(alloc, "words")
+        .about("Runs the words that standard input has in hexadecimal, and prints the registers")
+        .arg(steps)?;
+    Ok(command)
+}
+
+/// What `asm` takes.
+fn asm_command<'a>(alloc: Global) -> Result<Command<'a>, Error> {
+    let source = Arg::new(alloc, "SOURCE")
+        .required(true)
+        .action(ArgAction::Set)
+        .help("A file of assembler source");
+    let out = Arg::new(alloc, "OUT")
+        .required(true)
+        .action(ArgAction::Set)
+        .help("Where the object file goes, an ELF32 executable");
+    let command = Command::new(alloc, "asm")
+        .about("Assembles a source to an object file")
+        .arg(source)?
+        .arg(out)?;
+    Ok(command)
+}
+
+/// What a command line asks for. `None` where a command or an argument is missing, which `clap` doesn't let through.
+pub fn request_of<'a>(matches: &ArgMatches<'a>) -> Option<Request<'a>>
+    ensures { IsNamed (subcommand_name_of matches.now) result }
+{
+    match matches.subcommand() {
+        Some(("words", of_words)) => {
+            let steps = of_words.get_one::<u32>("STEPS")?;
+            Some(Request::Words { steps })
+        }
+        Some(("asm", of_asm)) => asm_request(of_asm),
+        _ => None,
+    }
+}
+
+/// The request of `asm SOURCE OUT`.
+fn asm_request<'a>(arguments: &ArgMatches<'a>) -> Option<Request<'a>>
+    ensures { IsAsmOf (first_value (found_of arguments.now) (codes "SOURCE"))
+        (first_value (found_of arguments.now) (codes "OUT")) result }
+{
+    match (arguments.get_str("SOURCE"), arguments.get_str("OUT")) {
+        (Some(source), Some(out)) => Some(Request::Asm { source, out }),
+        _ => None,
+    }
+}
