@@ -1,10 +1,7 @@
-//! How fast the board runs: `board_bench EVENTS` does so many events of two small loops and prints millions of instructions a second, beside a bare loop of about
-//! the same work. Without EVENTS it does 16,000 of each and prints how often the loops were gone through.
+//! How fast the board runs: `board_bench EVENTS` does so many events of two small loops and prints millions of
+//! instructions a second, beside a bare loop of about the same work. Without EVENTS it does 16,000 of each and prints
+//! how often the loops were gone through.
 #![tactic(auto)]
-
-ghost use Rattle.std.specs.Prelude.{◌≡◌, ◌≤◌, replicate};
-ghost use Rattle.brd_board.specs.Board.{after};
-ghost use Rattle.brd_board.specs.declared.event.Event.TheVariants.{Step};
 
 use brd_board::{Board, Event, Report};
 use brd_isa::Register;
@@ -98,9 +95,7 @@ fn measure_bare(rt: &HostRuntime, events: u64) -> anyhow::Result<()> {
 }
 
 /// Does so many steps of processor 1, and counts those that ran an instruction.
-fn run(board: &mut Board, events: u64) -> u64
-    ensures { board.new ≡ after board.old (replicate events (Step 1)) }
-{
+fn run(board: &mut Board, events: u64) -> u64 {
     let mut ran = 0u64;
     for _ in 0..events {
         if let Report::Ran(_) = board.event(Event::Step(1)) {
@@ -118,7 +113,8 @@ fn count_of(board: &Board) -> u32 {
     }
 }
 
-/// About the plain loop's work as a loop of this program. Each turn's place in memory depends on the turn before, so that no turns are done at once.
+/// About the plain loop's work as a loop of this program. Each turn's place in memory depends on the turn before, so
+/// that no turns are done at once.
 fn bare_loop(turns: u64) -> u32 {
     let mut memory = [0u32; 64];
     let mut count = 0u32;

@@ -2,8 +2,6 @@
 //! `config_bench MEBIBYTES`, 1 to 64, prints times too.
 #![tactic(auto)]
 
-ghost use Rattle.std.specs.Prelude.{◌≡◌, ◌*◌, ◌≤◌, nat_le, if◌then◌else◌};
-
 use brd_config::{Config, ConfigFault, parse};
 use std::alloc::{AllocError, Global};
 use std::time::Instant;
@@ -60,10 +58,8 @@ fn small(rt: &(impl Print + AllocGlobal)) -> io::Result<()> {
 }
 
 /// How many bytes a text of so many mebibytes has, of no more than 64.
-fn size_of(mebibytes: usize) -> usize
-    ensures { result ≡ 1048576 * (if nat_le mebibytes 64 then mebibytes else 64) }
-{
-    1_048_576 * if mebibytes <= 64 { mebibytes } else { 64 }
+fn size_of(mebibytes: usize) -> usize {
+    1_048_576 * mebibytes.min(64)
 }
 
 fn timed(rt: &(impl Print + AllocGlobal + std::rt::Clock), mebibytes: usize) -> io::Result<()> {

