@@ -1,7 +1,10 @@
 # board: an emulated MIPS32 board for real-time software, proved. The only tool needed is Rattle's `rt`.
 BOARD = build/board
 
-.PHONY: board demo test bench clean
+# The crates whose wrong bodies `make attack` tries (none: all), as in `make attack CRATES="brd_exec brd_isa"`.
+CRATES =
+
+.PHONY: board demo test attack gate-times bench clean
 
 # Proves what has changed and leaves the program at build/board.
 board:
@@ -13,9 +16,17 @@ board:
 demo: board
 	$(BOARD) words 4 < examples/delay_slot.words
 
-# The whole gate: every proof from nothing, the must-fail edits, all tests and the command-line tests.
+# The whole gate: every proof from nothing, the wrong bodies of must-fail/, all tests and the command-line tests.
 test:
 	tests/run
+
+# Every wrong body, those of wrong/ too, on a scratch copy; ends in 'N refused, M let through'.
+attack:
+	tests/attack $(CRATES)
+
+# The whole gate, and behind it the processor minutes of each part, which docs/GATE.md gets too if all passed.
+gate-times:
+	tests/gate_time --write
 
 # Speed, on this machine: millions of instructions a second.
 bench:

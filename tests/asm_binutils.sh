@@ -1,6 +1,7 @@
 #!/bin/sh
-# Assembles one source with the board's assembler and with GNU as and ld (Debian: binutils-mips-linux-gnu), and compares the bytes.
-# It is the source of crates/brd_asm/src/tests/every.rt, of every mnemonic, one-word form and directive.
+# Assembles one source with the board's assembler and with GNU as and ld (Debian: binutils-mips-linux-gnu), and
+# compares the bytes. It is the source of crates/brd_asm/src/tests/every.rt, of every mnemonic, one-word form and
+# directive.
 #
 #   tests/asm_binutils.sh [BOARD]       BOARD: the program, by default build/board
 #

@@ -1,8 +1,9 @@
 #!/bin/bash
 # Compares docs/INSTRUCTIONS.md with tests/encodings.table: tests/instructions_doc.sh
 #
-# From a mnemonic's columns Operands and Encoding its row of the table is put together: the word with the table's operands, the bits that have to be as they are,
-# the bits that are ignored. A mnemonic that only one of the two has fails too. One line is printed; the status is 1 if anything differs.
+# From a mnemonic's columns Operands and Encoding its row of the table is put together: the word with the table's
+# operands, the bits that have to be as they are, the bits that are ignored. A mnemonic that only one of the two has
+# fails too. One line is printed; the status is 1 if anything differs.
 set -u
 top=$(cd "$(dirname "$0")/.." && pwd)
 document=$top/docs/INSTRUCTIONS.md

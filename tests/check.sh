@@ -1,0 +1,77 @@
+# shellcheck shell=bash
+# What the tests of every command share: each tests/NAME.sh reads this file, is run with the program, and ends with
+# `summary`. $board is the program, $work a folder for files, $work/nothing an empty one.
+set -u
+[ $# = 1 ] || { echo "use: $0 PROGRAM" >&2; exit 2; }
+board=$(realpath -- "$1") || exit 2
+cd "$(dirname "${BASH_SOURCE[0]}")/.." || exit 2
+work=$(mktemp -d) || exit 2
+trap 'rm -rf "$work"' EXIT
+: > "$work/nothing"
+passed=0
+failed=0
+
+# pass, fail NAME WHAT: counts a test.
+pass() {
+    passed=$((passed + 1))
+}
+fail() {
+    failed=$((failed + 1))
+    echo "FAILED $1: $2"
+}
+
+# verdict NAME WRONG: counts a test that passed if nothing is wrong.
+verdict() {
+    if [ -z "$2" ]; then pass; else fail "$1" "${2#; }"; fi
+}
+
+# differs STATUS OUTPUT-FILE GOT-STATUS: what is wrong with the status and the output of a run that left $work/out.
+differs() {
+    [ "$3" = "$1" ] || echo -n "; status $3, wanted $1"
+    cmp -s "$work/out" "$2" || echo -n "; standard output differs"
+}
+
+# check NAME STATUS OUTPUT-FILE ERROR GOT-STATUS: compares a run that left $work/out and $work/err. ERROR is all of
+# standard error, one line, or nothing.
+check() {
+    local wrong
+    wrong=$(differs "$2" "$3" "$5")
+    printf '%s' "${4:+$4$'\n'}" > "$work/wanted-err"
+    cmp -s "$work/err" "$work/wanted-err" || wrong="$wrong; standard error is '$(head -c 600 "$work/err")', wanted '$4'"
+    verdict "$1" "$wrong"
+}
+
+# check_usage NAME FIRST USAGE GOT-STATUS: compares a run whose command line is wrong. FIRST is the first line of
+# standard error, USAGE its line of the usage, or nothing where it has none; nothing is on standard output.
+check_usage() {
+    local wrong
+    wrong=$(differs 2 "$work/nothing" "$4")
+    [ "$(head -n 1 "$work/err")" = "$2" ] || wrong="$wrong; the first line isn't '$2'"
+    [ "$(grep '^Usage' "$work/err")" = "$3" ] || wrong="$wrong; the usage isn't '$3'"
+    [ "$(tail -n 1 "$work/err")" = "For more information, try '--help'." ] || wrong="$wrong; another last line"
+    verdict "$1" "${wrong:+$wrong: $(head -c 600 "$work/err")}"
+}
+
+# check_script NAME COMMAND..: runs a test of its own, which prints one line for each thing that it tried. One that is
+# skipped, since a tool is missing, says so and isn't counted.
+check_script() {
+    local name=$1 said
+    shift
+    if said=$("$@" 2>&1); then
+        [[ "$said" == skipped:* ]] || pass
+        echo "$said"
+    else
+        fail "$name" "$said"
+    fi
+}
+
+# What this system says of an error: its text depends on the C library, so it is taken from a run of `cat`. The number
+# behind it is Linux's.
+is_missing="$(LC_ALL=C cat "$work/nosuch" 2>&1 | sed 's/.*: //') (os error 2)"
+is_directory="$(LC_ALL=C cat / 2>&1 | sed 's/.*: //') (os error 21)"
+is_full="$(echo x | LC_ALL=C cat 2>&1 > /dev/full | sed 's/.*: //') (os error 28)"
+
+summary() {
+    echo "$passed passed, $failed failed"
+    [ "$failed" -eq 0 ]
+}

@@ -1,0 +1,24 @@
+#!/bin/bash
+# The tests of what the program doesn't use yet, by the programs of other crates that `rt ci` leaves: configuration
+# texts and object files. tests/libraries.sh PROGRAM (which it doesn't run).
+. "$(dirname "$0")/check.sh"
+. tests/growths.sh
+rows=crates/config_rows/out/config_rows
+elf=crates/elf_bench/out/elf_bench
+
+# The texts of the table, a few at a time: a growth that is refused ends the program.
+if [ -x "$rows" ]; then
+    sed -n '60,90p' crates/config_rows/stdin > "$work/in"
+    "$rows" < "$work/in" > "$work/wanted"
+    refuse_each "configuration texts" 1 "*[Mm]emory*" "$rows"
+fi
+if [ -x "$elf" ]; then
+    : > "$work/in"
+    "$elf" crates/elf_bench/data/firmware.elf > "$work/wanted"
+    refuse_each "an object file" 1 "*[Mm]emory*" "$elf" crates/elf_bench/data/firmware.elf
+fi
+
+# Object files of GNU as and ld.
+check_script "object files of GNU ld" tests/elf_binutils.sh
+
+summary
