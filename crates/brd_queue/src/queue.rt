@@ -1,7 +1,7 @@
 //! A queue of tasks.
 
-ghost use Rattle.std.specs.Prelude.{◌≡◌, ◌<◌, ◌≤◌, [], false, insert, length, remove, IfNone, IfSome, find, is_some, ◌==◌};
-ghost use Rattle.brd_queue.specs.Queue.{AreApart, has, entered, behind_equals, without, rotated, first_of};
+ghost use Rattle.std.specs.Prelude.{◌≡◌, ◌<◌, ◌≤◌, ℕ, [], false, insert, length, remove, IfNone, IfSome, find, is_some, ◌==◌};
+ghost use Rattle.brd_queue.specs.Queue.{AreApart, has, priority_in, entered, behind_equals, without, rotated, first_of};
 
 use crate::entry::{Entry, Order};
 use arrayvec::ArrayVec;
@@ -44,7 +44,8 @@ impl Queue {
 
     /// The entry that is served next.
     pub fn first(&self) -> Option<Entry>
-        ensures { result ≡ first_of self.now }
+        ensures is { result ≡ first_of self.now }
+        ensures small { IfSome result (λ entry. entry.id < 256) }
     {
         self.entries.as_slice().first().copied()
     }
@@ -87,7 +88,8 @@ impl Queue {
 
     /// Puts the first entry of a priority behind its equals.
     pub fn rotate(&mut self, priority: u8)
-        ensures { self.new ≡ rotated priority self.old }
+        ensures is { self.new ≡ rotated priority self.old }
+        ensures stay { (id : ℕ) → priority_in id self.new ≡ priority_in id self.old }
     {
         if let Some(entry) = first_with(self.entries.as_slice(), priority) {
             let _ = self.leave(entry.id);
