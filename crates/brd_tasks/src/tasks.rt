@@ -1,0 +1,308 @@
+//! The tasks of a board.
+
+ghost use Rattle.std.specs.Prelude.{◌≡◌, ◌<◌, Some, IsSome, IfSome, IfOk, All, length, find, ◌==◌, []};
+ghost use Rattle.brd_tasks.specs.Status.{blocked, suspended, resumed};
+ghost use Rattle.brd_tasks.specs.Tasks.{
+  task_at,
+  context_at,
+  made,
+  placed,
+  patched,
+  with_context,
+  starts,
+  activated,
+  ended,
+  through,
+  released_with,
+  changed,
+  with_priority,
+  on_processor,
+  noted,
+  with_wakeup,
+  without_activation,
+  turned,
+  top_of,
+  view_of,
+};
+ghost use Rattle.brd_tasks.specs.Ready.{IsProcessor, IsRequest, IsSetup, IsTask, IsRow, IsConsistent};
+ghost use Rattle.std.specs.Borrow.{sem};
+ghost use Rattle.brd_tasks.specs.Lending.{LendsContext};
+
+use crate::lists::{enter, leave};
+use crate::making::{contexts_of, empty_lists, rows_of};
+use crate::reply::answer;
+use crate::status::{Status, TaskId, WaitReason};
+use crate::task::{Request, Task, TaskSetup, TaskView};
+use brd_base::NoMemory;
+use brd_exec::Context;
+use brd_queue::Queue;
+use std::alloc::Global;
+use std::marker::Model;
+
+/// The tasks by their numbers, their contexts, and which are ready on each processor. Only `new` takes memory.
+#[derive(Drop)]
+pub struct Tasks {
+    rows: Vec<Option<Task>>,
+    contexts: Vec<Context>,
+    ready: Vec<Queue>,
+}
+
+impl Model for Tasks {
+    ghost use Rattle.brd_tasks.specs.Tasks.{TaskTable};
+    ghost use Rattle.brd_tasks.specs.Ready.{IsConsistent};
+
+    ghost Value = { TaskTable };
+
+    ghost view = { λ t. record { rows = t.rows.items; contexts = t.contexts.items; ready = t.ready.items } };
+
+    ghost invariant = { λ t. IsConsistent (record { rows = t.rows.items; contexts = t.contexts.items; ready = t.ready.items }) };
+}
+
+impl Tasks {
+    /// The tasks of these setups, none of them started. Of setups with one ID the first counts.
+    pub fn new(alloc: Global, setups: &[TaskSetup]) -> Result<Tasks, NoMemory>
+        requires { All IsSetup setups.now }
+        ensures { IfOk result (λ tasks. tasks ≡ made setups.now) }
+    {
+        Ok(Tasks {
+            rows: rows_of(alloc, setups)?,
+            contexts: contexts_of(alloc, setups)?,
+            ready: empty_lists(alloc)?,
+        })
+    }
+
+    /// The task of a number, where there is one.
+    pub fn task(&self, id: TaskId) -> Option<Task>
+        ensures is { result ≡ task_at self.now id }
+        ensures well { IsRow result }
+    {
+        if (id as usize) < self.rows.len() {
+            return self.rows[id as usize];
+        }
+        None
+    }
+
+    /// What is always true of tasks, for the proofs of those that hold them.
+    pub fn are_consistent(&self)
+        ensures { IsConsistent self.now }
+    {
+        let _ = &self.rows;
+    }
+
+    /// The task of a number as it stands. `due` is None: when a wait ends is kept elsewhere.
+    pub fn view(&self, id: TaskId) -> Option<TaskView>
+        ensures { result ≡ view_of self.now id }
+    {
+        let task = self.task(id)?;
+        Some(TaskView {
+            state: task.status.state(),
+            priority: task.priority,
+            cpu: task.cpu,
+            waiting: task.status.waiting(),
+            due: None,
+            activations: if task.activation.is_some() { 1 } else { 0 },
+            wakeups: if task.wakeup { 1 } else { 0 },
+            context: self.contexts[id as usize],
+        })
+    }
+
+    /// The ready task of a processor that runs next.
+    pub fn top(&self, cpu: u8) -> Option<TaskId>
+        ensures is { result ≡ top_of self.now cpu }
+        ensures small { IfSome result (λ id. id < 256) }
+    {
+        if (cpu as usize) >= self.ready.len() {
+            return None;
+        }
+        let first = self.ready[cpu as usize].first()?;
+        Some(first.id)
+    }
+
+    /// Starts a dormant task by a request. Any other keeps the request until it ends, in the place of one that it kept before.
+    pub fn activate(&mut self, id: TaskId, request: Request)
+        requires { IsRequest request }
+        ensures { self.new ≡ activated self.old id request }
+    {
+        let Some(task) = self.task(id) else { return };
+        if task.status.is_dormant() {
+            self.start(id, request.processor(task), task);
+            return;
+        }
+        self.patch(
+            id,
+            Task {
+                activation: Some(request),
+                ..task
+            },
+        );
+    }
+
+    /// Ends a task. It starts again where a request was queued, else it is dormant, and keeps its context, priority and processor.
+    pub fn end(&mut self, id: TaskId)
+        ensures { self.new ≡ ended self.old id }
+    {
+        let Some(task) = self.task(id) else { return };
+        let Some(request) = task.activation else {
+            self.place(
+                id,
+                Task {
+                    status: Status::Dormant,
+                    wakeup: false,
+                    ..task
+                },
+            );
+            return;
+        };
+        self.start(id, request.processor(task), task);
+    }
+
+    /// A ready task begins to wait.
+    pub fn block(&mut self, id: TaskId, reason: WaitReason)
+        ensures { self.new ≡ through (blocked reason) self.old id }
+    {
+        let Some(task) = self.task(id) else { return };
+        let Some(status) = task.status.blocked(reason) else {
+            return
+        };
+        self.place(id, Task { status, ..task });
+    }
+
+    /// Ends the wait of a task, and answers its service call: $v0 takes the answer, $v1 the second result, if there is one.
+    pub fn release(&mut self, id: TaskId, code: u32, second: Option<u32>)
+        ensures { self.new ≡ released_with self.old id code second }
+    {
+        let Some(task) = self.task(id) else { return };
+        let Some(status) = task.status.released() else {
+            return
+        };
+        self.place(id, Task { status, ..task });
+        answer(&mut self.contexts[id as usize], code, second);
+    }
+
+    /// Suspends a ready or waiting task.
+    pub fn suspend(&mut self, id: TaskId)
+        ensures { self.new ≡ through suspended self.old id }
+    {
+        let Some(task) = self.task(id) else { return };
+        let Some(status) = task.status.suspended() else {
+            return
+        };
+        self.place(id, Task { status, ..task });
+    }
+
+    /// Resumes a suspended task.
+    pub fn resume(&mut self, id: TaskId)
+        ensures { self.new ≡ through resumed self.old id }
+    {
+        let Some(task) = self.task(id) else { return };
+        let Some(status) = task.status.resumed() else {
+            return
+        };
+        self.place(id, Task { status, ..task });
+    }
+
+    /// Gives a task another priority. One that is ready comes behind its equals, also where it has that priority already.
+    pub fn set_priority(&mut self, id: TaskId, priority: u8)
+        ensures { self.new ≡ changed (with_priority priority) self.old id }
+    {
+        let Some(task) = self.task(id) else { return };
+        self.place(id, Task { priority, ..task });
+    }
+
+    /// Assigns a task to another processor. One that is ready comes behind its equals there.
+    pub fn migrate(&mut self, id: TaskId, cpu: u8)
+        requires { IsProcessor cpu }
+        ensures { self.new ≡ changed (on_processor cpu) self.old id }
+    {
+        let Some(task) = self.task(id) else { return };
+        self.place(id, Task { cpu, ..task });
+    }
+
+    /// Queues a wake-up of a task, or takes it back. A dormant task has none.
+    pub fn set_wakeup(&mut self, id: TaskId, queued: bool)
+        ensures { self.new ≡ noted (with_wakeup queued) self.old id }
+    {
+        let Some(task) = self.task(id) else { return };
+        let wakeup = queued && !task.status.is_dormant();
+        self.patch(id, Task { wakeup, ..task });
+    }
+
+    /// Takes the queued request of a task back.
+    pub fn clear_activation(&mut self, id: TaskId)
+        ensures { self.new ≡ noted without_activation self.old id }
+    {
+        let Some(task) = self.task(id) else { return };
+        self.patch(
+            id,
+            Task {
+                activation: None,
+                ..task
+            },
+        );
+    }
+
+    /// Puts the first ready task of a priority on a processor behind its equals.
+    pub fn rotate(&mut self, cpu: u8, priority: u8)
+        requires { IsProcessor cpu }
+        ensures { self.new ≡ turned self.old cpu priority }
+    {
+        self.ready[cpu as usize].rotate(priority);
+    }
+
+    /// Gives a task another context.
+    pub fn put_context(&mut self, id: TaskId, context: Context)
+        requires { id < 256 }
+        ensures { self.new ≡ with_context self.old id context }
+    {
+        self.contexts[id as usize] = context;
+    }
+
+    /// The context of a task.
+    pub fn context(&self, id: TaskId) -> &Context
+        requires { id < 256 }
+        ensures { result.now ≡ context_at self.now id }
+    {
+        &self.contexts[id as usize]
+    }
+
+    /// The context of a task, to be changed where it lies.
+    pub fn context_mut(&mut self, id: TaskId) -> &mut Context
+        requires { id < 256 }
+        ensures* writes_back { sem 𝓛 (LendsContext self.entry id result) }
+        ensures value { result.now ≡ context_at self.old id }
+    {
+        &mut self.contexts[id as usize]
+    }
+
+    /// Starts a task on a processor.
+    fn start(&mut self, id: TaskId, cpu: u8, task: Task)
+        requires known { IsSome (task_at self.old id) }
+        requires processor { IsProcessor cpu }
+        ensures { self.new ≡ starts self.old id cpu task }
+    {
+        self.place(id, task.started(cpu));
+        self.contexts[id as usize] = task.setup.opening();
+    }
+
+    /// Writes a task, and puts it behind its equals where it is ready.
+    fn place(&mut self, id: TaskId, task: Task)
+        requires known { IsSome (task_at self.old id) }
+        requires well { IsTask task }
+        ensures { self.new ≡ placed self.old id task }
+    {
+        let old = self.task(id);
+        leave(&mut self.ready, id, old);
+        self.rows[id as usize] = Some(task);
+        enter(&mut self.ready, id, task);
+    }
+
+    /// Writes a task that stays where it is.
+    fn patch(&mut self, id: TaskId, task: Task)
+        requires known { IsSome (task_at self.old id) }
+        requires same { IfSome (task_at self.old id) (λ old. (task.status ≡ old.status) × (task.cpu ≡ old.cpu) × (task.priority ≡ old.priority)) }
+        requires well { IsTask task }
+        ensures { self.new ≡ patched self.old id task }
+    {
+        self.rows[id as usize] = Some(task);
+    }
+}
