@@ -1,0 +1,4 @@
+pub mod BitLemmas
+pub mod LineLemmas
+pub mod DispatchLemmas
+pub mod MakingLemmas

@@ -1,0 +1,12 @@
+-- Interrupt lines.
+use Rattle.std.proofs.Common.{◌≡◌, ℕ, ◌+◌, List, [], ◌∷◌, refl, arith}
+use Rattle.std.specs.Prelude.{Bool, true, false, ◌&&◌, if◌then◌else◌, Option, None, Some}
+use Rattle.std.proofs.lemmas.Bool.Decides.{nat_tests}
+use Rattle.brd_kernel.specs.declared.processor.Line.{Line}
+use Rattle.brd_kernel.specs.Kernel.{is_handled_by, pending_from}
+use Rattle.brd_kernel.specs.Always.{AreQuiet}
+
+-- where no line is pending, none is for a processor
+pub none_pending : (cpu n : ℕ) (lines : List Line) → AreQuiet lines → pending_from cpu n lines ≡ None
+none_pending cpu n [] quiet = refl
+none_pending cpu n (line ∷ lines) quiet = grind (arith, nat_tests, quiet.0, none_pending cpu (n + 1) lines quiet.1)

@@ -1,0 +1,11 @@
+pub mod Answer
+pub mod Kernel
+pub mod Dispatch
+pub mod Row
+pub mod Services
+pub mod Always
+pub mod Lending
+pub mod Making
+pub use Rattle.brd_tasks.specs.Tasks
+pub use Rattle.brd_tasks.specs.Status
+pub use Rattle.brd_exec.specs.State

@@ -1,0 +1,31 @@
+-- The kernel as it is made, before any task has been started.
+use Rattle.std.specs.Prelude.{ℕ, ◌<◌, nat_lt, nat_le, Bool, false, ◌&&◌, if◌then◌else◌, List, [], map, replicate, Option, None, Some}
+use Rattle.std.specs.List.{range_with_len}
+use Rattle.brd_tasks.specs.Tasks.{made, no_context}
+use Rattle.brd_tasks.specs.declared.task.TaskSetup.{TaskSetup}
+use Rattle.brd_kernel.specs.declared.processor.Processor.{Processor}
+use Rattle.brd_kernel.specs.declared.processor.Handler.{Handler}
+use Rattle.brd_kernel.specs.Kernel.{KernelState, idle, quiet}
+
+-- the processor of a number on a board that has so many, counted from 1
+abbrev pub idle_one : ℕ → ℕ → Option Processor
+idle_one processors cpu = if nat_le 1 cpu && nat_le cpu processors then Some idle else None
+
+-- those of the numbers below one
+unfoldable pub idle_ones : ℕ → ℕ → List (Option Processor)
+idle_ones processors count = map (idle_one processors) (range_with_len 0 count)
+
+-- a line without a handler
+abbrev pub no_handler : Option Handler
+no_handler = None
+
+abbrev pub made_kernel : ℕ → List TaskSetup → KernelState
+made_kernel processors setups = record {
+  off = false;
+  count = 0;
+  tasks = made setups;
+  processors = idle_ones processors 9;
+  handler_contexts = replicate 9 no_context;
+  lines = replicate 32 (quiet no_handler);
+  console = [];
+}

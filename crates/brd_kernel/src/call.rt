@@ -1,0 +1,95 @@
+//! Service calls, and how they are answered.
+
+ghost use Rattle.std.specs.Prelude.{◌≡◌};
+ghost use Rattle.brd_kernel.specs.Answer.{code_of};
+
+/// A service call with its arguments, as they are in the registers.
+#[derive(Clone, Copy, Debug, PartialEq, Eq)]
+pub enum Call {
+    /// Starts a task, or queues a request to.
+    ActTsk(u32),
+    /// Takes queued requests back.
+    CanAct(u32),
+    /// Ends the caller.
+    ExtTsk,
+    /// Ends another task.
+    TerTsk(u32),
+    /// Gives a task a priority.
+    ChgPri(u32, u32),
+    /// Tells a task's priority.
+    GetPri(u32),
+    /// Tells the caller's processor.
+    GetPid,
+    /// Tells the caller's number.
+    GetTid,
+    /// Waits for a wake-up.
+    SlpTsk,
+    /// Wakes a task up.
+    WupTsk(u32),
+    /// Takes queued wake-ups back.
+    CanWup(u32),
+    /// Ends a task's wait.
+    RelWai(u32),
+    /// Suspends a task.
+    SusTsk(u32),
+    /// Resumes a task.
+    RsmTsk(u32),
+    /// Writes a byte to the console.
+    PutChr(u32),
+    /// Turns the board off.
+    ExtKer,
+}
+
+/// Why a service call isn't done, or a wait ended without what was waited for (uITRON 4.0 specification, "Main Error Codes").
+#[derive(Clone, Copy, Debug, PartialEq, Eq)]
+pub enum Ercd {
+    /// E_RSFN: there is no such call.
+    Rsfn,
+    /// E_PAR: an argument is out of its range.
+    Par,
+    /// E_ID: a number isn't one of an object.
+    Id,
+    /// E_CTX: the call can't be made from here.
+    Ctx,
+    /// E_ILUSE: the call can't be made of this object.
+    Iluse,
+    /// E_OBJ: the object isn't in a state for it.
+    Obj,
+    /// E_NOEXS: there is no such object.
+    Noexs,
+    /// E_QOVR: nothing more can be queued.
+    Qovr,
+    /// E_RLWAI: the wait was ended by rel_wai.
+    Rlwai,
+    /// E_TMOUT: what was asked for didn't come in time.
+    Tmout,
+}
+
+impl Ercd {
+    /// The word that a caller finds in $v0.
+    pub fn word(self) -> u32
+        ensures { result ≡ code_of self }
+    {
+        match self {
+            Ercd::Rsfn => 0xffff_fff6,
+            Ercd::Par => 0xffff_ffef,
+            Ercd::Id => 0xffff_ffee,
+            Ercd::Ctx => 0xffff_ffe7,
+            Ercd::Iluse => 0xffff_ffe4,
+            Ercd::Obj => 0xffff_ffd7,
+            Ercd::Noexs => 0xffff_ffd6,
+            Ercd::Qovr => 0xffff_ffd5,
+            Ercd::Rlwai => 0xffff_ffcf,
+            Ercd::Tmout => 0xffff_ffce,
+        }
+    }
+}
+
+/// What a service call writes to its caller's registers.
+#[derive(Clone, Copy, Debug, PartialEq, Eq)]
+pub enum Reply {
+    /// $v0, and $v1 where the call has a second result; it has none where it is refused.
+    Answer(u32, Option<u32>),
+    /// Nothing: the call doesn't return, or not yet.
+    Silent,
+}

@@ -1,0 +1,395 @@
+//! The kernel.
+
+ghost use Rattle.std.specs.Prelude.{◌≡◌, ◌<◌, ◌+◌, ◌==◌, ◌&&◌, ℕ, if◌then◌else◌, All, IfOk, IfSome, is_some, nat_lt, option_copied};
+ghost use Rattle.brd_tasks.specs.Ready.{IsProcessor, IsSetup};
+ghost use Rattle.brd_tasks.specs.Tasks.{activated, context_at, view_of};
+ghost use Rattle.brd_tasks.specs.declared.task.Request.TheVariants.{Assigned};
+ghost use Rattle.brd_kernel.specs.Making.{made_kernel};
+ghost use Rattle.brd_kernel.specs.Kernel.{
+  with_tasks,
+  processor_at,
+  running_on,
+  context_on,
+  handler_context_at,
+  with_context_on,
+  deliverable,
+  raised,
+  line_at,
+  accepted,
+  accepted_line,
+  ended_by_fault,
+  last_count,
+  ticked,
+  standing_on,
+  executed,
+  Executes,
+};
+ghost use Rattle.brd_kernel.specs.Services.{unmarked_on};
+ghost use Rattle.brd_kernel.specs.Always.{IsIdOrNone};
+ghost use Rattle.brd_kernel.specs.Dispatch.{dispatched, dispatched_on, is_same_task, has_changed};
+ghost use Rattle.std.specs.Int.{bit_at};
+ghost use Rattle.std.specs.Borrow.{sem};
+ghost use Rattle.brd_kernel.specs.Lending.{LendsHandlerContext, LendsTaskContext};
+
+mod serve;
+
+use crate::lines::{entry_of, first_pending, is_any_pending};
+use crate::making::{idle_processors, no_contexts, quiet_lines};
+use crate::processor::{Line, Processor, Standing};
+use brd_base::NoMemory;
+use brd_exec::{Context, Outcome, run};
+use brd_link::Links;
+use brd_mem::Ram;
+use brd_tasks::{Request, TaskId, TaskSetup, TaskView, Tasks};
+use std::alloc::Global;
+use std::marker::Model;
+
+/// How many bytes the console holds.
+const CONSOLE_SIZE: usize = 65_536;
+
+/// The last tick that is counted.
+const LAST_COUNT: u64 = 9_223_372_036_854_775_807;
+
+/// Tasks, processors, interrupt lines, the console and the time. Only `new` takes memory.
+#[derive(Drop)]
+pub struct Kernel {
+    off: bool,
+    count: u64,
+    tasks: Tasks,
+    processors: Vec<Option<Processor>>,
+    handler_contexts: Vec<Context>,
+    lines: Vec<Line>,
+    console: Vec<u8>,
+    /// Whether a line may be pending.
+    pending: bool,
+}
+
+impl Model for Kernel {
+    ghost use Rattle.std.specs.Prelude.{◌≡◌, ◌≤◌, false, vec_capacity};
+    ghost use Rattle.brd_kernel.specs.Kernel.{KernelState};
+    ghost use Rattle.brd_kernel.specs.Services.{console_size};
+    ghost use Rattle.brd_kernel.specs.Services.{unmarked_on};
+    ghost use Rattle.brd_kernel.specs.Always.{IsKernel, AreQuiet};
+
+    ghost Value = { KernelState };
+
+    ghost view = { λ k. record {
+      off = k.off;
+      count = k.count;
+      tasks = k.tasks;
+      processors = k.processors.items;
+      handler_contexts = k.handler_contexts.items;
+      lines = k.lines.items;
+      console = k.console.items;
+    } };
+
+    ghost invariant = { λ k.
+        IsKernel (record {
+          off = k.off;
+          count = k.count;
+          tasks = k.tasks;
+          processors = k.processors.items;
+          handler_contexts = k.handler_contexts.items;
+          lines = k.lines.items;
+          console = k.console.items;
+        })
+        × (console_size ≤ vec_capacity k.console)
+        × (k.pending ≡ false → AreQuiet k.lines.items) };
+}
+
+impl Kernel {
+    /// A board's kernel with this many processors and these tasks, none of them started. No line has a handler.
+    pub fn new(alloc: Global, processors: u8, tasks: &[TaskSetup]) -> Result<Kernel, NoMemory>
+        requires { All IsSetup tasks.now }
+        ensures { IfOk result (λ kernel. kernel ≡ made_kernel processors tasks.now) }
+    {
+        Ok(Kernel {
+            off: false,
+            count: 0,
+            tasks: Tasks::new(alloc, tasks)?,
+            processors: idle_processors(alloc, processors)?,
+            handler_contexts: no_contexts(alloc)?,
+            lines: quiet_lines(alloc)?,
+            console: Vec::with_capacity(alloc, CONSOLE_SIZE)?,
+            pending: false,
+        })
+    }
+
+    /// Starts a task when the board is made; one that has been started before keeps the request.
+    pub fn start(&mut self, id: TaskId)
+        ensures { self.new ≡ with_tasks self.old (activated self.old.tasks id Assigned) }
+    {
+        self.tasks.activate(id, Request::Assigned);
+    }
+
+    /// The processor of a number, where there is one.
+    pub fn processor(&self, cpu: u8) -> Option<Processor>
+        ensures is { result ≡ processor_at self.now cpu }
+        ensures small { IfSome result (λ p. IsIdOrNone p.running) }
+        ensures within { IfSome result (λ _. cpu < 9) }
+    {
+        if (cpu as usize) < self.processors.len() {
+            return self.processors[cpu as usize];
+        }
+        None
+    }
+
+    /// The running task of a processor.
+    pub fn running(&self, cpu: u8) -> Option<TaskId>
+        ensures is { result ≡ running_on self.now cpu }
+        ensures small { IsIdOrNone result }
+    {
+        let processor = self.processor(cpu)?;
+        processor.running
+    }
+
+    /// What a processor is doing, where there is one of that number.
+    pub fn standing(&self, cpu: u8) -> Option<Standing>
+        ensures { result ≡ standing_on self.now cpu }
+    {
+        let processor = self.processor(cpu)?;
+        if processor.stopped {
+            return Some(Standing::Stopped);
+        }
+        if let Some(line) = processor.handling {
+            return Some(Standing::Handler(line));
+        }
+        match processor.running {
+            Some(id) => Some(Standing::Task(id)),
+            None => Some(Standing::Idle),
+        }
+    }
+
+    /// The task of a number as it stands.
+    pub fn task(&self, id: TaskId) -> Option<TaskView>
+        ensures { result ≡ view_of self.now.tasks id }
+    {
+        self.tasks.view(id)
+    }
+
+    /// The bytes that were written to the console.
+    pub fn console(&self) -> &[u8]
+        ensures { result.now ≡ self.now.console }
+    {
+        self.console.as_slice()
+    }
+
+    /// How many ticks have passed.
+    pub fn now(&self) -> u64
+        ensures { result ≡ self.now.count }
+    {
+        self.count
+    }
+
+    /// Whether the board is off.
+    pub fn is_off(&self) -> bool
+        ensures { result ≡ self.now.off }
+    {
+        self.off
+    }
+
+    /// The context in which a processor executes: that of its handler, else of its running task.
+    pub fn context(&self, cpu: u8) -> Option<&Context>
+        ensures { option_copied result ≡ context_on self.now cpu }
+    {
+        let processor = self.processor(cpu)?;
+        if processor.stopped {
+            return None;
+        }
+        if processor.handling.is_some() {
+            return Some(&self.handler_contexts[cpu as usize]);
+        }
+        let id = self.running(cpu)?;
+        Some(self.tasks.context(id))
+    }
+
+    /// The context of the handler that runs on a processor, to be changed where it lies.
+    pub fn handler_context_mut(&mut self, cpu: u8) -> &mut Context
+        requires { cpu < 9 }
+        ensures* writes_back { sem 𝓛 (LendsHandlerContext self.entry cpu result) }
+        ensures value { result.now ≡ handler_context_at self.old cpu }
+    {
+        &mut self.handler_contexts[cpu as usize]
+    }
+
+    /// The context of a task, to be changed where it lies.
+    pub fn task_context_mut(&mut self, id: TaskId) -> &mut Context
+        requires { id < 256 }
+        ensures* writes_back { sem 𝓛 (LendsTaskContext self.entry id result) }
+        ensures value { result.now ≡ context_at self.old.tasks id }
+    {
+        self.tasks.context_mut(id)
+    }
+
+    /// The line whose interrupt a processor accepts next: the lowest that is pending for it.
+    #[tactic(auto, using(crate::proofs::LineLemmas::none_pending))]
+    pub fn deliverable(&self, cpu: u8) -> Option<u8>
+        ensures is { result ≡ deliverable self.now cpu }
+        ensures within { IfSome result (λ line. line < 32) }
+    {
+        if !self.pending {
+            return None;
+        }
+        let processor = self.processor(cpu)?;
+        if processor.handling.is_some() || processor.locked || processor.stopped {
+            return None;
+        }
+        first_pending(self.lines.as_slice(), cpu)
+    }
+
+    /// Raises an interrupt. Answers whether its line has a handler; if not, nothing changes.
+    pub fn raise(&mut self, line: u8) -> bool
+        ensures is { self.new ≡ raised self.old line }
+        ensures there { result ≡ is_some (line_at self.old line).handler }
+    {
+        if (line as usize) >= self.lines.len() {
+            return false;
+        }
+        if self.lines[line as usize].handler.is_none() {
+            return false;
+        }
+        self.pending = true;
+        self.lines[line as usize].pending = true;
+        true
+    }
+
+    /// A processor accepts the interrupt that is deliverable to it. Answers its line, if there is one.
+    pub fn accept(&mut self, cpu: u8) -> Option<u8>
+        ensures is { self.new ≡ accepted self.old cpu }
+        ensures line { result ≡ deliverable self.old cpu }
+    {
+        let line = self.deliverable(cpu)?;
+        self.handle(cpu, line);
+        Some(line)
+    }
+
+    /// A processor begins to handle the interrupt of a line.
+    fn handle(&mut self, cpu: u8, line: u8)
+        requires { line < 32 }
+        ensures { self.new ≡ accepted_line self.old cpu (Some line) }
+    {
+        let Some(processor) = self.processor(cpu) else {
+            return
+        };
+        self.lines[line as usize].pending = false;
+        self.pending = is_any_pending(self.lines.as_slice());
+        self.processors[cpu as usize] = Some(Processor {
+            handling: Some(line),
+            ..processor
+        });
+        self.handler_contexts[cpu as usize] = entry_of(line, self.lines[line as usize].handler);
+    }
+
+    /// Ends what a processor executes by an exception: a handler, which stops the processor for good, or the running task.
+    pub fn end_by_fault(&mut self, cpu: u8)
+        ensures { self.new ≡ ended_by_fault self.old cpu }
+    {
+        let Some(processor) = self.processor(cpu) else {
+            return
+        };
+        if processor.handling.is_some() {
+            self.processors[cpu as usize] = Some(Processor {
+                stopped: true,
+                ..processor
+            });
+            return;
+        }
+        let Some(id) = processor.running else { return };
+        self.tasks.clear_activation(id);
+        self.tasks.end(id);
+        self.processors[cpu as usize] = Some(processor.unmarked());
+    }
+
+    /// Takes a processor's CPU lock and its mark that dispatching is disabled away.
+    fn unmark(&mut self, cpu: u8)
+        ensures { self.new ≡ unmarked_on self.old cpu (processor_at self.old cpu) }
+    {
+        let Some(processor) = self.processor(cpu) else {
+            return
+        };
+        self.processors[cpu as usize] = Some(processor.unmarked());
+    }
+
+    /// Chooses the running task of each processor that isn't held. Bit j of the answer: that of processor j + 1 has become another.
+    pub fn dispatch(&mut self) -> u8
+        ensures is { self.new ≡ dispatched self.old }
+        ensures changed { (j : ℕ) → j < 8 → bit_at result j ≡ (if has_changed self.old (dispatched self.old) (j + 1) then 1 else 0) }
+    {
+        self.tasks.are_consistent();
+        let mut changed = 0u8;
+        for cpu in 0..9u8 {
+            let other = self.dispatch_on(cpu);
+            changed = with_change(changed, cpu, other);
+        }
+        changed
+    }
+
+    /// Chooses the running task of a processor, unless it is held. Answers whether it has become another.
+    fn dispatch_on(&mut self, cpu: u8) -> bool
+        ensures is { self.new ≡ dispatched_on self.old cpu }
+        ensures changed { result ≡ has_changed self.old (dispatched_on self.old cpu) cpu }
+    {
+        let Some(processor) = self.processor(cpu) else {
+            return false
+        };
+        if processor.is_held() {
+            return false;
+        }
+        let running = self.tasks.top(cpu);
+        self.processors[cpu as usize] = Some(Processor {
+            running,
+            ..processor
+        });
+        !is_same_task(processor.running, running)
+    }
+
+    /// Does one instruction in the context in which a processor executes, where it lies. None where it executes none.
+    pub fn run(&mut self, cpu: u8, ram: &mut Ram, links: &mut Links) -> Option<Outcome>
+        requires { IsProcessor cpu }
+        ensures { Executes (executed self.old cpu ram.old links.old) self.old ram.old links.old self.new ram.new links.new result }
+    {
+        let processor = self.processor(cpu)?;
+        if processor.stopped {
+            return None;
+        }
+        if processor.handling.is_some() {
+            return Some(run(&mut self.handler_contexts[cpu as usize], cpu, ram, links));
+        }
+        let id = processor.running?;
+        Some(run(self.tasks.context_mut(id), cpu, ram, links))
+    }
+
+    /// A tick passes. Answers whether it was counted; at the end of time it isn't, and nothing changes.
+    pub fn tick(&mut self) -> bool
+        ensures is { self.new ≡ ticked self.old }
+        ensures counted { result ≡ nat_lt self.old.count last_count }
+    {
+        if self.count >= LAST_COUNT {
+            return false;
+        }
+        self.count += 1;
+        true
+    }
+}
+
+/// The answer of `dispatch` with a processor's bit, where its running task has become another; there is no processor 0.
+fn with_change(changed: u8, cpu: u8, other: bool) -> u8
+    requires { cpu < 9 }
+    ensures { (j : ℕ) → j < 8 → bit_at result j ≡ (if j + 1 == cpu && other then 1 else bit_at changed j) }
+{
+    if cpu == 0 || !other {
+        return changed;
+    }
+    changed | 1 << (cpu - 1)
+}
+
+/// Whether two processors' running tasks, or none, are the same.
+fn is_same_task(one: Option<TaskId>, other: Option<TaskId>) -> bool
+    ensures { result ≡ is_same_task one other }
+{
+    match (one, other) {
+        (None, None) => true,
+        (Some(one), Some(other)) => one == other,
+        _ => false,
+    }
+}

@@ -1,0 +1,20 @@
+//! The kernel: service calls, dispatch, interrupts.
+//!
+//! `specs/Services.antt` has the service table, `specs/Row.antt` the order of refusals, `specs/Dispatch.antt` which task runs,
+//! `specs/Kernel.antt` everything else. No call but `Kernel::new` takes memory.
+#![tactic(auto)]
+
+mod call;
+mod kernel;
+pub mod laws;
+mod lines;
+mod making;
+mod processor;
+
+pub use brd_tasks::{Request, TaskId, TaskSetup, TaskState, TaskView, WaitReason};
+pub use call::{Call, Ercd, Reply};
+pub use kernel::Kernel;
+pub use processor::{Handler, Line, Processor, Standing};
+
+#[cfg(test)]
+mod tests;

@@ -1,0 +1,54 @@
+//! The interrupt lines.
+
+ghost use Rattle.std.specs.Prelude.{◌≡◌, ◌≤◌, ◌<◌, false, IfSome, length};
+ghost use Rattle.brd_kernel.specs.Kernel.{is_handled_by, pending_from, entry_of};
+ghost use Rattle.brd_kernel.specs.Always.{AreQuiet};
+
+use crate::processor::{Handler, Line};
+use brd_exec::Context;
+
+/// The lowest line that is pending for a processor.
+pub fn first_pending(lines: &[Line], cpu: u8) -> Option<u8>
+    requires { length lines.now ≤ 32 }
+    ensures is { result ≡ pending_from cpu 0 lines.now }
+    ensures within { IfSome result (λ line. line < length lines.now) }
+{
+    for (n, line) in lines.iter().enumerate() {
+        if line.pending && is_handled_by(line.handler, cpu) {
+            return Some(n as u8);
+        }
+    }
+    None
+}
+
+/// Whether any line is pending.
+pub fn is_any_pending(lines: &[Line]) -> bool
+    ensures { result ≡ false → AreQuiet lines.now }
+{
+    for line in lines {
+        if line.pending {
+            return true;
+        }
+    }
+    false
+}
+
+/// The context in which the handler of a line starts: all 0 but the line in $a0.
+pub fn entry_of(line: u8, handler: Option<Handler>) -> Context
+    ensures { result ≡ entry_of line handler }
+{
+    match handler {
+        Some(handler) => Context::opening(handler.address, line as u32, 0),
+        None => Context::opening(0, line as u32, 0),
+    }
+}
+
+/// Whether a processor handles the interrupts of a line with this handler.
+fn is_handled_by(handler: Option<Handler>, cpu: u8) -> bool
+    ensures { result ≡ is_handled_by cpu handler }
+{
+    match handler {
+        Some(handler) => handler.cpu == cpu,
+        None => false,
+    }
+}

@@ -1,0 +1,56 @@
+//! The kernel's parts as they are made.
+
+ghost use Rattle.std.specs.Prelude.{◌≡◌, IfOk, replicate};
+ghost use Rattle.brd_tasks.specs.Tasks.{no_context};
+ghost use Rattle.brd_kernel.specs.Kernel.{quiet};
+ghost use Rattle.brd_kernel.specs.Making.{idle_one, idle_ones, no_handler};
+
+use crate::processor::{Line, Processor};
+use brd_base::NoMemory;
+use brd_exec::Context;
+use std::alloc::Global;
+
+/// Processors on which nothing runs.
+#[tactic(auto, using(crate::proofs::MakingLemmas::ones_more, crate::proofs::MakingLemmas::no_ones))]
+pub fn idle_processors(alloc: Global, processors: u8) -> Result<Vec<Option<Processor>>, NoMemory>
+    ensures { IfOk result (λ made. made.items ≡ idle_ones processors 9) }
+{
+    let mut made = Vec::new(alloc);
+    for cpu in 0..9u8 {
+        made.push(idle_processor(processors, cpu))?;
+    }
+    Ok(made)
+}
+
+/// The processor of a number, where the board has it.
+fn idle_processor(processors: u8, cpu: u8) -> Option<Processor>
+    ensures { result ≡ idle_one processors cpu }
+{
+    if cpu >= 1 && cpu <= processors {
+        return Some(Processor::idle());
+    }
+    None
+}
+
+/// Contexts of handlers of which none runs.
+#[tactic(auto, unfolding(brd_tasks::specs::Tasks::no_context))]
+pub fn no_contexts(alloc: Global) -> Result<Vec<Context>, NoMemory>
+    ensures { IfOk result (λ made. made.items ≡ replicate 9 no_context) }
+{
+    let mut made = Vec::new(alloc);
+    for _ in 0..9u8 {
+        made.push(Context::opening(0, 0, 0))?;
+    }
+    Ok(made)
+}
+
+/// Lines without handlers.
+pub fn quiet_lines(alloc: Global) -> Result<Vec<Line>, NoMemory>
+    ensures { IfOk result (λ made. made.items ≡ replicate 32 (quiet no_handler)) }
+{
+    let mut made = Vec::new(alloc);
+    for _ in 0..32u8 {
+        made.push(Line::quiet(None))?;
+    }
+    Ok(made)
+}

@@ -1,0 +1,97 @@
+//! The processors and the interrupt lines as the kernel sees them.
+
+ghost use Rattle.std.specs.Prelude.{◌≡◌};
+ghost use Rattle.brd_kernel.specs.Kernel.{is_held, idle, unmarked, quiet};
+
+use brd_tasks::TaskId;
+
+/// What a processor is doing.
+#[derive(Clone, Copy, Debug, PartialEq, Eq)]
+pub enum Standing {
+    /// Nothing.
+    Idle,
+    /// Nothing, for good: its interrupt handler raised an exception.
+    Stopped,
+    /// It runs the task of this number.
+    Task(TaskId),
+    /// It runs the handler of this line.
+    Handler(u8),
+}
+
+/// A processor.
+#[derive(Clone, Copy, Debug, PartialEq, Eq)]
+pub struct Processor {
+    /// The running task. While the processor is held it stays, whoever else is ready; in a handler it is the one that was interrupted.
+    pub running: Option<TaskId>,
+    /// The line whose interrupt is handled.
+    pub handling: Option<u8>,
+    /// Whether it is CPU-locked (loc_cpu).
+    pub locked: bool,
+    /// Whether dispatching is disabled (dis_dsp).
+    pub disabled: bool,
+    /// Whether it is stopped for good.
+    pub stopped: bool,
+}
+
+impl Processor {
+    /// A processor on which nothing runs.
+    pub fn idle() -> Processor
+        ensures { result ≡ idle }
+    {
+        Processor {
+            running: None,
+            handling: None,
+            locked: false,
+            disabled: false,
+            stopped: false,
+        }
+    }
+
+    /// The processor with neither CPU lock nor dispatching disabled.
+    pub fn unmarked(self) -> Processor
+        ensures { result ≡ unmarked self }
+    {
+        Processor {
+            locked: false,
+            disabled: false,
+            ..self
+        }
+    }
+
+    /// Whether its running task stays, whoever else is ready.
+    pub fn is_held(&self) -> bool
+        ensures { result ≡ is_held self.now }
+    {
+        self.handling.is_some() || self.locked || self.disabled || self.stopped
+    }
+}
+
+/// The handler of an interrupt line (DEF_INH).
+#[derive(Clone, Copy, Debug, PartialEq, Eq)]
+pub struct Handler {
+    /// The processor that handles the line's interrupts.
+    pub cpu: u8,
+    /// Where the handler starts.
+    pub address: u32,
+}
+
+/// An interrupt line.
+#[derive(Clone, Copy, Debug, PartialEq, Eq)]
+pub struct Line {
+    /// Its handler, if it has one.
+    pub handler: Option<Handler>,
+    /// Whether an interrupt was raised that isn't accepted yet.
+    pub pending: bool,
+}
+
+impl Line {
+    /// A line with this handler and nothing pending.
+    pub fn quiet(handler: Option<Handler>) -> Line
+        ensures { result ≡ quiet handler }
+    {
+        Line {
+            handler,
+            pending: false,
+        }
+    }
+}

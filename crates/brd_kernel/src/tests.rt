@@ -1,0 +1,228 @@
+use super::*;
+use brd_base::NoMemory;
+use brd_exec::Outcome;
+use brd_link::Links;
+use brd_mem::Ram;
+use brd_tasks::are_setups;
+use std::alloc::Global;
+use std::test::Fail;
+
+/// A task of this number, processor and priority.
+fn setup(id: u16, cpu: u8, priority: u8) -> TaskSetup {
+    TaskSetup {
+        id,
+        cpu,
+        priority,
+        exinf: 0,
+        address: 0x8000_0000,
+        sp: 0,
+    }
+}
+
+/// A kernel of two processors. Tasks 1 and 2, of priorities 2 and 3, are ready on processor 1, and task 3 on processor 2; task 4, of
+/// processor 2 and priority 9, is dormant. Tasks 1 and 3 run.
+fn two(alloc: Global) -> Result<Kernel, NoMemory> {
+    let setups = [
+        setup(1, 1, 2),
+        setup(2, 1, 3),
+        setup(3, 2, 5),
+        setup(4, 2, 9),
+    ];
+    if !are_setups(&setups) {
+        return Err(NoMemory);
+    }
+    let mut kernel = Kernel::new(alloc, 2, &setups)?;
+    for id in [2, 1, 3] {
+        kernel.start(id);
+    }
+    let _ = kernel.dispatch();
+    Ok(kernel)
+}
+
+/// An answer without a second result.
+const fn just(word: u32) -> Reply {
+    Reply::Answer(word, None)
+}
+
+const OK: Reply = Reply::Answer(0, None);
+
+const PAR: Reply = Reply::Answer(0xffff_ffef, None);
+
+const ID: Reply = Reply::Answer(0xffff_ffee, None);
+
+const ILUSE: Reply = Reply::Answer(0xffff_ffe4, None);
+
+const OBJ: Reply = Reply::Answer(0xffff_ffd7, None);
+
+const NOEXS: Reply = Reply::Answer(0xffff_ffd6, None);
+
+const QOVR: Reply = Reply::Answer(0xffff_ffd5, None);
+
+#[test]
+fn making(rt: HostRuntime) -> Result<(), Fail> {
+    let kernel = two(rt.alloc())?;
+    for (cpu, standing) in [
+        (0, None),
+        (1, Some(Standing::Task(1))),
+        (2, Some(Standing::Task(3))),
+        (3, None),
+        (255, None),
+    ] {
+        assert_eq!(rt; kernel.standing(cpu), standing, "{cpu}");
+    }
+    assert_eq!(rt; kernel.now(), 0);
+    assert!(rt; !kernel.is_off());
+    assert_eq!(rt; kernel.task(4).map(|it| it.state), Some(TaskState::Dormant));
+    Ok(())
+}
+
+/// Each refusal of each call, from task 1 on processor 1; of two reasons the earlier one in the order is answered.
+#[test]
+fn refusals(rt: HostRuntime) -> Result<(), Fail> {
+    let mut kernel = two(rt.alloc())?;
+    for (call, reply) in [
+        (Call::ActTsk(256), ID),
+        (Call::ActTsk(9), NOEXS),
+        (Call::CanAct(0xffff_ffff), ID),
+        (Call::CanAct(5), NOEXS),
+        (Call::TerTsk(0), ID),
+        (Call::TerTsk(7), NOEXS),
+        (Call::TerTsk(1), ILUSE),
+        (Call::TerTsk(4), OBJ),
+        (Call::ChgPri(256, 17), ID),
+        (Call::ChgPri(9, 17), PAR),
+        (Call::ChgPri(9, 16), NOEXS),
+        (Call::ChgPri(4, 16), OBJ),
+        (Call::GetPri(300), ID),
+        (Call::GetPri(9), NOEXS),
+        (Call::GetPri(4), OBJ),
+        (Call::WupTsk(300), ID),
+        (Call::WupTsk(9), NOEXS),
+        (Call::WupTsk(4), OBJ),
+        (Call::CanWup(300), ID),
+        (Call::CanWup(9), NOEXS),
+        (Call::CanWup(4), OBJ),
+        (Call::RelWai(0), ID),
+        (Call::RelWai(9), NOEXS),
+        (Call::RelWai(1), OBJ),
+        (Call::RelWai(4), OBJ),
+        (Call::SusTsk(300), ID),
+        (Call::SusTsk(9), NOEXS),
+        (Call::SusTsk(4), OBJ),
+        (Call::RsmTsk(0), ID),
+        (Call::RsmTsk(9), NOEXS),
+        (Call::RsmTsk(1), OBJ),
+        (Call::RsmTsk(4), OBJ),
+    ] {
+        assert_eq!(rt; kernel.serve(1, call), reply, "{call:?}");
+        assert_eq!(rt; kernel.dispatch(), 0, "{call:?}");
+    }
+    Ok(())
+}
+
+/// Calls one after the other, each from a processor, with what they answer, and which processors' running tasks change.
+#[test]
+fn calls(rt: HostRuntime) -> Result<(), Fail> {
+    let mut kernel = two(rt.alloc())?;
+    for (cpu, call, reply, changed) in [
+        (1, Call::GetTid, Reply::Answer(0, Some(1)), 0),
+        (2, Call::GetPid, Reply::Answer(0, Some(2)), 0),
+        (2, Call::GetPri(0), Reply::Answer(0, Some(5)), 0),
+        // Task 4 starts, and comes first by a higher priority.
+        (1, Call::ActTsk(4), OK, 0),
+        (1, Call::ActTsk(4), OK, 0),
+        (1, Call::ActTsk(4), QOVR, 0),
+        (1, Call::ChgPri(4, 1), OK, 2),
+        (2, Call::GetTid, Reply::Answer(0, Some(4)), 0),
+        (1, Call::CanAct(4), just(1), 0),
+        (1, Call::CanAct(4), just(0), 0),
+        (1, Call::ActTsk(4), OK, 0),
+        // It ends, and starts again with its first priority.
+        (2, Call::ExtTsk, Reply::Silent, 2),
+        (1, Call::GetPri(4), Reply::Answer(0, Some(9)), 0),
+        // Task 1 takes a wake-up that was queued, then sleeps.
+        (2, Call::WupTsk(1), OK, 0),
+        (2, Call::WupTsk(1), QOVR, 0),
+        (1, Call::SlpTsk, OK, 0),
+        (1, Call::SlpTsk, Reply::Silent, 1),
+        (1, Call::GetTid, Reply::Answer(0, Some(2)), 0),
+        (1, Call::SusTsk(1), OK, 0),
+        (1, Call::SusTsk(1), QOVR, 0),
+        (2, Call::WupTsk(1), OK, 0),
+        (2, Call::RsmTsk(1), OK, 1),
+        (1, Call::SlpTsk, Reply::Silent, 1),
+        (2, Call::RelWai(1), OK, 1),
+        (2, Call::WupTsk(0), OK, 0),
+        (2, Call::CanWup(0), just(1), 0),
+        (2, Call::CanWup(3), just(0), 0),
+        (2, Call::TerTsk(1), OK, 1),
+        (1, Call::PutChr(0x1_0048), OK, 0),
+        (1, Call::ExtKer, Reply::Silent, 0),
+    ] {
+        assert_eq!(rt; kernel.serve(cpu, call), reply, "{call:?}");
+        assert_eq!(rt; kernel.dispatch(), changed, "{call:?}");
+    }
+    assert_eq!(rt; kernel.console(), b"H".as_slice());
+    assert!(rt; kernel.is_off());
+    Ok(())
+}
+
+/// The console takes 65,536 bytes.
+#[test]
+fn full_console(rt: HostRuntime) -> Result<(), Fail> {
+    let mut kernel = two(rt.alloc())?;
+    for _ in 0..65_536u32 {
+        assert_eq!(rt; kernel.serve(1, Call::PutChr(7)), OK);
+    }
+    assert_eq!(rt; kernel.serve(1, Call::PutChr(8)), QOVR);
+    assert_eq!(rt; kernel.console().len(), 65_536);
+    Ok(())
+}
+
+/// An exception ends the running task, whatever is queued for it.
+#[test]
+fn faults(rt: HostRuntime) -> Result<(), Fail> {
+    let mut kernel = two(rt.alloc())?;
+    let _ = kernel.serve(2, Call::ActTsk(1));
+    kernel.end_by_fault(1);
+    assert_eq!(rt; kernel.dispatch(), 1);
+    assert_eq!(rt; kernel.standing(1), Some(Standing::Task(2)));
+    assert_eq!(rt;
+        kernel.task(1).map(|it| (it.state, it.activations)),
+        Some((TaskState::Dormant, 0))
+    );
+    kernel.end_by_fault(1);
+    assert_eq!(rt; kernel.dispatch(), 1);
+    assert_eq!(rt; kernel.standing(1), Some(Standing::Idle));
+    Ok(())
+}
+
+/// A line without a handler isn't raised, and nothing is delivered.
+#[test]
+fn lines(rt: HostRuntime) -> Result<(), Fail> {
+    let mut kernel = two(rt.alloc())?;
+    for line in [0, 31, 32, 255] {
+        assert!(rt; !kernel.raise(line), "{line}");
+    }
+    assert_eq!(rt; kernel.deliverable(1), None);
+    assert_eq!(rt; kernel.accept(1), None);
+    assert!(rt; kernel.tick());
+    assert_eq!(rt; kernel.now(), 1);
+    Ok(())
+}
+
+/// A running task's instruction is done where its context lies; an idle processor does none.
+#[test]
+fn runs(rt: HostRuntime) -> Result<(), Fail> {
+    let alloc = rt.alloc();
+    let mut kernel = two(alloc)?;
+    let mut links = Links::new();
+    let mut ram = Ram::new(alloc, 65_536)?;
+    assert_eq!(rt; kernel.run(1, &mut ram, &mut links), Some(Outcome::Done));
+    assert_eq!(rt; kernel.context(1).map(|it| it.pc()), Some(0x8000_0004));
+    assert_eq!(rt; kernel.task(1).map(|it| it.context.pc()), Some(0x8000_0004));
+    kernel.end_by_fault(2);
+    let _ = kernel.dispatch();
+    assert_eq!(rt; kernel.run(2, &mut ram, &mut links), None);
+    Ok(())
+}
