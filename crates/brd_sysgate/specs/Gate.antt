@@ -1,0 +1,146 @@
+-- The gate of service calls: the call that a context asks for, by its number in $v0 and its arguments in $a0 to $a3.
+use Rattle.std.specs.Prelude.{ℕ, ◌==◌, nat_lt, Bool, true, false, not, ◌&&◌, ◌||◌, if◌then◌else◌, List, [], ◌∷◌, find}
+use Rattle.std.specs.Prelude.{slice_index, Option, None, Some, Result, Ok, Err}
+use Rattle.std.specs.Option.{option_map}
+use Rattle.brd_exec.specs.State.{State, read, advanced}
+use Rattle.brd_tasks.specs.Tasks.{answered}
+use Rattle.brd_kernel.specs.declared.call.Call.{Call}
+use Rattle.brd_kernel.specs.declared.call.Call.TheVariants as call
+use Rattle.brd_kernel.specs.declared.call.Ercd.{Ercd}
+use Rattle.brd_kernel.specs.declared.call.Ercd.TheVariants.{Rsfn, Ctx}
+use Rattle.brd_kernel.specs.declared.call.Reply.{Reply}
+use Rattle.brd_kernel.specs.declared.call.Reply.TheVariants.{Answer, Silent}
+use Rattle.brd_kernel.specs.declared.processor.Processor.{Processor}
+use Rattle.brd_kernel.specs.Answer.{code_of}
+use Rattle.brd_kernel.specs.Row.{Served}
+use Rattle.brd_kernel.specs.Services.{caller_on, serve_of}
+use Rattle.brd_kernel.specs.Kernel.{KernelState, processor_at, context_on, with_context_on}
+use Rattle.brd_sysgate.specs.declared.gate.Caller.{Caller}
+use Rattle.brd_sysgate.specs.declared.gate.Caller.TheVariants.{Task, Handler}
+use Rattle.brd_sysgate.specs.declared.place.Place.{Place}
+use Rattle.brd_sysgate.specs.declared.place.Place.TheVariants as place
+use Rattle.brd_sysgate.specs.declared.place.Asked.{Asked}
+
+-- a row of the table: a call's number, from where it may come, and what it is by its arguments
+pub record Service : Type 0 where
+  pub number : ℕ
+  pub place : Place
+  pub call : List ℕ → Call
+
+abbrev pub service : ℕ → Place → (List ℕ → Call) → Service
+service number place call = record { number = number; place = place; call = call }
+
+-- an argument, from the first one on
+abbrev pub a0 : List ℕ → ℕ
+a0 a = slice_index a 0
+
+abbrev pub a1 : List ℕ → ℕ
+a1 a = slice_index a 1
+
+-- the calls in the order of their numbers; every other number is E_RSFN
+abbrev pub table : List Service
+table =
+    service 1 place.Task (λ a. call.ActTsk (a0 a))
+    ∷ service 2 place.Task (λ a. call.CanAct (a0 a))
+    ∷ service 3 place.LockedTask (λ a. call.ExtTsk)
+    ∷ service 4 place.Task (λ a. call.TerTsk (a0 a))
+    ∷ service 5 place.Task (λ a. call.ChgPri (a0 a) (a1 a))
+    ∷ service 6 place.Task (λ a. call.GetPri (a0 a))
+    ∷ service 9 place.Task (λ a. call.GetPid)
+    ∷ service 11 place.Task (λ a. call.GetTid)
+    ∷ service 16 place.Waiting (λ a. call.SlpTsk)
+    ∷ service 18 place.Task (λ a. call.WupTsk (a0 a))
+    ∷ service 19 place.Task (λ a. call.CanWup (a0 a))
+    ∷ service 20 place.Task (λ a. call.RelWai (a0 a))
+    ∷ service 21 place.OnTask (λ a. call.SusTsk (a0 a))
+    ∷ service 22 place.Task (λ a. call.RsmTsk (a0 a))
+    ∷ service 40 place.Task (λ a. call.PutChr (a0 a))
+    ∷ service 41 place.LockedTask (λ a. call.ExtKer)
+    ∷ []
+
+-- the number 0 or one's own
+unfoldable pub is_oneself : ℕ → ℕ → Bool
+is_oneself id named = named == 0 || named == id
+
+-- whether a call of that place may come from a caller; `named` is its first argument
+abbrev pub may_call : Caller → Place → ℕ → Bool
+may_call (Task id locked disabled) place.Task named = not locked
+may_call (Task id locked disabled) place.LockedTask named = true
+may_call (Task id locked disabled) place.Waiting named = not locked && not disabled
+may_call (Task id locked disabled) place.OnTask named = not locked && not (disabled && is_oneself id named)
+may_call (Task id locked disabled) place.Handler named = false
+may_call Handler place.Task named = false
+may_call Handler place.LockedTask named = false
+may_call Handler place.Waiting named = false
+may_call Handler place.OnTask named = false
+may_call Handler place.Handler named = true
+
+-- the row of a number
+abbrev pub row_of : ℕ → Option Service
+row_of number = find (λ s. s.number == number) table
+
+abbrev pub asked : ℕ → List ℕ → Option Asked
+asked number a = option_map (λ s. record { place = s.place; call = s.call a }) (row_of number)
+
+-- $a0 to $a3
+abbrev pub arguments_of : State → List ℕ
+arguments_of s = read s 4 ∷ read s 5 ∷ read s 6 ∷ read s 7 ∷ []
+
+abbrev pub allowed : Caller → ℕ → Option Asked → Result Call Ercd
+allowed caller named None = Err Rsfn
+allowed caller named (Some it) = if may_call caller it.place named then Ok it.call else Err Ctx
+
+-- E_RSFN before E_CTX, both before what the kernel tests
+abbrev pub read_of : State → Caller → Result Call Ercd
+read_of s caller = allowed caller (read s 4) (asked (read s 2) (arguments_of s))
+
+-- what a reply writes
+abbrev pub written : State → Reply → State
+written s (Answer code second) = answered s code second
+written s Silent = s
+
+-- The numbers rise, so no two calls have one.
+
+abbrev pub is_above : ℕ → List Service → Bool
+is_above number [] = true
+is_above number (s ∷ services) = nat_lt number s.number && is_above s.number services
+
+-- The whole of a service call.
+
+abbrev pub caller_by : ℕ → Processor → Option ℕ → Caller
+caller_by id p None = Task id p.locked p.disabled
+caller_by id p (Some line) = Handler
+
+-- who executes on a processor
+abbrev pub caller_in : ℕ → Option Processor → Caller
+caller_in id None = Handler
+caller_in id (Some p) = caller_by id p p.handling
+
+abbrev pub caller_of : KernelState → ℕ → Caller
+caller_of k cpu = caller_in (caller_on k cpu) (processor_at k cpu)
+
+abbrev pub served_call : KernelState → ℕ → Result Call Ercd → Served
+served_call k cpu (Ok call) = serve_of k cpu call
+served_call k cpu (Err code) = record { kernel = k; reply = Answer (code_of code) None }
+
+abbrev pub replied_in : KernelState → ℕ → Reply → Option State → KernelState
+replied_in k cpu reply None = k
+replied_in k cpu reply (Some s) = with_context_on k cpu (written s reply)
+
+-- the reply is written to the context in which the processor still executes
+abbrev pub replied : ℕ → Served → KernelState
+replied cpu done = replied_in done.kernel cpu done.reply (context_on done.kernel cpu)
+
+abbrev pub gone_on : KernelState → ℕ → Option State → KernelState
+gone_on k cpu None = k
+gone_on k cpu (Some s) = with_context_on k cpu (advanced s)
+
+abbrev pub called_in : KernelState → ℕ → Caller → Option State → KernelState
+called_in k cpu caller None = k
+called_in k cpu caller (Some s) = replied cpu (served_call k cpu (read_of s caller))
+
+-- A SYSCALL: the context goes on as after an ordinary instruction; then the call is read from it and served, and its reply is written.
+abbrev pub called : KernelState → ℕ → KernelState
+called k cpu =
+    let on = gone_on k cpu (context_on k cpu) in
+    called_in on cpu (caller_of k cpu) (context_on on cpu)

@@ -1,0 +1,3 @@
+pub mod Gate
+pub use Rattle.brd_kernel.specs.Row
+pub use Rattle.brd_kernel.specs.Services

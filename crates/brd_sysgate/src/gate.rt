@@ -1,0 +1,110 @@
+//! Reading a service call from the registers, and writing its answer to them.
+
+ghost use Rattle.std.specs.Prelude.{◌≡◌, ◌∷◌, []};
+ghost use Rattle.brd_sysgate.specs.Gate.{asked, may_call, is_oneself, read_of, written};
+
+use crate::place::{Asked, Place};
+use brd_exec::Context;
+use brd_isa::Register;
+use brd_kernel::{Call, Ercd, Reply};
+use brd_tasks::{TaskId, answer};
+
+/// Who makes a service call.
+#[derive(Clone, Copy, Debug, PartialEq, Eq)]
+pub enum Caller {
+    /// The running task.
+    Task {
+        /// Its number.
+        id: TaskId,
+        /// Whether its processor is CPU-locked.
+        locked: bool,
+        /// Whether dispatching is disabled on its processor.
+        disabled: bool,
+    },
+    /// An interrupt handler.
+    Handler,
+}
+
+/// The call that a context asks for: its number is in $v0, its arguments are in $a0 to $a3. An unknown number is E_RSFN; a call that may
+/// not come from this caller is E_CTX.
+pub fn read(context: &Context, caller: Caller) -> Result<Call, Ercd>
+    ensures { result ≡ read_of context.now caller }
+{
+    let arguments = [
+        context.read(Register::low(4)),
+        context.read(Register::low(5)),
+        context.read(Register::low(6)),
+        context.read(Register::low(7)),
+    ];
+    let Some(asked) = service(context.read(Register::low(2)), arguments) else {
+        return Err(Ercd::Rsfn);
+    };
+    if !may_call(caller, asked.place, arguments[0]) {
+        return Err(Ercd::Ctx);
+    }
+    Ok(asked.call)
+}
+
+/// Writes a reply to the caller's registers.
+pub fn write(context: &mut Context, reply: Reply)
+    ensures { context.new ≡ written context.old reply }
+{
+    if let Reply::Answer(code, second) = reply {
+        answer(context, code, second);
+    }
+}
+
+/// The call of a number, with these arguments.
+fn service(number: u32, a: [u32; 4]) -> Option<Asked>
+    ensures { result ≡ asked number a }
+{
+    let (place, call) = match number {
+        1 => (Place::Task, Call::ActTsk(a[0])),
+        2 => (Place::Task, Call::CanAct(a[0])),
+        3 => (Place::LockedTask, Call::ExtTsk),
+        4 => (Place::Task, Call::TerTsk(a[0])),
+        5 => (Place::Task, Call::ChgPri(a[0], a[1])),
+        6 => (Place::Task, Call::GetPri(a[0])),
+        9 => (Place::Task, Call::GetPid),
+        11 => (Place::Task, Call::GetTid),
+        16 => (Place::Waiting, Call::SlpTsk),
+        18 => (Place::Task, Call::WupTsk(a[0])),
+        19 => (Place::Task, Call::CanWup(a[0])),
+        20 => (Place::Task, Call::RelWai(a[0])),
+        21 => (Place::OnTask, Call::SusTsk(a[0])),
+        22 => (Place::Task, Call::RsmTsk(a[0])),
+        40 => (Place::Task, Call::PutChr(a[0])),
+        41 => (Place::LockedTask, Call::ExtKer),
+        _ => return None,
+    };
+    Some(Asked { place, call })
+}
+
+/// Whether a call of that place may come from a caller. `named` is the call's first argument.
+#[tactic(auto, unfolding(crate::specs::Gate::is_oneself))]
+fn may_call(caller: Caller, place: Place, named: u32) -> bool
+    ensures { result ≡ may_call caller place named }
+{
+    match caller {
+        Caller::Handler => place == Place::Handler,
+        Caller::Task {
+            id,
+            locked,
+            disabled,
+        } => match place {
+            Place::Task => !locked,
+            Place::LockedTask => true,
+            Place::Waiting => !locked && !disabled,
+            Place::OnTask => !locked && !(disabled && is_oneself(id, named)),
+            Place::Handler => false,
+        },
+    }
+}
+
+/// Whether a task is named, by 0 or by its number.
+#[tactic(auto, unfolding(crate::specs::Gate::is_oneself))]
+fn is_oneself(id: TaskId, named: u32) -> bool
+    ensures { result ≡ is_oneself id named }
+{
+    named == 0 || named == id as u32
+}

@@ -1,0 +1,16 @@
+//! The gate of service calls: which call the registers ask for, whether it may come from there, and how its answer is written.
+//!
+//! `specs/Gate.antt` has the table of numbers, places and arguments.
+#![tactic(auto)]
+
+mod gate;
+pub mod laws;
+mod place;
+mod syscall;
+
+pub use gate::{Caller, read, write};
+pub use place::{Asked, Place};
+pub use syscall::call;
+
+#[cfg(test)]
+mod tests;

@@ -1,0 +1,92 @@
+//! The whole of a service call.
+
+ghost use Rattle.std.specs.Prelude.{◌≡◌, ◌<◌};
+ghost use Rattle.brd_exec.specs.State.{advanced};
+ghost use Rattle.brd_kernel.specs.Kernel.{context_on, processor_at};
+ghost use Rattle.brd_kernel.specs.Services.{caller_on};
+ghost use Rattle.brd_sysgate.specs.Gate.{caller_of, gone_on, replied_in, served_call, read_of, called};
+
+use crate::gate::{Caller, read, write};
+use brd_kernel::{Call, Ercd, Kernel, Reply};
+
+/// A SYSCALL on a processor: its context goes on as after an ordinary instruction, the call is served, and its reply is written where the
+/// context lies.
+pub fn call(kernel: &mut Kernel, cpu: u8)
+    ensures { kernel.new ≡ called kernel.old cpu }
+{
+    let caller = caller(kernel, cpu);
+    advance(kernel, cpu);
+    let Some(context) = kernel.context(cpu) else {
+        return
+    };
+    let call = read(context, caller);
+    let reply = serve(kernel, cpu, call);
+    answer(kernel, cpu, reply);
+}
+
+/// Who executes on a processor.
+fn caller(kernel: &Kernel, cpu: u8) -> Caller
+    ensures { result ≡ caller_of kernel.now cpu }
+{
+    let Some(processor) = kernel.processor(cpu) else {
+        return Caller::Handler;
+    };
+    if processor.handling.is_some() {
+        return Caller::Handler;
+    }
+    Caller::Task {
+        id: kernel.caller(cpu),
+        locked: processor.locked,
+        disabled: processor.disabled,
+    }
+}
+
+/// The context of a processor goes on to the next instruction.
+fn advance(kernel: &mut Kernel, cpu: u8)
+    ensures { kernel.new ≡ gone_on kernel.old cpu (context_on kernel.old cpu) }
+{
+    let Some(processor) = kernel.processor(cpu) else {
+        return
+    };
+    if processor.stopped {
+        return;
+    }
+    if processor.handling.is_some() {
+        kernel.handler_context_mut(cpu).advance();
+        return;
+    }
+    let Some(id) = kernel.running(cpu) else {
+        return
+    };
+    kernel.task_context_mut(id).advance();
+}
+
+/// Serves a call, or answers why it can't be made.
+fn serve(kernel: &mut Kernel, cpu: u8, call: Result<Call, Ercd>) -> Reply
+    ensures { record { kernel = kernel.new; reply = result } ≡ served_call kernel.old cpu call }
+{
+    match call {
+        Ok(call) => kernel.serve(cpu, call),
+        Err(code) => Reply::Answer(code.word(), None),
+    }
+}
+
+/// Writes a reply to the context in which a processor executes.
+fn answer(kernel: &mut Kernel, cpu: u8, reply: Reply)
+    ensures { kernel.new ≡ replied_in kernel.old cpu reply (context_on kernel.old cpu) }
+{
+    let Some(processor) = kernel.processor(cpu) else {
+        return
+    };
+    if processor.stopped {
+        return;
+    }
+    if processor.handling.is_some() {
+        write(kernel.handler_context_mut(cpu), reply);
+        return;
+    }
+    let Some(id) = kernel.running(cpu) else {
+        return
+    };
+    write(kernel.task_context_mut(id), reply);
+}
