@@ -1,2 +1,3 @@
 pub mod LoadLemmas
 pub mod BootLemmas
+pub mod LinkLemmas

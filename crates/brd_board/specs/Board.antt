@@ -1,121 +1,134 @@
 -- The board: what it consists of, what one event does to it, and what a list of events does.
--- It has one processor, number 1, and one task, number 1, which is assigned to it; it has no interrupt handler.
-use Rattle.std.specs.Prelude.{ℕ, ◌+◌, ◌-◌, ◌^◌, ◌==◌, nat_lt, Bool, true, false, if◌then◌else◌, List, [], ◌∷◌, Option, Some, None}
-use Rattle.brd_link.specs.LinkSet.{LinkSet, linked_address, without}
+use Rattle.std.specs.Prelude.{ℕ, ◌==◌, nat_lt, nat_le, ◌&&◌, Bool, if◌then◌else◌, List, [], ◌∷◌, slice_index_or, slice_set, Option, Some, None, is_some}
+use Rattle.brd_link.specs.LinkSet.{LinkSet, linked_address, without, without_all}
 use Rattle.brd_mem.specs.Memory.{Memory}
-use Rattle.brd_exec.specs.State.{State, write, advanced}
-use Rattle.brd_exec.specs.Step.{Ran, ran}
+use Rattle.brd_exec.specs.State.{State}
 use Rattle.brd_exec.specs.declared.outcome.Outcome.{Outcome}
 use Rattle.brd_exec.specs.declared.outcome.Outcome.TheVariants.{Done, Syscall, Exception}
+use Rattle.brd_tasks.specs.declared.task.TaskView.{TaskView}
+use Rattle.brd_tasks.specs.Tasks.{view_of}
+use Rattle.brd_kernel.specs.declared.processor.Processor.{Processor}
+use Rattle.brd_kernel.specs.declared.processor.Standing.{Standing}
+use Rattle.brd_kernel.specs.Kernel.{KernelState, processor_at, context_on, deliverable, accepted, raised, line_at, ended_by_fault, last_count, ticked, standing_on, Executed, executed}
+use Rattle.brd_kernel.specs.Dispatch.{dispatched, changed_processors}
+use Rattle.brd_sysgate.specs.Gate.{called}
 use Rattle.brd_board.specs.declared.event.Event.{Event}
 use Rattle.brd_board.specs.declared.event.Event.TheVariants.{Step, Tick, Raise}
 use Rattle.brd_board.specs.declared.event.Report.{Report}
 use Rattle.brd_board.specs.declared.event.Report.TheVariants as report
 use Rattle.brd_board.specs.declared.view.Fault.{Fault}
-use Rattle.brd_board.specs.declared.view.Standing.{Standing}
-use Rattle.brd_board.specs.declared.view.Standing.TheVariants as standing
-use Rattle.brd_board.specs.declared.task.TaskState.{TaskState}
-use Rattle.brd_board.specs.declared.task.TaskState.TheVariants.{Dormant, Ready, Waiting, Suspended, WaitingSuspended}
-use Rattle.brd_board.specs.declared.task.TaskView.{TaskView}
 
 pub record BoardState : Type 0 where
-  pub off : Bool
-  pub count : ℕ  -- the ticks so far
+  pub kernel : KernelState
   pub memory : Memory
   pub links : LinkSet
-  pub state : TaskState  -- the task's
-  pub context : State  -- the task's, also while it is dormant
-  pub fault : Option Fault  -- the processor's last one
+  pub faults : List (Option Fault)  -- by the processor's number: its last exception
 
 -- a board, and what it reports of the event that made it
 pub record Happened : Type 0 where
   pub board : BoardState
   pub report : Report
 
--- a ready task runs: it is the only one
-abbrev pub is_running : TaskState → Bool
-is_running Ready = true
-is_running Dormant = false
-is_running Waiting = false
-is_running Suspended = false
-is_running WaitingSuspended = false
+-- nothing happens
+abbrev pub nothing : BoardState → Report → Happened
+nothing b told = record { board = b; report = told }
 
--- E_RSFN of the uITRON 4.0 specification, -10: there is no such service call
-abbrev pub reserved_function : ℕ
-reserved_function = 2 ^ 32 - 10
+-- After whatever may have changed who is ready, each processor that isn't held runs the first of its ready tasks, and the link of each
+-- processor whose running task has become another ends. Nothing else changes who runs.
+abbrev pub dispatched_board : BoardState → BoardState
+dispatched_board b = record b {
+  kernel = dispatched b.kernel;
+  links = without_all b.links (changed_processors b.kernel (dispatched b.kernel));
+}
 
--- A SYSCALL goes on as an ordinary instruction, and then $v0 takes the answer of the service call. There is none yet.
-abbrev pub answered : State → State
-answered s = write (advanced s) 2 reserved_function
+abbrev pub then_dispatched : BoardState → Report → Happened
+then_dispatched b told = record { board = dispatched_board b; report = told }
 
--- the board with what the instruction left
-abbrev pub with_ran : BoardState → Ran → BoardState
-with_ran b after = record b { context = after.state; memory = after.memory; links = after.links }
+-- what an instruction left
+abbrev pub with_executed : BoardState → Executed → BoardState
+with_executed b e = record b { kernel = e.kernel; memory = e.memory; links = e.links }
 
--- a service call: it ends the processor's link, and is answered
-abbrev pub called : BoardState → BoardState
-called b = record b { context = answered b.context; links = without b.links 1 }
+-- a service call: it ends the processor's link, and is served
+abbrev pub with_call : BoardState → ℕ → BoardState
+with_call b cpu = record b { kernel = called b.kernel cpu; links = without b.links cpu }
 
--- An exception makes the task dormant, and is kept as the processor's last fault. That no task runs any more ends the processor's link.
-abbrev pub faulted : BoardState → Fault → BoardState
-faulted b fault = record b { state = Dormant; fault = Some fault; links = without b.links 1 }
+-- an exception: it is kept as the processor's last one, and ends what the processor executes
+abbrev pub with_fault : BoardState → ℕ → Fault → BoardState
+with_fault b cpu fault = record b { kernel = ended_by_fault b.kernel cpu; faults = slice_set b.faults cpu (Some fault) }
 
--- what an instruction leaves
-abbrev pub instruction_done : BoardState → Ran → Outcome → Happened
-instruction_done b after Done = record { board = with_ran b after; report = report.Ran b.context.pc }
-instruction_done b after Syscall = record { board = called (with_ran b after); report = report.Called b.context.pc }
-instruction_done b after (Exception code epc bd) =
-    record { board = faulted (with_ran b after) (record { code = code; epc = epc; bd = bd }); report = report.Faulted b.context.pc }
+-- what follows an instruction, by how it ended; `pc` is where it stands
+abbrev pub instruction_done : BoardState → ℕ → ℕ → Outcome → Happened
+instruction_done b cpu pc Done = nothing b (report.Ran pc)
+instruction_done b cpu pc Syscall = then_dispatched (with_call b cpu) (report.Called pc)
+instruction_done b cpu pc (Exception code epc bd) =
+    then_dispatched (with_fault b cpu (record { code = code; epc = epc; bd = bd })) (report.Faulted pc)
 
--- the processor executes one instruction of the running task, if there is one
-abbrev pub stepped : BoardState → Happened
-stepped b =
-    if is_running b.state then instruction_done b (ran 1 b.context b.memory b.links) (ran 1 b.context b.memory b.links).outcome
-    else record { board = b; report = report.Idle }
+abbrev pub executed_at : BoardState → ℕ → ℕ → Option Executed → Happened
+executed_at b cpu pc None = nothing b report.Idle
+executed_at b cpu pc (Some e) = instruction_done (with_executed b e) cpu pc e.outcome
 
--- the count after which time stands still (own choice)
-abbrev pub last_count : ℕ
-last_count = 2 ^ 63 - 1
+-- one instruction of the handler, else of the running task, if there is one
+abbrev pub executes : BoardState → ℕ → Option State → Happened
+executes b cpu None = nothing b report.Idle
+executes b cpu (Some s) = executed_at b cpu s.pc (executed b.kernel cpu b.memory b.links)
 
--- a tick passes
-abbrev pub ticked : BoardState → Happened
-ticked b =
-    if nat_lt b.count last_count then record { board = record b { count = b.count + 1 }; report = report.Ticked }
-    else record { board = b; report = report.TimeOver }
+-- an interrupt is accepted, which ends the link; or an instruction is executed
+abbrev pub accepts_or_executes : BoardState → ℕ → Option ℕ → Happened
+accepts_or_executes b cpu (Some line) =
+    then_dispatched (record b { kernel = accepted b.kernel cpu; links = without b.links cpu }) (report.Accepted line)
+accepts_or_executes b cpu None = executes b cpu (context_on b.kernel cpu)
 
--- what an event does to a board that is on; there is one processor, and no line has a handler
+abbrev pub stepped_in : BoardState → ℕ → Option Processor → Happened
+stepped_in b cpu None = nothing b report.NoSuch
+stepped_in b cpu (Some p) = if p.stopped then nothing b report.Stopped else accepts_or_executes b cpu (deliverable b.kernel cpu)
+
+-- a processor does its next step; there is none of number 0
+abbrev pub stepped : BoardState → ℕ → Happened
+stepped b cpu = if cpu == 0 then nothing b report.NoSuch else stepped_in b cpu (processor_at b.kernel cpu)
+
+-- a tick passes, but at the end of time
+abbrev pub tick_passed : BoardState → Happened
+tick_passed b =
+    if nat_lt b.kernel.count last_count then then_dispatched (record b { kernel = ticked b.kernel }) report.Ticked
+    else nothing b report.TimeOver
+
+-- an interrupt is raised, where its line has a handler
+abbrev pub line_raised : BoardState → ℕ → Happened
+line_raised b line =
+    if is_some (line_at b.kernel line).handler then nothing (record b { kernel = raised b.kernel line }) report.Raised
+    else nothing b report.NoSuch
+
+-- what an event does to a board that is on
 abbrev pub happens_on : BoardState → Event → Happened
-happens_on b (Step cpu) = if cpu == 1 then stepped b else record { board = b; report = report.NoSuch }
-happens_on b Tick = ticked b
-happens_on b (Raise line) = record { board = b; report = report.NoSuch }
+happens_on b (Step cpu) = stepped b cpu
+happens_on b Tick = tick_passed b
+happens_on b (Raise line) = line_raised b line
 
 -- what an event does; nothing happens to a board that is off
 unfoldable pub happens : BoardState → Event → Happened
-happens b event = if b.off then record { board = b; report = report.Off } else happens_on b event
+happens b event = if b.kernel.off then nothing b report.Off else happens_on b event
 
 -- the board after a list of events
 abbrev pub after : BoardState → List Event → BoardState
 after b [] = b
 after b (event ∷ events) = after (happens b event).board events
 
--- what the processor is doing, where there is one of that number
+-- what a processor is doing, where there is one of that number
 abbrev pub standing_of : BoardState → ℕ → Option Standing
-standing_of b cpu = if cpu == 1 then Some (if is_running b.state then standing.Task 1 else standing.Idle) else None
+standing_of b cpu = standing_on b.kernel cpu
 
--- the context of the task that runs on a processor
+-- the context in which a processor executes
 abbrev pub registers_of : BoardState → ℕ → Option State
-registers_of b cpu = if cpu == 1 then (if is_running b.state then Some b.context else None) else None
+registers_of b cpu = context_on b.kernel cpu
 
 -- the word that a processor's link is to, where it has one
 abbrev pub linked_word_of : BoardState → ℕ → Option ℕ
-linked_word_of b cpu = if cpu == 1 then linked_address b.links 1 else None
+linked_word_of b cpu = if nat_le 1 cpu && nat_le cpu 8 then linked_address b.links cpu else None
 
 -- a processor's last fault
 abbrev pub fault_of : BoardState → ℕ → Option Fault
-fault_of b cpu = if cpu == 1 then b.fault else None
+fault_of b cpu = slice_index_or b.faults cpu None
 
--- a task as it stands: no service call has queued anything, and no wait has begun
+-- a task as it stands
 abbrev pub task_of : BoardState → ℕ → Option TaskView
-task_of b id =
-    if id == 1 then Some (record { state = b.state; priority = 1; cpu = 1; waiting = None; due = None; activations = 0; wakeups = 0; context = b.context })
-    else None
+task_of b id = view_of b.kernel.tasks id

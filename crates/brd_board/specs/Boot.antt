@@ -8,11 +8,15 @@ use Rattle.brd_base.specs.Space.{base}
 use Rattle.brd_mem.specs.Memory.{Memory, contains}
 use Rattle.brd_mem.specs.Image.{byte_in}
 use Rattle.brd_word.specs.Words.{bytes_of_word}
-use Rattle.brd_exec.specs.State.{opening}
+use Rattle.brd_tasks.specs.declared.task.TaskSetup.{TaskSetup}
+use Rattle.brd_tasks.specs.declared.task.Request.TheVariants.{Assigned}
+use Rattle.brd_tasks.specs.Tasks.{made, activated}
+use Rattle.brd_kernel.specs.Kernel.{KernelState, with_tasks}
+use Rattle.brd_kernel.specs.Making.{made_kernel}
+use Rattle.brd_kernel.specs.Dispatch.{dispatched}
 use Rattle.brd_board.specs.Board.{BoardState}
 use Rattle.brd_board.specs.declared.boot.BootFault.{BootFault}
 use Rattle.brd_board.specs.declared.boot.BootFault.TheVariants.{NoMemory, UnknownSymbol, Outside}
-use Rattle.brd_board.specs.declared.task.TaskState.TheVariants.{Ready}
 
 -- how many bytes of RAM there are
 unfoldable pub ram_size : ℕ
@@ -27,17 +31,17 @@ are_inside size (segment ∷ others) = contains size segment.address (length seg
 unfoldable pub memory_of : ℕ → List Segment → Memory
 memory_of size segments = record { bytes = map (λ at. unwrap_or (byte_in segments (base + at)) 0) (range_with_len 0 size) }
 
+-- task 1, which starts at RAM's first address with its stack at RAM's end
+abbrev pub first_task : TaskSetup
+first_task = record { id = 1; cpu = 1; priority = 1; exinf = 0; address = base; sp = base + ram_size }
+
+-- a kernel of one processor, whose task 1 has been started
+abbrev pub first_kernel : KernelState
+first_kernel = with_tasks (made_kernel 1 (first_task ∷ [])) (activated (made (first_task ∷ [])) 1 Assigned)
+
 -- a board that starts over a memory: on, at count 0, without links, its task about to run
 abbrev pub started : Memory → BoardState
-started memory = record {
-  off = false;
-  count = 0;
-  memory = memory;
-  links = [];
-  state = Ready;
-  context = opening base 0 (base + ram_size);
-  fault = None;
-}
+started memory = record { kernel = dispatched first_kernel; memory = memory; links = []; faults = replicate 9 None }
 
 -- the board that an image makes, or what keeps it from starting
 abbrev pub boot : Image → Result BoardState BootFault

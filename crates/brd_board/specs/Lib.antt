@@ -5,3 +5,7 @@ pub use Rattle.brd_exec.specs.Step
 pub use Rattle.brd_link.specs.LinkSet
 pub use Rattle.brd_mem.specs.Memory
 pub use Rattle.brd_mem.specs.Image
+pub use Rattle.brd_tasks.specs.Tasks
+pub use Rattle.brd_kernel.specs.Kernel
+pub use Rattle.brd_kernel.specs.Dispatch
+pub use Rattle.brd_sysgate.specs.Gate

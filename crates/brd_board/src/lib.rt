@@ -1,4 +1,4 @@
-//! The board: RAM, one processor and one task, and what events do to them.
+//! The board: RAM, processors, tasks and the kernel, and what events do to them.
 //!
 //! `specs/Board.antt` says what one event does and what a list of events does; `Board::event` and `Board::play` do exactly that.
 #![tactic(auto)]
@@ -6,15 +6,15 @@
 mod board;
 mod boot;
 mod event;
+mod links;
 mod load;
-mod task;
 mod view;
 
 pub use board::Board;
 pub use boot::BootFault;
+pub use brd_kernel::{Standing, TaskId, TaskState, TaskView, WaitReason};
 pub use event::{Event, Report};
-pub use task::{TaskState, TaskView, WaitReason};
-pub use view::{Fault, Standing};
+pub use view::Fault;
 
 #[cfg(test)]
 mod tests;

@@ -130,3 +130,50 @@ fn links(rt: HostRuntime) -> Result<(), Fail> {
     assert_eq!(rt; board.memory(0x8000_0103), Some(5));
     Ok(())
 }
+
+/// A program that writes a byte to the console and turns the board off; from then on nothing happens.
+#[test]
+fn service_calls(rt: HostRuntime) -> Result<(), Fail> {
+    let words = [
+        0x2402_0028,
+        0x2404_0048,
+        0x0000_000c,
+        0x2402_0029,
+        0x0000_000c,
+    ];
+    let mut board = Board::from_words(rt.alloc(), &words)?;
+    for (event, report) in [
+        (Event::Step(1), Report::Ran(0x8000_0000)),
+        (Event::Step(1), Report::Ran(0x8000_0004)),
+        (Event::Step(1), Report::Called(0x8000_0008)),
+        (Event::Step(1), Report::Ran(0x8000_000c)),
+        (Event::Step(1), Report::Called(0x8000_0010)),
+        (Event::Step(1), Report::Off),
+        (Event::Tick, Report::Off),
+        (Event::Step(9), Report::Off),
+    ] {
+        assert_eq!(rt; board.event(event), report, "{event:?}");
+    }
+    assert_eq!(rt; board.console(), b"H".as_slice());
+    assert!(rt; board.is_off());
+    assert_eq!(rt; board.task(1).map(|it| it.state), Some(TaskState::Ready));
+    Ok(())
+}
+
+/// A task that sleeps leaves its processor idle; one that ends itself is dormant, and keeps its context.
+#[test]
+fn waits_and_ends(rt: HostRuntime) -> Result<(), Fail> {
+    for (number, state) in [(16, TaskState::Waiting), (3, TaskState::Dormant)] {
+        let mut board = Board::from_words(rt.alloc(), &[0x2402_0000 + number, 0x0000_000c])?;
+        assert_eq!(rt; board.event(Event::Step(1)), Report::Ran(0x8000_0000));
+        assert_eq!(rt; board.event(Event::Step(1)), Report::Called(0x8000_0004));
+        assert_eq!(rt; board.event(Event::Step(1)), Report::Idle);
+        assert_eq!(rt; board.standing(1), Some(Standing::Idle));
+        assert_eq!(rt; board.registers(1), None);
+        let Some(task) = board.task(1) else { continue };
+        assert_eq!(rt; task.state, state);
+        assert_eq!(rt; task.context.pc(), 0x8000_0008);
+        assert_eq!(rt; task.context.read(Register::low(2)), number);
+    }
+    Ok(())
+}

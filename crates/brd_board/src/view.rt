@@ -2,19 +2,6 @@
 
 use brd_exec::ExceptionCode;
 
-/// What a processor is doing.
-#[derive(Clone, Copy, Debug, PartialEq, Eq)]
-pub enum Standing {
-    /// Nothing.
-    Idle,
-    /// Nothing, for good: its interrupt handler raised an exception.
-    Stopped,
-    /// It runs the task of this number.
-    Task(u16),
-    /// It runs the handler of this line.
-    Handler(u8),
-}
-
 /// An exception as a processor keeps it.
 #[derive(Clone, Copy, Debug, PartialEq, Eq)]
 pub struct Fault {

@@ -4,7 +4,7 @@ use Rattle.std.specs.Fmt.{decimal}
 use Rattle.brd_exec.specs.State.{State}
 use Rattle.brd_exec.specs.Exception.{number_of}
 use Rattle.brd_board.specs.declared.view.Fault.{Fault}
-use Rattle.brd_board.specs.declared.task.TaskView.{TaskView}
+use Rattle.brd_tasks.specs.declared.task.TaskView.{TaskView}
 use Rattle.brd_board.specs.Board.{BoardState, task_of, fault_of}
 use Rattle.brd_text.specs.Hex.{hex_of}
 

@@ -1,0 +1,6 @@
+use Rattle.std.proofs.Common.{◌≡◌, replicate}
+use Rattle.std.specs.Prelude.{None}
+use Rattle.brd_board.proofs.board.no_faults.Given as goal
+
+abbrev pub invariant-loop : goal.invariant-loop
+invariant-loop l = l.faults.items ≡ replicate l.counter None
