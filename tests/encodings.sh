@@ -49,4 +49,7 @@ verdict "reserved.words" "${wrong:+not reserved:$wrong}"
 # The document of the instructions beside the table.
 check_script "docs/INSTRUCTIONS.md" tests/instructions_doc.sh
 
+# The document of the service calls beside the definitions.
+check_script "docs/KERNEL.md" tests/services_doc.sh
+
 summary

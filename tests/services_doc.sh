@@ -1,0 +1,58 @@
+#!/bin/bash
+# Compares the table of service calls of docs/KERNEL.md with the definitions: numbers, places, arguments and refusals have to be those of
+# brd_sysgate's table and of brd_kernel's rows. Run by tests/commands.
+set -u
+cd "$(dirname "$0")/.." || exit 2
+gate=crates/brd_sysgate/specs/Gate.antt
+rows=crates/brd_kernel/specs/Services.antt
+
+# a line a call: number|name without its underscore|place|how many arguments
+of_gate() {
+    sed -n 's/^ *∷* *service \([0-9]*\) place\.\([A-Za-z]*\) (λ a\. call\.\([A-Za-z]*\)\(.*\)))*$/\1|\3|\2|\4/p' "$gate" |
+        while IFS='|' read -r number name place arguments; do
+            echo "$number|${name,,}|$place|$(grep -o 'a[0-3] a' <<< "$arguments" | wc -l)"
+        done
+}
+
+of_doc() {
+    sed -n 's/^| \([0-9]*\) | `\([a-z_]*\)` | \([^|]*\)| \([^|]*\) | \([^|]*\)| .*$/\1|\2|\3|\4/p' docs/KERNEL.md |
+        while IFS='|' read -r number name arguments place; do
+            case $place in
+                task) place=Task ;;
+                "locked task") place=LockedTask ;;
+                waiting) place=Waiting ;;
+                "on task") place=OnTask ;;
+                handler) place=Handler ;;
+            esac
+            words=$(tr -d ' ' <<< "$arguments")
+            count=0
+            [ -n "$words" ] && count=$(($(tr -cd ',' <<< "$words" | wc -c) + 1))
+            echo "$number|${name//_/}|$place|$count"
+        done
+}
+
+# a line a call: number|name|the kinds of refusal that its row fills in
+refusals_of_rows() {
+    awk '
+        /^-- [0-9]+ [a-z_]+/ { if (number) print number "|" name "|" kinds; number = $2; name = $3; sub(/[.,;:]$/, "", name); kinds = "" }
+        /^-- The rows by calls/ { print number "|" name "|" kinds; exit }
+        /bad_par =/ && number { kinds = kinds " PAR" }
+        /iluse =/ && number { kinds = kinds " ILUSE" }
+        /obj =/ && number { kinds = kinds " OBJ" }
+        /qovr =/ && number { kinds = kinds " QOVR" }
+    ' "$rows" | sed 's/| /|/'
+}
+
+refusals_of_doc() {
+    sed -n 's/^| \([0-9]*\) | `\([a-z_]*\)` | [^|]*| [^|]* | \([^|]*\)| .*$/\1|\2|\3/p' docs/KERNEL.md | sed 's/ *$//'
+}
+
+status=0
+diff <(of_gate) <(of_doc) || status=1
+diff <(refusals_of_rows) <(refusals_of_doc) || status=1
+if [ $status -eq 0 ]; then
+    echo "ok: services_doc: $(of_doc | wc -l) calls"
+else
+    echo "FAILED: services_doc: docs/KERNEL.md (>) and the definitions (<) differ"
+fi
+exit $status
