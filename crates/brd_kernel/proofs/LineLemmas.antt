@@ -1,9 +1,9 @@
 -- Interrupt lines.
 use Rattle.std.proofs.Common.{◌≡◌, ℕ, ◌+◌, List, [], ◌∷◌, refl, arith}
-use Rattle.std.specs.Prelude.{Bool, true, false, ◌&&◌, if◌then◌else◌, Option, None, Some}
+use Rattle.std.specs.Prelude.{None}
 use Rattle.std.proofs.lemmas.Bool.Decides.{nat_tests}
 use Rattle.brd_kernel.specs.declared.processor.Line.{Line}
-use Rattle.brd_kernel.specs.Kernel.{is_handled_by, pending_from}
+use Rattle.brd_kernel.specs.Kernel.{pending_from}
 use Rattle.brd_kernel.specs.Always.{AreQuiet}
 
 -- where no line is pending, none is for a processor

@@ -13,14 +13,6 @@ use Rattle.brd_kernel.specs.Always.{IsIdOrNone, IsKernel, AreQuiet}
 use Rattle.std.proofs.lemmas.List.FromFn.{map-range_with_len_more, length-map-range_with_len, get_or-map-range_with_len}
 use Rattle.brd_kernel.specs.Making.{idle_one, idle_ones, no_handler}
 
-pub no_ones : (processors : ℕ) → idle_ones processors 0 ≡ []
-unfolding idle_ones
-no_ones processors = refl
-
-pub ones_more : (processors n : ℕ) → idle_ones processors (n + 1) ≡ idle_ones processors n ++ idle_one processors n ∷ []
-unfolding idle_ones
-ones_more processors n = map-range_with_len_more (idle_one processors) 0 n n (omega arith)
-
 ones-length : (processors n : ℕ) → length (idle_ones processors n) ≡ n
 unfolding idle_ones
 ones-length processors n = length-map-range_with_len (idle_one processors) 0 n
@@ -38,6 +30,10 @@ none-at false processors n cpu test =
     let past : length (idle_ones processors n) ≤ cpu = grind (arith, nat_tests, test, ones-length processors n) in
     subst (λ p. IsIdOrNone (running_in p)) (sym (get_or-eq_default (idle_ones processors n) None past)) tt
 
+none-at-0 : (processors : ℕ) → slice_index_or (idle_ones processors 9) 0 None ≡ None
+unfolding idle_ones
+none-at-0 processors = get_or-map-range_with_len (idle_one processors) 0 9 0 0 None (omega arith) (omega arith)
+
 -- what a function has made part by part is a kernel
 pub made-kernel : (tasks : TaskTable) (processors : ℕ) (ps : List (Option Processor)) (contexts : List State) (lines : List Line) (console : List ℕ) →
     ps ≡ idle_ones processors 9 → contexts ≡ replicate 9 no_context → lines ≡ replicate 32 (quiet no_handler) → console ≡ [] →
@@ -47,6 +43,7 @@ made-kernel tasks processors ps contexts lines console ps_are contexts_are lines
   handler_contexts = ap length contexts_are;
   lines = ap length lines_are;
   console = subst (λ c. length c ≤ console_size) (sym console_is) (omega arith);
+  nobody = subst (λ l. slice_index_or l 0 None ≡ None) (sym ps_are) (none-at-0 processors);
   running = λ cpu. subst (λ l. IsIdOrNone (running_in (slice_index_or l cpu None))) (sym ps_are) (none-at (nat_lt cpu 9) processors 9 cpu refl);
 }
 

@@ -1,20 +1,28 @@
--- What is always true of the kernel.
+-- What is always true of the kernel's parts.
 use Rattle.std.specs.Prelude.{◌≡◌, ◌<◌, ◌≤◌, ℕ, false, List, Option, None, Some, length}
 use Rattle.std.specs.List.{AllByRecursion}
 use Rattle.brd_kernel.specs.declared.processor.Line.{Line}
-use Rattle.brd_kernel.specs.Kernel.{KernelState, running_on}
+use Rattle.brd_kernel.specs.declared.processor.Executor.{Executor}
+use Rattle.brd_kernel.specs.declared.processor.Executor.TheVariants as executor
+use Rattle.brd_kernel.specs.Kernel.{KernelState, processor_at, running_on}
 use Rattle.brd_kernel.specs.Services.{console_size}
 
 abbrev pub IsIdOrNone : Option ℕ → Type 0
 IsIdOrNone None = Unit {0}
 IsIdOrNone (Some id) = id < 256
 
--- how many of everything there are, and that the number of whoever runs is one that a task can have
+-- who executes on a processor has a context there
+abbrev pub HasContext : ℕ → Executor → Type 0
+HasContext cpu executor.Handler = cpu < 9
+HasContext cpu (executor.Task id) = id < 256
+
+-- how many of everything there are, that there is no processor 0, and that the number of whoever runs is one that a task can have
 pub record IsKernel (k : KernelState) : Type 0 where
   pub processors : length k.processors ≡ 9
   pub handler_contexts : length k.handler_contexts ≡ 9
   pub lines : length k.lines ≡ 32
   pub console : length k.console ≤ console_size
+  pub nobody : processor_at k 0 ≡ None
   pub running : (cpu : ℕ) → IsIdOrNone (running_on k cpu)
 
 -- no line is pending

@@ -1,10 +1,9 @@
 -- The kernel: what it keeps, interrupts, and what is seen of it.
 use Rattle.std.specs.Prelude.{◌≡◌, ℕ, ◌+◌, ◌^◌, ◌-◌, ◌==◌, nat_lt, Bool, true, false, not, ◌&&◌, ◌||◌, if◌then◌else◌}
-use Rattle.std.specs.Prelude.{List, [], ◌∷◌, slice_index_or, slice_set, replicate, Option, None, Some, is_some}
+use Rattle.std.specs.Prelude.{List, [], ◌∷◌, slice_index_or, slice_set, Option, None, Some, is_some}
 use Rattle.std.specs.Option.{option_map}
 use Rattle.brd_exec.specs.State.{State, opening}
 use Rattle.brd_exec.specs.Step.{Ran, ran}
-use Rattle.brd_exec.specs.declared.outcome.Outcome.{Outcome}
 use Rattle.brd_link.specs.LinkSet.{LinkSet}
 use Rattle.brd_mem.specs.Memory.{Memory}
 use Rattle.brd_tasks.specs.Tasks.{TaskTable, no_context, context_at, with_context, noted, without_activation, ended}
@@ -12,6 +11,9 @@ use Rattle.brd_kernel.specs.declared.processor.Processor.{Processor}
 use Rattle.brd_kernel.specs.declared.processor.Handler.{Handler}
 use Rattle.brd_kernel.specs.declared.processor.Line.{Line}
 use Rattle.brd_kernel.specs.declared.processor.Standing.{Standing}
+use Rattle.brd_kernel.specs.declared.processor.Ended.{Ended}
+use Rattle.brd_kernel.specs.declared.processor.Executor.{Executor}
+use Rattle.brd_kernel.specs.declared.processor.Executor.TheVariants as executor
 use Rattle.brd_kernel.specs.declared.processor.Standing.TheVariants as standing
 
 pub record KernelState : Type 0 where
@@ -19,7 +21,7 @@ pub record KernelState : Type 0 where
   pub count : ℕ  -- the ticks so far
   pub tasks : TaskTable
   pub processors : List (Option Processor)  -- by number, 9 of them: None at 0 and where the board has no such processor
-  pub handler_contexts : List State  -- by the processor's number, 9 of them: the context of the handler that runs there
+  pub handler_contexts : List State  -- by the processor's number, 9 of them: the context of the handler that runs there; any, where none runs
   pub lines : List Line  -- by number, 32 of them
   pub console : List ℕ  -- the bytes that were written to it
 
@@ -31,8 +33,8 @@ processor_at k cpu = slice_index_or k.processors cpu None
 abbrev pub idle : Processor
 idle = record { running = None; handling = None; locked = false; disabled = false; stopped = false }
 
--- A held processor's running task stays, whoever else is ready: it handles an interrupt, is CPU-locked, has dispatching disabled,
--- or is stopped.
+-- A processor is held while it handles an interrupt, is CPU-locked, has dispatching disabled or is stopped: its running task stays, whoever
+-- else is ready.
 abbrev pub is_held : Processor → Bool
 is_held p = is_some p.handling || p.locked || p.disabled || p.stopped
 
@@ -50,46 +52,41 @@ with_tasks k tasks = record k { tasks = tasks }
 abbrev pub with_processor : KernelState → ℕ → Processor → KernelState
 with_processor k cpu p = record k { processors = slice_set k.processors cpu (Some p) }
 
--- The context in which a processor executes: the handler's, else the running task's; none where it is stopped or idle.
+-- Who executes on a processor: its handler, else its running task; nobody where it is stopped or idle.
 
-abbrev pub context_of_task : KernelState → Option ℕ → Option State
-context_of_task k None = None
-context_of_task k (Some id) = Some (context_at k.tasks id)
+abbrev pub executor_by : Option ℕ → Option ℕ → Option Executor
+executor_by running (Some line) = Some executor.Handler
+executor_by (Some id) None = Some (executor.Task id)
+executor_by None None = None
+
+abbrev pub executor_in : Option Processor → Option Executor
+executor_in None = None
+executor_in (Some p) = if p.stopped then None else executor_by p.running p.handling
+
+abbrev pub executor_on : KernelState → ℕ → Option Executor
+executor_on k cpu = executor_in (processor_at k cpu)
 
 -- the context of the handler that runs on a processor
 abbrev pub handler_context_at : KernelState → ℕ → State
 handler_context_at k cpu = slice_index_or k.handler_contexts cpu no_context
 
-abbrev pub context_by : KernelState → ℕ → Option ℕ → Option ℕ → Option State
-context_by k cpu running None = context_of_task k running
-context_by k cpu running (Some line) = Some (handler_context_at k cpu)
+-- the context of who executes on a processor
+abbrev pub context_of : KernelState → ℕ → Executor → State
+context_of k cpu executor.Handler = handler_context_at k cpu
+context_of k cpu (executor.Task id) = context_at k.tasks id
 
-abbrev pub context_in : KernelState → ℕ → Option Processor → Option State
-context_in k cpu None = None
-context_in k cpu (Some p) = if p.stopped then None else context_by k cpu p.running p.handling
+-- it is written anew
+abbrev pub with_context_of : KernelState → ℕ → Executor → State → KernelState
+with_context_of k cpu executor.Handler context = record k { handler_contexts = slice_set k.handler_contexts cpu context }
+with_context_of k cpu (executor.Task id) context = with_tasks k (with_context k.tasks id context)
 
+-- the context in which a processor executes, if it does
 abbrev pub context_on : KernelState → ℕ → Option State
-context_on k cpu = context_in k cpu (processor_at k cpu)
-
-abbrev pub with_context_of_task : KernelState → Option ℕ → State → KernelState
-with_context_of_task k None context = k
-with_context_of_task k (Some id) context = with_tasks k (with_context k.tasks id context)
-
-abbrev pub with_context_by : KernelState → ℕ → Option ℕ → Option ℕ → State → KernelState
-with_context_by k cpu running None context = with_context_of_task k running context
-with_context_by k cpu running (Some line) context = record k { handler_contexts = slice_set k.handler_contexts cpu context }
-
-abbrev pub with_context_in : KernelState → ℕ → Option Processor → State → KernelState
-with_context_in k cpu None context = k
-with_context_in k cpu (Some p) context = if p.stopped then k else with_context_by k cpu p.running p.handling context
-
--- the context in which a processor executes, written anew
-abbrev pub with_context_on : KernelState → ℕ → State → KernelState
-with_context_on k cpu context = with_context_in k cpu (processor_at k cpu) context
+context_on k cpu = option_map (context_of k cpu) (executor_on k cpu)
 
 -- Interrupts.
 
--- a line that has a handler and nothing pending, or no handler
+-- a line with nothing pending
 abbrev pub quiet : Option Handler → Line
 quiet handler = record { handler = handler; pending = false }
 
@@ -111,16 +108,19 @@ accepts (Some p) = not (is_some p.handling || p.locked || p.stopped)
 abbrev pub deliverable : KernelState → ℕ → Option ℕ
 deliverable k cpu = if accepts (processor_at k cpu) then pending_from cpu 0 k.lines else None
 
--- the line of a number; one above 31 is none
+-- the line of a number; one above 31 has no handler
 abbrev pub line_at : KernelState → ℕ → Line
 line_at k line = slice_index_or k.lines line (quiet None)
 
+-- a line is pending
+abbrev pub with_pending : KernelState → ℕ → KernelState
+with_pending k line = record k { lines = slice_set k.lines line (record (line_at k line) { pending = true }) }
+
 -- an interrupt is raised: the line is pending from then on, if it has a handler
 abbrev pub raised : KernelState → ℕ → KernelState
-raised k line =
-    if is_some (line_at k line).handler then record k { lines = slice_set k.lines line (record (line_at k line) { pending = true }) } else k
+raised k line = if is_some (line_at k line).handler then with_pending k line else k
 
--- where a handler starts: all 0 but its line in $a0
+-- the context in which the handler of a line starts: at its address, all registers 0 but the line in $a0 (at 0, where there is no handler)
 abbrev pub entry_of : ℕ → Option Handler → State
 entry_of line None = opening 0 line 0
 entry_of line (Some handler) = opening handler.address line 0
@@ -134,13 +134,16 @@ handles k cpu line (Some p) = record k {
 }
 
 -- a processor begins to handle the interrupt of a line
-abbrev pub accepted_line : KernelState → ℕ → Option ℕ → KernelState
-accepted_line k cpu None = k
-accepted_line k cpu (Some line) = handles k cpu line (processor_at k cpu)
+abbrev pub accepted_line : KernelState → ℕ → ℕ → KernelState
+accepted_line k cpu line = handles k cpu line (processor_at k cpu)
+
+abbrev pub accepted_in : KernelState → ℕ → Option ℕ → KernelState
+accepted_in k cpu None = k
+accepted_in k cpu (Some line) = accepted_line k cpu line
 
 -- a processor accepts the interrupt that is deliverable to it, if one is
 abbrev pub accepted : KernelState → ℕ → KernelState
-accepted k cpu = accepted_line k cpu (deliverable k cpu)
+accepted k cpu = accepted_in k cpu (deliverable k cpu)
 
 -- Exceptions.
 
@@ -163,13 +166,17 @@ ended_by_fault k cpu = faulted_in k cpu (processor_at k cpu)
 
 -- Time.
 
--- the count after which time stands still (own choice)
+-- the last tick that is counted (own choice)
 abbrev pub last_count : ℕ
 last_count = 2 ^ 63 - 1
 
--- a tick passes
+-- a tick is counted
+abbrev pub counted : KernelState → KernelState
+counted k = record k { count = k.count + 1 }
+
+-- a tick passes, unless the last one has been counted
 abbrev pub ticked : KernelState → KernelState
-ticked k = if nat_lt k.count last_count then record k { count = k.count + 1 } else k
+ticked k = if nat_lt k.count last_count then counted k else k
 
 -- What is seen of a processor.
 
@@ -186,26 +193,31 @@ standing_on k cpu = option_map standing_in (processor_at k cpu)
 
 -- One instruction on a processor.
 
--- the kernel, memory and links after it, and how it ended
+-- the kernel, memory and links after it, its address and how it ended
 pub record Executed : Type 0 where
   pub kernel : KernelState
   pub memory : Memory
   pub links : LinkSet
-  pub outcome : Outcome
+  pub ended : Ended
 
-abbrev pub executed_by : KernelState → ℕ → Ran → Executed
-executed_by k cpu after =
-    record { kernel = with_context_on k cpu after.state; memory = after.memory; links = after.links; outcome = after.outcome }
+abbrev pub executed_by : KernelState → ℕ → Executor → ℕ → Ran → Executed
+executed_by k cpu who address after = record {
+  kernel = with_context_of k cpu who after.state;
+  memory = after.memory;
+  links = after.links;
+  ended = record { address = address; outcome = after.outcome };
+}
 
--- an instruction in the context in which a processor executes; None where it executes none
-abbrev pub executed_in : KernelState → ℕ → Memory → LinkSet → Option State → Option Executed
+abbrev pub executed_in : KernelState → ℕ → Memory → LinkSet → Option Executor → Option Executed
 executed_in k cpu memory links None = None
-executed_in k cpu memory links (Some context) = Some (executed_by k cpu (ran cpu context memory links))
+executed_in k cpu memory links (Some who) =
+    Some (executed_by k cpu who (context_of k cpu who).pc (ran cpu (context_of k cpu who) memory links))
 
+-- an instruction in the context in which a processor executes; None where nobody executes
 abbrev pub executed : KernelState → ℕ → Memory → LinkSet → Option Executed
-executed k cpu memory links = executed_in k cpu memory links (context_on k cpu)
+executed k cpu memory links = executed_in k cpu memory links (executor_on k cpu)
 
 -- what a function that executes has left and returned
-abbrev pub Executes : Option Executed → KernelState → Memory → LinkSet → KernelState → Memory → LinkSet → Option Outcome → Type 0
+abbrev pub Executes : Option Executed → KernelState → Memory → LinkSet → KernelState → Memory → LinkSet → Option Ended → Type 0
 Executes None old memory links new stored linked result = (new ≡ old) × (stored ≡ memory) × (linked ≡ links) × (result ≡ None)
-Executes (Some e) old memory links new stored linked result = (new ≡ e.kernel) × (stored ≡ e.memory) × (linked ≡ e.links) × (result ≡ Some e.outcome)
+Executes (Some e) old memory links new stored linked result = (new ≡ e.kernel) × (stored ≡ e.memory) × (linked ≡ e.links) × (result ≡ Some e.ended)

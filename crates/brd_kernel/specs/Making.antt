@@ -1,5 +1,5 @@
 -- The kernel as it is made, before any task has been started.
-use Rattle.std.specs.Prelude.{ℕ, ◌<◌, nat_lt, nat_le, Bool, false, ◌&&◌, if◌then◌else◌, List, [], map, replicate, Option, None, Some}
+use Rattle.std.specs.Prelude.{ℕ, nat_le, false, ◌&&◌, if◌then◌else◌, List, [], map, replicate, Option, None, Some}
 use Rattle.std.specs.List.{range_with_len}
 use Rattle.brd_tasks.specs.Tasks.{made, no_context}
 use Rattle.brd_tasks.specs.declared.task.TaskSetup.{TaskSetup}

@@ -63,9 +63,9 @@ abbrev pub silent : KernelState → Result Served Ercd
 silent k = Ok (record { kernel = k; reply = Silent })
 
 -- a refused call changes nothing
-abbrev pub answered : KernelState → Result Served Ercd → Served
-answered k (Ok outcome) = outcome
-answered k (Err code) = record { kernel = k; reply = Answer (code_of code) None }
+abbrev pub or_refused : KernelState → Result Served Ercd → Served
+or_refused k (Ok outcome) = outcome
+or_refused k (Err code) = record { kernel = k; reply = Answer (code_of code) None }
 
 -- what a function left and returned is what the table says
 abbrev pub Serves : KernelState → KernelState → Result Reply Ercd → Result Served Ercd → Type 0

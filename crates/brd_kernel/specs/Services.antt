@@ -1,7 +1,7 @@
 -- The service table: a row a call, in the order of their numbers (uITRON 4.0 specification; get_pid: TOPPERS/FMP; put_chr and ext_ker,
 -- the refusals and their order: own choice). A row begins with the object that the call names and refuses nothing but an ID that is none
 -- (E_ID, E_NOEXS); what it fills in is what its line of the table says. T is a task's ID, T0 may be 0 for the caller.
-use Rattle.std.specs.Prelude.{ℕ, ◌+◌, ◌%◌, ◌^◌, ◌==◌, nat_lt, nat_le, Bool, true, false, not, ◌&&◌, ◌||◌, if◌then◌else◌}
+use Rattle.std.specs.Prelude.{ℕ, ◌%◌, ◌^◌, ◌==◌, nat_lt, nat_le, Bool, true, false, not, ◌&&◌, ◌||◌, if◌then◌else◌}
 use Rattle.std.specs.Prelude.{[], ◌∷◌, ◌++◌, length, Option, None, Some, is_some, unwrap_or, Result}
 use Rattle.brd_tasks.specs.declared.status.Status.{Status}
 use Rattle.brd_tasks.specs.declared.status.WaitReason.{WaitReason}
@@ -18,7 +18,7 @@ use Rattle.brd_kernel.specs.declared.call.Ercd.TheVariants.{Rlwai}
 use Rattle.brd_kernel.specs.Answer.{e_ok, code_of}
 use Rattle.brd_kernel.specs.Kernel.{KernelState, processor_at, is_held, running_on, with_tasks, with_processor, unmarked}
 use Rattle.brd_kernel.specs.Dispatch.{is_same_task}
-use Rattle.brd_kernel.specs.Row.{Row, Served, served, never, ok, ok_with, ok_count, silent, answered}
+use Rattle.brd_kernel.specs.Row.{Row, Served, served, never, ok, ok_with, ok_count, silent, or_refused}
 
 -- an ID outside 1 to 255
 unfoldable pub is_no_id : ℕ → Bool
@@ -219,4 +219,4 @@ caller_on k cpu = unwrap_or (running_on k cpu) 0
 
 -- a call that comes from a processor
 abbrev pub serve_of : KernelState → ℕ → Call → Served
-serve_of k cpu call = answered k (serve_by k cpu (caller_on k cpu) call)
+serve_of k cpu call = or_refused k (serve_by k cpu (caller_on k cpu) call)

@@ -1,17 +1,17 @@
 //! The kernel.
 
-ghost use Rattle.std.specs.Prelude.{◌≡◌, ◌<◌, ◌+◌, ◌==◌, ◌&&◌, ℕ, if◌then◌else◌, All, IfOk, IfSome, is_some, nat_lt, option_copied};
+ghost use Rattle.std.specs.Prelude.{◌≡◌, ◌<◌, ◌≤◌, ◌+◌, ◌==◌, ◌&&◌, ℕ, if◌then◌else◌, All, IfOk, IfSome, is_some, nat_lt, option_copied};
 ghost use Rattle.brd_tasks.specs.Ready.{IsProcessor, IsSetup};
-ghost use Rattle.brd_tasks.specs.Tasks.{activated, context_at, view_of};
+ghost use Rattle.brd_tasks.specs.Tasks.{activated, view_of};
 ghost use Rattle.brd_tasks.specs.declared.task.Request.TheVariants.{Assigned};
 ghost use Rattle.brd_kernel.specs.Making.{made_kernel};
 ghost use Rattle.brd_kernel.specs.Kernel.{
   with_tasks,
   processor_at,
   running_on,
+  executor_on,
+  context_of,
   context_on,
-  handler_context_at,
-  with_context_on,
   deliverable,
   raised,
   line_at,
@@ -25,19 +25,19 @@ ghost use Rattle.brd_kernel.specs.Kernel.{
   Executes,
 };
 ghost use Rattle.brd_kernel.specs.Services.{unmarked_on};
-ghost use Rattle.brd_kernel.specs.Always.{IsIdOrNone};
+ghost use Rattle.brd_kernel.specs.Always.{IsIdOrNone, HasContext};
 ghost use Rattle.brd_kernel.specs.Dispatch.{dispatched, dispatched_on, is_same_task, has_changed};
 ghost use Rattle.std.specs.Int.{bit_at};
 ghost use Rattle.std.specs.Borrow.{sem};
-ghost use Rattle.brd_kernel.specs.Lending.{LendsHandlerContext, LendsTaskContext};
+ghost use Rattle.brd_kernel.specs.Lending.{LendsContext};
 
 mod serve;
 
 use crate::lines::{entry_of, first_pending, is_any_pending};
 use crate::making::{idle_processors, no_contexts, quiet_lines};
-use crate::processor::{Line, Processor, Standing};
+use crate::processor::{Ended, Executor, Line, Processor, Standing};
 use brd_base::NoMemory;
-use brd_exec::{Context, Outcome, run};
+use brd_exec::{Context, run};
 use brd_link::Links;
 use brd_mem::Ram;
 use brd_tasks::{Request, TaskId, TaskSetup, TaskView, Tasks};
@@ -56,7 +56,7 @@ pub struct Kernel {
     off: bool,
     count: u64,
     tasks: Tasks,
-    processors: Vec<Option<Processor>>,
+    processors: [Option<Processor>; 9],
     handler_contexts: Vec<Context>,
     lines: Vec<Line>,
     console: Vec<u8>,
@@ -77,7 +77,7 @@ impl Model for Kernel {
       off = k.off;
       count = k.count;
       tasks = k.tasks;
-      processors = k.processors.items;
+      processors = k.processors;
       handler_contexts = k.handler_contexts.items;
       lines = k.lines.items;
       console = k.console.items;
@@ -88,7 +88,7 @@ impl Model for Kernel {
           off = k.off;
           count = k.count;
           tasks = k.tasks;
-          processors = k.processors.items;
+          processors = k.processors;
           handler_contexts = k.handler_contexts.items;
           lines = k.lines.items;
           console = k.console.items;
@@ -100,14 +100,15 @@ impl Model for Kernel {
 impl Kernel {
     /// A board's kernel with this many processors and these tasks, none of them started. No line has a handler.
     pub fn new(alloc: Global, processors: u8, tasks: &[TaskSetup]) -> Result<Kernel, NoMemory>
-        requires { All IsSetup tasks.now }
+        requires few { processors ≤ 8 }
+        requires setups { All IsSetup tasks.now }
         ensures { IfOk result (λ kernel. kernel ≡ made_kernel processors tasks.now) }
     {
         Ok(Kernel {
             off: false,
             count: 0,
             tasks: Tasks::new(alloc, tasks)?,
-            processors: idle_processors(alloc, processors)?,
+            processors: idle_processors(processors),
             handler_contexts: no_contexts(alloc)?,
             lines: quiet_lines(alloc)?,
             console: Vec::with_capacity(alloc, CONSOLE_SIZE)?,
@@ -126,7 +127,7 @@ impl Kernel {
     pub fn processor(&self, cpu: u8) -> Option<Processor>
         ensures is { result ≡ processor_at self.now cpu }
         ensures small { IfSome result (λ p. IsIdOrNone p.running) }
-        ensures within { IfSome result (λ _. cpu < 9) }
+        ensures within { IfSome result (λ _. IsProcessor cpu) }
     {
         if (cpu as usize) < self.processors.len() {
             return self.processors[cpu as usize];
@@ -188,37 +189,35 @@ impl Kernel {
         self.off
     }
 
-    /// The context in which a processor executes: that of its handler, else of its running task.
+    /// Who executes on a processor, if somebody does.
+    pub fn executor(&self, cpu: u8) -> Option<Executor>
+        ensures is { result ≡ executor_on self.now cpu }
+        ensures there { IfSome result (HasContext cpu) }
+    {
+        let processor = self.processor(cpu)?;
+        processor.executor()
+    }
+
+    /// The context in which a processor executes, if it does.
     pub fn context(&self, cpu: u8) -> Option<&Context>
         ensures { option_copied result ≡ context_on self.now cpu }
     {
-        let processor = self.processor(cpu)?;
-        if processor.stopped {
-            return None;
+        match self.executor(cpu)? {
+            Executor::Handler => Some(&self.handler_contexts[cpu as usize]),
+            Executor::Task(id) => Some(self.tasks.context(id)),
         }
-        if processor.handling.is_some() {
-            return Some(&self.handler_contexts[cpu as usize]);
-        }
-        let id = self.running(cpu)?;
-        Some(self.tasks.context(id))
     }
 
-    /// The context of the handler that runs on a processor, to be changed where it lies.
-    pub fn handler_context_mut(&mut self, cpu: u8) -> &mut Context
-        requires { cpu < 9 }
-        ensures* writes_back { sem 𝓛 (LendsHandlerContext self.entry cpu result) }
-        ensures value { result.now ≡ handler_context_at self.old cpu }
+    /// The context of who executes on a processor, to be changed where it lies.
+    pub fn context_mut(&mut self, cpu: u8, who: Executor) -> &mut Context
+        requires { HasContext cpu who }
+        ensures* writes_back { sem 𝓛 (LendsContext self.entry cpu who result) }
+        ensures value { result.now ≡ context_of self.old cpu who }
     {
-        &mut self.handler_contexts[cpu as usize]
-    }
-
-    /// The context of a task, to be changed where it lies.
-    pub fn task_context_mut(&mut self, id: TaskId) -> &mut Context
-        requires { id < 256 }
-        ensures* writes_back { sem 𝓛 (LendsTaskContext self.entry id result) }
-        ensures value { result.now ≡ context_at self.old.tasks id }
-    {
-        self.tasks.context_mut(id)
+        match who {
+            Executor::Handler => &mut self.handler_contexts[cpu as usize],
+            Executor::Task(id) => self.tasks.context_mut(id),
+        }
     }
 
     /// The line whose interrupt a processor accepts next: the lowest that is pending for it.
@@ -264,9 +263,10 @@ impl Kernel {
     }
 
     /// A processor begins to handle the interrupt of a line.
+    #[inline(never)]
     fn handle(&mut self, cpu: u8, line: u8)
         requires { line < 32 }
-        ensures { self.new ≡ accepted_line self.old cpu (Some line) }
+        ensures { self.new ≡ accepted_line self.old cpu line }
     {
         let Some(processor) = self.processor(cpu) else {
             return
@@ -343,20 +343,16 @@ impl Kernel {
         !is_same_task(processor.running, running)
     }
 
-    /// Does one instruction in the context in which a processor executes, where it lies. None where it executes none.
-    pub fn run(&mut self, cpu: u8, ram: &mut Ram, links: &mut Links) -> Option<Outcome>
+    /// Does one instruction in the context in which a processor executes, where it lies. None where nobody executes.
+    pub fn run(&mut self, cpu: u8, ram: &mut Ram, links: &mut Links) -> Option<Ended>
         requires { IsProcessor cpu }
         ensures { Executes (executed self.old cpu ram.old links.old) self.old ram.old links.old self.new ram.new links.new result }
     {
-        let processor = self.processor(cpu)?;
-        if processor.stopped {
-            return None;
-        }
-        if processor.handling.is_some() {
-            return Some(run(&mut self.handler_contexts[cpu as usize], cpu, ram, links));
-        }
-        let id = processor.running?;
-        Some(run(self.tasks.context_mut(id), cpu, ram, links))
+        let who = self.executor(cpu)?;
+        let context = self.context_mut(cpu, who);
+        let address = context.pc();
+        let outcome = run(context, cpu, ram, links);
+        Some(Ended { address, outcome })
     }
 
     /// A tick passes. Answers whether it was counted; at the end of time it isn't, and nothing changes.

@@ -8,6 +8,7 @@ use crate::processor::{Handler, Line};
 use brd_exec::Context;
 
 /// The lowest line that is pending for a processor.
+#[inline(never)]
 pub fn first_pending(lines: &[Line], cpu: u8) -> Option<u8>
     requires { length lines.now ≤ 32 }
     ensures is { result ≡ pending_from cpu 0 lines.now }

@@ -11,15 +11,21 @@ use brd_exec::Context;
 use std::alloc::Global;
 
 /// Processors on which nothing runs.
-#[tactic(auto, using(crate::proofs::MakingLemmas::ones_more, crate::proofs::MakingLemmas::no_ones))]
-pub fn idle_processors(alloc: Global, processors: u8) -> Result<Vec<Option<Processor>>, NoMemory>
-    ensures { IfOk result (λ made. made.items ≡ idle_ones processors 9) }
+#[tactic(auto, unfolding(crate::specs::Making::idle_ones))]
+pub fn idle_processors(processors: u8) -> [Option<Processor>; 9]
+    ensures { result ≡ idle_ones processors 9 }
 {
-    let mut made = Vec::new(alloc);
-    for cpu in 0..9u8 {
-        made.push(idle_processor(processors, cpu))?;
-    }
-    Ok(made)
+    [
+        None,
+        idle_processor(processors, 1),
+        idle_processor(processors, 2),
+        idle_processor(processors, 3),
+        idle_processor(processors, 4),
+        idle_processor(processors, 5),
+        idle_processor(processors, 6),
+        idle_processor(processors, 7),
+        idle_processor(processors, 8),
+    ]
 }
 
 /// The processor of a number, where the board has it.

@@ -1,8 +1,9 @@
 //! The processors and the interrupt lines as the kernel sees them.
 
-ghost use Rattle.std.specs.Prelude.{◌≡◌};
-ghost use Rattle.brd_kernel.specs.Kernel.{is_held, idle, unmarked, quiet};
+ghost use Rattle.std.specs.Prelude.{◌≡◌, Some};
+ghost use Rattle.brd_kernel.specs.Kernel.{executor_in, is_held, idle, unmarked, quiet};
 
+use brd_exec::Outcome;
 use brd_tasks::TaskId;
 
 /// What a processor is doing.
@@ -16,6 +17,24 @@ pub enum Standing {
     Task(TaskId),
     /// It runs the handler of this line.
     Handler(u8),
+}
+
+/// Who executes on a processor.
+#[derive(Clone, Copy, Debug, PartialEq, Eq)]
+pub enum Executor {
+    /// Its running task.
+    Task(TaskId),
+    /// The handler of an interrupt.
+    Handler,
+}
+
+/// An instruction that was executed.
+#[derive(Clone, Copy, Debug, PartialEq, Eq)]
+pub struct Ended {
+    /// Its address.
+    pub address: u32,
+    /// How it ended.
+    pub outcome: Outcome,
 }
 
 /// A processor.
@@ -56,6 +75,20 @@ impl Processor {
             disabled: false,
             ..self
         }
+    }
+
+    /// Who executes on it.
+    pub fn executor(&self) -> Option<Executor>
+        ensures { result ≡ executor_in (Some self.now) }
+    {
+        if self.stopped {
+            return None;
+        }
+        if self.handling.is_some() {
+            return Some(Executor::Handler);
+        }
+        let id = self.running?;
+        Some(Executor::Task(id))
     }
 
     /// Whether its running task stays, whoever else is ready.

@@ -218,7 +218,11 @@ fn runs(rt: HostRuntime) -> Result<(), Fail> {
     let mut kernel = two(alloc)?;
     let mut links = Links::new();
     let mut ram = Ram::new(alloc, 65_536)?;
-    assert_eq!(rt; kernel.run(1, &mut ram, &mut links), Some(Outcome::Done));
+    let ended = Ended {
+        address: 0x8000_0000,
+        outcome: Outcome::Done,
+    };
+    assert_eq!(rt; kernel.run(1, &mut ram, &mut links), Some(ended));
     assert_eq!(rt; kernel.context(1).map(|it| it.pc()), Some(0x8000_0004));
     assert_eq!(rt; kernel.task(1).map(|it| it.context.pc()), Some(0x8000_0004));
     kernel.end_by_fault(2);

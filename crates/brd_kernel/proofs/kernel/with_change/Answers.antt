@@ -1,4 +1,4 @@
-use Rattle.std.proofs.Common.{◌≡◌, ◌∙◌, arith}
+use Rattle.std.proofs.Common.{◌∙◌, arith}
 use Rattle.brd_kernel.proofs.BitLemmas.{set-bit}
 use Rattle.brd_kernel.proofs.kernel.with_change.Goals as goal
 

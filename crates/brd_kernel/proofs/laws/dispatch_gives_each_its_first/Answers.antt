@@ -1,5 +1,8 @@
-use Rattle.brd_kernel.proofs.DispatchLemmas.{dispatch-free, dispatch-held, dispatch-none}
+use Rattle.brd_kernel.proofs.DispatchLemmas.{dispatch-settles, dispatch-free, dispatch-held, dispatch-none}
 use Rattle.brd_kernel.proofs.laws.dispatch_gives_each_its_first.Goals as goal
+
+pub returns-clause-settled : goal.returns-clause-settled
+returns-clause-settled c = dispatch-settles
 
 pub returns-clause-free : goal.returns-clause-free
 returns-clause-free c = dispatch-free
