@@ -11,10 +11,11 @@ use Rattle.brd_kernel.specs.declared.call.Ercd.TheVariants.{Rsfn, Ctx}
 use Rattle.brd_kernel.specs.declared.call.Reply.{Reply}
 use Rattle.brd_kernel.specs.declared.call.Reply.TheVariants.{Answer, Silent}
 use Rattle.brd_kernel.specs.declared.processor.Processor.{Processor}
+use Rattle.brd_kernel.specs.declared.processor.Executor.{Executor}
 use Rattle.brd_kernel.specs.Answer.{code_of}
 use Rattle.brd_kernel.specs.Row.{Served}
 use Rattle.brd_kernel.specs.Services.{caller_on, serve_of}
-use Rattle.brd_kernel.specs.Kernel.{KernelState, processor_at, context_on, with_context_on}
+use Rattle.brd_kernel.specs.Kernel.{KernelState, processor_at, executor_on, context_of, with_context_of, context_on}
 use Rattle.brd_sysgate.specs.declared.gate.Caller.{Caller}
 use Rattle.brd_sysgate.specs.declared.gate.Caller.TheVariants.{Task, Handler}
 use Rattle.brd_sysgate.specs.declared.place.Place.{Place}
@@ -30,7 +31,7 @@ pub record Service : Type 0 where
 abbrev pub service : ℕ → Place → (List ℕ → Call) → Service
 service number place call = record { number = number; place = place; call = call }
 
--- an argument, from the first one on
+-- the first argument, $a0, and the second, $a1
 abbrev pub a0 : List ℕ → ℕ
 a0 a = slice_index a 0
 
@@ -111,7 +112,7 @@ abbrev pub caller_by : ℕ → Processor → Option ℕ → Caller
 caller_by id p None = Task id p.locked p.disabled
 caller_by id p (Some line) = Handler
 
--- who executes on a processor
+-- who executes on a processor (where the board has none of that number, nobody does)
 abbrev pub caller_in : ℕ → Option Processor → Caller
 caller_in id None = Handler
 caller_in id (Some p) = caller_by id p p.handling
@@ -123,24 +124,24 @@ abbrev pub served_call : KernelState → ℕ → Result Call Ercd → Served
 served_call k cpu (Ok call) = serve_of k cpu call
 served_call k cpu (Err code) = record { kernel = k; reply = Answer (code_of code) None }
 
-abbrev pub replied_in : KernelState → ℕ → Reply → Option State → KernelState
-replied_in k cpu reply None = k
-replied_in k cpu reply (Some s) = with_context_on k cpu (written s reply)
+abbrev pub changed_in : (State → State) → KernelState → ℕ → Option Executor → KernelState
+changed_in change k cpu None = k
+changed_in change k cpu (Some who) = with_context_of k cpu who (change (context_of k cpu who))
 
--- the reply is written to the context in which the processor still executes
+-- the context in which a processor executes is changed, if it executes
+abbrev pub with_changed_context : (State → State) → KernelState → ℕ → KernelState
+with_changed_context change k cpu = changed_in change k cpu (executor_on k cpu)
+
+-- the reply is written to the context in which the processor executes after the call
 abbrev pub replied : ℕ → Served → KernelState
-replied cpu done = replied_in done.kernel cpu done.reply (context_on done.kernel cpu)
-
-abbrev pub gone_on : KernelState → ℕ → Option State → KernelState
-gone_on k cpu None = k
-gone_on k cpu (Some s) = with_context_on k cpu (advanced s)
+replied cpu done = with_changed_context (λ s. written s done.reply) done.kernel cpu
 
 abbrev pub called_in : KernelState → ℕ → Caller → Option State → KernelState
 called_in k cpu caller None = k
 called_in k cpu caller (Some s) = replied cpu (served_call k cpu (read_of s caller))
 
 -- A SYSCALL: the context goes on as after an ordinary instruction; then the call is read from it and served, and its reply is written.
-abbrev pub called : KernelState → ℕ → KernelState
+unfoldable pub called : KernelState → ℕ → KernelState
 called k cpu =
-    let on = gone_on k cpu (context_on k cpu) in
+    let on = with_changed_context advanced k cpu in
     called_in on cpu (caller_of k cpu) (context_on on cpu)

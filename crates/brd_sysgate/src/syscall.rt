@@ -2,15 +2,16 @@
 
 ghost use Rattle.std.specs.Prelude.{◌≡◌, ◌<◌};
 ghost use Rattle.brd_exec.specs.State.{advanced};
-ghost use Rattle.brd_kernel.specs.Kernel.{context_on, processor_at};
+ghost use Rattle.brd_kernel.specs.Kernel.{processor_at};
 ghost use Rattle.brd_kernel.specs.Services.{caller_on};
-ghost use Rattle.brd_sysgate.specs.Gate.{caller_of, gone_on, replied_in, served_call, read_of, called};
+ghost use Rattle.brd_sysgate.specs.Gate.{caller_of, with_changed_context, written, served_call, read_of, called};
 
 use crate::gate::{Caller, read, write};
 use brd_kernel::{Call, Ercd, Kernel, Reply};
 
 /// A SYSCALL on a processor: its context goes on as after an ordinary instruction, the call is served, and its reply is written where the
 /// context lies.
+#[tactic(auto, unfolding(crate::specs::Gate::called))]
 pub fn call(kernel: &mut Kernel, cpu: u8)
     ensures { kernel.new ≡ called kernel.old cpu }
 {
@@ -43,22 +44,11 @@ fn caller(kernel: &Kernel, cpu: u8) -> Caller
 
 /// The context of a processor goes on to the next instruction.
 fn advance(kernel: &mut Kernel, cpu: u8)
-    ensures { kernel.new ≡ gone_on kernel.old cpu (context_on kernel.old cpu) }
+    ensures { kernel.new ≡ with_changed_context advanced kernel.old cpu }
 {
-    let Some(processor) = kernel.processor(cpu) else {
-        return
-    };
-    if processor.stopped {
-        return;
+    if let Some(who) = kernel.executor(cpu) {
+        kernel.context_mut(cpu, who).advance();
     }
-    if processor.handling.is_some() {
-        kernel.handler_context_mut(cpu).advance();
-        return;
-    }
-    let Some(id) = kernel.running(cpu) else {
-        return
-    };
-    kernel.task_context_mut(id).advance();
 }
 
 /// Serves a call, or answers why it can't be made.
@@ -73,20 +63,9 @@ fn serve(kernel: &mut Kernel, cpu: u8, call: Result<Call, Ercd>) -> Reply
 
 /// Writes a reply to the context in which a processor executes.
 fn answer(kernel: &mut Kernel, cpu: u8, reply: Reply)
-    ensures { kernel.new ≡ replied_in kernel.old cpu reply (context_on kernel.old cpu) }
+    ensures { kernel.new ≡ with_changed_context (λ s. written s reply) kernel.old cpu }
 {
-    let Some(processor) = kernel.processor(cpu) else {
-        return
-    };
-    if processor.stopped {
-        return;
+    if let Some(who) = kernel.executor(cpu) {
+        write(kernel.context_mut(cpu, who), reply);
     }
-    if processor.handling.is_some() {
-        write(kernel.handler_context_mut(cpu), reply);
-        return;
-    }
-    let Some(id) = kernel.running(cpu) else {
-        return
-    };
-    write(kernel.task_context_mut(id), reply);
 }
