@@ -8,8 +8,10 @@ use Rattle.brd_base.specs.Space.{base}
 use Rattle.brd_mem.specs.Memory.{Memory, zeros, contains, copied}
 use Rattle.brd_mem.specs.Image.{byte_in, segments_of_words, image_of_words}
 use Rattle.brd_mem.specs.declared.image.Segment.{Segment}
+use Rattle.brd_text.specs.Faults.{◌>>=◌}
 use Rattle.brd_board.specs.Board.{BoardState}
-use Rattle.brd_board.specs.Boot.{boot, boot_words, ram_size, started, memory_of, memory_of_words}
+use Rattle.brd_board.specs.Setup.{setups_from, placed_task, region_of, handlers_tested}
+use Rattle.brd_board.specs.Boot.{boot, boot_words, ram_size, loaded, first_board, first_kernel, first_task, words_config, memory_of, memory_of_words}
 use Rattle.brd_board.proofs.LoadLemmas.{turn, all_loaded, zero_bytes, copied-size}
 use Rattle.brd_board.specs.declared.boot.BootFault.{BootFault}
 use Rattle.brd_board.specs.declared.boot.BootFault.TheVariants.{Outside}
@@ -28,11 +30,10 @@ copied-zero size bytes =
 
 -- they fit exactly where there are at most 16,384
 fits : (n : ℕ) → contains ram_size base (4 * n) && true ≡ nat_le n 16384
-unfolding ram_size
 fits n = grind (arith, nat_tests)
 
 chosen : (a b : Bool) (x y : Memory) → a ≡ b → (a ≡ true → x ≡ y) →
-    ◌≡◌ {A = Result BoardState BootFault} (if a then Ok (started x) else Err Outside) (if b then Ok (started y) else Err Outside)
+    (if a then Ok x else Err Outside) ≡ (if b then Ok y else Err Outside)
 chosen true b x y e f = rw (← e, f refl) refl
 chosen false b x y e f = rw (← e) refl
 
@@ -52,14 +53,35 @@ one_loaded size segment inside =
     all_loaded size (segment ∷ []) (copied (zeros size) segment.address segment.bytes) (copied-size size segment (zeros size) long inside ∙ long)
     (λ at. turn size segment [] (zeros size) at long inside tt ∙ ap (λ byte. unwrap_or (byte_in (segment ∷ []) (base + at)) byte) (zero_bytes size at))
 
-pub boot-image_of_words : (words : List ℕ) → boot (image_of_words words) ≡ boot_words words
-boot-image_of_words [] =
-    let whole : ram_size - 0 ≡ ram_size = omega arith in
-    rw (← none_loaded ram_size, whole) refl
-boot-image_of_words (word ∷ words) =
+-- the memory of words
+loaded_words : List ℕ → Result Memory BootFault
+loaded_words words = if nat_le (length words) 16384 then Ok (memory_of_words words) else Err Outside
+
+loaded-words : (words : List ℕ) → loaded ram_size (segments_of_words words) ≡ loaded_words words
+unfolding loaded loaded_words
+loaded-words [] = ap Ok (sym (none_loaded ram_size))
+loaded-words (word ∷ words) =
     let bytes : List ℕ = flat_map bytes_of_word (word ∷ words) in
     let long : length bytes ≡ 4 * length (word ∷ words) = length-bytes (word ∷ words) in
     chosen (contains ram_size base (length bytes) && true) (nat_le (length (word ∷ words)) 16384)
     (memory_of ram_size (segments_of_words (word ∷ words))) (memory_of_words (word ∷ words))
     (rw long (fits (length (word ∷ words))))
     (λ inside. sym (one_loaded ram_size (record { address = base; bytes = bytes }) (one_inside _ inside)) ∙ rw (← long) (copied-zero ram_size bytes))
+
+-- the board over a memory
+over : Result Memory BootFault → Result BoardState BootFault
+over memory = memory >>= (λ m. Ok (first_board (first_kernel words_config (first_task ∷ [])) m))
+
+boot-over : (words : List ℕ) → boot (image_of_words words) words_config ≡ over (loaded ram_size (segments_of_words words))
+unfolding boot over setups_from placed_task region_of handlers_tested
+boot-over words = refl
+
+over-words : (fit : Bool) (memory : Memory) → over (if fit then Ok memory else Err Outside) ≡ (if fit then Ok (first_board (first_kernel words_config (first_task ∷ [])) memory) else Err Outside)
+unfolding over
+over-words true memory = refl
+over-words false memory = refl
+
+pub boot-image_of_words : (words : List ℕ) → boot (image_of_words words) words_config ≡ boot_words words
+unfolding loaded_words
+boot-image_of_words words =
+    boot-over words ∙ ap over (loaded-words words) ∙ over-words (nat_le (length words) 16384) (memory_of_words words)

@@ -1,3 +1,6 @@
 pub mod LoadLemmas
 pub mod BootLemmas
 pub mod LinkLemmas
+pub mod SetupLemmas
+pub mod LawLemmas
+pub mod ChangeLemmas

@@ -11,7 +11,7 @@ use Rattle.brd_base.specs.Space.{base}
 use Rattle.brd_mem.specs.Memory.{Memory, size_of, zeros, contains, copied}
 use Rattle.brd_mem.specs.Image.{byte_in, IsApart, AreApart}
 use Rattle.brd_mem.specs.declared.image.Segment.{Segment}
-use Rattle.brd_board.specs.Boot.{ram_size, are_inside, memory_of}
+use Rattle.brd_board.specs.Boot.{are_inside, memory_of}
 
 -- whether a segment holds an address
 abbrev holds : Segment → ℕ → Bool
@@ -117,40 +117,61 @@ zero_bytes (suc count) zero = refl
 zero_bytes (suc count) (suc at) = zero_bytes count at
 
 -- of what is still to be loaded, and of the memory so far
-pub record IsUnderWay (segments rest : List Segment) (memory : Memory) : Type 0 where
-  pub inside : are_inside ram_size rest ≡ are_inside ram_size segments
-  pub size : size_of memory ≡ ram_size
+pub record IsUnderWay (size : ℕ) (segments rest : List Segment) (memory : Memory) : Type 0 where
+  pub inside : are_inside size rest ≡ are_inside size segments
+  pub long : size_of memory ≡ size
   pub apart : AreApart rest
   pub bytes : (at : ℕ) → unwrap_or (byte_in rest (base + at)) (get_or memory.bytes at 0) ≡ unwrap_or (byte_in segments (base + at)) 0
 
-pub begins : (segments : List Segment) (memory : Memory) → memory ≡ zeros ram_size → AreApart segments → IsUnderWay segments segments memory
-begins segments memory empty apart = record {
-  inside = refl;
-  size = rw empty (length-replicate ram_size 0);
-  apart = apart;
-  bytes = λ at. rw empty (ap (λ byte. unwrap_or (byte_in segments (base + at)) byte) (zero_bytes ram_size at));
-}
+pub begins : (size : ℕ) (segments : List Segment) (memory : Memory) → memory ≡ zeros size → AreApart segments → IsUnderWay size segments segments memory
+begins size segments memory empty apart =
+    let zero : ℕ = 0 in
+    record {
+      inside = refl;
+      long = rw empty (length-replicate size zero);
+      apart = apart;
+      bytes = λ at. rw empty (ap (λ byte. unwrap_or (byte_in segments (base + at)) byte) (zero_bytes size at));
+    }
 
-pub goes_on : (segments : List Segment) (segment : Segment) (others : List Segment) (memory : Memory) → IsUnderWay segments (segment ∷ others) memory →
-    contains ram_size segment.address (length segment.bytes) ≡ true → IsUnderWay segments others (copied memory segment.address segment.bytes)
-goes_on segments segment others memory so_far inside = record {
+goes_on : (size : ℕ) (segments : List Segment) (segment : Segment) (others : List Segment) (memory : Memory) → IsUnderWay size segments (segment ∷ others) memory →
+    contains size segment.address (length segment.bytes) ≡ true → IsUnderWay size segments others (copied memory segment.address segment.bytes)
+goes_on size segments segment others memory so_far inside = record {
   inside = rw inside at so_far.inside;
-  size = copied-size ram_size segment memory so_far.size inside ∙ so_far.size;
+  long = copied-size size segment memory so_far.long inside ∙ so_far.long;
   apart = so_far.apart.1;
-  bytes = λ at. turn ram_size segment others memory at so_far.size inside so_far.apart.0 ∙ so_far.bytes at;
+  bytes = λ at. turn size segment others memory at so_far.long inside so_far.apart.0 ∙ so_far.bytes at;
 }
 
-pub next_begins : (segments : List Segment) (i : ℕ) (segment : Segment) (memory : Memory) → i < length segments →
-    segment ≡ get_or segments i segment → IsUnderWay segments (drop i segments) memory →
-    contains ram_size segment.address (length segment.bytes) ≡ true →
-    IsUnderWay segments (drop (i + 1) segments) (copied memory segment.address segment.bytes)
-next_begins segments i segment memory below is so_far inside =
-    let left : drop i segments ≡ segment ∷ drop (i + 1) segments =
-    drop_more segments i segment below ∙ ap (λ (one : Segment). one ∷ drop (i + 1) segments) (sym is) in
-    goes_on segments segment (drop (i + 1) segments) memory (subst (λ (rest : List Segment). IsUnderWay segments rest memory) left so_far) inside
+next : (segments : List Segment) (i : ℕ) (segment : Segment) → i < length segments → segment ≡ get_or segments i segment →
+    drop i segments ≡ segment ∷ drop (i + 1) segments
+next segments i segment below is = drop_more segments i segment below ∙ ap (λ (one : Segment). one ∷ drop (i + 1) segments) (sym is)
 
-pub ends : (segments : List Segment) (i : ℕ) (memory : Memory) → length segments ≤ i → IsUnderWay segments (drop i segments) memory →
-    memory ≡ memory_of ram_size segments
-ends segments i memory past so_far =
-    let none : drop i segments ≡ [] = drop_all i segments past in
-    all_loaded ram_size segments memory so_far.size (λ at. subst (λ (rest : List Segment). unwrap_or (byte_in rest (base + at)) (get_or memory.bytes at 0) ≡ unwrap_or (byte_in segments (base + at)) 0) none (so_far.bytes at))
+pub next_begins : (size : ℕ) (segments : List Segment) (i : ℕ) (segment : Segment) (memory : Memory) → i < length segments →
+    segment ≡ get_or segments i segment → IsUnderWay size segments (drop i segments) memory →
+    contains size segment.address (length segment.bytes) ≡ true →
+    IsUnderWay size segments (drop (i + 1) segments) (copied memory segment.address segment.bytes)
+next_begins size segments i segment memory below is so_far inside =
+    goes_on size segments segment (drop (i + 1) segments) memory
+    (subst (λ (rest : List Segment). IsUnderWay size segments rest memory) (next segments i segment below is) so_far) inside
+
+-- a segment that isn't inside is one of all that aren't
+pub stops : (size : ℕ) (segments : List Segment) (i : ℕ) (segment : Segment) (memory : Memory) → i < length segments →
+    segment ≡ get_or segments i segment → IsUnderWay size segments (drop i segments) memory →
+    contains size segment.address (length segment.bytes) ≡ false → are_inside size segments ≡ false
+stops size segments i segment memory below is so_far outside =
+    sym so_far.inside ∙ ap (are_inside size) (next segments i segment below is)
+    ∙ ap (λ (inside : Bool). inside && are_inside size (drop (i + 1) segments)) outside
+
+no_more : (segments : List Segment) (i : ℕ) → length segments ≤ i → drop i segments ≡ []
+no_more segments i past = drop_all i segments past
+
+pub ends : (size : ℕ) (segments : List Segment) (i : ℕ) (memory : Memory) → length segments ≤ i → IsUnderWay size segments (drop i segments) memory →
+    memory ≡ memory_of size segments
+ends size segments i memory past so_far =
+    all_loaded size segments memory so_far.long
+    (λ at. subst (λ (rest : List Segment). unwrap_or (byte_in rest (base + at)) (get_or memory.bytes at 0) ≡ unwrap_or (byte_in segments (base + at)) 0)
+    (no_more segments i past) (so_far.bytes at))
+
+pub all_inside : (size : ℕ) (segments : List Segment) (i : ℕ) (memory : Memory) → length segments ≤ i → IsUnderWay size segments (drop i segments) memory →
+    are_inside size segments ≡ true
+all_inside size segments i memory past so_far = sym so_far.inside ∙ ap (are_inside size) (no_more segments i past)

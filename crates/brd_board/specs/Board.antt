@@ -1,5 +1,5 @@
 -- The board: what it consists of, what one event does to it, and what a list of events does.
-use Rattle.std.specs.Prelude.{ℕ, ◌==◌, nat_lt, nat_le, ◌&&◌, Bool, if◌then◌else◌, List, [], ◌∷◌, slice_index_or, slice_set, Option, Some, None, is_some}
+use Rattle.std.specs.Prelude.{ℕ, nat_lt, nat_le, ◌&&◌, if◌then◌else◌, List, [], ◌∷◌, slice_index_or, slice_set, Option, Some, None, is_some}
 use Rattle.brd_link.specs.LinkSet.{LinkSet, linked_address, without, without_all}
 use Rattle.brd_mem.specs.Memory.{Memory}
 use Rattle.brd_exec.specs.State.{State}
@@ -9,7 +9,7 @@ use Rattle.brd_tasks.specs.declared.task.TaskView.{TaskView}
 use Rattle.brd_tasks.specs.Tasks.{view_of}
 use Rattle.brd_kernel.specs.declared.processor.Processor.{Processor}
 use Rattle.brd_kernel.specs.declared.processor.Standing.{Standing}
-use Rattle.brd_kernel.specs.Kernel.{KernelState, processor_at, context_on, deliverable, accepted, raised, line_at, ended_by_fault, last_count, ticked, standing_on, Executed, executed}
+use Rattle.brd_kernel.specs.Kernel.{KernelState, processor_at, context_on, deliverable, accepted_line, with_pending, line_at, ended_by_fault, last_count, counted, standing_on, Executed, executed}
 use Rattle.brd_kernel.specs.Dispatch.{dispatched, changed_processors}
 use Rattle.brd_sysgate.specs.Gate.{called}
 use Rattle.brd_board.specs.declared.event.Event.{Event}
@@ -24,17 +24,17 @@ pub record BoardState : Type 0 where
   pub links : LinkSet
   pub faults : List (Option Fault)  -- by the processor's number: its last exception
 
--- a board, and what it reports of the event that made it
+-- the board after an event, and what it reports
 pub record Happened : Type 0 where
   pub board : BoardState
   pub report : Report
 
--- nothing happens
-abbrev pub nothing : BoardState → Report → Happened
-nothing b told = record { board = b; report = told }
+-- this board and this report, without a dispatch
+abbrev pub reported : BoardState → Report → Happened
+reported b told = record { board = b; report = told }
 
--- After whatever may have changed who is ready, each processor that isn't held runs the first of its ready tasks, and the link of each
--- processor whose running task has become another ends. Nothing else changes who runs.
+-- Dispatch: each processor that isn't held runs the first of its ready tasks, and the link of each processor whose running task has become
+-- another ends. It comes after all that may change who is ready.
 abbrev pub dispatched_board : BoardState → BoardState
 dispatched_board b = record b {
   kernel = dispatched b.kernel;
@@ -56,47 +56,47 @@ with_call b cpu = record b { kernel = called b.kernel cpu; links = without b.lin
 abbrev pub with_fault : BoardState → ℕ → Fault → BoardState
 with_fault b cpu fault = record b { kernel = ended_by_fault b.kernel cpu; faults = slice_set b.faults cpu (Some fault) }
 
--- what follows an instruction, by how it ended; `pc` is where it stands
+-- what follows an instruction at an address, by how it ended
 abbrev pub instruction_done : BoardState → ℕ → ℕ → Outcome → Happened
-instruction_done b cpu pc Done = nothing b (report.Ran pc)
-instruction_done b cpu pc Syscall = then_dispatched (with_call b cpu) (report.Called pc)
-instruction_done b cpu pc (Exception code epc bd) =
-    then_dispatched (with_fault b cpu (record { code = code; epc = epc; bd = bd })) (report.Faulted pc)
+instruction_done b cpu address Done = reported b (report.Ran address)
+instruction_done b cpu address Syscall = then_dispatched (with_call b cpu) (report.Called address)
+instruction_done b cpu address (Exception code epc bd) =
+    then_dispatched (with_fault b cpu (record { code = code; epc = epc; bd = bd })) (report.Faulted address)
 
-abbrev pub executed_at : BoardState → ℕ → ℕ → Option Executed → Happened
-executed_at b cpu pc None = nothing b report.Idle
-executed_at b cpu pc (Some e) = instruction_done (with_executed b e) cpu pc e.outcome
+-- nobody executes, or an instruction is done
+abbrev pub executes_in : BoardState → ℕ → Option Executed → Happened
+executes_in b cpu None = reported b report.Idle
+executes_in b cpu (Some e) = instruction_done (with_executed b e) cpu e.ended.address e.ended.outcome
 
 -- one instruction of the handler, else of the running task, if there is one
-abbrev pub executes : BoardState → ℕ → Option State → Happened
-executes b cpu None = nothing b report.Idle
-executes b cpu (Some s) = executed_at b cpu s.pc (executed b.kernel cpu b.memory b.links)
+abbrev pub executes : BoardState → ℕ → Happened
+executes b cpu = executes_in b cpu (executed b.kernel cpu b.memory b.links)
 
 -- an interrupt is accepted, which ends the link; or an instruction is executed
 abbrev pub accepts_or_executes : BoardState → ℕ → Option ℕ → Happened
 accepts_or_executes b cpu (Some line) =
-    then_dispatched (record b { kernel = accepted b.kernel cpu; links = without b.links cpu }) (report.Accepted line)
-accepts_or_executes b cpu None = executes b cpu (context_on b.kernel cpu)
+    then_dispatched (record b { kernel = accepted_line b.kernel cpu line; links = without b.links cpu }) (report.Accepted line)
+accepts_or_executes b cpu None = executes b cpu
 
 abbrev pub stepped_in : BoardState → ℕ → Option Processor → Happened
-stepped_in b cpu None = nothing b report.NoSuch
-stepped_in b cpu (Some p) = if p.stopped then nothing b report.Stopped else accepts_or_executes b cpu (deliverable b.kernel cpu)
+stepped_in b cpu None = reported b report.NoSuch
+stepped_in b cpu (Some p) = if p.stopped then reported b report.Stopped else accepts_or_executes b cpu (deliverable b.kernel cpu)
 
--- a processor does its next step; there is none of number 0
+-- a processor does its next step
 abbrev pub stepped : BoardState → ℕ → Happened
-stepped b cpu = if cpu == 0 then nothing b report.NoSuch else stepped_in b cpu (processor_at b.kernel cpu)
+stepped b cpu = stepped_in b cpu (processor_at b.kernel cpu)
 
--- a tick passes, but at the end of time
+-- a tick passes, unless the last one has been counted
 abbrev pub tick_passed : BoardState → Happened
 tick_passed b =
-    if nat_lt b.kernel.count last_count then then_dispatched (record b { kernel = ticked b.kernel }) report.Ticked
-    else nothing b report.TimeOver
+    if nat_lt b.kernel.count last_count then then_dispatched (record b { kernel = counted b.kernel }) report.Ticked
+    else reported b report.TimeOver
 
 -- an interrupt is raised, where its line has a handler
 abbrev pub line_raised : BoardState → ℕ → Happened
 line_raised b line =
-    if is_some (line_at b.kernel line).handler then nothing (record b { kernel = raised b.kernel line }) report.Raised
-    else nothing b report.NoSuch
+    if is_some (line_at b.kernel line).handler then reported (record b { kernel = with_pending b.kernel line }) report.Raised
+    else reported b report.NoSuch
 
 -- what an event does to a board that is on
 abbrev pub happens_on : BoardState → Event → Happened
@@ -106,7 +106,7 @@ happens_on b (Raise line) = line_raised b line
 
 -- what an event does; nothing happens to a board that is off
 unfoldable pub happens : BoardState → Event → Happened
-happens b event = if b.kernel.off then nothing b report.Off else happens_on b event
+happens b event = if b.kernel.off then reported b report.Off else happens_on b event
 
 -- the board after a list of events
 abbrev pub after : BoardState → List Event → BoardState

@@ -1,26 +1,25 @@
--- Boot: the board that an image makes. RAM has 64 KiB. Task 1 is started with priority 1 at RAM's first address,
--- 0x80000000, whatever entry the image names; its stack of 256 bytes ends where RAM ends.
-use Rattle.std.specs.Prelude.{◌≡◌, ℕ, ◌+◌, ◌-◌, ◌*◌, ◌^◌, nat_le, Bool, true, false, ◌&&◌, if◌then◌else◌, List, [], ◌∷◌, ◌++◌, length, map, flat_map, replicate, None, unwrap_or, Result, Ok, Err}
+-- Boot: the board that an image and a configuration make.
+use Rattle.std.specs.Prelude.{ℕ, ◌+◌, ◌-◌, ◌*◌, ◌^◌, nat_le, Bool, true, ◌&&◌, if◌then◌else◌, List, [], ◌∷◌, ◌++◌, length, map, flat_map, replicate, None, unwrap_or, Result, Ok, Err}
 use Rattle.std.specs.List.{range_with_len}
+use Rattle.brd_base.specs.Space.{base}
+use Rattle.brd_text.specs.Faults.{◌>>=◌}
+use Rattle.brd_word.specs.Words.{bytes_of_word}
 use Rattle.brd_mem.specs.declared.image.Image.{Image}
 use Rattle.brd_mem.specs.declared.image.Segment.{Segment}
-use Rattle.brd_base.specs.Space.{base}
 use Rattle.brd_mem.specs.Memory.{Memory, contains}
 use Rattle.brd_mem.specs.Image.{byte_in}
-use Rattle.brd_word.specs.Words.{bytes_of_word}
+use Rattle.brd_config.specs.declared.objects.Operand.TheVariants.{Number}
+use Rattle.brd_config.specs.declared.objects.Stack.TheVariants.{Automatic}
+use Rattle.brd_config.specs.declared.objects.TaskConfig.{TaskConfig}
+use Rattle.brd_config.specs.Configuration.{Configuration}
 use Rattle.brd_tasks.specs.declared.task.TaskSetup.{TaskSetup}
-use Rattle.brd_tasks.specs.declared.task.Request.TheVariants.{Assigned}
-use Rattle.brd_tasks.specs.Tasks.{made, activated}
 use Rattle.brd_kernel.specs.Kernel.{KernelState, with_tasks}
 use Rattle.brd_kernel.specs.Making.{made_kernel}
 use Rattle.brd_kernel.specs.Dispatch.{dispatched}
 use Rattle.brd_board.specs.Board.{BoardState}
+use Rattle.brd_board.specs.Setup.{setups_of, handlers_tested, ta_act, all_started}
 use Rattle.brd_board.specs.declared.boot.BootFault.{BootFault}
-use Rattle.brd_board.specs.declared.boot.BootFault.TheVariants.{NoMemory, UnknownSymbol, Outside}
-
--- how many bytes of RAM there are
-unfoldable pub ram_size : ℕ
-ram_size = 2 ^ 16
+use Rattle.brd_board.specs.declared.boot.BootFault.TheVariants.{Outside}
 
 -- each segment lies inside a RAM of that size
 abbrev pub are_inside : ℕ → List Segment → Bool
@@ -31,33 +30,58 @@ are_inside size (segment ∷ others) = contains size segment.address (length seg
 unfoldable pub memory_of : ℕ → List Segment → Memory
 memory_of size segments = record { bytes = map (λ at. unwrap_or (byte_in segments (base + at)) 0) (range_with_len 0 size) }
 
--- task 1, which starts at RAM's first address with its stack at RAM's end
+-- the same, where all segments lie inside
+unfoldable pub loaded : ℕ → List Segment → Result Memory BootFault
+loaded size segments = if are_inside size segments then Ok (memory_of size segments) else Err Outside
+
+-- the kernel at count 0: its tasks with TA_ACT have been started, and each processor runs its first ready task
+abbrev pub first_kernel : Configuration → List TaskSetup → KernelState
+first_kernel config setups =
+    let made = made_kernel config.processors setups in dispatched (with_tasks made (all_started made.tasks config.tasks))
+
+-- a board that begins, without links and faults
+abbrev pub first_board : KernelState → Memory → BoardState
+first_board kernel memory = record { kernel = kernel; memory = memory; links = []; faults = replicate 9 None }
+
+-- The board that an image and a configuration make, or the first fault: of the segments, of the tasks, of the handlers. Tasks start where the
+-- configuration says, whatever entry the image names.
+unfoldable pub boot : Image → Configuration → Result BoardState BootFault
+boot image config = do
+  memory ← loaded config.ram image.segments
+  setups ← setups_of config.ram image.symbols config.tasks
+  tested ← handlers_tested config.ram image.symbols config.handlers
+  Ok (first_board (first_kernel config setups) memory)
+
+-- Words: their image is booted with 64 KiB of RAM and one task, which starts at RAM's first address.
+
+abbrev pub ram_size : ℕ
+ram_size = 2 ^ 16
+
+-- BOARD(1, 0x10000); CRE_TSK(1, {TA_ACT, 0, 0x80000000, 1, 256, NULL});
+abbrev pub words_task : TaskConfig
+words_task = record {
+  id = 1;
+  processor = 1;
+  attributes = record { 0 = ta_act };
+  exinf = Number 0;
+  address = Number base;
+  priority = 1;
+  stack_size = 256;
+  stack = Automatic;
+}
+
+abbrev pub words_config : Configuration
+words_config = record { processors = 1; ram = ram_size; tasks = words_task ∷ []; semaphores = []; flags = []; queues = []; handlers = [] }
+
+-- that task: its stack pointer is the end of RAM
 abbrev pub first_task : TaskSetup
 first_task = record { id = 1; cpu = 1; priority = 1; exinf = 0; address = base; sp = base + ram_size }
 
--- a kernel of one processor, whose task 1 has been started
-abbrev pub first_kernel : KernelState
-first_kernel = with_tasks (made_kernel 1 (first_task ∷ [])) (activated (made (first_task ∷ [])) 1 Assigned)
-
--- a board that starts over a memory: on, at count 0, without links, its task about to run
-abbrev pub started : Memory → BoardState
-started memory = record { kernel = dispatched first_kernel; memory = memory; links = []; faults = replicate 9 None }
-
--- the board that an image makes, or what keeps it from starting
-abbrev pub boot : Image → Result BoardState BootFault
-boot image = if are_inside ram_size image.segments then Ok (started (memory_of ram_size image.segments)) else Err Outside
-
--- the memory of a list of words: they lie from its start on, and zero behind them
+-- the memory of a list of words: they lie from its start on, and zeros after them
 abbrev pub memory_of_words : List ℕ → Memory
 memory_of_words words = record { bytes = flat_map bytes_of_word words ++ replicate (ram_size - 4 * length words) 0 }
 
 -- the board of a list of words, of which 16,384 fit into RAM
 abbrev pub boot_words : List ℕ → Result BoardState BootFault
-boot_words words = if nat_le (length words) 16384 then Ok (started (memory_of_words words)) else Err Outside
-
--- A function that boots answers this, or want of memory.
-abbrev pub Boots : Result BoardState BootFault → Result BoardState BootFault → Type 0
-Boots meant (Ok board) = meant ≡ Ok board
-Boots meant (Err NoMemory) = Unit {0}
-Boots meant (Err UnknownSymbol) = meant ≡ Err UnknownSymbol
-Boots meant (Err Outside) = meant ≡ Err Outside
+boot_words words =
+    if nat_le (length words) 16384 then Ok (first_board (first_kernel words_config (first_task ∷ [])) (memory_of_words words)) else Err Outside

@@ -1,4 +1,5 @@
 pub mod Board
+pub mod Setup
 pub mod Boot
 pub use Rattle.brd_exec.specs.State
 pub use Rattle.brd_exec.specs.Step
@@ -9,3 +10,5 @@ pub use Rattle.brd_tasks.specs.Tasks
 pub use Rattle.brd_kernel.specs.Kernel
 pub use Rattle.brd_kernel.specs.Dispatch
 pub use Rattle.brd_sysgate.specs.Gate
+pub use Rattle.brd_config.specs.Configuration
+pub use Rattle.brd_config.specs.View

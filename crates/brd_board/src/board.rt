@@ -1,8 +1,12 @@
 //! The board.
 
-ghost use Rattle.std.specs.Prelude.{◌≡◌, IfOk, replicate, None};
-ghost use Rattle.brd_tasks.specs.Ready.{IsProcessor};
-ghost use Rattle.brd_kernel.specs.Kernel.{context_on};
+ghost use Rattle.std.specs.Prelude.{◌≡◌, ◌≤◌, All, IfOk, replicate, None};
+ghost use Rattle.brd_config.specs.View.{view};
+ghost use Rattle.brd_tasks.specs.Ready.{IsProcessor, IsSetup};
+ghost use Rattle.brd_tasks.specs.Tasks.{made};
+ghost use Rattle.brd_kernel.specs.Kernel.{with_tasks};
+ghost use Rattle.brd_kernel.specs.Making.{made_kernel};
+ghost use Rattle.brd_kernel.specs.Dispatch.{dispatched};
 ghost use Rattle.brd_board.specs.Board.{
   happens,
   stepped,
@@ -19,36 +23,29 @@ ghost use Rattle.brd_board.specs.Board.{
   fault_of,
   task_of,
 };
-ghost use Rattle.brd_board.specs.Boot.{boot, boot_words, Boots};
+ghost use Rattle.brd_board.specs.Setup.{Boots, all_started};
+ghost use Rattle.brd_board.specs.Boot.{boot, boot_words, words_config};
 ghost use Rattle.brd_mem.specs.Memory.{byte_at};
 ghost use Rattle.brd_mem.specs.Image.{image_of_words, IsLoadable};
 
 use crate::boot::BootFault;
 use crate::event::{Event, Report};
 use crate::links::end_links;
-use crate::load::{empty_ram, load};
+use crate::load::loaded;
+use crate::setup::{setups_of, start_all, test_handlers};
 use crate::view::Fault;
-use brd_base::{BASE, NoMemory};
+use brd_base::{BASE, List, NoMemory};
+use brd_config::{Config, Operand, Stack, TaskAttributes, TaskConfig};
 use brd_exec::{Context, Outcome};
-use brd_kernel::{Kernel, Standing, TaskId, TaskSetup, TaskView};
+use brd_kernel::{Ended, Kernel, Standing, TaskId, TaskSetup, TaskView};
 use brd_link::Links;
 use brd_mem::{Image, Ram};
 use brd_sysgate::call;
 use std::alloc::Global;
 use std::marker::Model;
 
-/// The address behind RAM, where the first task's stack begins.
-const STACK: u32 = 0x8001_0000;
-
-/// The task of a board that is made of words.
-const FIRST_TASK: TaskSetup = TaskSetup {
-    id: 1,
-    cpu: 1,
-    priority: 1,
-    exinf: 0,
-    address: BASE,
-    sp: STACK,
-};
+/// The size of RAM of a board that is made of words.
+const WORDS_RAM: u32 = 0x1_0000;
 
 /// The board.
 #[derive(Drop)]
@@ -71,35 +68,35 @@ impl Model for Board {
 }
 
 impl Board {
-    /// The board of these words: they lie from 0x80000000 on in 64 KiB of RAM, and task 1 is about to run at the first of them,
-    /// with its stack at the end of RAM. More than 16,384 words are `Outside`.
-    pub fn from_words(alloc: Global, words: &[u32]) -> Result<Board, BootFault>
-        ensures image { Boots (boot (image_of_words words.now)) result }
-        ensures words { Boots (boot_words words.now) result }
-    {
-        let image = Image::from_words(alloc, words)?;
-        Board::boot(alloc, &image)
-    }
-
-    /// The board of an image, as `from_words` says.
-    #[tactic(auto, unfolding(crate::specs::Boot::ram_size))]
-    fn boot(alloc: Global, image: &Image) -> Result<Board, BootFault>
+    /// The board that an image and a configuration make. Its tasks with TA_ACT have been started. A fault is the first one: of the
+    /// segments, of the tasks in the order of their statements, of the handlers in theirs.
+    #[tactic(auto, unfolding(crate::specs::Boot::boot))]
+    pub fn boot(alloc: Global, image: &Image, config: &Config) -> Result<Board, BootFault>
         requires { IsLoadable image.now }
-        ensures { Boots (boot image.now) result }
+        ensures { Boots (boot image.now (view config.now)) result }
     {
-        let mut ram = empty_ram(alloc)?;
-        if !load(&mut ram, image.segments.as_slice()) {
-            return Err(BootFault::Outside);
-        }
-        let mut kernel = Kernel::new(alloc, 1, &[FIRST_TASK])?;
-        kernel.start(1);
-        let _ = kernel.dispatch();
+        let ram = loaded(alloc, config.ram, image.segments.as_slice())?;
+        let symbols = image.symbols.as_slice();
+        let tasks = config.tasks.as_slice();
+        let setups = setups_of(alloc, &ram, symbols, tasks)?;
+        test_handlers(&ram, symbols, config.handlers.as_slice())?;
         Ok(Board {
-            kernel,
+            kernel: started(alloc, config.processors, setups.as_slice(), tasks)?,
             ram,
             links: Links::new(),
             faults: no_faults(alloc)?,
         })
+    }
+
+    /// The board of these words: they lie from 0x80000000 on in 64 KiB of RAM, and task 1 is about to run at the first of them,
+    /// with its stack at the end of RAM. More than 16,384 words are `Outside`.
+    pub fn from_words(alloc: Global, words: &[u32]) -> Result<Board, BootFault>
+        ensures image { Boots (boot (image_of_words words.now) words_config) result }
+        ensures words { Boots (boot_words words.now) result }
+    {
+        let image = Image::from_words(alloc, words)?;
+        let config = words_config(alloc)?;
+        Board::boot(alloc, &image, &config)
     }
 
     /// Does one event. It takes no memory.
@@ -130,9 +127,6 @@ impl Board {
     fn step(&mut self, cpu: u8) -> Report
         ensures { record { board = self.new; report = result } ≡ stepped self.old cpu }
     {
-        if cpu == 0 {
-            return Report::NoSuch;
-        }
         let Some(processor) = self.kernel.processor(cpu) else {
             return Report::NoSuch;
         };
@@ -150,20 +144,19 @@ impl Board {
     /// A processor executes one instruction, if it has a context.
     fn execute(&mut self, cpu: u8) -> Report
         requires { IsProcessor cpu }
-        ensures { record { board = self.new; report = result } ≡ executes self.old cpu (context_on self.old.kernel cpu) }
+        ensures { record { board = self.new; report = result } ≡ executes self.old cpu }
     {
-        let Some(context) = self.kernel.context(cpu) else {
+        let Some(Ended { address, outcome }) = self.kernel.run(cpu, &mut self.ram, &mut self.links)
+        else {
             return Report::Idle;
         };
-        let address = context.pc();
-        match self.kernel.run(cpu, &mut self.ram, &mut self.links) {
-            None => Report::Idle,
-            Some(Outcome::Done) => Report::Ran(address),
-            Some(Outcome::Syscall) => {
+        match outcome {
+            Outcome::Done => Report::Ran(address),
+            Outcome::Syscall => {
                 self.call(cpu);
                 Report::Called(address)
             }
-            Some(Outcome::Exception { code, epc, bd }) => {
+            Outcome::Exception { code, epc, bd } => {
                 self.end_by_fault(cpu, Fault { code, epc, bd });
                 Report::Faulted(address)
             }
@@ -171,6 +164,7 @@ impl Board {
     }
 
     /// A service call, which ends the processor's link.
+    #[inline(never)]
     fn call(&mut self, cpu: u8)
         requires { IsProcessor cpu }
         ensures { self.new ≡ dispatched_board (with_call self.old cpu) }
@@ -181,6 +175,7 @@ impl Board {
     }
 
     /// An exception, which ends what the processor executes.
+    #[inline(never)]
     fn end_by_fault(&mut self, cpu: u8, fault: Fault)
         requires { IsProcessor cpu }
         ensures { self.new ≡ dispatched_board (with_fault self.old cpu fault) }
@@ -287,6 +282,49 @@ impl Board {
     {
         self.kernel.is_off()
     }
+}
+
+/// The configuration of a board that is made of words: one processor, and one task with TA_ACT.
+fn words_config(alloc: Global) -> Result<Config, NoMemory>
+    ensures { IfOk result (λ config. view config ≡ words_config) }
+{
+    let mut tasks = List::new(alloc);
+    tasks.push(TaskConfig {
+        id: 1,
+        processor: 1,
+        attributes: TaskAttributes::TA_ACT,
+        exinf: Operand::Number(0),
+        address: Operand::Number(BASE),
+        priority: 1,
+        stack_size: 256,
+        stack: Stack::Automatic,
+    })?;
+    Ok(Config {
+        processors: 1,
+        ram: WORDS_RAM,
+        tasks,
+        semaphores: List::new(alloc),
+        flags: List::new(alloc),
+        queues: List::new(alloc),
+        handlers: List::new(alloc),
+    })
+}
+
+/// A kernel whose tasks with TA_ACT have been started, and run where they come first.
+fn started(
+    alloc: Global,
+    processors: u8,
+    setups: &[TaskSetup],
+    tasks: &[TaskConfig],
+) -> Result<Kernel, NoMemory>
+    requires few { processors ≤ 8 }
+    requires setups { All IsSetup setups.now }
+    ensures { IfOk result (λ kernel. kernel ≡ dispatched (with_tasks (made_kernel processors setups.now) (all_started (made setups.now) tasks.now))) }
+{
+    let mut kernel = Kernel::new(alloc, processors, setups)?;
+    start_all(&mut kernel, tasks);
+    let _ = kernel.dispatch();
+    Ok(kernel)
 }
 
 /// No last exceptions.

@@ -15,7 +15,7 @@ pub enum BootFault {
     /// A name of the configuration isn't one of the image's symbols.
     #[error("the configuration names a symbol that the image doesn't have")]
     UnknownSymbol,
-    /// A segment, a task's address or its stack isn't in RAM.
+    /// A segment, a task's stack, or the address of a task or a handler isn't in RAM, or such an address isn't aligned.
     #[error("the program doesn't fit into the board's RAM")]
     Outside,
 }

@@ -6,8 +6,10 @@
 mod board;
 mod boot;
 mod event;
+pub mod laws;
 mod links;
 mod load;
+mod setup;
 mod view;
 
 pub use board::Board;

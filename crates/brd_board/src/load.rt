@@ -1,42 +1,43 @@
 //! Putting an image into memory.
 
-ghost use Rattle.std.specs.Prelude.{◌≡◌, IfOk, true};
+ghost use Rattle.std.specs.Prelude.{◌≡◌, IfOk};
+ghost use Rattle.brd_base.specs.Space.{IsRamSize};
 ghost use Rattle.brd_mem.specs.Image.{AreApart};
-ghost use Rattle.brd_mem.specs.Memory.{zeros};
-ghost use Rattle.brd_board.specs.Boot.{are_inside, memory_of, ram_size};
+ghost use Rattle.brd_mem.specs.Memory.{size_of, zeros};
+ghost use Rattle.brd_board.specs.Setup.{Boots};
+ghost use Rattle.brd_board.specs.Boot.{loaded};
 
 use crate::boot::BootFault;
 use brd_base::NoMemory;
 use brd_mem::{Ram, Segment};
 use std::alloc::Global;
 
-/// How many bytes of RAM the board has.
-const RAM_SIZE: u32 = 0x1_0000;
-
-/// The RAM, all zero.
-#[tactic(auto, unfolding(crate::specs::Boot::ram_size))]
-pub fn empty_ram(alloc: Global) -> Result<Ram, NoMemory>
-    ensures { IfOk result (λ ram. ram ≡ zeros ram_size) }
+/// RAM of this many bytes, all zero.
+fn empty_ram(alloc: Global, size: u32) -> Result<Ram, NoMemory>
+    requires { IsRamSize size }
+    ensures { IfOk result (λ ram. ram ≡ zeros size) }
 {
-    match Ram::new(alloc, RAM_SIZE) {
+    match Ram::new(alloc, size) {
         Ok(ram) => Ok(ram),
         Err(_) => Err(NoMemory),
     }
 }
 
-/// Puts each segment into its place in RAM that is all zero. Answers whether all of them are inside RAM.
-pub fn load(ram: &mut Ram, segments: &[Segment]) -> bool
-    requires empty { ram.old ≡ zeros ram_size }
+/// RAM of this many bytes with each segment in its place, and zero elsewhere.
+#[tactic(auto, unfolding(crate::specs::Boot::loaded))]
+pub fn loaded(alloc: Global, size: u32, segments: &[Segment]) -> Result<Ram, BootFault>
+    requires size { IsRamSize size }
     requires apart { AreApart segments.now }
-    ensures inside { result ≡ are_inside ram_size segments.now }
-    ensures is { result ≡ true → ram.new ≡ memory_of ram_size segments.now }
+    ensures is { Boots (loaded size segments.now) result }
+    ensures size { IfOk result (λ ram. size_of ram ≡ size) }
 {
+    let mut ram = empty_ram(alloc, size)?;
     for segment in segments {
         let bytes = segment.bytes.as_slice();
         if !ram.contains(segment.address, bytes.len()) {
-            return false;
+            return Err(BootFault::Outside);
         }
         ram.copy_in(segment.address, bytes);
     }
-    true
+    Ok(ram)
 }

@@ -1,6 +1,8 @@
 use super::*;
+use brd_config::parse;
 use brd_exec::ExceptionCode;
 use brd_isa::Register;
+use brd_mem::Image;
 use std::test::Fail;
 
 #[test]
@@ -174,6 +176,92 @@ fn waits_and_ends(rt: HostRuntime) -> Result<(), Fail> {
         assert_eq!(rt; task.state, state);
         assert_eq!(rt; task.context.pc(), 0x8000_0008);
         assert_eq!(rt; task.context.read(Register::low(2)), number);
+    }
+    Ok(())
+}
+
+/// 255 tasks on eight processors, all started by boot: each processor runs its tasks by priority, and equals as they stand in the
+/// configuration; at last all processors are idle.
+#[test]
+fn all_tasks_on_all_processors(rt: HostRuntime) -> Result<(), Fail> {
+    let alloc = rt.alloc();
+    let mut config = String::from_str(alloc, "BOARD(8, 0x100000);\n")?;
+    for id in (1..256u16).rev() {
+        let (class, priority) = (id % 8 + 1, id % 16 + 1);
+        write!(
+            config,
+            "CLASS(TCL_{class}) {{ CRE_TSK({id}, {{TA_ACT, {id}, 0x80000000, {priority}, 4096, NULL}}); }}\n"
+        )?;
+    }
+    let config = parse(alloc, config.as_bytes())?;
+    let image = Image::from_words(alloc, &[0x2402_0003, 0x0000_000c])?;
+    let mut board = Board::boot(alloc, &image, &config)?;
+    for priority in 1..17u16 {
+        for id in (1..256u16).rev() {
+            if id % 16 + 1 == priority {
+                let cpu = (id % 8 + 1) as u8;
+                assert_eq!(rt; board.standing(cpu), Some(Standing::Task(id)));
+                let argument = board.registers(cpu).map(|it| it.read(Register::low(4)));
+                assert_eq!(rt; argument, Some(id as u32));
+                assert_eq!(rt; board.event(Event::Step(cpu)), Report::Ran(0x8000_0000));
+                assert_eq!(rt; board.event(Event::Step(cpu)), Report::Called(0x8000_0004));
+            }
+        }
+    }
+    for cpu in 1..9u8 {
+        assert_eq!(rt; board.event(Event::Step(cpu)), Report::Idle);
+    }
+    Ok(())
+}
+
+/// The console takes 65,536 bytes; the byte after them is refused and isn't written.
+#[test]
+fn full_console(rt: HostRuntime) -> Result<(), Fail> {
+    let words = [
+        0x2402_0028, // addiu $v0, $0, 40
+        0x0000_000c, // syscall
+        0x1000_fffd, // beq $0, $0, -3: to the first word
+        0x2484_0001, // addiu $a0, $a0, 1
+    ];
+    let mut board = Board::from_words(rt.alloc(), &words)?;
+    for _ in 0..65_536u32 {
+        for _ in 0..4u8 {
+            let _ = board.event(Event::Step(1));
+        }
+    }
+    let _ = board.event(Event::Step(1));
+    let _ = board.event(Event::Step(1));
+    let answer = board.registers(1).map(|it| it.read(Register::low(2)));
+    assert_eq!(rt; answer, Some(0xffff_ffd5));
+    assert_eq!(rt; board.console().len(), 65_536);
+    assert_eq!(rt; board.console().last(), Some(&0xff));
+    Ok(())
+}
+
+/// A board of words is the board of their image and of this configuration.
+#[test]
+fn words_are_an_image(rt: HostRuntime) -> Result<(), Fail> {
+    let alloc = rt.alloc();
+    let words = [0x3c08_1234, 0x0000_000c];
+    let config = parse(
+        alloc,
+        b"BOARD(1, 0x10000); CRE_TSK(1, {TA_ACT, 0, 0x80000000, 1, 256, NULL});",
+    )?;
+    let image = Image::from_words(alloc, &words)?;
+    let booted = Board::boot(alloc, &image, &config)?;
+    let board = Board::from_words(alloc, &words)?;
+    assert!(rt; booted.task(1).is_some());
+    assert_eq!(rt; booted.task(1), board.task(1));
+    assert_eq!(rt; booted.standing(1), board.standing(1));
+    assert_eq!(rt; booted.standing(2), board.standing(2));
+    for address in [
+        0x8000_0000,
+        0x8000_0007,
+        0x8000_0008,
+        0x8000_ffff,
+        0x8001_0000,
+    ] {
+        assert_eq!(rt; booted.memory(address), board.memory(address));
     }
     Ok(())
 }

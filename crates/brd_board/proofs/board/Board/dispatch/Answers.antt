@@ -1,4 +1,4 @@
-use Rattle.std.proofs.Common.{◌≡◌, ◌∙◌, ap}
+use Rattle.std.proofs.Common.{◌∙◌, ap}
 use Rattle.brd_board.specs.Board.{BoardState, dispatched_board}
 use Rattle.brd_board.proofs.LinkLemmas.{board-dispatched}
 use Rattle.brd_board.proofs.board.Board.dispatch.Goals as goal

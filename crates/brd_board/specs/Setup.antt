@@ -1,0 +1,121 @@
+-- What a configuration makes of an image: where each task starts and where its stack lies, which tasks are started, and whether each handler
+-- can start. Where the configuration names a symbol of the image, its value is meant. The first fault in the order of the statements is
+-- answered; of one statement first all its symbols are looked up, then its addresses are tested.
+use Rattle.std.specs.Prelude.{ℕ, ◌+◌, ◌-◌, ◌%◌, ◌==◌, Bool, true, false, ◌&&◌, if◌then◌else◌, List, [], ◌∷◌, Result, Ok, Err}
+use Rattle.std.specs.Int.RustNames.{bit_and}
+use Rattle.brd_base.specs.Space.{base}
+use Rattle.brd_text.specs.Faults as text
+use Rattle.brd_text.specs.Faults.{◌>>=◌, or_fault}
+use Rattle.brd_mem.specs.declared.image.Symbol.{Symbol}
+use Rattle.brd_mem.specs.Image.{symbol_value}
+use Rattle.brd_mem.specs.Memory.{contains}
+use Rattle.brd_config.specs.declared.objects.Operand.{Operand}
+use Rattle.brd_config.specs.declared.objects.Operand.TheVariants.{Number, Name}
+use Rattle.brd_config.specs.declared.objects.Stack.{Stack}
+use Rattle.brd_config.specs.declared.objects.Stack.TheVariants.{Automatic, At}
+use Rattle.brd_config.specs.declared.objects.TaskConfig.{TaskConfig}
+use Rattle.brd_config.specs.declared.objects.HandlerConfig.{HandlerConfig}
+use Rattle.brd_tasks.specs.declared.task.TaskSetup.{TaskSetup}
+use Rattle.brd_tasks.specs.declared.task.Request.TheVariants.{Assigned}
+use Rattle.brd_tasks.specs.Tasks.{TaskTable, activated}
+use Rattle.brd_board.specs.declared.boot.BootFault.{BootFault}
+use Rattle.brd_board.specs.declared.boot.BootFault.TheVariants.{NoMemory, UnknownSymbol, Outside}
+use Rattle.brd_board.specs.declared.setup.Region.{Region}
+use Rattle.brd_board.specs.declared.setup.Placed.{Placed}
+
+-- a number as it stands, or the value of the symbol that is named
+abbrev pub value_of : List Symbol → Operand → Result ℕ BootFault
+value_of symbols (Number n) = Ok n
+value_of symbols (Name name) = or_fault UnknownSymbol (symbol_value symbols name)
+
+-- an instruction can lie at an address: the word there is aligned, and in a RAM of that size
+abbrev pub is_code_address : ℕ → ℕ → Bool
+is_code_address size address = address % 4 == 0 && contains size address 4
+
+-- Stacks (own choice).
+
+-- rounded up to a multiple of 16, and rounded down to a multiple of 8
+abbrev pub rounded_up : ℕ → ℕ
+rounded_up n = n + 15 - (n + 15) % 16
+
+abbrev pub rounded_down : ℕ → ℕ
+rounded_down n = n - n % 8
+
+-- A stack that the configuration leaves open has its bytes, rounded up, just below `free`; the stack pointer is `free`, and the next such stack
+-- ends where this one begins. Where it has more bytes than there are addresses below `free`, it begins at 0, which is outside of RAM. A stack
+-- that the configuration places begins there, the stack pointer is its end, rounded down, and `free` stays.
+abbrev pub region_by : List Symbol → ℕ → ℕ → Stack → Result Region BootFault
+region_by symbols free stack_size Automatic =
+    Ok (record { low = free - rounded_up stack_size; len = rounded_up stack_size; sp = free; free = free - rounded_up stack_size })
+region_by symbols free stack_size (At operand) = do
+  low ← value_of symbols operand
+  Ok (record { low = low; len = stack_size; sp = rounded_down (low + stack_size); free = free })
+
+-- the stack of a task, where the next stack that the configuration leaves open ends at `free`
+unfoldable pub region_of : List Symbol → ℕ → TaskConfig → Result Region BootFault
+region_of symbols free task = region_by symbols free task.stack_size task.stack
+
+-- the task as its statement says it; the next stack that the configuration leaves open ends at region.free
+abbrev pub placed_in : TaskConfig → ℕ → ℕ → Region → Placed
+placed_in task exinf address region = record {
+  setup = record { id = task.id; cpu = task.processor; priority = task.priority; exinf = exinf; address = address; sp = region.sp };
+  free = region.free;
+}
+
+-- a task whose address and stack lie in a RAM of that size
+unfoldable pub placed_task : ℕ → List Symbol → ℕ → TaskConfig → Result Placed BootFault
+placed_task size symbols free task = do
+  exinf ← value_of symbols task.exinf
+  address ← value_of symbols task.address
+  region ← region_of symbols free task
+  if is_code_address size address && contains size region.low region.len then Ok (placed_in task exinf address region) else Err Outside
+
+-- the tasks in the order of their statements
+unfoldable pub setups_from : ℕ → List Symbol → ℕ → List TaskConfig → Result (List TaskSetup) BootFault
+setups_from size symbols free [] = Ok []
+setups_from size symbols free (task ∷ tasks) = do
+  placed ← placed_task size symbols free task
+  setups ← setups_from size symbols placed.free tasks
+  Ok (placed.setup ∷ setups)
+
+-- all tasks: the first stack that the configuration leaves open ends where RAM ends
+abbrev pub setups_of : ℕ → List Symbol → List TaskConfig → Result (List TaskSetup) BootFault
+setups_of size symbols tasks = setups_from size symbols (base + size) tasks
+
+-- where a handler starts
+unfoldable pub handler_address : ℕ → List Symbol → Operand → Result ℕ BootFault
+handler_address size symbols operand = do
+  address ← value_of symbols operand
+  if is_code_address size address then Ok address else Err Outside
+
+-- the first fault of the handlers, in the order of their statements
+unfoldable pub handlers_tested : ℕ → List Symbol → List HandlerConfig → Result (Unit {0}) BootFault
+handlers_tested size symbols [] = Ok tt
+handlers_tested size symbols (handler ∷ handlers) = do
+  address ← handler_address size symbols handler.address
+  handlers_tested size symbols handlers
+
+abbrev pub ta_act : ℕ
+ta_act = 2
+
+-- the task has TA_ACT
+abbrev pub is_active : TaskConfig → Bool
+is_active task = bit_and task.attributes.0 ta_act == ta_act
+
+-- a task with TA_ACT is started
+abbrev pub started_at_boot : TaskTable → TaskConfig → TaskTable
+started_at_boot t task = if is_active task then activated t task.id Assigned else t
+
+-- the tasks with TA_ACT are started, in the order of their statements
+abbrev pub all_started : TaskTable → List TaskConfig → TaskTable
+all_started t [] = t
+all_started t (task ∷ tasks) = all_started (started_at_boot t task) tasks
+
+abbrev pub is_no_memory : BootFault → Bool
+is_no_memory NoMemory = true
+is_no_memory UnknownSymbol = false
+is_no_memory Outside = false
+
+-- what a function answered is what is meant, or that memory ran out
+abbrev pub Boots : {X : Type 0} → Result X BootFault → Result X BootFault → Type 0
+Boots meant answer = text.Gives is_no_memory (λ x. x) answer meant
