@@ -21,6 +21,3 @@ mod value;
 
 pub use assembler::assemble;
 pub use fault::AsmFault;
-
-#[cfg(test)]
-mod tests;

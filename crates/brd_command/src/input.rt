@@ -50,33 +50,3 @@ fn read_within<R: Read>(
     }
     Err(CommandFault::TooManyReads)
 }
-
-#[cfg(test)]
-mod tests {
-    use super::*;
-    use std::io;
-
-    /// Interrupts each read, and counts them.
-    #[derive(Drop)]
-    struct Busy {
-        reads: u32,
-    }
-
-    impl Read for Busy {
-        fn read(&mut self, _buf: &mut [u8]) -> io::Result<usize> {
-            self.reads = self.reads.wrapping_add(1);
-            Err(io::Error::from(ErrorKind::Interrupted))
-        }
-    }
-
-    #[test]
-    fn reads_end(rt: HostRuntime) {
-        for most_reads in [0, 1, 5, 300_000] {
-            let mut reader = Busy { reads: 0 };
-            let read = read_within(rt.alloc(), &mut reader, most_reads);
-            assert!(rt; matches!(read, Err(CommandFault::TooManyReads)));
-            assert_eq!(rt; reader.reads, most_reads);
-        }
-        assert_eq!(rt; MOST_READS, 268_435_456);
-    }
-}

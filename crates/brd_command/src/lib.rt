@@ -22,6 +22,3 @@ pub use files::{Files, asm_files};
 pub use request::{Request, perform};
 pub use word_text::WordsFault;
 pub use words_command::words;
-
-#[cfg(test)]
-mod tests;

@@ -20,6 +20,3 @@ pub use objects::{
     FlagConfig, HandlerConfig, Operand, QueueConfig, SemaphoreConfig, Stack, TaskConfig,
 };
 pub use parser::parse;
-
-#[cfg(test)]
-mod tests;

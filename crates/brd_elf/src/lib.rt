@@ -25,6 +25,3 @@ pub use laws::{files_are_read_again, read_images_are_loadable};
 pub use reading::read;
 pub use size::fits;
 pub use writing::write;
-
-#[cfg(test)]
-mod tests;

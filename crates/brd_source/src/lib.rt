@@ -16,6 +16,3 @@ mod token;
 pub use fault::LineFault;
 pub use line::parse_line;
 pub use statement::{Expression, Immediate, Instruction, Line, Statement, Width};
-
-#[cfg(test)]
-mod tests;

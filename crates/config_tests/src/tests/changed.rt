@@ -2,7 +2,7 @@
 //! the text has.
 
 use super::{EVERY, Want, answered};
-use crate::parse;
+use brd_config::parse;
 use std::test::Fail;
 
 /// The number of lines of a text.

@@ -6,8 +6,8 @@ mod forms;
 mod names;
 mod refused;
 
-use crate::{Expression, Immediate, Instruction, Line, LineFault, Statement, parse_line};
 use brd_isa::Register;
+use brd_source::{Expression, Immediate, Instruction, Line, LineFault, Statement, parse_line};
 
 fn r(number: u32) -> Register {
     Register::low(number)

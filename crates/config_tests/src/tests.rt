@@ -4,7 +4,7 @@ mod changed;
 mod many;
 mod values;
 
-use crate::{Config, ConfigFault};
+use brd_config::{Config, ConfigFault};
 
 /// What a text says, as a row has it: a configuration, or a fault and its line.
 #[derive(Clone, Copy, Debug, PartialEq, Eq)]

@@ -1,10 +1,10 @@
 mod fakes;
 mod files;
 
-use super::*;
 use brd_asm::AsmFault;
+use brd_command::{CommandFault, asm, words};
 use brd_mem::is_plain;
-use fakes::{Bytewise, Taking};
+use fakes::{Busy, Bytewise, Taking};
 use std::alloc::Global;
 use std::io::{ErrorKind, Read, Write};
 use std::process::Abort;
@@ -149,6 +149,27 @@ fn many_reads(rt: HostRuntime) -> Result<(), Fail> {
     words(alloc, &mut reader, &mut writer, 2)?;
     assert_eq!(rt; reader.reads, 300_019);
     assert_eq!(rt; writer.as_slice(), OUTPUT);
+    Ok(())
+}
+
+/// A reader that never gives a byte is given up.
+#[test]
+fn reads_end(rt: HostRuntime) -> Result<(), Fail> {
+    let alloc = rt.alloc();
+    for tested in [Tested::Words, Tested::Asm] {
+        let mut reader = Busy { reads: 0 };
+        let mut writer = Taking::new(alloc);
+        let result = tested.run(alloc, &mut reader, &mut writer);
+        assert_fault(
+            &rt,
+            alloc,
+            result,
+            "the input didn't end within 268,435,456 reads",
+            4,
+        )?;
+        assert_eq!(rt; reader.reads, 268_435_456);
+        assert_eq!(rt; writer.writes, 0);
+    }
     Ok(())
 }
 

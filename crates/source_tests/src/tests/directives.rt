@@ -1,7 +1,7 @@
 //! Labels and directives.
 
 use super::{n, sum};
-use crate::{Line, LineFault, Statement, Width, parse_line};
+use brd_source::{Line, LineFault, Statement, Width, parse_line};
 use std::test::Fail;
 
 fn statement<'a>(rt: &HostRuntime, line: &'a str) -> Result<Statement<'a>, Fail> {

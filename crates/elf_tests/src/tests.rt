@@ -1,6 +1,6 @@
 mod large;
 
-use super::*;
+use brd_elf::{ElfFault, read, write};
 use brd_mem::{Bytes, Image, Segment, Symbol};
 use std::alloc::{AllocError, Global};
 use std::test::Fail;

@@ -1,4 +1,4 @@
-use super::*;
+use brd_asm::{AsmFault, assemble};
 use brd_mem::Image;
 use std::alloc::{AllocError, Global};
 use std::test::Fail;

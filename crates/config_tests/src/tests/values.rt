@@ -1,8 +1,8 @@
 //! What the text with every kind of statement says, value by value.
 
 use super::EVERY;
-use crate::{Config, ConfigFault, Operand, Stack, TaskAttributes, parse};
 use bitflags::Flags;
+use brd_config::{Config, ConfigFault, Operand, Stack, TaskAttributes, parse};
 use std::alloc::{AllocError, Global};
 use std::process::Abort;
 use std::test::Fail;

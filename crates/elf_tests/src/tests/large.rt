@@ -1,7 +1,7 @@
 //! Large files, which a reader that gives up too early would refuse.
 
 use super::{ASSEMBLED, changed};
-use crate::{fits, read};
+use brd_elf::{fits, read};
 use brd_mem::{Bytes, Image, Segment};
 use std::alloc::{AllocError, Global};
 use std::test::Fail;

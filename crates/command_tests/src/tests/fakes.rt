@@ -46,6 +46,19 @@ impl<'a> Read for Bytewise<'a> {
     }
 }
 
+/// Interrupts each read, and counts them.
+#[derive(Drop)]
+pub struct Busy {
+    pub reads: u32,
+}
+
+impl Read for Busy {
+    fn read(&mut self, _buf: &mut [u8]) -> io::Result<usize> {
+        self.reads = self.reads.wrapping_add(1);
+        Err(io::Error::from(ErrorKind::Interrupted))
+    }
+}
+
 /// Takes a byte a write. The write of this number fails, with this kind, or takes nothing; or each write is interrupted
 /// once before it takes something. A flush counts as a write.
 #[derive(Drop)]

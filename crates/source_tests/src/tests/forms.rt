@@ -1,12 +1,12 @@
 //! Each form of operands, each shorthand, and how operands are written.
 
 use super::{is_instruction, is_same, n, r, sum, whole};
-use crate::{Expression, Immediate, Instruction};
 use brd_isa::{
     AccumulateOp, BranchOp, BranchRegimmOp, BranchZeroOp, CountOp, ImmediateOp, JumpOp, LinkedOp,
     LoadOp, MoveFromOp, MoveToOp, ProductOp, RegisterOp, ShiftOp, ShiftVariableOp, StoreOp,
     TrapImmediateOp, TrapOp,
 };
+use brd_source::{Expression, Immediate, Instruction};
 
 #[test]
 fn computing(rt: HostRuntime) {

@@ -1,7 +1,7 @@
 //! Which files are opened, and in which order.
 
 use super::assert_fault;
-use crate::{CommandFault, Files, Request, asm_files, perform};
+use brd_command::{CommandFault, Files, Request, asm_files, perform};
 use std::cell::RefCell;
 use std::io::{self, ErrorKind, Read, Write};
 use std::test::Fail;

@@ -1,6 +1,6 @@
 //! Sources that are larger than what any list, map or tree begins with.
 
-use crate::assemble;
+use brd_asm::assemble;
 use std::test::Fail;
 
 /// How many names, and how many stretches of bytes.

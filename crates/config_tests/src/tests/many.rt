@@ -1,6 +1,6 @@
 //! As many objects as IDs and lines.
 
-use crate::parse;
+use brd_config::parse;
 use std::alloc::{AllocError, Global};
 use std::test::Fail;
 
