@@ -1,0 +1,221 @@
+//! Prints what boards do. Standard input tells firmware and events, and is printed with what each board shows:
+//!
+//! - `= NAME` begins anew, without source and configuration;
+//! - `s LINE` is a line of assembler source, `c LINE` one of the configuration;
+//! - `e EVENTS` boots the board, if it isn't yet, and does events: a byte each, 1 to 8 a step of that processor, T a tick, R a
+//!   raise of line 5. Behind it stand the reports, a byte each, and what the board shows;
+//! - `f LINE` boots a board with the configuration so far and this line, and tells the fault;
+//! - every other line is a comment.
+#![tactic(auto)]
+
+use brd_asm::assemble;
+use brd_board::{Board, BootFault, Event, Report, Standing, TaskView};
+use brd_config::parse;
+use brd_isa::Register;
+use brd_mem::laws::plain_images_are_loadable;
+use std::alloc::{AllocError, Global};
+use std::io;
+use std::io::{BufRead, BufReader};
+
+/// The board of a source and a configuration. One that has no board, or no image or configuration, is told in words.
+fn board_of(alloc: Global, source: &str, config: &str) -> Result<Board, &'static str> {
+    plain_images_are_loadable();
+    let Ok(image) = assemble(alloc, source.as_bytes()) else {
+        return Err("the source has a fault");
+    };
+    let Ok(config) = parse(alloc, config.as_bytes()) else {
+        return Err("the configuration has a fault");
+    };
+    match Board::boot(alloc, &image, &config) {
+        Ok(board) => Ok(board),
+        Err(BootFault::NoMemory) => Err("out of memory"),
+        Err(BootFault::UnknownSymbol) => Err("unknown symbol"),
+        Err(BootFault::Outside) => Err("outside"),
+    }
+}
+
+/// The event that a byte stands for.
+fn event_of(byte: u8) -> Event {
+    match byte {
+        b'T' => Event::Tick,
+        b'R' => Event::Raise(5),
+        _ => Event::Step(byte.wrapping_sub(b'0')),
+    }
+}
+
+/// The byte that stands for a report.
+fn letter_of(report: Report) -> char {
+    match report {
+        Report::Ran(_) => 'r',
+        Report::Called(_) => 'c',
+        Report::Faulted(_) => 'f',
+        Report::Idle => 'i',
+        Report::Stopped => 's',
+        Report::Off => 'o',
+        Report::NoSuch => 'n',
+        Report::Ticked => 't',
+        Report::TimeOver => 'O',
+        Report::Accepted(_) => 'a',
+        Report::Raised => 'R',
+    }
+}
+
+/// Does events, and tells their reports.
+fn play(alloc: Global, board: &mut Board, events: &str) -> Result<String, AllocError> {
+    let mut reports = String::new(alloc);
+    for byte in events.as_bytes() {
+        let report = board.event(event_of(*byte));
+        reports.push(letter_of(report))?;
+    }
+    Ok(reports)
+}
+
+/// What a board shows: each processor, each task with its registers, and, where it isn't as at first, time and console.
+fn show(text: &mut String, board: &Board) -> Result<(), AllocError> {
+    for cpu in 1..9u8 {
+        show_processor(text, board, cpu)?;
+    }
+    for id in 1..256u16 {
+        if let Some(task) = board.task(id) {
+            show_task(text, id, task)?;
+        }
+    }
+    show_rest(text, board)
+}
+
+/// Time, whether the board is off, and the console.
+fn show_rest(text: &mut String, board: &Board) -> Result<(), AllocError> {
+    let now = board.now();
+    if now != 0 {
+        write!(text, "\n  tick {now}")?;
+    }
+    if board.is_off() {
+        text.push_str("\n  off")?;
+    }
+    if !board.console().is_empty() {
+        text.push_str("\n  console ")?;
+    }
+    for byte in board.console() {
+        text.push(char::from(*byte))?;
+    }
+    Ok(())
+}
+
+/// What a processor does, the word that it is linked to, and its last fault.
+fn show_processor(text: &mut String, board: &Board, cpu: u8) -> Result<(), AllocError> {
+    let Some(standing) = board.standing(cpu) else {
+        return Ok(());
+    };
+    match standing {
+        Standing::Idle => write!(text, "\n  cpu {cpu} idle")?,
+        Standing::Stopped => write!(text, "\n  cpu {cpu} stopped")?,
+        Standing::Task(id) => write!(text, "\n  cpu {cpu} task {id}")?,
+        Standing::Handler(line) => write!(text, "\n  cpu {cpu} handler {line}")?,
+    }
+    if let Some(word) = board.link(cpu) {
+        write!(text, ", linked to {word:08x}")?;
+    }
+    if let Some(fault) = board.last_fault(cpu) {
+        let (code, epc, bd) = (fault.code.number(), fault.epc, fault.bd);
+        write!(text, ", fault {code} at {epc:08x}, in a slot: {bd}")?;
+    }
+    Ok(())
+}
+
+/// A task's state, priority and processor, what it waits for and what is queued, and its context: the program counter, and all
+/// registers that aren't 0.
+fn show_task(text: &mut String, id: u16, task: TaskView) -> Result<(), AllocError> {
+    let (state, priority, cpu) = (task.state, task.priority, task.cpu);
+    write!(text, "\n  task {id} {state:?} pri {priority} cpu {cpu}")?;
+    if let Some(reason) = task.waiting {
+        write!(text, " {reason:?}")?;
+    }
+    if task.activations != 0 {
+        text.push_str(" request")?;
+    }
+    if task.wakeups != 0 {
+        text.push_str(" wake-up")?;
+    }
+    let pc = task.context.pc();
+    write!(text, " pc {pc:08x}")?;
+    for number in 1..32u32 {
+        let word = task.context.read(Register::low(number));
+        if word != 0 {
+            write!(text, " ${number} {word:x}")?;
+        }
+    }
+    Ok(())
+}
+
+/// A scene so far.
+#[derive(Drop)]
+struct Scene {
+    source: String,
+    config: String,
+    board: Option<Board>,
+}
+
+/// A scene without source and configuration.
+fn begun(alloc: Global) -> Scene {
+    Scene {
+        source: String::new(alloc),
+        config: String::new(alloc),
+        board: None,
+    }
+}
+
+/// Does events on the board of a scene, which is booted first if it isn't yet. Tells the reports and what the board shows.
+fn played(alloc: Global, scene: &mut Scene, events: &str) -> Result<String, AllocError> {
+    if scene.board.is_none() {
+        match board_of(alloc, scene.source.as_str(), scene.config.as_str()) {
+            Ok(board) => scene.board = Some(board),
+            Err(fault) => return String::from_str(alloc, fault),
+        }
+    }
+    let Some(board) = &mut scene.board else {
+        return Ok(String::new(alloc));
+    };
+    let mut text = play(alloc, board, events)?;
+    show(&mut text, board)?;
+    Ok(text)
+}
+
+/// The fault of a board whose configuration has one more line.
+fn fault_of(alloc: Global, scene: &Scene, line: &str) -> Result<&'static str, AllocError> {
+    let mut config = String::from_str(alloc, scene.config.as_str())?;
+    config.push_str(line)?;
+    match board_of(alloc, scene.source.as_str(), config.as_str()) {
+        Ok(_) => Ok("boots"),
+        Err(fault) => Ok(fault),
+    }
+}
+
+fn run(rt: &(impl Input + Print + AllocGlobal)) -> io::Result<()> {
+    let alloc = rt.alloc();
+    let mut scene = begun(alloc);
+    for line in BufReader::new(alloc, rt.reader())?.lines(alloc) {
+        let line = line?;
+        let text = line.as_str();
+        println!(rt; "{text}")?;
+        if text.starts_with("= ") {
+            scene = begun(alloc);
+        } else if let Some(source) = text.strip_prefix("s ") {
+            scene.source.push_str(source)?;
+            scene.source.push_str("\n")?;
+        } else if let Some(config) = text.strip_prefix("c ") {
+            scene.config.push_str(config)?;
+            scene.config.push_str("\n")?;
+        } else if let Some(events) = text.strip_prefix("e ") {
+            let shown = played(alloc, &mut scene, events)?;
+            println!(rt; "  {shown}")?;
+        } else if let Some(line) = text.strip_prefix("f ") {
+            let fault = fault_of(alloc, &scene, line)?;
+            println!(rt; "  {fault}")?;
+        }
+    }
+    Ok(())
+}
+
+fn main(rt: HostRuntime) -> io::Result<()> {
+    run(&rt)
+}
