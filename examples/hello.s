@@ -1,4 +1,4 @@
-# Writes "Hi" by put_chr (service 40) and turns the board off by ext_ker (41). Services are to come: today each is answered E_RSFN.
+# Writes "Hi" and a newline by put_chr (service 40), and turns the board off by ext_ker (41).
         .equ    put_chr, 40
         .equ    ext_ker, 41
 _start: lui     $s0, %hi(text)
