@@ -1,9 +1,10 @@
 #!/bin/bash
 # The tests of what the program doesn't use yet, by the programs of other crates that `rt ci` leaves: configuration
-# texts and object files. tests/libraries.sh PROGRAM (which it doesn't run).
+# texts, boards of several tasks, object files. tests/libraries.sh PROGRAM (which it doesn't run).
 . "$(dirname "$0")/check.sh"
 . tests/growths.sh
 rows=crates/config_rows/out/config_rows
+scenes=crates/board_rows/out/board_rows
 elf=crates/elf_bench/out/elf_bench
 
 # The texts of the table, a few at a time: a growth that is refused ends the program.
@@ -11,6 +12,11 @@ if [ -x "$rows" ]; then
     sed -n '60,90p' crates/config_rows/stdin > "$work/in"
     "$rows" < "$work/in" > "$work/wanted"
     refuse_each "configuration texts" 1 "*[Mm]emory*" "$rows"
+fi
+if [ -x "$scenes" ]; then
+    sed -n '/^= stacks/,/^$/p' crates/board_rows/stdin > "$work/in"
+    "$scenes" < "$work/in" > "$work/wanted"
+    refuse_each "boot" 1 "*[Mm]emory*" "$scenes"
 fi
 if [ -x "$elf" ]; then
     : > "$work/in"

@@ -8,29 +8,37 @@
 //! - every other line is a comment.
 #![tactic(auto)]
 
-use brd_asm::assemble;
+use brd_asm::{AsmFault, assemble};
 use brd_board::{Board, BootFault, Event, Report, Standing, TaskView};
-use brd_config::parse;
+use brd_config::{ConfigFault, parse};
 use brd_isa::Register;
 use brd_mem::laws::plain_images_are_loadable;
 use std::alloc::{AllocError, Global};
 use std::io;
 use std::io::{BufRead, BufReader};
 
-/// The board of a source and a configuration. One that has no board, or no image or configuration, is told in words.
-fn board_of(alloc: Global, source: &str, config: &str) -> Result<Board, &'static str> {
+/// The board of a source and a configuration, or in words why there is none. That memory ran out is no answer.
+fn board_of(
+    alloc: Global,
+    source: &str,
+    config: &str,
+) -> Result<Result<Board, &'static str>, AllocError> {
     plain_images_are_loadable();
-    let Ok(image) = assemble(alloc, source.as_bytes()) else {
-        return Err("the source has a fault");
+    let image = match assemble(alloc, source.as_bytes()) {
+        Ok(image) => image,
+        Err(AsmFault::NoMemory) => return Err(AllocError),
+        Err(_) => return Ok(Err("the source has a fault")),
     };
-    let Ok(config) = parse(alloc, config.as_bytes()) else {
-        return Err("the configuration has a fault");
+    let config = match parse(alloc, config.as_bytes()) {
+        Ok(config) => config,
+        Err(ConfigFault::NoMemory) => return Err(AllocError),
+        Err(_) => return Ok(Err("the configuration has a fault")),
     };
     match Board::boot(alloc, &image, &config) {
-        Ok(board) => Ok(board),
-        Err(BootFault::NoMemory) => Err("out of memory"),
-        Err(BootFault::UnknownSymbol) => Err("unknown symbol"),
-        Err(BootFault::Outside) => Err("outside"),
+        Ok(board) => Ok(Ok(board)),
+        Err(BootFault::NoMemory) => Err(AllocError),
+        Err(BootFault::UnknownSymbol) => Ok(Err("unknown symbol")),
+        Err(BootFault::Outside) => Ok(Err("outside")),
     }
 }
 
@@ -167,7 +175,7 @@ fn begun(alloc: Global) -> Scene {
 /// Does events on the board of a scene, which is booted first if it isn't yet. Tells the reports and what the board shows.
 fn played(alloc: Global, scene: &mut Scene, events: &str) -> Result<String, AllocError> {
     if scene.board.is_none() {
-        match board_of(alloc, scene.source.as_str(), scene.config.as_str()) {
+        match board_of(alloc, scene.source.as_str(), scene.config.as_str())? {
             Ok(board) => scene.board = Some(board),
             Err(fault) => return String::from_str(alloc, fault),
         }
@@ -184,7 +192,7 @@ fn played(alloc: Global, scene: &mut Scene, events: &str) -> Result<String, Allo
 fn fault_of(alloc: Global, scene: &Scene, line: &str) -> Result<&'static str, AllocError> {
     let mut config = String::from_str(alloc, scene.config.as_str())?;
     config.push_str(line)?;
-    match board_of(alloc, scene.source.as_str(), config.as_str()) {
+    match board_of(alloc, scene.source.as_str(), config.as_str())? {
         Ok(_) => Ok("boots"),
         Err(fault) => Ok(fault),
     }
