@@ -1,0 +1,8 @@
+-- How the code keeps the tick at which a wait ends (its contracts speak of `Time` alone): a number stands for a wait without an end.
+use Rattle.std.specs.Prelude.{ℕ, ◌-◌, ◌^◌, ◌==◌, if◌then◌else◌, Option, None, Some}
+
+abbrev pub never : ℕ
+never = 2 ^ 64 - 1
+
+abbrev pub due_in : ℕ → Option ℕ
+due_in due = if due == never then None else Some due

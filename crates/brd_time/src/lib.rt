@@ -1,0 +1,12 @@
+//! Time as the kernel counts it: ticks, and when the waits of tasks end.
+//!
+//! `specs/Time.antt` says what each call makes of it. No call but `Timeouts::new` takes memory.
+#![tactic(auto)]
+
+pub mod laws;
+mod timeouts;
+
+pub use timeouts::Timeouts;
+
+#[cfg(test)]
+mod tests;

@@ -1,0 +1,102 @@
+//! Ticks, and when the waits of tasks end.
+
+ghost use Rattle.std.specs.Prelude.{◌≡◌, ◌<◌, ◌≤◌, ◌^◌, ◌-◌, None, Some, IfOk, nat_lt, replicate};
+ghost use Rattle.brd_time.specs.Time.{beginning, due_of, with_due, advanced, last_count, next_due_of};
+
+use brd_base::NoMemory;
+use std::alloc::Global;
+use std::marker::Model;
+
+/// The last tick that is counted.
+const LAST_COUNT: u64 = 9_223_372_036_854_775_807;
+
+/// What stands for a wait without an end: no tick that is counted.
+const NEVER: u64 = 18_446_744_073_709_551_615;
+
+/// How many ticks have passed, and for each task, by its ID below 256, at which tick its wait ends, where it has an end.
+#[derive(Drop)]
+pub struct Timeouts {
+    count: u64,
+    dues: Vec<u64>,
+}
+
+impl Model for Timeouts {
+    ghost use Rattle.std.specs.Prelude.{◌≡◌, ◌≤◌, length, map};
+    ghost use Rattle.brd_time.specs.Time.{Time, last_count};
+    ghost use Rattle.brd_time.specs.Kept.{due_in};
+
+    ghost Value = { Time };
+
+    ghost view = { λ t. record { count = t.count; dues = map due_in t.dues.items } };
+
+    ghost invariant = { λ t. (length t.dues.items ≡ 256) × (t.count ≤ last_count) };
+}
+
+impl Timeouts {
+    /// Before the first tick: no wait has an end.
+    pub fn new(alloc: Global) -> Result<Timeouts, NoMemory>
+        ensures { IfOk result (λ timeouts. timeouts ≡ beginning) }
+    {
+        let dues = vec![in alloc; NEVER; 256]?;
+        Ok(Timeouts { count: 0, dues })
+    }
+
+    /// How many ticks have passed.
+    pub fn now(&self) -> u64
+        ensures is { result ≡ self.now.count }
+        ensures counted { result ≤ last_count }
+    {
+        self.count
+    }
+
+    /// The wait of a task ends at a tick, which is below 18,446,744,073,709,551,615. IDs are below 256.
+    pub fn arm(&mut self, task: u16, due: u64)
+        requires task { task < 256 }
+        requires due { due < 2 ^ 64 - 1 }
+        ensures { self.new ≡ with_due self.old task (Some due) }
+    {
+        self.dues[task as usize] = due;
+    }
+
+    /// The wait of a task has no end, or is over.
+    pub fn disarm(&mut self, task: u16)
+        requires { task < 256 }
+        ensures { self.new ≡ with_due self.old task None }
+    {
+        self.dues[task as usize] = NEVER;
+    }
+
+    /// The tick at which the wait of a task ends.
+    pub fn due(&self, task: u16) -> Option<u64>
+        ensures { result ≡ due_of self.now task }
+    {
+        if (task as usize) >= self.dues.len() {
+            return None;
+        }
+        let due = self.dues[task as usize];
+        if due == NEVER { None } else { Some(due) }
+    }
+
+    /// A tick passes. Answers whether it was counted; at the end of time it isn't, and nothing changes.
+    pub fn advance(&mut self) -> bool
+        ensures is { self.new ≡ advanced self.old }
+        ensures counted { result ≡ nat_lt self.old.count last_count }
+    {
+        if self.count >= LAST_COUNT {
+            return false;
+        }
+        self.count += 1;
+        true
+    }
+
+    /// The first task from an ID on whose wait ends: its tick has come.
+    pub fn next_due(&self, from: u16) -> Option<u16>
+        requires { from ≤ 256 }
+        ensures { result ≡ next_due_of self.now from }
+    {
+        match brd_lanes::next_due(self.dues.as_slice(), self.count, from as usize) {
+            Some(task) => Some(task as u16),
+            None => None,
+        }
+    }
+}
