@@ -28,7 +28,7 @@ attack:
 gate-times:
 	tests/gate_time --write
 
-# Speed, on this machine: millions of instructions a second.
+# Speed, on this machine: millions of events a second, and of other units.
 bench:
 	cd crates/board_bench && rt run >/dev/null
 	crates/board_bench/out/board_bench 100000000

@@ -2,8 +2,10 @@
 //!
 //! - `= NAME` begins anew, without source and configuration;
 //! - `s LINE` is a line of assembler source, `c LINE` one of the configuration;
-//! - `e EVENTS` boots the board, if it isn't yet, and does events: a byte each, 1 to 8 a step of that processor, T a tick, R a
-//!   raise of line 5. Behind it stand the reports, a byte each, and what the board shows;
+//! - `e EVENTS` boots the board, if it isn't yet, and does events, a byte each: a digit is a step of that processor, T a tick,
+//!   R a raise of line 5. Behind it stand the reports, a byte each (r `Ran`, c `Called`, f `Faulted`, i `Idle`, s `Stopped`,
+//!   o `Off`, n `NoSuch`, t `Ticked`, O `TimeOver`, a `Accepted`, R `Raised`), and what the board shows;
+//! - `m ADDRESS` tells the word at an address of eight hexadecimal digits;
 //! - `f LINE` boots a board with the configuration so far and this line, and tells the fault;
 //! - every other line is a comment.
 #![tactic(auto)]
@@ -13,6 +15,7 @@ use brd_board::{Board, BootFault, Event, Report, Standing, TaskView};
 use brd_config::{ConfigFault, parse};
 use brd_isa::Register;
 use brd_mem::laws::plain_images_are_loadable;
+use brd_text::hex_word;
 use std::alloc::{AllocError, Global};
 use std::io;
 use std::io::{BufRead, BufReader};
@@ -188,6 +191,21 @@ fn played(alloc: Global, scene: &mut Scene, events: &str) -> Result<String, Allo
     Ok(text)
 }
 
+/// The four bytes from an address on of the board of a scene, as hexadecimal digits.
+fn word_at(alloc: Global, scene: &Scene, address: &str) -> Result<String, AllocError> {
+    let mut text = String::new(alloc);
+    let (Some(board), Some(address)) = (&scene.board, hex_word(address.as_bytes())) else {
+        return Ok(text);
+    };
+    for at in 0..4u32 {
+        match board.memory(address.wrapping_add(at)) {
+            Some(byte) => write!(text, "{byte:02x}")?,
+            None => text.push_str("--")?,
+        }
+    }
+    Ok(text)
+}
+
 /// The fault of a board whose configuration has one more line.
 fn fault_of(alloc: Global, scene: &Scene, line: &str) -> Result<&'static str, AllocError> {
     let mut config = String::from_str(alloc, scene.config.as_str())?;
@@ -216,6 +234,9 @@ fn run(rt: &(impl Input + Print + AllocGlobal)) -> io::Result<()> {
         } else if let Some(events) = text.strip_prefix("e ") {
             let shown = played(alloc, &mut scene, events)?;
             println!(rt; "  {shown}")?;
+        } else if let Some(address) = text.strip_prefix("m ") {
+            let word = word_at(alloc, &scene, address)?;
+            println!(rt; "  {word}")?;
         } else if let Some(line) = text.strip_prefix("f ") {
             let fault = fault_of(alloc, &scene, line)?;
             println!(rt; "  {fault}")?;

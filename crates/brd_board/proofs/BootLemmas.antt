@@ -11,7 +11,7 @@ use Rattle.brd_mem.specs.declared.image.Segment.{Segment}
 use Rattle.brd_text.specs.Faults.{◌>>=◌}
 use Rattle.brd_board.specs.Board.{BoardState}
 use Rattle.brd_board.specs.Setup.{setups_from, placed_task, region_of, handlers_tested}
-use Rattle.brd_board.specs.Boot.{boot, boot_words, ram_size, loaded, first_board, first_kernel, first_task, words_config, memory_of, memory_of_words}
+use Rattle.brd_board.specs.Boot.{boot, boot_words, words_ram, loaded, booted_board, booted_kernel, words_setup, words_task, words_config, memory_of, memory_of_words}
 use Rattle.brd_board.proofs.LoadLemmas.{turn, all_loaded, zero_bytes, copied-size}
 use Rattle.brd_board.specs.declared.boot.BootFault.{BootFault}
 use Rattle.brd_board.specs.declared.boot.BootFault.TheVariants.{Outside}
@@ -29,7 +29,7 @@ copied-zero size bytes =
     rw front (rw (drop-replicate {X = ℕ} (length bytes) size zero) refl)
 
 -- they fit exactly where there are at most 16,384
-fits : (n : ℕ) → contains ram_size base (4 * n) && true ≡ nat_le n 16384
+fits : (n : ℕ) → contains words_ram base (4 * n) && true ≡ nat_le n 16384
 fits n = grind (arith, nat_tests)
 
 chosen : (a b : Bool) (x y : Memory) → a ≡ b → (a ≡ true → x ≡ y) →
@@ -57,26 +57,26 @@ one_loaded size segment inside =
 loaded_words : List ℕ → Result Memory BootFault
 loaded_words words = if nat_le (length words) 16384 then Ok (memory_of_words words) else Err Outside
 
-loaded-words : (words : List ℕ) → loaded ram_size (segments_of_words words) ≡ loaded_words words
+loaded-words : (words : List ℕ) → loaded words_ram (segments_of_words words) ≡ loaded_words words
 unfolding loaded loaded_words
-loaded-words [] = ap Ok (sym (none_loaded ram_size))
+loaded-words [] = ap Ok (sym (none_loaded words_ram))
 loaded-words (word ∷ words) =
     let bytes : List ℕ = flat_map bytes_of_word (word ∷ words) in
     let long : length bytes ≡ 4 * length (word ∷ words) = length-bytes (word ∷ words) in
-    chosen (contains ram_size base (length bytes) && true) (nat_le (length (word ∷ words)) 16384)
-    (memory_of ram_size (segments_of_words (word ∷ words))) (memory_of_words (word ∷ words))
+    chosen (contains words_ram base (length bytes) && true) (nat_le (length (word ∷ words)) 16384)
+    (memory_of words_ram (segments_of_words (word ∷ words))) (memory_of_words (word ∷ words))
     (rw long (fits (length (word ∷ words))))
-    (λ inside. sym (one_loaded ram_size (record { address = base; bytes = bytes }) (one_inside _ inside)) ∙ rw (← long) (copied-zero ram_size bytes))
+    (λ inside. sym (one_loaded words_ram (record { address = base; bytes = bytes }) (one_inside _ inside)) ∙ rw (← long) (copied-zero words_ram bytes))
 
 -- the board over a memory
 over : Result Memory BootFault → Result BoardState BootFault
-over memory = memory >>= (λ m. Ok (first_board (first_kernel words_config (first_task ∷ [])) m))
+over memory = memory >>= (λ m. Ok (booted_board (booted_kernel 1 (words_setup ∷ []) (words_task ∷ [])) m))
 
-boot-over : (words : List ℕ) → boot (image_of_words words) words_config ≡ over (loaded ram_size (segments_of_words words))
+boot-over : (words : List ℕ) → boot (image_of_words words) words_config ≡ over (loaded words_ram (segments_of_words words))
 unfolding boot over setups_from placed_task region_of handlers_tested
 boot-over words = refl
 
-over-words : (fit : Bool) (memory : Memory) → over (if fit then Ok memory else Err Outside) ≡ (if fit then Ok (first_board (first_kernel words_config (first_task ∷ [])) memory) else Err Outside)
+over-words : (fit : Bool) (memory : Memory) → over (if fit then Ok memory else Err Outside) ≡ (if fit then Ok (booted_board (booted_kernel 1 (words_setup ∷ []) (words_task ∷ [])) memory) else Err Outside)
 unfolding over
 over-words true memory = refl
 over-words false memory = refl

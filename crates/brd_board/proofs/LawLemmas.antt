@@ -22,7 +22,7 @@ use Rattle.brd_config.specs.Configuration.{Configuration}
 use Rattle.brd_text.specs.Faults.{◌>>=◌}
 use Rattle.brd_tasks.specs.declared.task.TaskSetup.{TaskSetup}
 use Rattle.brd_board.specs.Setup.{setups_of, handlers_tested}
-use Rattle.brd_board.specs.Boot.{loaded, first_kernel, first_board, boot}
+use Rattle.brd_board.specs.Boot.{loaded, booted_kernel, booted_board, boot}
 use Rattle.brd_tasks.specs.Tasks.{made}
 use Rattle.brd_kernel.specs.Kernel.{with_tasks, accepted_line, counted}
 use Rattle.brd_kernel.specs.Making.{made_kernel}
@@ -94,7 +94,7 @@ IsBooted (Ok b) = IsSettled b.kernel
 IsBooted (Err fault) = Unit {0}
 
 booted-by : (config : Configuration) (memory : Result Memory BootFault) (setups : Result (List TaskSetup) BootFault) (starts : Result (Unit {0}) BootFault) →
-    IsBooted (memory >>= (λ m. setups >>= (λ s. starts >>= (λ t. Ok (first_board (first_kernel config s) m)))))
+    IsBooted (memory >>= (λ m. setups >>= (λ s. starts >>= (λ t. Ok (booted_board (booted_kernel config.processors s config.tasks) m)))))
 booted-by config (Err fault) setups starts = tt
 booted-by config (Ok m) (Err fault) starts = tt
 booted-by config (Ok m) (Ok s) (Err fault) = tt

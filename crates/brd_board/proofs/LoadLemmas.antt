@@ -4,13 +4,14 @@ use Rattle.std.specs.Prelude.{Bool, true, false, ◌&&◌, nat_le, nat_lt, unwra
 use Rattle.std.specs.List.{AllByRecursion}
 use Rattle.std.proofs.lemmas.Bool.{cases_lt}
 use Rattle.std.proofs.lemmas.Bool.Decides.{nat_tests}
-use Rattle.std.proofs.lemmas.List.{get_or-drop, get_or-take, get_or_append_left, get_or-append_right, length-take-le, length-replicate, drop_more, drop_all}
+use Rattle.std.proofs.lemmas.List.{get_or-drop, get_or-take, get_or_append_left, get_or-append_right, length-take-le, length-replicate, drop_all}
 use Rattle.std.proofs.lemmas.Option.{slice_get-get_or}
 use Rattle.std.proofs.lemmas.List.FromFn.{fill_by_all}
 use Rattle.brd_base.specs.Space.{base}
 use Rattle.brd_mem.specs.Memory.{Memory, size_of, zeros, contains, copied}
 use Rattle.brd_mem.specs.Image.{byte_in, IsApart, AreApart}
 use Rattle.brd_mem.specs.declared.image.Segment.{Segment}
+use Rattle.brd_board.proofs.SetupLemmas.{next}
 use Rattle.brd_board.specs.Boot.{are_inside, memory_of}
 
 -- whether a segment holds an address
@@ -142,10 +143,6 @@ goes_on size segments segment others memory so_far inside = record {
   bytes = λ at. turn size segment others memory at so_far.long inside so_far.apart.0 ∙ so_far.bytes at;
 }
 
-next : (segments : List Segment) (i : ℕ) (segment : Segment) → i < length segments → segment ≡ get_or segments i segment →
-    drop i segments ≡ segment ∷ drop (i + 1) segments
-next segments i segment below is = drop_more segments i segment below ∙ ap (λ (one : Segment). one ∷ drop (i + 1) segments) (sym is)
-
 pub next_begins : (size : ℕ) (segments : List Segment) (i : ℕ) (segment : Segment) (memory : Memory) → i < length segments →
     segment ≡ get_or segments i segment → IsUnderWay size segments (drop i segments) memory →
     contains size segment.address (length segment.bytes) ≡ true →
@@ -162,16 +159,13 @@ stops size segments i segment memory below is so_far outside =
     sym so_far.inside ∙ ap (are_inside size) (next segments i segment below is)
     ∙ ap (λ (inside : Bool). inside && are_inside size (drop (i + 1) segments)) outside
 
-no_more : (segments : List Segment) (i : ℕ) → length segments ≤ i → drop i segments ≡ []
-no_more segments i past = drop_all i segments past
-
 pub ends : (size : ℕ) (segments : List Segment) (i : ℕ) (memory : Memory) → length segments ≤ i → IsUnderWay size segments (drop i segments) memory →
     memory ≡ memory_of size segments
 ends size segments i memory past so_far =
     all_loaded size segments memory so_far.long
     (λ at. subst (λ (rest : List Segment). unwrap_or (byte_in rest (base + at)) (get_or memory.bytes at 0) ≡ unwrap_or (byte_in segments (base + at)) 0)
-    (no_more segments i past) (so_far.bytes at))
+    (drop_all i segments past) (so_far.bytes at))
 
 pub all_inside : (size : ℕ) (segments : List Segment) (i : ℕ) (memory : Memory) → length segments ≤ i → IsUnderWay size segments (drop i segments) memory →
     are_inside size segments ≡ true
-all_inside size segments i memory past so_far = sym so_far.inside ∙ ap (are_inside size) (no_more segments i past)
+all_inside size segments i memory past so_far = sym so_far.inside ∙ ap (are_inside size) (drop_all i segments past)

@@ -35,13 +35,12 @@ unfoldable pub loaded : ℕ → List Segment → Result Memory BootFault
 loaded size segments = if are_inside size segments then Ok (memory_of size segments) else Err Outside
 
 -- the kernel at count 0: its tasks with TA_ACT have been started, and each processor runs its first ready task
-abbrev pub first_kernel : Configuration → List TaskSetup → KernelState
-first_kernel config setups =
-    let made = made_kernel config.processors setups in dispatched (with_tasks made (all_started made.tasks config.tasks))
+abbrev pub booted_kernel : ℕ → List TaskSetup → List TaskConfig → KernelState
+booted_kernel processors setups tasks = let made = made_kernel processors setups in dispatched (with_tasks made (all_started made.tasks tasks))
 
--- a board that begins, without links and faults
-abbrev pub first_board : KernelState → Memory → BoardState
-first_board kernel memory = record { kernel = kernel; memory = memory; links = []; faults = replicate 9 None }
+-- the board as boot leaves it: without links and faults
+abbrev pub booted_board : KernelState → Memory → BoardState
+booted_board kernel memory = record { kernel = kernel; memory = memory; links = []; faults = replicate 9 None }
 
 -- The board that an image and a configuration make, or the first fault: of the segments, of the tasks, of the handlers. Tasks start where the
 -- configuration says, whatever entry the image names.
@@ -50,12 +49,12 @@ boot image config = do
   memory ← loaded config.ram image.segments
   setups ← setups_of config.ram image.symbols config.tasks
   tested ← handlers_tested config.ram image.symbols config.handlers
-  Ok (first_board (first_kernel config setups) memory)
+  Ok (booted_board (booted_kernel config.processors setups config.tasks) memory)
 
 -- Words: their image is booted with 64 KiB of RAM and one task, which starts at RAM's first address.
 
-abbrev pub ram_size : ℕ
-ram_size = 2 ^ 16
+abbrev pub words_ram : ℕ
+words_ram = 2 ^ 16
 
 -- BOARD(1, 0x10000); CRE_TSK(1, {TA_ACT, 0, 0x80000000, 1, 256, NULL});
 abbrev pub words_task : TaskConfig
@@ -71,17 +70,17 @@ words_task = record {
 }
 
 abbrev pub words_config : Configuration
-words_config = record { processors = 1; ram = ram_size; tasks = words_task ∷ []; semaphores = []; flags = []; queues = []; handlers = [] }
+words_config = record { processors = 1; ram = words_ram; tasks = words_task ∷ []; semaphores = []; flags = []; queues = []; handlers = [] }
 
 -- that task: its stack pointer is the end of RAM
-abbrev pub first_task : TaskSetup
-first_task = record { id = 1; cpu = 1; priority = 1; exinf = 0; address = base; sp = base + ram_size }
+abbrev pub words_setup : TaskSetup
+words_setup = record { id = 1; cpu = 1; priority = 1; exinf = 0; address = base; sp = base + words_ram }
 
 -- the memory of a list of words: they lie from its start on, and zeros after them
 abbrev pub memory_of_words : List ℕ → Memory
-memory_of_words words = record { bytes = flat_map bytes_of_word words ++ replicate (ram_size - 4 * length words) 0 }
+memory_of_words words = record { bytes = flat_map bytes_of_word words ++ replicate (words_ram - 4 * length words) 0 }
 
 -- the board of a list of words, of which 16,384 fit into RAM
 abbrev pub boot_words : List ℕ → Result BoardState BootFault
 boot_words words =
-    if nat_le (length words) 16384 then Ok (first_board (first_kernel words_config (first_task ∷ [])) (memory_of_words words)) else Err Outside
+    if nat_le (length words) 16384 then Ok (booted_board (booted_kernel 1 (words_setup ∷ []) (words_task ∷ [])) (memory_of_words words)) else Err Outside

@@ -99,12 +99,12 @@ abbrev pub ta_act : ℕ
 ta_act = 2
 
 -- the task has TA_ACT
-abbrev pub is_active : TaskConfig → Bool
-is_active task = bit_and task.attributes.0 ta_act == ta_act
+abbrev pub has_ta_act : TaskConfig → Bool
+has_ta_act task = bit_and task.attributes.0 ta_act == ta_act
 
 -- a task with TA_ACT is started
 abbrev pub started_at_boot : TaskTable → TaskConfig → TaskTable
-started_at_boot t task = if is_active task then activated t task.id Assigned else t
+started_at_boot t task = if has_ta_act task then activated t task.id Assigned else t
 
 -- the tasks with TA_ACT are started, in the order of their statements
 abbrev pub all_started : TaskTable → List TaskConfig → TaskTable

@@ -3,10 +3,6 @@
 ghost use Rattle.std.specs.Prelude.{◌≡◌, ◌≤◌, All, IfOk, replicate, None};
 ghost use Rattle.brd_config.specs.View.{view};
 ghost use Rattle.brd_tasks.specs.Ready.{IsProcessor, IsSetup};
-ghost use Rattle.brd_tasks.specs.Tasks.{made};
-ghost use Rattle.brd_kernel.specs.Kernel.{with_tasks};
-ghost use Rattle.brd_kernel.specs.Making.{made_kernel};
-ghost use Rattle.brd_kernel.specs.Dispatch.{dispatched};
 ghost use Rattle.brd_board.specs.Board.{
   happens,
   stepped,
@@ -23,8 +19,8 @@ ghost use Rattle.brd_board.specs.Board.{
   fault_of,
   task_of,
 };
-ghost use Rattle.brd_board.specs.Setup.{Boots, all_started};
-ghost use Rattle.brd_board.specs.Boot.{boot, boot_words, words_config};
+ghost use Rattle.brd_board.specs.Setup.{Boots};
+ghost use Rattle.brd_board.specs.Boot.{boot, booted_kernel, boot_words, words_config};
 ghost use Rattle.brd_mem.specs.Memory.{byte_at};
 ghost use Rattle.brd_mem.specs.Image.{image_of_words, IsLoadable};
 
@@ -141,7 +137,7 @@ impl Board {
         self.execute(cpu)
     }
 
-    /// A processor executes one instruction, if it has a context.
+    /// Whoever executes on a processor does one instruction, if somebody does.
     fn execute(&mut self, cpu: u8) -> Report
         requires { IsProcessor cpu }
         ensures { record { board = self.new; report = result } ≡ executes self.old cpu }
@@ -174,7 +170,7 @@ impl Board {
         self.dispatch();
     }
 
-    /// An exception, which ends what the processor executes.
+    /// An exception: it is kept as the processor's last one, and ends its task or stops the processor; then the board dispatches.
     #[inline(never)]
     fn end_by_fault(&mut self, cpu: u8, fault: Fault)
         requires { IsProcessor cpu }
@@ -319,7 +315,7 @@ fn started(
 ) -> Result<Kernel, NoMemory>
     requires few { processors ≤ 8 }
     requires setups { All IsSetup setups.now }
-    ensures { IfOk result (λ kernel. kernel ≡ dispatched (with_tasks (made_kernel processors setups.now) (all_started (made setups.now) tasks.now))) }
+    ensures { IfOk result (λ kernel. kernel ≡ booted_kernel processors setups.now tasks.now) }
 {
     let mut kernel = Kernel::new(alloc, processors, setups)?;
     start_all(&mut kernel, tasks);

@@ -16,7 +16,7 @@ pub enum BootFault {
     #[error("the configuration names a symbol that the image doesn't have")]
     UnknownSymbol,
     /// A segment, a task's stack, or the address of a task or a handler isn't in RAM, or such an address isn't aligned.
-    #[error("the program doesn't fit into the board's RAM")]
+    #[error("a segment, a stack or a start isn't in the board's RAM, or a start isn't aligned")]
     Outside,
 }
 

@@ -1,7 +1,6 @@
-//! Where the tasks of a configuration start, and where their stacks lie.
+//! What a configuration makes of an image: its tasks with their stacks, which of them are started, and whether handlers can start.
 
 ghost use Rattle.std.specs.Prelude.{◌≡◌, ◌≤◌, ◌<◌, ◌+◌, All, IfOk};
-ghost use Rattle.brd_base.specs.Space.{base, IsRamSize};
 ghost use Rattle.brd_mem.specs.Image.{symbol_value};
 ghost use Rattle.brd_mem.specs.Memory.{size_of};
 ghost use Rattle.brd_config.specs.Configuration.{IsTask};
@@ -123,6 +122,7 @@ fn placed_task(
     let exinf = value_of(symbols, &task.exinf)?;
     let address = value_of(symbols, &task.address)?;
     let region = region_of(symbols, free, task)?;
+    // (RAM's size has a bound, so that a stack pointer fits into a word)
     let _ = ram.size();
     if !is_code_address(ram, address) || !ram.contains(region.low, region.len) {
         return Err(BootFault::Outside);

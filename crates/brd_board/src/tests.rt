@@ -172,7 +172,7 @@ fn waits_and_ends(rt: HostRuntime) -> Result<(), Fail> {
         assert_eq!(rt; board.event(Event::Step(1)), Report::Idle);
         assert_eq!(rt; board.standing(1), Some(Standing::Idle));
         assert_eq!(rt; board.registers(1), None);
-        let Some(task) = board.task(1) else { continue };
+        let task = board.task(1).ok_or("no task")?;
         assert_eq!(rt; task.state, state);
         assert_eq!(rt; task.context.pc(), 0x8000_0008);
         assert_eq!(rt; task.context.read(Register::low(2)), number);

@@ -11,7 +11,7 @@ abbrev pub IsIdOrNone : Option ℕ → Type 0
 IsIdOrNone None = Unit {0}
 IsIdOrNone (Some id) = id < 256
 
--- who executes on a processor has a context there
+-- the number by which the context of who executes is found is in range
 abbrev pub HasContext : ℕ → Executor → Type 0
 HasContext cpu executor.Handler = cpu < 9
 HasContext cpu (executor.Task id) = id < 256

@@ -10,7 +10,7 @@ abbrev pub dispatched_one : Option Processor → List Entry → Option Processor
 dispatched_one None ready = None
 dispatched_one (Some p) ready = Some (if is_held p then p else record p { running = first_id ready })
 
--- the processors from a number on
+-- the processors from a number on, each dispatched by its ready list
 abbrev pub dispatched_from : TaskTable → ℕ → List (Option Processor) → List (Option Processor)
 dispatched_from t cpu [] = []
 dispatched_from t cpu (p ∷ ps) = dispatched_one p (ready_on t cpu) ∷ dispatched_from t (cpu + 1) ps

@@ -75,7 +75,7 @@ abbrev pub context_of : KernelState → ℕ → Executor → State
 context_of k cpu executor.Handler = handler_context_at k cpu
 context_of k cpu (executor.Task id) = context_at k.tasks id
 
--- it is written anew
+-- the kernel with another context of who executes on a processor
 abbrev pub with_context_of : KernelState → ℕ → Executor → State → KernelState
 with_context_of k cpu executor.Handler context = record k { handler_contexts = slice_set k.handler_contexts cpu context }
 with_context_of k cpu (executor.Task id) context = with_tasks k (with_context k.tasks id context)
@@ -112,7 +112,7 @@ deliverable k cpu = if accepts (processor_at k cpu) then pending_from cpu 0 k.li
 abbrev pub line_at : KernelState → ℕ → Line
 line_at k line = slice_index_or k.lines line (quiet None)
 
--- a line is pending
+-- the kernel with a line pending
 abbrev pub with_pending : KernelState → ℕ → KernelState
 with_pending k line = record k { lines = slice_set k.lines line (record (line_at k line) { pending = true }) }
 

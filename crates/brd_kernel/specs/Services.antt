@@ -77,7 +77,7 @@ is_asleep status = is_sleep (waiting_of status)
 unfoldable pub priority_or_initial : ℕ → Task → ℕ
 priority_or_initial priority task = if priority == 0 then task.setup.priority else priority
 
--- the console holds no more bytes
+-- how many bytes the console holds
 abbrev pub console_size : ℕ
 console_size = 2 ^ 16
 

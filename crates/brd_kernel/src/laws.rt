@@ -15,7 +15,7 @@ pub fn checks_in_order()
 {}
 
 /// After a dispatch each processor that isn't held runs the first of its ready tasks, or none, and is else as it was; one that is held is
-/// as it was.
+/// as it was; where there is no processor there is none after it.
 pub fn dispatch_gives_each_its_first()
     ensures settled { (k : KernelState) → IsSettled (dispatched k) }
     ensures free { (k : KernelState) (cpu : ℕ) (p : ProcessorOf) → processor_at k cpu ≡ Some p → is_held p ≡ false → processor_at (dispatched k) cpu ≡ Some (record p { running = top_of k.tasks cpu }) }

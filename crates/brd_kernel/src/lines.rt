@@ -22,7 +22,7 @@ pub fn first_pending(lines: &[Line], cpu: u8) -> Option<u8>
     None
 }
 
-/// Whether any line is pending.
+/// Whether a line may be pending: false only where none is.
 pub fn is_any_pending(lines: &[Line]) -> bool
     ensures { result ≡ false → AreQuiet lines.now }
 {
@@ -34,7 +34,7 @@ pub fn is_any_pending(lines: &[Line]) -> bool
     false
 }
 
-/// The context in which the handler of a line starts: all 0 but the line in $a0.
+/// The context in which the handler of a line starts: at its address, all registers 0 but the line in $a0.
 pub fn entry_of(line: u8, handler: Option<Handler>) -> Context
     ensures { result ≡ entry_of line handler }
 {

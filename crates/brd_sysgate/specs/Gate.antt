@@ -112,7 +112,7 @@ abbrev pub caller_by : ℕ → Processor → Option ℕ → Caller
 caller_by id p None = Task id p.locked p.disabled
 caller_by id p (Some line) = Handler
 
--- who executes on a processor (where the board has none of that number, nobody does)
+-- who makes a call from a processor (where the board has none of that number no call comes, and any caller will do)
 abbrev pub caller_in : ℕ → Option Processor → Caller
 caller_in id None = Handler
 caller_in id (Some p) = caller_by id p p.handling
