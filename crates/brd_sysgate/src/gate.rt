@@ -1,6 +1,6 @@
 //! Reading a service call from the registers, and writing its answer to them.
 
-ghost use Rattle.std.specs.Prelude.{◌≡◌, ◌∷◌, []};
+ghost use Rattle.std.specs.Prelude.{◌≡◌};
 ghost use Rattle.brd_sysgate.specs.Gate.{asked, may_call, is_oneself, read_of, written};
 
 use crate::place::{Asked, Place};

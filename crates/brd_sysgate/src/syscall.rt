@@ -2,9 +2,7 @@
 
 ghost use Rattle.std.specs.Prelude.{◌≡◌, ◌<◌};
 ghost use Rattle.brd_exec.specs.State.{advanced};
-ghost use Rattle.brd_kernel.specs.Kernel.{processor_at};
-ghost use Rattle.brd_kernel.specs.Services.{caller_on};
-ghost use Rattle.brd_sysgate.specs.Gate.{caller_of, with_changed_context, written, served_call, read_of, called};
+ghost use Rattle.brd_sysgate.specs.Gate.{caller_of, with_changed_context, written, served_call, called};
 
 use crate::gate::{Caller, read, write};
 use brd_kernel::{Call, Ercd, Kernel, Reply};
