@@ -1,6 +1,6 @@
 -- Interrupt lines.
-use Rattle.std.proofs.Common.{◌≡◌, ℕ, ◌+◌, List, [], ◌∷◌, refl, arith}
-use Rattle.std.specs.Prelude.{None}
+use Rattle.std.proofs.Common.{◌≡◌, ℕ, suc, ◌+◌, List, [], ◌∷◌, refl, arith}
+use Rattle.std.specs.Prelude.{false, None}
 use Rattle.std.proofs.lemmas.Bool.Decides.{nat_tests}
 use Rattle.brd_kernel.specs.declared.processor.Line.{Line}
 use Rattle.brd_kernel.specs.Kernel.{pending_from}
@@ -9,4 +9,6 @@ use Rattle.brd_kernel.specs.Always.{AreQuiet}
 -- where no line is pending, none is for a processor
 pub none_pending : (cpu n : ℕ) (lines : List Line) → AreQuiet lines → pending_from cpu n lines ≡ None
 none_pending cpu n [] quiet = refl
-none_pending cpu n (line ∷ lines) quiet = grind (arith, nat_tests, quiet.0, none_pending cpu (n + 1) lines quiet.1)
+none_pending cpu n (line ∷ lines) quiet =
+    let here : line.pending ≡ false = quiet 0 line (omega arith) in
+    grind (arith, nat_tests, here, none_pending cpu (n + 1) lines (λ k d below. quiet (suc k) d (omega (arith, below))))

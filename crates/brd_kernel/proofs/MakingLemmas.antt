@@ -11,6 +11,8 @@ use Rattle.brd_kernel.specs.Kernel.{idle, quiet, running_in}
 use Rattle.brd_kernel.specs.Services.{console_size}
 use Rattle.brd_kernel.specs.Always.{IsIdOrNone, IsKernel, AreQuiet}
 use Rattle.std.proofs.lemmas.List.FromFn.{length-map-range_with_len, get_or-map-range_with_len}
+use Rattle.std.specs.Prelude.{false}
+use Rattle.std.proofs.lemmas.List.Elements.{All-nil, All-cons}
 use Rattle.brd_kernel.specs.Making.{idle_one, idle_ones, no_handler}
 
 ones-length : (processors n : ℕ) → length (idle_ones processors n) ≡ n
@@ -48,8 +50,8 @@ made-kernel tasks processors ps contexts lines console ps_are contexts_are lines
 }
 
 all-quiet : (n : ℕ) → AreQuiet (replicate n (quiet no_handler))
-all-quiet zero = tt
-all-quiet (suc n) = (refl, all-quiet n)
+all-quiet zero = All-nil (λ (line : Line). line.pending ≡ false)
+all-quiet (suc n) = All-cons (λ (line : Line). line.pending ≡ false) (quiet no_handler) (replicate n (quiet no_handler)) refl (all-quiet n)
 
 pub made-quiet : (lines : List Line) → lines ≡ replicate 32 (quiet no_handler) → AreQuiet lines
 made-quiet lines are = subst AreQuiet (sym are) (all-quiet 32)

@@ -1,6 +1,5 @@
 -- What is always true of the kernel's parts.
-use Rattle.std.specs.Prelude.{◌≡◌, ◌<◌, ◌≤◌, ℕ, false, List, Option, None, Some, length}
-use Rattle.std.specs.List.{AllByRecursion}
+use Rattle.std.specs.Prelude.{◌≡◌, ◌<◌, ◌≤◌, ℕ, false, List, All, Option, None, Some, length}
 use Rattle.brd_kernel.specs.declared.processor.Line.{Line}
 use Rattle.brd_kernel.specs.declared.processor.Executor.{Executor}
 use Rattle.brd_kernel.specs.declared.processor.Executor.TheVariants as executor
@@ -27,4 +26,4 @@ pub record IsKernel (k : KernelState) : Type 0 where
 
 -- no line is pending
 abbrev pub AreQuiet : List Line → Type 0
-AreQuiet lines = AllByRecursion (λ line. line.pending ≡ false) lines
+AreQuiet lines = All (λ line. line.pending ≡ false) lines

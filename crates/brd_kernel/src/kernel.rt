@@ -33,7 +33,7 @@ ghost use Rattle.brd_kernel.specs.Lending.{LendsContext};
 
 mod serve;
 
-use crate::lines::{entry_of, first_pending, is_any_pending};
+use crate::lines::{are_quiet, entry_of, first_pending};
 use crate::making::{idle_processors, no_contexts, quiet_lines};
 use crate::processor::{Ended, Executor, Line, Processor, Standing};
 use brd_base::NoMemory;
@@ -272,7 +272,7 @@ impl Kernel {
             return
         };
         self.lines[line as usize].pending = false;
-        self.pending = is_any_pending(self.lines.as_slice());
+        self.pending = !are_quiet(self.lines.as_slice());
         self.processors[cpu as usize] = Some(Processor {
             handling: Some(line),
             ..processor

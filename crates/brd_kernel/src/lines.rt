@@ -1,6 +1,6 @@
 //! The interrupt lines.
 
-ghost use Rattle.std.specs.Prelude.{◌≡◌, ◌≤◌, ◌<◌, false, IfSome, length};
+ghost use Rattle.std.specs.Prelude.{◌≡◌, ◌≤◌, ◌<◌, ◌↔◌, false, IfSome, IsTrue, length};
 ghost use Rattle.brd_kernel.specs.Kernel.{is_handled_by, pending_from, entry_of};
 ghost use Rattle.brd_kernel.specs.Always.{AreQuiet};
 
@@ -22,16 +22,18 @@ pub fn first_pending(lines: &[Line], cpu: u8) -> Option<u8>
     None
 }
 
-/// Whether a line may be pending: false only where none is.
-pub fn is_any_pending(lines: &[Line]) -> bool
-    ensures { result ≡ false → AreQuiet lines.now }
+/// Whether no line is pending.
+pub fn are_quiet(lines: &[Line]) -> bool
+    ensures { IsTrue result ↔ AreQuiet lines.now }
 {
-    for line in lines {
-        if line.pending {
-            return true;
-        }
-    }
-    false
+    lines.iter().all(is_quiet)
+}
+
+/// Whether a line isn't pending.
+fn is_quiet(line: &Line) -> bool
+    ensures { IsTrue result ↔ (line.now.pending ≡ false) }
+{
+    !line.pending
 }
 
 /// The context in which the handler of a line starts: at its address, all registers 0 but the line in $a0.
