@@ -1,2 +1,4 @@
 mod UnalignedLemmas
 mod LocalLemmas
+pub mod KeptLemmas
+pub mod ZeroLemmas

@@ -6,9 +6,10 @@ ghost use Rattle.brd_word.specs.Words.{bytes_of_word, AreBytes};
 ghost use Rattle.brd_base.specs.Space.{base, IsRamSize};
 ghost use Rattle.brd_mem.specs.Memory.{Memory, size_of, copied, word_at};
 ghost use Rattle.brd_link.specs.LinkSet.{LinkSet};
-ghost use Rattle.brd_exec.specs.State.{State};
+ghost use Rattle.brd_exec.specs.State.{State, read};
 ghost use Rattle.brd_exec.specs.Action.{local_meaning};
-ghost use Rattle.brd_exec.specs.Step.{meaning};
+ghost use Rattle.brd_exec.specs.Step.{meaning, ran};
+ghost use Rattle.brd_exec.specs.Kept.{KeepsUnlessDone};
 ghost use Rattle.brd_exec.specs.Step.Effect.{Goes};
 ghost use Rattle.brd_exec.specs.Unaligned.{loaded_left, loaded_right, stored_left, stored_right};
 
@@ -40,4 +41,17 @@ pub fn unaligned_word_is_stored()
         base ≤ address → address + 4 ≤ base + size_of memory →
         IsOkAnd (stored_left memory address word)
         (λ part. stored_right part (address + 3) word ≡ Ok (copied memory address (bytes_of_word word))) }
+{}
+
+/// An instruction that ends at a SYSCALL or by an exception leaves context and memory as they were, and the links too,
+/// but that an SC ends its processor's own.
+pub fn what_stops_changes_nothing()
+    ensures { (cpu : ℕ) (s : State) (memory : Memory) (links : LinkSet) →
+        KeepsUnlessDone cpu s memory links (ran cpu s memory links) (ran cpu s memory links).outcome }
+{}
+
+/// Whatever an instruction does, register 0 stays 0.
+pub fn register_0_stays_0()
+    ensures { (cpu : ℕ) (s : State) (memory : Memory) (links : LinkSet) →
+        read s 0 ≡ 0 → read (ran cpu s memory links).state 0 ≡ 0 }
 {}
