@@ -22,4 +22,4 @@ pub use instruction::{
     LinkedOp, LoadOp, MoveFromOp, MoveToOp, ProductOp, RegisterOp, ShiftOp, ShiftVariableOp,
     StoreOp, TrapImmediateOp, TrapOp,
 };
-pub use mnemonic::{Mnemonic, is_same_word, mnemonic_named};
+pub use mnemonic::{Mnemonic, is_same_name, mnemonic_named};

@@ -67,11 +67,11 @@ pub enum Mnemonic {
     Prefetch,
 }
 
-/// Whether two words are the same without regard to case.
-pub fn is_same_word(word: &[u8], other: &[u8]) -> bool
-    ensures { result ≡ bytes_eq (names.lowered word.now) (names.lowered other.now) }
+/// Whether two names are the same without regard to case.
+pub fn is_same_name(name: &[u8], other: &[u8]) -> bool
+    ensures { result ≡ bytes_eq (names.lowered name.now) (names.lowered other.now) }
 {
-    word.eq_ignore_ascii_case(other)
+    name.eq_ignore_ascii_case(other)
 }
 
 /// The name of each mnemonic, in lower case.
@@ -175,7 +175,7 @@ fn find(rows: &[(&[u8], Mnemonic)], name: &[u8]) -> Option<Mnemonic>
         result ≡ names.named_in lowered_rows (names.lowered name.now) }
 {
     for (known, mnemonic) in rows {
-        if is_same_word(name, known) {
+        if is_same_name(name, known) {
             return Some(*mnemonic);
         }
     }

@@ -16,7 +16,7 @@ use crate::text::text;
 use crate::token::Token;
 use brd_base::List;
 use brd_isa::{
-    BranchOp, BranchRegimmOp, Register, RegisterOp, ShiftOp, is_same_word, mnemonic_named,
+    BranchOp, BranchRegimmOp, Register, RegisterOp, ShiftOp, is_same_name, mnemonic_named,
 };
 use std::alloc::Global;
 
@@ -49,22 +49,22 @@ pub(crate) enum Directive {
 fn shorthand_named(run: &[u8]) -> Option<Shorthand>
     ensures { result ≡ named_in statements.shorthand_names (lowered run.now) }
 {
-    if is_same_word(run, b"nop") {
+    if is_same_name(run, b"nop") {
         return Some(Shorthand::Nop);
     }
-    if is_same_word(run, b"move") {
+    if is_same_name(run, b"move") {
         return Some(Shorthand::Move);
     }
-    if is_same_word(run, b"b") {
+    if is_same_name(run, b"b") {
         return Some(Shorthand::Branch);
     }
-    if is_same_word(run, b"beqz") {
+    if is_same_name(run, b"beqz") {
         return Some(Shorthand::BranchIfZero);
     }
-    if is_same_word(run, b"bnez") {
+    if is_same_name(run, b"bnez") {
         return Some(Shorthand::BranchUnlessZero);
     }
-    if is_same_word(run, b"bal") {
+    if is_same_name(run, b"bal") {
         return Some(Shorthand::BranchAndLink);
     }
     None
@@ -74,25 +74,25 @@ fn shorthand_named(run: &[u8]) -> Option<Shorthand>
 fn data_named(run: &[u8]) -> Option<Directive>
     ensures { result ≡ named_in statements.data_names (lowered run.now) }
 {
-    if is_same_word(run, b".word") {
+    if is_same_name(run, b".word") {
         return Some(Directive::Values(Width::Word));
     }
-    if is_same_word(run, b".half") {
+    if is_same_name(run, b".half") {
         return Some(Directive::Values(Width::Half));
     }
-    if is_same_word(run, b".byte") {
+    if is_same_name(run, b".byte") {
         return Some(Directive::Values(Width::Byte));
     }
-    if is_same_word(run, b".ascii") {
+    if is_same_name(run, b".ascii") {
         return Some(Directive::Ascii);
     }
-    if is_same_word(run, b".asciiz") {
+    if is_same_name(run, b".asciiz") {
         return Some(Directive::Asciiz);
     }
-    if is_same_word(run, b".space") {
+    if is_same_name(run, b".space") {
         return Some(Directive::Space);
     }
-    if is_same_word(run, b".align") {
+    if is_same_name(run, b".align") {
         return Some(Directive::Align);
     }
     None
@@ -102,16 +102,16 @@ fn data_named(run: &[u8]) -> Option<Directive>
 fn order_named(run: &[u8]) -> Option<Directive>
     ensures { result ≡ named_in statements.order_names (lowered run.now) }
 {
-    if is_same_word(run, b".org") {
+    if is_same_name(run, b".org") {
         return Some(Directive::Org);
     }
-    if is_same_word(run, b".equ") {
+    if is_same_name(run, b".equ") {
         return Some(Directive::Equ);
     }
-    if is_same_word(run, b".globl") {
+    if is_same_name(run, b".globl") {
         return Some(Directive::Globl);
     }
-    if is_same_word(run, b".set") {
+    if is_same_name(run, b".set") {
         return Some(Directive::Set);
     }
     None
