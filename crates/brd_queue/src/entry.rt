@@ -2,11 +2,13 @@
 
 /// A task in a queue.
 #[derive(Clone, Copy, Debug, Default, PartialEq, Eq)]
-pub struct Entry {
+pub struct Entry<W> {
     /// The task's ID.
     pub id: u16,
     /// Its priority; a lower number is served first.
     pub priority: u8,
+    /// What it wants: `()` where all want the same.
+    pub wanted: W,
 }
 
 /// Where a task enters a queue (uITRON 4.0 specification, the attributes TA_TFIFO and TA_TPRI).

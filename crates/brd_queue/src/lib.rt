@@ -6,9 +6,11 @@
 mod entry;
 pub mod laws;
 mod queue;
+mod room;
 
 pub use entry::{Entry, Order};
 pub use queue::Queue;
+pub use room::{MOST_TASKS, insert_within};
 
 #[cfg(test)]
 mod tests;

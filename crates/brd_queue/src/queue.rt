@@ -1,49 +1,60 @@
 //! A queue of tasks.
 
-ghost use Rattle.std.specs.Prelude.{◌≡◌, ◌<◌, ◌≤◌, ℕ, [], false, insert, length, remove, IfNone, IfSome, find, is_some, ◌==◌};
-ghost use Rattle.brd_queue.specs.Queue.{AreApart, has, priority_in, entered, behind_equals, without, rotated, first_of};
+ghost use Rattle.std.specs.Prelude.{◌≡◌, ◌<◌, ◌≤◌, ℕ, [], false, insert, length, drop, remove, slice_get, IfNone, IfOk, IfSome, find, is_some, vec_capacity, ◌==◌};
+ghost use Rattle.std.specs.Option.{option_map};
+ghost use Rattle.brd_queue.specs.Queue.{AreApart, has, priority_in, entered, behind_equals, without, moved_behind, rotated, with_priority, renumbered, reordered, placed, is_empty, first_of};
 
 use crate::entry::{Entry, Order};
-use arrayvec::ArrayVec;
+use crate::room::{MOST_TASKS, insert_within};
+use brd_base::NoMemory;
+use std::alloc::Global;
 use std::marker::Model;
 
-/// Tasks in the order in which they are served, none of them twice. It has room for every task that there can be, so no call takes memory.
+/// Tasks in the order in which they are served, none of them twice, each with what it wants. It has room for every task that there can be, so
+/// only `new` takes memory.
 #[derive(Drop)]
-pub struct Queue {
-    entries: ArrayVec<Entry, 256>,
+pub struct Queue<W> {
+    entries: Vec<Entry<W>>,
 }
 
-impl Model for Queue {
-    ghost use Rattle.std.specs.Prelude.{List};
+impl<W> Model for Queue<W> {
+    ghost use Rattle.std.specs.Prelude.{◌≤◌, List, vec_capacity};
     ghost use Rattle.brd_queue.specs.Queue.{AreApart};
     ghost use Rattle.brd_queue.specs.declared.entry.Entry.{Entry};
 
-    ghost Value = { List Entry };
+    ghost Value = { List (Entry W) };
 
     ghost view = { λ queue. queue.entries.items };
 
-    ghost invariant = { λ queue. AreApart queue.entries.items };
+    ghost invariant = { λ queue. AreApart queue.entries.items × (256 ≤ vec_capacity queue.entries) };
 }
 
-impl Queue {
+impl<W: Copy + Drop> Queue<W> {
     /// An empty queue.
-    pub fn new() -> Self
-        ensures { result ≡ [] }
+    pub fn new(alloc: Global) -> Result<Self, NoMemory>
+        ensures { IfOk result (λ queue. queue ≡ []) }
     {
-        Queue {
-            entries: ArrayVec::new(),
-        }
+        Ok(Queue {
+            entries: Vec::with_capacity(alloc, MOST_TASKS)?,
+        })
     }
 
     /// The entries in the order in which they are served.
-    pub fn as_slice(&self) -> &[Entry]
+    pub fn as_slice(&self) -> &[Entry<W>]
         ensures { result.now ≡ self.now }
     {
         self.entries.as_slice()
     }
 
+    /// Whether nobody stands in it.
+    pub fn is_empty(&self) -> bool
+        ensures { result ≡ is_empty self.now }
+    {
+        self.entries.is_empty()
+    }
+
     /// The entry that is served next.
-    pub fn first(&self) -> Option<Entry>
+    pub fn first(&self) -> Option<Entry<W>>
         ensures is { result ≡ first_of self.now }
         ensures small { IfSome result (λ entry. entry.id < 256) }
     {
@@ -62,23 +73,55 @@ impl Queue {
         false
     }
 
+    /// The entry of a task, where it stands in it.
+    pub fn entry(&self, id: u16) -> Option<Entry<W>>
+        ensures is { result ≡ find (λ entry. entry.id == id) self.now }
+        ensures small { IfSome result (λ entry. entry.id < 256) }
+    {
+        entry_of(self.entries.as_slice(), id)
+    }
+
     /// Puts a task, which doesn't stand in it yet, where the order says. Answers before how many others it was put from the front.
-    pub fn enter(&mut self, order: Order, entry: Entry) -> usize
+    pub fn enter(&mut self, order: Order, entry: Entry<W>) -> usize
         requires small { entry.id < 256 }
         requires new { has entry.id self.old ≡ false }
         ensures is { self.new ≡ entered order entry self.old }
         ensures place { self.new ≡ insert self.old result entry }
         ensures within { result ≤ length self.old }
+        ensures few { length self.old < 256 }
     {
         let at = place_for(self.entries.as_slice(), order, entry);
-        self.entries.insert(at, entry);
+        insert_within(&mut self.entries, at, entry);
         at
+    }
+
+    /// Serves the first entry, which leaves.
+    pub fn serve(&mut self) -> Option<Entry<W>>
+        ensures is { self.new ≡ drop 1 self.old }
+        ensures first { result ≡ first_of self.old }
+        ensures small { IfSome result (λ entry. entry.id < 256) }
+    {
+        let first = self.first()?;
+        let _ = self.entries.remove(0);
+        Some(first)
+    }
+
+    /// Takes the entry at a place out.
+    pub fn take(&mut self, at: usize) -> Entry<W>
+        requires { at < length self.old }
+        ensures is { self.new ≡ remove self.old at }
+        ensures entry { slice_get self.old at ≡ Some result }
+        ensures small { result.id < 256 }
+    {
+        self.entries.remove(at)
     }
 
     /// Takes a task out, where it stands in it. Answers at which place it stood.
     pub fn leave(&mut self, id: u16) -> Option<usize>
         ensures is { self.new ≡ without id self.old }
+        ensures gone { has id self.new ≡ false }
         ensures there { is_some result ≡ has id self.old }
+        ensures stays { IfNone result (self.new ≡ self.old) }
         ensures place { IfSome result (λ at. (at < length self.old) × (self.new ≡ remove self.old at)) }
     {
         let at = place_with(self.entries.as_slice(), id)?;
@@ -86,20 +129,88 @@ impl Queue {
         Some(at)
     }
 
+    /// Puts a task where the order says; one that stands in it already leaves its old place.
+    pub fn place(&mut self, order: Order, entry: Entry<W>)
+        requires { entry.id < 256 }
+        ensures { self.new ≡ placed order entry self.old }
+    {
+        let _ = self.leave(entry.id);
+        let _ = self.enter(order, entry);
+    }
+
+    /// Gives a task that stands in it a priority: by arrival it keeps its place, by priority it comes behind its equals.
+    pub fn reorder(&mut self, order: Order, id: u16, priority: u8)
+        ensures { self.new ≡ reordered order id priority self.old }
+    {
+        match order {
+            Order::Arrival => self.renumber(id, priority),
+            Order::Priority => {
+                let entry = with_priority(self.entry(id), priority);
+                self.move_behind(entry);
+            }
+        }
+    }
+
     /// Puts the first entry of a priority behind its equals.
     pub fn rotate(&mut self, priority: u8)
         ensures is { self.new ≡ rotated priority self.old }
         ensures stay { (id : ℕ) → priority_in id self.new ≡ priority_in id self.old }
     {
-        if let Some(entry) = first_with(self.entries.as_slice(), priority) {
-            let _ = self.leave(entry.id);
-            let _ = self.enter(Order::Priority, entry);
+        let entry = first_with(self.entries.as_slice(), priority);
+        self.move_behind(entry);
+    }
+
+    /// Gives a task a priority at the place where it stands.
+    fn renumber(&mut self, id: u16, priority: u8)
+        ensures { self.new ≡ renumbered id priority self.old }
+    {
+        renumber(self.entries.as_mut_slice(), id, priority);
+    }
+
+    /// Puts the entry of a task, with a new priority perhaps, behind its equals.
+    fn move_behind(&mut self, entry: Option<Entry<W>>)
+        requires { IfSome entry (λ e. e.id < 256) }
+        ensures { self.new ≡ moved_behind entry self.old }
+    {
+        if let Some(entry) = entry {
+            self.place(Order::Priority, entry);
         }
     }
 }
 
+/// Gives a task a priority at the place where it stands.
+fn renumber<W: Copy + Drop>(entries: &mut [Entry<W>], id: u16, priority: u8)
+    ensures { entries.new ≡ renumbered id priority entries.old }
+{
+    for entry in entries.iter_mut() {
+        if entry.id == id {
+            entry.priority = priority;
+        }
+    }
+}
+
+/// An entry, if there is one, with another priority.
+fn with_priority<W: Copy + Drop>(entry: Option<Entry<W>>, priority: u8) -> Option<Entry<W>>
+    ensures { result ≡ option_map (with_priority priority) entry }
+{
+    let entry = entry?;
+    Some(Entry { priority, ..entry })
+}
+
+/// The entry of a task.
+fn entry_of<W: Copy + Drop>(entries: &[Entry<W>], id: u16) -> Option<Entry<W>>
+    ensures { result ≡ find (λ entry. entry.id == id) entries.now }
+{
+    for entry in entries {
+        if entry.id == id {
+            return Some(*entry);
+        }
+    }
+    None
+}
+
 /// The first entry of a priority.
-fn first_with(entries: &[Entry], priority: u8) -> Option<Entry>
+fn first_with<W: Copy + Drop>(entries: &[Entry<W>], priority: u8) -> Option<Entry<W>>
     ensures { result ≡ find (λ other. other.priority == priority) entries.now }
 {
     for entry in entries {
@@ -111,7 +222,7 @@ fn first_with(entries: &[Entry], priority: u8) -> Option<Entry>
 }
 
 /// How many entries stand before one that comes.
-fn place_for(entries: &[Entry], order: Order, entry: Entry) -> usize
+fn place_for<W: Copy + Drop>(entries: &[Entry<W>], order: Order, entry: Entry<W>) -> usize
     ensures within { result ≤ length entries.now }
     ensures is { insert entries.now result entry ≡ entered order entry entries.now }
 {
@@ -122,7 +233,7 @@ fn place_for(entries: &[Entry], order: Order, entry: Entry) -> usize
 }
 
 /// How many entries stand before one that comes by priority.
-fn place_of(entries: &[Entry], entry: Entry) -> usize
+fn place_of<W: Copy + Drop>(entries: &[Entry<W>], entry: Entry<W>) -> usize
     ensures within { result ≤ length entries.now }
     ensures is { insert entries.now result entry ≡ behind_equals entry entries.now }
 {
@@ -135,7 +246,7 @@ fn place_of(entries: &[Entry], entry: Entry) -> usize
 }
 
 /// The place of a task's entry.
-fn place_with(entries: &[Entry], id: u16) -> Option<usize>
+fn place_with<W: Copy + Drop>(entries: &[Entry<W>], id: u16) -> Option<usize>
     ensures within { IfSome result (λ at. at < length entries.now) }
     ensures is { IfSome result (λ at. AreApart entries.now → remove entries.now at ≡ without id entries.now) }
     ensures none { IfNone result (without id entries.now ≡ entries.now) }

@@ -1,11 +1,16 @@
 use super::*;
+use std::test::Fail;
 
-fn entry(id: u16, priority: u8) -> Entry {
-    Entry { id, priority }
+fn entry(id: u16, priority: u8) -> Entry<u32> {
+    Entry {
+        id,
+        priority,
+        wanted: id as u32 * 1000,
+    }
 }
 
 /// Puts a task into a queue in which it doesn't stand.
-fn put(queue: &mut Queue, order: Order, entry: Entry) -> Option<usize> {
+fn put(queue: &mut Queue<u32>, order: Order, entry: Entry<u32>) -> Option<usize> {
     if entry.id >= 256 || queue.has(entry.id) {
         return None;
     }
@@ -14,8 +19,8 @@ fn put(queue: &mut Queue, order: Order, entry: Entry) -> Option<usize> {
 
 /// Tasks come by priority, turn and leave.
 #[test]
-fn by_priority(rt: HostRuntime) {
-    let mut queue = Queue::new();
+fn by_priority(rt: HostRuntime) -> Result<(), Fail> {
+    let mut queue = Queue::new(rt.alloc())?;
     assert_eq!(rt; queue.first(), None);
     for (id, priority, at) in [(1, 3, 0), (2, 1, 0), (3, 3, 2), (4, 2, 1), (5, 16, 4)] {
         let came = put(&mut queue, Order::Priority, entry(id, priority));
@@ -43,13 +48,35 @@ fn by_priority(rt: HostRuntime) {
     assert_eq!(rt; queue.leave(2), None);
     assert_eq!(rt; queue.first(), Some(entry(4, 2)));
     assert!(rt; queue.has(5) && !queue.has(2));
+    assert_eq!(rt; queue.entry(5), Some(entry(5, 16)));
+    assert_eq!(rt; queue.entry(2), None);
+    Ok(())
+}
+
+/// A task is given a priority: by arrival it keeps its place, by priority it comes behind its equals.
+#[test]
+fn another_priority(rt: HostRuntime) -> Result<(), Fail> {
+    let mut queue = Queue::new(rt.alloc())?;
+    for id in 1..5u8 {
+        let _ = put(&mut queue, Order::Arrival, entry(id as u16, 3));
+    }
+    queue.reorder(Order::Arrival, 2, 1);
+    queue.reorder(Order::Arrival, 9, 1);
+    let renumbered = [entry(1, 3), entry(2, 1), entry(3, 3), entry(4, 3)];
+    assert_eq!(rt; queue.as_slice(), renumbered.as_slice());
+    queue.reorder(Order::Priority, 1, 3);
+    queue.reorder(Order::Priority, 4, 2);
+    queue.reorder(Order::Priority, 9, 2);
+    let moved = [entry(2, 1), entry(4, 2), entry(3, 3), entry(1, 3)];
+    assert_eq!(rt; queue.as_slice(), moved.as_slice());
+    Ok(())
 }
 
 /// There is room for every task, whatever their order.
 #[test]
-fn every_task(rt: HostRuntime) {
+fn every_task(rt: HostRuntime) -> Result<(), Fail> {
     for order in [Order::Arrival, Order::Priority] {
-        let mut queue = Queue::new();
+        let mut queue = Queue::new(rt.alloc())?;
         for id in 0..256u16 {
             let priority = if id % 2 == 0 { 2 } else { 1 };
             assert!(rt;
@@ -62,4 +89,5 @@ fn every_task(rt: HostRuntime) {
         assert_eq!(rt; queue.first().map(|e| e.id), Some(first));
         assert_eq!(rt; queue.leave(255), Some(if first == 0 { 255 } else { 127 }));
     }
+    Ok(())
 }

@@ -5,8 +5,7 @@ use Rattle.std.proofs.lemmas.Bool.Decides.{nat_tests}
 use Rattle.std.proofs.lemmas.Grind.{get_or-set_at}
 use Rattle.std.proofs.lemmas.List.{get_or-set_other, get_or_default, length-set}
 use Rattle.std.proofs.Math.ListN.{get_or-eq_default}
-use Rattle.brd_queue.specs.declared.entry.Entry.{Entry}
-use Rattle.brd_queue.specs.Queue.{has, priority_in, behind_equals, without, rotated}
+use Rattle.brd_queue.specs.Queue.{Plain, has, priority_in, behind_equals, without, rotated}
 use Rattle.brd_queue.specs.Rule.{IsByPriority}
 use Rattle.brd_queue.proofs.PriorityLemmas.{priority_in-without, priority_in-behind_equals, has-priority_in, ordered-rotated}
 use Rattle.brd_queue.proofs.RuleLemmas.{ordered-behind_equals, ordered-without}
@@ -15,56 +14,56 @@ use Rattle.brd_tasks.specs.Status.{is_ready}
 use Rattle.brd_tasks.specs.Tasks.{TaskTable, task_at, ready_on, left, entered, placed, patched, turned}
 use Rattle.brd_tasks.specs.Ready.{IsProcessor, IsTask, IsRow, ready_priority, IsConsistent}
 
-abbrev at : List (List Entry) → ℕ → List Entry
+abbrev at : List (List Plain) → ℕ → List Plain
 at ready cpu = slice_index_or ready cpu []
 
 -- what stands at a place of ready lists of which one was written
-set-at : (ready : List (List Entry)) (i cpu : ℕ) (xs : List Entry) → i < length ready → at (slice_set ready i xs) cpu ≡ (if i == cpu then xs else at ready cpu)
+set-at : (ready : List (List Plain)) (i cpu : ℕ) (xs : List Plain) → i < length ready → at (slice_set ready i xs) cpu ≡ (if i == cpu then xs else at ready cpu)
 set-at ready i cpu xs small = grind (arith, nat_tests, get_or-set_at ready i cpu xs [], get_or-set_other ready i cpu xs [])
 
-left-length : (id : ℕ) (task : Option Task) (ready : List (List Entry)) → length (left id task ready) ≡ length ready
+left-length : (id : ℕ) (task : Option Task) (ready : List (List Plain)) → length (left id task ready) ≡ length ready
 left-length id None ready = refl
 left-length id (Some task) ready = grind (arith, length-set)
 
-entered-length : (id : ℕ) (task : Task) (ready : List (List Entry)) → length (entered id task ready) ≡ length ready
+entered-length : (id : ℕ) (task : Task) (ready : List (List Plain)) → length (entered id task ready) ≡ length ready
 entered-length id task ready = grind (arith, length-set)
 
 -- whoever leaves stands in no ready list, and the others stand as they stood
-left-priority : (k id cpu : ℕ) (task : Option Task) (ready : List (List Entry)) → IfSome task (λ it. it.cpu < length ready) →
+left-priority : (k id cpu : ℕ) (task : Option Task) (ready : List (List Plain)) → IfSome task (λ it. it.cpu < length ready) →
     ((other : ℕ) → priority_in id (at ready other) ≡ ready_priority task other) →
     priority_in k (at (left id task ready) cpu) ≡ (if id == k then None else priority_in k (at ready cpu))
 left-priority k id cpu None ready small was = grind (arith, nat_tests, was cpu)
 left-priority k id cpu (Some task) ready small was =
     grind (arith, nat_tests, was cpu, set-at ready task.cpu cpu (without id (at ready task.cpu)), small, priority_in-without k id (at ready cpu))
 
-entered-priority : (k id cpu : ℕ) (task : Task) (ready : List (List Entry)) → task.cpu < length ready → (is_ready task.status ≡ true → has id (at ready task.cpu) ≡ false) →
+entered-priority : (k id cpu : ℕ) (task : Task) (ready : List (List Plain)) → task.cpu < length ready → (is_ready task.status ≡ true → has id (at ready task.cpu) ≡ false) →
     priority_in k (at (entered id task ready) cpu) ≡ (if id == k && (is_ready task.status && task.cpu == cpu) then Some task.priority else priority_in k (at ready cpu))
 entered-priority k id cpu task ready small new =
     grind (
       arith,
       nat_tests,
-      set-at ready task.cpu cpu (behind_equals (record { id = id; priority = task.priority }) (at ready task.cpu)),
+      set-at ready task.cpu cpu (behind_equals (record { id = id; priority = task.priority; wanted = tt }) (at ready task.cpu)),
       small,
       new,
-      priority_in-behind_equals k (record { id = id; priority = task.priority }) (at ready cpu),
+      priority_in-behind_equals k (record { id = id; priority = task.priority; wanted = tt }) (at ready cpu),
     )
 
-left-ordered : (id cpu : ℕ) (task : Option Task) (ready : List (List Entry)) → IfSome task (λ it. it.cpu < length ready) →
+left-ordered : (id cpu : ℕ) (task : Option Task) (ready : List (List Plain)) → IfSome task (λ it. it.cpu < length ready) →
     ((other : ℕ) → IsByPriority (at ready other)) → IsByPriority (at (left id task ready) cpu)
 left-ordered id cpu None ready small ordered = ordered cpu
 left-ordered id cpu (Some task) ready small ordered =
     grind (arith, nat_tests, set-at ready task.cpu cpu (without id (at ready task.cpu)), small, ordered cpu, ordered-without id (at ready cpu))
 
-entered-ordered : (id cpu : ℕ) (task : Task) (ready : List (List Entry)) → task.cpu < length ready →
+entered-ordered : (id cpu : ℕ) (task : Task) (ready : List (List Plain)) → task.cpu < length ready →
     ((other : ℕ) → IsByPriority (at ready other)) → IsByPriority (at (entered id task ready) cpu)
 entered-ordered id cpu task ready small ordered =
     grind (
       arith,
       nat_tests,
-      set-at ready task.cpu cpu (behind_equals (record { id = id; priority = task.priority }) (at ready task.cpu)),
+      set-at ready task.cpu cpu (behind_equals (record { id = id; priority = task.priority; wanted = tt }) (at ready task.cpu)),
       small,
       ordered cpu,
-      ordered-behind_equals (record { id = id; priority = task.priority }) (at ready cpu),
+      ordered-behind_equals (record { id = id; priority = task.priority; wanted = tt }) (at ready cpu),
     )
 
 small_by : (small : Bool) (rows : List (Option Task)) (id : ℕ) (task : Task) → nat_lt id (length rows) ≡ small → slice_index_or rows id None ≡ Some task → id < length rows
@@ -84,7 +83,7 @@ task_at-set : (t : TaskTable) (k id : ℕ) (task : Task) → id < length t.rows 
 task_at-set t k id task small = grind (arith, nat_tests, get_or-set_at t.rows id k (Some task) None, get_or-set_other t.rows id k (Some task) None)
 
 -- the task that leaves stands in a list below 9
-old_small : (task : Option Task) (ready : List (List Entry)) → length ready ≡ 9 → IsRow task → IfSome task (λ it. it.cpu < length ready)
+old_small : (task : Option Task) (ready : List (List Plain)) → length ready ≡ 9 → IsRow task → IfSome task (λ it. it.cpu < length ready)
 old_small None ready lists assigned = tt
 old_small (Some task) ready lists assigned = omega (arith, lists, assigned.processor.1)
 
@@ -164,7 +163,7 @@ consistent-patched t id task was small there assigned as_was = record {
 }
 
 -- ready lists of which one was turned: who stands in it, and with which priority, is as it was
-pub consistent-turned : (t : TaskTable) (cpu : ℕ) (xs : List Entry) → IsConsistent t → cpu < 9 →
+pub consistent-turned : (t : TaskTable) (cpu : ℕ) (xs : List Plain) → IsConsistent t → cpu < 9 →
     ((id : ℕ) → priority_in id xs ≡ priority_in id (ready_on t cpu)) → IsByPriority xs → IsConsistent (record t { ready = slice_set t.ready cpu xs })
 consistent-turned t cpu xs was small stay ordered = record {
   rows = was.rows;
@@ -178,12 +177,12 @@ consistent-turned t cpu xs was small stay ordered = record {
 
 -- The same of what a function has made step by step.
 
-pub left-new-as : (t : TaskTable) (id cpu : ℕ) (old : Option Task) (ready : List (List Entry)) → IsConsistent t → old ≡ task_at t id → ready ≡ left id old t.ready →
+pub left-new-as : (t : TaskTable) (id cpu : ℕ) (old : Option Task) (ready : List (List Plain)) → IsConsistent t → old ≡ task_at t id → ready ≡ left id old t.ready →
     has id (at ready cpu) ≡ false
 left-new-as t id cpu old ready was old_is ready_is =
     ap (λ r. has id (at r cpu)) (ready_is ∙ ap (λ o. left id o t.ready) old_is) ∙ left-new t id cpu was
 
-pub consistent-placed-as : (t : TaskTable) (id : ℕ) (task : Task) (old : Option Task) (between after : List (List Entry)) → IsConsistent t → old ≡ task_at t id → IsSome old →
+pub consistent-placed-as : (t : TaskTable) (id : ℕ) (task : Task) (old : Option Task) (between after : List (List Plain)) → IsConsistent t → old ≡ task_at t id → IsSome old →
     between ≡ left id old t.ready → after ≡ entered id task between → IsTask task →
     IsConsistent (record { rows = slice_set t.rows id (Some task); contexts = t.contexts; ready = after })
 consistent-placed-as t id task old between after was old_is there between_is after_is assigned =
@@ -198,7 +197,7 @@ consistent-patched-as t id task (Some old) was is there same assigned =
     consistent-patched t id task was (known_small t id (Some old) was is there) (subst IsSome is there) assigned
     (λ cpu. grind (arith, same.0, same.1, same.2) ∙ ap (λ row. ready_priority row cpu) is)
 
-pub consistent-turned-as : (t : TaskTable) (cpu priority : ℕ) (old xs : List Entry) → IsConsistent t → cpu < 9 → old ≡ slice_index_or t.ready cpu old → xs ≡ rotated priority old →
+pub consistent-turned-as : (t : TaskTable) (cpu priority : ℕ) (old xs : List Plain) → IsConsistent t → cpu < 9 → old ≡ slice_index_or t.ready cpu old → xs ≡ rotated priority old →
     ((id : ℕ) → priority_in id xs ≡ priority_in id old) → IsConsistent (record { rows = t.rows; contexts = t.contexts; ready = slice_set t.ready cpu xs })
 consistent-turned-as t cpu priority old xs was small old_is is stay =
     let lies : old ≡ ready_on t cpu = old_is ∙ get_or_default t.ready cpu old [] (omega (arith, was.lists, small)) in

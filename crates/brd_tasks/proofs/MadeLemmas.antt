@@ -9,8 +9,7 @@ use Rattle.std.proofs.lemmas.Bool.Decides.{nat_tests}
 use Rattle.std.proofs.lemmas.List.{get_or-replicate, length-replicate}
 use Rattle.std.proofs.lemmas.List.Elements.{All-get_or, All-tail}
 use Rattle.brd_exec.specs.State.{State}
-use Rattle.brd_queue.specs.declared.entry.Entry.{Entry}
-use Rattle.brd_queue.specs.Queue.{priority_in}
+use Rattle.brd_queue.specs.Queue.{Plain, priority_in}
 use Rattle.brd_queue.specs.Rule.{IsByPriority}
 use Rattle.brd_tasks.specs.declared.task.TaskSetup.{TaskSetup}
 use Rattle.brd_tasks.specs.declared.task.Task.{Task}
@@ -41,11 +40,11 @@ contexts-length : (setups : List TaskSetup) (n : ℕ) → length (first_contexts
 unfolding first_contexts
 contexts-length setups n = length-map-range_with_len (first_context setups) 0 n
 
-nobody-by : (small : Bool) (n cpu : ℕ) → nat_lt cpu n ≡ small → ◌≡◌ {A = List Entry} (slice_index_or (replicate n []) cpu []) []
+nobody-by : (small : Bool) (n cpu : ℕ) → nat_lt cpu n ≡ small → ◌≡◌ {A = List Plain} (slice_index_or (replicate n []) cpu []) []
 nobody-by true n cpu test = get_or-replicate n cpu [] [] (grind (arith, nat_tests, test))
 nobody-by false n cpu test = get_or-eq_default (replicate n []) [] (grind (arith, nat_tests, test, length-replicate))
 
-nobody-on : (n cpu : ℕ) → ◌≡◌ {A = List Entry} (slice_index_or (replicate n []) cpu []) []
+nobody-on : (n cpu : ℕ) → ◌≡◌ {A = List Plain} (slice_index_or (replicate n []) cpu []) []
 nobody-on n cpu = nobody-by (nat_lt cpu n) n cpu refl
 
 -- a task that hasn't started is assigned, and is not ready
@@ -91,7 +90,7 @@ made-consistent setups all = record {
 }
 
 -- the same of what a function has made part by part
-pub made-consistent-as : (setups : List TaskSetup) (rows : List (Option Task)) (contexts : List State) (ready : List (List Entry)) →
+pub made-consistent-as : (setups : List TaskSetup) (rows : List (Option Task)) (contexts : List State) (ready : List (List Plain)) →
     rows ≡ first_rows setups 256 → contexts ≡ first_contexts setups 256 → ready ≡ replicate 9 [] → All IsSetup setups →
     IsConsistent (record { rows = rows; contexts = contexts; ready = ready })
 made-consistent-as setups rows contexts ready rows_are contexts_are ready_is all =

@@ -4,8 +4,7 @@ use Rattle.std.specs.Prelude.{slice_index_or, slice_set, Option, None, Some, unw
 use Rattle.std.specs.List.{range_with_len}
 use Rattle.std.specs.Option.{option_map}
 use Rattle.brd_exec.specs.State.{State, opening, write}
-use Rattle.brd_queue.specs.declared.entry.Entry.{Entry}
-use Rattle.brd_queue.specs.Queue.{behind_equals, without, rotated, first_of}
+use Rattle.brd_queue.specs.Queue.{Plain, behind_equals, without, rotated, first_of}
 use Rattle.brd_tasks.specs.declared.status.WaitReason.{WaitReason}
 use Rattle.brd_tasks.specs.declared.status.Status.{Status}
 use Rattle.brd_tasks.specs.declared.status.Status.TheVariants.{Dormant, Ready}
@@ -20,7 +19,7 @@ use Rattle.brd_tasks.specs.Status.{state_of, waiting_of, is_dormant, is_ready, r
 pub record TaskTable : Type 0 where
   pub rows : List (Option Task)  -- 256 of them
   pub contexts : List State  -- 256 of them
-  pub ready : List (List Entry)  -- 9 of them: the ready tasks of each processor, in the order in which they run
+  pub ready : List (List Plain)  -- 9 of them: the ready tasks of each processor, in the order in which they run
 
 -- the task of an ID, where there is one
 abbrev pub task_at : TaskTable → ℕ → Option Task
@@ -35,7 +34,7 @@ abbrev pub context_at : TaskTable → ℕ → State
 context_at t id = slice_index_or t.contexts id no_context
 
 -- the ready tasks of a processor
-abbrev pub ready_on : TaskTable → ℕ → List Entry
+abbrev pub ready_on : TaskTable → ℕ → List Plain
 ready_on t cpu = slice_index_or t.ready cpu []
 
 -- One task.
@@ -92,15 +91,15 @@ abbrev pub made : List TaskSetup → TaskTable
 made setups = record { rows = first_rows setups 256; contexts = first_contexts setups 256; ready = replicate 9 [] }
 
 -- the ready lists without a task that was ready
-abbrev pub left : ℕ → Option Task → List (List Entry) → List (List Entry)
+abbrev pub left : ℕ → Option Task → List (List Plain) → List (List Plain)
 left id None ready = ready
 left id (Some task) ready =
     if is_ready task.status then slice_set ready task.cpu (without id (slice_index_or ready task.cpu [])) else ready
 
 -- the ready lists with a task that is ready, behind its equals
-abbrev pub entered : ℕ → Task → List (List Entry) → List (List Entry)
+abbrev pub entered : ℕ → Task → List (List Plain) → List (List Plain)
 entered id task ready =
-    if is_ready task.status then slice_set ready task.cpu (behind_equals (record { id = id; priority = task.priority }) (slice_index_or ready task.cpu []))
+    if is_ready task.status then slice_set ready task.cpu (behind_equals (record { id = id; priority = task.priority; wanted = tt }) (slice_index_or ready task.cpu []))
     else ready
 
 -- A task is written anew: it leaves the ready list in which it was, and where it is ready comes behind its equals on its processor.
@@ -189,7 +188,7 @@ turned t cpu priority = record t { ready = slice_set t.ready cpu (rotated priori
 -- What is seen of a table.
 
 -- the first of a ready list
-abbrev pub first_id : List Entry → Option ℕ
+abbrev pub first_id : List Plain → Option ℕ
 first_id ready = option_map (λ entry. entry.id) (first_of ready)
 
 -- the ready task of a processor that runs next

@@ -10,7 +10,7 @@ use crate::task::Task;
 use brd_queue::{Entry, Order, Queue};
 
 /// Takes a task that was ready out of its ready list.
-pub fn leave(ready: &mut Vec<Queue>, id: TaskId, task: Option<Task>)
+pub fn leave(ready: &mut Vec<Queue<()>>, id: TaskId, task: Option<Task>)
     requires lists { length ready.old.items ≡ 9 }
     requires listed { IfSome task (λ it. it.cpu < 9) }
     ensures { ready.new.items ≡ left id task ready.old.items }
@@ -22,7 +22,7 @@ pub fn leave(ready: &mut Vec<Queue>, id: TaskId, task: Option<Task>)
 }
 
 /// Puts a task that is ready behind its equals.
-pub fn enter(ready: &mut Vec<Queue>, id: TaskId, task: Task)
+pub fn enter(ready: &mut Vec<Queue<()>>, id: TaskId, task: Task)
     requires lists { length ready.old.items ≡ 9 }
     requires listed { task.cpu < 9 }
     requires small { id < 256 }
@@ -35,6 +35,7 @@ pub fn enter(ready: &mut Vec<Queue>, id: TaskId, task: Task)
             Entry {
                 id,
                 priority: task.priority,
+                wanted: (),
             },
         );
     }

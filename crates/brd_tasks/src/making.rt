@@ -50,12 +50,12 @@ pub fn contexts_of(alloc: Global, setups: &[TaskSetup]) -> Result<Vec<Context>, 
 }
 
 /// Ready lists in which nobody is.
-pub fn empty_lists(alloc: Global) -> Result<Vec<Queue>, NoMemory>
+pub fn empty_lists(alloc: Global) -> Result<Vec<Queue<()>>, NoMemory>
     ensures { IfOk result (λ lists. lists.items ≡ replicate 9 []) }
 {
     let mut lists = Vec::new(alloc);
     for _ in 0..9u8 {
-        lists.push(Queue::new())?;
+        lists.push(Queue::new(alloc)?)?;
     }
     Ok(lists)
 }

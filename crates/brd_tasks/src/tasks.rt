@@ -44,7 +44,7 @@ use std::marker::Model;
 pub struct Tasks {
     rows: Vec<Option<Task>>,
     contexts: Vec<Context>,
-    ready: Vec<Queue>,
+    ready: Vec<Queue<()>>,
 }
 
 impl Model for Tasks {
