@@ -1,0 +1,4 @@
+pub mod TableLemmas
+pub mod ColumnLemmas
+pub mod BitLemmas
+pub mod LawLemmas

@@ -1,0 +1,8 @@
+pub mod Table
+pub mod Order
+pub mod Semaphores
+pub mod Waiters
+pub mod Flags
+pub mod Columns
+pub mod DataQueues
+pub use Rattle.brd_queue.specs.Queue

@@ -1,0 +1,189 @@
+//! A data queue.
+
+ghost use Rattle.std.specs.Prelude.{◌≡◌, ◌<◌, ◌≤◌, IfOk, IfSome, length, vec_capacity};
+ghost use Rattle.brd_objects.specs.Order.{order_of};
+ghost use Rattle.brd_objects.specs.DataQueues.{
+  data_queue_of,
+  has_room,
+  sent,
+  outcome,
+  with_room,
+  forced,
+  forced_outcome,
+  received,
+  receipt,
+  IsToTask,
+  IsFromTask,
+  awaited_by_sender,
+  awaited_by_receiver,
+  data_queue_left,
+  data_queue_reordered,
+};
+
+use crate::sent::{Received, Sent};
+use bitflags::Flags;
+use brd_base::NoMemory;
+use brd_config::{QueueAttributes, QueueConfig};
+use brd_queue::{Entry, Order, Queue};
+use std::alloc::Global;
+use std::marker::Model;
+
+/// A data queue (uITRON 4.0 specification, "Data Queues"). Only `new` takes memory.
+#[derive(Drop)]
+pub struct DataQueue {
+    capacity: u16,
+    order: Order,
+    stored: Vec<u32>,
+    senders: Queue<u32>,
+    receivers: Queue<()>,
+}
+
+impl Model for DataQueue {
+    ghost use Rattle.std.specs.Prelude.{◌≤◌, length, vec_capacity};
+    ghost use Rattle.brd_objects.specs.DataQueues.{DataQueueState};
+
+    ghost Value = { DataQueueState };
+
+    ghost view = { λ q. record { capacity = q.capacity; order = q.order; stored = q.stored.items; senders = q.senders; receivers = q.receivers } };
+
+    ghost invariant = { λ q. (length q.stored.items ≤ q.capacity) × (q.capacity ≤ vec_capacity q.stored) };
+}
+
+impl DataQueue {
+    /// A data queue as the configuration says it: empty, and nobody waits.
+    pub fn new(alloc: Global, config: &QueueConfig) -> Result<DataQueue, NoMemory>
+        ensures { IfOk result (λ queue. queue ≡ data_queue_of config.now) }
+    {
+        Ok(DataQueue {
+            capacity: config.capacity,
+            order: order_of(config.attributes),
+            stored: Vec::with_capacity(alloc, config.capacity as usize)?,
+            senders: Queue::new(alloc)?,
+            receivers: Queue::new(alloc)?,
+        })
+    }
+
+    /// How many data it stores.
+    pub fn capacity(&self) -> u16
+        ensures { result ≡ self.now.capacity }
+    {
+        self.capacity
+    }
+
+    /// A datum is sent: to the first receiver, which no longer waits, else it is stored, where there is room.
+    pub fn send(&mut self, datum: u32) -> Sent
+        ensures is { self.new ≡ sent datum self.old }
+        ensures outcome { result ≡ outcome self.old }
+        ensures small { IsToTask result }
+    {
+        if let Some(first) = self.receivers.serve() {
+            return Sent::Handed(first.id);
+        }
+        if self.stored.len() >= self.capacity as usize {
+            return Sent::Full;
+        }
+        let _ = self.stored.push(datum);
+        Sent::Stored
+    }
+
+    /// A datum is sent: to the first receiver, which no longer waits, else it is stored, and a full queue gives its oldest datum up for it.
+    pub fn force(&mut self, datum: u32) -> Sent
+        ensures is { self.new ≡ forced datum self.old }
+        ensures outcome { result ≡ forced_outcome self.old }
+        ensures small { IsToTask result }
+    {
+        self.make_room();
+        self.send(datum)
+    }
+
+    /// Where nobody waits for a datum, a full queue gives its oldest one up.
+    fn make_room(&mut self)
+        ensures { self.new ≡ with_room self.old }
+    {
+        if !self.receivers.is_empty() || self.stored.len() < self.capacity as usize {
+            return;
+        }
+        if !self.stored.is_empty() {
+            let _ = self.stored.remove(0);
+        }
+    }
+
+    /// The oldest datum is received, and the first sender's takes the free place; where none is stored, the first sender's is received.
+    pub fn receive(&mut self) -> Option<Received>
+        ensures is { self.new ≡ received self.old }
+        ensures receipt { result ≡ receipt self.old }
+        ensures small { IfSome result IsFromTask }
+    {
+        if self.stored.is_empty() {
+            let first = self.senders.serve()?;
+            return Some(Received {
+                datum: first.wanted,
+                sender: Some(first.id),
+            });
+        }
+        let datum = self.stored.remove(0);
+        let Some(first) = self.senders.serve() else {
+            return Some(Received {
+                datum,
+                sender: None,
+            });
+        };
+        let _ = self.stored.push(first.wanted);
+        Some(Received {
+            datum,
+            sender: Some(first.id),
+        })
+    }
+
+    /// A task waits to send a datum, in the order that the attributes say.
+    pub fn wait_to_send(&mut self, task: u16, priority: u8, datum: u32)
+        requires { task < 256 }
+        ensures { self.new ≡ awaited_by_sender task priority datum self.old }
+    {
+        let entry = Entry {
+            id: task,
+            priority,
+            wanted: datum,
+        };
+        self.senders.place(self.order, entry);
+    }
+
+    /// A task waits to receive a datum, behind all others.
+    pub fn wait_to_receive(&mut self, task: u16, priority: u8)
+        requires { task < 256 }
+        ensures { self.new ≡ awaited_by_receiver task priority self.old }
+    {
+        let entry = Entry {
+            id: task,
+            priority,
+            wanted: (),
+        };
+        self.receivers.place(Order::Arrival, entry);
+    }
+
+    /// A task no longer waits, and its datum goes with it.
+    pub fn leave(&mut self, task: u16)
+        ensures { self.new ≡ data_queue_left task self.old }
+    {
+        let _ = self.senders.leave(task);
+        let _ = self.receivers.leave(task);
+    }
+
+    /// A task, where it waits, is given a priority: by arrival it keeps its place, by priority it comes behind its equals.
+    pub fn reorder(&mut self, task: u16, priority: u8)
+        ensures { self.new ≡ data_queue_reordered task priority self.old }
+    {
+        self.senders.reorder(self.order, task, priority);
+        self.receivers.reorder(Order::Arrival, task, priority);
+    }
+}
+
+/// The order in which senders wait for a queue of these attributes.
+fn order_of(attributes: QueueAttributes) -> Order
+    ensures { result ≡ order_of attributes.0 }
+{
+    if attributes.contains(QueueAttributes::TA_TPRI) {
+        return Order::Priority;
+    }
+    Order::Arrival
+}

@@ -1,0 +1,27 @@
+//! Objects that tasks wait for: semaphores, event flags and data queues.
+//!
+//! `specs/` says what each call makes of them. No call but the `new` of each table takes memory.
+#![tactic(auto)]
+
+mod data_queue;
+mod flag;
+mod flags;
+pub mod laws;
+mod queues;
+mod semaphore;
+mod semaphores;
+mod sent;
+mod waiters;
+mod want;
+
+pub use data_queue::DataQueue;
+pub use flag::Flag;
+pub use flags::Flags;
+pub use queues::Queues;
+pub use semaphore::Semaphore;
+pub use semaphores::Semaphores;
+pub use sent::{Received, Sent};
+pub use want::{Mode, Want};
+
+#[cfg(test)]
+mod tests;

@@ -1,0 +1,122 @@
+//! A semaphore.
+
+ghost use Rattle.std.specs.Prelude.{◌≡◌, ◌<◌, IfOk, IfSome};
+ghost use Rattle.brd_objects.specs.Order.{order_of};
+ghost use Rattle.brd_objects.specs.Semaphores.{
+  semaphore_of,
+  returned,
+  first_waiter,
+  is_full,
+  has_one,
+  taken,
+  semaphore_awaited,
+  semaphore_left,
+  semaphore_reordered,
+};
+
+use bitflags::Flags;
+use brd_base::NoMemory;
+use brd_config::{SemaphoreAttributes, SemaphoreConfig};
+use brd_queue::{Entry, Order, Queue};
+use std::alloc::Global;
+
+/// A semaphore (uITRON 4.0 specification, "Semaphores").
+#[derive(Drop)]
+pub struct Semaphore {
+    count: u16,
+    maximum: u16,
+    order: Order,
+    waiters: Queue<()>,
+}
+
+impl Semaphore {
+    /// A semaphore as the configuration says it: nobody waits.
+    pub fn new(alloc: Global, config: &SemaphoreConfig) -> Result<Semaphore, NoMemory>
+        ensures { IfOk result (λ semaphore. semaphore ≡ semaphore_of config.now) }
+    {
+        Ok(Semaphore {
+            count: config.initial,
+            maximum: config.maximum,
+            order: order_of(config.attributes),
+            waiters: Queue::new(alloc)?,
+        })
+    }
+
+    /// Whether one can be taken.
+    pub fn has_one(&self) -> bool
+        ensures { result ≡ has_one self.now }
+    {
+        self.count != 0
+    }
+
+    /// Whether one more is too many: the count is the maximum, and nobody waits.
+    pub fn is_full(&self) -> bool
+        ensures { result ≡ is_full self.now }
+    {
+        self.waiters.is_empty() && self.count >= self.maximum
+    }
+
+    /// Returns one: the first waiter leaves with it, and is answered; where nobody waits it is counted, up to the maximum.
+    pub fn give(&mut self) -> Option<u16>
+        ensures is { self.new ≡ returned self.old }
+        ensures who { result ≡ first_waiter self.old }
+        ensures small { IfSome result (λ id. id < 256) }
+    {
+        if let Some(first) = self.waiters.serve() {
+            return Some(first.id);
+        }
+        if self.count < self.maximum {
+            self.count += 1;
+        }
+        None
+    }
+
+    /// Takes one. Answers whether there was one.
+    pub fn take(&mut self) -> bool
+        ensures is { self.new ≡ taken self.old }
+        ensures there { result ≡ has_one self.old }
+    {
+        if self.count == 0 {
+            return false;
+        }
+        self.count -= 1;
+        true
+    }
+
+    /// A task waits for one, in the order that the attributes say.
+    pub fn wait(&mut self, task: u16, priority: u8)
+        requires { task < 256 }
+        ensures { self.new ≡ semaphore_awaited task priority self.old }
+    {
+        let entry = Entry {
+            id: task,
+            priority,
+            wanted: (),
+        };
+        self.waiters.place(self.order, entry);
+    }
+
+    /// A task no longer waits.
+    pub fn leave(&mut self, task: u16)
+        ensures { self.new ≡ semaphore_left task self.old }
+    {
+        let _ = self.waiters.leave(task);
+    }
+
+    /// A task, where it waits, is given a priority: by arrival it keeps its place, by priority it comes behind its equals.
+    pub fn reorder(&mut self, task: u16, priority: u8)
+        ensures { self.new ≡ semaphore_reordered task priority self.old }
+    {
+        self.waiters.reorder(self.order, task, priority);
+    }
+}
+
+/// The order in which tasks wait for a semaphore of these attributes.
+fn order_of(attributes: SemaphoreAttributes) -> Order
+    ensures { result ≡ order_of attributes.0 }
+{
+    if attributes.contains(SemaphoreAttributes::TA_TPRI) {
+        return Order::Priority;
+    }
+    Order::Arrival
+}
