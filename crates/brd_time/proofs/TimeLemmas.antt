@@ -4,9 +4,9 @@ use Rattle.std.specs.Prelude.{Bool, true, false, ◌==◌, nat_le, if◌then◌e
 use Rattle.std.specs.List.{range_with_len}
 use Rattle.std.proofs.lemmas.Bool.{true≢false, false≢true}
 use Rattle.std.proofs.lemmas.Bool.Decides.{nat_tests}
-use Rattle.std.proofs.lemmas.List.{map-set, get_or-map}
+use Rattle.std.proofs.lemmas.List.{map-set, get_or-map, get_or-set_other}
 use Rattle.brd_lanes.specs.Scan.{IsLeast, IsLeastAt, NoneBetween, is_due_at}
-use Rattle.brd_time.specs.Time.{Time, beginning, last_count, has_come, is_due, due_from, next_due_of}
+use Rattle.brd_time.specs.Time.{Time, beginning, with_due, last_count, has_come, is_due, due_from, next_due_of}
 use Rattle.brd_time.specs.Kept.{never, due_in}
 
 -- a tick that is counted stands for itself
@@ -141,3 +141,17 @@ due-some t from id found = rest-by (nat_le from 256) t from id refl found
 pub due-none : (t : Time) (from : ℕ) → next_due_of t from ≡ None → due_from t from ≡ []
 unfolding next_due_of due_from
 due-none t from found = empty (is_due t) from (256 - from) found
+
+-- Whose waits end from an ID on doesn't hang on those below it.
+
+filter-same : (p q : ℕ → Bool) (from n : ℕ) → ((k : ℕ) → from ≤ k → p k ≡ q k) → filter p (range_with_len from n) ≡ filter q (range_with_len from n)
+filter-same p q from zero same = refl
+filter-same p q from (suc n) same =
+    first-of p from n (q from) (same from (omega arith))
+    ∙ ap (λ others. if q from then from ∷ others else others) (filter-same p q (from + 1) n (λ k above. same k (omega (arith, above))))
+
+pub due-above : (t : Time) (id from : ℕ) (due : Option ℕ) → id < from → due_from (with_due t id due) from ≡ due_from t from
+unfolding due_from
+due-above t id from due below =
+    filter-same (is_due (with_due t id due)) (is_due t) from (256 - from)
+    (λ k above. ap (has_come t.count) (get_or-set_other t.dues id k due None (omega (arith, below, above))))

@@ -1,6 +1,6 @@
 //! Ticks, and when the waits of tasks end.
 
-ghost use Rattle.std.specs.Prelude.{◌≡◌, ◌<◌, ◌≤◌, ◌^◌, ◌-◌, None, Some, IfOk, nat_lt, replicate};
+ghost use Rattle.std.specs.Prelude.{◌≡◌, ◌<◌, ◌≤◌, ◌^◌, ◌-◌, None, Some, IfOk, IfSome, nat_lt, replicate};
 ghost use Rattle.brd_time.specs.Time.{beginning, due_of, with_due, advanced, last_count, next_due_of};
 
 use brd_base::NoMemory;
@@ -92,7 +92,8 @@ impl Timeouts {
     /// The first task from an ID on whose wait ends: its tick has come.
     pub fn next_due(&self, from: u16) -> Option<u16>
         requires { from ≤ 256 }
-        ensures { result ≡ next_due_of self.now from }
+        ensures is { result ≡ next_due_of self.now from }
+        ensures within { IfSome result (λ task. (from ≤ task) × (task < 256)) }
     {
         match brd_lanes::next_due(self.dues.as_slice(), self.count, from as usize) {
             Some(task) => Some(task as u16),

@@ -4,14 +4,14 @@ use Rattle.brd_time.specs.Time.{Time, next_due_of}
 use Rattle.brd_time.proofs.TimeLemmas.{next-is}
 use Rattle.brd_time.proofs.timeouts.Timeouts.next_due.Goals as goal
 
-pub returns-in-Some : goal.returns-in-Some
-returns-in-Some c =
+pub returns-in-Some-clause-is : goal.returns-in-Some-clause-is
+returns-in-Some-clause-is c =
     sym (subst (λ (t : Time). next_due_of t c.args.from ≡ Some c.in-Some.task) c.self.view_is
     (next-is c.self.inside.count c.self.inside.dues.items c.args.from (Some c.in-Some.task) c.self.invariant.1 c.self.invariant.0 c.requires
     (rw c.as_slice.ensures.value at c.in-Some.ensures)))
 
-pub returns-in-None : goal.returns-in-None
-returns-in-None c =
+pub returns-in-None-clause-is : goal.returns-in-None-clause-is
+returns-in-None-clause-is c =
     sym (subst (λ (t : Time). next_due_of t c.args.from ≡ None) c.self.view_is
     (next-is c.self.inside.count c.self.inside.dues.items c.args.from None c.self.invariant.1 c.self.invariant.0 c.requires
     (rw c.as_slice.ensures.value at c.in-None.ensures)))
