@@ -4,12 +4,12 @@ use Rattle.std.specs.Prelude.{Bool, true, false, not, slice_index_or, slice_set,
 use Rattle.std.proofs.lemmas.Bool.{true≢false, false≢true}
 use Rattle.std.specs.Prelude.{is_some, unwrap_or}
 use Rattle.std.proofs.lemmas.Bool.Decides.{nat_tests}
-use Rattle.brd_queue.specs.declared.entry.Entry.{Entry}
 use Rattle.brd_kernel.specs.declared.processor.Processor.{Processor}
 use Rattle.std.proofs.Common.{subst}
 use Rattle.std.specs.Prelude.{nat_lt, ◌==◌, ◌&&◌, if◌then◌else◌}
 use Rattle.std.specs.Int.{bit_at}
 use Rattle.brd_kernel.specs.Kernel.{KernelState, processor_at, is_held, running_in}
+use Rattle.brd_queue.specs.Queue.{Plain}
 use Rattle.brd_tasks.specs.Tasks.{TaskTable, ready_on, first_id, top_of}
 use Rattle.brd_kernel.specs.Dispatch.{IsSettled, dispatched_one, dispatched_from, dispatched_on, dispatched, is_same_task, has_changed}
 
@@ -114,7 +114,7 @@ pub bits-next : (k : KernelState) (n before after : ℕ) (other : Bool) → othe
     (j : ℕ) → j < 8 → bit_at after j ≡ (if nat_lt (j + 1) (n + 1) && has_changed k (dispatched k) (j + 1) then 1 else 0)
 bits-next k n before after other is was now j small = bits-by (j + 1 == n) k n before after j other refl is (was j small) (now j small)
 
-free-by : (held : Bool) (found : Option Processor) (p : Processor) (ready : List Entry) → is_held p ≡ held → found ≡ Some p →
+free-by : (held : Bool) (found : Option Processor) (p : Processor) (ready : List Plain) → is_held p ≡ held → found ≡ Some p →
     dispatched_one found ready ≡ Some (if held then p else record p { running = first_id ready })
 free-by held found p ready test is = ap (λ f. dispatched_one f ready) is ∙ ap (λ h. Some (if h then p else record p { running = first_id ready })) test
 
@@ -128,12 +128,12 @@ dispatch-held k cpu p is held = at-dispatched k cpu ∙ free-by true (processor_
 pub dispatch-none : (k : KernelState) (cpu : ℕ) → processor_at k cpu ≡ None → processor_at (dispatched k) cpu ≡ None
 dispatch-none k cpu is = at-dispatched k cpu ∙ ap (λ f. dispatched_one f (ready_on k.tasks cpu)) is
 
-settled-by : (held : Bool) (q p : Processor) (ready : List Entry) → is_held q ≡ held → (if held then q else record q { running = first_id ready }) ≡ p → is_held p ≡ false →
+settled-by : (held : Bool) (q p : Processor) (ready : List Plain) → is_held q ≡ held → (if held then q else record q { running = first_id ready }) ≡ p → is_held p ≡ false →
     p.running ≡ first_id ready
 settled-by true q p ready test is free = absurd (true≢false (sym test ∙ ap is_held is ∙ free))
 settled-by false q p ready test is free = sym (ap (λ (r : Processor). r.running) is)
 
-settled-one : (found : Option Processor) (p : Processor) (ready : List Entry) → dispatched_one found ready ≡ Some p → is_held p ≡ false → p.running ≡ first_id ready
+settled-one : (found : Option Processor) (p : Processor) (ready : List Plain) → dispatched_one found ready ≡ Some p → is_held p ≡ false → p.running ≡ first_id ready
 settled-one None p ready is free = absurd (false≢true (ap is_some is))
 settled-one (Some q) p ready is free = settled-by (is_held q) q p ready refl (ap (λ (o : Option Processor). unwrap_or o q) is) free
 

@@ -5,6 +5,11 @@ use Rattle.std.proofs.lemmas.Bool.Decides.{nat_tests}
 use Rattle.std.proofs.Math.ListN.{get_or-eq_default}
 use Rattle.brd_exec.specs.State.{State}
 use Rattle.brd_tasks.specs.Tasks.{TaskTable, no_context}
+use Rattle.brd_time.specs.Time.{Time}
+use Rattle.brd_objects.specs.Table.{Table}
+use Rattle.brd_objects.specs.declared.semaphore.Semaphore.{Semaphore}
+use Rattle.brd_objects.specs.declared.flag.Flag.{Flag}
+use Rattle.brd_objects.specs.DataQueues.{DataQueueState}
 use Rattle.brd_kernel.specs.declared.processor.Processor.{Processor}
 use Rattle.brd_kernel.specs.declared.processor.Line.{Line}
 use Rattle.brd_kernel.specs.Kernel.{idle, quiet, running_in}
@@ -37,10 +42,10 @@ unfolding idle_ones
 none-at-0 processors = get_or-map-range_with_len (idle_one processors) 0 9 0 0 None (omega arith) (omega arith)
 
 -- what a function has made part by part is a kernel
-pub made-kernel : (tasks : TaskTable) (processors : ℕ) (ps : List (Option Processor)) (contexts : List State) (lines : List Line) (console : List ℕ) →
+pub made-kernel : (time : Time) (tasks : TaskTable) (semaphores : Table Semaphore) (flags : Table Flag) (queues : Table DataQueueState) (processors : ℕ) (ps : List (Option Processor)) (contexts : List State) (lines : List Line) (console : List ℕ) →
     ps ≡ idle_ones processors 9 → contexts ≡ replicate 9 no_context → lines ≡ replicate 32 (quiet no_handler) → console ≡ [] →
-    IsKernel (record { off = false; count = 0; tasks = tasks; processors = ps; handler_contexts = contexts; lines = lines; console = console })
-made-kernel tasks processors ps contexts lines console ps_are contexts_are lines_are console_is = record {
+    IsKernel (record { off = false; time = time; tasks = tasks; semaphores = semaphores; flags = flags; queues = queues; processors = ps; handler_contexts = contexts; lines = lines; console = console })
+made-kernel time tasks semaphores flags queues processors ps contexts lines console ps_are contexts_are lines_are console_is = record {
   processors = ap length ps_are ∙ ones-length processors 9;
   handler_contexts = ap length contexts_are;
   lines = ap length lines_are;

@@ -1,12 +1,12 @@
 -- Dispatch: which task runs on each processor after an event.
 use Rattle.std.specs.Prelude.{◌≡◌, ℕ, ◌+◌, ◌==◌, Bool, true, false, not, if◌then◌else◌, List, [], ◌∷◌, filter, slice_set, Option, None, Some}
-use Rattle.brd_queue.specs.declared.entry.Entry.{Entry}
 use Rattle.brd_kernel.specs.declared.processor.Processor.{Processor}
 use Rattle.brd_kernel.specs.Kernel.{KernelState, processor_at, is_held, running_on}
+use Rattle.brd_queue.specs.Queue.{Plain}
 use Rattle.brd_tasks.specs.Tasks.{TaskTable, ready_on, first_id, top_of}
 
 -- a processor that isn't held runs the first of its ready tasks, or none
-abbrev pub dispatched_one : Option Processor → List Entry → Option Processor
+abbrev pub dispatched_one : Option Processor → List Plain → Option Processor
 dispatched_one None ready = None
 dispatched_one (Some p) ready = Some (if is_held p then p else record p { running = first_id ready })
 

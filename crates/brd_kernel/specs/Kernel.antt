@@ -6,7 +6,12 @@ use Rattle.brd_exec.specs.State.{State, opening}
 use Rattle.brd_exec.specs.Step.{Ran, ran}
 use Rattle.brd_link.specs.LinkSet.{LinkSet}
 use Rattle.brd_mem.specs.Memory.{Memory}
-use Rattle.brd_tasks.specs.Tasks.{TaskTable, no_context, context_at, with_context, noted, without_activation, ended}
+use Rattle.brd_tasks.specs.Tasks.{TaskTable, no_context, context_at, with_context}
+use Rattle.brd_time.specs.Time.{Time}
+use Rattle.brd_objects.specs.declared.semaphore.Semaphore.{Semaphore}
+use Rattle.brd_objects.specs.declared.flag.Flag.{Flag}
+use Rattle.brd_objects.specs.Table.{Table}
+use Rattle.brd_objects.specs.DataQueues.{DataQueueState}
 use Rattle.brd_kernel.specs.declared.processor.Processor.{Processor}
 use Rattle.brd_kernel.specs.declared.processor.Handler.{Handler}
 use Rattle.brd_kernel.specs.declared.processor.Line.{Line}
@@ -18,8 +23,11 @@ use Rattle.brd_kernel.specs.declared.processor.Standing.TheVariants as standing
 
 pub record KernelState : Type 0 where
   pub off : Bool
-  pub count : ℕ  -- the ticks so far
+  pub time : Time  -- the ticks so far, and when waits end
   pub tasks : TaskTable
+  pub semaphores : Table Semaphore  -- by ID, 256 of them, as the two below
+  pub flags : Table Flag
+  pub queues : Table DataQueueState
   pub processors : List (Option Processor)  -- by number, 9 of them: None at 0 and where the board has no such processor
   pub handler_contexts : List State  -- by the processor's number, 9 of them: the context of the handler that runs there; any, where none runs
   pub lines : List Line  -- by number, 32 of them
@@ -145,38 +153,8 @@ accepted_in k cpu (Some line) = accepted_line k cpu line
 abbrev pub accepted : KernelState → ℕ → KernelState
 accepted k cpu = accepted_in k cpu (deliverable k cpu)
 
--- Exceptions.
-
 abbrev pub unmarked : Processor → Processor
 unmarked p = record p { locked = false; disabled = false }
-
--- The running task of a processor is ended by an exception: it is dormant, with nothing queued, and its processor is neither CPU-locked
--- nor has dispatching disabled.
-abbrev pub faulted_task : KernelState → ℕ → Processor → Option ℕ → KernelState
-faulted_task k cpu p None = k
-faulted_task k cpu p (Some id) = with_processor (with_tasks k (ended (noted without_activation k.tasks id) id)) cpu (unmarked p)
-
-abbrev pub faulted_in : KernelState → ℕ → Option Processor → KernelState
-faulted_in k cpu None = k
-faulted_in k cpu (Some p) = if is_some p.handling then with_processor k cpu (record p { stopped = true }) else faulted_task k cpu p p.running
-
--- An exception on a processor: in a handler it stops the processor for good, else it ends the running task.
-abbrev pub ended_by_fault : KernelState → ℕ → KernelState
-ended_by_fault k cpu = faulted_in k cpu (processor_at k cpu)
-
--- Time.
-
--- the last tick that is counted (own choice)
-abbrev pub last_count : ℕ
-last_count = 2 ^ 63 - 1
-
--- a tick is counted
-abbrev pub counted : KernelState → KernelState
-counted k = record k { count = k.count + 1 }
-
--- a tick passes, unless the last one has been counted
-abbrev pub ticked : KernelState → KernelState
-ticked k = if nat_lt k.count last_count then counted k else k
 
 -- What is seen of a processor.
 

@@ -1,5 +1,6 @@
 pub mod Answer
 pub mod Kernel
+pub mod Waits
 pub mod Dispatch
 pub mod Row
 pub mod Services
@@ -9,3 +10,8 @@ pub mod Making
 pub use Rattle.brd_tasks.specs.Tasks
 pub use Rattle.brd_tasks.specs.Status
 pub use Rattle.brd_exec.specs.State
+pub use Rattle.brd_time.specs.Time
+pub use Rattle.brd_objects.specs.Table
+pub use Rattle.brd_objects.specs.Semaphores
+pub use Rattle.brd_objects.specs.Flags
+pub use Rattle.brd_objects.specs.DataQueues

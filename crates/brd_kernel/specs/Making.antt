@@ -3,6 +3,13 @@ use Rattle.std.specs.Prelude.{ℕ, nat_le, false, ◌&&◌, if◌then◌else◌,
 use Rattle.std.specs.List.{range_with_len}
 use Rattle.brd_tasks.specs.Tasks.{made, no_context}
 use Rattle.brd_tasks.specs.declared.task.TaskSetup.{TaskSetup}
+use Rattle.brd_config.specs.declared.objects.SemaphoreConfig.{SemaphoreConfig}
+use Rattle.brd_config.specs.declared.objects.FlagConfig.{FlagConfig}
+use Rattle.brd_config.specs.declared.objects.QueueConfig.{QueueConfig}
+use Rattle.brd_time.specs.Time.{beginning}
+use Rattle.brd_objects.specs.Semaphores.{made_semaphores}
+use Rattle.brd_objects.specs.Flags.{made_flags}
+use Rattle.brd_objects.specs.DataQueues.{made_queues}
 use Rattle.brd_kernel.specs.declared.processor.Processor.{Processor}
 use Rattle.brd_kernel.specs.declared.processor.Handler.{Handler}
 use Rattle.brd_kernel.specs.Kernel.{KernelState, idle, quiet}
@@ -19,11 +26,14 @@ idle_ones processors count = map (idle_one processors) (range_with_len 0 count)
 abbrev pub no_handler : Option Handler
 no_handler = None
 
-abbrev pub made_kernel : ℕ → List TaskSetup → KernelState
-made_kernel processors setups = record {
+abbrev pub made_kernel : ℕ → List TaskSetup → List SemaphoreConfig → List FlagConfig → List QueueConfig → KernelState
+made_kernel processors setups semaphores flags queues = record {
   off = false;
-  count = 0;
+  time = beginning;
   tasks = made setups;
+  semaphores = made_semaphores semaphores;
+  flags = made_flags flags;
+  queues = made_queues queues;
   processors = idle_ones processors 9;
   handler_contexts = replicate 9 no_context;
   lines = replicate 32 (quiet no_handler);

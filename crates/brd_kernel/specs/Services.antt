@@ -1,20 +1,33 @@
 -- The service table: a row a call, in the order of their numbers (uITRON 4.0 specification; get_pid: TOPPERS/FMP; put_chr and ext_ker,
 -- the refusals and their order: own choice). A row begins with the object that the call names and refuses nothing but an ID that is none
 -- (E_ID, E_NOEXS); what it fills in is what its line of the table says. T is a task's ID, T0 may be 0 for the caller.
-use Rattle.std.specs.Prelude.{ℕ, ◌%◌, ◌^◌, ◌==◌, nat_lt, nat_le, Bool, true, false, not, ◌&&◌, ◌||◌, if◌then◌else◌}
-use Rattle.std.specs.Prelude.{[], ◌∷◌, ◌++◌, length, Option, None, Some, is_some, unwrap_or, Result}
+use Rattle.std.specs.Prelude.{ℕ, ◌%◌, ◌^◌, ◌-◌, ◌==◌, nat_lt, nat_le, Bool, true, false, not, ◌&&◌, ◌||◌, if◌then◌else◌}
+use Rattle.std.specs.Prelude.{List, [], ◌∷◌, ◌++◌, length, Option, None, Some, is_some, unwrap_or, Result, Err}
 use Rattle.brd_tasks.specs.declared.status.Status.{Status}
 use Rattle.brd_tasks.specs.declared.status.WaitReason.{WaitReason}
-use Rattle.brd_tasks.specs.declared.status.WaitReason.TheVariants.{Sleep, Delay, Semaphore, Flag, Send, Receive}
+use Rattle.brd_tasks.specs.declared.status.WaitReason.TheVariants as reason
 use Rattle.brd_tasks.specs.declared.task.Task.{Task}
 use Rattle.brd_tasks.specs.declared.task.Request.TheVariants.{Assigned}
-use Rattle.brd_tasks.specs.Status.{waiting_of, is_dormant, is_waiting, is_suspended, blocked, suspended, resumed}
-use Rattle.brd_tasks.specs.Tasks.{task_at, activated, ended, through, released_with, changed, with_priority, noted, with_wakeup, without_activation, activations_of, wakeups_of}
+use Rattle.brd_tasks.specs.Status.{waiting_of, is_dormant, is_waiting, is_suspended, suspended, resumed}
+use Rattle.brd_tasks.specs.Tasks.{task_at, activated, through, changed, with_priority, noted, with_wakeup, without_activation, activations_of, wakeups_of}
+use Rattle.brd_objects.specs.declared.semaphore.Semaphore.{Semaphore}
+use Rattle.brd_objects.specs.declared.flag.Flag.{Flag}
+use Rattle.brd_objects.specs.declared.want.Mode.{Mode}
+use Rattle.brd_objects.specs.declared.want.Mode.TheVariants.{All, Any}
+use Rattle.brd_objects.specs.declared.want.Want.{Want}
+use Rattle.brd_objects.specs.declared.sent.Sent.{Sent}
+use Rattle.brd_objects.specs.declared.sent.Sent.TheVariants.{Handed, Stored, Full}
+use Rattle.brd_objects.specs.declared.sent.Received.{Received}
+use Rattle.brd_objects.specs.Table.{object_at, object_changed}
+use Rattle.brd_objects.specs.Semaphores.{returned, first_waiter, is_full, has_one, taken, semaphore_awaited}
+use Rattle.brd_objects.specs.Flags.{joined, masked, pattern_for, taken_for, is_occupied, flag_awaited, all_released, with_all_released}
+use Rattle.brd_objects.specs.DataQueues.{DataQueueState, sent, outcome, forced, forced_outcome, received, receipt, awaited_by_sender, awaited_by_receiver}
+use Rattle.brd_kernel.specs.Waits.{is_bad_timeout, due_after, due_by, priority_of, with_wait, released_in, broken_off, ended_in, reordered_in}
 use Rattle.brd_kernel.specs.declared.processor.Processor.{Processor}
 use Rattle.brd_kernel.specs.declared.call.Call.{Call}
 use Rattle.brd_kernel.specs.declared.call.Call.TheVariants as call
 use Rattle.brd_kernel.specs.declared.call.Ercd.{Ercd}
-use Rattle.brd_kernel.specs.declared.call.Ercd.TheVariants.{Rlwai}
+use Rattle.brd_kernel.specs.declared.call.Ercd.TheVariants.{Rlwai, Tmout}
 use Rattle.brd_kernel.specs.Answer.{e_ok, code_of}
 use Rattle.brd_kernel.specs.Kernel.{KernelState, processor_at, is_held, running_on, with_tasks, with_processor, unmarked}
 use Rattle.brd_kernel.specs.Dispatch.{is_same_task}
@@ -30,17 +43,29 @@ named caller id = if id == 0 then caller else id
 
 -- The rows that fill in nothing.
 
--- a task named by its ID
-abbrev pub on_task : KernelState → ℕ → Row Task
-on_task k id = record {
+-- an object named by its ID, where there is one
+abbrev pub on_object : {X : Type 0} → KernelState → ℕ → Option X → Row X
+on_object k id object = record {
   bad_id = is_no_id id;
   bad_par = false;
-  object = task_at k.tasks id;
+  object = object;
   iluse = never;
   obj = never;
   qovr = never;
-  does = λ task. ok k;
+  does = λ x. ok k;
 }
+
+abbrev pub on_task : KernelState → ℕ → Row Task
+on_task k id = on_object k id (task_at k.tasks id)
+
+abbrev pub on_semaphore : KernelState → ℕ → Row Semaphore
+on_semaphore k id = on_object k id (object_at k.semaphores id)
+
+abbrev pub on_flag : KernelState → ℕ → Row Flag
+on_flag k id = on_object k id (object_at k.flags id)
+
+abbrev pub on_queue : KernelState → ℕ → Row DataQueueState
+on_queue k id = on_object k id (object_at k.queues id)
 
 -- the caller
 abbrev pub on_caller : KernelState → ℕ → Row Task
@@ -62,12 +87,12 @@ is_held_elsewhere k cpu id task = not (task.cpu == cpu) && runs_held (processor_
 
 abbrev pub is_sleep : Option WaitReason → Bool
 is_sleep None = false
-is_sleep (Some Sleep) = true
-is_sleep (Some Delay) = false
-is_sleep (Some (Semaphore id)) = false
-is_sleep (Some (Flag id)) = false
-is_sleep (Some (Send id)) = false
-is_sleep (Some (Receive id)) = false
+is_sleep (Some reason.Sleep) = true
+is_sleep (Some reason.Delay) = false
+is_sleep (Some (reason.Semaphore id)) = false
+is_sleep (Some (reason.Flag id)) = false
+is_sleep (Some (reason.Send id)) = false
+is_sleep (Some (reason.Receive id)) = false
 
 -- waits for a wake-up, suspended or not
 abbrev pub is_asleep : Status → Bool
@@ -80,6 +105,56 @@ priority_or_initial priority task = if priority == 0 then task.setup.priority el
 -- how many bytes the console holds
 abbrev pub console_size : ℕ
 console_size = 2 ^ 16
+
+-- the mode of a wait for bits: 0 is TWF_ANDW, 1 TWF_ORW
+abbrev pub mode_of : ℕ → Mode
+mode_of word = if word == 0 then All else Any
+
+abbrev pub want_of : ℕ → ℕ → Want
+want_of bits mode = record { bits = bits; mode = mode_of mode }
+
+-- bits or a mode that no wait for an event flag may have
+unfoldable pub is_bad_want : ℕ → ℕ → Bool
+is_bad_want bits mode = bits == 0 || nat_lt 1 mode
+
+-- how long dly_tsk may wait at most
+abbrev pub longest_delay : ℕ
+longest_delay = 2 ^ 31 - 1
+
+-- Effects that several calls share.
+
+-- the caller waits, or where it polls is answered E_TMOUT; `entered` is the kernel in which it stands in the list of what it waits for
+abbrev pub or_waits : KernelState → ℕ → WaitReason → ℕ → KernelState → Result Served Ercd
+or_waits k caller why timeout entered = if timeout == 0 then Err Tmout else silent (with_wait k caller why (due_by k timeout) entered)
+
+-- the priority with which the caller waits
+abbrev pub callers_priority : KernelState → ℕ → ℕ
+callers_priority k caller = priority_of (task_at k.tasks caller)
+
+-- a task, if it is one, is released with E_OK
+abbrev pub with_released : KernelState → Option ℕ → KernelState
+with_released k None = k
+with_released k (Some id) = released_in k id e_ok None
+
+-- tasks are released with E_OK and a second result, one after the other
+abbrev pub with_all_released_in : KernelState → List ℕ → ℕ → KernelState
+with_all_released_in k [] second = k
+with_all_released_in k (id ∷ ids) second = with_all_released_in (released_in k id e_ok (Some second)) ids second
+
+-- those who wait for an event flag and are satisfied by its pattern are released with it
+
+abbrev pub with_satisfied_of : KernelState → ℕ → Option Flag → KernelState
+with_satisfied_of k id None = k
+with_satisfied_of k id (Some f) = with_all_released_in (record k { flags = object_changed with_all_released k.flags id }) (all_released f) f.pattern
+
+abbrev pub with_satisfied_released : KernelState → ℕ → KernelState
+with_satisfied_released k id = with_satisfied_of k id (object_at k.flags id)
+
+-- what became of a datum that was sent: the receiver is released with it
+abbrev pub handed_over : KernelState → ℕ → Sent → KernelState
+handed_over k datum (Handed id) = released_in k id e_ok (Some datum)
+handed_over k datum Stored = k
+handed_over k datum Full = k
 
 -- The table.
 
@@ -104,7 +179,7 @@ unmarked_on k cpu (Some p) = with_processor k cpu (unmarked p)
 -- 3 ext_tsk. Ends the caller, which leaves its processor neither CPU-locked nor with dispatching disabled.
 abbrev pub ext_tsk : KernelState → ℕ → ℕ → Row Task
 ext_tsk k cpu caller = record (on_caller k caller) {
-  does = λ task. silent (unmarked_on (with_tasks k (ended k.tasks caller)) cpu (processor_at k cpu));
+  does = λ task. silent (unmarked_on (ended_in k caller) cpu (processor_at k cpu));
 }
 
 -- 4 ter_tsk T. Refuses: ILUSE oneself; OBJ dormant or held elsewhere.
@@ -112,15 +187,19 @@ abbrev pub ter_tsk : KernelState → ℕ → ℕ → ℕ → Row Task
 ter_tsk k cpu caller id = record (on_task k id) {
   iluse = λ task. id == caller;
   obj = λ task. is_dormant task.status || is_held_elsewhere k cpu id task;
-  does = λ task. ok (with_tasks k (ended k.tasks id));
+  does = λ task. ok (ended_in k id);
 }
+
+-- a task is given a priority, and its place by it where it is ready or waits
+abbrev pub with_priority_in : KernelState → ℕ → ℕ → Option WaitReason → KernelState
+with_priority_in k id priority why = reordered_in (with_tasks k (changed (with_priority priority) k.tasks id)) id priority why
 
 -- 5 chg_pri T0, priority. Refuses: PAR not 0 to 16; OBJ dormant.
 abbrev pub chg_pri : KernelState → ℕ → ℕ → Row Task
 chg_pri k id priority = record (on_task k id) {
   bad_par = nat_lt 16 priority;
   obj = λ task. is_dormant task.status;
-  does = λ task. ok (with_tasks k (changed (with_priority (priority_or_initial priority task)) k.tasks id));
+  does = λ task. ok (with_priority_in k id (priority_or_initial priority task) (waiting_of task.status));
 }
 
 -- 6 get_pri T0. Refuses: OBJ dormant. Second result: priority.
@@ -135,12 +214,11 @@ get_pid k cpu = record (on_nothing k) { does = λ x. ok_with k cpu }
 abbrev pub get_tid : KernelState → ℕ → Row (Unit {0})
 get_tid k caller = record (on_nothing k) { does = λ x. ok_with k caller }
 
--- 16 slp_tsk, which may wait. Takes a queued wake-up, or waits.
-abbrev pub slp_tsk : KernelState → ℕ → Row Task
-slp_tsk k caller = record (on_caller k caller) {
-  does = λ task.
-      if task.wakeup then ok (with_tasks k (noted (with_wakeup false) k.tasks caller))
-      else silent (with_tasks k (through (blocked Sleep) k.tasks caller));
+-- 16 slp_tsk, 17 tslp_tsk timeout. Refuses: PAR. Takes a queued wake-up, or waits.
+abbrev pub tslp_tsk : KernelState → ℕ → ℕ → Row Task
+tslp_tsk k caller timeout = record (on_caller k caller) {
+  bad_par = is_bad_timeout timeout;
+  does = λ task. if task.wakeup then ok (with_tasks k (noted (with_wakeup false) k.tasks caller)) else or_waits k caller reason.Sleep timeout k;
 }
 
 -- 18 wup_tsk T0. Refuses: OBJ dormant; QOVR not asleep, and a wake-up is queued. Releases a sleeper, or queues a wake-up.
@@ -149,7 +227,7 @@ wup_tsk k id = record (on_task k id) {
   obj = λ task. is_dormant task.status;
   qovr = λ task. not (is_asleep task.status) && task.wakeup;
   does = λ task.
-      if is_asleep task.status then ok (with_tasks k (released_with k.tasks id e_ok None))
+      if is_asleep task.status then ok (released_in k id e_ok None)
       else ok (with_tasks k (noted (with_wakeup true) k.tasks id));
 }
 
@@ -164,7 +242,7 @@ can_wup k id = record (on_task k id) {
 abbrev pub rel_wai : KernelState → ℕ → Row Task
 rel_wai k id = record (on_task k id) {
   obj = λ task. not (is_waiting task.status);
-  does = λ task. ok (with_tasks k (released_with k.tasks id (code_of Rlwai) None));
+  does = λ task. ok (broken_off k id (code_of Rlwai));
 }
 
 -- 21 sus_tsk T0. Refuses: OBJ dormant or held elsewhere; QOVR suspended (and, in the gate, CTX).
@@ -180,6 +258,89 @@ abbrev pub rsm_tsk : KernelState → ℕ → Row Task
 rsm_tsk k id = record (on_task k id) {
   obj = λ task. not (is_suspended task.status);
   does = λ task. ok (with_tasks k (through resumed k.tasks id));
+}
+
+-- 23 dly_tsk time. Refuses: PAR above 0x7FFFFFFF. Waits for so long.
+abbrev pub dly_tsk : KernelState → ℕ → ℕ → Row Task
+dly_tsk k caller time = record (on_caller k caller) {
+  bad_par = nat_lt longest_delay time;
+  does = λ task. silent (with_wait k caller reason.Delay (Some (due_after k time)) k);
+}
+
+-- 24 sig_sem S. Refuses: QOVR the count is the maximum, and nobody waits. Returns one.
+abbrev pub sig_sem : KernelState → ℕ → Row Semaphore
+sig_sem k id = record (on_semaphore k id) {
+  qovr = is_full;
+  does = λ s. ok (with_released (record k { semaphores = object_changed returned k.semaphores id }) (first_waiter s));
+}
+
+-- 25 wai_sem S, 26 pol_sem S, 27 twai_sem S, timeout. Refuses: PAR. Takes one, or waits.
+abbrev pub twai_sem : KernelState → ℕ → ℕ → ℕ → Row Semaphore
+twai_sem k caller id timeout = record (on_semaphore k id) {
+  bad_par = is_bad_timeout timeout;
+  does = λ s.
+      if has_one s then ok (record k { semaphores = object_changed taken k.semaphores id })
+      else or_waits k caller (reason.Semaphore id) timeout
+      (record k { semaphores = object_changed (semaphore_awaited caller (callers_priority k caller)) k.semaphores id });
+}
+
+-- 28 set_flg F, bits. Sets bits, and releases whom they satisfy.
+abbrev pub set_flg : KernelState → ℕ → ℕ → Row Flag
+set_flg k id bits = record (on_flag k id) {
+  does = λ f. ok (with_satisfied_released (record k { flags = object_changed (joined bits) k.flags id }) id);
+}
+
+-- 29 clr_flg F, bits. Clears all bits but these.
+abbrev pub clr_flg : KernelState → ℕ → ℕ → Row Flag
+clr_flg k id bits = record (on_flag k id) { does = λ f. ok (record k { flags = object_changed (masked bits) k.flags id }) }
+
+-- a wait for bits that is satisfied at once, or not
+abbrev pub flag_got : KernelState → ℕ → ℕ → Want → ℕ → Option ℕ → Result Served Ercd
+flag_got k caller id want timeout (Some pattern) = ok_with (record k { flags = object_changed (taken_for want) k.flags id }) pattern
+flag_got k caller id want timeout None =
+    or_waits k caller (reason.Flag id) timeout (record k { flags = object_changed (flag_awaited caller (callers_priority k caller) want) k.flags id })
+
+-- 30 wai_flg F, bits, mode, 31 pol_flg F, bits, mode, 32 twai_flg F, bits, mode, timeout. Refuses: PAR; ILUSE under TA_WSGL another task waits.
+-- Second result: the pattern. Waits for the bits.
+abbrev pub twai_flg : KernelState → ℕ → ℕ → ℕ → ℕ → ℕ → Row Flag
+twai_flg k caller id bits mode timeout = record (on_flag k id) {
+  bad_par = is_bad_want bits mode || is_bad_timeout timeout;
+  iluse = is_occupied;
+  does = λ f. flag_got k caller id (want_of bits mode) timeout (pattern_for (want_of bits mode) f);
+}
+
+-- a datum that is handed over or stored, or its sender waits
+abbrev pub queue_sent : KernelState → ℕ → ℕ → ℕ → ℕ → Sent → Result Served Ercd
+queue_sent k caller id datum timeout (Handed task) = ok (released_in (record k { queues = object_changed (sent datum) k.queues id }) task e_ok (Some datum))
+queue_sent k caller id datum timeout Stored = ok (record k { queues = object_changed (sent datum) k.queues id })
+queue_sent k caller id datum timeout Full =
+    or_waits k caller (reason.Send id) timeout (record k { queues = object_changed (awaited_by_sender caller (callers_priority k caller) datum) k.queues id })
+
+-- 33 snd_dtq Q, datum, 34 psnd_dtq Q, datum, 35 tsnd_dtq Q, datum, timeout. Refuses: PAR. Sends a datum, or waits.
+abbrev pub tsnd_dtq : KernelState → ℕ → ℕ → ℕ → ℕ → Row DataQueueState
+tsnd_dtq k caller id datum timeout = record (on_queue k id) {
+  bad_par = is_bad_timeout timeout;
+  does = λ q. queue_sent k caller id datum timeout (outcome q);
+}
+
+-- 36 fsnd_dtq Q, datum. Refuses: ILUSE it stores nothing. Sends a datum, for which a full queue gives its oldest one up.
+abbrev pub fsnd_dtq : KernelState → ℕ → ℕ → Row DataQueueState
+fsnd_dtq k id datum = record (on_queue k id) {
+  iluse = λ q. q.capacity == 0;
+  does = λ q. ok (handed_over (record k { queues = object_changed (forced datum) k.queues id }) datum (forced_outcome q));
+}
+
+-- a datum that is received, or its receiver waits
+abbrev pub queue_received : KernelState → ℕ → ℕ → ℕ → Option Received → Result Served Ercd
+queue_received k caller id timeout (Some it) = ok_with (with_released (record k { queues = object_changed received k.queues id }) it.sender) it.datum
+queue_received k caller id timeout None =
+    or_waits k caller (reason.Receive id) timeout (record k { queues = object_changed (awaited_by_receiver caller (callers_priority k caller)) k.queues id })
+
+-- 37 rcv_dtq Q, 38 prcv_dtq Q, 39 trcv_dtq Q, timeout. Refuses: PAR. Second result: a datum. Receives it, or waits.
+abbrev pub trcv_dtq : KernelState → ℕ → ℕ → ℕ → Row DataQueueState
+trcv_dtq k caller id timeout = record (on_queue k id) {
+  bad_par = is_bad_timeout timeout;
+  does = λ q. queue_received k caller id timeout (receipt q);
 }
 
 -- 40 put_chr byte. Refuses: QOVR the console is full.
@@ -204,12 +365,21 @@ serve_by k cpu caller (call.ChgPri t priority) = served (chg_pri k (named caller
 serve_by k cpu caller (call.GetPri t) = served (get_pri k (named caller t))
 serve_by k cpu caller call.GetPid = served (get_pid k cpu)
 serve_by k cpu caller call.GetTid = served (get_tid k caller)
-serve_by k cpu caller call.SlpTsk = served (slp_tsk k caller)
+serve_by k cpu caller (call.TslpTsk timeout) = served (tslp_tsk k caller timeout)
 serve_by k cpu caller (call.WupTsk t) = served (wup_tsk k (named caller t))
 serve_by k cpu caller (call.CanWup t) = served (can_wup k (named caller t))
 serve_by k cpu caller (call.RelWai t) = served (rel_wai k t)
 serve_by k cpu caller (call.SusTsk t) = served (sus_tsk k cpu (named caller t))
 serve_by k cpu caller (call.RsmTsk t) = served (rsm_tsk k t)
+serve_by k cpu caller (call.DlyTsk time) = served (dly_tsk k caller time)
+serve_by k cpu caller (call.SigSem s) = served (sig_sem k s)
+serve_by k cpu caller (call.TwaiSem s timeout) = served (twai_sem k caller s timeout)
+serve_by k cpu caller (call.SetFlg f bits) = served (set_flg k f bits)
+serve_by k cpu caller (call.ClrFlg f bits) = served (clr_flg k f bits)
+serve_by k cpu caller (call.TwaiFlg f bits mode timeout) = served (twai_flg k caller f bits mode timeout)
+serve_by k cpu caller (call.TsndDtq q datum timeout) = served (tsnd_dtq k caller q datum timeout)
+serve_by k cpu caller (call.FsndDtq q datum) = served (fsnd_dtq k q datum)
+serve_by k cpu caller (call.TrcvDtq q timeout) = served (trcv_dtq k caller q timeout)
 serve_by k cpu caller (call.PutChr word) = served (put_chr k word)
 serve_by k cpu caller call.ExtKer = served (ext_ker k)
 

@@ -22,8 +22,8 @@ pub enum Call {
     GetPid,
     /// Tells the caller's number.
     GetTid,
-    /// Waits for a wake-up.
-    SlpTsk,
+    /// Waits for a wake-up (timeout).
+    TslpTsk(u32),
     /// Wakes a task up.
     WupTsk(u32),
     /// Takes queued wake-ups back.
@@ -34,6 +34,24 @@ pub enum Call {
     SusTsk(u32),
     /// Resumes a task.
     RsmTsk(u32),
+    /// Waits for some time.
+    DlyTsk(u32),
+    /// Returns one to a semaphore.
+    SigSem(u32),
+    /// Takes one from a semaphore (ID, timeout).
+    TwaiSem(u32, u32),
+    /// Sets bits of an event flag (ID, bits).
+    SetFlg(u32, u32),
+    /// Clears all bits of an event flag but these (ID, bits).
+    ClrFlg(u32, u32),
+    /// Waits for bits of an event flag (ID, bits, mode, timeout).
+    TwaiFlg(u32, u32, u32, u32),
+    /// Sends a datum to a data queue (ID, datum, timeout).
+    TsndDtq(u32, u32, u32),
+    /// Sends a datum to a data queue, for which a full one gives its oldest datum up (ID, datum).
+    FsndDtq(u32, u32),
+    /// Receives a datum from a data queue (ID, timeout).
+    TrcvDtq(u32, u32),
     /// Writes a byte to the console.
     PutChr(u32),
     /// Turns the board off.

@@ -2,7 +2,7 @@
 
 ghost use Rattle.std.specs.Prelude.{◌≡◌, ◌<◌, ◌≤◌, ◌+◌, ◌==◌, ◌&&◌, ℕ, if◌then◌else◌, All, IfOk, IfSome, is_some, nat_lt, option_copied};
 ghost use Rattle.brd_tasks.specs.Ready.{IsProcessor, IsSetup};
-ghost use Rattle.brd_tasks.specs.Tasks.{activated, view_of};
+ghost use Rattle.brd_tasks.specs.Tasks.{activated};
 ghost use Rattle.brd_tasks.specs.declared.task.Request.TheVariants.{Assigned};
 ghost use Rattle.brd_kernel.specs.Making.{made_kernel};
 ghost use Rattle.brd_kernel.specs.Kernel.{
@@ -17,13 +17,12 @@ ghost use Rattle.brd_kernel.specs.Kernel.{
   line_at,
   accepted,
   accepted_line,
-  ended_by_fault,
-  last_count,
-  ticked,
   standing_on,
   executed,
   Executes,
 };
+ghost use Rattle.brd_time.specs.Time.{last_count};
+ghost use Rattle.brd_kernel.specs.Waits.{ended_by_fault, ticked, seen_at};
 ghost use Rattle.brd_kernel.specs.Services.{unmarked_on};
 ghost use Rattle.brd_kernel.specs.Always.{IsIdOrNone, HasContext};
 ghost use Rattle.brd_kernel.specs.Dispatch.{dispatched, dispatched_on, is_same_task, has_changed};
@@ -31,31 +30,36 @@ ghost use Rattle.std.specs.Int.{bit_at};
 ghost use Rattle.std.specs.Borrow.{sem};
 ghost use Rattle.brd_kernel.specs.Lending.{LendsContext};
 
+mod objects;
 mod serve;
+mod waits;
 
 use crate::lines::{are_quiet, entry_of, first_pending};
 use crate::making::{idle_processors, no_contexts, quiet_lines};
 use crate::processor::{Ended, Executor, Line, Processor, Standing};
 use brd_base::NoMemory;
+use brd_config::{FlagConfig, QueueConfig, SemaphoreConfig};
 use brd_exec::{Context, run};
 use brd_link::Links;
 use brd_mem::Ram;
+use brd_objects::{Flags, Queues, Semaphores};
 use brd_tasks::{Request, TaskId, TaskSetup, TaskView, Tasks};
+use brd_time::Timeouts;
 use std::alloc::Global;
 use std::marker::Model;
 
 /// How many bytes the console holds.
 const CONSOLE_SIZE: usize = 65_536;
 
-/// The last tick that is counted.
-const LAST_COUNT: u64 = 9_223_372_036_854_775_807;
-
-/// Tasks, processors, interrupt lines, the console and the time. Only `new` takes memory.
+/// Tasks, the objects that they wait for, the time, processors, interrupt lines and the console. Only `new` takes memory.
 #[derive(Drop)]
 pub struct Kernel {
     off: bool,
-    count: u64,
+    time: Timeouts,
     tasks: Tasks,
+    semaphores: Semaphores,
+    flags: Flags,
+    queues: Queues,
     processors: [Option<Processor>; 9],
     handler_contexts: Vec<Context>,
     lines: Vec<Line>,
@@ -75,8 +79,11 @@ impl Model for Kernel {
 
     ghost view = { λ k. record {
       off = k.off;
-      count = k.count;
+      time = k.time;
       tasks = k.tasks;
+      semaphores = k.semaphores;
+      flags = k.flags;
+      queues = k.queues;
       processors = k.processors;
       handler_contexts = k.handler_contexts.items;
       lines = k.lines.items;
@@ -86,8 +93,11 @@ impl Model for Kernel {
     ghost invariant = { λ k.
         IsKernel (record {
           off = k.off;
-          count = k.count;
+          time = k.time;
           tasks = k.tasks;
+          semaphores = k.semaphores;
+          flags = k.flags;
+          queues = k.queues;
           processors = k.processors;
           handler_contexts = k.handler_contexts.items;
           lines = k.lines.items;
@@ -98,16 +108,26 @@ impl Model for Kernel {
 }
 
 impl Kernel {
-    /// A board's kernel with this many processors and these tasks, none of them started. No line has a handler.
-    pub fn new(alloc: Global, processors: u8, tasks: &[TaskSetup]) -> Result<Kernel, NoMemory>
+    /// A board's kernel with this many processors, these tasks, none of them started, and these objects. No line has a handler.
+    pub fn new(
+        alloc: Global,
+        processors: u8,
+        tasks: &[TaskSetup],
+        semaphores: &[SemaphoreConfig],
+        flags: &[FlagConfig],
+        queues: &[QueueConfig],
+    ) -> Result<Kernel, NoMemory>
         requires few { processors ≤ 8 }
         requires setups { All IsSetup tasks.now }
-        ensures { IfOk result (λ kernel. kernel ≡ made_kernel processors tasks.now) }
+        ensures { IfOk result (λ kernel. kernel ≡ made_kernel processors tasks.now semaphores.now flags.now queues.now) }
     {
         Ok(Kernel {
             off: false,
-            count: 0,
+            time: Timeouts::new(alloc)?,
             tasks: Tasks::new(alloc, tasks)?,
+            semaphores: Semaphores::new(alloc, semaphores)?,
+            flags: Flags::new(alloc, flags)?,
+            queues: Queues::new(alloc, queues)?,
             processors: idle_processors(processors),
             handler_contexts: no_contexts(alloc)?,
             lines: quiet_lines(alloc)?,
@@ -163,9 +183,13 @@ impl Kernel {
 
     /// The task of a number as it stands.
     pub fn task(&self, id: TaskId) -> Option<TaskView>
-        ensures { result ≡ view_of self.now.tasks id }
+        ensures { result ≡ seen_at self.now id }
     {
-        self.tasks.view(id)
+        let view = self.tasks.view(id)?;
+        Some(TaskView {
+            due: self.time.due(id),
+            ..view
+        })
     }
 
     /// The bytes that were written to the console.
@@ -177,9 +201,9 @@ impl Kernel {
 
     /// How many ticks have passed.
     pub fn now(&self) -> u64
-        ensures { result ≡ self.now.count }
+        ensures { result ≡ self.now.time.count }
     {
-        self.count
+        self.time.now()
     }
 
     /// Whether the board is off.
@@ -296,7 +320,7 @@ impl Kernel {
         }
         let Some(id) = processor.running else { return };
         self.tasks.clear_activation(id);
-        self.tasks.end(id);
+        self.end(id);
         self.processors[cpu as usize] = Some(processor.unmarked());
     }
 
@@ -355,15 +379,15 @@ impl Kernel {
         Some(Ended { address, outcome })
     }
 
-    /// A tick passes. Answers whether it was counted; at the end of time it isn't, and nothing changes.
+    /// A tick passes, and the waits end whose tick has come. Answers whether it was counted; at the end of time it isn't, and nothing changes.
     pub fn tick(&mut self) -> bool
         ensures is { self.new ≡ ticked self.old }
-        ensures counted { result ≡ nat_lt self.old.count last_count }
+        ensures counted { result ≡ nat_lt self.old.time.count last_count }
     {
-        if self.count >= LAST_COUNT {
+        if !self.time.advance() {
             return false;
         }
-        self.count += 1;
+        self.end_waits();
         true
     }
 }

@@ -31,7 +31,7 @@ fn two(alloc: Global) -> Result<Kernel, NoMemory> {
     if !are_setups(&setups) {
         return Err(NoMemory);
     }
-    let mut kernel = Kernel::new(alloc, 2, &setups)?;
+    let mut kernel = Kernel::new(alloc, 2, &setups, &[], &[], &[])?;
     for id in [2, 1, 3] {
         kernel.start(id);
     }
@@ -143,14 +143,14 @@ fn calls(rt: HostRuntime) -> Result<(), Fail> {
         // Task 1 takes a wake-up that was queued, then sleeps.
         (2, Call::WupTsk(1), OK, 0),
         (2, Call::WupTsk(1), QOVR, 0),
-        (1, Call::SlpTsk, OK, 0),
-        (1, Call::SlpTsk, Reply::Silent, 1),
+        (1, Call::TslpTsk(0xffff_ffff), OK, 0),
+        (1, Call::TslpTsk(0xffff_ffff), Reply::Silent, 1),
         (1, Call::GetTid, Reply::Answer(0, Some(2)), 0),
         (1, Call::SusTsk(1), OK, 0),
         (1, Call::SusTsk(1), QOVR, 0),
         (2, Call::WupTsk(1), OK, 0),
         (2, Call::RsmTsk(1), OK, 1),
-        (1, Call::SlpTsk, Reply::Silent, 1),
+        (1, Call::TslpTsk(0xffff_ffff), Reply::Silent, 1),
         (2, Call::RelWai(1), OK, 1),
         (2, Call::WupTsk(0), OK, 0),
         (2, Call::CanWup(0), just(1), 0),

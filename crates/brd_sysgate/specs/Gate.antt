@@ -13,6 +13,7 @@ use Rattle.brd_kernel.specs.declared.call.Reply.TheVariants.{Answer, Silent}
 use Rattle.brd_kernel.specs.declared.processor.Processor.{Processor}
 use Rattle.brd_kernel.specs.declared.processor.Executor.{Executor}
 use Rattle.brd_kernel.specs.Answer.{code_of}
+use Rattle.brd_kernel.specs.Waits.{forever}
 use Rattle.brd_kernel.specs.Row.{Served}
 use Rattle.brd_kernel.specs.Services.{caller_on, serve_of}
 use Rattle.brd_kernel.specs.Kernel.{KernelState, processor_at, executor_on, context_of, with_context_of, context_on}
@@ -31,12 +32,23 @@ pub record Service : Type 0 where
 abbrev pub service : ℕ → Place → (List ℕ → Call) → Service
 service number place call = record { number = number; place = place; call = call }
 
--- the first argument, $a0, and the second, $a1
+-- the arguments: $a0, $a1, $a2, $a3
+
 abbrev pub a0 : List ℕ → ℕ
 a0 a = slice_index a 0
 
 abbrev pub a1 : List ℕ → ℕ
 a1 a = slice_index a 1
+
+abbrev pub a2 : List ℕ → ℕ
+a2 a = slice_index a 2
+
+abbrev pub a3 : List ℕ → ℕ
+a3 a = slice_index a 3
+
+-- the timeout of a call that only polls (TMO_POL); -1 (TMO_FEVR), which waits without an end, is `forever`
+abbrev pub poll : ℕ
+poll = 0
 
 -- the calls in the order of their numbers; every other number is E_RSFN
 abbrev pub table : List Service
@@ -49,12 +61,30 @@ table =
     ∷ service 6 place.Task (λ a. call.GetPri (a0 a))
     ∷ service 9 place.Task (λ a. call.GetPid)
     ∷ service 11 place.Task (λ a. call.GetTid)
-    ∷ service 16 place.Waiting (λ a. call.SlpTsk)
+    ∷ service 16 place.Waiting (λ a. call.TslpTsk forever)
+    ∷ service 17 place.Waiting (λ a. call.TslpTsk (a0 a))
     ∷ service 18 place.Task (λ a. call.WupTsk (a0 a))
     ∷ service 19 place.Task (λ a. call.CanWup (a0 a))
     ∷ service 20 place.Task (λ a. call.RelWai (a0 a))
     ∷ service 21 place.OnTask (λ a. call.SusTsk (a0 a))
     ∷ service 22 place.Task (λ a. call.RsmTsk (a0 a))
+    ∷ service 23 place.Waiting (λ a. call.DlyTsk (a0 a))
+    ∷ service 24 place.Task (λ a. call.SigSem (a0 a))
+    ∷ service 25 place.Waiting (λ a. call.TwaiSem (a0 a) forever)
+    ∷ service 26 place.Task (λ a. call.TwaiSem (a0 a) poll)
+    ∷ service 27 place.Waiting (λ a. call.TwaiSem (a0 a) (a1 a))
+    ∷ service 28 place.Task (λ a. call.SetFlg (a0 a) (a1 a))
+    ∷ service 29 place.Task (λ a. call.ClrFlg (a0 a) (a1 a))
+    ∷ service 30 place.Waiting (λ a. call.TwaiFlg (a0 a) (a1 a) (a2 a) forever)
+    ∷ service 31 place.Task (λ a. call.TwaiFlg (a0 a) (a1 a) (a2 a) poll)
+    ∷ service 32 place.Waiting (λ a. call.TwaiFlg (a0 a) (a1 a) (a2 a) (a3 a))
+    ∷ service 33 place.Waiting (λ a. call.TsndDtq (a0 a) (a1 a) forever)
+    ∷ service 34 place.Task (λ a. call.TsndDtq (a0 a) (a1 a) poll)
+    ∷ service 35 place.Waiting (λ a. call.TsndDtq (a0 a) (a1 a) (a2 a))
+    ∷ service 36 place.Task (λ a. call.FsndDtq (a0 a) (a1 a))
+    ∷ service 37 place.Waiting (λ a. call.TrcvDtq (a0 a) forever)
+    ∷ service 38 place.Task (λ a. call.TrcvDtq (a0 a) poll)
+    ∷ service 39 place.Waiting (λ a. call.TrcvDtq (a0 a) (a1 a))
     ∷ service 40 place.Task (λ a. call.PutChr (a0 a))
     ∷ service 41 place.LockedTask (λ a. call.ExtKer)
     ∷ []

@@ -9,6 +9,12 @@ use brd_isa::Register;
 use brd_kernel::{Call, Ercd, Reply};
 use brd_tasks::{TaskId, answer};
 
+/// The timeout of a call that waits without an end (TMO_FEVR, -1).
+const FOREVER: u32 = 0xffff_ffff;
+
+/// The timeout of a call that only polls (TMO_POL).
+const POLL: u32 = 0;
+
 /// Who makes a service call.
 #[derive(Clone, Copy, Debug, PartialEq, Eq)]
 pub enum Caller {
@@ -67,12 +73,30 @@ fn service(number: u32, a: [u32; 4]) -> Option<Asked>
         6 => (Place::Task, Call::GetPri(a[0])),
         9 => (Place::Task, Call::GetPid),
         11 => (Place::Task, Call::GetTid),
-        16 => (Place::Waiting, Call::SlpTsk),
+        16 => (Place::Waiting, Call::TslpTsk(FOREVER)),
+        17 => (Place::Waiting, Call::TslpTsk(a[0])),
         18 => (Place::Task, Call::WupTsk(a[0])),
         19 => (Place::Task, Call::CanWup(a[0])),
         20 => (Place::Task, Call::RelWai(a[0])),
         21 => (Place::OnTask, Call::SusTsk(a[0])),
         22 => (Place::Task, Call::RsmTsk(a[0])),
+        23 => (Place::Waiting, Call::DlyTsk(a[0])),
+        24 => (Place::Task, Call::SigSem(a[0])),
+        25 => (Place::Waiting, Call::TwaiSem(a[0], FOREVER)),
+        26 => (Place::Task, Call::TwaiSem(a[0], POLL)),
+        27 => (Place::Waiting, Call::TwaiSem(a[0], a[1])),
+        28 => (Place::Task, Call::SetFlg(a[0], a[1])),
+        29 => (Place::Task, Call::ClrFlg(a[0], a[1])),
+        30 => (Place::Waiting, Call::TwaiFlg(a[0], a[1], a[2], FOREVER)),
+        31 => (Place::Task, Call::TwaiFlg(a[0], a[1], a[2], POLL)),
+        32 => (Place::Waiting, Call::TwaiFlg(a[0], a[1], a[2], a[3])),
+        33 => (Place::Waiting, Call::TsndDtq(a[0], a[1], FOREVER)),
+        34 => (Place::Task, Call::TsndDtq(a[0], a[1], POLL)),
+        35 => (Place::Waiting, Call::TsndDtq(a[0], a[1], a[2])),
+        36 => (Place::Task, Call::FsndDtq(a[0], a[1])),
+        37 => (Place::Waiting, Call::TrcvDtq(a[0], FOREVER)),
+        38 => (Place::Task, Call::TrcvDtq(a[0], POLL)),
+        39 => (Place::Waiting, Call::TrcvDtq(a[0], a[1])),
         40 => (Place::Task, Call::PutChr(a[0])),
         41 => (Place::LockedTask, Call::ExtKer),
         _ => return None,

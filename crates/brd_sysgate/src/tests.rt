@@ -44,12 +44,30 @@ fn numbers(rt: HostRuntime) {
         (6, Call::GetPri(11)),
         (9, Call::GetPid),
         (11, Call::GetTid),
-        (16, Call::SlpTsk),
+        (16, Call::TslpTsk(0xffff_ffff)),
+        (17, Call::TslpTsk(11)),
         (18, Call::WupTsk(11)),
         (19, Call::CanWup(11)),
         (20, Call::RelWai(11)),
         (21, Call::SusTsk(11)),
         (22, Call::RsmTsk(11)),
+        (23, Call::DlyTsk(11)),
+        (24, Call::SigSem(11)),
+        (25, Call::TwaiSem(11, 0xffff_ffff)),
+        (26, Call::TwaiSem(11, 0)),
+        (27, Call::TwaiSem(11, 22)),
+        (28, Call::SetFlg(11, 22)),
+        (29, Call::ClrFlg(11, 22)),
+        (30, Call::TwaiFlg(11, 22, 33, 0xffff_ffff)),
+        (31, Call::TwaiFlg(11, 22, 33, 0)),
+        (32, Call::TwaiFlg(11, 22, 33, 44)),
+        (33, Call::TsndDtq(11, 22, 0xffff_ffff)),
+        (34, Call::TsndDtq(11, 22, 0)),
+        (35, Call::TsndDtq(11, 22, 33)),
+        (36, Call::FsndDtq(11, 22)),
+        (37, Call::TrcvDtq(11, 0xffff_ffff)),
+        (38, Call::TrcvDtq(11, 0)),
+        (39, Call::TrcvDtq(11, 22)),
         (40, Call::PutChr(11)),
         (41, Call::ExtKer),
     ] {
@@ -60,7 +78,7 @@ fn numbers(rt: HostRuntime) {
             "{number}"
         );
     }
-    for number in [0, 23, 42, 60, 99, 0xffff_ffff] {
+    for number in [0, 7, 42, 60, 99, 0xffff_ffff] {
         for caller in [TASK, LOCKED, DISABLED, Caller::Handler] {
             assert_eq!(rt;
                 read(&asks(number, 1, 1), caller),
@@ -90,6 +108,10 @@ fn places(rt: HostRuntime) {
     }
     for (number, named, disabled) in [
         (16, 0, false),
+        (27, 1, false),
+        (26, 1, true),
+        (31, 1, true),
+        (39, 1, false),
         (21, 0, false),
         (21, 7, false),
         (21, 8, true),

@@ -1,6 +1,6 @@
 //! The service calls, each as its row of the table says.
 
-ghost use Rattle.std.specs.Prelude.{◌≡◌, false, true, IfErr, IfOk};
+ghost use Rattle.std.specs.Prelude.{◌≡◌, ◌<◌, false, true, IfErr, IfOk};
 ghost use Rattle.brd_tasks.specs.Tasks.{task_at};
 ghost use Rattle.brd_kernel.specs.declared.call.Ercd.TheVariants.{Id, Noexs};
 ghost use Rattle.brd_kernel.specs.Row.{Serves, served, or_fault};
@@ -16,12 +16,16 @@ ghost use Rattle.brd_kernel.specs.Services.{
   serve_of,
 };
 
+use super::waits::is_bad_timeout;
 use super::{CONSOLE_SIZE, Kernel, is_same_task};
 use crate::call::{Call, Ercd, Reply};
 use brd_tasks::{Request, Status, Task, TaskId, WaitReason};
 
 /// E_OK.
-const OK: Reply = Reply::Answer(0, None);
+pub(super) const OK: Reply = Reply::Answer(0, None);
+
+/// How long dly_tsk may wait at most.
+const LONGEST_DELAY: u32 = 0x7fff_ffff;
 
 impl Kernel {
     /// Does a service call that comes from a processor.
@@ -37,7 +41,8 @@ impl Kernel {
 
     /// The number of the running task of a processor; 0 where none runs.
     pub fn caller(&self, cpu: u8) -> TaskId
-        ensures { result ≡ caller_on self.now cpu }
+        ensures is { result ≡ caller_on self.now cpu }
+        ensures small { result < 256 }
     {
         match self.running(cpu) {
             Some(id) => id,
@@ -47,6 +52,7 @@ impl Kernel {
 
     /// Does a service call, or says why not.
     fn serve_by(&mut self, cpu: u8, caller: TaskId, call: Call) -> Result<Reply, Ercd>
+        requires { caller < 256 }
         ensures { Serves self.old self.new result (serve_by self.old cpu caller call) }
     {
         match call {
@@ -58,12 +64,23 @@ impl Kernel {
             Call::GetPri(id) => self.get_pri(named(id, caller)),
             Call::GetPid => Ok(Reply::Answer(0, Some(cpu as u32))),
             Call::GetTid => Ok(Reply::Answer(0, Some(caller as u32))),
-            Call::SlpTsk => self.slp_tsk(caller),
+            Call::TslpTsk(timeout) => self.tslp_tsk(caller, timeout),
             Call::WupTsk(id) => self.wup_tsk(named(id, caller)),
             Call::CanWup(id) => self.can_wup(named(id, caller)),
             Call::RelWai(id) => self.rel_wai(id),
             Call::SusTsk(id) => self.sus_tsk(cpu, named(id, caller)),
             Call::RsmTsk(id) => self.rsm_tsk(id),
+            Call::DlyTsk(time) => self.dly_tsk(caller, time),
+            Call::SigSem(id) => self.sig_sem(id),
+            Call::TwaiSem(id, timeout) => self.twai_sem(caller, id, timeout),
+            Call::SetFlg(id, bits) => self.set_flg(id, bits),
+            Call::ClrFlg(id, bits) => self.clr_flg(id, bits),
+            Call::TwaiFlg(id, bits, mode, timeout) => self.twai_flg(
+                caller, id, bits, mode, timeout,
+            ),
+            Call::TsndDtq(id, datum, timeout) => self.tsnd_dtq(caller, id, datum, timeout),
+            Call::FsndDtq(id, datum) => self.fsnd_dtq(id, datum),
+            Call::TrcvDtq(id, timeout) => self.trcv_dtq(caller, id, timeout),
             Call::PutChr(word) => self.put_chr(word),
             Call::ExtKer => self.ext_ker(),
         }
@@ -94,10 +111,11 @@ impl Kernel {
     }
 
     fn ext_tsk(&mut self, cpu: u8, caller: TaskId) -> Result<Reply, Ercd>
+        requires { caller < 256 }
         ensures { Serves self.old self.new result (served (table.ext_tsk self.old cpu caller)) }
     {
         let _ = self.named_task(caller)?;
-        self.tasks.end(caller);
+        self.end(caller);
         self.unmark(cpu);
         Ok(Reply::Silent)
     }
@@ -113,7 +131,7 @@ impl Kernel {
         if task.status.is_dormant() || self.is_held_elsewhere(cpu, id, task) {
             return Err(Ercd::Obj);
         }
-        self.tasks.end(id);
+        self.end(id);
         Ok(OK)
     }
 
@@ -128,8 +146,9 @@ impl Kernel {
         if task.status.is_dormant() {
             return Err(Ercd::Obj);
         }
-        self.tasks
-            .set_priority(id, priority_or_initial(priority as u8, task));
+        let priority = priority_or_initial(priority as u8, task);
+        self.tasks.set_priority(id, priority);
+        self.reorder(id, priority, task.status.waiting());
         Ok(OK)
     }
 
@@ -144,15 +163,40 @@ impl Kernel {
         Ok(Reply::Answer(0, Some(task.priority as u32)))
     }
 
-    fn slp_tsk(&mut self, caller: TaskId) -> Result<Reply, Ercd>
-        ensures { Serves self.old self.new result (served (table.slp_tsk self.old caller)) }
+    fn tslp_tsk(&mut self, caller: TaskId, timeout: u32) -> Result<Reply, Ercd>
+        requires { caller < 256 }
+        ensures { Serves self.old self.new result (served (table.tslp_tsk self.old caller timeout)) }
     {
+        if is_bad_timeout(timeout) {
+            return Err(Ercd::Par);
+        }
         let task = self.named_task(caller)?;
         if task.wakeup {
             self.tasks.set_wakeup(caller, false);
             return Ok(OK);
         }
-        self.tasks.block(caller, WaitReason::Sleep);
+        if timeout == 0 {
+            return Err(Ercd::Tmout);
+        }
+        if self.can_wait(caller) {
+            let due = self.due_by(timeout);
+            self.block(caller, WaitReason::Sleep, due);
+        }
+        Ok(Reply::Silent)
+    }
+
+    fn dly_tsk(&mut self, caller: TaskId, time: u32) -> Result<Reply, Ercd>
+        requires { caller < 256 }
+        ensures { Serves self.old self.new result (served (table.dly_tsk self.old caller time)) }
+    {
+        if time > LONGEST_DELAY {
+            return Err(Ercd::Par);
+        }
+        let _ = self.named_task(caller)?;
+        if self.can_wait(caller) {
+            let due = self.due_after(time);
+            self.block(caller, WaitReason::Delay, Some(due));
+        }
         Ok(Reply::Silent)
     }
 
@@ -165,7 +209,7 @@ impl Kernel {
             return Err(Ercd::Obj);
         }
         if is_asleep(task.status) {
-            self.tasks.release(id, 0, None);
+            self.release(id, 0, None);
             return Ok(OK);
         }
         if task.wakeup {
@@ -198,7 +242,7 @@ impl Kernel {
         if !task.status.is_waiting() {
             return Err(Ercd::Obj);
         }
-        self.tasks.release(id, Ercd::Rlwai.word(), None);
+        self.break_off(id, Ercd::Rlwai.word());
         Ok(OK)
     }
 
@@ -273,7 +317,8 @@ impl Kernel {
 
 /// An ID from 1 to 255, or E_ID.
 #[tactic(auto, unfolding(crate::specs::Services::is_no_id))]
-fn id_in_range(id: u32) -> Result<TaskId, Ercd>
+pub(super) fn id_in_range(id: u32) -> Result<TaskId, Ercd>
+    ensures small { IfOk result (λ n. n < 256) }
     ensures ok { IfOk result (λ n. (n ≡ id) × (is_no_id id ≡ false)) }
     ensures err { IfErr result (λ code. (code ≡ Id) × (is_no_id id ≡ true)) }
 {
