@@ -70,13 +70,13 @@ loaded-words (word ∷ words) =
 
 -- the board over a memory
 over : Result Memory BootFault → Result BoardState BootFault
-over memory = memory >>= (λ m. Ok (booted_board (booted_kernel 1 (words_setup ∷ []) (words_task ∷ [])) m))
+over memory = memory >>= (λ m. Ok (booted_board (booted_kernel (words_setup ∷ []) words_config) m))
 
 boot-over : (words : List ℕ) → boot (image_of_words words) words_config ≡ over (loaded words_ram (segments_of_words words))
 unfolding boot over setups_from placed_task region_of handlers_tested
 boot-over words = refl
 
-over-words : (fit : Bool) (memory : Memory) → over (if fit then Ok memory else Err Outside) ≡ (if fit then Ok (booted_board (booted_kernel 1 (words_setup ∷ []) (words_task ∷ [])) memory) else Err Outside)
+over-words : (fit : Bool) (memory : Memory) → over (if fit then Ok memory else Err Outside) ≡ (if fit then Ok (booted_board (booted_kernel (words_setup ∷ []) words_config) memory) else Err Outside)
 unfolding over
 over-words true memory = refl
 over-words false memory = refl

@@ -17,12 +17,29 @@ use Rattle.brd_kernel.specs.declared.processor.Executor.TheVariants as executor
 use Rattle.brd_kernel.specs.declared.call.Call.{Call}
 use Rattle.brd_kernel.specs.declared.call.Call.TheVariants as call
 use Rattle.brd_kernel.specs.declared.call.Ercd.{Ercd}
-use Rattle.brd_kernel.specs.declared.call.Ercd.TheVariants.{Id, Par, Iluse, Obj, Qovr}
-use Rattle.brd_kernel.specs.Kernel.{KernelState, processor_at, running_in, running_on, unmarked, executor_on, context_of, with_context_of, context_on, handles, accepted_line, faulted_task, faulted_in, deliverable, line_at, counted, with_pending, last_count, Executed, executed_in, executed}
+use Rattle.brd_kernel.specs.declared.call.Ercd.TheVariants.{Id, Par, Iluse, Obj, Qovr, Rlwai, Tmout}
+use Rattle.brd_kernel.specs.Kernel.{KernelState, with_tasks, processor_at, running_in, running_on, unmarked, executor_on, context_of, with_context_of, context_on, handles, accepted_line, deliverable, line_at, with_pending, Executed, executed_in, executed}
 use Rattle.brd_kernel.specs.Dispatch.{dispatched, is_same_task, has_changed, changed_processors}
 use Rattle.brd_kernel.specs.Row.{Row, Served, refused, served_object, served, or_refused}
 use Rattle.brd_kernel.specs.Services as table
-use Rattle.brd_kernel.specs.Services.{named, unmarked_on, serve_by, caller_on}
+use Rattle.brd_tasks.specs.declared.status.WaitReason.{WaitReason}
+use Rattle.brd_tasks.specs.declared.status.WaitReason.TheVariants as reason
+use Rattle.brd_tasks.specs.Status.{waiting_of, blocked}
+use Rattle.brd_tasks.specs.Tasks.{task_at, through, changed, with_priority, noted, without_activation}
+use Rattle.brd_time.specs.Time.{with_due, last_count, advanced as time_advanced, due_from}
+use Rattle.brd_objects.specs.declared.semaphore.Semaphore.{Semaphore}
+use Rattle.brd_objects.specs.declared.flag.Flag.{Flag}
+use Rattle.brd_objects.specs.declared.want.Want.{Want}
+use Rattle.brd_objects.specs.declared.sent.Sent.{Sent}
+use Rattle.brd_objects.specs.declared.sent.Sent.TheVariants.{Handed, Stored, Full}
+use Rattle.brd_objects.specs.declared.sent.Received.{Received}
+use Rattle.brd_objects.specs.Table.{object_at, object_changed}
+use Rattle.brd_objects.specs.Semaphores.{returned, first_waiter, has_one, semaphore_awaited}
+use Rattle.brd_objects.specs.Flags.{joined, pattern_for, flag_awaited, all_released, with_all_released}
+use Rattle.brd_objects.specs.DataQueues.{DataQueueState, outcome, forced, forced_outcome, received, receipt, awaited_by_sender, awaited_by_receiver}
+use Rattle.brd_kernel.specs.Answer.{e_ok, code_of}
+use Rattle.brd_kernel.specs.Waits.{due_after, due_by, can_wait, released_in, reason_of, unlisted_from, broken_off, ended_in, reordered_in, answer_by, timed_out, all_timed_out, ticked_on, faulted_task, faulted_in}
+use Rattle.brd_kernel.specs.Services.{named, unmarked_on, serve_by, caller_on, or_waits, callers_priority, with_released, with_all_released_in, with_satisfied_of, handed_over, flag_got, queue_sent, queue_received}
 use Rattle.brd_sysgate.specs.Gate.{changed_in, with_changed_context, served_call, called_in, called, caller_of, read_of, written}
 use Rattle.brd_sysgate.specs.declared.gate.Caller.{Caller}
 use Rattle.brd_board.specs.declared.event.Event.{Event}
@@ -41,6 +58,66 @@ runners-set (x ∷ ps) zero zero p q is same = same ∙ ap running_in (sym is)
 runners-set (x ∷ ps) zero (suc at) p q is same = refl
 runners-set (x ∷ ps) (suc cpu) zero p q is same = refl
 runners-set (x ∷ ps) (suc cpu) (suc at) p q is same = runners-set ps cpu at p q is same
+
+-- Waits keep the processors.
+
+abbrev Same : KernelState → KernelState → Type 0
+Same new old = new.processors ≡ old.processors
+
+runs : (new old : KernelState) → Same new old → KeepsRunners new old
+runs new old same = λ at. ap (λ ps. running_in (slice_index_or ps at None)) same
+
+keeps-by : {new old : List (Option Processor)} → new ≡ old → (at : ℕ) → running_in (slice_index_or new at None) ≡ running_in (slice_index_or old at None)
+keeps-by same at = ap (λ ps. running_in (slice_index_or ps at None)) same
+
+same-unlisted : (k : KernelState) (id : ℕ) (why : Option WaitReason) → Same (unlisted_from k id why) k
+same-unlisted k id None = refl
+same-unlisted k id (Some reason.Sleep) = refl
+same-unlisted k id (Some reason.Delay) = refl
+same-unlisted k id (Some (reason.Semaphore object)) = refl
+same-unlisted k id (Some (reason.Flag object)) = refl
+same-unlisted k id (Some (reason.Send object)) = refl
+same-unlisted k id (Some (reason.Receive object)) = refl
+
+same-reordered : (k : KernelState) (id priority : ℕ) (why : Option WaitReason) → Same (reordered_in k id priority why) k
+same-reordered k id priority None = refl
+same-reordered k id priority (Some reason.Sleep) = refl
+same-reordered k id priority (Some reason.Delay) = refl
+same-reordered k id priority (Some (reason.Semaphore object)) = refl
+same-reordered k id priority (Some (reason.Flag object)) = refl
+same-reordered k id priority (Some (reason.Send object)) = refl
+same-reordered k id priority (Some (reason.Receive object)) = refl
+
+same-ended : (k : KernelState) (id : ℕ) → Same (ended_in k id) k
+same-ended k id = same-unlisted k id (reason_of k id)
+
+same-broken : (k : KernelState) (id answer : ℕ) → Same (broken_off k id answer) k
+same-broken k id answer = same-unlisted k id (reason_of k id)
+
+same-timed : (k : KernelState) (ids : List ℕ) → Same (all_timed_out k ids) k
+same-timed k [] = refl
+same-timed k (id ∷ ids) = same-timed (timed_out k id) ids ∙ same-broken k id (answer_by (reason_of k id))
+
+same-all_released : (k : KernelState) (ids : List ℕ) (second : ℕ) → Same (with_all_released_in k ids second) k
+same-all_released k [] second = refl
+same-all_released k (id ∷ ids) second = same-all_released (released_in k id e_ok (Some second)) ids second
+
+same-satisfied : (k : KernelState) (id : ℕ) (found : Option Flag) → Same (with_satisfied_of k id found) k
+same-satisfied k id None = refl
+same-satisfied k id (Some f) = same-all_released (record k { flags = object_changed with_all_released k.flags id }) (all_released f) f.pattern
+
+same-released : (k : KernelState) (id : Option ℕ) → Same (with_released k id) k
+same-released k None = refl
+same-released k (Some id) = refl
+
+same-handed : (k : KernelState) (datum : ℕ) (what : Sent) → Same (handed_over k datum what) k
+same-handed k datum (Handed id) = refl
+same-handed k datum Stored = refl
+same-handed k datum Full = refl
+
+same-wait-if : (test : Bool) (one k : KernelState) → Same one k → Same (if test then one else k) k
+same-wait-if true one k same = same
+same-wait-if false one k same = refl
 
 -- Service calls.
 
@@ -68,21 +145,68 @@ keeps-if : (test : Bool) (old : KernelState) (one other : Result Served Ercd) �
 keeps-if true old one other first second = first
 keeps-if false old one other first second = second
 
+keeps-waits : (k : KernelState) (caller : ℕ) (why : WaitReason) (timeout : ℕ) (entered : KernelState) → Same entered k → Keeps k (or_waits k caller why timeout entered)
+keeps-waits k caller why timeout entered same =
+    keeps-if (timeout == 0) k (Err Tmout) _ tt (keeps-by (same-wait-if (can_wait (task_at k.tasks caller))
+    (record entered { tasks = through (blocked why) k.tasks caller; time = with_due k.time caller (due_by k timeout) }) k same))
+
+keeps-got : (k : KernelState) (caller id : ℕ) (want : Want) (timeout : ℕ) (got : Option ℕ) → Keeps k (flag_got k caller id want timeout got)
+keeps-got k caller id want timeout (Some pattern) = λ at. refl
+keeps-got k caller id want timeout None =
+    keeps-waits k caller (reason.Flag id) timeout (record k { flags = object_changed (flag_awaited caller (callers_priority k caller) want) k.flags id }) refl
+
+keeps-sent : (k : KernelState) (caller id datum timeout : ℕ) (what : Sent) → Keeps k (queue_sent k caller id datum timeout what)
+keeps-sent k caller id datum timeout (Handed task) = λ at. refl
+keeps-sent k caller id datum timeout Stored = λ at. refl
+keeps-sent k caller id datum timeout Full =
+    keeps-waits k caller (reason.Send id) timeout (record k { queues = object_changed (awaited_by_sender caller (callers_priority k caller) datum) k.queues id }) refl
+
+keeps-received : (k : KernelState) (caller id timeout : ℕ) (it : Option Received) → Keeps k (queue_received k caller id timeout it)
+keeps-received k caller id timeout (Some it) =
+    let taken : KernelState = record k { queues = object_changed received k.queues id } in
+    runs (with_released taken it.sender) k (same-released taken it.sender)
+keeps-received k caller id timeout None =
+    keeps-waits k caller (reason.Receive id) timeout (record k { queues = object_changed (awaited_by_receiver caller (callers_priority k caller)) k.queues id }) refl
+
+keeps-exit : (k : KernelState) (cpu caller : ℕ) → KeepsRunners (unmarked_on (ended_in k caller) cpu (processor_at k cpu)) k
+keeps-exit k cpu caller =
+    let out : KernelState = ended_in k caller in
+    λ at. keeps-unmarked out cpu (processor_at k cpu) (ap (λ ps. slice_index_or ps cpu None) (same-ended k caller)) at ∙ runs out k (same-ended k caller) at
+
 keeps-serve : (k : KernelState) (cpu caller : ℕ) (c : Call) → Keeps k (serve_by k cpu caller c)
 keeps-serve k cpu caller (call.ActTsk t) = keeps-row k (table.act_tsk k (named caller t)) (λ task at. refl)
 keeps-serve k cpu caller (call.CanAct t) = keeps-row k (table.can_act k (named caller t)) (λ task at. refl)
-keeps-serve k cpu caller call.ExtTsk = keeps-row k (table.ext_tsk k cpu caller) (λ task. keeps-unmarked _ cpu (processor_at k cpu) refl)
-keeps-serve k cpu caller (call.TerTsk t) = keeps-row k (table.ter_tsk k cpu caller t) (λ task at. refl)
-keeps-serve k cpu caller (call.ChgPri t priority) = keeps-row k (table.chg_pri k (named caller t) priority) (λ task at. refl)
+keeps-serve k cpu caller call.ExtTsk = keeps-row k (table.ext_tsk k cpu caller) (λ task. keeps-exit k cpu caller)
+keeps-serve k cpu caller (call.TerTsk t) = keeps-row k (table.ter_tsk k cpu caller t) (λ task. keeps-by (same-ended k t))
+keeps-serve k cpu caller (call.ChgPri t priority) = keeps-row k (table.chg_pri k (named caller t) priority)
+    (λ (task : Task). keeps-by (same-reordered (with_tasks k (changed (with_priority (table.priority_or_initial priority task)) k.tasks (named caller t))) (named caller t) (table.priority_or_initial priority task) (waiting_of task.status)))
 keeps-serve k cpu caller (call.GetPri t) = keeps-row k (table.get_pri k (named caller t)) (λ task at. refl)
 keeps-serve k cpu caller call.GetPid = keeps-row k (table.get_pid k cpu) (λ x at. refl)
 keeps-serve k cpu caller call.GetTid = keeps-row k (table.get_tid k caller) (λ x at. refl)
-keeps-serve k cpu caller call.SlpTsk = keeps-row k (table.slp_tsk k caller) (λ (task : Task). keeps-if task.wakeup k _ _ (λ at. refl) (λ at. refl))
+keeps-serve k cpu caller (call.TslpTsk timeout) = keeps-row k (table.tslp_tsk k caller timeout) (λ (task : Task). keeps-if task.wakeup k _ _ (λ at. refl) (keeps-waits k caller reason.Sleep timeout k refl))
 keeps-serve k cpu caller (call.WupTsk t) = keeps-row k (table.wup_tsk k (named caller t)) (λ (task : Task). keeps-if (table.is_asleep task.status) k _ _ (λ at. refl) (λ at. refl))
 keeps-serve k cpu caller (call.CanWup t) = keeps-row k (table.can_wup k (named caller t)) (λ task at. refl)
-keeps-serve k cpu caller (call.RelWai t) = keeps-row k (table.rel_wai k t) (λ task at. refl)
+keeps-serve k cpu caller (call.RelWai t) = keeps-row k (table.rel_wai k t) (λ task. keeps-by (same-broken k t (code_of Rlwai)))
 keeps-serve k cpu caller (call.SusTsk t) = keeps-row k (table.sus_tsk k cpu (named caller t)) (λ task at. refl)
 keeps-serve k cpu caller (call.RsmTsk t) = keeps-row k (table.rsm_tsk k t) (λ task at. refl)
+keeps-serve k cpu caller (call.DlyTsk time) = keeps-row k (table.dly_tsk k caller time)
+    (λ task. keeps-by (same-wait-if (can_wait (task_at k.tasks caller)) (record k { tasks = through (blocked reason.Delay) k.tasks caller; time = with_due k.time caller (Some (due_after k time)) }) k refl))
+keeps-serve k cpu caller (call.SigSem id) = keeps-row k (table.sig_sem k id)
+    (λ (s : Semaphore). keeps-by (same-released (record k { semaphores = object_changed returned k.semaphores id }) (first_waiter s)))
+keeps-serve k cpu caller (call.TwaiSem id timeout) = keeps-row k (table.twai_sem k caller id timeout)
+    (λ (s : Semaphore). keeps-if (has_one s) k _ _ (λ at. refl)
+    (keeps-waits k caller (reason.Semaphore id) timeout (record k { semaphores = object_changed (semaphore_awaited caller (callers_priority k caller)) k.semaphores id }) refl))
+keeps-serve k cpu caller (call.SetFlg id bits) = keeps-row k (table.set_flg k id bits)
+    (λ f. let set : KernelState = record k { flags = object_changed (joined bits) k.flags id } in keeps-by (same-satisfied set id (object_at set.flags id)))
+keeps-serve k cpu caller (call.ClrFlg id bits) = keeps-row k (table.clr_flg k id bits) (λ f at. refl)
+keeps-serve k cpu caller (call.TwaiFlg id bits mode timeout) = keeps-row k (table.twai_flg k caller id bits mode timeout)
+    (λ (f : Flag). keeps-got k caller id (table.want_of bits mode) timeout (pattern_for (table.want_of bits mode) f))
+keeps-serve k cpu caller (call.TsndDtq id datum timeout) = keeps-row k (table.tsnd_dtq k caller id datum timeout)
+    (λ (q : DataQueueState). keeps-sent k caller id datum timeout (outcome q))
+keeps-serve k cpu caller (call.FsndDtq id datum) = keeps-row k (table.fsnd_dtq k id datum)
+    (λ (q : DataQueueState). keeps-by (same-handed (record k { queues = object_changed (forced datum) k.queues id }) datum (forced_outcome q)))
+keeps-serve k cpu caller (call.TrcvDtq id timeout) = keeps-row k (table.trcv_dtq k caller id timeout)
+    (λ (q : DataQueueState). keeps-received k caller id timeout (receipt q))
 keeps-serve k cpu caller (call.PutChr word) = keeps-row k (table.put_chr k word) (λ x at. refl)
 keeps-serve k cpu caller call.ExtKer = keeps-row k (table.ext_ker k) (λ x at. refl)
 
@@ -122,7 +246,11 @@ keeps-handles k cpu line (Some p) is = λ at. runners-set k.processors cpu at p 
 
 keeps-faulted_task : (k : KernelState) (cpu : ℕ) (p : Processor) (running : Option ℕ) → processor_at k cpu ≡ Some p → KeepsRunners (faulted_task k cpu p running) k
 keeps-faulted_task k cpu p None is = λ at. refl
-keeps-faulted_task k cpu p (Some id) is = λ at. runners-set k.processors cpu at p (unmarked p) is refl
+keeps-faulted_task k cpu p (Some id) is =
+    let noted-one : KernelState = with_tasks k (noted without_activation k.tasks id) in
+    let out : KernelState = ended_in noted-one id in
+    let same : Same out k = same-ended noted-one id in
+    λ at. runners-set out.processors cpu at p (unmarked p) (ap (λ ps. slice_index_or ps cpu None) same ∙ is) refl ∙ runs out k same at
 
 keeps-runners-if : (test : Bool) (old one other : KernelState) → KeepsRunners one old → KeepsRunners other old → KeepsRunners (if test then one else other) old
 keeps-runners-if true old one other first second = first
@@ -199,7 +327,9 @@ ends-stepped b cpu (Some p) = ends-either p.stopped b _ _ (ends-reported b b (λ
 
 ends-on : (b : BoardState) (event : Event) → EndsLinks b (happens_on b event).board
 ends-on b (Step cpu) = ends-stepped b cpu (processor_at b.kernel cpu)
-ends-on b Tick = ends-either (nat_lt b.kernel.count last_count) b _ _ (ends-dispatched b (record b { kernel = counted b.kernel }) (λ at. refl)) (ends-reported b b (λ at. refl))
+ends-on b Tick = ends-either (nat_lt b.kernel.time.count last_count) b _ _
+    (ends-dispatched b (record b { kernel = ticked_on b.kernel (time_advanced b.kernel.time) })
+    (runs (ticked_on b.kernel (time_advanced b.kernel.time)) b.kernel (same-timed (record b.kernel { time = time_advanced b.kernel.time }) (due_from (time_advanced b.kernel.time) 0)))) (ends-reported b b (λ at. refl))
 ends-on b (Raise line) = ends-either (is_some (line_at b.kernel line).handler) b _ _ (ends-reported b (record b { kernel = with_pending b.kernel line }) (λ at. refl)) (ends-reported b b (λ at. refl))
 
 pub change-ends-links : (b : BoardState) (event : Event) → EndsLinks b (happens b event).board

@@ -9,7 +9,7 @@ use Rattle.brd_tasks.specs.Tasks.{top_of}
 use Rattle.brd_kernel.specs.declared.processor.Processor.{Processor}
 use Rattle.brd_kernel.specs.declared.processor.Executor.{Executor}
 use Rattle.brd_kernel.specs.declared.processor.Executor.TheVariants as executor
-use Rattle.brd_kernel.specs.Kernel.{KernelState, processor_at, executor_on, with_context_of, deliverable, line_at, last_count, Executed, executed_in, executed}
+use Rattle.brd_kernel.specs.Kernel.{KernelState, processor_at, executor_on, with_context_of, deliverable, line_at, Executed, executed_in, executed}
 use Rattle.brd_kernel.specs.Dispatch.{IsSettled}
 use Rattle.brd_kernel.proofs.DispatchLemmas.{dispatch-settles}
 use Rattle.brd_board.specs.declared.event.Event.{Event}
@@ -24,7 +24,9 @@ use Rattle.brd_tasks.specs.declared.task.TaskSetup.{TaskSetup}
 use Rattle.brd_board.specs.Setup.{setups_of, handlers_tested}
 use Rattle.brd_board.specs.Boot.{loaded, booted_kernel, booted_board, boot}
 use Rattle.brd_tasks.specs.Tasks.{made}
-use Rattle.brd_kernel.specs.Kernel.{with_tasks, accepted_line, counted}
+use Rattle.brd_time.specs.Time.{last_count, advanced}
+use Rattle.brd_kernel.specs.Kernel.{with_tasks, accepted_line}
+use Rattle.brd_kernel.specs.Waits.{ticked_on}
 use Rattle.brd_kernel.specs.Making.{made_kernel}
 use Rattle.brd_board.specs.Setup.{all_started}
 use Rattle.brd_board.specs.Board.{with_call, with_fault, BoardState, Happened, happens, happens_on, after, stepped_in, accepts_or_executes, executes_in, instruction_done, with_executed}
@@ -77,7 +79,7 @@ step-settled b cpu (Some p) settled = either p.stopped _ _ settled (accepts-sett
 
 on-settled : (b : BoardState) (event : Event) → IsSettled b.kernel → IsSettled (happens_on b event).board.kernel
 on-settled b (Step cpu) settled = step-settled b cpu (processor_at b.kernel cpu) settled
-on-settled b Tick settled = either (nat_lt b.kernel.count last_count) _ _ (dispatch-settles (counted b.kernel)) settled
+on-settled b Tick settled = either (nat_lt b.kernel.time.count last_count) _ _ (dispatch-settles (ticked_on b.kernel (advanced b.kernel.time))) settled
 on-settled b (Raise line) settled = either (is_some (line_at b.kernel line).handler) _ _ settled settled
 
 pub happens-settled : (b : BoardState) (event : Event) → IsSettled b.kernel → IsSettled (happens b event).board.kernel
@@ -94,11 +96,11 @@ IsBooted (Ok b) = IsSettled b.kernel
 IsBooted (Err fault) = Unit {0}
 
 booted-by : (config : Configuration) (memory : Result Memory BootFault) (setups : Result (List TaskSetup) BootFault) (starts : Result (Unit {0}) BootFault) →
-    IsBooted (memory >>= (λ m. setups >>= (λ s. starts >>= (λ t. Ok (booted_board (booted_kernel config.processors s config.tasks) m)))))
+    IsBooted (memory >>= (λ m. setups >>= (λ s. starts >>= (λ t. Ok (booted_board (booted_kernel s config) m)))))
 booted-by config (Err fault) setups starts = tt
 booted-by config (Ok m) (Err fault) starts = tt
 booted-by config (Ok m) (Ok s) (Err fault) = tt
-booted-by config (Ok m) (Ok s) (Ok t) = dispatch-settles (with_tasks (made_kernel config.processors s) (all_started (made s) config.tasks))
+booted-by config (Ok m) (Ok s) (Ok t) = dispatch-settles (with_tasks (made_kernel config.processors s config.semaphores config.flags config.queues) (all_started (made s) config.tasks))
 
 booted : (image : Image) (config : Configuration) → IsBooted (boot image config)
 unfolding boot

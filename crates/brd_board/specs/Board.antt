@@ -6,10 +6,11 @@ use Rattle.brd_exec.specs.State.{State}
 use Rattle.brd_exec.specs.declared.outcome.Outcome.{Outcome}
 use Rattle.brd_exec.specs.declared.outcome.Outcome.TheVariants.{Done, Syscall, Exception}
 use Rattle.brd_tasks.specs.declared.task.TaskView.{TaskView}
-use Rattle.brd_tasks.specs.Tasks.{view_of}
+use Rattle.brd_time.specs.Time.{last_count, advanced}
 use Rattle.brd_kernel.specs.declared.processor.Processor.{Processor}
 use Rattle.brd_kernel.specs.declared.processor.Standing.{Standing}
-use Rattle.brd_kernel.specs.Kernel.{KernelState, processor_at, context_on, deliverable, accepted_line, with_pending, line_at, ended_by_fault, last_count, counted, standing_on, Executed, executed}
+use Rattle.brd_kernel.specs.Kernel.{KernelState, processor_at, context_on, deliverable, accepted_line, with_pending, line_at, standing_on, Executed, executed}
+use Rattle.brd_kernel.specs.Waits.{ended_by_fault, ticked_on, seen_at}
 use Rattle.brd_kernel.specs.Dispatch.{dispatched, changed_processors}
 use Rattle.brd_sysgate.specs.Gate.{called}
 use Rattle.brd_board.specs.declared.event.Event.{Event}
@@ -86,10 +87,10 @@ stepped_in b cpu (Some p) = if p.stopped then reported b report.Stopped else acc
 abbrev pub stepped : BoardState → ℕ → Happened
 stepped b cpu = stepped_in b cpu (processor_at b.kernel cpu)
 
--- a tick passes, unless the last one has been counted
+-- a tick passes, and the waits end whose tick has come; unless the last one has been counted
 abbrev pub tick_passed : BoardState → Happened
 tick_passed b =
-    if nat_lt b.kernel.count last_count then then_dispatched (record b { kernel = counted b.kernel }) report.Ticked
+    if nat_lt b.kernel.time.count last_count then then_dispatched (record b { kernel = ticked_on b.kernel (advanced b.kernel.time) }) report.Ticked
     else reported b report.TimeOver
 
 -- an interrupt is raised, where its line has a handler
@@ -131,4 +132,4 @@ fault_of b cpu = slice_index_or b.faults cpu None
 
 -- a task as it stands
 abbrev pub task_of : BoardState → ℕ → Option TaskView
-task_of b id = view_of b.kernel.tasks id
+task_of b id = seen_at b.kernel id

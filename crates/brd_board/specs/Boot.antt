@@ -34,9 +34,11 @@ memory_of size segments = record { bytes = map (λ at. unwrap_or (byte_in segmen
 unfoldable pub loaded : ℕ → List Segment → Result Memory BootFault
 loaded size segments = if are_inside size segments then Ok (memory_of size segments) else Err Outside
 
--- the kernel at count 0: its tasks with TA_ACT have been started, and each processor runs its first ready task
-abbrev pub booted_kernel : ℕ → List TaskSetup → List TaskConfig → KernelState
-booted_kernel processors setups tasks = let made = made_kernel processors setups in dispatched (with_tasks made (all_started made.tasks tasks))
+-- the kernel at count 0: its objects are as configured, its tasks with TA_ACT have been started, and each processor runs its first ready task
+abbrev pub booted_kernel : List TaskSetup → Configuration → KernelState
+booted_kernel setups config =
+    let made = made_kernel config.processors setups config.semaphores config.flags config.queues in
+    dispatched (with_tasks made (all_started made.tasks config.tasks))
 
 -- the board as boot leaves it: without links and faults
 abbrev pub booted_board : KernelState → Memory → BoardState
@@ -49,7 +51,7 @@ boot image config = do
   memory ← loaded config.ram image.segments
   setups ← setups_of config.ram image.symbols config.tasks
   tested ← handlers_tested config.ram image.symbols config.handlers
-  Ok (booted_board (booted_kernel config.processors setups config.tasks) memory)
+  Ok (booted_board (booted_kernel setups config) memory)
 
 -- Words: their image is booted with 64 KiB of RAM and one task, which starts at RAM's first address.
 
@@ -83,4 +85,4 @@ memory_of_words words = record { bytes = flat_map bytes_of_word words ++ replica
 -- the board of a list of words, of which 16,384 fit into RAM
 abbrev pub boot_words : List ℕ → Result BoardState BootFault
 boot_words words =
-    if nat_le (length words) 16384 then Ok (booted_board (booted_kernel 1 (words_setup ∷ []) (words_task ∷ [])) (memory_of_words words)) else Err Outside
+    if nat_le (length words) 16384 then Ok (booted_board (booted_kernel (words_setup ∷ []) words_config) (memory_of_words words)) else Err Outside

@@ -77,7 +77,7 @@ impl Board {
         let setups = setups_of(alloc, &ram, symbols, tasks)?;
         test_handlers(&ram, symbols, config.handlers.as_slice())?;
         Ok(Board {
-            kernel: started(alloc, config.processors, setups.as_slice(), tasks)?,
+            kernel: started(alloc, setups.as_slice(), config)?,
             ram,
             links: Links::new(),
             faults: no_faults(alloc)?,
@@ -267,7 +267,7 @@ impl Board {
 
     /// How many ticks have passed.
     pub fn now(&self) -> u64
-        ensures { result ≡ self.now.kernel.count }
+        ensures { result ≡ self.now.kernel.time.count }
     {
         self.kernel.now()
     }
@@ -306,19 +306,21 @@ fn words_config(alloc: Global) -> Result<Config, NoMemory>
     })
 }
 
-/// A kernel whose tasks with TA_ACT have been started, and run where they come first.
-fn started(
-    alloc: Global,
-    processors: u8,
-    setups: &[TaskSetup],
-    tasks: &[TaskConfig],
-) -> Result<Kernel, NoMemory>
-    requires few { processors ≤ 8 }
+/// A kernel with the objects of a configuration, whose tasks with TA_ACT have been started, and run where they come first.
+fn started(alloc: Global, setups: &[TaskSetup], config: &Config) -> Result<Kernel, NoMemory>
+    requires few { config.now.processors ≤ 8 }
     requires setups { All IsSetup setups.now }
-    ensures { IfOk result (λ kernel. kernel ≡ booted_kernel processors setups.now tasks.now) }
+    ensures { IfOk result (λ kernel. kernel ≡ booted_kernel setups.now (view config.now)) }
 {
-    let mut kernel = Kernel::new(alloc, processors, setups)?;
-    start_all(&mut kernel, tasks);
+    let mut kernel = Kernel::new(
+        alloc,
+        config.processors,
+        setups,
+        config.semaphores.as_slice(),
+        config.flags.as_slice(),
+        config.queues.as_slice(),
+    )?;
+    start_all(&mut kernel, config.tasks.as_slice());
     let _ = kernel.dispatch();
     Ok(kernel)
 }
