@@ -141,6 +141,9 @@ fn show_task(text: &mut String, id: u16, task: TaskView) -> Result<(), AllocErro
     if let Some(reason) = task.waiting {
         write!(text, " {reason:?}")?;
     }
+    if let Some(due) = task.due {
+        write!(text, " until {due}")?;
+    }
     if task.activations != 0 {
         text.push_str(" request")?;
     }
