@@ -14,6 +14,11 @@ of_gate() {
         done
 }
 
+# a call that may wait stands in the table as its form with a timeout: wai_sem, pol_sem as twai_sem
+with_timeout() {
+    sed -E 's/^pol_/wai_/; s/^p(snd|rcv)_/\1_/; s/^(slp|wai|snd|rcv)_/t\1_/' <<< "$1"
+}
+
 of_doc() {
     sed -n 's/^| \([0-9]*\) | `\([a-z_]*\)` | \([^|]*\)| \([^|]*\) | \([^|]*\)| .*$/\1|\2|\3|\4/p' docs/KERNEL.md |
         while IFS='|' read -r number name arguments place; do
@@ -27,19 +32,26 @@ of_doc() {
             words=$(tr -d ' ' <<< "$arguments")
             count=0
             [ -n "$words" ] && count=$(($(tr -cd ',' <<< "$words" | wc -c) + 1))
-            echo "$number|${name//_/}|$place|$count"
+            echo "$number|$(with_timeout "$name" | tr -d _)|$place|$count"
         done
 }
 
 # a line a call: number|name|the kinds of refusal that its row fills in
 refusals_of_rows() {
     awk '
-        /^-- [0-9]+ [a-z_]+/ { if (number) print number "|" name "|" kinds; number = $2; name = $3; sub(/[.,;:]$/, "", name); kinds = "" }
-        /^-- The rows by calls/ { print number "|" name "|" kinds; exit }
-        /bad_par =/ && number { kinds = kinds " PAR" }
-        /iluse =/ && number { kinds = kinds " ILUSE" }
-        /obj =/ && number { kinds = kinds " OBJ" }
-        /qovr =/ && number { kinds = kinds " QOVR" }
+        function row(    i) { for (i = 1; i <= calls; i++) print number[i] "|" name[i] "|" kinds }
+        /^-- [1-9][0-9]* [a-z]+_[a-z]+/ {
+            row(); calls = 0; kinds = ""; text = $0; sub(/^-- /, "", text); sub(/\. .*/, "", text); sub(/\.$/, "", text)
+            while (match(text, /[1-9][0-9]* [a-z]+_[a-z]+/)) {
+                split(substr(text, RSTART, RLENGTH), word, " "); text = substr(text, RSTART + RLENGTH)
+                calls++; number[calls] = word[1]; name[calls] = word[2]
+            }
+        }
+        /^-- The rows by calls/ { row(); exit }
+        /bad_par =/ && calls { kinds = kinds " PAR" }
+        /iluse =/ && calls { kinds = kinds " ILUSE" }
+        /obj =/ && calls { kinds = kinds " OBJ" }
+        /qovr =/ && calls { kinds = kinds " QOVR" }
     ' "$rows" | sed 's/| /|/'
 }
 
