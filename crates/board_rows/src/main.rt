@@ -88,7 +88,7 @@ fn show(text: &mut String, board: &Board) -> Result<(), AllocError> {
     }
     for id in 1..256u16 {
         if let Some(task) = board.task(id) {
-            show_task(text, id, task)?;
+            show_task(text, id, &task)?;
         }
     }
     show_rest(text, board)
@@ -133,23 +133,39 @@ fn show_processor(text: &mut String, board: &Board, cpu: u8) -> Result<(), Alloc
     Ok(())
 }
 
-/// A task's state, priority and processor, what it waits for and what is queued, and its context: the program counter, and all
-/// registers that aren't 0.
-fn show_task(text: &mut String, id: u16, task: TaskView) -> Result<(), AllocError> {
+/// A task's state, priority and processor, what it waits for, what is queued, and its context.
+fn show_task(text: &mut String, id: u16, task: &TaskView) -> Result<(), AllocError> {
     let (state, priority, cpu) = (task.state, task.priority, task.cpu);
     write!(text, "\n  task {id} {state:?} pri {priority} cpu {cpu}")?;
+    show_wait(text, task)?;
+    show_queued(text, task)?;
+    show_context(text, task)
+}
+
+/// What a task waits for, and the tick at which that ends.
+fn show_wait(text: &mut String, task: &TaskView) -> Result<(), AllocError> {
     if let Some(reason) = task.waiting {
         write!(text, " {reason:?}")?;
     }
     if let Some(due) = task.due {
         write!(text, " until {due}")?;
     }
+    Ok(())
+}
+
+/// What is queued for a task.
+fn show_queued(text: &mut String, task: &TaskView) -> Result<(), AllocError> {
     if task.activations != 0 {
         text.push_str(" request")?;
     }
     if task.wakeups != 0 {
         text.push_str(" wake-up")?;
     }
+    Ok(())
+}
+
+/// The program counter, and all registers that aren't 0.
+fn show_context(text: &mut String, task: &TaskView) -> Result<(), AllocError> {
     let pc = task.context.pc();
     write!(text, " pc {pc:08x}")?;
     for number in 1..32u32 {
@@ -219,31 +235,63 @@ fn fault_of(alloc: Global, scene: &Scene, line: &str) -> Result<&'static str, Al
     }
 }
 
+/// One more line of a text.
+fn push_line(text: &mut String, line: &str) -> Result<(), AllocError> {
+    text.push_str(line)?;
+    text.push_str("\n")
+}
+
+/// Takes a line of source or configuration into a scene. Answers whether it was one.
+fn took(scene: &mut Scene, line: &str) -> Result<bool, AllocError> {
+    if let Some(source) = line.strip_prefix("s ") {
+        push_line(&mut scene.source, source)?;
+        return Ok(true);
+    }
+    if let Some(config) = line.strip_prefix("c ") {
+        push_line(&mut scene.config, config)?;
+        return Ok(true);
+    }
+    Ok(false)
+}
+
+/// What is printed behind a line, if anything is.
+fn told(alloc: Global, scene: &mut Scene, line: &str) -> Result<Option<String>, AllocError> {
+    if let Some(events) = line.strip_prefix("e ") {
+        return Ok(Some(played(alloc, scene, events)?));
+    }
+    if let Some(address) = line.strip_prefix("m ") {
+        return Ok(Some(word_at(alloc, scene, address)?));
+    }
+    if let Some(line) = line.strip_prefix("f ") {
+        let fault = fault_of(alloc, scene, line)?;
+        return Ok(Some(String::from_str(alloc, fault)?));
+    }
+    Ok(None)
+}
+
+/// Prints a line, does what it says, and prints what that shows.
+fn heed(rt: &(impl Print + AllocGlobal), scene: &mut Scene, line: &str) -> io::Result<()> {
+    let alloc = rt.alloc();
+    println!(rt; "{line}")?;
+    if line.starts_with("= ") {
+        *scene = begun(alloc);
+        return Ok(());
+    }
+    if took(scene, line)? {
+        return Ok(());
+    }
+    if let Some(shown) = told(alloc, scene, line)? {
+        println!(rt; "  {shown}")?;
+    }
+    Ok(())
+}
+
 fn run(rt: &(impl Input + Print + AllocGlobal)) -> io::Result<()> {
     let alloc = rt.alloc();
     let mut scene = begun(alloc);
     for line in BufReader::new(alloc, rt.reader())?.lines(alloc) {
         let line = line?;
-        let text = line.as_str();
-        println!(rt; "{text}")?;
-        if text.starts_with("= ") {
-            scene = begun(alloc);
-        } else if let Some(source) = text.strip_prefix("s ") {
-            scene.source.push_str(source)?;
-            scene.source.push_str("\n")?;
-        } else if let Some(config) = text.strip_prefix("c ") {
-            scene.config.push_str(config)?;
-            scene.config.push_str("\n")?;
-        } else if let Some(events) = text.strip_prefix("e ") {
-            let shown = played(alloc, &mut scene, events)?;
-            println!(rt; "  {shown}")?;
-        } else if let Some(address) = text.strip_prefix("m ") {
-            let word = word_at(alloc, &scene, address)?;
-            println!(rt; "  {word}")?;
-        } else if let Some(line) = text.strip_prefix("f ") {
-            let fault = fault_of(alloc, &scene, line)?;
-            println!(rt; "  {fault}")?;
-        }
+        heed(rt, &mut scene, line.as_str())?;
     }
     Ok(())
 }
