@@ -7,7 +7,7 @@ use Rattle.std.proofs.lemmas.Bool.Decides.{nat_tests}
 use Rattle.std.proofs.lemmas.List.{map-set, get_or-map, get_or-set_other}
 use Rattle.brd_lanes.specs.Scan.{IsLeast, IsLeastAt, NoneBetween, is_due_at}
 use Rattle.brd_time.specs.Time.{Time, beginning, with_due, last_count, has_come, is_due, due_from, next_due_of}
-use Rattle.brd_time.specs.Kept.{never, due_in}
+use Rattle.brd_time.specs.Kept.{never, due_in, AreNotBefore}
 
 -- a tick that is counted stands for itself
 due-in : (due : ℕ) → due < never → due_in due ≡ Some due
@@ -93,6 +93,13 @@ next-is count dues from answer counted long within least =
     find-same (is_due (record { count = count; dues = map due_in dues })) (is_due_at dues count) from (256 - from)
     (λ k high. is-due count dues k counted (omega (arith, all, high)))
     ∙ found (is_due_at dues count) from (256 - from) answer (subst (λ end. IsLeast (is_due_at dues count) from end answer) all least)
+
+-- before the first of all ticks at which a wait ends nobody's wait does
+pub none-yet : (count earliest : ℕ) (dues : List ℕ) (from : ℕ) → count ≤ last_count → length dues ≡ 256 → from ≤ 256 →
+    AreNotBefore earliest dues → count < earliest → next_due_of (record { count = count; dues = map due_in dues }) from ≡ None
+none-yet count earliest dues from counted long within none early =
+    next-is count dues from None counted long within
+    (λ id low high. let late : count < get_or dues id 0 = omega (arith, none id high, early) in grind (arith, nat_tests, late))
 
 -- The tasks whose waits end, one after the other.
 

@@ -7,6 +7,3 @@ pub mod laws;
 mod timeouts;
 
 pub use timeouts::Timeouts;
-
-#[cfg(test)]
-mod tests;

@@ -1,7 +1,11 @@
 //! Ticks, and when the waits of tasks end.
 
 ghost use Rattle.std.specs.Prelude.{◌≡◌, ◌<◌, ◌≤◌, ◌^◌, ◌-◌, None, Some, IfOk, IfSome, nat_lt, replicate};
+ghost use Rattle.brd_time.specs.Kept.{AreNotBefore};
 ghost use Rattle.brd_time.specs.Time.{beginning, due_of, with_due, advanced, last_count, next_due_of};
+
+#[cfg(test)]
+mod tests;
 
 use brd_base::NoMemory;
 use std::alloc::Global;
@@ -18,10 +22,13 @@ const NEVER: u64 = 18_446_744_073_709_551_615;
 pub struct Timeouts {
     count: u64,
     dues: Vec<u64>,
+    /// No wait ends before this tick, so that most ticks look at no task.
+    earliest: u64,
 }
 
 impl Model for Timeouts {
     ghost use Rattle.std.specs.Prelude.{◌≡◌, ◌≤◌, length, map};
+    ghost use Rattle.brd_time.specs.Kept.{AreNotBefore};
     ghost use Rattle.brd_time.specs.Time.{Time, last_count};
     ghost use Rattle.brd_time.specs.Kept.{due_in};
 
@@ -29,7 +36,7 @@ impl Model for Timeouts {
 
     ghost view = { λ t. record { count = t.count; dues = map due_in t.dues.items } };
 
-    ghost invariant = { λ t. (length t.dues.items ≡ 256) × (t.count ≤ last_count) };
+    ghost invariant = { λ t. (length t.dues.items ≡ 256) × (t.count ≤ last_count) × AreNotBefore t.earliest t.dues.items };
 }
 
 impl Timeouts {
@@ -38,7 +45,11 @@ impl Timeouts {
         ensures { IfOk result (λ timeouts. timeouts ≡ beginning) }
     {
         let dues = vec![in alloc; NEVER; 256]?;
-        Ok(Timeouts { count: 0, dues })
+        Ok(Timeouts {
+            count: 0,
+            dues,
+            earliest: NEVER,
+        })
     }
 
     /// How many ticks have passed.
@@ -56,6 +67,7 @@ impl Timeouts {
         ensures { self.new ≡ with_due self.old task (Some due) }
     {
         self.dues[task as usize] = due;
+        self.earliest = self.earliest.min(due);
     }
 
     /// The wait of a task has no end, or is over.
@@ -86,6 +98,9 @@ impl Timeouts {
             return false;
         }
         self.count += 1;
+        if self.earliest < self.count {
+            self.earliest = earliest_of(self.dues.as_slice());
+        }
         true
     }
 
@@ -95,9 +110,23 @@ impl Timeouts {
         ensures is { result ≡ next_due_of self.now from }
         ensures within { IfSome result (λ task. (from ≤ task) × (task < 256)) }
     {
+        if self.count < self.earliest {
+            return None;
+        }
         match brd_lanes::next_due(self.dues.as_slice(), self.count, from as usize) {
             Some(task) => Some(task as u16),
             None => None,
         }
     }
+}
+
+/// A tick before which no wait ends: the least of these.
+fn earliest_of(dues: &[u64]) -> u64
+    ensures { AreNotBefore result dues.now }
+{
+    let mut earliest = NEVER;
+    for due in dues {
+        earliest = earliest.min(*due);
+    }
+    earliest
 }

@@ -46,3 +46,21 @@ fn all_at_once(rt: HostRuntime) -> Result<(), Fail> {
     }
     Ok(())
 }
+
+/// The last tick that is counted, and what ends there.
+#[test]
+fn the_last_tick(rt: HostRuntime) -> Result<(), Fail> {
+    let mut timeouts = Timeouts::new(rt.alloc())?;
+    timeouts.count = LAST_COUNT - 1;
+    timeouts.arm(9, LAST_COUNT);
+    timeouts.arm(8, LAST_COUNT + 1);
+    assert_eq!(rt; timeouts.next_due(0), None);
+    assert!(rt; timeouts.advance());
+    assert_eq!(rt; timeouts.now(), 9_223_372_036_854_775_807);
+    assert_eq!(rt; timeouts.next_due(0), Some(9));
+    assert!(rt; !timeouts.advance());
+    assert_eq!(rt; timeouts.now(), 9_223_372_036_854_775_807);
+    assert_eq!(rt; timeouts.next_due(0), Some(9));
+    assert_eq!(rt; timeouts.due(8), Some(9_223_372_036_854_775_808));
+    Ok(())
+}
