@@ -1,5 +1,6 @@
 use super::*;
 use brd_base::NoMemory;
+use brd_config::{ConfigFault, parse};
 use brd_exec::Outcome;
 use brd_link::Links;
 use brd_mem::Ram;
@@ -39,6 +40,40 @@ fn two(alloc: Global) -> Result<Kernel, NoMemory> {
     Ok(kernel)
 }
 
+/// A kernel of two processors with two tasks on each, of which 1 and 3 run, and with objects: semaphore 1 is full, semaphore 2 is empty,
+/// flag 1 has bit 0 and lets one task wait, flag 2 has no bits, queue 1 stores nothing, and queue 2 is empty.
+fn with_objects(alloc: Global) -> Result<Kernel, ConfigFault> {
+    let config = parse(
+        alloc,
+        b"BOARD(2, 0x10000);
+        CRE_SEM(1, {TA_TFIFO, 1, 1}); CRE_SEM(2, {TA_TPRI, 0, 1});
+        CRE_FLG(1, {TA_WSGL, 1}); CRE_FLG(2, {TA_WMUL | TA_CLR, 0});
+        CRE_DTQ(1, {TA_TFIFO, 0, NULL}); CRE_DTQ(2, {TA_TPRI, 2, NULL});",
+    )?;
+    let setups = [
+        setup(1, 1, 2),
+        setup(2, 1, 3),
+        setup(3, 2, 5),
+        setup(4, 2, 9),
+    ];
+    if !are_setups(&setups) {
+        return Err(ConfigFault::NoMemory);
+    }
+    let mut kernel = Kernel::new(
+        alloc,
+        config.processors,
+        &setups,
+        config.semaphores.as_slice(),
+        config.flags.as_slice(),
+        config.queues.as_slice(),
+    )?;
+    for id in 1..5u16 {
+        kernel.start(id);
+    }
+    let _ = kernel.dispatch();
+    Ok(kernel)
+}
+
 /// An answer without a second result.
 const fn just(word: u32) -> Reply {
     Reply::Answer(word, None)
@@ -57,6 +92,15 @@ const OBJ: Reply = Reply::Answer(0xffff_ffd7, None);
 const NOEXS: Reply = Reply::Answer(0xffff_ffd6, None);
 
 const QOVR: Reply = Reply::Answer(0xffff_ffd5, None);
+
+const TMOUT: Reply = Reply::Answer(0xffff_ffce, None);
+
+/// TMO_FEVR and TMO_POL, and what is no timeout.
+const FOREVER: u32 = 0xffff_ffff;
+
+const POLL: u32 = 0;
+
+const BAD: u32 = 0xffff_fffe;
 
 #[test]
 fn making(rt: HostRuntime) -> Result<(), Fail> {
@@ -116,6 +160,106 @@ fn refusals(rt: HostRuntime) -> Result<(), Fail> {
     ] {
         assert_eq!(rt; kernel.serve(1, call), reply, "{call:?}");
         assert_eq!(rt; kernel.dispatch(), 0, "{call:?}");
+    }
+    Ok(())
+}
+
+/// Each refusal of each call that names an object or a time; of two reasons the earlier one in the order is answered, also where the
+/// call could be done at once. Task 3 waits for a bit of flag 1.
+#[test]
+fn refusals_of_objects(rt: HostRuntime) -> Result<(), Fail> {
+    let mut kernel = with_objects(rt.alloc())?;
+    assert_eq!(rt;
+        kernel.serve(2, Call::TwaiFlg(1, 2, 0, FOREVER)),
+        Reply::Silent
+    );
+    assert_eq!(rt; kernel.dispatch(), 2);
+    for (call, reply) in [
+        (Call::TslpTsk(BAD), PAR),
+        (Call::TslpTsk(0x8000_0000), PAR),
+        (Call::TslpTsk(POLL), TMOUT),
+        (Call::DlyTsk(0x8000_0000), PAR),
+        (Call::DlyTsk(FOREVER), PAR),
+        (Call::SigSem(0), ID),
+        (Call::SigSem(256), ID),
+        (Call::SigSem(3), NOEXS),
+        (Call::SigSem(1), QOVR),
+        (Call::TwaiSem(256, BAD), ID),
+        (Call::TwaiSem(3, BAD), PAR),
+        (Call::TwaiSem(1, BAD), PAR),
+        (Call::TwaiSem(3, POLL), NOEXS),
+        (Call::TwaiSem(2, POLL), TMOUT),
+        (Call::SetFlg(0, 1), ID),
+        (Call::SetFlg(3, 1), NOEXS),
+        (Call::ClrFlg(256, 1), ID),
+        (Call::ClrFlg(3, 1), NOEXS),
+        (Call::TwaiFlg(0, 0, 2, BAD), ID),
+        (Call::TwaiFlg(3, 0, 0, POLL), PAR),
+        (Call::TwaiFlg(3, 1, 2, POLL), PAR),
+        (Call::TwaiFlg(3, 1, 0, BAD), PAR),
+        (Call::TwaiFlg(3, 1, 0, POLL), NOEXS),
+        (Call::TwaiFlg(1, 0, 0, POLL), PAR),
+        (Call::TwaiFlg(1, 1, 0, POLL), ILUSE),
+        (Call::TwaiFlg(1, 4, 1, FOREVER), ILUSE),
+        (Call::TwaiFlg(2, 1, 1, POLL), TMOUT),
+        (Call::TsndDtq(256, 7, BAD), ID),
+        (Call::TsndDtq(3, 7, BAD), PAR),
+        (Call::TsndDtq(2, 7, BAD), PAR),
+        (Call::TsndDtq(3, 7, POLL), NOEXS),
+        (Call::TsndDtq(1, 7, POLL), TMOUT),
+        (Call::FsndDtq(0, 7), ID),
+        (Call::FsndDtq(3, 7), NOEXS),
+        (Call::FsndDtq(1, 7), ILUSE),
+        (Call::TrcvDtq(256, BAD), ID),
+        (Call::TrcvDtq(3, BAD), PAR),
+        (Call::TrcvDtq(2, BAD), PAR),
+        (Call::TrcvDtq(3, POLL), NOEXS),
+        (Call::TrcvDtq(2, POLL), TMOUT),
+    ] {
+        assert_eq!(rt; kernel.serve(1, call), reply, "{call:?}");
+        assert_eq!(rt; kernel.dispatch(), 0, "{call:?}");
+    }
+    Ok(())
+}
+
+/// Calls of objects one after the other, each from a processor, with what they answer, and which processors' running tasks change.
+#[test]
+fn calls_of_objects(rt: HostRuntime) -> Result<(), Fail> {
+    let mut kernel = with_objects(rt.alloc())?;
+    for (cpu, call, reply, changed) in [
+        // Task 1 takes the one, and waits for the next; task 3 returns it.
+        (1, Call::TwaiSem(1, FOREVER), OK, 0),
+        (1, Call::TwaiSem(1, 5), Reply::Silent, 1),
+        (2, Call::SigSem(1), OK, 1),
+        (2, Call::SigSem(1), OK, 0),
+        // Flag 2 clears itself; flag 1 keeps its pattern.
+        (1, Call::TwaiFlg(2, 6, 0, FOREVER), Reply::Silent, 1),
+        (2, Call::SetFlg(2, 2), OK, 0),
+        (2, Call::SetFlg(2, 4), OK, 1),
+        (2, Call::TwaiFlg(2, 6, 1, POLL), TMOUT, 0),
+        (
+            2,
+            Call::TwaiFlg(1, 1, 0, POLL),
+            Reply::Answer(0, Some(1)),
+            0,
+        ),
+        (2, Call::ClrFlg(1, 0xffff_fffe), OK, 0),
+        (2, Call::TwaiFlg(1, 1, 0, POLL), TMOUT, 0),
+        // Queue 1 hands over; queue 2 stores two data, and the third in the place of the first.
+        (1, Call::TrcvDtq(1, FOREVER), Reply::Silent, 1),
+        (2, Call::FsndDtq(1, 7), ILUSE, 0),
+        (2, Call::TsndDtq(1, 7, POLL), OK, 1),
+        (1, Call::TsndDtq(2, 10, POLL), OK, 0),
+        (1, Call::TsndDtq(2, 11, POLL), OK, 0),
+        (1, Call::FsndDtq(2, 12), OK, 0),
+        (1, Call::TsndDtq(2, 13, FOREVER), Reply::Silent, 1),
+        (2, Call::TrcvDtq(2, POLL), Reply::Answer(0, Some(11)), 1),
+        (2, Call::TrcvDtq(2, POLL), Reply::Answer(0, Some(12)), 0),
+        (2, Call::TrcvDtq(2, POLL), Reply::Answer(0, Some(13)), 0),
+        (2, Call::TrcvDtq(2, POLL), TMOUT, 0),
+    ] {
+        assert_eq!(rt; kernel.serve(cpu, call), reply, "{call:?}");
+        assert_eq!(rt; kernel.dispatch(), changed, "{call:?}");
     }
     Ok(())
 }
