@@ -214,6 +214,45 @@ fn all_tasks_on_all_processors(rt: HostRuntime) -> Result<(), Fail> {
     Ok(())
 }
 
+/// 255 tasks, started by boot in the order of the configuration, wait for the same tick: at that tick all of them are ready, by ascending
+/// number.
+#[test]
+fn all_waits_end_at_one_tick(rt: HostRuntime) -> Result<(), Fail> {
+    let alloc = rt.alloc();
+    let mut config = String::from_str(alloc, "BOARD(1, 0x10000);\n")?;
+    for id in (1..256u16).rev() {
+        write!(
+            config,
+            "CRE_TSK({id}, {{TA_ACT, 1, 0x80000000, 1, 16, NULL}});\n"
+        )?;
+    }
+    let config = parse(alloc, config.as_bytes())?;
+    let words = [
+        0x2402_0017, // addiu $v0, $0, 23: dly_tsk
+        0x0000_000c, // syscall
+        0x2402_0003, // addiu $v0, $0, 3: ext_tsk
+        0x0000_000c, // syscall
+    ];
+    let image = Image::from_words(alloc, &words)?;
+    let mut board = Board::boot(alloc, &image, &config)?;
+    for _ in 1..256u16 {
+        assert_eq!(rt; board.event(Event::Step(1)), Report::Ran(0x8000_0000));
+        assert_eq!(rt; board.event(Event::Step(1)), Report::Called(0x8000_0004));
+    }
+    assert_eq!(rt; board.event(Event::Step(1)), Report::Idle);
+    assert_eq!(rt; board.event(Event::Tick), Report::Ticked);
+    assert_eq!(rt; board.event(Event::Step(1)), Report::Idle);
+    assert_eq!(rt; board.event(Event::Tick), Report::Ticked);
+    for id in 1..256u16 {
+        assert_eq!(rt; board.standing(1), Some(Standing::Task(id)));
+        assert_eq!(rt; board.task(id).map(|it| it.due), Some(None));
+        assert_eq!(rt; board.event(Event::Step(1)), Report::Ran(0x8000_0008));
+        assert_eq!(rt; board.event(Event::Step(1)), Report::Called(0x8000_000c));
+    }
+    assert_eq!(rt; board.event(Event::Step(1)), Report::Idle);
+    Ok(())
+}
+
 /// The console takes 65,536 bytes; the byte after them is refused and isn't written.
 #[test]
 fn full_console(rt: HostRuntime) -> Result<(), Fail> {
