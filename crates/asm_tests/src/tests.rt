@@ -1,5 +1,5 @@
 use brd_asm::{AsmFault, assemble};
-use brd_mem::Image;
+use image_text::shown_image;
 use std::alloc::{AllocError, Global};
 use std::test::Fail;
 
@@ -13,27 +13,6 @@ fn shown(alloc: Global, source: &[u8]) -> Result<String, AllocError> {
         Err(fault) => format!(in alloc; "{fault:?}"),
         Ok(image) => shown_image(alloc, &image),
     }
-}
-
-fn shown_image(alloc: Global, image: &Image) -> Result<String, AllocError> {
-    let entry = image.entry;
-    let mut text = format!(in alloc; "{entry:08x}")?;
-    for segment in image.segments.as_slice() {
-        let address = segment.address;
-        write!(text, " {address:08x}:")?;
-        for byte in segment.bytes.as_slice() {
-            write!(text, "{byte:02x}")?;
-        }
-    }
-    for symbol in image.symbols.as_slice() {
-        text.push(' ')?;
-        for byte in symbol.name.as_slice() {
-            text.push(char::from(*byte))?;
-        }
-        let value = symbol.value;
-        write!(text, "={value:08x}")?;
-    }
-    Ok(text)
 }
 
 /// Four words: `%hi` and `%lo` of a label, a load, a value.
