@@ -4,3 +4,4 @@ pub mod LinkLemmas
 pub mod SetupLemmas
 pub mod LawLemmas
 pub mod ChangeLemmas
+pub mod WaitingLemmas

@@ -3,3 +3,14 @@ pub mod LineLemmas
 pub mod DispatchLemmas
 pub mod MakingLemmas
 pub mod WaitLemmas
+pub mod ListLemmas
+pub mod StandingLemmas
+pub mod KeepingLemmas
+pub mod RowLemmas
+pub mod WaitersLemmas
+pub mod LeavingLemmas
+pub mod MovingLemmas
+pub mod WaitingLemmas
+pub mod CallLemmas
+pub mod ServiceLemmas
+pub mod FirstLemmas

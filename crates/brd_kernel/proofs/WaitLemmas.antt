@@ -23,7 +23,7 @@ use Rattle.brd_kernel.specs.Services.{with_all_released_in, with_satisfied_of, w
 
 -- Waits that end by time.
 
-time-unlisted : (k : KernelState) (id : ℕ) (why : Option WaitReason) → (unlisted_from k id why).time ≡ k.time
+pub time-unlisted : (k : KernelState) (id : ℕ) (why : Option WaitReason) → (unlisted_from k id why).time ≡ k.time
 time-unlisted k id None = refl
 time-unlisted k id (Some reason.Sleep) = refl
 time-unlisted k id (Some reason.Delay) = refl

@@ -4,6 +4,7 @@ pub mod Waits
 pub mod Dispatch
 pub mod Row
 pub mod Services
+pub mod Waiting
 pub mod Always
 pub mod Lending
 pub mod Making

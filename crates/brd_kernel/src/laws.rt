@@ -1,12 +1,21 @@
-//! What is true of the service table and of dispatch.
+//! What is true of the service table, of dispatch and of waits.
 
-ghost use Rattle.std.specs.Prelude.{◌≡◌, ℕ, false, true, None, Some};
+ghost use Rattle.std.specs.Prelude.{◌≡◌, ℕ, false, true, List, None, Some};
 ghost use Rattle.brd_tasks.specs.Tasks.{top_of};
 ghost use Rattle.brd_tasks.specs.declared.task.Task.{Task as TaskOf};
+ghost use Rattle.brd_tasks.specs.declared.task.TaskSetup.{TaskSetup as SetupOf};
+ghost use Rattle.brd_config.specs.declared.objects.SemaphoreConfig.{SemaphoreConfig};
+ghost use Rattle.brd_config.specs.declared.objects.FlagConfig.{FlagConfig};
+ghost use Rattle.brd_config.specs.declared.objects.QueueConfig.{QueueConfig};
 ghost use Rattle.brd_kernel.specs.declared.processor.Processor.{Processor as ProcessorOf};
 ghost use Rattle.brd_kernel.specs.Kernel.{KernelState, processor_at, is_held};
 ghost use Rattle.brd_kernel.specs.Dispatch.{dispatched, IsSettled};
+ghost use Rattle.brd_kernel.specs.declared.call.Call.{Call as CallOf};
 ghost use Rattle.brd_kernel.specs.Row.{Row, AnswersFirst};
+ghost use Rattle.brd_kernel.specs.Waits.{ticked, ended_by_fault};
+ghost use Rattle.brd_kernel.specs.Services.{serve_of};
+ghost use Rattle.brd_kernel.specs.Making.{made_kernel};
+ghost use Rattle.brd_kernel.specs.Waiting.{WaitsAreKept};
 
 /// Of the reasons to refuse a call, the first in the order is answered; a call that has none does what its row says.
 pub fn checks_in_order()
@@ -21,4 +30,13 @@ pub fn dispatch_gives_each_its_first()
     ensures free { (k : KernelState) (cpu : ℕ) (p : ProcessorOf) → processor_at k cpu ≡ Some p → is_held p ≡ false → processor_at (dispatched k) cpu ≡ Some (record p { running = top_of k.tasks cpu }) }
     ensures held { (k : KernelState) (cpu : ℕ) (p : ProcessorOf) → processor_at k cpu ≡ Some p → is_held p ≡ true → processor_at (dispatched k) cpu ≡ Some p }
     ensures none { (k : KernelState) (cpu : ℕ) → processor_at k cpu ≡ None → processor_at (dispatched k) cpu ≡ None }
+{}
+
+/// In a kernel as it is made, each task that waits for an object stands once, with its priority, in the list of that object, and in no other list;
+/// only who waits has a tick at which its wait ends, and a delay has one. Every service call, tick and exception keeps this.
+pub fn who_waits_stands_in_its_list()
+    ensures made { (processors : ℕ) (setups : List SetupOf) (semaphores : List SemaphoreConfig) (flags : List FlagConfig) (queues : List QueueConfig) → WaitsAreKept (made_kernel processors setups semaphores flags queues) }
+    ensures call { (k : KernelState) (cpu : ℕ) (asked : CallOf) → WaitsAreKept k → WaitsAreKept (serve_of k cpu asked).kernel }
+    ensures tick { (k : KernelState) → WaitsAreKept k → WaitsAreKept (ticked k) }
+    ensures fault { (k : KernelState) (cpu : ℕ) → WaitsAreKept k → WaitsAreKept (ended_by_fault k cpu) }
 {}

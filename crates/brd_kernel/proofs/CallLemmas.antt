@@ -1,0 +1,256 @@
+-- What the service calls on objects make of waits.
+use Rattle.std.proofs.Common.{◌≡◌, ◌<◌, ℕ, List, [], ◌∷◌, ◌++◌, drop, refl, sym, ap, subst, ◌∙◌}
+use Rattle.std.specs.Prelude.{Bool, true, false, ◌==◌, nat_lt, if◌then◌else◌, Option, None, Some, Result, Ok, Err}
+use Rattle.std.specs.Option.{option_map}
+use Rattle.std.proofs.lemmas.Bool.{false≢true}
+use Rattle.brd_queue.specs.declared.entry.Entry.{Entry}
+use Rattle.brd_queue.specs.Queue.{Plain, has, priority_in, first_of, AreApart}
+use Rattle.brd_tasks.specs.declared.status.WaitReason.{WaitReason}
+use Rattle.brd_tasks.specs.declared.status.WaitReason.TheVariants as reason
+use Rattle.brd_objects.specs.declared.semaphore.Semaphore.{Semaphore}
+use Rattle.brd_objects.specs.declared.flag.Flag.{Flag}
+use Rattle.brd_objects.specs.declared.want.Want.{Want}
+use Rattle.brd_objects.specs.declared.sent.Sent.{Sent}
+use Rattle.brd_objects.specs.declared.sent.Sent.TheVariants.{Handed, Stored, Full}
+use Rattle.brd_objects.specs.Waiters.{satisfies}
+use Rattle.brd_objects.specs.Table.{object_at, object_changed}
+use Rattle.brd_objects.specs.Semaphores.{returned_to, returned}
+use Rattle.brd_objects.specs.Flags.{pattern_left, taken_for, flag_awaited, all_released, with_all_released}
+use Rattle.brd_objects.specs.DataQueues.{DataQueueState, has_room, sent_to, sent, outcome_to, outcome, with_room_for, with_room, forced, forced_outcome, received_by, received, receipt_by, awaited_by_sender, awaited_by_receiver}
+use Rattle.brd_kernel.specs.declared.call.Ercd.{Ercd}
+use Rattle.brd_kernel.specs.declared.call.Ercd.TheVariants.{Id, Par, Iluse, Obj, Qovr, Tmout}
+use Rattle.brd_kernel.specs.Answer.{e_ok}
+use Rattle.brd_kernel.specs.Kernel.{KernelState}
+use Rattle.brd_kernel.specs.Row.{Row, Served, refused, served_object, served}
+use Rattle.brd_kernel.specs.Waits.{due_by, released_in}
+use Rattle.brd_kernel.specs.Services.{or_waits, callers_priority, with_released, with_all_released_in, with_satisfied_of, handed_over, flag_got, queue_sent, queue_received}
+use Rattle.brd_kernel.specs.Waiting.{plain, semaphore_waiters, flag_waiters, senders, receivers, standing_for}
+use Rattle.brd_kernel.proofs.ListLemmas.{among, apart-plain, apart-wanting, apart-kept, has-plain, priority_in-plain, priority_in-kept, released-there}
+use Rattle.brd_kernel.proofs.StandingLemmas.{stands_in, IsTimedBy, StandsIn}
+use Rattle.brd_kernel.proofs.KeepingLemmas.{IsEntered, by-leaving-one}
+use Rattle.brd_kernel.proofs.WaitersLemmas.{semaphore-rewrites, flag-rewrites, sender-rewrites, receiver-rewrites}
+use Rattle.brd_kernel.proofs.WaitingLemmas.{released-keep, first-out, unchanged-keeps, wait-keeps, enters-flag, enters-sender, enters-receiver}
+
+-- A row of the service table keeps it, if what it does keeps it.
+
+abbrev pub Keeps : Result Served Ercd → Type 0
+Keeps (Ok done) = StandsIn [] done.kernel
+Keeps (Err code) = Unit {0}
+
+keeps-refused : (test : Bool) (code : Ercd) (otherwise : Result Served Ercd) → Keeps otherwise → Keeps (refused test code otherwise)
+keeps-refused true code otherwise keeps = tt
+keeps-refused false code otherwise keeps = keeps
+
+keeps-object : {X : Type 0} (row : Row X) (found : Option X) → row.object ≡ found → ((x : X) → row.object ≡ Some x → Keeps (row.does x)) →
+    Keeps (served_object row found)
+keeps-object row None is does = tt
+keeps-object row (Some x) is does =
+    keeps-refused (row.iluse x) Iluse _ (keeps-refused (row.obj x) Obj _ (keeps-refused (row.qovr x) Qovr _ (does x is)))
+
+pub keeps-row : {X : Type 0} (row : Row X) → ((x : X) → row.object ≡ Some x → Keeps (row.does x)) → Keeps (served row)
+keeps-row row does = keeps-refused row.bad_id Id _ (keeps-refused row.bad_par Par _ (keeps-object row row.object refl does))
+
+pub keeps-if : (test : Bool) (one other : Result Served Ercd) → (test ≡ true → Keeps one) → Keeps other → Keeps (if test then one else other)
+keeps-if true one other first second = first refl
+keeps-if false one other first second = second
+
+-- Waits that begin.
+
+abbrev pub HasTime : WaitReason → Type 0
+HasTime why = (due : Option ℕ) → IsTimedBy why due
+
+pub waits-keep : (k : KernelState) (caller : ℕ) (why : WaitReason) (timeout : ℕ) (entered : KernelState) → HasTime why →
+    (caller < 256 → IsEntered caller why (callers_priority k caller) (standing_for k) (standing_for entered)) → StandsIn [] k →
+    Keeps (or_waits k caller why timeout entered)
+waits-keep k caller why timeout entered timed stood was =
+    keeps-if (timeout == 0) (Err Tmout) _ (λ is. tt) (wait-keeps k caller why (due_by k timeout) entered (timed (due_by k timeout)) stood was)
+
+pub sleep-none : (other : WaitReason) → stands_in reason.Sleep other ≡ false
+sleep-none other = refl
+
+pub delay-none : (other : WaitReason) → stands_in reason.Delay other ≡ false
+delay-none other = refl
+
+-- Semaphores.
+
+pub taken-by : (test : Bool) (s : Semaphore) (count : ℕ) → (if test then s else record s { count = count }).waiters ≡ s.waiters
+taken-by true s count = refl
+taken-by false s count = refl
+
+counted-by : (test : Bool) (s : Semaphore) (count : ℕ) → (if test then record s { count = count } else s).waiters ≡ s.waiters
+counted-by true s count = refl
+counted-by false s count = refl
+
+pub semaphore-stays : (f : Semaphore → Semaphore) (k : KernelState) (id : ℕ) (s : Semaphore) → object_at k.semaphores id ≡ Some s →
+    (f s).waiters ≡ s.waiters → StandsIn [] k →
+    StandsIn [] (record k { semaphores = object_changed f k.semaphores id })
+semaphore-stays f k id s there same was =
+    unchanged-keeps k (standing_for (record k { semaphores = object_changed f k.semaphores id })) (reason.Semaphore id) (f s).waiters
+    (semaphore-rewrites f k id s there) (same ∙ ap semaphore_waiters (sym there)) was
+
+pub returned-keeps : (k : KernelState) (id : ℕ) (s : Semaphore) (ws : List Plain) → object_at k.semaphores id ≡ Some s → s.waiters ≡ ws →
+    StandsIn [] k →
+    StandsIn [] (with_released (record k { semaphores = object_changed returned k.semaphores id }) (option_map (λ e. e.id) (first_of ws)))
+returned-keeps k id s [] there is was =
+    semaphore-stays returned k id s there (ap (λ l. (returned_to s l).waiters) is ∙ counted-by (nat_lt s.count s.maximum) s _) was
+returned-keeps k id s (first ∷ others) there is was =
+    let new : KernelState = record k { semaphores = object_changed returned k.semaphores id } in
+    released-keep new first.id e_ok None []
+    (first-out k (standing_for new) (reason.Semaphore id) first others
+    (λ other. semaphore-rewrites returned k id s there other
+    ∙ ap (λ l. if stands_in (reason.Semaphore id) other then (returned_to s l).waiters else standing_for k other) is)
+    (ap semaphore_waiters there ∙ is) was)
+
+-- Event flags.
+
+pub flag-stays : (f : Flag → Flag) (k : KernelState) (id : ℕ) (g : Flag) → object_at k.flags id ≡ Some g → (f g).waiters ≡ g.waiters → StandsIn [] k →
+    StandsIn [] (record k { flags = object_changed f k.flags id })
+flag-stays f k id g there same was =
+    unchanged-keeps k (standing_for (record k { flags = object_changed f k.flags id })) (reason.Flag id) (plain (f g).waiters)
+    (flag-rewrites f k id g there) (ap plain same ∙ ap flag_waiters (sym there)) was
+
+pattern-by : (test : Bool) (f : Flag) (pattern : ℕ) → (if test then record f { pattern = pattern } else f).waiters ≡ f.waiters
+pattern-by true f pattern = refl
+pattern-by false f pattern = refl
+
+pub keeps-got : (k : KernelState) (caller id : ℕ) (want : Want) (timeout : ℕ) (f : Flag) (got : Option ℕ) → object_at k.flags id ≡ Some f →
+    StandsIn [] k →
+    Keeps (flag_got k caller id want timeout got)
+keeps-got k caller id want timeout f (Some pattern) there was =
+    flag-stays (taken_for want) k id f there (pattern-by (satisfies f.pattern want) f (pattern_left f.clears f.pattern)) was
+keeps-got k caller id want timeout f None there was =
+    waits-keep k caller (reason.Flag id) timeout
+    (record k { flags = object_changed (flag_awaited caller (callers_priority k caller) want) k.flags id }) (λ due. tt)
+    (enters-flag k caller (callers_priority k caller) id want f there was) was
+
+all-released-keep : (k : KernelState) (ids : List ℕ) (second : ℕ) → StandsIn ids k → StandsIn [] (with_all_released_in k ids second)
+all-released-keep k [] second was = was
+all-released-keep k (id ∷ ids) second was =
+    all-released-keep (released_in k id e_ok (Some second)) ids second (released-keep k id e_ok (Some second) ids was)
+
+has-by : (there : Bool) (f : Flag) (at : ℕ) → has at f.waiters ≡ there → among at (all_released f) ≡ true → has at (plain f.waiters) ≡ true
+has-by true f at is released = has-plain at f.waiters ∙ is
+has-by false f at is released = absurd (false≢true (sym (released-there f.clears f.pattern at f.waiters is) ∙ released))
+
+pub satisfied-keep : (k : KernelState) (id : ℕ) (found : Option Flag) → object_at k.flags id ≡ found → StandsIn [] k →
+    StandsIn [] (with_satisfied_of k id found)
+satisfied-keep k id None there was = was
+satisfied-keep k id (Some f) there was =
+    let new : KernelState = record k { flags = object_changed with_all_released k.flags id } in
+    let list : List (Entry Want) = (with_all_released f).waiters in
+    let apart : AreApart f.waiters = apart-wanting f.waiters (subst (λ o. AreApart (flag_waiters o)) there (was.apart (reason.Flag id))) in
+    all-released-keep new (all_released f) f.pattern
+    (by-leaving-one (all_released f) k.tasks k.time (standing_for k) (standing_for new) (reason.Flag id) (plain list)
+    (flag-rewrites with_all_released k id f there)
+    (apart-plain list (apart-kept f.clears f.pattern f.waiters apart))
+    (λ at released. ap (λ o. has at (flag_waiters o)) there ∙ has-by (has at f.waiters) f at refl released)
+    (λ at. priority_in-plain at list ∙ priority_in-kept f.clears f.pattern at f.waiters apart
+    ∙ ap (λ p. if among at (all_released f) then None else p)
+    (sym (priority_in-plain at f.waiters) ∙ ap (λ o. priority_in at (flag_waiters o)) (sym there)))
+    was)
+
+-- Data queues.
+
+queue-stays : (f : DataQueueState → DataQueueState) (k : KernelState) (id : ℕ) (q : DataQueueState) → object_at k.queues id ≡ Some q →
+    (f q).senders ≡ q.senders → (f q).receivers ≡ q.receivers →
+    StandsIn [] k → StandsIn [] (record k { queues = object_changed f k.queues id })
+queue-stays f k id q there same also was =
+    unchanged-keeps k (standing_for (record k { queues = object_changed f k.queues id })) (reason.Receive id) (f q).receivers
+    (receiver-rewrites f k id q there same) (also ∙ ap receivers (sym there)) was
+
+stored-senders : (test : Bool) (q : DataQueueState) (stored : List ℕ) → (if test then record q { stored = stored } else q).senders ≡ q.senders
+stored-senders true q stored = refl
+stored-senders false q stored = refl
+
+stored-receivers : (test : Bool) (q : DataQueueState) (stored : List ℕ) → (if test then record q { stored = stored } else q).receivers ≡ q.receivers
+stored-receivers true q stored = refl
+stored-receivers false q stored = refl
+
+either-keeps : (test : Bool) (k : KernelState) (datum : ℕ) → StandsIn [] k → StandsIn [] (handed_over k datum (if test then Stored else Full))
+either-keeps true k datum was = was
+either-keeps false k datum was = was
+
+-- `q` is the queue with the room that is made, where a datum is forced in; `w` is the one that is there
+handed-keep : (f : DataQueueState → DataQueueState) (k : KernelState) (id datum : ℕ) (q w : DataQueueState) (rs : List Plain) →
+    object_at k.queues id ≡ Some w →
+    f w ≡ sent_to datum q rs → q.senders ≡ w.senders → q.receivers ≡ w.receivers → w.receivers ≡ rs → StandsIn [] k →
+    StandsIn [] (handed_over (record k { queues = object_changed f k.queues id }) datum (outcome_to q rs))
+handed-keep f k id datum q w [] there is same also none was =
+    either-keeps (has_room q) (record k { queues = object_changed f k.queues id }) datum
+    (queue-stays f k id w there (ap (λ x. x.senders) is ∙ stored-senders (has_room q) q (q.stored ++ datum ∷ []) ∙ same)
+    (ap (λ x. x.receivers) is ∙ stored-receivers (has_room q) q (q.stored ++ datum ∷ []) ∙ also) was)
+handed-keep f k id datum q w (first ∷ others) there is same also some was =
+    let new : KernelState = record k { queues = object_changed f k.queues id } in
+    released-keep new first.id e_ok (Some datum) []
+    (first-out k (standing_for new) (reason.Receive id) first others
+    (λ other. receiver-rewrites f k id w there (ap (λ x. x.senders) is ∙ same) other
+    ∙ ap (λ x. if stands_in (reason.Receive id) other then x.receivers else standing_for k other) is)
+    (ap receivers there ∙ some) was)
+
+pub keeps-sent : (k : KernelState) (caller id datum timeout : ℕ) (q : DataQueueState) (what : Sent) → object_at k.queues id ≡ Some q → StandsIn [] k →
+    StandsIn [] (handed_over (record k { queues = object_changed (sent datum) k.queues id }) datum what) →
+    Keeps (queue_sent k caller id datum timeout what)
+keeps-sent k caller id datum timeout q (Handed task) there was handed = handed
+keeps-sent k caller id datum timeout q Stored there was handed = handed
+keeps-sent k caller id datum timeout q Full there was handed =
+    waits-keep k caller (reason.Send id) timeout
+    (record k { queues = object_changed (awaited_by_sender caller (callers_priority k caller) datum) k.queues id }) (λ due. tt)
+    (enters-sender k caller (callers_priority k caller) id datum q there was) was
+
+pub sent-keeps : (k : KernelState) (id datum : ℕ) (q : DataQueueState) → object_at k.queues id ≡ Some q → StandsIn [] k →
+    StandsIn [] (handed_over (record k { queues = object_changed (sent datum) k.queues id }) datum (outcome q))
+sent-keeps k id datum q there was = handed-keep (sent datum) k id datum q q q.receivers there refl refl refl refl was
+
+unroomed-senders : (test : Bool) (q : DataQueueState) (stored : List ℕ) → (if test then q else record q { stored = stored }).senders ≡ q.senders
+unroomed-senders true q stored = refl
+unroomed-senders false q stored = refl
+
+unroomed-receivers : (test : Bool) (q : DataQueueState) (stored : List ℕ) → (if test then q else record q { stored = stored }).receivers ≡ q.receivers
+unroomed-receivers true q stored = refl
+unroomed-receivers false q stored = refl
+
+room-senders : (q : DataQueueState) (rs : List Plain) → (with_room_for q rs).senders ≡ q.senders
+room-senders q [] = unroomed-senders (has_room q) q (drop 1 q.stored)
+room-senders q (first ∷ others) = refl
+
+room-receivers : (q : DataQueueState) (rs : List Plain) → (with_room_for q rs).receivers ≡ q.receivers
+room-receivers q [] = unroomed-receivers (has_room q) q (drop 1 q.stored)
+room-receivers q (first ∷ others) = refl
+
+pub forced-keeps : (k : KernelState) (id datum : ℕ) (q : DataQueueState) → object_at k.queues id ≡ Some q → StandsIn [] k →
+    StandsIn [] (handed_over (record k { queues = object_changed (forced datum) k.queues id }) datum (forced_outcome q))
+forced-keeps k id datum q there was =
+    handed-keep (forced datum) k id datum (with_room q) q (with_room q).receivers there refl (room-senders q q.receivers)
+    (room-receivers q q.receivers)
+    (sym (room-receivers q q.receivers)) was
+
+both-are : (q : DataQueueState) (stored : List ℕ) (ss : List (Entry ℕ)) → q.stored ≡ stored → q.senders ≡ ss → received q ≡ received_by q stored ss
+both-are q stored ss stored_is senders_are = ap (λ l. received_by q l q.senders) stored_is ∙ ap (received_by q stored) senders_are
+
+sender-leaves : (k : KernelState) (id : ℕ) (q : DataQueueState) (stored : List ℕ) (first : Entry ℕ) (others : List (Entry ℕ)) →
+    object_at k.queues id ≡ Some q → q.stored ≡ stored → q.senders ≡ first ∷ others →
+    (received_by q stored (first ∷ others)).senders ≡ others → (received_by q stored (first ∷ others)).receivers ≡ q.receivers → StandsIn [] k →
+    StandsIn [] (released_in (record k { queues = object_changed received k.queues id }) first.id e_ok None)
+sender-leaves k id q stored first others there stored_is senders_are left same was =
+    let new : KernelState = record k { queues = object_changed received k.queues id } in
+    let is : received q ≡ received_by q stored (first ∷ others) = both-are q stored (first ∷ others) stored_is senders_are in
+    released-keep new first.id e_ok None []
+    (first-out k (standing_for new) (reason.Send id) (record { id = first.id; priority = first.priority; wanted = tt }) (plain others)
+    (λ other. sender-rewrites received k id q there (ap (λ x. x.receivers) is ∙ same) other
+    ∙ ap (λ l. if stands_in (reason.Send id) other then plain l else standing_for k other) (ap (λ x. x.senders) is ∙ left))
+    (ap senders there ∙ ap plain senders_are) was)
+
+pub received-keep : (k : KernelState) (caller id timeout : ℕ) (q : DataQueueState) (stored : List ℕ) (ss : List (Entry ℕ)) →
+    object_at k.queues id ≡ Some q → q.stored ≡ stored → q.senders ≡ ss → StandsIn [] k →
+    Keeps (queue_received k caller id timeout (receipt_by stored ss))
+received-keep k caller id timeout q [] [] there stored_is senders_are was =
+    waits-keep k caller (reason.Receive id) timeout
+    (record k { queues = object_changed (awaited_by_receiver caller (callers_priority k caller)) k.queues id }) (λ due. tt)
+    (enters-receiver k caller (callers_priority k caller) id q there was) was
+received-keep k caller id timeout q [] (first ∷ others) there stored_is senders_are was =
+    sender-leaves k id q [] first others there stored_is senders_are refl refl was
+received-keep k caller id timeout q (oldest ∷ newer) [] there stored_is senders_are was =
+    queue-stays received k id q there (ap (λ x. x.senders) (both-are q (oldest ∷ newer) [] stored_is senders_are))
+    (ap (λ x. x.receivers) (both-are q (oldest ∷ newer) [] stored_is senders_are)) was
+received-keep k caller id timeout q (oldest ∷ newer) (first ∷ others) there stored_is senders_are was =
+    sender-leaves k id q (oldest ∷ newer) first others there stored_is senders_are refl refl was

@@ -1,0 +1,121 @@
+-- What holds of waits at the making, where nobody waits, and when tasks are started.
+use Rattle.std.proofs.Common.{◌≡◌, ◌<◌, ◌≤◌, ℕ, List, [], length, refl, sym, ap, subst, ◌∙◌, arith}
+use Rattle.std.specs.Prelude.{Bool, true, false, ◌==◌, nat_lt, find, replicate, Option, None, Some, slice_index_or}
+use Rattle.std.specs.Option.{option_map}
+use Rattle.std.proofs.lemmas.Bool.Decides.{nat_tests}
+use Rattle.std.proofs.lemmas.List.{get_or-replicate, length-replicate}
+use Rattle.std.proofs.lemmas.List.FromFn.{length-map-range_with_len, get_or-map-range_with_len}
+use Rattle.std.proofs.Math.ListN.{get_or-eq_default}
+use Rattle.brd_queue.specs.Queue.{Plain, priority_in, AreApart}
+use Rattle.brd_tasks.specs.declared.status.WaitReason.{WaitReason}
+use Rattle.brd_tasks.specs.declared.status.WaitReason.TheVariants as reason
+use Rattle.brd_tasks.specs.declared.task.TaskSetup.{TaskSetup}
+use Rattle.brd_tasks.specs.declared.task.Request.{Request}
+use Rattle.brd_tasks.specs.Tasks.{activated, unstarted, first_row, first_rows}
+use Rattle.brd_time.specs.Time.{due_of, beginning}
+use Rattle.brd_config.specs.declared.objects.SemaphoreConfig.{SemaphoreConfig}
+use Rattle.brd_config.specs.declared.objects.FlagConfig.{FlagConfig}
+use Rattle.brd_config.specs.declared.objects.QueueConfig.{QueueConfig}
+use Rattle.brd_objects.specs.Table.{object_at, made_at, made_below}
+use Rattle.brd_objects.specs.Semaphores.{semaphore_of}
+use Rattle.brd_objects.specs.Flags.{flag_of}
+use Rattle.brd_objects.specs.DataQueues.{data_queue_of}
+use Rattle.brd_kernel.specs.Kernel.{KernelState, with_tasks}
+use Rattle.brd_kernel.specs.Making.{made_kernel}
+use Rattle.brd_kernel.specs.Waiting.{semaphore_waiters, flag_waiters, senders, receivers, standing_for, WaitsAreKept}
+use Rattle.brd_kernel.proofs.StandingLemmas.{waits, wanted, IsTimed, StandsIn, stands, kept}
+use Rattle.brd_kernel.proofs.RowLemmas.{activated-before}
+use Rattle.brd_kernel.proofs.WaitingLemmas.{tasks-keep}
+
+-- what stands at a place of a table that is made: what its ID makes, or nothing
+made-by : {C X : Type 0} → (small : Bool) (id_of : C → ℕ) (object_of : C → X) (configs : List C) (n at : ℕ) (P : Option X → Type 0) →
+    nat_lt at n ≡ small → P None → P (made_at id_of object_of configs at) →
+    P (slice_index_or (made_below id_of object_of configs n) at None)
+unfolding made_below
+made-by true id_of object_of configs n at P test none some =
+    let small : at < n = grind (arith, nat_tests, test) in
+    subst P (sym (get_or-map-range_with_len (made_at id_of object_of configs) 0 n at at None small (omega arith))) some
+made-by false id_of object_of configs n at P test none some =
+    let past : length (made_below id_of object_of configs n) ≤ at =
+    grind (arith, nat_tests, test, length-map-range_with_len (made_at id_of object_of configs) 0 n) in
+    subst P (sym (get_or-eq_default (made_below id_of object_of configs n) None past)) none
+
+-- nobody waits for an object that is as its configuration says it
+nobody-at : {C X : Type 0} → (object_of : C → X) (list : Option X → List Plain) (found : Option C) → list None ≡ [] →
+    ((c : C) → list (Some (object_of c)) ≡ []) →
+    list (option_map object_of found) ≡ []
+nobody-at object_of list None none some = none
+nobody-at object_of list (Some c) none some = some c
+
+nobody-made : {C X : Type 0} → (id_of : C → ℕ) (object_of : C → X) (configs : List C) (at : ℕ) (list : Option X → List Plain) → list None ≡ [] →
+    ((c : C) → list (Some (object_of c)) ≡ []) →
+    list (object_at (made_below id_of object_of configs 256) at) ≡ []
+nobody-made id_of object_of configs at list none some =
+    made-by (nat_lt at 256) id_of object_of configs 256 at (λ found. list found ≡ []) refl none
+    (nobody-at object_of list (find (λ c. id_of c == at) configs) none some)
+
+nobody-waits : (processors : ℕ) (setups : List TaskSetup) (semaphores : List SemaphoreConfig) (flags : List FlagConfig) (queues : List QueueConfig)
+    (why : WaitReason) →
+    standing_for (made_kernel processors setups semaphores flags queues) why ≡ []
+nobody-waits processors setups semaphores flags queues reason.Sleep = refl
+nobody-waits processors setups semaphores flags queues reason.Delay = refl
+nobody-waits processors setups semaphores flags queues (reason.Semaphore object) =
+    nobody-made (λ config. config.id) semaphore_of semaphores object semaphore_waiters refl (λ c. refl)
+nobody-waits processors setups semaphores flags queues (reason.Flag object) =
+    nobody-made (λ config. config.id) flag_of flags object flag_waiters refl (λ c. refl)
+nobody-waits processors setups semaphores flags queues (reason.Send object) =
+    nobody-made (λ config. config.id) data_queue_of queues object senders refl (λ c. refl)
+nobody-waits processors setups semaphores flags queues (reason.Receive object) =
+    nobody-made (λ config. config.id) data_queue_of queues object receivers refl (λ c. refl)
+
+-- a task that hasn't started waits for nothing
+first-waits : (found : Option TaskSetup) → waits (option_map unstarted found) ≡ None
+first-waits None = refl
+first-waits (Some setup) = refl
+
+row-by : (small : Bool) (setups : List TaskSetup) (n at : ℕ) → nat_lt at n ≡ small → waits (slice_index_or (first_rows setups n) at None) ≡ None
+unfolding first_rows
+row-by true setups n at test =
+    let small : at < n = grind (arith, nat_tests, test) in
+    ap waits (get_or-map-range_with_len (first_row setups) 0 n at at None small (omega arith)) ∙ first-waits (find (λ setup. setup.id == at) setups)
+row-by false setups n at test =
+    let past : length (first_rows setups n) ≤ at = grind (arith, nat_tests, test, length-map-range_with_len (first_row setups) 0 n) in
+    ap waits (get_or-eq_default (first_rows setups n) None past)
+
+rows-long : (setups : List TaskSetup) (n : ℕ) → length (first_rows setups n) ≡ n
+unfolding first_rows
+rows-long setups n = length-map-range_with_len (first_row setups) 0 n
+
+undue-by : (small : Bool) (n at : ℕ) → nat_lt at n ≡ small → ◌≡◌ {A = Option ℕ} (slice_index_or (replicate n None) at None) None
+undue-by true n at test = get_or-replicate n at None None (grind (arith, nat_tests, test))
+undue-by false n at test = get_or-eq_default (replicate n None) None (grind (arith, nat_tests, test, length-replicate))
+
+undue : (at : ℕ) → due_of beginning at ≡ None
+unfolding beginning
+undue at = undue-by (nat_lt at 256) 256 at refl
+
+dues-long : length beginning.dues ≡ 256
+unfolding beginning
+dues-long = refl
+
+made-stands : (processors : ℕ) (setups : List TaskSetup) (semaphores : List SemaphoreConfig) (flags : List FlagConfig) (queues : List QueueConfig) →
+    StandsIn [] (made_kernel processors setups semaphores flags queues)
+made-stands processors setups semaphores flags queues = record {
+  rows = rows-long setups 256;
+  dues = dues-long;
+  apart = λ why. subst AreApart (sym (nobody-waits processors setups semaphores flags queues why)) tt;
+  listed = λ id why. ap (priority_in id) (nobody-waits processors setups semaphores flags queues why)
+      ∙ sym (ap (λ w. wanted w why) (row-by (nat_lt id 256) setups 256 id refl));
+  timed = λ id in_it. subst (λ w. IsTimed w (due_of beginning id)) (sym (row-by (nat_lt id 256) setups 256 id refl)) (undue id);
+}
+
+pub made-keeps : (processors : ℕ) (setups : List TaskSetup) (semaphores : List SemaphoreConfig) (flags : List FlagConfig)
+    (queues : List QueueConfig) →
+    WaitsAreKept (made_kernel processors setups semaphores flags queues)
+made-keeps processors setups semaphores flags queues =
+    kept (made_kernel processors setups semaphores flags queues) (made-stands processors setups semaphores flags queues)
+
+pub activated-keeps : (k : KernelState) (id : ℕ) (request : Request) → WaitsAreKept k → WaitsAreKept (with_tasks k (activated k.tasks id request))
+activated-keeps k id request was =
+    kept (with_tasks k (activated k.tasks id request))
+    (tasks-keep k (activated k.tasks id request) (activated-before k.tasks id request) (stands k was))
