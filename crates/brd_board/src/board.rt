@@ -6,7 +6,6 @@ ghost use Rattle.brd_tasks.specs.Ready.{IsProcessor, IsSetup};
 ghost use Rattle.brd_board.specs.Board.{
   happens,
   stepped,
-  executes,
   dispatched_board,
   with_call,
   with_fault,
@@ -32,7 +31,7 @@ use crate::setup::{setups_of, start_all, test_handlers};
 use crate::view::Fault;
 use brd_base::{BASE, List, NoMemory};
 use brd_config::{Config, Operand, Stack, TaskAttributes, TaskConfig};
-use brd_exec::{Context, Outcome};
+use brd_exec::{Context, ExceptionCode, Outcome};
 use brd_kernel::{Ended, Kernel, Standing, TaskId, TaskSetup, TaskView};
 use brd_link::Links;
 use brd_mem::{Image, Ram};
@@ -95,7 +94,8 @@ impl Board {
         Board::boot(alloc, &image, &config)
     }
 
-    /// Does one event. It takes no memory.
+    /// Does one event. It takes no memory. Each loop over events has its own copy, which keeps what it needs in registers.
+    #[inline(always)]
     #[tactic(auto, unfolding(crate::specs::Board::happens))]
     pub fn event(&mut self, event: Event) -> Report
         ensures { record { board = self.new; report = result } ≡ happens self.old event }
@@ -119,32 +119,23 @@ impl Board {
         }
     }
 
-    /// A processor does its next step.
+    /// A processor does its next step: it accepts an interrupt, or whoever executes on it does one instruction.
+    #[inline(always)]
     fn step(&mut self, cpu: u8) -> Report
         ensures { record { board = self.new; report = result } ≡ stepped self.old cpu }
     {
-        let Some(processor) = self.kernel.processor(cpu) else {
-            return Report::NoSuch;
-        };
-        if processor.stopped {
-            return Report::Stopped;
-        }
         if let Some(line) = self.kernel.accept(cpu) {
             self.links.end(cpu);
             self.dispatch();
             return Report::Accepted(line);
         }
-        self.execute(cpu)
-    }
-
-    /// Whoever executes on a processor does one instruction, if somebody does.
-    fn execute(&mut self, cpu: u8) -> Report
-        requires { IsProcessor cpu }
-        ensures { record { board = self.new; report = result } ≡ executes self.old cpu }
-    {
         let Some(Ended { address, outcome }) = self.kernel.run(cpu, &mut self.ram, &mut self.links)
         else {
-            return Report::Idle;
+            return match self.kernel.processor(cpu) {
+                None => Report::NoSuch,
+                Some(processor) if processor.stopped => Report::Stopped,
+                Some(_) => Report::Idle,
+            };
         };
         match outcome {
             Outcome::Done => Report::Ran(address),
@@ -153,7 +144,7 @@ impl Board {
                 Report::Called(address)
             }
             Outcome::Exception { code, epc, bd } => {
-                self.end_by_fault(cpu, Fault { code, epc, bd });
+                self.end_by_fault(cpu, code, epc, bd);
                 Report::Faulted(address)
             }
         }
@@ -172,12 +163,12 @@ impl Board {
 
     /// An exception: it is kept as the processor's last one, and ends its task or stops the processor; then the board dispatches.
     #[inline(never)]
-    fn end_by_fault(&mut self, cpu: u8, fault: Fault)
+    fn end_by_fault(&mut self, cpu: u8, code: ExceptionCode, epc: u32, bd: bool)
         requires { IsProcessor cpu }
-        ensures { self.new ≡ dispatched_board (with_fault self.old cpu fault) }
+        ensures { self.new ≡ dispatched_board (with_fault self.old cpu (record { code = code; epc = epc; bd = bd })) }
     {
         self.kernel.end_by_fault(cpu);
-        self.faults[cpu as usize] = Some(fault);
+        self.faults[cpu as usize] = Some(Fault { code, epc, bd });
         self.dispatch();
     }
 

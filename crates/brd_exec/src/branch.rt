@@ -90,8 +90,8 @@ pub fn branch(
         (after_branch context.old (is_likely op) (is_taken op (read context.old rs) (read context.old rt)) offset))
         context.old result context.new }
 {
-    outside_slot(context)?;
     let taken = is_branch_taken(op, context, rs, rt);
+    outside_slot(context)?;
     context.branch(is_branch_likely(op), taken, offset);
     Ok(())
 }

@@ -3,7 +3,8 @@ use Rattle.std.specs.Prelude.{◌≡◌, ◌<◌, ◌≤◌, ℕ, false, List, A
 use Rattle.brd_kernel.specs.declared.processor.Line.{Line}
 use Rattle.brd_kernel.specs.declared.processor.Executor.{Executor}
 use Rattle.brd_kernel.specs.declared.processor.Executor.TheVariants as executor
-use Rattle.brd_kernel.specs.Kernel.{KernelState, processor_at, running_on}
+use Rattle.brd_kernel.specs.declared.processor.Processor.{Processor}
+use Rattle.brd_kernel.specs.Kernel.{KernelState, processor_at, running_on, executor_in}
 use Rattle.brd_kernel.specs.Services.{console_size}
 
 abbrev pub IsIdOrNone : Option ℕ → Type 0
@@ -23,6 +24,16 @@ pub record IsKernel (k : KernelState) : Type 0 where
   pub console : length k.console ≤ console_size
   pub nobody : processor_at k 0 ≡ None
   pub running : (cpu : ℕ) → IsIdOrNone (running_on k cpu)
+
+-- the task that executes, if one does
+
+abbrev pub task_of : Option Executor → Option ℕ
+task_of None = None
+task_of (Some executor.Handler) = None
+task_of (Some (executor.Task id)) = Some id
+
+abbrev pub task_executing : Option Processor → Option ℕ
+task_executing p = task_of (executor_in p)
 
 -- no line is pending
 abbrev pub AreQuiet : List Line → Type 0

@@ -7,6 +7,7 @@ ghost use Rattle.brd_tasks.specs.declared.task.Request.TheVariants.{Assigned};
 ghost use Rattle.brd_kernel.specs.Making.{made_kernel};
 ghost use Rattle.brd_kernel.specs.Kernel.{
   with_tasks,
+  with_processor,
   processor_at,
   running_on,
   executor_on,
@@ -61,6 +62,8 @@ pub struct Kernel {
     flags: Flags,
     queues: Queues,
     processors: [Option<Processor>; 9],
+    /// The task that executes on each of them, if one does, so that a step needn't find it out.
+    executing: [Option<TaskId>; 9],
     handler_contexts: Vec<Context>,
     lines: Vec<Line>,
     console: Vec<u8>,
@@ -69,11 +72,11 @@ pub struct Kernel {
 }
 
 impl Model for Kernel {
-    ghost use Rattle.std.specs.Prelude.{◌≡◌, ◌≤◌, false, vec_capacity};
+    ghost use Rattle.std.specs.Prelude.{◌≡◌, ◌≤◌, false, map, vec_capacity};
     ghost use Rattle.brd_kernel.specs.Kernel.{KernelState};
     ghost use Rattle.brd_kernel.specs.Services.{console_size};
     ghost use Rattle.brd_kernel.specs.Services.{unmarked_on};
-    ghost use Rattle.brd_kernel.specs.Always.{IsKernel, AreQuiet};
+    ghost use Rattle.brd_kernel.specs.Always.{IsKernel, AreQuiet, task_executing};
 
     ghost Value = { KernelState };
 
@@ -104,7 +107,8 @@ impl Model for Kernel {
           console = k.console.items;
         })
         × (console_size ≤ vec_capacity k.console)
-        × (k.pending ≡ false → AreQuiet k.lines.items) };
+        × (k.pending ≡ false → AreQuiet k.lines.items)
+        × (k.executing ≡ map task_executing k.processors) };
 }
 
 impl Kernel {
@@ -129,6 +133,7 @@ impl Kernel {
             flags: Flags::new(alloc, flags)?,
             queues: Queues::new(alloc, queues)?,
             processors: idle_processors(processors),
+            executing: [None; 9],
             handler_contexts: no_contexts(alloc)?,
             lines: quiet_lines(alloc)?,
             console: Vec::with_capacity(alloc, CONSOLE_SIZE)?,
@@ -217,7 +222,13 @@ impl Kernel {
     pub fn executor(&self, cpu: u8) -> Option<Executor>
         ensures is { result ≡ executor_on self.now cpu }
         ensures there { IfSome result (HasContext cpu) }
+        ensures within { IfSome result (λ _. IsProcessor cpu) }
     {
+        if (cpu as usize) < self.executing.len() {
+            if let Some(id) = self.executing[cpu as usize] {
+                return Some(Executor::Task(id));
+            }
+        }
         let processor = self.processor(cpu)?;
         processor.executor()
     }
@@ -248,11 +259,20 @@ impl Kernel {
     #[tactic(auto, using(crate::proofs::LineLemmas::none_pending))]
     pub fn deliverable(&self, cpu: u8) -> Option<u8>
         ensures is { result ≡ deliverable self.now cpu }
-        ensures within { IfSome result (λ line. line < 32) }
+        ensures within { IfSome result (λ line. (line < 32) × IsProcessor cpu) }
     {
         if !self.pending {
             return None;
         }
+        self.first_deliverable(cpu)
+    }
+
+    /// The same, by the lines.
+    #[inline(never)]
+    fn first_deliverable(&self, cpu: u8) -> Option<u8>
+        ensures is { result ≡ deliverable self.now cpu }
+        ensures within { IfSome result (λ line. (line < 32) × IsProcessor cpu) }
+    {
         let processor = self.processor(cpu)?;
         if processor.handling.is_some() || processor.locked || processor.stopped {
             return None;
@@ -280,6 +300,7 @@ impl Kernel {
     pub fn accept(&mut self, cpu: u8) -> Option<u8>
         ensures is { self.new ≡ accepted self.old cpu }
         ensures line { result ≡ deliverable self.old cpu }
+        ensures within { IfSome result (λ _. IsProcessor cpu) }
     {
         let line = self.deliverable(cpu)?;
         self.handle(cpu, line);
@@ -297,10 +318,13 @@ impl Kernel {
         };
         self.lines[line as usize].pending = false;
         self.pending = !are_quiet(self.lines.as_slice());
-        self.processors[cpu as usize] = Some(Processor {
-            handling: Some(line),
-            ..processor
-        });
+        self.put_processor(
+            cpu,
+            Processor {
+                handling: Some(line),
+                ..processor
+            },
+        );
         self.handler_contexts[cpu as usize] = entry_of(line, self.lines[line as usize].handler);
     }
 
@@ -312,16 +336,29 @@ impl Kernel {
             return
         };
         if processor.handling.is_some() {
-            self.processors[cpu as usize] = Some(Processor {
-                stopped: true,
-                ..processor
-            });
+            self.put_processor(
+                cpu,
+                Processor {
+                    stopped: true,
+                    ..processor
+                },
+            );
             return;
         }
         let Some(id) = processor.running else { return };
         self.tasks.clear_activation(id);
         self.end(id);
-        self.processors[cpu as usize] = Some(processor.unmarked());
+        self.put_processor(cpu, processor.unmarked());
+    }
+
+    /// Writes a processor anew.
+    fn put_processor(&mut self, cpu: u8, processor: Processor)
+        requires there { IsProcessor cpu }
+        requires small { IsIdOrNone processor.running }
+        ensures { self.new ≡ with_processor self.old cpu processor }
+    {
+        self.processors[cpu as usize] = Some(processor);
+        self.executing[cpu as usize] = processor.task();
     }
 
     /// Takes a processor's CPU lock and its mark that dispatching is disabled away.
@@ -331,7 +368,7 @@ impl Kernel {
         let Some(processor) = self.processor(cpu) else {
             return
         };
-        self.processors[cpu as usize] = Some(processor.unmarked());
+        self.put_processor(cpu, processor.unmarked());
     }
 
     /// Chooses the running task of each processor that isn't held. Bit j of the answer: that of processor j + 1 has become another.
@@ -360,17 +397,20 @@ impl Kernel {
             return false;
         }
         let running = self.tasks.top(cpu);
-        self.processors[cpu as usize] = Some(Processor {
-            running,
-            ..processor
-        });
+        self.put_processor(
+            cpu,
+            Processor {
+                running,
+                ..processor
+            },
+        );
         !is_same_task(processor.running, running)
     }
 
     /// Does one instruction in the context in which a processor executes, where it lies. None where nobody executes.
     pub fn run(&mut self, cpu: u8, ram: &mut Ram, links: &mut Links) -> Option<Ended>
-        requires { IsProcessor cpu }
-        ensures { Executes (executed self.old cpu ram.old links.old) self.old ram.old links.old self.new ram.new links.new result }
+        ensures within { IfSome result (λ _. IsProcessor cpu) }
+        ensures is { Executes (executed self.old cpu ram.old links.old) self.old ram.old links.old self.new ram.new links.new result }
     {
         let who = self.executor(cpu)?;
         let context = self.context_mut(cpu, who);

@@ -2,6 +2,7 @@
 
 ghost use Rattle.std.specs.Prelude.{◌≡◌, Some};
 ghost use Rattle.brd_kernel.specs.Kernel.{executor_in, is_held, idle, unmarked, quiet};
+ghost use Rattle.brd_kernel.specs.Always.{task_executing};
 
 use brd_exec::Outcome;
 use brd_tasks::TaskId;
@@ -89,6 +90,16 @@ impl Processor {
         }
         let id = self.running?;
         Some(Executor::Task(id))
+    }
+
+    /// The task that executes on it, if one does.
+    pub fn task(&self) -> Option<TaskId>
+        ensures { result ≡ task_executing (Some self.now) }
+    {
+        match self.executor()? {
+            Executor::Handler => None,
+            Executor::Task(id) => Some(id),
+        }
     }
 
     /// Whether its running task stays, whoever else is ready.

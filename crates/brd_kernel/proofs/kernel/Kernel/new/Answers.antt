@@ -1,5 +1,6 @@
 use Rattle.std.proofs.Common.{arith}
 use Rattle.brd_kernel.proofs.MakingLemmas.{made-kernel, made-quiet}
+use Rattle.brd_kernel.proofs.ExecutorLemmas.{none-executes}
 use Rattle.brd_kernel.proofs.kernel.Kernel.new.Goals as goal
 
 pub invariant_of-result : goal.invariant_of-result
@@ -8,4 +9,5 @@ invariant_of-result c = (
       c.in_ok-with_capacity.field-0.items c.idle_processors.ensures c.in_ok-no_contexts.ensures c.in_ok-quiet_lines.ensures c.in_ok-with_capacity.ensures.items,
   omega (arith, c.in_ok-with_capacity.ensures.exact),
   λ quiet. made-quiet c.in_ok-quiet_lines.field-0.items c.in_ok-quiet_lines.ensures,
+  none-executes c.args.processors c.idle_processors.result c.idle_processors.ensures,
 )
