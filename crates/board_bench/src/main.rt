@@ -1,13 +1,15 @@
 //! How fast the board runs: `board_bench EVENTS` does so many events of two small loops on a board of words, of the first
-//! of them on a booted board of two processors and four tasks, on one processor and on both in turn, and of two tasks that
-//! call the kernel; it prints millions of events a second, beside a bare loop of about the same work. Without EVENTS it
-//! does 16,000 of each and prints how often the loops were gone through.
+//! of them on a booted board of two processors and four tasks, on one processor and on both in turn, of tasks that call the
+//! kernel, and of ticks; it prints millions of events a second, beside a bare loop of about the same work. With a number
+//! behind EVENTS it does that work alone, counted from 0. Without EVENTS it does 16,000 events of each and prints how often
+//! the loops were gone through.
 #![tactic(auto)]
 
-use brd_board::{Board, Event, Report};
+use brd_board::{Board, BootFault, Event, Report};
 use brd_config::parse;
 use brd_isa::Register;
 use brd_mem::Image;
+use std::alloc::{AllocError, Global};
 use std::time::Instant;
 
 /// A loop of seven instructions over one word of memory: it loads, adds, stores, counts, and branches with a slot.
@@ -50,8 +52,46 @@ const CALLS: [u32; 7] = [
     0x0000_000c, // syscall
 ];
 
+/// Task 1 returns one to a semaphore; task 2, which comes first, waits for it over and over.
+const SEMAPHORE: [u32; 10] = [
+    0x2404_0001, // addiu $a0, $0, 1
+    0x2402_0018, // addiu $v0, $0, 24: sig_sem
+    0x0000_000c, // syscall
+    0x1000_fffd, // beq $0, $0, -3: to the addiu of $v0
+    0x2529_0001, // addiu $t1, $t1, 1, in the slot
+    0x2404_0001, // addiu $a0, $0, 1
+    0x2402_0019, // addiu $v0, $0, 25: wai_sem
+    0x0000_000c, // syscall
+    0x1000_fffd, // beq $0, $0, -3: to the addiu of $v0
+    0x2529_0001, // addiu $t1, $t1, 1, in the slot
+];
+
+/// Task 255 sets bit 1 of an event flag; the others wait for the bit that their argument says, over and over.
+const FLAG: [u32; 12] = [
+    0x2404_0001, // addiu $a0, $0, 1
+    0x2405_0002, // addiu $a1, $0, 2
+    0x2402_001c, // addiu $v0, $0, 28: set_flg
+    0x0000_000c, // syscall
+    0x1000_fffd, // beq $0, $0, -3: to the addiu of $v0
+    0x2529_0001, // addiu $t1, $t1, 1, in the slot
+    0x0080_2821, // addu $a1, $a0, $0
+    0x2404_0001, // addiu $a0, $0, 1
+    0x2402_001e, // addiu $v0, $0, 30: wai_flg
+    0x0000_000c, // syscall
+    0x1000_fffd, // beq $0, $0, -3: to the addiu of $v0
+    0x2529_0001, // addiu $t1, $t1, 1, in the slot
+];
+
+/// Each task waits for as many ticks as it can.
+const DELAY: [u32; 4] = [
+    0x3c04_7fff, // lui $a0, 0x7fff
+    0x3484_ffff, // ori $a0, $a0, 0xffff
+    0x2402_0017, // addiu $v0, $0, 23: dly_tsk
+    0x0000_000c, // syscall
+];
+
 /// Two processors with two tasks each, of which one is started, and as much RAM as there can be.
-const CONFIG: &[u8] = b"BOARD(2, 0x1000000);
+const TASKS: &str = "BOARD(2, 0x1000000);
 CRE_TSK(1, {TA_ACT, 0, 0x80000000, 2, 4096, NULL});
 CRE_TSK(2, {0, 0, 0x80000014, 1, 4096, NULL});
 CLASS(TCL_2) {
@@ -60,47 +100,97 @@ CLASS(TCL_2) {
 }
 ";
 
+/// One processor with a semaphore and two tasks.
+const PAIR: &str = "BOARD(1, 0x10000);
+CRE_SEM(1, {TA_TFIFO, 0, 1});
+CRE_TSK(1, {TA_ACT, 0, 0x80000000, 2, 4096, NULL});
+CRE_TSK(2, {TA_ACT, 0, 0x80000014, 1, 4096, NULL});
+";
+
+/// One processor with an event flag. Tasks come behind it.
+const CROWD: &str = "BOARD(1, 0x10000);
+CRE_FLG(1, {TA_WMUL | TA_CLR, 0});
+";
+
+/// The board on which a work is done.
+#[derive(Clone, Copy)]
+enum Setting {
+    /// It is made of the words alone.
+    Words,
+    /// It has this configuration.
+    Text(&'static str),
+    /// It has 255 tasks, all of which wait for time.
+    Delayed,
+    /// It has 255 tasks, of which all but one wait for a flag; the last to come is the one that is released.
+    Flagged,
+}
+
+/// What is done, over and over.
+#[derive(Clone, Copy)]
+enum Deed {
+    /// So many processors do their steps in turn.
+    Steps(u8),
+    /// A tick passes, after so many steps of processor 1.
+    Ticks(u64),
+}
+
 /// What is done on which board.
 #[derive(Clone, Copy)]
 struct Work {
     name: &'static str,
     words: &'static [u32],
-    /// Whether the board is booted from the configuration, or made of the words alone.
-    booted: bool,
-    /// How many processors do their steps in turn.
-    processors: u8,
+    setting: Setting,
+    deed: Deed,
 }
 
-const WORKS: [Work; 5] = [
+const WORKS: [Work; 8] = [
     Work {
         name: "plain loop",
         words: &PLAIN,
-        booted: false,
-        processors: 1,
+        setting: Setting::Words,
+        deed: Deed::Steps(1),
     },
     Work {
         name: "wide loop",
         words: &WIDE,
-        booted: false,
-        processors: 1,
+        setting: Setting::Words,
+        deed: Deed::Steps(1),
     },
     Work {
         name: "plain loop, booted",
         words: &PLAIN,
-        booted: true,
-        processors: 1,
+        setting: Setting::Text(TASKS),
+        deed: Deed::Steps(1),
     },
     Work {
         name: "plain loop, on two processors in turn",
         words: &PLAIN,
-        booted: true,
-        processors: 2,
+        setting: Setting::Text(TASKS),
+        deed: Deed::Steps(2),
     },
     Work {
         name: "act_tsk and ext_tsk",
         words: &CALLS,
-        booted: true,
-        processors: 1,
+        setting: Setting::Text(TASKS),
+        deed: Deed::Steps(1),
+    },
+    Work {
+        name: "sig_sem and wai_sem of two tasks",
+        words: &SEMAPHORE,
+        setting: Setting::Text(PAIR),
+        deed: Deed::Steps(1),
+    },
+    Work {
+        name: "set_flg over 254 waiters, of which the last is satisfied",
+        words: &FLAG,
+        setting: Setting::Flagged,
+        deed: Deed::Steps(1),
+    },
+    Work {
+        name: "tick with 255 timeouts, of which none is due",
+        words: &DELAY,
+        setting: Setting::Delayed,
+        deed: Deed::Ticks(1_020),
     },
 ];
 
@@ -114,21 +204,38 @@ fn main(rt: HostRuntime) -> anyhow::Result<()> {
         return Ok(());
     };
     let events = text.as_str().parse::<u64>()?;
+    if let Some(number) = arguments.next() {
+        let number = number.as_str().parse::<usize>()?;
+        return measure_one(&rt, number, events);
+    }
     for work in WORKS {
         measure(&rt, work, events)?;
     }
     measure_bare(&rt, events)
 }
 
+/// Does so many events of the work of a number, counted from 0, alone.
+fn measure_one(rt: &HostRuntime, number: usize, events: u64) -> anyhow::Result<()> {
+    match WORKS.get(number) {
+        Some(work) => measure(rt, *work, events),
+        None => anyhow::bail!("no work has this number: {number}"),
+    }
+}
+
 /// The board on which a work is done.
 fn board_of(rt: &HostRuntime, work: Work) -> anyhow::Result<Board> {
     let alloc = rt.alloc();
-    let made = if work.booted {
-        let image = Image::from_words(alloc, work.words)?;
-        let config = parse(alloc, CONFIG)?;
-        Board::boot(alloc, &image, &config)
-    } else {
-        Board::from_words(alloc, work.words)
+    let made = match work.setting {
+        Setting::Words => Board::from_words(alloc, work.words),
+        Setting::Text(text) => booted(alloc, work.words, text)?,
+        Setting::Delayed => {
+            let text = crowd(alloc, 0x8000_0000, 0x8000_0000)?;
+            booted(alloc, work.words, text.as_str())?
+        }
+        Setting::Flagged => {
+            let text = crowd(alloc, 0x8000_0018, 0x8000_0000)?;
+            booted(alloc, work.words, text.as_str())?
+        }
     };
     match made {
         Ok(board) => Ok(board),
@@ -136,21 +243,45 @@ fn board_of(rt: &HostRuntime, work: Work) -> anyhow::Result<Board> {
     }
 }
 
+/// The board of words and a configuration.
+fn booted(alloc: Global, words: &[u32], text: &str) -> anyhow::Result<Result<Board, BootFault>> {
+    let image = Image::from_words(alloc, words)?;
+    let config = parse(alloc, text.as_bytes())?;
+    Ok(Board::boot(alloc, &image, &config))
+}
+
+/// A configuration with 255 tasks: the first 254 start at `others`, with 2 as the argument of the last of them and 1 of the
+/// rest; task 255 comes after all of them and starts at `last`.
+fn crowd(alloc: Global, others: u32, last: u32) -> Result<String, AllocError> {
+    let mut text = String::from_str(alloc, CROWD)?;
+    for id in 1..255u16 {
+        let bits = if id == 254 { 2 } else { 1 };
+        write!(
+            text,
+            "CRE_TSK({id}, {{TA_ACT, {bits}, {others}, 1, 16, NULL}});\n"
+        )?;
+    }
+    write!(text, "CRE_TSK(255, {{TA_ACT, 0, {last}, 2, 16, NULL}});\n")?;
+    Ok(text)
+}
+
 /// Does 16,000 events of a work, and prints how often its loop was gone through.
 fn count_turns(rt: &HostRuntime, work: Work) -> anyhow::Result<()> {
     let name = work.name;
     let mut board = board_of(rt, work)?;
-    let ran = run(&mut board, work.processors, 16_000);
-    let count = count_of(&board);
-    println!(rt; "{name}: {ran} of 16000 events ran an instruction, {count} turns")?;
+    prepare(&mut board, work.deed);
+    let ran = run(&mut board, work.deed, 16_000);
+    let (count, now) = (count_of(&board), board.now());
+    println!(rt; "{name}: {ran} of 16000 events ran an instruction, {count} turns, {now} ticks")?;
     Ok(())
 }
 
 /// Does so many events of a work, and prints how fast.
 fn measure(rt: &HostRuntime, work: Work, events: u64) -> anyhow::Result<()> {
     let mut board = board_of(rt, work)?;
+    prepare(&mut board, work.deed);
     let start = Instant::now(rt)?;
-    let _ = run(&mut board, work.processors, events);
+    let _ = run(&mut board, work.deed, events);
     let time = start.elapsed(rt)?.as_millis();
     report(rt, work.name, events, time)
 }
@@ -170,8 +301,25 @@ fn measure_bare(rt: &HostRuntime, events: u64) -> anyhow::Result<()> {
     Ok(())
 }
 
-/// Does so many steps, of the processors in turn, and counts those that ran an instruction.
-fn run(board: &mut Board, processors: u8, events: u64) -> u64 {
+/// Does the steps that come before ticks.
+fn prepare(board: &mut Board, deed: Deed) {
+    if let Deed::Ticks(steps) = deed {
+        let _ = run_steps(board, 1, steps);
+    }
+}
+
+/// Does so many events, and counts those that ran an instruction.
+fn run(board: &mut Board, deed: Deed, events: u64) -> u64 {
+    match deed {
+        Deed::Steps(processors) => run_steps(board, processors, events),
+        Deed::Ticks(_) => run_ticks(board, events),
+    }
+}
+
+/// Does so many steps, of the processors in turn, and counts those that ran an instruction. It is the only place that does steps, so
+/// that a step is done in line.
+#[inline(never)]
+fn run_steps(board: &mut Board, processors: u8, events: u64) -> u64 {
     let mut ran = 0u64;
     let mut cpu = 1u8;
     for _ in 0..events {
@@ -181,6 +329,15 @@ fn run(board: &mut Board, processors: u8, events: u64) -> u64 {
         cpu = if cpu < processors { cpu + 1 } else { 1 };
     }
     ran
+}
+
+/// Does so many ticks. None of them runs an instruction.
+#[inline(never)]
+fn run_ticks(board: &mut Board, events: u64) -> u64 {
+    for _ in 0..events {
+        let _ = board.event(Event::Tick);
+    }
+    0
 }
 
 /// How often processor 1 went through the loop.
