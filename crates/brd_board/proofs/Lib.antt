@@ -3,5 +3,8 @@ pub mod BootLemmas
 pub mod LinkLemmas
 pub mod SetupLemmas
 pub mod LawLemmas
+pub mod RunLemmas
+pub mod ConditionalLemmas
+pub mod Example
 pub mod ChangeLemmas
 pub mod WaitingLemmas

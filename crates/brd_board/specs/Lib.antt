@@ -1,6 +1,8 @@
 pub mod Board
 pub mod Setup
 pub mod Boot
+pub mod History
+pub mod Conditional
 pub use Rattle.brd_exec.specs.State
 pub use Rattle.brd_exec.specs.Step
 pub use Rattle.brd_link.specs.LinkSet

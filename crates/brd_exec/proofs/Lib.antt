@@ -1,4 +1,6 @@
 mod UnalignedLemmas
 mod LocalLemmas
+pub mod FrameLemmas
+pub mod StepLemmas
 pub mod KeptLemmas
 pub mod ZeroLemmas

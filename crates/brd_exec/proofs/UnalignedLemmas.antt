@@ -120,7 +120,7 @@ load-whole memory address old are ram from to =
     ∙ ap (λ xs. Ok (word_of_bytes xs)) (joined-whole memory address (address % 4) rest refl (omega arith) from to))
 
 -- ---- stores: over a list, from a place on
-abbrev put : List ℕ → ℕ → List ℕ → List ℕ
+abbrev pub put : List ℕ → ℕ → List ℕ → List ℕ
 put memory at bytes = take at memory ++ bytes ++ drop (at + length bytes) memory
 
 length-front : (memory : List ℕ) (at : ℕ) (front : List ℕ) → at ≤ length memory →
@@ -133,7 +133,7 @@ take-put memory at front rest fits =
     subst (λ n. take n (take at memory ++ front ++ rest) ≡ take at memory ++ front) (length-front memory at front fits)
     (take-append_seam (take at memory ++ front) rest)
 
-drop-put : (memory : List ℕ) (at more : ℕ) (front rest : List ℕ) → at ≤ length memory →
+pub drop-put : (memory : List ℕ) (at more : ℕ) (front rest : List ℕ) → at ≤ length memory →
     drop (at + length front + more) (take at memory ++ front ++ rest) ≡ drop more rest
 drop-put memory at more front rest fits =
     subst (λ n. drop (n + more) (take at memory ++ front ++ rest) ≡ drop more rest) (length-front memory at front fits)
@@ -166,7 +166,7 @@ put-again memory at bytes fits =
     subst (λ n. drop n (put memory at bytes) ≡ behind) same (drop-put memory at 0 bytes behind fits) in
     grind (arith, start, end)
 
-length-put : (memory : List ℕ) (at : ℕ) (bytes : List ℕ) → at + length bytes ≤ length memory →
+pub length-put : (memory : List ℕ) (at : ℕ) (bytes : List ℕ) → at + length bytes ≤ length memory →
     length (put memory at bytes) ≡ length memory
 length-put memory at bytes fits =
     let behind : List ℕ = drop (at + length bytes) memory in

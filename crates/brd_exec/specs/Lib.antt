@@ -4,6 +4,7 @@ pub mod Exception
 pub mod Action
 pub mod Unaligned
 pub mod Step
+pub mod Did
 pub mod Kept
 pub mod Effects
 pub use Rattle.brd_mem.specs.Memory
