@@ -3,6 +3,7 @@ use brd_config::parse;
 use brd_exec::ExceptionCode;
 use brd_isa::Register;
 use brd_mem::Image;
+use std::alloc::Global;
 use std::test::Fail;
 
 #[test]
@@ -180,11 +181,15 @@ fn waits_and_ends(rt: HostRuntime) -> Result<(), Fail> {
     Ok(())
 }
 
-/// 255 tasks on eight processors, all started by boot: each processor runs its tasks by priority, and equals as they stand in the
-/// configuration; at last all processors are idle.
-#[test]
-fn all_tasks_on_all_processors(rt: HostRuntime) -> Result<(), Fail> {
-    let alloc = rt.alloc();
+/// The board of a configuration and of words from RAM's first address on.
+fn booted(alloc: Global, config: &str, words: &[u32]) -> Result<Board, Fail> {
+    let config = parse(alloc, config.as_bytes())?;
+    let image = Image::from_words(alloc, words)?;
+    Ok(Board::boot(alloc, &image, &config)?)
+}
+
+/// 255 tasks on eight processors, from the highest number on.
+fn on_eight_processors(alloc: Global) -> Result<String, Fail> {
     let mut config = String::from_str(alloc, "BOARD(8, 0x100000);\n")?;
     for id in (1..256u16).rev() {
         let (class, priority) = (id % 8 + 1, id % 16 + 1);
@@ -193,18 +198,40 @@ fn all_tasks_on_all_processors(rt: HostRuntime) -> Result<(), Fail> {
             "CLASS(TCL_{class}) {{ CRE_TSK({id}, {{TA_ACT, {id}, 0x80000000, {priority}, 4096, NULL}}); }}\n"
         )?;
     }
-    let config = parse(alloc, config.as_bytes())?;
-    let image = Image::from_words(alloc, &[0x2402_0003, 0x0000_000c])?;
-    let mut board = Board::boot(alloc, &image, &config)?;
+    Ok(config)
+}
+
+/// 255 tasks on one processor, from the highest number on, all of one priority and with the argument 1.
+fn on_one_processor(alloc: Global) -> Result<String, Fail> {
+    let mut config = String::from_str(alloc, "BOARD(1, 0x10000);\n")?;
+    for id in (1..256u16).rev() {
+        write!(
+            config,
+            "CRE_TSK({id}, {{TA_ACT, 1, 0x80000000, 1, 16, NULL}});\n"
+        )?;
+    }
+    Ok(config)
+}
+
+/// The argument with which the task of a processor has started.
+fn argument(board: &Board, cpu: u8) -> Option<u32> {
+    Some(board.registers(cpu)?.read(Register::low(4)))
+}
+
+/// 255 tasks on eight processors, all started by boot: each processor runs its tasks by priority, and equals as they stand in the
+/// configuration; at last all processors are idle.
+#[test]
+fn all_tasks_on_all_processors(rt: HostRuntime) -> Result<(), Fail> {
+    let alloc = rt.alloc();
+    let config = on_eight_processors(alloc)?;
+    let mut board = booted(alloc, config.as_str(), &[0x2402_0003, 0x0000_000c])?;
     for priority in 1..17u16 {
         for id in (1..256u16).rev() {
             if id % 16 + 1 == priority {
                 let cpu = (id % 8 + 1) as u8;
                 assert_eq!(rt; board.standing(cpu), Some(Standing::Task(id)));
-                let argument = board.registers(cpu).map(|it| it.read(Register::low(4)));
-                assert_eq!(rt; argument, Some(id as u32));
-                assert_eq!(rt; board.event(Event::Step(cpu)), Report::Ran(0x8000_0000));
-                assert_eq!(rt; board.event(Event::Step(cpu)), Report::Called(0x8000_0004));
+                assert_eq!(rt; argument(&board, cpu), Some(id as u32));
+                board.play(&[Event::Step(cpu), Event::Step(cpu)]);
             }
         }
     }
@@ -219,37 +246,26 @@ fn all_tasks_on_all_processors(rt: HostRuntime) -> Result<(), Fail> {
 #[test]
 fn all_waits_end_at_one_tick(rt: HostRuntime) -> Result<(), Fail> {
     let alloc = rt.alloc();
-    let mut config = String::from_str(alloc, "BOARD(1, 0x10000);\n")?;
-    for id in (1..256u16).rev() {
-        write!(
-            config,
-            "CRE_TSK({id}, {{TA_ACT, 1, 0x80000000, 1, 16, NULL}});\n"
-        )?;
-    }
-    let config = parse(alloc, config.as_bytes())?;
     let words = [
         0x2402_0017, // addiu $v0, $0, 23: dly_tsk
         0x0000_000c, // syscall
         0x2402_0003, // addiu $v0, $0, 3: ext_tsk
         0x0000_000c, // syscall
     ];
-    let image = Image::from_words(alloc, &words)?;
-    let mut board = Board::boot(alloc, &image, &config)?;
+    let config = on_one_processor(alloc)?;
+    let mut board = booted(alloc, config.as_str(), &words)?;
     for _ in 1..256u16 {
-        assert_eq!(rt; board.event(Event::Step(1)), Report::Ran(0x8000_0000));
-        assert_eq!(rt; board.event(Event::Step(1)), Report::Called(0x8000_0004));
+        board.play(&[Event::Step(1), Event::Step(1)]);
     }
-    assert_eq!(rt; board.event(Event::Step(1)), Report::Idle);
-    assert_eq!(rt; board.event(Event::Tick), Report::Ticked);
-    assert_eq!(rt; board.event(Event::Step(1)), Report::Idle);
-    assert_eq!(rt; board.event(Event::Tick), Report::Ticked);
+    assert_eq!(rt; board.standing(1), Some(Standing::Idle));
+    board.play(&[Event::Tick]);
+    assert_eq!(rt; board.standing(1), Some(Standing::Idle));
+    board.play(&[Event::Tick]);
     for id in 1..256u16 {
         assert_eq!(rt; board.standing(1), Some(Standing::Task(id)));
-        assert_eq!(rt; board.task(id).map(|it| it.due), Some(None));
-        assert_eq!(rt; board.event(Event::Step(1)), Report::Ran(0x8000_0008));
-        assert_eq!(rt; board.event(Event::Step(1)), Report::Called(0x8000_000c));
+        board.play(&[Event::Step(1), Event::Step(1)]);
     }
-    assert_eq!(rt; board.event(Event::Step(1)), Report::Idle);
+    assert_eq!(rt; board.standing(1), Some(Standing::Idle));
     Ok(())
 }
 
