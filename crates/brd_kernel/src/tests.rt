@@ -311,18 +311,6 @@ fn calls(rt: HostRuntime) -> Result<(), Fail> {
     Ok(())
 }
 
-/// The console takes 65,536 bytes.
-#[test]
-fn full_console(rt: HostRuntime) -> Result<(), Fail> {
-    let mut kernel = two(rt.alloc())?;
-    for _ in 0..65_536u32 {
-        assert_eq!(rt; kernel.serve(1, Call::PutChr(7)), OK);
-    }
-    assert_eq!(rt; kernel.serve(1, Call::PutChr(8)), QOVR);
-    assert_eq!(rt; kernel.console().len(), 65_536);
-    Ok(())
-}
-
 /// An exception ends the running task, whatever is queued for it.
 #[test]
 fn faults(rt: HostRuntime) -> Result<(), Fail> {
