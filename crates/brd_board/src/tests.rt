@@ -3,7 +3,7 @@ use brd_config::parse;
 use brd_exec::ExceptionCode;
 use brd_isa::Register;
 use brd_mem::Image;
-use std::alloc::Global;
+use std::alloc::{AllocError, Global};
 use std::test::Fail;
 
 #[test]
@@ -189,7 +189,7 @@ fn booted(alloc: Global, config: &str, words: &[u32]) -> Result<Board, Fail> {
 }
 
 /// 255 tasks on eight processors, from the highest number on.
-fn on_eight_processors(alloc: Global) -> Result<String, Fail> {
+fn on_eight_processors(alloc: Global) -> Result<String, AllocError> {
     let mut config = String::from_str(alloc, "BOARD(8, 0x100000);\n")?;
     for id in (1..256u16).rev() {
         let (class, priority) = (id % 8 + 1, id % 16 + 1);
@@ -201,8 +201,44 @@ fn on_eight_processors(alloc: Global) -> Result<String, Fail> {
     Ok(config)
 }
 
+/// Whether a task runs on its processor with its argument, and ends by two steps.
+fn runs_to_its_end(board: &mut Board, id: u16) -> bool {
+    let cpu = (id % 8 + 1) as u8;
+    let argument = board.registers(cpu).map(|it| it.read(Register::low(4)));
+    board.standing(cpu) == Some(Standing::Task(id))
+        && argument == Some(id as u32)
+        && board.event(Event::Step(cpu)) == Report::Ran(0x8000_0000)
+        && board.event(Event::Step(cpu)) == Report::Called(0x8000_0004)
+}
+
+/// Whether the tasks run by priority, and those of one priority from the highest number on, each to its end.
+fn run_by_priority(board: &mut Board) -> bool {
+    for priority in 1..17u16 {
+        for id in (1..256u16).rev() {
+            if id % 16 + 1 == priority && !runs_to_its_end(board, id) {
+                return false;
+            }
+        }
+    }
+    true
+}
+
+/// 255 tasks on eight processors, all started by boot: each processor runs its tasks by priority, and equals as they stand in the
+/// configuration; at last all processors are idle.
+#[test]
+fn all_tasks_on_all_processors(rt: HostRuntime) -> Result<(), Fail> {
+    let alloc = rt.alloc();
+    let config = on_eight_processors(alloc)?;
+    let mut board = booted(alloc, config.as_str(), &[0x2402_0003, 0x0000_000c])?;
+    assert!(rt; run_by_priority(&mut board));
+    for cpu in 1..9u8 {
+        assert_eq!(rt; board.event(Event::Step(cpu)), Report::Idle);
+    }
+    Ok(())
+}
+
 /// 255 tasks on one processor, from the highest number on, all of one priority and with the argument 1.
-fn on_one_processor(alloc: Global) -> Result<String, Fail> {
+fn on_one_processor(alloc: Global) -> Result<String, AllocError> {
     let mut config = String::from_str(alloc, "BOARD(1, 0x10000);\n")?;
     for id in (1..256u16).rev() {
         write!(
@@ -213,32 +249,22 @@ fn on_one_processor(alloc: Global) -> Result<String, Fail> {
     Ok(config)
 }
 
-/// The argument with which the task of a processor has started.
-fn argument(board: &Board, cpu: u8) -> Option<u32> {
-    Some(board.registers(cpu)?.read(Register::low(4)))
+/// Processor 1 does two steps, 255 times over.
+fn step_twice_255_times(board: &mut Board) {
+    for _ in 1..256u16 {
+        board.play(&[Event::Step(1), Event::Step(1)]);
+    }
 }
 
-/// 255 tasks on eight processors, all started by boot: each processor runs its tasks by priority, and equals as they stand in the
-/// configuration; at last all processors are idle.
-#[test]
-fn all_tasks_on_all_processors(rt: HostRuntime) -> Result<(), Fail> {
-    let alloc = rt.alloc();
-    let config = on_eight_processors(alloc)?;
-    let mut board = booted(alloc, config.as_str(), &[0x2402_0003, 0x0000_000c])?;
-    for priority in 1..17u16 {
-        for id in (1..256u16).rev() {
-            if id % 16 + 1 == priority {
-                let cpu = (id % 8 + 1) as u8;
-                assert_eq!(rt; board.standing(cpu), Some(Standing::Task(id)));
-                assert_eq!(rt; argument(&board, cpu), Some(id as u32));
-                board.play(&[Event::Step(cpu), Event::Step(cpu)]);
-            }
+/// Whether the tasks run on processor 1 by ascending number, each to its end by two steps.
+fn run_by_number(board: &mut Board) -> bool {
+    for id in 1..256u16 {
+        if board.standing(1) != Some(Standing::Task(id)) {
+            return false;
         }
+        board.play(&[Event::Step(1), Event::Step(1)]);
     }
-    for cpu in 1..9u8 {
-        assert_eq!(rt; board.event(Event::Step(cpu)), Report::Idle);
-    }
-    Ok(())
+    true
 }
 
 /// 255 tasks, started by boot in the order of the configuration, wait for the same tick: at that tick all of them are ready, by ascending
@@ -246,25 +272,19 @@ fn all_tasks_on_all_processors(rt: HostRuntime) -> Result<(), Fail> {
 #[test]
 fn all_waits_end_at_one_tick(rt: HostRuntime) -> Result<(), Fail> {
     let alloc = rt.alloc();
+    let config = on_one_processor(alloc)?;
     let words = [
         0x2402_0017, // addiu $v0, $0, 23: dly_tsk
         0x0000_000c, // syscall
         0x2402_0003, // addiu $v0, $0, 3: ext_tsk
         0x0000_000c, // syscall
     ];
-    let config = on_one_processor(alloc)?;
     let mut board = booted(alloc, config.as_str(), &words)?;
-    for _ in 1..256u16 {
-        board.play(&[Event::Step(1), Event::Step(1)]);
-    }
-    assert_eq!(rt; board.standing(1), Some(Standing::Idle));
+    step_twice_255_times(&mut board);
     board.play(&[Event::Tick]);
     assert_eq!(rt; board.standing(1), Some(Standing::Idle));
     board.play(&[Event::Tick]);
-    for id in 1..256u16 {
-        assert_eq!(rt; board.standing(1), Some(Standing::Task(id)));
-        board.play(&[Event::Step(1), Event::Step(1)]);
-    }
+    assert!(rt; run_by_number(&mut board));
     assert_eq!(rt; board.standing(1), Some(Standing::Idle));
     Ok(())
 }
