@@ -14,9 +14,10 @@ of_gate() {
         done
 }
 
-# a call that may wait stands in the table as its form with a timeout: wai_sem, pol_sem as twai_sem
-with_timeout() {
-    sed -E 's/^pol_/wai_/; s/^p(snd|rcv)_/\1_/; s/^(slp|wai|snd|rcv)_/t\1_/' <<< "$1"
+# The call of the table for which a number stands: one that may wait stands there as its form with a timeout (wai_sem, pol_sem as
+# twai_sem), and a handler's as that of tasks where both do the same (isig_sem as sig_sem).
+in_table() {
+    sed -E 's/^i(rel_wai|sig_sem|set_flg|psnd_dtq|fsnd_dtq|get_tid)$/\1/; s/^pol_/wai_/; s/^p(snd|rcv)_/\1_/; s/^(slp|wai|snd|rcv)_/t\1_/' <<< "$1"
 }
 
 of_doc() {
@@ -32,7 +33,7 @@ of_doc() {
             words=$(tr -d ' ' <<< "$arguments")
             count=0
             [ -n "$words" ] && count=$(($(tr -cd ',' <<< "$words" | wc -c) + 1))
-            echo "$number|$(with_timeout "$name" | tr -d _)|$place|$count"
+            echo "$number|$(in_table "$name" | tr -d _)|$place|$count"
         done
 }
 
@@ -61,7 +62,7 @@ refusals_of_doc() {
 
 status=0
 diff <(of_gate) <(of_doc) || status=1
-diff <(refusals_of_rows) <(refusals_of_doc) || status=1
+diff <(refusals_of_rows | sort -n) <(refusals_of_doc | sort -n) || status=1
 if [ $status -eq 0 ]; then
     echo "ok: services_doc: $(of_doc | wc -l) calls"
 else

@@ -3,7 +3,7 @@
 //! - `= NAME` begins anew, without source and configuration;
 //! - `s LINE` is a line of assembler source, `c LINE` one of the configuration;
 //! - `e EVENTS` boots the board, if it isn't yet, and does events, a byte each: a digit is a step of that processor, T a tick,
-//!   R a raise of line 5. Behind it stand the reports, a byte each (r `Ran`, c `Called`, f `Faulted`, i `Idle`, s `Stopped`,
+//!   `a` to `z` are raises of lines 0 to 25. Behind it stand the reports, a byte each (r `Ran`, c `Called`, f `Faulted`, i `Idle`, s `Stopped`,
 //!   o `Off`, n `NoSuch`, t `Ticked`, O `TimeOver`, a `Accepted`, R `Raised`), and what the board shows;
 //! - `m ADDRESS` tells the word at an address of eight hexadecimal digits;
 //! - `f LINE` boots a board with the configuration so far and this line, and tells the fault;
@@ -13,6 +13,7 @@
 use brd_asm::{AsmFault, assemble};
 use brd_board::{Board, BootFault, Event, Report, Standing, TaskView};
 use brd_config::{ConfigFault, parse};
+use brd_exec::Context;
 use brd_isa::Register;
 use brd_mem::laws::plain_images_are_loadable;
 use brd_text::hex_word;
@@ -49,7 +50,7 @@ fn board_of(
 fn event_of(byte: u8) -> Event {
     match byte {
         b'T' => Event::Tick,
-        b'R' => Event::Raise(5),
+        b'a'..=b'z' => Event::Raise(byte - b'a'),
         _ => Event::Step(byte.wrapping_sub(b'0')),
     }
 }
@@ -130,7 +131,18 @@ fn show_processor(text: &mut String, board: &Board, cpu: u8) -> Result<(), Alloc
         let (code, epc, bd) = (fault.code.number(), fault.epc, fault.bd);
         write!(text, ", fault {code} at {epc:08x}, in a slot: {bd}")?;
     }
-    Ok(())
+    show_handler(text, board, cpu)
+}
+
+/// The context of the handler that a processor runs, if it runs one.
+fn show_handler(text: &mut String, board: &Board, cpu: u8) -> Result<(), AllocError> {
+    let Some(Standing::Handler(_)) = board.standing(cpu) else {
+        return Ok(());
+    };
+    match board.registers(cpu) {
+        Some(context) => show_context(text, &context),
+        None => Ok(()),
+    }
 }
 
 /// A task's state, priority and processor, what it waits for, what is queued, and its context.
@@ -139,7 +151,7 @@ fn show_task(text: &mut String, id: u16, task: &TaskView) -> Result<(), AllocErr
     write!(text, "\n  task {id} {state:?} pri {priority} cpu {cpu}")?;
     show_wait(text, task)?;
     show_queued(text, task)?;
-    show_context(text, task)
+    show_context(text, &task.context)
 }
 
 /// What a task waits for, and the tick at which that ends.
@@ -165,11 +177,11 @@ fn show_queued(text: &mut String, task: &TaskView) -> Result<(), AllocError> {
 }
 
 /// The program counter, and all registers that aren't 0.
-fn show_context(text: &mut String, task: &TaskView) -> Result<(), AllocError> {
-    let pc = task.context.pc();
+fn show_context(text: &mut String, context: &Context) -> Result<(), AllocError> {
+    let pc = context.pc();
     write!(text, " pc {pc:08x}")?;
     for number in 1..32u32 {
-        let word = task.context.read(Register::low(number));
+        let word = context.read(Register::low(number));
         if word != 0 {
             write!(text, " ${number} {word:x}")?;
         }

@@ -11,7 +11,7 @@ use Rattle.brd_tasks.specs.declared.status.Status.TheVariants.{Dormant, Ready, W
 use Rattle.brd_tasks.specs.declared.task.Task.{Task}
 use Rattle.brd_tasks.specs.declared.task.Request.{Request}
 use Rattle.brd_tasks.specs.Status.{waiting_of, is_dormant, is_ready, blocked, released, suspended, resumed}
-use Rattle.brd_tasks.specs.Tasks.{TaskTable, task_at, started, processor_of, starts, placed, patched, where_there, activated, ended_by, ended, put_into, through, released_to, released_with, changed, with_priority, noted}
+use Rattle.brd_tasks.specs.Tasks.{TaskTable, task_at, started, processor_of, starts, placed, patched, where_there, activated, ended_by, ended, put_into, through, released_to, released_with, changed, with_priority, on_processor, noted, turned}
 use Rattle.brd_kernel.proofs.ListLemmas.{if-lift, same-number, written-at}
 use Rattle.brd_kernel.proofs.StandingLemmas.{waits_by, waits}
 
@@ -145,6 +145,16 @@ changed-before t id priority none =
     (λ task there.
     as-written t (placed t id (with_priority priority task)) id task (with_priority priority task) there
     (idle-priority (waiting_of task.status) priority task.priority (sym (ap waits there) ∙ none)) refl)
+
+-- a task is assigned to another processor
+pub migrated-before : (t : TaskTable) (id cpu : ℕ) → IsAsBefore t (changed (on_processor cpu) t id)
+migrated-before t id cpu =
+    there-before t id (λ task. placed t id (on_processor cpu task)) (task_at t id) refl
+    (λ task there. as-written t (placed t id (on_processor cpu task)) id task (on_processor cpu task) there refl refl)
+
+-- a ready list is turned
+pub turned-before : (t : TaskTable) (cpu priority : ℕ) → IsAsBefore t (turned t cpu priority)
+turned-before t cpu priority = record { long = refl; same = λ at. refl }
 
 -- Operations that end a wait, or begin one.
 

@@ -6,9 +6,9 @@ use Rattle.brd_exec.specs.State.{State}
 use Rattle.brd_tasks.specs.declared.status.WaitReason.{WaitReason}
 use Rattle.brd_tasks.specs.declared.status.WaitReason.TheVariants as reason
 use Rattle.brd_tasks.specs.declared.task.Task.{Task}
-use Rattle.brd_tasks.specs.declared.task.Request.TheVariants.{Assigned}
+use Rattle.brd_tasks.specs.declared.task.Request.TheVariants.{Assigned, On}
 use Rattle.brd_tasks.specs.Status.{waiting_of, suspended, resumed}
-use Rattle.brd_tasks.specs.Tasks.{task_at, activated, through, with_context, noted, with_wakeup, without_activation}
+use Rattle.brd_tasks.specs.Tasks.{task_at, activated, through, changed, on_processor, with_context, noted, with_wakeup, without_activation, turned}
 use Rattle.brd_time.specs.Time.{Time, last_count, advanced, due_from}
 use Rattle.brd_objects.specs.declared.semaphore.Semaphore.{Semaphore}
 use Rattle.brd_objects.specs.declared.flag.Flag.{Flag}
@@ -29,11 +29,11 @@ use Rattle.brd_kernel.specs.Kernel.{KernelState, with_tasks, with_processor, pro
 use Rattle.brd_kernel.specs.Row.{Served, or_refused}
 use Rattle.brd_kernel.specs.Waits.{due_after, reason_of, ended_in, answer_by, timed_out, all_timed_out, ticked_on, ticked, faulted_task, faulted_in, ended_by_fault}
 use Rattle.brd_kernel.specs.Services as table
-use Rattle.brd_kernel.specs.Services.{named, unmarked_on, serve_by, serve_of, caller_on, or_waits, callers_priority, with_released, with_all_released_in, with_satisfied_of, handed_over, flag_got, queue_sent, queue_received}
+use Rattle.brd_kernel.specs.Services.{named, unmarked_on, handler_ended, serve_by, serve_of, caller_on, or_waits, callers_priority, with_released, with_all_released_in, with_satisfied_of, handed_over, flag_got, queue_sent, queue_received}
 use Rattle.brd_kernel.specs.Waiting.{standing_for, WaitsAreKept}
 use Rattle.brd_kernel.proofs.StandingLemmas.{waits_by, waits, StandsIn, stands, kept}
 use Rattle.brd_kernel.proofs.KeepingLemmas.{by-lists, by-count}
-use Rattle.brd_kernel.proofs.RowLemmas.{noted-before, activated-before, suspended-keeps, resumed-keeps, through-before}
+use Rattle.brd_kernel.proofs.RowLemmas.{noted-before, activated-before, migrated-before, turned-before, suspended-keeps, resumed-keeps, through-before}
 use Rattle.brd_kernel.proofs.WaitingLemmas.{lists-by, parts-keep, tasks-keep, released-keep, broken-keeps, ended-keeps, asleep-out, wait-keeps, enters-none, enters-semaphore, priority-keeps}
 use Rattle.brd_kernel.proofs.CallLemmas.{Keeps, keeps-row, keeps-if, waits-keep, sleep-none, delay-none, taken-by, semaphore-stays, returned-keeps, flag-stays, keeps-got, satisfied-keep, keeps-sent, sent-keeps, forced-keeps, received-keep}
 
@@ -55,9 +55,31 @@ asleep-by k id task (Some (reason.Flag object)) there waiting asleep was = absur
 asleep-by k id task (Some (reason.Send object)) there waiting asleep was = absurd (false≢true asleep)
 asleep-by k id task (Some (reason.Receive object)) there waiting asleep was = absurd (false≢true asleep)
 
+turned-keeps : (k : KernelState) (cpu priority : ℕ) → StandsIn [] k → StandsIn [] (with_tasks k (turned k.tasks cpu priority))
+turned-keeps k cpu priority was = tasks-keep k (turned k.tasks cpu priority) (turned-before k.tasks cpu priority) was
+
 keeps-serve : (k : KernelState) (cpu caller : ℕ) (c : Call) → StandsIn [] k → Keeps (serve_by k cpu caller c)
 keeps-serve k cpu caller (call.ActTsk t) was = keeps-row (table.act_tsk k (named caller t))
     (λ task there. tasks-keep k (activated k.tasks (named caller t) Assigned) (activated-before k.tasks (named caller t) Assigned) was)
+keeps-serve k cpu caller (call.IactTsk t) was =
+    keeps-row (table.act_tsk k t) (λ task there. tasks-keep k (activated k.tasks t Assigned) (activated-before k.tasks t Assigned) was)
+keeps-serve k cpu caller (call.MactTsk t to) was = keeps-row (table.mact_tsk k (named caller t) to)
+    (λ task there. tasks-keep k (activated k.tasks (named caller t) (On to)) (activated-before k.tasks (named caller t) (On to)) was)
+keeps-serve k cpu caller (call.ImactTsk t to) was =
+    keeps-row (table.mact_tsk k t to) (λ task there. tasks-keep k (activated k.tasks t (On to)) (activated-before k.tasks t (On to)) was)
+keeps-serve k cpu caller (call.MigTsk t to) was = keeps-row (table.mig_tsk k cpu (named caller t) to)
+    (λ task there. tasks-keep k (changed (on_processor to) k.tasks (named caller t)) (migrated-before k.tasks (named caller t) to) was)
+keeps-serve k cpu caller (call.RotRdq priority) was = keeps-row (table.rot_rdq k cpu caller priority)
+    (λ p there. turned-keeps k cpu (table.priority_or_callers priority (callers_priority k caller)) was)
+keeps-serve k cpu caller (call.IrotRdq priority) was = keeps-row (table.irot_rdq k cpu priority) (λ p there. turned-keeps k cpu priority was)
+keeps-serve k cpu caller call.DisDsp was = keeps-row (table.mark_dsp k cpu true)
+    (λ (p : Processor) there. parts-keep k (with_processor k cpu (record p { disabled = true })) refl refl refl refl refl was)
+keeps-serve k cpu caller call.EnaDsp was = keeps-row (table.mark_dsp k cpu false)
+    (λ (p : Processor) there. parts-keep k (with_processor k cpu (record p { disabled = false })) refl refl refl refl refl was)
+keeps-serve k cpu caller call.LocCpu was = keeps-row (table.mark_cpu k cpu true)
+    (λ (p : Processor) there. parts-keep k (with_processor k cpu (record p { locked = true })) refl refl refl refl refl was)
+keeps-serve k cpu caller call.UnlCpu was = keeps-row (table.mark_cpu k cpu false)
+    (λ (p : Processor) there. parts-keep k (with_processor k cpu (record p { locked = false })) refl refl refl refl refl was)
 keeps-serve k cpu caller (call.CanAct t) was = keeps-row (table.can_act k (named caller t))
     (λ task there. tasks-keep k (noted without_activation k.tasks (named caller t))
     (noted-before without_activation k.tasks (named caller t) (λ x. refl)) was)
@@ -78,6 +100,10 @@ keeps-serve k cpu caller (call.WupTsk t) was = keeps-row (table.wup_tsk k (named
     (λ (task : Task) there. keeps-if (table.is_asleep task.status) _ _
     (λ asleep. released-keep k (named caller t) e_ok None [] (asleep-by k (named caller t) task (waiting_of task.status) there refl asleep was))
     (tasks-keep k (noted (with_wakeup true) k.tasks (named caller t)) (noted-before (with_wakeup true) k.tasks (named caller t) (λ x. refl)) was))
+keeps-serve k cpu caller (call.IwupTsk t) was = keeps-row (table.wup_tsk k t)
+    (λ (task : Task) there. keeps-if (table.is_asleep task.status) _ _
+    (λ asleep. released-keep k t e_ok None [] (asleep-by k t task (waiting_of task.status) there refl asleep was))
+    (tasks-keep k (noted (with_wakeup true) k.tasks t) (noted-before (with_wakeup true) k.tasks t (λ x. refl)) was))
 keeps-serve k cpu caller (call.CanWup t) was = keeps-row (table.can_wup k (named caller t))
     (λ task there. tasks-keep k (noted (with_wakeup false) k.tasks (named caller t))
     (noted-before (with_wakeup false) k.tasks (named caller t) (λ x. refl)) was)
@@ -113,6 +139,8 @@ keeps-serve k cpu caller (call.PutChr word) was =
     keeps-row (table.put_chr k word) (λ x there. parts-keep k (record k { console = k.console ++ word % 2 ^ 8 ∷ [] }) refl refl refl refl refl was)
 keeps-serve k cpu caller call.ExtKer was =
     keeps-row (table.ext_ker k) (λ x there. parts-keep k (record k { off = true }) refl refl refl refl refl was)
+keeps-serve k cpu caller call.RetInt was =
+    keeps-row (table.ret_int k cpu) (λ (p : Processor) there. parts-keep k (handler_ended k cpu p) refl refl refl refl refl was)
 
 or-refused-keeps : (k : KernelState) (says : Result Served Ercd) → StandsIn [] k → Keeps says → StandsIn [] (or_refused k says).kernel
 or-refused-keeps k (Ok done) was keeps = keeps

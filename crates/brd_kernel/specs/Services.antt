@@ -1,15 +1,15 @@
--- The service table: a row a call, in the order of their numbers (uITRON 4.0 specification; get_pid: TOPPERS/FMP; put_chr and ext_ker,
--- the refusals and their order: own choice). A row begins with the object that the call names and refuses nothing but an ID that is none
+-- The service table: a row a call, in the order of their numbers (uITRON 4.0 specification; mact_tsk, imact_tsk, mig_tsk and get_pid:
+-- TOPPERS/FMP; put_chr, ext_ker and ret_int, the refusals and their order: own choice). A row begins with the object that the call names and refuses nothing but an ID that is none
 -- (E_ID, E_NOEXS); what it fills in is what its line of the table says. T is a task's ID, T0 may be 0 for the caller.
 use Rattle.std.specs.Prelude.{ℕ, ◌%◌, ◌^◌, ◌-◌, ◌==◌, nat_lt, nat_le, Bool, true, false, not, ◌&&◌, ◌||◌, if◌then◌else◌}
-use Rattle.std.specs.Prelude.{List, [], ◌∷◌, ◌++◌, length, Option, None, Some, is_some, unwrap_or, Result, Err}
+use Rattle.std.specs.Prelude.{List, [], ◌∷◌, ◌++◌, length, slice_set, Option, None, Some, is_some, unwrap_or, Result, Err}
 use Rattle.brd_tasks.specs.declared.status.Status.{Status}
 use Rattle.brd_tasks.specs.declared.status.WaitReason.{WaitReason}
 use Rattle.brd_tasks.specs.declared.status.WaitReason.TheVariants as reason
 use Rattle.brd_tasks.specs.declared.task.Task.{Task}
-use Rattle.brd_tasks.specs.declared.task.Request.TheVariants.{Assigned}
+use Rattle.brd_tasks.specs.declared.task.Request.TheVariants.{Assigned, On}
 use Rattle.brd_tasks.specs.Status.{waiting_of, is_dormant, is_waiting, is_suspended, suspended, resumed}
-use Rattle.brd_tasks.specs.Tasks.{task_at, activated, through, changed, with_priority, noted, with_wakeup, without_activation, activations_of, wakeups_of}
+use Rattle.brd_tasks.specs.Tasks.{task_at, activated, through, changed, with_priority, on_processor, noted, with_wakeup, without_activation, turned, activations_of, wakeups_of, no_context}
 use Rattle.brd_objects.specs.declared.semaphore.Semaphore.{Semaphore}
 use Rattle.brd_objects.specs.declared.flag.Flag.{Flag}
 use Rattle.brd_objects.specs.declared.want.Mode.{Mode}
@@ -31,7 +31,7 @@ use Rattle.brd_kernel.specs.declared.call.Ercd.TheVariants.{Rlwai, Tmout}
 use Rattle.brd_kernel.specs.Answer.{e_ok, code_of}
 use Rattle.brd_kernel.specs.Kernel.{KernelState, processor_at, is_held, running_on, with_tasks, with_processor, unmarked}
 use Rattle.brd_kernel.specs.Dispatch.{is_same_task}
-use Rattle.brd_kernel.specs.Row.{Row, Served, served, never, ok, ok_with, ok_count, silent, or_refused}
+use Rattle.brd_kernel.specs.Row.{Row, Served, served, never, ok, ok_with, ok_count, silent, or_refused, is_absent}
 
 -- an ID outside 1 to 255
 unfoldable pub is_no_id : ℕ → Bool
@@ -43,10 +43,10 @@ named caller id = if id == 0 then caller else id
 
 -- The rows that fill in nothing.
 
--- an object named by its ID, where there is one
-abbrev pub on_object : {X : Type 0} → KernelState → ℕ → Option X → Row X
-on_object k id object = record {
-  bad_id = is_no_id id;
+-- an object that no ID names
+abbrev pub on_something : {X : Type 0} → KernelState → Option X → Row X
+on_something k object = record {
+  bad_id = false;
   bad_par = false;
   object = object;
   iluse = never;
@@ -54,6 +54,10 @@ on_object k id object = record {
   qovr = never;
   does = λ x. ok k;
 }
+
+-- an object named by its ID, where there is one
+abbrev pub on_object : {X : Type 0} → KernelState → ℕ → Option X → Row X
+on_object k id object = record (on_something k object) { bad_id = is_no_id id }
 
 abbrev pub on_task : KernelState → ℕ → Row Task
 on_task k id = on_object k id (task_at k.tasks id)
@@ -69,11 +73,15 @@ on_queue k id = on_object k id (object_at k.queues id)
 
 -- the caller
 abbrev pub on_caller : KernelState → ℕ → Row Task
-on_caller k caller = record (on_task k caller) { bad_id = false }
+on_caller k caller = on_something k (task_at k.tasks caller)
+
+-- the processor from which the call comes
+abbrev pub on_own_processor : KernelState → ℕ → Row Processor
+on_own_processor k cpu = on_something k (processor_at k cpu)
 
 -- no object
 abbrev pub on_nothing : KernelState → Row (Unit {0})
-on_nothing k = record { bad_id = false; bad_par = false; object = Some tt; iluse = never; obj = never; qovr = never; does = λ x. ok k }
+on_nothing k = on_something k (Some tt)
 
 -- Tests.
 
@@ -84,6 +92,14 @@ runs_held (Some p) id = is_held p && is_same_task p.running (Some id)
 -- a task is the running one of a processor other than the caller's, which is held: of the one that it is assigned to, as a running task is
 unfoldable pub is_held_elsewhere : KernelState → ℕ → ℕ → Task → Bool
 is_held_elsewhere k cpu id task = not (task.cpu == cpu) && runs_held (processor_at k task.cpu) id
+
+-- a number that is none of the board's processors
+unfoldable pub is_no_processor : KernelState → ℕ → Bool
+is_no_processor k cpu = is_absent (processor_at k cpu)
+
+-- a request to start a task that isn't dormant is queued
+abbrev pub has_request : Task → Bool
+has_request task = not (is_dormant task.status) && is_some task.activation
 
 abbrev pub is_sleep : Option WaitReason → Bool
 is_sleep None = false
@@ -101,6 +117,10 @@ is_asleep status = is_sleep (waiting_of status)
 -- 0 means the priority with which the task starts
 unfoldable pub priority_or_initial : ℕ → Task → ℕ
 priority_or_initial priority task = if priority == 0 then task.setup.priority else priority
+
+-- 0 means the priority of the caller
+unfoldable pub priority_or_callers : ℕ → ℕ → ℕ
+priority_or_callers priority callers = if priority == 0 then callers else priority
 
 -- how many bytes the console holds
 abbrev pub console_size : ℕ
@@ -127,7 +147,7 @@ longest_delay = 2 ^ 31 - 1
 abbrev pub or_waits : KernelState → ℕ → WaitReason → ℕ → KernelState → Result Served Ercd
 or_waits k caller why timeout entered = if timeout == 0 then Err Tmout else silent (with_wait k caller why (due_by k timeout) entered)
 
--- the priority with which the caller waits
+-- the priority of the caller
 abbrev pub callers_priority : KernelState → ℕ → ℕ
 callers_priority k caller = priority_of (task_at k.tasks caller)
 
@@ -158,10 +178,10 @@ handed_over k datum Full = k
 
 -- The table.
 
--- 1 act_tsk T0. Refuses: QOVR a request is queued.
+-- 1 act_tsk T0, 48 iact_tsk T. Refuses: QOVR a request is queued. Starts the task, or queues the request.
 abbrev pub act_tsk : KernelState → ℕ → Row Task
 act_tsk k id = record (on_task k id) {
-  qovr = λ task. not (is_dormant task.status) && is_some task.activation;
+  qovr = has_request;
   does = λ task. ok (with_tasks k (activated k.tasks id Assigned));
 }
 
@@ -206,13 +226,45 @@ chg_pri k id priority = record (on_task k id) {
 abbrev pub get_pri : KernelState → ℕ → Row Task
 get_pri k id = record (on_task k id) { obj = λ task. is_dormant task.status; does = λ task. ok_with k task.priority }
 
+-- 7 mact_tsk T0, processor, 57 imact_tsk T, processor. Refuses: PAR no such processor; QOVR a request is queued. As act_tsk, on that processor.
+abbrev pub mact_tsk : KernelState → ℕ → ℕ → Row Task
+mact_tsk k id to = record (on_task k id) {
+  bad_par = is_no_processor k to;
+  qovr = has_request;
+  does = λ task. ok (with_tasks k (activated k.tasks id (On to)));
+}
+
+-- 8 mig_tsk T0, processor. Refuses: PAR no such processor; OBJ dormant, assigned to it already, or held elsewhere (and, in the gate, CTX).
+-- Assigns the task to another processor.
+abbrev pub mig_tsk : KernelState → ℕ → ℕ → ℕ → Row Task
+mig_tsk k cpu id to = record (on_task k id) {
+  bad_par = is_no_processor k to;
+  obj = λ task. is_dormant task.status || task.cpu == to || is_held_elsewhere k cpu id task;
+  does = λ task. ok (with_tasks k (changed (on_processor to) k.tasks id));
+}
+
 -- 9 get_pid. Second result: the caller's processor.
 abbrev pub get_pid : KernelState → ℕ → Row (Unit {0})
 get_pid k cpu = record (on_nothing k) { does = λ x. ok_with k cpu }
 
--- 11 get_tid. Second result: the caller.
+-- 10 rot_rdq priority. Refuses: PAR not 0 to 16. On the caller's processor, the first ready task of that priority goes behind its equals.
+abbrev pub rot_rdq : KernelState → ℕ → ℕ → ℕ → Row Processor
+rot_rdq k cpu caller priority = record (on_own_processor k cpu) {
+  bad_par = nat_lt 16 priority;
+  does = λ p. ok (with_tasks k (turned k.tasks cpu (priority_or_callers priority (callers_priority k caller))));
+}
+
+-- 11 get_tid, 56 iget_tid. Second result: the running task (for get_tid that is the caller), 0 where none runs.
 abbrev pub get_tid : KernelState → ℕ → Row (Unit {0})
 get_tid k caller = record (on_nothing k) { does = λ x. ok_with k caller }
+
+-- 12 dis_dsp, 13 ena_dsp. From then on the caller's processor has dispatching disabled, or not; it may have been so before.
+abbrev pub mark_dsp : KernelState → ℕ → Bool → Row Processor
+mark_dsp k cpu disabled = record (on_own_processor k cpu) { does = λ p. ok (with_processor k cpu (record p { disabled = disabled })) }
+
+-- 14 loc_cpu, 15 unl_cpu. From then on the caller's processor is CPU-locked, or not; it may have been so before.
+abbrev pub mark_cpu : KernelState → ℕ → Bool → Row Processor
+mark_cpu k cpu locked = record (on_own_processor k cpu) { does = λ p. ok (with_processor k cpu (record p { locked = locked })) }
 
 -- 16 slp_tsk, 17 tslp_tsk timeout. Refuses: PAR. Takes a queued wake-up, or waits.
 abbrev pub tslp_tsk : KernelState → ℕ → ℕ → Row Task
@@ -221,7 +273,7 @@ tslp_tsk k caller timeout = record (on_caller k caller) {
   does = λ task. if task.wakeup then ok (with_tasks k (noted (with_wakeup false) k.tasks caller)) else or_waits k caller reason.Sleep timeout k;
 }
 
--- 18 wup_tsk T0. Refuses: OBJ dormant; QOVR not asleep, and a wake-up is queued. Releases a sleeper, or queues a wake-up.
+-- 18 wup_tsk T0, 49 iwup_tsk T. Refuses: OBJ dormant; QOVR not asleep, and a wake-up is queued. Releases a sleeper, or queues a wake-up.
 abbrev pub wup_tsk : KernelState → ℕ → Row Task
 wup_tsk k id = record (on_task k id) {
   obj = λ task. is_dormant task.status;
@@ -238,7 +290,7 @@ can_wup k id = record (on_task k id) {
   does = λ task. ok_count (with_tasks k (noted (with_wakeup false) k.tasks id)) (wakeups_of task.wakeup);
 }
 
--- 20 rel_wai T. Refuses: OBJ not waiting.
+-- 20 rel_wai T, 50 irel_wai T. Refuses: OBJ not waiting. Ends its wait.
 abbrev pub rel_wai : KernelState → ℕ → Row Task
 rel_wai k id = record (on_task k id) {
   obj = λ task. not (is_waiting task.status);
@@ -267,7 +319,7 @@ dly_tsk k caller time = record (on_caller k caller) {
   does = λ task. silent (with_wait k caller reason.Delay (Some (due_after k time)) k);
 }
 
--- 24 sig_sem S. Refuses: QOVR the count is the maximum, and nobody waits. Returns one.
+-- 24 sig_sem S, 51 isig_sem S. Refuses: QOVR the count is the maximum, and nobody waits. Returns one.
 abbrev pub sig_sem : KernelState → ℕ → Row Semaphore
 sig_sem k id = record (on_semaphore k id) {
   qovr = is_full;
@@ -284,7 +336,7 @@ twai_sem k caller id timeout = record (on_semaphore k id) {
       (record k { semaphores = object_changed (semaphore_awaited caller (callers_priority k caller)) k.semaphores id });
 }
 
--- 28 set_flg F, bits. Sets bits, and releases whom they satisfy.
+-- 28 set_flg F, bits, 52 iset_flg F, bits. Sets bits, and releases whom they satisfy.
 abbrev pub set_flg : KernelState → ℕ → ℕ → Row Flag
 set_flg k id bits = record (on_flag k id) {
   does = λ f. ok (with_satisfied_released (record k { flags = object_changed (joined bits) k.flags id }) id);
@@ -316,14 +368,14 @@ queue_sent k caller id datum timeout Stored = ok (record k { queues = object_cha
 queue_sent k caller id datum timeout Full =
     or_waits k caller (reason.Send id) timeout (record k { queues = object_changed (awaited_by_sender caller (callers_priority k caller) datum) k.queues id })
 
--- 33 snd_dtq Q, datum, 34 psnd_dtq Q, datum, 35 tsnd_dtq Q, datum, timeout. Refuses: PAR. Sends a datum, or waits.
+-- 33 snd_dtq Q, datum, 34 psnd_dtq Q, datum, 35 tsnd_dtq Q, datum, timeout, 53 ipsnd_dtq Q, datum. Refuses: PAR. Sends a datum, or waits.
 abbrev pub tsnd_dtq : KernelState → ℕ → ℕ → ℕ → ℕ → Row DataQueueState
 tsnd_dtq k caller id datum timeout = record (on_queue k id) {
   bad_par = is_bad_timeout timeout;
   does = λ q. queue_sent k caller id datum timeout (outcome q);
 }
 
--- 36 fsnd_dtq Q, datum. Refuses: ILUSE it stores nothing. Sends a datum, for which a full queue gives its oldest one up.
+-- 36 fsnd_dtq Q, datum, 54 ifsnd_dtq Q, datum. Refuses: ILUSE it stores nothing. Sends a datum, for which a full queue gives its oldest one up.
 abbrev pub fsnd_dtq : KernelState → ℕ → ℕ → Row DataQueueState
 fsnd_dtq k id datum = record (on_queue k id) {
   iluse = λ q. q.capacity == 0;
@@ -354,19 +406,47 @@ put_chr k word = record (on_nothing k) {
 abbrev pub ext_ker : KernelState → Row (Unit {0})
 ext_ker k = record (on_nothing k) { does = λ x. silent (record k { off = true }) }
 
+-- 55 irot_rdq priority. Refuses: PAR not 1 to 16. As rot_rdq, on the handler's processor.
+abbrev pub irot_rdq : KernelState → ℕ → ℕ → Row Processor
+irot_rdq k cpu priority = record (on_own_processor k cpu) {
+  bad_par = priority == 0 || nat_lt 16 priority;
+  does = λ p. ok (with_tasks k (turned k.tasks cpu priority));
+}
+
+-- the handler of a processor has ended, and nothing is left of it
+abbrev pub handler_ended : KernelState → ℕ → Processor → KernelState
+handler_ended k cpu p = record (with_processor k cpu (record p { handling = None })) {
+  handler_contexts = slice_set k.handler_contexts cpu no_context;
+}
+
+-- 58 ret_int. Ends the handler.
+abbrev pub ret_int : KernelState → ℕ → Row Processor
+ret_int k cpu = record (on_own_processor k cpu) { does = λ p. silent (handler_ended k cpu p) }
+
 -- The rows by calls.
 
 abbrev pub serve_by : KernelState → ℕ → ℕ → Call → Result Served Ercd
 serve_by k cpu caller (call.ActTsk t) = served (act_tsk k (named caller t))
+serve_by k cpu caller (call.IactTsk t) = served (act_tsk k t)
 serve_by k cpu caller (call.CanAct t) = served (can_act k (named caller t))
 serve_by k cpu caller call.ExtTsk = served (ext_tsk k cpu caller)
 serve_by k cpu caller (call.TerTsk t) = served (ter_tsk k cpu caller t)
 serve_by k cpu caller (call.ChgPri t priority) = served (chg_pri k (named caller t) priority)
 serve_by k cpu caller (call.GetPri t) = served (get_pri k (named caller t))
+serve_by k cpu caller (call.MactTsk t to) = served (mact_tsk k (named caller t) to)
+serve_by k cpu caller (call.ImactTsk t to) = served (mact_tsk k t to)
+serve_by k cpu caller (call.MigTsk t to) = served (mig_tsk k cpu (named caller t) to)
 serve_by k cpu caller call.GetPid = served (get_pid k cpu)
+serve_by k cpu caller (call.RotRdq priority) = served (rot_rdq k cpu caller priority)
+serve_by k cpu caller (call.IrotRdq priority) = served (irot_rdq k cpu priority)
 serve_by k cpu caller call.GetTid = served (get_tid k caller)
+serve_by k cpu caller call.DisDsp = served (mark_dsp k cpu true)
+serve_by k cpu caller call.EnaDsp = served (mark_dsp k cpu false)
+serve_by k cpu caller call.LocCpu = served (mark_cpu k cpu true)
+serve_by k cpu caller call.UnlCpu = served (mark_cpu k cpu false)
 serve_by k cpu caller (call.TslpTsk timeout) = served (tslp_tsk k caller timeout)
 serve_by k cpu caller (call.WupTsk t) = served (wup_tsk k (named caller t))
+serve_by k cpu caller (call.IwupTsk t) = served (wup_tsk k t)
 serve_by k cpu caller (call.CanWup t) = served (can_wup k (named caller t))
 serve_by k cpu caller (call.RelWai t) = served (rel_wai k t)
 serve_by k cpu caller (call.SusTsk t) = served (sus_tsk k cpu (named caller t))
@@ -382,6 +462,7 @@ serve_by k cpu caller (call.FsndDtq q datum) = served (fsnd_dtq k q datum)
 serve_by k cpu caller (call.TrcvDtq q timeout) = served (trcv_dtq k caller q timeout)
 serve_by k cpu caller (call.PutChr word) = served (put_chr k word)
 serve_by k cpu caller call.ExtKer = served (ext_ker k)
+serve_by k cpu caller call.RetInt = served (ret_int k cpu)
 
 -- the number of the running task of a processor; 0 where none runs
 abbrev pub caller_on : KernelState → ℕ → ℕ

@@ -8,6 +8,8 @@ ghost use Rattle.brd_kernel.specs.Answer.{code_of};
 pub enum Call {
     /// Starts a task, or queues a request to.
     ActTsk(u32),
+    /// The same, from a handler.
+    IactTsk(u32),
     /// Takes queued requests back.
     CanAct(u32),
     /// Ends the caller.
@@ -18,14 +20,34 @@ pub enum Call {
     ChgPri(u32, u32),
     /// Tells a task's priority.
     GetPri(u32),
+    /// Starts a task on a processor, or queues a request to (ID, processor).
+    MactTsk(u32, u32),
+    /// The same, from a handler.
+    ImactTsk(u32, u32),
+    /// Assigns a task to another processor (ID, processor).
+    MigTsk(u32, u32),
     /// Tells the caller's processor.
     GetPid,
-    /// Tells the caller's number.
+    /// Puts the first ready task of a priority behind its equals.
+    RotRdq(u32),
+    /// The same, from a handler.
+    IrotRdq(u32),
+    /// Tells the number of the running task, which is the caller, or was when the handler began.
     GetTid,
+    /// Disables dispatching.
+    DisDsp,
+    /// Enables dispatching.
+    EnaDsp,
+    /// Locks the processor: no dispatching, no interrupts.
+    LocCpu,
+    /// Unlocks it.
+    UnlCpu,
     /// Waits for a wake-up (timeout).
     TslpTsk(u32),
     /// Wakes a task up.
     WupTsk(u32),
+    /// The same, from a handler.
+    IwupTsk(u32),
     /// Takes queued wake-ups back.
     CanWup(u32),
     /// Ends a task's wait.
@@ -56,6 +78,8 @@ pub enum Call {
     PutChr(u32),
     /// Turns the board off.
     ExtKer,
+    /// Ends the handler.
+    RetInt,
 }
 
 /// Why a service call isn't done, or a wait ended without what was waited for (uITRON 4.0 specification, "Main Error Codes").

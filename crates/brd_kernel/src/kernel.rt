@@ -32,6 +32,7 @@ ghost use Rattle.std.specs.Borrow.{sem};
 ghost use Rattle.brd_kernel.specs.Lending.{LendsContext};
 
 mod objects;
+mod processors;
 mod serve;
 mod waits;
 

@@ -2,7 +2,6 @@
 
 ghost use Rattle.std.specs.Prelude.{◌≡◌, ℕ, false, true, List, None, Some};
 ghost use Rattle.brd_tasks.specs.Tasks.{top_of};
-ghost use Rattle.brd_tasks.specs.declared.task.Task.{Task as TaskOf};
 ghost use Rattle.brd_tasks.specs.declared.task.TaskSetup.{TaskSetup as SetupOf};
 ghost use Rattle.brd_config.specs.declared.objects.SemaphoreConfig.{SemaphoreConfig};
 ghost use Rattle.brd_config.specs.declared.objects.FlagConfig.{FlagConfig};
@@ -18,9 +17,8 @@ ghost use Rattle.brd_kernel.specs.Making.{made_kernel};
 ghost use Rattle.brd_kernel.specs.Waiting.{WaitsAreKept};
 
 /// Of the reasons to refuse a call, the first in the order is answered; a call that has none does what its row says.
-pub fn checks_in_order()
-    ensures tasks { (row : Row TaskOf) → AnswersFirst row }
-    ensures others { (row : Row (Unit {0})) → AnswersFirst row }
+pub fn checks_in_order<X>()
+    ensures { (row : Row X) → AnswersFirst row }
 {}
 
 /// After a dispatch each processor that isn't held runs the first of its ready tasks, or none, and is else as it was; one that is held is

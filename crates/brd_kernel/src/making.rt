@@ -38,14 +38,21 @@ fn idle_processor(processors: u8, cpu: u8) -> Option<Processor>
     None
 }
 
-/// Contexts of handlers of which none runs.
+/// The context of a handler that doesn't run.
 #[tactic(auto, unfolding(brd_tasks::specs::Tasks::no_context))]
+pub fn no_context() -> Context
+    ensures { result ≡ no_context }
+{
+    Context::opening(0, 0, 0)
+}
+
+/// Contexts of handlers of which none runs.
 pub fn no_contexts(alloc: Global) -> Result<Vec<Context>, NoMemory>
     ensures { IfOk result (λ made. made.items ≡ replicate 9 no_context) }
 {
     let mut made = Vec::new(alloc);
     for _ in 0..9u8 {
-        made.push(Context::opening(0, 0, 0))?;
+        made.push(no_context())?;
     }
     Ok(made)
 }

@@ -164,6 +164,76 @@ fn refusals(rt: HostRuntime) -> Result<(), Fail> {
     Ok(())
 }
 
+/// Each refusal of each call that names a processor or turns a list, from processor 1; of two reasons the earlier one in the order is
+/// answered. Task 2 has a request queued.
+#[test]
+fn refusals_of_processors(rt: HostRuntime) -> Result<(), Fail> {
+    let mut kernel = two(rt.alloc())?;
+    assert_eq!(rt; kernel.serve(1, Call::MactTsk(2, 2)), OK);
+    for (call, reply) in [
+        (Call::MactTsk(256, 9), ID),
+        (Call::MactTsk(9, 0), PAR),
+        (Call::MactTsk(9, 3), PAR),
+        (Call::MactTsk(2, 0x101), PAR),
+        (Call::MactTsk(9, 2), NOEXS),
+        (Call::MactTsk(2, 1), QOVR),
+        (Call::ImactTsk(0, 1), ID),
+        (Call::ImactTsk(9, 3), PAR),
+        (Call::ImactTsk(2, 1), QOVR),
+        (Call::IactTsk(0), ID),
+        (Call::IactTsk(9), NOEXS),
+        (Call::IactTsk(2), QOVR),
+        (Call::IwupTsk(0), ID),
+        (Call::IwupTsk(4), OBJ),
+        (Call::MigTsk(256, 3), ID),
+        (Call::MigTsk(9, 3), PAR),
+        (Call::MigTsk(2, 0x102), PAR),
+        (Call::MigTsk(9, 1), NOEXS),
+        (Call::MigTsk(4, 1), OBJ),
+        (Call::MigTsk(0, 1), OBJ),
+        (Call::MigTsk(2, 1), OBJ),
+        (Call::RotRdq(17), PAR),
+        (Call::RotRdq(0x100), PAR),
+        (Call::IrotRdq(0), PAR),
+        (Call::IrotRdq(17), PAR),
+        (Call::IrotRdq(0x101), PAR),
+    ] {
+        assert_eq!(rt; kernel.serve(1, call), reply, "{call:?}");
+        assert_eq!(rt; kernel.dispatch(), 0, "{call:?}");
+    }
+    Ok(())
+}
+
+/// Each mark of processor 1 holds task 1 there: processor 2 neither ends nor suspends nor moves it, but does so with task 2, which is
+/// ready there and doesn't run.
+#[test]
+fn held(rt: HostRuntime) -> Result<(), Fail> {
+    for (mark, unmark) in [(Call::DisDsp, Call::EnaDsp), (Call::LocCpu, Call::UnlCpu)] {
+        let mut kernel = two(rt.alloc())?;
+        for (cpu, call, reply) in [
+            (1, mark, OK),
+            (1, mark, OK),
+            (2, Call::TerTsk(1), OBJ),
+            (2, Call::SusTsk(1), OBJ),
+            (2, Call::MigTsk(1, 2), OBJ),
+            (2, Call::ChgPri(1, 16), OK),
+            (2, Call::SusTsk(2), OK),
+            (2, Call::MigTsk(2, 2), OK),
+            (1, unmark, OK),
+            (2, Call::SusTsk(1), OK),
+        ] {
+            assert_eq!(rt; kernel.serve(cpu, call), reply, "{call:?}");
+            let changed = if call == Call::SusTsk(1) && reply == OK {
+                1
+            } else {
+                0
+            };
+            assert_eq!(rt; kernel.dispatch(), changed, "{call:?}");
+        }
+    }
+    Ok(())
+}
+
 /// Each refusal of each call that names an object or a time; of two reasons the earlier one in the order is answered, also where the
 /// call could be done at once. Task 3 waits for a bit of flag 1.
 #[test]

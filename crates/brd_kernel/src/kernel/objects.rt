@@ -201,8 +201,8 @@ impl Kernel {
         Ok(Reply::Silent)
     }
 
-    /// The priority with which a task waits.
-    fn priority(&self, id: TaskId) -> u8
+    /// The priority of the caller.
+    pub(super) fn priority(&self, id: TaskId) -> u8
         ensures { result ≡ callers_priority self.now id }
     {
         match self.tasks.task(id) {

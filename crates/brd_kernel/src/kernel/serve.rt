@@ -8,6 +8,7 @@ ghost use Rattle.brd_kernel.specs.Services as table;
 ghost use Rattle.brd_kernel.specs.Services.{
   is_no_id,
   named,
+  has_request,
   is_held_elsewhere,
   is_asleep,
   priority_or_initial,
@@ -57,15 +58,26 @@ impl Kernel {
     {
         match call {
             Call::ActTsk(id) => self.act_tsk(named(id, caller)),
+            Call::IactTsk(id) => self.act_tsk(id),
             Call::CanAct(id) => self.can_act(named(id, caller)),
             Call::ExtTsk => self.ext_tsk(cpu, caller),
             Call::TerTsk(id) => self.ter_tsk(cpu, caller, id),
             Call::ChgPri(id, priority) => self.chg_pri(named(id, caller), priority),
             Call::GetPri(id) => self.get_pri(named(id, caller)),
+            Call::MactTsk(id, to) => self.mact_tsk(named(id, caller), to),
+            Call::ImactTsk(id, to) => self.mact_tsk(id, to),
+            Call::MigTsk(id, to) => self.mig_tsk(cpu, named(id, caller), to),
             Call::GetPid => Ok(Reply::Answer(0, Some(cpu as u32))),
+            Call::RotRdq(priority) => self.rot_rdq(cpu, caller, priority),
+            Call::IrotRdq(priority) => self.irot_rdq(cpu, priority),
             Call::GetTid => Ok(Reply::Answer(0, Some(caller as u32))),
+            Call::DisDsp => self.mark_dsp(cpu, true),
+            Call::EnaDsp => self.mark_dsp(cpu, false),
+            Call::LocCpu => self.mark_cpu(cpu, true),
+            Call::UnlCpu => self.mark_cpu(cpu, false),
             Call::TslpTsk(timeout) => self.tslp_tsk(caller, timeout),
             Call::WupTsk(id) => self.wup_tsk(named(id, caller)),
+            Call::IwupTsk(id) => self.wup_tsk(id),
             Call::CanWup(id) => self.can_wup(named(id, caller)),
             Call::RelWai(id) => self.rel_wai(id),
             Call::SusTsk(id) => self.sus_tsk(cpu, named(id, caller)),
@@ -83,6 +95,7 @@ impl Kernel {
             Call::TrcvDtq(id, timeout) => self.trcv_dtq(caller, id, timeout),
             Call::PutChr(word) => self.put_chr(word),
             Call::ExtKer => self.ext_ker(),
+            Call::RetInt => self.ret_int(cpu),
         }
     }
 
@@ -91,7 +104,7 @@ impl Kernel {
     {
         let id = id_in_range(id)?;
         let task = self.named_task(id)?;
-        if !task.status.is_dormant() && task.activation.is_some() {
+        if has_request(task) {
             return Err(Ercd::Qovr);
         }
         self.tasks.activate(id, Request::Assigned);
@@ -291,7 +304,7 @@ impl Kernel {
     }
 
     /// The task that a call names, or E_NOEXS.
-    fn named_task(&self, id: TaskId) -> Result<Task, Ercd>
+    pub(super) fn named_task(&self, id: TaskId) -> Result<Task, Ercd>
         ensures { result ≡ or_fault Noexs (task_at self.now.tasks id) }
     {
         match self.tasks.task(id) {
@@ -302,7 +315,7 @@ impl Kernel {
 
     /// Whether a task is the running one of a processor other than the caller's, which is held.
     #[tactic(auto, unfolding(crate::specs::Services::is_held_elsewhere))]
-    fn is_held_elsewhere(&self, cpu: u8, id: TaskId, task: Task) -> bool
+    pub(super) fn is_held_elsewhere(&self, cpu: u8, id: TaskId, task: Task) -> bool
         ensures { result ≡ is_held_elsewhere self.now cpu id task }
     {
         if task.cpu == cpu {
@@ -334,6 +347,13 @@ fn named(id: u32, caller: TaskId) -> u32
     ensures { result ≡ named caller id }
 {
     if id == 0 { caller as u32 } else { id }
+}
+
+/// Whether a request to start a task that isn't dormant is queued.
+pub(super) fn has_request(task: Task) -> bool
+    ensures { result ≡ has_request task }
+{
+    !task.status.is_dormant() && task.activation.is_some()
 }
 
 /// The priority that a call names, where 0 is the one with which the task starts.
