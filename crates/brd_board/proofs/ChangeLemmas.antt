@@ -141,6 +141,15 @@ keeps-object old row (Some x) does =
 keeps-row : {X : Type 0} (old : KernelState) (row : Row X) → ((x : X) → Keeps old (row.does x)) → Keeps old (served row)
 keeps-row old row does = keeps-refused row.bad_id Id old _ (keeps-refused row.bad_par Par old _ (keeps-object old row row.object does))
 
+-- the same, of an object that is there
+keeps-there : {X : Type 0} (old : KernelState) (row : Row X) (found : Option X) → row.object ≡ found → ((x : X) → row.object ≡ Some x → Keeps old (row.does x)) → Keeps old (served_object row found)
+keeps-there old row None is does = tt
+keeps-there old row (Some x) is does =
+    keeps-refused (row.iluse x) Iluse old _ (keeps-refused (row.obj x) Obj old _ (keeps-refused (row.qovr x) Qovr old _ (does x is)))
+
+keeps-known : {X : Type 0} (old : KernelState) (row : Row X) → ((x : X) → row.object ≡ Some x → Keeps old (row.does x)) → Keeps old (served row)
+keeps-known old row does = keeps-refused row.bad_id Id old _ (keeps-refused row.bad_par Par old _ (keeps-there old row row.object refl does))
+
 keeps-if : (test : Bool) (old : KernelState) (one other : Result Served Ercd) → Keeps old one → Keeps old other → Keeps old (if test then one else other)
 keeps-if true old one other first second = first
 keeps-if false old one other first second = second
@@ -175,6 +184,18 @@ keeps-exit k cpu caller =
 
 keeps-serve : (k : KernelState) (cpu caller : ℕ) (c : Call) → Keeps k (serve_by k cpu caller c)
 keeps-serve k cpu caller (call.ActTsk t) = keeps-row k (table.act_tsk k (named caller t)) (λ task at. refl)
+keeps-serve k cpu caller (call.IactTsk t) = keeps-row k (table.act_tsk k t) (λ task at. refl)
+keeps-serve k cpu caller (call.MactTsk t to) = keeps-row k (table.mact_tsk k (named caller t) to) (λ task at. refl)
+keeps-serve k cpu caller (call.ImactTsk t to) = keeps-row k (table.mact_tsk k t to) (λ task at. refl)
+keeps-serve k cpu caller (call.MigTsk t to) = keeps-row k (table.mig_tsk k cpu (named caller t) to) (λ task at. refl)
+keeps-serve k cpu caller (call.RotRdq priority) = keeps-row k (table.rot_rdq k cpu caller priority) (λ p at. refl)
+keeps-serve k cpu caller (call.IrotRdq priority) = keeps-row k (table.irot_rdq k cpu priority) (λ p at. refl)
+keeps-serve k cpu caller call.DisDsp = keeps-known k (table.mark_dsp k cpu true) (λ (p : Processor) is at. runners-set k.processors cpu at p (record p { disabled = true }) is refl)
+keeps-serve k cpu caller call.EnaDsp = keeps-known k (table.mark_dsp k cpu false) (λ (p : Processor) is at. runners-set k.processors cpu at p (record p { disabled = false }) is refl)
+keeps-serve k cpu caller call.LocCpu = keeps-known k (table.mark_cpu k cpu true) (λ (p : Processor) is at. runners-set k.processors cpu at p (record p { locked = true }) is refl)
+keeps-serve k cpu caller call.UnlCpu = keeps-known k (table.mark_cpu k cpu false) (λ (p : Processor) is at. runners-set k.processors cpu at p (record p { locked = false }) is refl)
+keeps-serve k cpu caller call.RetInt = keeps-known k (table.ret_int k cpu) (λ (p : Processor) is at. runners-set k.processors cpu at p (record p { handling = None }) is refl)
+keeps-serve k cpu caller (call.IwupTsk t) = keeps-row k (table.wup_tsk k t) (λ (task : Task). keeps-if (table.is_asleep task.status) k _ _ (λ at. refl) (λ at. refl))
 keeps-serve k cpu caller (call.CanAct t) = keeps-row k (table.can_act k (named caller t)) (λ task at. refl)
 keeps-serve k cpu caller call.ExtTsk = keeps-row k (table.ext_tsk k cpu caller) (λ task. keeps-exit k cpu caller)
 keeps-serve k cpu caller (call.TerTsk t) = keeps-row k (table.ter_tsk k cpu caller t) (λ task. keeps-by (same-ended k t))

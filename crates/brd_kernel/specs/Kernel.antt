@@ -15,6 +15,7 @@ use Rattle.brd_objects.specs.DataQueues.{DataQueueState}
 use Rattle.brd_kernel.specs.declared.processor.Processor.{Processor}
 use Rattle.brd_kernel.specs.declared.processor.Handler.{Handler}
 use Rattle.brd_kernel.specs.declared.processor.Line.{Line}
+use Rattle.brd_kernel.specs.declared.processor.Marks.{Marks}
 use Rattle.brd_kernel.specs.declared.processor.Standing.{Standing}
 use Rattle.brd_kernel.specs.declared.processor.Ended.{Ended}
 use Rattle.brd_kernel.specs.declared.processor.Executor.{Executor}
@@ -157,6 +158,9 @@ abbrev pub unmarked : Processor → Processor
 unmarked p = record p { locked = false; disabled = false }
 
 -- What is seen of a processor.
+
+abbrev pub marks_of : Processor → Marks
+marks_of p = record { locked = p.locked; disabled = p.disabled }
 
 abbrev pub standing_by : Option ℕ → Option ℕ → Standing
 standing_by running (Some line) = standing.Handler line

@@ -1,6 +1,6 @@
 //! The kernel.
 
-ghost use Rattle.std.specs.Prelude.{◌≡◌, ◌<◌, ◌≤◌, ◌+◌, ◌==◌, ◌&&◌, ℕ, if◌then◌else◌, All, IfOk, IfSome, is_some, nat_lt, option_copied};
+ghost use Rattle.std.specs.Prelude.{◌≡◌, ◌<◌, ◌≤◌, ◌+◌, ◌==◌, ◌&&◌, ℕ, if◌then◌else◌, All, IfOk, IfSome, is_some, nat_lt, option_copied, true};
 ghost use Rattle.brd_tasks.specs.Ready.{IsProcessor, IsSetup};
 ghost use Rattle.brd_tasks.specs.Tasks.{activated};
 ghost use Rattle.brd_tasks.specs.declared.task.Request.TheVariants.{Assigned};
@@ -13,11 +13,8 @@ ghost use Rattle.brd_kernel.specs.Kernel.{
   executor_on,
   context_of,
   context_on,
-  deliverable,
-  raised,
-  line_at,
-  accepted,
-  accepted_line,
+  with_context_of,
+  marks_of,
   standing_on,
   executed,
   Executes,
@@ -31,14 +28,14 @@ ghost use Rattle.std.specs.Int.{bit_at};
 ghost use Rattle.std.specs.Borrow.{sem};
 ghost use Rattle.brd_kernel.specs.Lending.{LendsContext};
 
+mod interrupts;
 mod objects;
 mod processors;
 mod serve;
 mod waits;
 
-use crate::lines::{are_quiet, entry_of, first_pending};
 use crate::making::{idle_processors, no_contexts, quiet_lines};
-use crate::processor::{Ended, Executor, Line, Processor, Standing};
+use crate::processor::{Ended, Executor, Line, Marks, Processor, Standing};
 use brd_base::NoMemory;
 use brd_config::{FlagConfig, QueueConfig, SemaphoreConfig};
 use brd_exec::{Context, run};
@@ -256,77 +253,25 @@ impl Kernel {
         }
     }
 
-    /// The line whose interrupt a processor accepts next: the lowest that is pending for it.
-    #[tactic(auto, using(crate::proofs::LineLemmas::none_pending))]
-    pub fn deliverable(&self, cpu: u8) -> Option<u8>
-        ensures is { result ≡ deliverable self.now cpu }
-        ensures within { IfSome result (λ line. (line < 32) × IsProcessor cpu) }
-    {
-        if !self.pending {
-            return None;
-        }
-        self.first_deliverable(cpu)
-    }
-
-    /// The same, by the lines.
-    #[inline(never)]
-    fn first_deliverable(&self, cpu: u8) -> Option<u8>
-        ensures is { result ≡ deliverable self.now cpu }
-        ensures within { IfSome result (λ line. (line < 32) × IsProcessor cpu) }
+    /// Whether a processor is CPU-locked, and whether dispatching is disabled on it; None where there is no such processor.
+    pub fn marks(&self, cpu: u8) -> Option<Marks>
+        ensures { result ≡ option_map marks_of (processor_at self.now cpu) }
     {
         let processor = self.processor(cpu)?;
-        if processor.handling.is_some() || processor.locked || processor.stopped {
-            return None;
-        }
-        first_pending(self.lines.as_slice(), cpu)
+        Some(Marks {
+            locked: processor.locked,
+            disabled: processor.disabled,
+        })
     }
 
-    /// Raises an interrupt. Answers whether its line has a handler; if not, nothing changes.
-    pub fn raise(&mut self, line: u8) -> bool
-        ensures is { self.new ≡ raised self.old line }
-        ensures there { result ≡ is_some (line_at self.old line).handler }
+    /// Gives who executes on a processor another context.
+    pub fn put_context(&mut self, cpu: u8, context: Context)
+        requires { is_some (executor_on self.old cpu) ≡ true }
+        ensures { IfSome (executor_on self.old cpu) (λ who. self.new ≡ with_context_of self.old cpu who context) }
     {
-        if (line as usize) >= self.lines.len() {
-            return false;
+        if let Some(who) = self.executor(cpu) {
+            *self.context_mut(cpu, who) = context;
         }
-        if self.lines[line as usize].handler.is_none() {
-            return false;
-        }
-        self.pending = true;
-        self.lines[line as usize].pending = true;
-        true
-    }
-
-    /// A processor accepts the interrupt that is deliverable to it. Answers its line, if there is one.
-    pub fn accept(&mut self, cpu: u8) -> Option<u8>
-        ensures is { self.new ≡ accepted self.old cpu }
-        ensures line { result ≡ deliverable self.old cpu }
-        ensures within { IfSome result (λ _. IsProcessor cpu) }
-    {
-        let line = self.deliverable(cpu)?;
-        self.handle(cpu, line);
-        Some(line)
-    }
-
-    /// A processor begins to handle the interrupt of a line.
-    #[inline(never)]
-    fn handle(&mut self, cpu: u8, line: u8)
-        requires { line < 32 }
-        ensures { self.new ≡ accepted_line self.old cpu line }
-    {
-        let Some(processor) = self.processor(cpu) else {
-            return
-        };
-        self.lines[line as usize].pending = false;
-        self.pending = !are_quiet(self.lines.as_slice());
-        self.put_processor(
-            cpu,
-            Processor {
-                handling: Some(line),
-                ..processor
-            },
-        );
-        self.handler_contexts[cpu as usize] = entry_of(line, self.lines[line as usize].handler);
     }
 
     /// Ends what a processor executes by an exception: a handler, which stops the processor for good, or the running task.
@@ -398,6 +343,9 @@ impl Kernel {
             return false;
         }
         let running = self.tasks.top(cpu);
+        if is_same_task(processor.running, running) {
+            return false;
+        }
         self.put_processor(
             cpu,
             Processor {
@@ -405,7 +353,7 @@ impl Kernel {
                 ..processor
             },
         );
-        !is_same_task(processor.running, running)
+        true
     }
 
     /// Does one instruction in the context in which a processor executes, where it lies. None where nobody executes.

@@ -29,6 +29,15 @@ pub enum Executor {
     Handler,
 }
 
+/// What a task has set on its processor.
+#[derive(Clone, Copy, Debug, PartialEq, Eq)]
+pub struct Marks {
+    /// It is CPU-locked (loc_cpu).
+    pub locked: bool,
+    /// Dispatching is disabled (dis_dsp).
+    pub disabled: bool,
+}
+
 /// An instruction that was executed.
 #[derive(Clone, Copy, Debug, PartialEq, Eq)]
 pub struct Ended {
