@@ -32,7 +32,7 @@ fn two(alloc: Global) -> Result<Kernel, NoMemory> {
     if !are_setups(&setups) {
         return Err(NoMemory);
     }
-    let mut kernel = Kernel::new(alloc, 2, &setups, &[], &[], &[])?;
+    let mut kernel = Kernel::new(alloc, 2, &setups, &[], &[], &[], &[])?;
     for id in [2, 1, 3] {
         kernel.start(id);
     }
@@ -63,6 +63,7 @@ fn with_objects(alloc: Global) -> Result<Kernel, ConfigFault> {
         alloc,
         config.processors,
         &setups,
+        &[],
         config.semaphores.as_slice(),
         config.flags.as_slice(),
         config.queues.as_slice(),
