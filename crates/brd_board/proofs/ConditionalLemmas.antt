@@ -23,6 +23,7 @@ use Rattle.brd_time.specs.Time.{last_count, advanced}
 use Rattle.brd_tasks.specs.Tasks.{no_context}
 use Rattle.brd_tasks.specs.declared.task.TaskSetup.{TaskSetup}
 use Rattle.brd_config.specs.Configuration.{Configuration}
+use Rattle.brd_kernel.specs.declared.processor.LineSetup.{LineSetup}
 use Rattle.brd_kernel.specs.declared.processor.Processor.{Processor}
 use Rattle.brd_kernel.specs.declared.processor.Executor.{Executor}
 use Rattle.brd_kernel.specs.declared.processor.Executor.TheVariants as executor
@@ -34,7 +35,7 @@ use Rattle.brd_board.specs.declared.event.Event.TheVariants.{Step, Tick, Raise}
 use Rattle.brd_board.specs.declared.event.Report.{Report}
 use Rattle.brd_board.specs.declared.event.Report.TheVariants as report
 use Rattle.brd_board.specs.declared.boot.BootFault.{BootFault}
-use Rattle.brd_board.specs.Setup.{setups_of, handlers_tested}
+use Rattle.brd_board.specs.Setup.{setups_of, handlers_of}
 use Rattle.brd_board.specs.Boot.{loaded, booted_kernel, booted_board, boot}
 use Rattle.brd_board.specs.Board.{BoardState, Happened, with_executed, with_call, with_fault, instruction_done, executes_in, accepts_or_executes, stepped_in, happens_on, happens, after, registers_of}
 use Rattle.brd_board.specs.History.{Move, ends_of, moves_done, moves_executing, moves_accepting, moves_stepping, moves_on, moves, history, HasReserved}
@@ -351,18 +352,18 @@ IsUnlinked (Ok b) = b.links ≡ []
 IsUnlinked (Err fault) = Unit {0}
 
 unlinked-by : (config : Configuration) (memory : Result Memory BootFault) (setups : Result (List TaskSetup) BootFault)
-    (starts : Result (Unit {0}) BootFault) →
-    IsUnlinked (memory >>= (λ m. setups >>= (λ s. starts >>= (λ t. Ok (booted_board (booted_kernel s config) m)))))
-unlinked-by config (Err fault) setups starts = tt
-unlinked-by config (Ok m) (Err fault) starts = tt
+    (lines : Result (List LineSetup) BootFault) →
+    IsUnlinked (memory >>= (λ m. setups >>= (λ s. lines >>= (λ l. Ok (booted_board (booted_kernel s l config) m)))))
+unlinked-by config (Err fault) setups lines = tt
+unlinked-by config (Ok m) (Err fault) lines = tt
 unlinked-by config (Ok m) (Ok s) (Err fault) = tt
-unlinked-by config (Ok m) (Ok s) (Ok t) = refl
+unlinked-by config (Ok m) (Ok s) (Ok l) = refl
 
 unlinked : (image : Image) (config : Configuration) → IsUnlinked (boot image config)
 unfolding boot
 unlinked image config =
     unlinked-by config (loaded config.ram image.segments) (setups_of config.ram image.symbols config.tasks)
-    (handlers_tested config.ram image.symbols config.handlers)
+    (handlers_of config.ram image.symbols config.handlers)
 
 pub boot-conditional : (image : Image) (config : Configuration) (board : BoardState) (events : List Event) → boot image config ≡ Ok board →
     ConditionalLaw board events

@@ -6,6 +6,7 @@ use Rattle.brd_exec.specs.State.{State}
 use Rattle.brd_exec.specs.declared.outcome.Outcome.{Outcome}
 use Rattle.brd_exec.specs.declared.outcome.Outcome.TheVariants.{Done, Syscall, Exception}
 use Rattle.brd_tasks.specs.Tasks.{top_of}
+use Rattle.brd_kernel.specs.declared.processor.LineSetup.{LineSetup}
 use Rattle.brd_kernel.specs.declared.processor.Processor.{Processor}
 use Rattle.brd_kernel.specs.declared.processor.Executor.{Executor}
 use Rattle.brd_kernel.specs.declared.processor.Executor.TheVariants as executor
@@ -21,7 +22,7 @@ use Rattle.brd_link.specs.LinkSet.{LinkSet}
 use Rattle.brd_config.specs.Configuration.{Configuration}
 use Rattle.brd_text.specs.Faults.{◌>>=◌}
 use Rattle.brd_tasks.specs.declared.task.TaskSetup.{TaskSetup}
-use Rattle.brd_board.specs.Setup.{setups_of, handlers_tested}
+use Rattle.brd_board.specs.Setup.{setups_of, handlers_of}
 use Rattle.brd_board.specs.Boot.{loaded, booted_kernel, booted_board, boot}
 use Rattle.brd_tasks.specs.Tasks.{made}
 use Rattle.brd_time.specs.Time.{last_count, advanced}
@@ -95,17 +96,17 @@ abbrev IsBooted : Result BoardState BootFault → Type 0
 IsBooted (Ok b) = IsSettled b.kernel
 IsBooted (Err fault) = Unit {0}
 
-booted-by : (config : Configuration) (memory : Result Memory BootFault) (setups : Result (List TaskSetup) BootFault) (starts : Result (Unit {0}) BootFault) →
-    IsBooted (memory >>= (λ m. setups >>= (λ s. starts >>= (λ t. Ok (booted_board (booted_kernel s config) m)))))
-booted-by config (Err fault) setups starts = tt
-booted-by config (Ok m) (Err fault) starts = tt
+booted-by : (config : Configuration) (memory : Result Memory BootFault) (setups : Result (List TaskSetup) BootFault) (lines : Result (List LineSetup) BootFault) →
+    IsBooted (memory >>= (λ m. setups >>= (λ s. lines >>= (λ l. Ok (booted_board (booted_kernel s l config) m)))))
+booted-by config (Err fault) setups lines = tt
+booted-by config (Ok m) (Err fault) lines = tt
 booted-by config (Ok m) (Ok s) (Err fault) = tt
-booted-by config (Ok m) (Ok s) (Ok t) = dispatch-settles (with_tasks (made_kernel config.processors s config.semaphores config.flags config.queues) (all_started (made s) config.tasks))
+booted-by config (Ok m) (Ok s) (Ok l) = dispatch-settles (with_tasks (made_kernel config.processors s l config.semaphores config.flags config.queues) (all_started (made s) config.tasks))
 
 booted : (image : Image) (config : Configuration) → IsBooted (boot image config)
 unfolding boot
 booted image config =
-    booted-by config (loaded config.ram image.segments) (setups_of config.ram image.symbols config.tasks) (handlers_tested config.ram image.symbols config.handlers)
+    booted-by config (loaded config.ram image.segments) (setups_of config.ram image.symbols config.tasks) (handlers_of config.ram image.symbols config.handlers)
 
 pub boot-settled : (image : Image) (config : Configuration) (b : BoardState) (events : List Event) → boot image config ≡ Ok b → IsSettled (after b events).kernel
 boot-settled image config b events is = after-settled b events (subst IsBooted is (booted image config))

@@ -15,6 +15,7 @@ use Rattle.brd_tasks.specs.declared.task.TaskSetup.{TaskSetup}
 use Rattle.brd_tasks.specs.declared.task.Request.TheVariants.{Assigned}
 use Rattle.brd_tasks.specs.Tasks.{activated, made}
 use Rattle.brd_time.specs.Time.{last_count, advanced as time_advanced}
+use Rattle.brd_kernel.specs.declared.processor.LineSetup.{LineSetup}
 use Rattle.brd_kernel.specs.declared.processor.Processor.{Processor}
 use Rattle.brd_kernel.specs.declared.processor.Executor.{Executor}
 use Rattle.brd_kernel.specs.declared.call.Call.{Call}
@@ -31,7 +32,7 @@ use Rattle.brd_sysgate.specs.declared.gate.Caller.{Caller}
 use Rattle.brd_board.specs.declared.event.Event.{Event}
 use Rattle.brd_board.specs.declared.event.Event.TheVariants.{Step, Tick, Raise}
 use Rattle.brd_board.specs.declared.boot.BootFault.{BootFault}
-use Rattle.brd_board.specs.Setup.{setups_of, handlers_tested, has_ta_act, started_at_boot, all_started}
+use Rattle.brd_board.specs.Setup.{setups_of, handlers_of, has_ta_act, started_at_boot, all_started}
 use Rattle.brd_board.specs.Boot.{loaded, booted_kernel, booted_board, boot}
 use Rattle.brd_board.specs.Board.{BoardState, Happened, with_call, with_fault, with_executed, happens, happens_on, after, stepped_in, accepts_or_executes, executes_in, instruction_done}
 
@@ -127,21 +128,21 @@ IsBooted (Ok b) = WaitsAreKept b.kernel
 IsBooted (Err fault) = Unit {0}
 
 booted-by : (config : Configuration) (memory : Result Memory BootFault) (setups : Result (List TaskSetup) BootFault)
-    (starts : Result (Unit {0}) BootFault) →
-    IsBooted (memory >>= (λ m. setups >>= (λ s. starts >>= (λ t. Ok (booted_board (booted_kernel s config) m)))))
-booted-by config (Err fault) setups starts = tt
-booted-by config (Ok m) (Err fault) starts = tt
+    (lines : Result (List LineSetup) BootFault) →
+    IsBooted (memory >>= (λ m. setups >>= (λ s. lines >>= (λ l. Ok (booted_board (booted_kernel s l config) m)))))
+booted-by config (Err fault) setups lines = tt
+booted-by config (Ok m) (Err fault) lines = tt
 booted-by config (Ok m) (Ok s) (Err fault) = tt
-booted-by config (Ok m) (Ok s) (Ok t) =
-    let first : KernelState = made_kernel config.processors s config.semaphores config.flags config.queues in
+booted-by config (Ok m) (Ok s) (Ok l) =
+    let first : KernelState = made_kernel config.processors s l config.semaphores config.flags config.queues in
     dispatched-keeps (with_tasks first (all_started (made s) config.tasks))
-    (all-started-keep first config.tasks (made-keeps config.processors s config.semaphores config.flags config.queues))
+    (all-started-keep first config.tasks (made-keeps config.processors s l config.semaphores config.flags config.queues))
 
 booted : (image : Image) (config : Configuration) → IsBooted (boot image config)
 unfolding boot
 booted image config =
     booted-by config (loaded config.ram image.segments) (setups_of config.ram image.symbols config.tasks)
-    (handlers_tested config.ram image.symbols config.handlers)
+    (handlers_of config.ram image.symbols config.handlers)
 
 pub boot-keeps : (image : Image) (config : Configuration) (b : BoardState) (events : List Event) → boot image config ≡ Ok b →
     WaitsAreKept (after b events).kernel

@@ -13,11 +13,12 @@ use Rattle.brd_config.specs.declared.objects.Stack.TheVariants.{Automatic}
 use Rattle.brd_config.specs.declared.objects.TaskConfig.{TaskConfig}
 use Rattle.brd_config.specs.Configuration.{Configuration}
 use Rattle.brd_tasks.specs.declared.task.TaskSetup.{TaskSetup}
+use Rattle.brd_kernel.specs.declared.processor.LineSetup.{LineSetup}
 use Rattle.brd_kernel.specs.Kernel.{KernelState, with_tasks}
 use Rattle.brd_kernel.specs.Making.{made_kernel}
 use Rattle.brd_kernel.specs.Dispatch.{dispatched}
 use Rattle.brd_board.specs.Board.{BoardState}
-use Rattle.brd_board.specs.Setup.{setups_of, handlers_tested, ta_act, all_started}
+use Rattle.brd_board.specs.Setup.{setups_of, handlers_of, ta_act, all_started}
 use Rattle.brd_board.specs.declared.boot.BootFault.{BootFault}
 use Rattle.brd_board.specs.declared.boot.BootFault.TheVariants.{Outside}
 
@@ -34,10 +35,11 @@ memory_of size segments = record { bytes = map (λ at. unwrap_or (byte_in segmen
 unfoldable pub loaded : ℕ → List Segment → Result Memory BootFault
 loaded size segments = if are_inside size segments then Ok (memory_of size segments) else Err Outside
 
--- the kernel at count 0: its objects are as configured, its tasks with TA_ACT have been started, and each processor runs its first ready task
-abbrev pub booted_kernel : List TaskSetup → Configuration → KernelState
-booted_kernel setups config =
-    let made = made_kernel config.processors setups config.semaphores config.flags config.queues in
+-- the kernel at count 0: its objects and the handlers of its lines are as configured, its tasks with TA_ACT have been started, and each processor
+-- runs its first ready task
+abbrev pub booted_kernel : List TaskSetup → List LineSetup → Configuration → KernelState
+booted_kernel setups lines config =
+    let made = made_kernel config.processors setups lines config.semaphores config.flags config.queues in
     dispatched (with_tasks made (all_started made.tasks config.tasks))
 
 -- the board as boot leaves it: without links and faults
@@ -50,8 +52,8 @@ unfoldable pub boot : Image → Configuration → Result BoardState BootFault
 boot image config = do
   memory ← loaded config.ram image.segments
   setups ← setups_of config.ram image.symbols config.tasks
-  tested ← handlers_tested config.ram image.symbols config.handlers
-  Ok (booted_board (booted_kernel setups config) memory)
+  lines ← handlers_of config.ram image.symbols config.handlers
+  Ok (booted_board (booted_kernel setups lines config) memory)
 
 -- Words: their image is booted with 64 KiB of RAM and one task, which starts at RAM's first address.
 
@@ -85,4 +87,4 @@ memory_of_words words = record { bytes = flat_map bytes_of_word words ++ replica
 -- the board of a list of words, of which 16,384 fit into RAM
 abbrev pub boot_words : List ℕ → Result BoardState BootFault
 boot_words words =
-    if nat_le (length words) 16384 then Ok (booted_board (booted_kernel (words_setup ∷ []) words_config) (memory_of_words words)) else Err Outside
+    if nat_le (length words) 16384 then Ok (booted_board (booted_kernel (words_setup ∷ []) [] words_config) (memory_of_words words)) else Err Outside

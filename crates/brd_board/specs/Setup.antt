@@ -1,5 +1,5 @@
--- What a configuration makes of an image: where each task starts and where its stack lies, which tasks are started, and whether each handler
--- can start. Where the configuration names a symbol of the image, its value is meant. The first fault in the order of the statements is
+-- What a configuration makes of an image: where each task starts and where its stack lies, which tasks are started, and where the handler of
+-- each interrupt line starts. Where the configuration names a symbol of the image, its value is meant. The first fault in the order of the statements is
 -- answered; of one statement first all its symbols are looked up, then its addresses are tested.
 use Rattle.std.specs.Prelude.{ℕ, ◌+◌, ◌-◌, ◌%◌, ◌==◌, Bool, true, false, ◌&&◌, if◌then◌else◌, List, [], ◌∷◌, Result, Ok, Err}
 use Rattle.std.specs.Int.RustNames.{bit_and}
@@ -18,6 +18,7 @@ use Rattle.brd_config.specs.declared.objects.HandlerConfig.{HandlerConfig}
 use Rattle.brd_tasks.specs.declared.task.TaskSetup.{TaskSetup}
 use Rattle.brd_tasks.specs.declared.task.Request.TheVariants.{Assigned}
 use Rattle.brd_tasks.specs.Tasks.{TaskTable, activated}
+use Rattle.brd_kernel.specs.declared.processor.LineSetup.{LineSetup}
 use Rattle.brd_board.specs.declared.boot.BootFault.{BootFault}
 use Rattle.brd_board.specs.declared.boot.BootFault.TheVariants.{NoMemory, UnknownSymbol, Outside}
 use Rattle.brd_board.specs.declared.setup.Region.{Region}
@@ -88,12 +89,17 @@ handler_address size symbols operand = do
   address ← value_of symbols operand
   if is_code_address size address then Ok address else Err Outside
 
--- the first fault of the handlers, in the order of their statements
-unfoldable pub handlers_tested : ℕ → List Symbol → List HandlerConfig → Result (Unit {0}) BootFault
-handlers_tested size symbols [] = Ok tt
-handlers_tested size symbols (handler ∷ handlers) = do
+-- the line of a handler that starts there; the processor takes the line's interrupts
+abbrev pub line_of : HandlerConfig → ℕ → LineSetup
+line_of handler address = record { line = handler.line; handler = record { cpu = handler.processor; address = address } }
+
+-- the lines that have a handler, in the order of the handlers' statements
+unfoldable pub handlers_of : ℕ → List Symbol → List HandlerConfig → Result (List LineSetup) BootFault
+handlers_of size symbols [] = Ok []
+handlers_of size symbols (handler ∷ handlers) = do
   address ← handler_address size symbols handler.address
-  handlers_tested size symbols handlers
+  lines ← handlers_of size symbols handlers
+  Ok (line_of handler address ∷ lines)
 
 abbrev pub ta_act : ℕ
 ta_act = 2

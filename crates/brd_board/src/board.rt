@@ -27,12 +27,12 @@ use crate::boot::BootFault;
 use crate::event::{Event, Report};
 use crate::links::end_links;
 use crate::load::loaded;
-use crate::setup::{setups_of, start_all, test_handlers};
+use crate::setup::{handlers_of, setups_of, start_all};
 use crate::view::Fault;
 use brd_base::{BASE, List, NoMemory};
 use brd_config::{Config, Operand, Stack, TaskAttributes, TaskConfig};
 use brd_exec::{Context, ExceptionCode, Outcome};
-use brd_kernel::{Ended, Kernel, Standing, TaskId, TaskSetup, TaskView};
+use brd_kernel::{Ended, Kernel, LineSetup, Standing, TaskId, TaskSetup, TaskView};
 use brd_link::Links;
 use brd_mem::{Image, Ram};
 use brd_sysgate::call;
@@ -63,8 +63,8 @@ impl Model for Board {
 }
 
 impl Board {
-    /// The board that an image and a configuration make. Its tasks with TA_ACT have been started. A fault is the first one: of the
-    /// segments, of the tasks in the order of their statements, of the handlers in theirs.
+    /// The board that an image and a configuration make. Its tasks with TA_ACT have been started, and no interrupt is pending. A fault is
+    /// the first one: of the segments, of the tasks in the order of their statements, of the handlers in theirs.
     #[tactic(auto, unfolding(crate::specs::Boot::boot))]
     pub fn boot(alloc: Global, image: &Image, config: &Config) -> Result<Board, BootFault>
         requires { IsLoadable image.now }
@@ -74,9 +74,9 @@ impl Board {
         let symbols = image.symbols.as_slice();
         let tasks = config.tasks.as_slice();
         let setups = setups_of(alloc, &ram, symbols, tasks)?;
-        test_handlers(&ram, symbols, config.handlers.as_slice())?;
+        let lines = handlers_of(alloc, &ram, symbols, config.handlers.as_slice())?;
         Ok(Board {
-            kernel: started(alloc, setups.as_slice(), config)?,
+            kernel: started(alloc, setups.as_slice(), lines.as_slice(), config)?,
             ram,
             links: Links::new(),
             faults: no_faults(alloc)?,
@@ -297,16 +297,23 @@ fn words_config(alloc: Global) -> Result<Config, NoMemory>
     })
 }
 
-/// A kernel with the objects of a configuration, whose tasks with TA_ACT have been started, and run where they come first.
-fn started(alloc: Global, setups: &[TaskSetup], config: &Config) -> Result<Kernel, NoMemory>
+/// A kernel with these handlers and with the objects of a configuration, whose tasks with TA_ACT have been started, and run where they come
+/// first.
+fn started(
+    alloc: Global,
+    setups: &[TaskSetup],
+    lines: &[LineSetup],
+    config: &Config,
+) -> Result<Kernel, NoMemory>
     requires few { config.now.processors ≤ 8 }
     requires setups { All IsSetup setups.now }
-    ensures { IfOk result (λ kernel. kernel ≡ booted_kernel setups.now (view config.now)) }
+    ensures { IfOk result (λ kernel. kernel ≡ booted_kernel setups.now lines.now (view config.now)) }
 {
     let mut kernel = Kernel::new(
         alloc,
         config.processors,
         setups,
+        lines,
         config.semaphores.as_slice(),
         config.flags.as_slice(),
         config.queues.as_slice(),

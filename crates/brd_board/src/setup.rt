@@ -1,4 +1,4 @@
-//! What a configuration makes of an image: its tasks with their stacks, which of them are started, and whether handlers can start.
+//! What a configuration makes of an image: its tasks with their stacks, which of them are started, and where handlers start.
 
 ghost use Rattle.std.specs.Prelude.{◌≡◌, ◌≤◌, ◌<◌, ◌+◌, All, IfOk};
 ghost use Rattle.brd_mem.specs.Image.{symbol_value};
@@ -13,7 +13,7 @@ use crate::boot::BootFault;
 use bitflags::Flags;
 use brd_base::{BASE, List};
 use brd_config::{HandlerConfig, Operand, Stack, TaskAttributes, TaskConfig};
-use brd_kernel::{Kernel, TaskSetup};
+use brd_kernel::{Handler, Kernel, LineSetup, TaskSetup};
 use brd_mem::{Ram, Symbol};
 use std::alloc::Global;
 
@@ -173,18 +173,34 @@ fn handler_address(ram: &Ram, symbols: &[Symbol], operand: &Operand) -> Result<u
     Ok(address)
 }
 
-/// Tests where the handlers start, one after the other.
-pub fn test_handlers(
+/// The lines that have a handler, in the order of the handlers' statements.
+pub fn handlers_of(
+    alloc: Global,
     ram: &Ram,
     symbols: &[Symbol],
     handlers: &[HandlerConfig],
-) -> Result<(), BootFault>
-    ensures { result ≡ setup.handlers_tested (size_of ram.now) symbols.now handlers.now }
+) -> Result<List<LineSetup>, BootFault>
+    ensures { Boots (setup.handlers_of (size_of ram.now) symbols.now handlers.now) result }
 {
+    let mut lines = List::new(alloc);
     for handler in handlers {
-        let _ = handler_address(ram, symbols, &handler.address)?;
+        let address = handler_address(ram, symbols, &handler.address)?;
+        lines.push(line_of(handler, address))?;
     }
-    Ok(())
+    Ok(lines)
+}
+
+/// The line of a handler that starts at an address.
+fn line_of(handler: &HandlerConfig, address: u32) -> LineSetup
+    ensures { result ≡ setup.line_of handler.now address }
+{
+    LineSetup {
+        line: handler.line,
+        handler: Handler {
+            cpu: handler.processor,
+            address,
+        },
+    }
 }
 
 /// Starts a task, if it has TA_ACT.

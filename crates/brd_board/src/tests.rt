@@ -1,8 +1,9 @@
 use super::*;
+use brd_base::{BASE, List};
 use brd_config::parse;
-use brd_exec::ExceptionCode;
+use brd_exec::{Context, ExceptionCode};
 use brd_isa::Register;
-use brd_mem::Image;
+use brd_mem::{Image, Symbol};
 use std::alloc::{AllocError, Global};
 use std::test::Fail;
 
@@ -338,5 +339,226 @@ fn words_are_an_image(rt: HostRuntime) -> Result<(), Fail> {
     ] {
         assert_eq!(rt; booted.memory(address), board.memory(address));
     }
+    Ok(())
+}
+
+/// A branch to itself with its slot, which tasks run, then a handler.
+const LOOP_AND_HANDLER: [u32; 4] = [
+    0x1000_ffff, // beq $0, $0, -1
+    0x0000_0000, // nop
+    0x2408_0007, // addiu $t0, $0, 7
+    0x0000_000d, // break
+];
+
+/// Where that handler starts.
+const HANDLER: u32 = 0x8000_0008;
+
+/// Processor 1 runs task 1 and has lines 5 and 3, processor 2 runs task 2, and processor 3 is idle and has line 31.
+const WITH_HANDLERS: &str = "BOARD(3, 0x10000);
+    CRE_TSK(1, {TA_ACT, 9, 0x80000000, 1, 256, NULL});
+    DEF_INH(5, {TA_HLNG, 0x80000008}); DEF_INH(3, {TA_ASM, 0x80000008});
+    CLASS(TCL_2) { CRE_TSK(2, {TA_ACT, 0, 0x80000000, 1, 256, NULL}); }
+    CLASS(TCL_3) { DEF_INH(31, {TA_HLNG, 0x80000008}); }";
+
+/// The first of these events that reports something else, and what it reports.
+fn first_other(board: &mut Board, wanted: &[(Event, Report)]) -> Option<(Event, Report)> {
+    for (event, report) in wanted {
+        let told = board.event(*event);
+        if told != *report {
+            return Some((*event, told));
+        }
+    }
+    None
+}
+
+/// Whether a context is that of a handler of this line that is about to start at this address: all is 0 but $a0, which has the line.
+fn is_entry(context: &Context, line: u32, address: u32) -> bool {
+    for (number, word) in context.registers().iter().enumerate() {
+        let wanted = if number == 4 { line } else { 0 };
+        if *word != wanted {
+            return false;
+        }
+    }
+    context.hi() == 0
+        && context.lo() == 0
+        && context.pc() == address
+        && context.npc() == address.wrapping_add(4)
+        && !context.slot()
+}
+
+/// Whether a processor is about to run the handler of a line from this address on.
+fn enters(board: &Board, cpu: u8, line: u8, address: u32) -> bool {
+    let Some(context) = board.registers(cpu) else {
+        return false;
+    };
+    board.standing(cpu) == Some(Standing::Handler(line)) && is_entry(&context, line as u32, address)
+}
+
+/// A line that has a handler is raised, also twice; its processor accepts it in the place of its task's next instruction, and goes on with
+/// the handler. The task stays as it was.
+#[test]
+fn an_interrupt(rt: HostRuntime) -> Result<(), Fail> {
+    let mut board = booted(rt.alloc(), WITH_HANDLERS, &LOOP_AND_HANDLER)?;
+    let events = [
+        (Event::Step(1), Report::Ran(0x8000_0000)),
+        (Event::Raise(5), Report::Raised),
+        (Event::Raise(5), Report::Raised),
+        (Event::Step(1), Report::Accepted(5)),
+    ];
+    assert_eq!(rt; first_other(&mut board, &events), None);
+    assert!(rt; enters(&board, 1, 5, HANDLER));
+    assert_eq!(rt; board.event(Event::Step(1)), Report::Ran(HANDLER));
+    let seven = board.registers(1).map(|it| it.read(Register::low(8)));
+    assert_eq!(rt; seven, Some(7));
+    let pc = board.task(1).map(|it| it.context.pc());
+    assert_eq!(rt; pc, Some(0x8000_0004));
+    Ok(())
+}
+
+/// Of two pending lines the lower one is accepted, and none while a handler runs.
+#[test]
+fn two_interrupts(rt: HostRuntime) -> Result<(), Fail> {
+    let mut board = booted(rt.alloc(), WITH_HANDLERS, &LOOP_AND_HANDLER)?;
+    let events = [
+        (Event::Raise(5), Report::Raised),
+        (Event::Raise(3), Report::Raised),
+        (Event::Step(1), Report::Accepted(3)),
+        (Event::Raise(3), Report::Raised),
+    ];
+    assert_eq!(rt; first_other(&mut board, &events), None);
+    assert!(rt; enters(&board, 1, 3, HANDLER));
+    assert_eq!(rt; board.event(Event::Step(1)), Report::Ran(HANDLER));
+    Ok(())
+}
+
+/// Only the lines of DEF_INH have a handler.
+#[test]
+fn lines_without_a_handler(rt: HostRuntime) -> Result<(), Fail> {
+    let mut board = booted(rt.alloc(), WITH_HANDLERS, &LOOP_AND_HANDLER)?;
+    for line in 0..=255u8 {
+        let report = if line == 3 || line == 5 || line == 31 {
+            Report::Raised
+        } else {
+            Report::NoSuch
+        };
+        assert_eq!(rt; board.event(Event::Raise(line)), report, "{line}");
+    }
+    Ok(())
+}
+
+/// A line's interrupt is accepted by its own processor alone, also where that is idle.
+#[test]
+fn interrupts_of_other_processors(rt: HostRuntime) -> Result<(), Fail> {
+    let mut board = booted(rt.alloc(), WITH_HANDLERS, &LOOP_AND_HANDLER)?;
+    let events = [
+        (Event::Step(3), Report::Idle),
+        (Event::Raise(31), Report::Raised),
+        (Event::Step(1), Report::Ran(0x8000_0000)),
+        (Event::Step(2), Report::Ran(0x8000_0000)),
+        (Event::Step(3), Report::Accepted(31)),
+    ];
+    assert_eq!(rt; first_other(&mut board, &events), None);
+    assert!(rt; enters(&board, 3, 31, HANDLER));
+    assert_eq!(rt; board.standing(1), Some(Standing::Task(1)));
+    assert_eq!(rt; board.standing(2), Some(Standing::Task(2)));
+    Ok(())
+}
+
+/// An exception in a handler stops its processor for good, whatever is raised; the others go on.
+#[test]
+fn a_fault_in_a_handler(rt: HostRuntime) -> Result<(), Fail> {
+    let mut board = booted(rt.alloc(), WITH_HANDLERS, &LOOP_AND_HANDLER)?;
+    let events = [
+        (Event::Raise(3), Report::Raised),
+        (Event::Step(1), Report::Accepted(3)),
+        (Event::Step(1), Report::Ran(HANDLER)),
+        (Event::Step(1), Report::Faulted(0x8000_000c)),
+        (Event::Step(1), Report::Stopped),
+        (Event::Raise(5), Report::Raised),
+        (Event::Step(1), Report::Stopped),
+        (Event::Step(2), Report::Ran(0x8000_0000)),
+        (Event::Step(3), Report::Idle),
+        (Event::Tick, Report::Ticked),
+        (Event::Step(1), Report::Stopped),
+    ];
+    assert_eq!(rt; first_other(&mut board, &events), None);
+    assert_eq!(rt; board.standing(1), Some(Standing::Stopped));
+    assert_eq!(rt; board.registers(1), None);
+    let fault = Fault {
+        code: ExceptionCode::Bp,
+        epc: 0x8000_000c,
+        bd: false,
+    };
+    assert_eq!(rt; board.last_fault(1), Some(fault));
+    assert_eq!(rt; board.task(1).map(|it| it.state), Some(TaskState::Ready));
+    Ok(())
+}
+
+/// The fault with which the board of a configuration and no words doesn't start.
+fn fault_of_boot(alloc: Global, config: &str) -> Result<Option<BootFault>, Fail> {
+    let config = parse(alloc, config.as_bytes())?;
+    let image = Image::from_words(alloc, &[])?;
+    match Board::boot(alloc, &image, &config) {
+        Ok(_) => Ok(None),
+        Err(fault) => Ok(Some(fault)),
+    }
+}
+
+/// The first fault of the handlers, in the order of their statements, comes behind those of the tasks, wherever these stand.
+#[test]
+fn faults_of_handlers(rt: HostRuntime) -> Result<(), Fail> {
+    for (config, fault) in [
+        ("DEF_INH(0, {TA_HLNG, 0x8000fffc});", None),
+        ("DEF_INH(0, {TA_HLNG, 0x80010000});", Some(BootFault::Outside)),
+        ("DEF_INH(0, {TA_HLNG, 0x7ffffffc});", Some(BootFault::Outside)),
+        ("DEF_INH(0, {TA_HLNG, 0x80000002});", Some(BootFault::Outside)),
+        ("DEF_INH(0, {TA_HLNG, nowhere});", Some(BootFault::UnknownSymbol)),
+        (
+            "DEF_INH(1, {TA_HLNG, 0}); DEF_INH(0, {TA_HLNG, nowhere});",
+            Some(BootFault::Outside),
+        ),
+        (
+            "DEF_INH(1, {TA_HLNG, nowhere}); DEF_INH(0, {TA_HLNG, 0});",
+            Some(BootFault::UnknownSymbol),
+        ),
+        (
+            "DEF_INH(0, {TA_HLNG, nowhere}); CRE_TSK(1, {TA_ACT, 0, 0, 1, 16, NULL});",
+            Some(BootFault::Outside),
+        ),
+    ] {
+        let alloc = rt.alloc();
+        let config = format!(in alloc; "BOARD(1, 0x10000); {config}")?;
+        assert_eq!(rt; fault_of_boot(alloc, config.as_str())?, fault, "{config}");
+    }
+    Ok(())
+}
+
+/// The board of a configuration and of an image without segments, in which a name stands for a value.
+fn booted_with_name(alloc: Global, config: &str, name: &[u8], value: u32) -> Result<Board, Fail> {
+    let config = parse(alloc, config.as_bytes())?;
+    let mut symbols = List::new(alloc);
+    symbols.push(Symbol {
+        name: List::from_slice(alloc, name)?,
+        value,
+    })?;
+    let image = Image {
+        entry: BASE,
+        segments: List::new(alloc),
+        symbols,
+    };
+    Ok(Board::boot(alloc, &image, &config)?)
+}
+
+/// A handler that is named starts where the image says.
+#[test]
+fn handlers_by_name(rt: HostRuntime) -> Result<(), Fail> {
+    let config = "BOARD(1, 0x10000); DEF_INH(0, {TA_HLNG, on_timer});";
+    let mut board = booted_with_name(rt.alloc(), config, b"on_timer", 0x8000_0100)?;
+    let events = [
+        (Event::Raise(0), Report::Raised),
+        (Event::Step(1), Report::Accepted(0)),
+    ];
+    assert_eq!(rt; first_other(&mut board, &events), None);
+    assert!(rt; enters(&board, 1, 0, 0x8000_0100));
     Ok(())
 }

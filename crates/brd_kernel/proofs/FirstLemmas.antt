@@ -20,6 +20,7 @@ use Rattle.brd_objects.specs.Table.{object_at, made_at, made_below}
 use Rattle.brd_objects.specs.Semaphores.{semaphore_of}
 use Rattle.brd_objects.specs.Flags.{flag_of}
 use Rattle.brd_objects.specs.DataQueues.{data_queue_of}
+use Rattle.brd_kernel.specs.declared.processor.LineSetup.{LineSetup}
 use Rattle.brd_kernel.specs.Kernel.{KernelState, with_tasks}
 use Rattle.brd_kernel.specs.Making.{made_kernel}
 use Rattle.brd_kernel.specs.Waiting.{semaphore_waiters, flag_waiters, senders, receivers, standing_for, WaitsAreKept}
@@ -54,18 +55,18 @@ nobody-made id_of object_of configs at list none some =
     made-by (nat_lt at 256) id_of object_of configs 256 at (λ found. list found ≡ []) refl none
     (nobody-at object_of list (find (λ c. id_of c == at) configs) none some)
 
-nobody-waits : (processors : ℕ) (setups : List TaskSetup) (semaphores : List SemaphoreConfig) (flags : List FlagConfig) (queues : List QueueConfig)
+nobody-waits : (processors : ℕ) (setups : List TaskSetup) (lines : List LineSetup) (semaphores : List SemaphoreConfig) (flags : List FlagConfig) (queues : List QueueConfig)
     (why : WaitReason) →
-    standing_for (made_kernel processors setups semaphores flags queues) why ≡ []
-nobody-waits processors setups semaphores flags queues reason.Sleep = refl
-nobody-waits processors setups semaphores flags queues reason.Delay = refl
-nobody-waits processors setups semaphores flags queues (reason.Semaphore object) =
+    standing_for (made_kernel processors setups lines semaphores flags queues) why ≡ []
+nobody-waits processors setups lines semaphores flags queues reason.Sleep = refl
+nobody-waits processors setups lines semaphores flags queues reason.Delay = refl
+nobody-waits processors setups lines semaphores flags queues (reason.Semaphore object) =
     nobody-made (λ config. config.id) semaphore_of semaphores object semaphore_waiters refl (λ c. refl)
-nobody-waits processors setups semaphores flags queues (reason.Flag object) =
+nobody-waits processors setups lines semaphores flags queues (reason.Flag object) =
     nobody-made (λ config. config.id) flag_of flags object flag_waiters refl (λ c. refl)
-nobody-waits processors setups semaphores flags queues (reason.Send object) =
+nobody-waits processors setups lines semaphores flags queues (reason.Send object) =
     nobody-made (λ config. config.id) data_queue_of queues object senders refl (λ c. refl)
-nobody-waits processors setups semaphores flags queues (reason.Receive object) =
+nobody-waits processors setups lines semaphores flags queues (reason.Receive object) =
     nobody-made (λ config. config.id) data_queue_of queues object receivers refl (λ c. refl)
 
 -- a task that hasn't started waits for nothing
@@ -98,22 +99,22 @@ dues-long : length beginning.dues ≡ 256
 unfolding beginning
 dues-long = refl
 
-made-stands : (processors : ℕ) (setups : List TaskSetup) (semaphores : List SemaphoreConfig) (flags : List FlagConfig) (queues : List QueueConfig) →
-    StandsIn [] (made_kernel processors setups semaphores flags queues)
-made-stands processors setups semaphores flags queues = record {
+made-stands : (processors : ℕ) (setups : List TaskSetup) (lines : List LineSetup) (semaphores : List SemaphoreConfig) (flags : List FlagConfig) (queues : List QueueConfig) →
+    StandsIn [] (made_kernel processors setups lines semaphores flags queues)
+made-stands processors setups lines semaphores flags queues = record {
   rows = rows-long setups 256;
   dues = dues-long;
-  apart = λ why. subst AreApart (sym (nobody-waits processors setups semaphores flags queues why)) tt;
-  listed = λ id why. ap (priority_in id) (nobody-waits processors setups semaphores flags queues why)
+  apart = λ why. subst AreApart (sym (nobody-waits processors setups lines semaphores flags queues why)) tt;
+  listed = λ id why. ap (priority_in id) (nobody-waits processors setups lines semaphores flags queues why)
       ∙ sym (ap (λ w. wanted w why) (row-by (nat_lt id 256) setups 256 id refl));
   timed = λ id in_it. subst (λ w. IsTimed w (due_of beginning id)) (sym (row-by (nat_lt id 256) setups 256 id refl)) (undue id);
 }
 
-pub made-keeps : (processors : ℕ) (setups : List TaskSetup) (semaphores : List SemaphoreConfig) (flags : List FlagConfig)
+pub made-keeps : (processors : ℕ) (setups : List TaskSetup) (lines : List LineSetup) (semaphores : List SemaphoreConfig) (flags : List FlagConfig)
     (queues : List QueueConfig) →
-    WaitsAreKept (made_kernel processors setups semaphores flags queues)
-made-keeps processors setups semaphores flags queues =
-    kept (made_kernel processors setups semaphores flags queues) (made-stands processors setups semaphores flags queues)
+    WaitsAreKept (made_kernel processors setups lines semaphores flags queues)
+made-keeps processors setups lines semaphores flags queues =
+    kept (made_kernel processors setups lines semaphores flags queues) (made-stands processors setups lines semaphores flags queues)
 
 pub activated-keeps : (k : KernelState) (id : ℕ) (request : Request) → WaitsAreKept k → WaitsAreKept (with_tasks k (activated k.tasks id request))
 activated-keeps k id request was =

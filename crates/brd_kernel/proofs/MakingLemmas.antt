@@ -1,6 +1,7 @@
 -- The kernel as it is made.
-use Rattle.std.proofs.Common.{◌≡◌, ◌<◌, ◌≤◌, ℕ, zero, suc, List, [], refl, sym, ap, subst, ◌∙◌, length, arith}
+use Rattle.std.proofs.Common.{◌≡◌, ◌<◌, ◌≤◌, ℕ, zero, suc, ◌+◌, List, [], ◌∷◌, ◌++◌, map, refl, sym, ap, subst, ◌∙◌, length, arith}
 use Rattle.std.specs.Prelude.{Bool, true, false, ◌&&◌, nat_lt, nat_le, if◌then◌else◌, slice_index_or, replicate, Option, None, Some}
+use Rattle.std.specs.List.{range_with_len}
 use Rattle.std.proofs.lemmas.Bool.Decides.{nat_tests}
 use Rattle.std.proofs.Math.ListN.{get_or-eq_default}
 use Rattle.brd_exec.specs.State.{State}
@@ -12,13 +13,28 @@ use Rattle.brd_objects.specs.declared.flag.Flag.{Flag}
 use Rattle.brd_objects.specs.DataQueues.{DataQueueState}
 use Rattle.brd_kernel.specs.declared.processor.Processor.{Processor}
 use Rattle.brd_kernel.specs.declared.processor.Line.{Line}
-use Rattle.brd_kernel.specs.Kernel.{idle, quiet, running_in}
+use Rattle.brd_kernel.specs.declared.processor.LineSetup.{LineSetup}
+use Rattle.brd_kernel.specs.Kernel.{idle, running_in}
 use Rattle.brd_kernel.specs.Services.{console_size}
 use Rattle.brd_kernel.specs.Always.{IsIdOrNone, IsKernel, AreQuiet}
-use Rattle.std.proofs.lemmas.List.FromFn.{length-map-range_with_len, get_or-map-range_with_len}
+use Rattle.std.proofs.lemmas.List.FromFn.{map-range_with_len_more, length-map-range_with_len, get_or-map-range_with_len}
 use Rattle.std.specs.Prelude.{false}
 use Rattle.std.proofs.lemmas.List.Elements.{All-nil, All-cons}
-use Rattle.brd_kernel.specs.Making.{idle_one, idle_ones, no_handler}
+use Rattle.brd_kernel.specs.Making.{idle_one, idle_ones, made_line, made_lines}
+
+-- the lines by one number more
+
+pub no_lines : (setups : List LineSetup) → made_lines setups 0 ≡ []
+unfolding made_lines
+no_lines setups = refl
+
+pub lines_more : (setups : List LineSetup) (n : ℕ) → made_lines setups (n + 1) ≡ made_lines setups n ++ made_line setups n ∷ []
+unfolding made_lines
+lines_more setups n = map-range_with_len_more (made_line setups) 0 n n (omega arith)
+
+lines-length : (setups : List LineSetup) (n : ℕ) → length (made_lines setups n) ≡ n
+unfolding made_lines
+lines-length setups n = length-map-range_with_len (made_line setups) 0 n
 
 ones-length : (processors n : ℕ) → length (idle_ones processors n) ≡ n
 unfolding idle_ones
@@ -42,21 +58,24 @@ unfolding idle_ones
 none-at-0 processors = get_or-map-range_with_len (idle_one processors) 0 9 0 0 None (omega arith) (omega arith)
 
 -- what a function has made part by part is a kernel
-pub made-kernel : (time : Time) (tasks : TaskTable) (semaphores : Table Semaphore) (flags : Table Flag) (queues : Table DataQueueState) (processors : ℕ) (ps : List (Option Processor)) (contexts : List State) (lines : List Line) (console : List ℕ) →
-    ps ≡ idle_ones processors 9 → contexts ≡ replicate 9 no_context → lines ≡ replicate 32 (quiet no_handler) → console ≡ [] →
+pub made-kernel : (time : Time) (tasks : TaskTable) (semaphores : Table Semaphore) (flags : Table Flag) (queues : Table DataQueueState) (processors : ℕ) (setups : List LineSetup) (ps : List (Option Processor)) (contexts : List State) (lines : List Line) (console : List ℕ) →
+    ps ≡ idle_ones processors 9 → contexts ≡ replicate 9 no_context → lines ≡ made_lines setups 32 → console ≡ [] →
     IsKernel (record { off = false; time = time; tasks = tasks; semaphores = semaphores; flags = flags; queues = queues; processors = ps; handler_contexts = contexts; lines = lines; console = console })
-made-kernel time tasks semaphores flags queues processors ps contexts lines console ps_are contexts_are lines_are console_is = record {
+made-kernel time tasks semaphores flags queues processors setups ps contexts lines console ps_are contexts_are lines_are console_is = record {
   processors = ap length ps_are ∙ ones-length processors 9;
   handler_contexts = ap length contexts_are;
-  lines = ap length lines_are;
+  lines = ap length lines_are ∙ lines-length setups 32;
   console = subst (λ c. length c ≤ console_size) (sym console_is) (omega arith);
   nobody = subst (λ l. slice_index_or l 0 None ≡ None) (sym ps_are) (none-at-0 processors);
   running = λ cpu. subst (λ l. IsIdOrNone (running_in (slice_index_or l cpu None))) (sym ps_are) (none-at (nat_lt cpu 9) processors 9 cpu refl);
 }
 
-all-quiet : (n : ℕ) → AreQuiet (replicate n (quiet no_handler))
-all-quiet zero = All-nil (λ (line : Line). line.pending ≡ false)
-all-quiet (suc n) = All-cons (λ (line : Line). line.pending ≡ false) (quiet no_handler) (replicate n (quiet no_handler)) refl (all-quiet n)
+quiet-from : (setups : List LineSetup) (from n : ℕ) → AreQuiet (map (made_line setups) (range_with_len from n))
+quiet-from setups from zero = All-nil (λ (line : Line). line.pending ≡ false)
+quiet-from setups from (suc n) =
+    All-cons (λ (line : Line). line.pending ≡ false) (made_line setups from) (map (made_line setups) (range_with_len (from + 1) n)) refl
+    (quiet-from setups (from + 1) n)
 
-pub made-quiet : (lines : List Line) → lines ≡ replicate 32 (quiet no_handler) → AreQuiet lines
-made-quiet lines are = subst AreQuiet (sym are) (all-quiet 32)
+pub made-quiet : (setups : List LineSetup) (lines : List Line) → lines ≡ made_lines setups 32 → AreQuiet lines
+unfolding made_lines
+made-quiet setups lines are = subst AreQuiet (sym are) (quiet-from setups 0 32)

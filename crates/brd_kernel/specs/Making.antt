@@ -1,5 +1,6 @@
 -- The kernel as it is made, before any task has been started.
-use Rattle.std.specs.Prelude.{ℕ, nat_le, false, ◌&&◌, if◌then◌else◌, List, [], map, replicate, Option, None, Some}
+use Rattle.std.specs.Prelude.{ℕ, nat_le, false, ◌==◌, ◌&&◌, if◌then◌else◌, List, [], map, find, replicate, Option, None, Some}
+use Rattle.std.specs.Option.{option_map}
 use Rattle.std.specs.List.{range_with_len}
 use Rattle.brd_tasks.specs.Tasks.{made, no_context}
 use Rattle.brd_tasks.specs.declared.task.TaskSetup.{TaskSetup}
@@ -12,6 +13,8 @@ use Rattle.brd_objects.specs.Flags.{made_flags}
 use Rattle.brd_objects.specs.DataQueues.{made_queues}
 use Rattle.brd_kernel.specs.declared.processor.Processor.{Processor}
 use Rattle.brd_kernel.specs.declared.processor.Handler.{Handler}
+use Rattle.brd_kernel.specs.declared.processor.Line.{Line}
+use Rattle.brd_kernel.specs.declared.processor.LineSetup.{LineSetup}
 use Rattle.brd_kernel.specs.Kernel.{KernelState, idle, quiet}
 
 -- the processor of a number on a board that has so many, counted from 1
@@ -22,12 +25,20 @@ idle_one processors cpu = if nat_le 1 cpu && nat_le cpu processors then Some idl
 unfoldable pub idle_ones : ℕ → ℕ → List (Option Processor)
 idle_ones processors count = map (idle_one processors) (range_with_len 0 count)
 
--- a line without a handler
-abbrev pub no_handler : Option Handler
-no_handler = None
+-- the handler of the first setup of a line, if there is one
+abbrev pub handler_of : List LineSetup → ℕ → Option Handler
+handler_of setups line = option_map (λ setup. setup.handler) (find (λ setup. setup.line == line) setups)
 
-abbrev pub made_kernel : ℕ → List TaskSetup → List SemaphoreConfig → List FlagConfig → List QueueConfig → KernelState
-made_kernel processors setups semaphores flags queues = record {
+-- a line with that handler and nothing pending
+abbrev pub made_line : List LineSetup → ℕ → Line
+made_line setups line = quiet (handler_of setups line)
+
+-- those of the numbers below one
+unfoldable pub made_lines : List LineSetup → ℕ → List Line
+made_lines setups count = map (made_line setups) (range_with_len 0 count)
+
+abbrev pub made_kernel : ℕ → List TaskSetup → List LineSetup → List SemaphoreConfig → List FlagConfig → List QueueConfig → KernelState
+made_kernel processors setups lines semaphores flags queues = record {
   off = false;
   time = beginning;
   tasks = made setups;
@@ -36,6 +47,6 @@ made_kernel processors setups semaphores flags queues = record {
   queues = made_queues queues;
   processors = idle_ones processors 9;
   handler_contexts = replicate 9 no_context;
-  lines = replicate 32 (quiet no_handler);
+  lines = made_lines lines 32;
   console = [];
 }

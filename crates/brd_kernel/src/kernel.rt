@@ -1,6 +1,6 @@
 //! The kernel.
 
-ghost use Rattle.std.specs.Prelude.{◌≡◌, ◌<◌, ◌≤◌, ◌+◌, ◌==◌, ◌&&◌, ℕ, if◌then◌else◌, All, IfOk, IfSome, is_some, nat_lt, option_copied, true};
+ghost use Rattle.std.specs.Prelude.{◌≡◌, ◌<◌, ◌≤◌, ◌+◌, ◌==◌, ◌&&◌, ℕ, if◌then◌else◌, All, IfOk, IfSome, is_some, nat_lt, option_copied, option_map, true};
 ghost use Rattle.brd_tasks.specs.Ready.{IsProcessor, IsSetup};
 ghost use Rattle.brd_tasks.specs.Tasks.{activated};
 ghost use Rattle.brd_tasks.specs.declared.task.Request.TheVariants.{Assigned};
@@ -34,8 +34,8 @@ mod processors;
 mod serve;
 mod waits;
 
-use crate::making::{idle_processors, no_contexts, quiet_lines};
-use crate::processor::{Ended, Executor, Line, Marks, Processor, Standing};
+use crate::making::{idle_processors, lines_of, no_contexts};
+use crate::processor::{Ended, Executor, Line, LineSetup, Marks, Processor, Standing};
 use brd_base::NoMemory;
 use brd_config::{FlagConfig, QueueConfig, SemaphoreConfig};
 use brd_exec::{Context, run};
@@ -110,18 +110,20 @@ impl Model for Kernel {
 }
 
 impl Kernel {
-    /// A board's kernel with this many processors, these tasks, none of them started, and these objects. No line has a handler.
+    /// A board's kernel with this many processors, these tasks, none of them started, these interrupt handlers and these objects. A line
+    /// that isn't named has no handler, and nothing is pending.
     pub fn new(
         alloc: Global,
         processors: u8,
         tasks: &[TaskSetup],
+        lines: &[LineSetup],
         semaphores: &[SemaphoreConfig],
         flags: &[FlagConfig],
         queues: &[QueueConfig],
     ) -> Result<Kernel, NoMemory>
         requires few { processors ≤ 8 }
         requires setups { All IsSetup tasks.now }
-        ensures { IfOk result (λ kernel. kernel ≡ made_kernel processors tasks.now semaphores.now flags.now queues.now) }
+        ensures { IfOk result (λ kernel. kernel ≡ made_kernel processors tasks.now lines.now semaphores.now flags.now queues.now) }
     {
         Ok(Kernel {
             off: false,
@@ -133,7 +135,7 @@ impl Kernel {
             processors: idle_processors(processors),
             executing: [None; 9],
             handler_contexts: no_contexts(alloc)?,
-            lines: quiet_lines(alloc)?,
+            lines: lines_of(alloc, lines)?,
             console: Vec::with_capacity(alloc, CONSOLE_SIZE)?,
             pending: false,
         })

@@ -6,6 +6,7 @@ ghost use Rattle.brd_tasks.specs.declared.task.TaskSetup.{TaskSetup as SetupOf};
 ghost use Rattle.brd_config.specs.declared.objects.SemaphoreConfig.{SemaphoreConfig};
 ghost use Rattle.brd_config.specs.declared.objects.FlagConfig.{FlagConfig};
 ghost use Rattle.brd_config.specs.declared.objects.QueueConfig.{QueueConfig};
+ghost use Rattle.brd_kernel.specs.declared.processor.LineSetup.{LineSetup as LineOf};
 ghost use Rattle.brd_kernel.specs.declared.processor.Processor.{Processor as ProcessorOf};
 ghost use Rattle.brd_kernel.specs.Kernel.{KernelState, processor_at, is_held};
 ghost use Rattle.brd_kernel.specs.Dispatch.{dispatched, IsSettled};
@@ -33,7 +34,7 @@ pub fn dispatch_gives_each_its_first()
 /// In a kernel as it is made, each task that waits for an object stands once, with its priority, in the list of that object, and in no other list;
 /// only who waits has a tick at which its wait ends, and a delay has one. Every service call, tick and exception keeps this.
 pub fn who_waits_stands_in_its_list()
-    ensures made { (processors : ℕ) (setups : List SetupOf) (semaphores : List SemaphoreConfig) (flags : List FlagConfig) (queues : List QueueConfig) → WaitsAreKept (made_kernel processors setups semaphores flags queues) }
+    ensures made { (processors : ℕ) (setups : List SetupOf) (lines : List LineOf) (semaphores : List SemaphoreConfig) (flags : List FlagConfig) (queues : List QueueConfig) → WaitsAreKept (made_kernel processors setups lines semaphores flags queues) }
     ensures call { (k : KernelState) (cpu : ℕ) (asked : CallOf) → WaitsAreKept k → WaitsAreKept (serve_of k cpu asked).kernel }
     ensures tick { (k : KernelState) → WaitsAreKept k → WaitsAreKept (ticked k) }
     ensures fault { (k : KernelState) (cpu : ℕ) → WaitsAreKept k → WaitsAreKept (ended_by_fault k cpu) }

@@ -2,10 +2,9 @@
 
 ghost use Rattle.std.specs.Prelude.{◌≡◌, IfOk, replicate};
 ghost use Rattle.brd_tasks.specs.Tasks.{no_context};
-ghost use Rattle.brd_kernel.specs.Kernel.{quiet};
-ghost use Rattle.brd_kernel.specs.Making.{idle_one, idle_ones, no_handler};
+ghost use Rattle.brd_kernel.specs.Making.{idle_one, idle_ones, handler_of, made_lines};
 
-use crate::processor::{Line, Processor};
+use crate::processor::{Handler, Line, LineSetup, Processor};
 use brd_base::NoMemory;
 use brd_exec::Context;
 use std::alloc::Global;
@@ -57,13 +56,26 @@ pub fn no_contexts(alloc: Global) -> Result<Vec<Context>, NoMemory>
     Ok(made)
 }
 
-/// Lines without handlers.
-pub fn quiet_lines(alloc: Global) -> Result<Vec<Line>, NoMemory>
-    ensures { IfOk result (λ made. made.items ≡ replicate 32 (quiet no_handler)) }
+/// The line of each number, with nothing pending.
+#[tactic(auto, using(crate::proofs::MakingLemmas::lines_more, crate::proofs::MakingLemmas::no_lines))]
+pub fn lines_of(alloc: Global, setups: &[LineSetup]) -> Result<Vec<Line>, NoMemory>
+    ensures { IfOk result (λ made. made.items ≡ made_lines setups.now 32) }
 {
     let mut made = Vec::new(alloc);
-    for _ in 0..32u8 {
-        made.push(Line::quiet(None))?;
+    for line in 0..32u8 {
+        made.push(Line::quiet(handler_of(setups, line)))?;
     }
     Ok(made)
+}
+
+/// The handler of the first setup of a line, if there is one.
+fn handler_of(setups: &[LineSetup], line: u8) -> Option<Handler>
+    ensures { result ≡ handler_of setups.now line }
+{
+    for setup in setups {
+        if setup.line == line {
+            return Some(setup.handler);
+        }
+    }
+    None
 }

@@ -128,6 +128,15 @@ pub struct Handler {
     pub address: u32,
 }
 
+/// An interrupt line that has a handler (DEF_INH).
+#[derive(Clone, Copy, Debug, PartialEq, Eq)]
+pub struct LineSetup {
+    /// Its number: up to 31.
+    pub line: u8,
+    /// Its handler.
+    pub handler: Handler,
+}
+
 /// An interrupt line.
 #[derive(Clone, Copy, Debug, PartialEq, Eq)]
 pub struct Line {

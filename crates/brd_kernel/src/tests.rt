@@ -32,7 +32,7 @@ fn two(alloc: Global) -> Result<Kernel, NoMemory> {
     if !are_setups(&setups) {
         return Err(NoMemory);
     }
-    let mut kernel = Kernel::new(alloc, 2, &setups, &[], &[], &[])?;
+    let mut kernel = Kernel::new(alloc, 2, &setups, &[], &[], &[], &[])?;
     for id in [2, 1, 3] {
         kernel.start(id);
     }
@@ -63,6 +63,7 @@ fn with_objects(alloc: Global) -> Result<Kernel, ConfigFault> {
         alloc,
         config.processors,
         &setups,
+        &[],
         config.semaphores.as_slice(),
         config.flags.as_slice(),
         config.queues.as_slice(),
@@ -230,6 +231,61 @@ fn held(rt: HostRuntime) -> Result<(), Fail> {
             };
             assert_eq!(rt; kernel.dispatch(), changed, "{call:?}");
         }
+    }
+    Ok(())
+}
+
+/// A kernel of eight processors, each idle, whose 32 lines all have handlers: on processor 1, or on each processor in turn.
+fn with_lines(alloc: Global, in_turn: bool) -> Result<Kernel, NoMemory> {
+    let handler = Handler {
+        cpu: 1,
+        address: 0x8000_0100,
+    };
+    let mut lines = [LineSetup { line: 0, handler }; 32];
+    for n in 0..32usize {
+        lines[n].line = n as u8;
+        if in_turn {
+            lines[n].handler.cpu = 1 + n as u8 % 8;
+        }
+    }
+    Kernel::new(alloc, 8, &[], &lines, &[], &[], &[])
+}
+
+/// All 32 lines are pending on one processor: it accepts them from the lowest up, each once the handler before has ended.
+#[test]
+fn lines_of_one_processor(rt: HostRuntime) -> Result<(), Fail> {
+    let mut kernel = with_lines(rt.alloc(), false)?;
+    for line in 0..32u8 {
+        assert!(rt; kernel.raise(31 - line), "{line}");
+    }
+    assert!(rt; !kernel.raise(32));
+    for line in 0..32u8 {
+        assert_eq!(rt; kernel.deliverable(2), None, "{line}");
+        assert_eq!(rt; kernel.accept(1), Some(line));
+        assert_eq!(rt; kernel.accept(1), None, "{line}");
+        assert_eq!(rt; kernel.standing(1), Some(Standing::Handler(line)));
+        assert_eq!(rt; kernel.serve(1, Call::RetInt), Reply::Silent, "{line}");
+    }
+    assert_eq!(rt; kernel.accept(1), None);
+    assert_eq!(rt; kernel.standing(1), Some(Standing::Idle));
+    Ok(())
+}
+
+/// The lines of eight processors: each accepts its own alone, the lowest first.
+#[test]
+fn lines_of_eight_processors(rt: HostRuntime) -> Result<(), Fail> {
+    let mut kernel = with_lines(rt.alloc(), true)?;
+    for line in 0..32u8 {
+        assert!(rt; kernel.raise(line), "{line}");
+    }
+    for round in 0..4u8 {
+        for cpu in 1..9u8 {
+            assert_eq!(rt; kernel.accept(cpu), Some(round * 8 + cpu - 1));
+            assert_eq!(rt; kernel.serve(cpu, Call::RetInt), Reply::Silent);
+        }
+    }
+    for cpu in 0..10u8 {
+        assert_eq!(rt; kernel.accept(cpu), None, "{cpu}");
     }
     Ok(())
 }
