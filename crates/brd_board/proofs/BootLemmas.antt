@@ -11,7 +11,7 @@ use Rattle.brd_mem.specs.declared.image.Segment.{Segment}
 use Rattle.brd_text.specs.Faults.{◌>>=◌}
 use Rattle.brd_board.specs.Board.{BoardState}
 use Rattle.brd_board.specs.Setup.{setups_from, placed_task, region_of, handlers_of}
-use Rattle.brd_board.specs.Boot.{boot, boot_words, words_ram, loaded, booted_board, booted_kernel, words_setup, words_task, words_config, memory_of, memory_of_words}
+use Rattle.brd_board.specs.Boot.{boot, boot_words, words_ram, loaded, booted_board, booted_kernel, words_setup, words_config, memory_of, memory_of_words}
 use Rattle.brd_board.proofs.LoadLemmas.{turn, all_loaded, zero_bytes, copied-size}
 use Rattle.brd_board.specs.declared.boot.BootFault.{BootFault}
 use Rattle.brd_board.specs.declared.boot.BootFault.TheVariants.{Outside}

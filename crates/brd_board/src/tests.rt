@@ -509,10 +509,22 @@ fn fault_of_boot(alloc: Global, config: &str) -> Result<Option<BootFault>, Fail>
 fn faults_of_handlers(rt: HostRuntime) -> Result<(), Fail> {
     for (config, fault) in [
         ("DEF_INH(0, {TA_HLNG, 0x8000fffc});", None),
-        ("DEF_INH(0, {TA_HLNG, 0x80010000});", Some(BootFault::Outside)),
-        ("DEF_INH(0, {TA_HLNG, 0x7ffffffc});", Some(BootFault::Outside)),
-        ("DEF_INH(0, {TA_HLNG, 0x80000002});", Some(BootFault::Outside)),
-        ("DEF_INH(0, {TA_HLNG, nowhere});", Some(BootFault::UnknownSymbol)),
+        (
+            "DEF_INH(0, {TA_HLNG, 0x80010000});",
+            Some(BootFault::Outside),
+        ),
+        (
+            "DEF_INH(0, {TA_HLNG, 0x7ffffffc});",
+            Some(BootFault::Outside),
+        ),
+        (
+            "DEF_INH(0, {TA_HLNG, 0x80000002});",
+            Some(BootFault::Outside),
+        ),
+        (
+            "DEF_INH(0, {TA_HLNG, nowhere});",
+            Some(BootFault::UnknownSymbol),
+        ),
         (
             "DEF_INH(1, {TA_HLNG, 0}); DEF_INH(0, {TA_HLNG, nowhere});",
             Some(BootFault::Outside),
