@@ -112,6 +112,18 @@ const CROWD: &str = "BOARD(1, 0x10000);
 CRE_FLG(1, {TA_WMUL | TA_CLR, 0});
 ";
 
+/// Eight processors, each of which runs a task.
+const EIGHT: &str = "BOARD(8, 0x10000);
+CRE_TSK(1, {TA_ACT, 0, 0x80000000, 1, 256, NULL});
+CLASS(TCL_2) { CRE_TSK(2, {TA_ACT, 0, 0x80000000, 1, 256, NULL}); }
+CLASS(TCL_3) { CRE_TSK(3, {TA_ACT, 0, 0x80000000, 1, 256, NULL}); }
+CLASS(TCL_4) { CRE_TSK(4, {TA_ACT, 0, 0x80000000, 1, 256, NULL}); }
+CLASS(TCL_5) { CRE_TSK(5, {TA_ACT, 0, 0x80000000, 1, 256, NULL}); }
+CLASS(TCL_6) { CRE_TSK(6, {TA_ACT, 0, 0x80000000, 1, 256, NULL}); }
+CLASS(TCL_7) { CRE_TSK(7, {TA_ACT, 0, 0x80000000, 1, 256, NULL}); }
+CLASS(TCL_8) { CRE_TSK(8, {TA_ACT, 0, 0x80000000, 1, 256, NULL}); }
+";
+
 /// The board on which a work is done.
 #[derive(Clone, Copy)]
 enum Setting {
@@ -143,7 +155,7 @@ struct Work {
     deed: Deed,
 }
 
-const WORKS: [Work; 8] = [
+const WORKS: [Work; 9] = [
     Work {
         name: "plain loop",
         words: &PLAIN,
@@ -191,6 +203,12 @@ const WORKS: [Work; 8] = [
         words: &DELAY,
         setting: Setting::Delayed,
         deed: Deed::Ticks(1_020),
+    },
+    Work {
+        name: "tick on eight processors, each of which runs a task",
+        words: &PLAIN,
+        setting: Setting::Text(EIGHT),
+        deed: Deed::Ticks(0),
     },
 ];
 
