@@ -8,3 +8,4 @@ pub mod ConditionalLemmas
 pub mod Example
 pub mod ChangeLemmas
 pub mod WaitingLemmas
+pub mod OffLemmas

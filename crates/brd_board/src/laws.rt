@@ -7,7 +7,8 @@ ghost use Rattle.brd_config.specs.Configuration.{Configuration};
 ghost use Rattle.brd_kernel.specs.Dispatch.{IsSettled, has_changed};
 ghost use Rattle.brd_kernel.specs.Waiting.{WaitsAreKept};
 ghost use Rattle.brd_board.specs.declared.event.Event.{Event as EventOf};
-ghost use Rattle.brd_board.specs.Board.{BoardState, happens, after};
+ghost use Rattle.brd_board.specs.declared.event.Report.TheVariants as report;
+ghost use Rattle.brd_board.specs.Board.{BoardState, reported, happens, after};
 ghost use Rattle.brd_board.specs.Boot.{boot};
 ghost use Rattle.brd_board.specs.Conditional.{ConditionalLaw, WordLaw};
 
@@ -46,4 +47,10 @@ pub fn conditional_stores()
     // So that is the word that an SC which stores meets.
     ensures word { (image : ImageOf) (config : Configuration) (board : BoardState) (events : List EventOf) →
         boot image config ≡ Ok board → WordLaw board events }
+{}
+
+/// A board that is off stays as it is: whatever happens, it reports Off and nothing else, and after every list of events it is the same board.
+pub fn an_off_board_stays()
+    ensures event { (board : BoardState) (event : EventOf) → board.kernel.off ≡ true → happens board event ≡ reported board report.Off }
+    ensures after { (board : BoardState) (events : List EventOf) → board.kernel.off ≡ true → after board events ≡ board }
 {}
