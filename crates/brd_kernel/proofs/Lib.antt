@@ -15,3 +15,5 @@ pub mod WaitingLemmas
 pub mod CallLemmas
 pub mod ServiceLemmas
 pub mod FirstLemmas
+pub mod ReadyLemmas
+pub mod RunningLemmas

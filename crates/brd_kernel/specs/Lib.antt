@@ -5,6 +5,7 @@ pub mod Dispatch
 pub mod Row
 pub mod Services
 pub mod Waiting
+pub mod Running
 pub mod Always
 pub mod Lending
 pub mod Making
