@@ -17,3 +17,4 @@ pub mod ServiceLemmas
 pub mod FirstLemmas
 pub mod ReadyLemmas
 pub mod RunningLemmas
+pub mod RunningCallLemmas

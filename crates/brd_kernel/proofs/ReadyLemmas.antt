@@ -1,8 +1,7 @@
 -- What each operation on a task makes of who is ready.
-use Rattle.std.proofs.Common.{◌≡◌, ◌<◌, ℕ, zero, suc, List, [], ◌∷◌, refl, sym, ap, subst, ◌∙◌, arith}
+use Rattle.std.proofs.Common.{◌≡◌, ◌<◌, ℕ, zero, suc, List, [], ◌∷◌, refl, sym, ap, subst, ◌∙◌}
 use Rattle.std.specs.Prelude.{Bool, true, false, not, ◌==◌, ◌&&◌, find, unwrap_or, if◌then◌else◌, Option, None, Some, IsSome, slice_index_or, slice_set}
 use Rattle.std.proofs.lemmas.Bool.{false≢true}
-use Rattle.std.proofs.lemmas.Bool.Decides.{nat_tests}
 use Rattle.std.proofs.lemmas.List.{length-set}
 use Rattle.brd_exec.specs.State.{State}
 use Rattle.brd_queue.specs.Queue.{Plain, has, behind_equals, without, moved_behind, rotated, AreApart}
@@ -17,7 +16,7 @@ use Rattle.brd_tasks.specs.declared.task.Request.{Request}
 use Rattle.brd_tasks.specs.declared.task.Request.TheVariants.{Assigned, On}
 use Rattle.brd_tasks.specs.Status.{is_dormant, is_ready, blocked, released, suspended, resumed}
 use Rattle.brd_tasks.specs.Tasks.{TaskTable, task_at, ready_on, left, started, opening_of, processor_of, starts, placed, patched, with_context, where_there, activated, ended_by, ended, put_into, through, answered, context_at, released_to, released_with, changed, with_priority, on_processor, noted, with_wakeup, without_activation, turned}
-use Rattle.brd_tasks.specs.Ready.{IsProcessor, IsRequest, IsQueued, IsTask, IsRow, ready_priority, IsConsistent}
+use Rattle.brd_tasks.specs.Ready.{IsProcessor, IsRequest, IsQueued, IsTask, IsRow, ready_priority}
 use Rattle.brd_tasks.proofs.Consistency.{known_small, left-new, consistent-placed, consistent-patched, consistent-turned}
 use Rattle.brd_kernel.specs.Running.{is_ready_on, IsOrderly}
 use Rattle.brd_kernel.proofs.ListLemmas.{written-at, same-number, apart-placed}

@@ -1,6 +1,6 @@
 -- Who runs, where it is ready.
-use Rattle.std.proofs.Common.{◌≡◌, ◌<◌, ◌≤◌, ℕ, suc, ◌+◌, List, [], ◌∷◌, length, refl, sym, ap, subst, ◌∙◌, arith}
-use Rattle.std.specs.Prelude.{Bool, true, false, ◌==◌, ◌&&◌, nat_lt, if◌then◌else◌, Option, None, Some, is_some, slice_index_or, slice_set}
+use Rattle.std.proofs.Common.{◌≡◌, ◌≤◌, ℕ, suc, ◌+◌, List, [], ◌∷◌, length, refl, sym, ap, subst, ◌∙◌, arith}
+use Rattle.std.specs.Prelude.{Bool, true, false, ◌==◌, ◌&&◌, nat_lt, if◌then◌else◌, Option, None, Some, is_some, slice_index_or}
 use Rattle.std.proofs.lemmas.Bool.{false≢true}
 use Rattle.std.proofs.lemmas.Bool.Decides.{nat_tests}
 use Rattle.std.proofs.lemmas.List.{length-set}
@@ -17,7 +17,7 @@ use Rattle.brd_kernel.specs.declared.processor.Executor.{Executor}
 use Rattle.brd_kernel.specs.declared.processor.Executor.TheVariants as executor
 use Rattle.brd_kernel.specs.Kernel.{KernelState, processor_at, is_held, running_in, running_on, with_processor, with_context_of, unmarked}
 use Rattle.brd_kernel.specs.Dispatch.{dispatched_one, dispatched_from, dispatched}
-use Rattle.brd_kernel.specs.Running.{is_ready_on, RunsReady, IsOrderly, IsRunning, RunsOnce}
+use Rattle.brd_kernel.specs.Running.{is_ready_on, IsOrderly, IsRunning, RunsOnce}
 use Rattle.brd_kernel.proofs.ListLemmas.{same-number, written-at}
 use Rattle.brd_kernel.proofs.DispatchLemmas.{at-dispatched, dispatch-none}
 use Rattle.brd_kernel.proofs.ReadyLemmas.{KeepsReady, KeepsOthers, all-keep, context-orderly}

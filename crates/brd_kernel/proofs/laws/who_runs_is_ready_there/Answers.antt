@@ -1,4 +1,3 @@
-use Rattle.brd_kernel.proofs.ReadyLemmas.{turned-keeps}
 use Rattle.brd_kernel.proofs.RunningLemmas.{runs-once}
 use Rattle.brd_kernel.proofs.laws.who_runs_is_ready_there.Goals as goal
 
