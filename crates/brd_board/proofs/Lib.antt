@@ -9,3 +9,5 @@ pub mod Example
 pub mod ChangeLemmas
 pub mod WaitingLemmas
 pub mod OffLemmas
+pub mod GateLemmas
+pub mod RunningLemmas

@@ -1,11 +1,13 @@
 //! What is true of every board, whatever happened to it.
 
-ghost use Rattle.std.specs.Prelude.{◌≡◌, ◌≤◌, ℕ, true, List, None, Ok};
+ghost use Rattle.std.specs.Prelude.{◌≡◌, ◌≤◌, ℕ, true, List, None, Some, Ok};
 ghost use Rattle.brd_link.specs.LinkSet.{linked_address};
 ghost use Rattle.brd_mem.specs.declared.image.Image.{Image as ImageOf};
-ghost use Rattle.brd_config.specs.Configuration.{Configuration};
+ghost use Rattle.brd_config.specs.Configuration.{Configuration, IsConfiguration};
+ghost use Rattle.brd_kernel.specs.Kernel.{running_on};
 ghost use Rattle.brd_kernel.specs.Dispatch.{IsSettled, has_changed};
 ghost use Rattle.brd_kernel.specs.Waiting.{WaitsAreKept};
+ghost use Rattle.brd_kernel.specs.Running.{IsRunning, RunsOnce};
 ghost use Rattle.brd_board.specs.declared.event.Event.{Event as EventOf};
 ghost use Rattle.brd_board.specs.declared.event.Report.TheVariants as report;
 ghost use Rattle.brd_board.specs.Board.{BoardState, reported, happens, after};
@@ -53,4 +55,14 @@ pub fn conditional_stores()
 pub fn an_off_board_stays()
     ensures event { (board : BoardState) (event : EventOf) → board.kernel.off ≡ true → happens board event ≡ reported board report.Off }
     ensures after { (board : BoardState) (events : List EventOf) → board.kernel.off ≡ true → after board events ≡ board }
+{}
+
+/// After every list of events from a boot the task that runs on a processor is ready, and assigned to it, also where the processor is held: while it
+/// handles an interrupt, is CPU-locked, has dispatching disabled or is stopped. No event ends this. And each task stands in the ready list
+/// of its processor exactly where it is ready, with its priority, once, and in no other.
+pub fn who_runs_is_ready()
+    ensures boot { (image : ImageOf) (config : Configuration) (board : BoardState) (events : List EventOf) → IsConfiguration config → boot image config ≡ Ok board → IsRunning (after board events).kernel }
+    ensures event { (board : BoardState) (event : EventOf) → IsRunning board.kernel → IsRunning (happens board event).board.kernel }
+    // So the running task of a processor stands in its ready list, and in no other, and runs on no other processor.
+    ensures once { (board : BoardState) (cpu id : ℕ) → IsRunning board.kernel → running_on board.kernel cpu ≡ Some id → RunsOnce board.kernel cpu id }
 {}

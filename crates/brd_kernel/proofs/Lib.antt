@@ -18,3 +18,4 @@ pub mod FirstLemmas
 pub mod ReadyLemmas
 pub mod RunningLemmas
 pub mod RunningCallLemmas
+pub mod RunningMadeLemmas

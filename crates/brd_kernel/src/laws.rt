@@ -16,8 +16,6 @@ ghost use Rattle.brd_kernel.specs.Waits.{ticked, ended_by_fault};
 ghost use Rattle.brd_kernel.specs.Services.{serve_of};
 ghost use Rattle.brd_kernel.specs.Making.{made_kernel};
 ghost use Rattle.brd_kernel.specs.Waiting.{WaitsAreKept};
-ghost use Rattle.brd_kernel.specs.Running.{IsRunning, RunsOnce};
-ghost use Rattle.brd_kernel.specs.Kernel.{running_on};
 
 /// Of the reasons to refuse a call, the first in the order is answered; a call that has none does what its row says.
 pub fn checks_in_order<X>()
@@ -40,9 +38,4 @@ pub fn who_waits_stands_in_its_list()
     ensures call { (k : KernelState) (cpu : ℕ) (asked : CallOf) → WaitsAreKept k → WaitsAreKept (serve_of k cpu asked).kernel }
     ensures tick { (k : KernelState) → WaitsAreKept k → WaitsAreKept (ticked k) }
     ensures fault { (k : KernelState) (cpu : ℕ) → WaitsAreKept k → WaitsAreKept (ended_by_fault k cpu) }
-{}
-
-/// A task that runs stands in the ready list of its processor, and in no other, and runs on no other processor.
-pub fn who_runs_is_ready_there()
-    ensures { (k : KernelState) (cpu id : ℕ) → IsRunning k → running_on k cpu ≡ Some id → RunsOnce k cpu id }
 {}
