@@ -1,0 +1,14 @@
+//! From source to board: a source is assembled, its object file written and read again, a configuration parsed, and the
+//! board booted.
+//!
+//! `specs/Building.antt` says which board a source, an object file and a configuration make, or which fault comes
+//! first; `specs/Headline.antt` joins the source's instructions, the file's words and the board after any events.
+#![tactic(auto)]
+
+mod building;
+mod fault;
+mod running;
+
+pub use building::{build, load};
+pub use fault::BuildFault;
+pub use running::{Played, run};
