@@ -1,11 +1,12 @@
 #!/bin/bash
 # The tests of what the program doesn't use yet, by the programs of other crates that `rt ci` leaves: configuration
-# texts, boards of several tasks, object files. tests/libraries.sh PROGRAM (which it doesn't run).
+# texts, boards of several tasks, object files, boards of a source. tests/libraries.sh PROGRAM (which it doesn't run).
 . "$(dirname "$0")/check.sh"
 . tests/growths.sh
 rows=crates/config_rows/out/config_rows
 scenes=crates/board_rows/out/board_rows
 elf=crates/elf_bench/out/elf_bench
+builds=crates/image_rows/out/image_rows
 
 # The texts of the table, a few at a time: a growth that is refused ends the program.
 if [ -x "$rows" ]; then
@@ -22,6 +23,11 @@ if [ -x "$elf" ]; then
     : > "$work/in"
     "$elf" crates/elf_bench/data/firmware.elf > "$work/wanted"
     refuse_each "an object file" 1 "*[Mm]emory*" "$elf" crates/elf_bench/data/firmware.elf
+fi
+if [ -x "$builds" ]; then
+    cp crates/image_rows/stdin "$work/in"
+    "$builds" < "$work/in" > "$work/wanted"
+    refuse_each "build and load" 1 "*[Mm]emory*" "$builds"
 fi
 
 # Object files of GNU as and ld.

@@ -37,13 +37,14 @@ use Rattle.brd_tasks.specs.declared.task.TaskSetup.{TaskSetup}
 use Rattle.brd_tasks.specs.declared.task.Request.TheVariants.{Assigned}
 use Rattle.brd_tasks.specs.Ready.{IsSetup}
 use Rattle.brd_tasks.specs.Tasks.{activated, made}
+use Rattle.brd_kernel.specs.declared.processor.LineSetup.{LineSetup}
 use Rattle.brd_kernel.specs.Making.{made_kernel}
 use Rattle.brd_kernel.proofs.RunningMadeLemmas.{made-runs, started-runs}
 use Rattle.brd_board.specs.declared.boot.BootFault.{BootFault}
 use Rattle.brd_board.specs.declared.boot.BootFault.TheVariants.{Outside}
 use Rattle.brd_board.specs.declared.setup.Region.{Region}
 use Rattle.brd_board.specs.declared.setup.Placed.{Placed}
-use Rattle.brd_board.specs.Setup.{value_of, is_code_address, region_of, placed_in, placed_task, setups_from, setups_of, handlers_tested, has_ta_act, started_at_boot, all_started}
+use Rattle.brd_board.specs.Setup.{value_of, is_code_address, region_of, placed_in, placed_task, setups_from, setups_of, handlers_of, has_ta_act, started_at_boot, all_started}
 use Rattle.brd_board.specs.Boot.{loaded, booted_kernel, booted_board, boot}
 use Rattle.brd_board.proofs.GateLemmas.{MayBe, read-may}
 
@@ -268,13 +269,13 @@ IsBooted (Ok b) = IsRunning b.kernel
 IsBooted (Err fault) = Unit {0}
 
 booted-by : (config : Configuration) (memory : Result Memory BootFault) (setups : Result (List TaskSetup) BootFault)
-    (starts : Result (Unit {0}) BootFault) → AreGood setups →
-    IsBooted (memory >>= (λ m. setups >>= (λ s. starts >>= (λ t. Ok (booted_board (booted_kernel s config) m)))))
-booted-by config (Err fault) setups starts good = tt
-booted-by config (Ok m) (Err fault) starts good = tt
+    (lines : Result (List LineSetup) BootFault) → AreGood setups →
+    IsBooted (memory >>= (λ m. setups >>= (λ s. lines >>= (λ l. Ok (booted_board (booted_kernel s l config) m)))))
+booted-by config (Err fault) setups lines good = tt
+booted-by config (Ok m) (Err fault) lines good = tt
 booted-by config (Ok m) (Ok s) (Err fault) good = tt
-booted-by config (Ok m) (Ok s) (Ok t) good =
-    let first : KernelState = made_kernel config.processors s config.semaphores config.flags config.queues in
+booted-by config (Ok m) (Ok s) (Ok l) good =
+    let first : KernelState = made_kernel config.processors s l config.semaphores config.flags config.queues in
     let on : KernelState = with_tasks first (all_started (made s) config.tasks) in
     dispatch-runs on (runs-hold on (all-started-run first config.tasks (made-runs first config.processors s refl refl good)))
 
@@ -282,7 +283,7 @@ booted : (image : Image) (config : Configuration) → IsConfiguration config →
 unfolding boot
 booted image config valid =
     booted-by config (loaded config.ram image.segments) (setups_of config.ram image.symbols config.tasks)
-    (handlers_tested config.ram image.symbols config.handlers)
+    (handlers_of config.ram image.symbols config.handlers)
     (setups-good config.ram image.symbols config.tasks (base + config.ram) (within config valid))
 
 pub boot-runs : (image : Image) (config : Configuration) (b : BoardState) (events : List Event) → IsConfiguration config →
