@@ -1,0 +1,12 @@
+pub mod EventLemmas
+pub mod OneList
+pub mod Cutting
+pub mod AddLemmas
+pub mod KeptLemmas
+pub mod EventAt
+pub mod LineLemmas
+pub mod DecimalLemmas
+pub mod WriteLemmas
+pub mod NumberLemmas
+pub mod FieldLemmas
+pub mod GrammarLemmas

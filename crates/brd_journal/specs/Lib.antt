@@ -1,0 +1,6 @@
+pub mod Runs
+pub mod Adding
+pub mod Faults
+pub mod Journal
+pub mod Text
+pub mod Reading

@@ -1,0 +1,83 @@
+-- How a text is read: line by line from the front. The first line that has a fault decides; a line that has none of the forms is that
+-- fault before its run is appended. That what is read is just what is spelled (Text) is proved as `laws::texts_follow_the_grammar`.
+use Rattle.std.specs.Prelude.{◌≡◌, ℕ, zero, suc, ◌+◌, ◌≤◌, ◌==◌, Bool, not, if◌then◌else◌, List, [], ◌∷◌, length, take, drop, Option, None, Some, option_and_then, option_map, Result, Ok, Err}
+use Rattle.std.specs.List.{prefix_len}
+use Rattle.std.specs.Str.{bytes_eq}
+use Rattle.brd_text.specs.Faults.{◌>>=◌, or_fault}
+use Rattle.brd_text.specs.Lines.{lines_of}
+use Rattle.brd_text.specs.Numbers.{plain_decimal_of}
+use Rattle.brd_board.specs.declared.event.Event.TheVariants.{Step, Tick, Raise}
+use Rattle.brd_journal.specs.declared.fault.JournalFault.{JournalFault}
+use Rattle.brd_journal.specs.declared.fault.JournalFault.TheVariants.{Syntax}
+use Rattle.brd_journal.specs.declared.run.Run.{Run}
+use Rattle.brd_journal.specs.Runs.{most_count, copies, events_of, runs_of}
+use Rattle.brd_journal.specs.Journal.{JournalState, appended}
+use Rattle.brd_journal.specs.Text.{first_line, Spells}
+
+-- a byte of a field: a space ends it
+unfoldable pub in_field : ℕ → Bool
+in_field b = not (b == 32)
+
+-- the first of several fields
+abbrev pub first_field : List ℕ → List ℕ
+first_field fields = take (prefix_len in_field fields) fields
+
+-- what stands behind the space that ends it
+abbrev pub other_fields : List ℕ → List ℕ
+other_fields fields = drop (prefix_len in_field fields + 1) fields
+
+-- a number that isn't 0
+abbrev pub unless_zero : ℕ → Option ℕ
+unless_zero zero = None
+unless_zero (suc n) = Some (suc n)
+
+-- a count
+abbrev pub count_of : List ℕ → Option ℕ
+count_of digits = option_and_then unless_zero (plain_decimal_of digits most_count)
+
+-- a number up to 255, and a count behind the next space
+abbrev pub numbered_of : List ℕ → Option (ℕ × ℕ)
+numbered_of fields =
+    option_and_then (λ number. option_map (λ count. (number, count)) (count_of (other_fields fields)))
+    (plain_decimal_of (first_field fields) 255)
+
+-- the fields behind S, T and R
+abbrev pub run_of_kind : ℕ → List ℕ → Option Run
+run_of_kind kind fields =
+    if kind == 83 then option_map (λ p. record { event = Step p.0; count = p.1 }) (numbered_of fields)
+    else (if kind == 84 then option_map (λ count. record { event = Tick; count = count }) (count_of fields)
+    else (if kind == 82 then option_map (λ p. record { event = Raise p.0; count = p.1 }) (numbered_of fields)
+    else None))
+
+-- what a line says
+abbrev pub run_of_line : List ℕ → Option Run
+run_of_line [] = None
+run_of_line (kind ∷ []) = None
+run_of_line (kind ∷ space ∷ fields) = if space == 32 then run_of_kind kind fields else None
+
+-- The lines from the one of this number on, behind those that made this journal. What stands behind the last newline has to be empty.
+abbrev pub lines_read : JournalState → ℕ → List (List ℕ) → Result JournalState JournalFault
+lines_read journal number [] = Err (Syntax number)
+lines_read journal number (line ∷ []) = if length line == 0 then Ok journal else Err (Syntax number)
+lines_read journal number (line ∷ next ∷ lines) = do
+  run ← or_fault (Syntax number) (run_of_line line)
+  more ← appended journal (copies run.event run.count)
+  lines_read more (number + 1) (next ∷ lines)
+
+-- a text's lines: the first line, with a newline, and then those of the runs
+abbrev pub journal_by_lines : ℕ → List (List ℕ) → Result JournalState JournalFault
+journal_by_lines limit [] = Err (Syntax 1)
+journal_by_lines limit (line ∷ []) = Err (Syntax 1)
+journal_by_lines limit (line ∷ next ∷ lines) =
+    if bytes_eq line first_line then lines_read (record { limit = limit; events = [] }) 2 (next ∷ lines) else Err (Syntax 1)
+
+-- the journal of this limit that a text says, or the text's first fault
+unfoldable pub journal_of : ℕ → List ℕ → Result JournalState JournalFault
+journal_of limit text = journal_by_lines limit (lines_of text)
+
+-- A text says a journal of this limit: it spells runs, whose events are the journal's and don't need more runs than the limit.
+pub record Says (limit : ℕ) (text : List ℕ) (journal : JournalState) : Type 0 where
+  pub runs : List Run
+  pub spelled : Spells text runs
+  pub within : length (runs_of (events_of runs)) ≤ limit
+  pub same : journal ≡ record { limit = limit; events = events_of runs }

@@ -1,0 +1,113 @@
+//! Journals.
+
+ghost use Rattle.std.specs.Prelude.{◌≡◌, ℕ, ◌≤◌, ◌<◌, ◌==◌, ◌^◌, ◌∷◌, [], length, slice_get, OnErr, IfOk, Ok};
+ghost use Rattle.brd_journal.specs.Faults.{Gives};
+ghost use Rattle.brd_journal.specs.Journal.{most_runs, appended};
+ghost use Rattle.brd_journal.specs.Reading.{journal_of};
+ghost use Rattle.brd_journal.specs.Runs.{copies, events_of, runs_of};
+ghost use Rattle.brd_journal.specs.Text.{text_of};
+
+use crate::fault::JournalFault;
+use crate::run::Run;
+use crate::runs::{add, event_after};
+use crate::writing::written;
+use brd_base::NoMemory;
+use brd_board::Event;
+use std::alloc::Global;
+use std::marker::Model;
+
+/// The greatest limit of a journal.
+pub const MOST_RUNS: u32 = 4_194_304;
+
+/// A list of events that has at most so many runs. It is kept as its runs.
+#[derive(Debug, Drop)]
+pub struct Journal {
+    limit: u32,
+    runs: Vec<Run>,
+    len: u64,
+}
+
+impl Model for Journal {
+    ghost use Rattle.brd_journal.specs.Journal.{JournalState, IsKept};
+    ghost use Rattle.brd_journal.specs.Runs.{events_of};
+
+    ghost Value = { JournalState };
+
+    ghost view = { λ journal. record { limit = journal.limit; events = events_of journal.runs.items } };
+
+    ghost invariant = { λ journal. IsKept journal.limit journal.runs.items journal.len };
+}
+
+impl Journal {
+    /// A journal without events, which may have so many runs. It takes no memory.
+    pub fn new(alloc: Global, limit: u32) -> Self
+        requires { limit ≤ most_runs }
+        ensures { result ≡ record { limit = limit; events = [] } }
+    {
+        Journal {
+            limit,
+            runs: Vec::new(alloc),
+            len: 0,
+        }
+    }
+
+    /// Appends an event. It is `Full` exactly where the events would need more runs than the limit, unless memory runs
+    /// out. An `Err` changes nothing.
+    pub fn push(&mut self, event: Event) -> Result<(), JournalFault>
+        ensures appended { Gives (λ _. self.new) result (appended self.old (event ∷ [])) }
+        ensures err { OnErr result (self.new ≡ self.old) }
+    {
+        self.push_run(event, 1)
+    }
+
+    /// Appends an event so many times. It is `Full` exactly where the events would need more runs than the limit, unless
+    /// memory runs out. An `Err` changes nothing, and neither does a count of 0.
+    pub fn push_run(&mut self, event: Event, count: u32) -> Result<(), JournalFault>
+        ensures appended { Gives (λ _. self.new) result (appended self.old (copies event count)) }
+        ensures err { OnErr result (self.new ≡ self.old) }
+    {
+        add(&mut self.runs, self.limit as usize, event, count)?;
+        self.len += count as u64;
+        Ok(())
+    }
+
+    /// How many events there are.
+    pub fn len(&self) -> u64
+        ensures len { result ≡ length self.now.events }
+        ensures bound { result < 2 ^ 54 }
+    {
+        self.len
+    }
+
+    /// Whether there are no events.
+    pub fn is_empty(&self) -> bool
+        ensures { result ≡ (length self.now.events == 0) }
+    {
+        self.len == 0
+    }
+
+    /// The event that so many others stand before. It takes time as there are runs.
+    pub fn event_at(&self, others: u64) -> Option<Event>
+        ensures { result ≡ slice_get self.now.events others }
+    {
+        event_after(&self.runs, others)
+    }
+
+    /// The runs: the longest stretches of equal events, each cut from the front into pieces of 4,294,967,295.
+    pub fn runs(&self) -> &[Run]
+        ensures runs { result.now ≡ runs_of self.now.events }
+        ensures events { events_of result.now ≡ self.now.events }
+        ensures within { length result.now ≤ self.now.limit }
+    {
+        self.runs.as_slice()
+    }
+
+    /// The text: a first line, and a line for each run. It is read as this journal again, where the limit suffices.
+    pub fn write_text(&self, alloc: Global) -> Result<Vec<u8>, NoMemory>
+        ensures is { IfOk result (λ text. text.items ≡ text_of self.now.events) }
+        ensures again { IfOk result (λ text. (limit : ℕ) → length (runs_of self.now.events) ≤ limit
+            → journal_of limit text.items ≡ Ok (record { limit = limit; events = self.now.events })) }
+    {
+        written(alloc, &self.runs)
+    }
+}

@@ -1,0 +1,32 @@
+//! What holds of the definitions, whatever the code does.
+
+ghost use Rattle.std.specs.Prelude.{◌≡◌, ◌↔◌, ◌≤◌, ℕ, List, length, Some, Ok};
+ghost use Rattle.std.specs.List.{AllByRecursion};
+ghost use Rattle.brd_board.specs.declared.event.Event.{Event};
+ghost use Rattle.brd_journal.specs.declared.run.Run.{Run};
+ghost use Rattle.brd_journal.specs.Journal.{JournalState};
+ghost use Rattle.brd_journal.specs.Reading.{run_of_line, journal_of, Says};
+ghost use Rattle.brd_journal.specs.Runs.{runs_of, AreRunsOf};
+ghost use Rattle.brd_journal.specs.Text.{IsNumbered, SpellsRun, text_of};
+
+/// The runs of a list of events stand for it, each with a count from 1 to 4,294,967,295, and the next run has another
+/// event unless the count is that greatest one. No other list of runs does so.
+pub fn events_have_one_list_of_runs()
+    ensures { (events : List Event) (runs : List Run) → (runs ≡ runs_of events) ↔ AreRunsOf events runs }
+{}
+
+/// A line is read as a run just where it spells that run.
+pub fn lines_follow_the_grammar()
+    ensures { (line : List ℕ) (run : Run) → (run_of_line line ≡ Some run) ↔ SpellsRun line run }
+{}
+
+/// A text is read as a journal just where it spells runs that make that journal.
+pub fn texts_follow_the_grammar()
+    ensures { (limit : ℕ) (text : List ℕ) (journal : JournalState) → (journal_of limit text ≡ Ok journal) ↔ Says limit text journal }
+{}
+
+/// The text of a list of events is read as that list, where the limit suffices.
+pub fn written_texts_are_read()
+    ensures { (limit : ℕ) (events : List Event) → AllByRecursion IsNumbered events → length (runs_of events) ≤ limit
+        → journal_of limit (text_of events) ≡ Ok (record { limit = limit; events = events }) }
+{}

@@ -1,0 +1,23 @@
+//! Journals: lists of events, kept as runs of equal events, and their text.
+//!
+//! A contract sees a journal as its limit and its list of events (`specs/Journal.antt`). `specs/Runs.antt` says which
+//! runs a list of events has, `specs/Text.antt` what the text of a journal is, and `specs/Reading.antt` how a text is
+//! read: line by line, up to the first line that has a fault.
+#![tactic(auto)]
+
+mod fault;
+mod journal;
+pub mod laws;
+mod line;
+mod reading;
+mod run;
+mod runs;
+mod writing;
+
+pub use fault::JournalFault;
+pub use journal::{Journal, MOST_RUNS};
+pub use reading::read_text;
+pub use run::Run;
+
+#[cfg(test)]
+mod tests;
