@@ -46,6 +46,10 @@ found p id number caller a (s ∷ services) each =
 
 -- The rows, in the order of the table: `no`, it may not come from there; `any`, nothing is asked of it; `polls`, it doesn't wait.
 
+infixr 10 ◌&◌
+◌&◌ : {A B : Type 0} → A → B → A × B
+one & rest = (one, rest)
+
 no : {X : Type 0} → false ≡ true → X
 no ok = absurd (false≢true ok)
 
@@ -61,133 +65,10 @@ timed f ok waits = f ok
 -- A handler only polls.
 
 handler-may : (p : Processor) (id : ℕ) (a : List ℕ) → EachMay p id Handler a table
-handler-may p id a = (
-  no,
-  (
-    no,
-    (
-      no,
-      (
-        no,
-        (
-          no,
-          (
-            no,
-            (
-              no,
-              (
-                no,
-                (
-                  no,
-                  (
-                    no,
-                    (
-                      no,
-                      (
-                        no,
-                        (
-                          no,
-                          (
-                            no,
-                            (
-                              no,
-                              (
-                                no,
-                                (
-                                  no,
-                                  (
-                                    no,
-                                    (
-                                      no,
-                                      (
-                                        no,
-                                        (
-                                          no,
-                                          (
-                                            no,
-                                            (
-                                              no,
-                                              (
-                                                no,
-                                                (
-                                                  no,
-                                                  (
-                                                    no,
-                                                    (
-                                                      no,
-                                                      (
-                                                        no,
-                                                        (
-                                                          no,
-                                                          (
-                                                            no,
-                                                            (
-                                                              no,
-                                                              (
-                                                                no,
-                                                                (
-                                                                  no,
-                                                                  (
-                                                                    no,
-                                                                    (
-                                                                      no,
-                                                                      (
-                                                                        no,
-                                                                        (
-                                                                          no,
-                                                                          (
-                                                                            no,
-                                                                            (
-                                                                              no,
-                                                                              (
-                                                                                no,
-                                                                                (
-                                                                                  no,
-                                                                                  (
-                                                                                    any,
-                                                                                    (any, (any, (any, (any, (polls, (any, (any, (any, (any, (any, tt)))))))))),
-                                                                                  ),
-                                                                                ),
-                                                                              ),
-                                                                            ),
-                                                                          ),
-                                                                        ),
-                                                                      ),
-                                                                    ),
-                                                                  ),
-                                                                ),
-                                                              ),
-                                                            ),
-                                                          ),
-                                                        ),
-                                                      ),
-                                                    ),
-                                                  ),
-                                                ),
-                                              ),
-                                            ),
-                                          ),
-                                        ),
-                                      ),
-                                    ),
-                                  ),
-                                ),
-                              ),
-                            ),
-                          ),
-                        ),
-                      ),
-                    ),
-                  ),
-                ),
-              ),
-            ),
-          ),
-        ),
-      ),
-    ),
-  ),
-)
+handler-may p id a =
+    no & no & no & no & no & no & no & no & no & no & no & no & no & no & no & no & no & no & no & no & no & no
+    & no & no & no & no & no & no & no & no & no & no & no & no & no & no & no & no & no & no & no & any
+    & any & any & any & any & polls & any & any & any & any & any & tt
 
 -- A task that may wait, and one that may name itself, has a processor that isn't held.
 
@@ -213,169 +94,24 @@ task-names p id t runs handling stopped ok names =
     let own : is_oneself id t ≡ true = oneself id t names in
     free-task p id runs handling stopped (grind (arith, ok)) (grind (arith, ok, own))
 
+task-rows : (p : Processor) (id : ℕ) (a : List ℕ) → ((not p.locked && not p.disabled) ≡ true → IsFree p id) →
+    ((not p.locked && not (p.disabled && is_oneself id (a0 a))) ≡ true → (named id (a0 a) == id) ≡ true → IsFree p id) →
+    (true ≡ true → IsTaskOf p id) → EachMay p id (Task id p.locked p.disabled) a table
+task-rows p id a waits names leaves =
+    any & any & leaves & any & any & any & any & names & any & any & any & any & any & any & any
+    & timed waits & timed waits & any & any & any & names & any & waits & any & timed waits & polls
+    & timed waits & any & any & timed waits & polls & timed waits & timed waits & polls & timed waits
+    & any & timed waits & polls & timed waits & any & any & no & no & no & no & no & no & no & no & no & no
+    & no & tt
+
 task-may : (p : Processor) (id : ℕ) (a : List ℕ) → p.running ≡ Some id → is_some p.handling ≡ false → p.stopped ≡ false →
     EachMay p id (Task id p.locked p.disabled) a table
 task-may p id a runs handling stopped =
-    let waiting : (not p.locked && not p.disabled) ≡ true → IsFree p id = task-waits p id runs handling stopped in
-    let naming : (not p.locked && not (p.disabled && is_oneself id (a0 a))) ≡ true → (named id (a0 a) == id) ≡ true → IsFree p id =
-    task-names p id (a0 a) runs handling stopped in
-    let task : IsTaskOf p id = record {
+    task-rows p id a (task-waits p id runs handling stopped) (task-names p id (a0 a) runs handling stopped)
+    (λ ok. record {
       running = runs;
       unmarked_free = none-held (is_some p.handling) false false p.stopped handling refl refl stopped;
-    } in (
-      any,
-      (
-        any,
-        (
-          λ ok. task,
-          (
-            any,
-            (
-              any,
-              (
-                any,
-                (
-                  any,
-                  (
-                    naming,
-                    (
-                      any,
-                      (
-                        any,
-                        (
-                          any,
-                          (
-                            any,
-                            (
-                              any,
-                              (
-                                any,
-                                (
-                                  any,
-                                  (
-                                    timed waiting,
-                                    (
-                                      timed waiting,
-                                      (
-                                        any,
-                                        (
-                                          any,
-                                          (
-                                            any,
-                                            (
-                                              naming,
-                                              (
-                                                any,
-                                                (
-                                                  waiting,
-                                                  (
-                                                    any,
-                                                    (
-                                                      timed waiting,
-                                                      (
-                                                        polls,
-                                                        (
-                                                          timed waiting,
-                                                          (
-                                                            any,
-                                                            (
-                                                              any,
-                                                              (
-                                                                timed waiting,
-                                                                (
-                                                                  polls,
-                                                                  (
-                                                                    timed waiting,
-                                                                    (
-                                                                      timed waiting,
-                                                                      (
-                                                                        polls,
-                                                                        (
-                                                                          timed waiting,
-                                                                          (
-                                                                            any,
-                                                                            (
-                                                                              timed waiting,
-                                                                              (
-                                                                                polls,
-                                                                                (
-                                                                                  timed waiting,
-                                                                                  (
-                                                                                    any,
-                                                                                    (
-                                                                                      any,
-                                                                                      (
-                                                                                        no,
-                                                                                        (
-                                                                                          no,
-                                                                                          (
-                                                                                            no,
-                                                                                            (
-                                                                                              no,
-                                                                                              (
-                                                                                                no,
-                                                                                                (
-                                                                                                  no,
-                                                                                                  (
-                                                                                                    no,
-                                                                                                    (
-                                                                                                      no,
-                                                                                                      (
-                                                                                                        no,
-                                                                                                        (
-                                                                                                          no,
-                                                                                                          (no, tt),
-                                                                                                        ),
-                                                                                                      ),
-                                                                                                    ),
-                                                                                                  ),
-                                                                                                ),
-                                                                                              ),
-                                                                                            ),
-                                                                                          ),
-                                                                                        ),
-                                                                                      ),
-                                                                                    ),
-                                                                                  ),
-                                                                                ),
-                                                                              ),
-                                                                            ),
-                                                                          ),
-                                                                        ),
-                                                                      ),
-                                                                    ),
-                                                                  ),
-                                                                ),
-                                                              ),
-                                                            ),
-                                                          ),
-                                                        ),
-                                                      ),
-                                                    ),
-                                                  ),
-                                                ),
-                                              ),
-                                            ),
-                                          ),
-                                        ),
-                                      ),
-                                    ),
-                                  ),
-                                ),
-                              ),
-                            ),
-                          ),
-                        ),
-                      ),
-                    ),
-                  ),
-                ),
-              ),
-            ),
-          ),
-        ),
-      ),
-    )
+    })
 
 -- who executes where no interrupt is handled is the running task
 running-task : (running : Option ℕ) → is_some (executor_by running None) ≡ true → running ≡ Some (unwrap_or running 0)

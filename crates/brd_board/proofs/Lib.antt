@@ -11,3 +11,4 @@ pub mod WaitingLemmas
 pub mod OffLemmas
 pub mod GateLemmas
 pub mod RunningLemmas
+pub mod OwnLemmas

@@ -2,6 +2,7 @@ pub mod Board
 pub mod Setup
 pub mod Boot
 pub mod History
+pub mod Runs
 pub mod Conditional
 pub use Rattle.brd_exec.specs.State
 pub use Rattle.brd_exec.specs.Step

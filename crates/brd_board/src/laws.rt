@@ -12,6 +12,7 @@ ghost use Rattle.brd_board.specs.declared.event.Event.{Event as EventOf};
 ghost use Rattle.brd_board.specs.declared.event.Report.TheVariants as report;
 ghost use Rattle.brd_board.specs.Board.{BoardState, reported, happens, after};
 ghost use Rattle.brd_board.specs.Boot.{boot};
+ghost use Rattle.brd_board.specs.Runs.{ChangesOnlyItsOwn};
 ghost use Rattle.brd_board.specs.Conditional.{ConditionalLaw, WordLaw};
 
 /// After every list of events from a boot each processor that isn't held runs the first of its ready tasks, or none where none is
@@ -65,4 +66,12 @@ pub fn who_runs_is_ready()
     ensures event { (board : BoardState) (event : EventOf) → IsRunning board.kernel → IsRunning (happens board event).board.kernel }
     // So the running task of a processor stands in its ready list, and in no other, and runs on no other processor.
     ensures once { (board : BoardState) (cpu id : ℕ) → IsRunning board.kernel → running_on board.kernel cpu ≡ Some id → RunsOnce board.kernel cpu id }
+{}
+
+/// Where an event reports Ran, an ordinary instruction was executed, and beside memory and links it has changed only the context in which it
+/// was executed: the running task's, or where a handler executed the handler's. No other task differs in anything, nor does a register of
+/// another processor; who runs, the marks of processors, ready lists, objects, interrupt lines, faults, console and count of ticks are as they were.
+pub fn an_instruction_changes_only_its_own()
+    ensures boot { (image : ImageOf) (config : Configuration) (board : BoardState) (events : List EventOf) (event : EventOf) (address : ℕ) → IsConfiguration config → boot image config ≡ Ok board → (happens (after board events) event).report ≡ report.Ran address → ChangesOnlyItsOwn (after board events) event address (happens (after board events) event).board }
+    ensures event { (board : BoardState) (event : EventOf) (address : ℕ) → IsRunning board.kernel → (happens board event).report ≡ report.Ran address → ChangesOnlyItsOwn board event address (happens board event).board }
 {}
