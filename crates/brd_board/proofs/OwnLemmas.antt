@@ -129,10 +129,24 @@ record Stays (k new : KernelState) : Type 0 where
 
 stays : (k : KernelState) (cpu : ℕ) (who : Executor) (s : State) → Stays k (with_context_of k cpu who s)
 stays k cpu executor.Handler s = record {
-  ready = refl; semaphores = refl; flags = refl; queues = refl; lines = refl; time = refl; console = refl; off = refl;
+  ready = refl;
+  semaphores = refl;
+  flags = refl;
+  queues = refl;
+  lines = refl;
+  time = refl;
+  console = refl;
+  off = refl;
 }
 stays k cpu (executor.Task id) s = record {
-  ready = refl; semaphores = refl; flags = refl; queues = refl; lines = refl; time = refl; console = refl; off = refl;
+  ready = refl;
+  semaphores = refl;
+  flags = refl;
+  queues = refl;
+  lines = refl;
+  time = refl;
+  console = refl;
+  off = refl;
 }
 
 -- an instruction that has ended so
