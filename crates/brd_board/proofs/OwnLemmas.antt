@@ -9,27 +9,23 @@ use Rattle.brd_exec.specs.State.{State}
 use Rattle.brd_exec.specs.Step.{Ran, ran}
 use Rattle.brd_exec.specs.declared.outcome.Outcome.{Outcome}
 use Rattle.brd_exec.specs.declared.outcome.Outcome.TheVariants.{Done, Syscall, Exception}
-use Rattle.brd_link.specs.LinkSet.{LinkSet}
-use Rattle.brd_mem.specs.Memory.{Memory}
 use Rattle.brd_mem.specs.declared.image.Image.{Image}
 use Rattle.brd_config.specs.Configuration.{Configuration, IsConfiguration}
 use Rattle.brd_tasks.specs.declared.task.Task.{Task}
-use Rattle.brd_tasks.specs.declared.task.TaskView.{TaskView}
 use Rattle.brd_tasks.specs.Tasks.{task_at, context_at, shown, no_context}
 use Rattle.brd_time.specs.Time.{due_of, last_count}
 use Rattle.brd_kernel.specs.declared.processor.Processor.{Processor}
 use Rattle.brd_kernel.specs.declared.processor.Executor.{Executor}
 use Rattle.brd_kernel.specs.declared.processor.Executor.TheVariants as executor
 use Rattle.brd_kernel.specs.declared.processor.Standing.TheVariants as standing
-use Rattle.brd_kernel.specs.Kernel.{KernelState, processor_at, running_in, running_on, executor_by, executor_in, executor_on, context_of, context_on, with_context_of, standing_by, standing_in, deliverable, line_at, Executed, executed_by, executed_in, executed}
+use Rattle.brd_kernel.specs.Kernel.{KernelState, processor_at, running_in, executor_by, executor_in, executor_on, context_of, context_on, with_context_of, standing_by, standing_in, deliverable, line_at, Executed, executed_by, executed_in, executed}
 use Rattle.brd_kernel.specs.Waits.{shown_until, seen_at}
-use Rattle.brd_kernel.specs.Running.{IsRunning, RunsOnce}
+use Rattle.brd_kernel.specs.Running.{IsRunning}
 use Rattle.brd_kernel.proofs.RunningLemmas.{runs-once}
 use Rattle.brd_board.specs.declared.event.Event.{Event}
 use Rattle.brd_board.specs.declared.event.Event.TheVariants.{Step, Tick, Raise}
-use Rattle.brd_board.specs.declared.event.Report.{Report}
 use Rattle.brd_board.specs.declared.event.Report.TheVariants as report
-use Rattle.brd_board.specs.Board.{BoardState, Happened, with_executed, happens, happens_on, after, stepped_in, accepts_or_executes, executes_in, instruction_done, registers_of, standing_of, task_of}
+use Rattle.brd_board.specs.Board.{BoardState, Happened, with_executed, happens, happens_on, after, stepped_in, accepts_or_executes, executes_in, instruction_done}
 use Rattle.brd_board.specs.Boot.{boot}
 use Rattle.brd_board.specs.Runs.{without_context, ChangesOnlyItsOwn}
 use Rattle.brd_board.proofs.RunningLemmas.{boot-runs}

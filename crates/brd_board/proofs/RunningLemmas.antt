@@ -17,9 +17,9 @@ use Rattle.brd_kernel.specs.declared.call.Ercd.{Ercd}
 use Rattle.brd_kernel.specs.Kernel.{KernelState, with_tasks, processor_at, running_in, executor_by, executor_in, executor_on, context_of, context_on, with_context_of, accepted_line, deliverable, line_at, Executed, executed_in, executed}
 use Rattle.brd_kernel.specs.Row.{Served}
 use Rattle.brd_kernel.specs.Waits.{ticked_on, ended_by_fault}
-use Rattle.brd_kernel.specs.Running.{IsRunning}
+use Rattle.brd_kernel.specs.Running.{is_ready_on, IsRunning}
 use Rattle.brd_kernel.specs.Services.{caller_on}
-use Rattle.brd_kernel.proofs.RunningLemmas.{HoldsReady, runs-hold, dispatch-runs, context-runs, context-holds}
+use Rattle.brd_kernel.proofs.RunningLemmas.{listed-ready, HoldsReady, runs-hold, dispatch-runs, context-runs, context-holds}
 use Rattle.brd_kernel.proofs.RunningCallLemmas.{serve-holds, fault-holds, ticked-runs, accepted-runs, pending-runs}
 use Rattle.brd_sysgate.specs.Gate.{changed_in, with_changed_context, served_call, called_in, called, caller_in, caller_of, read_of, written}
 use Rattle.brd_board.specs.declared.event.Event.{Event}
@@ -27,6 +27,7 @@ use Rattle.brd_board.specs.declared.event.Event.TheVariants.{Step, Tick, Raise}
 use Rattle.brd_board.specs.Board.{BoardState, Happened, with_call, with_fault, with_executed, happens, happens_on, after, stepped_in, accepts_or_executes, executes_in, instruction_done}
 use Rattle.std.proofs.lemmas.List.Elements.{All-cons, All-nil, All-head, All-tail}
 use Rattle.brd_base.specs.Space.{base}
+use Rattle.brd_queue.specs.Queue.{has, AreApart}
 use Rattle.brd_text.specs.Faults.{◌>>=◌}
 use Rattle.brd_mem.specs.declared.image.Image.{Image}
 use Rattle.brd_mem.specs.declared.image.Symbol.{Symbol}
@@ -36,7 +37,7 @@ use Rattle.brd_config.specs.Configuration.{Configuration, IsTask, IsConfiguratio
 use Rattle.brd_tasks.specs.declared.task.TaskSetup.{TaskSetup}
 use Rattle.brd_tasks.specs.declared.task.Request.TheVariants.{Assigned}
 use Rattle.brd_tasks.specs.Ready.{IsSetup}
-use Rattle.brd_tasks.specs.Tasks.{activated, made}
+use Rattle.brd_tasks.specs.Tasks.{activated, made, task_at, ready_on}
 use Rattle.brd_kernel.specs.declared.processor.LineSetup.{LineSetup}
 use Rattle.brd_kernel.specs.Making.{made_kernel}
 use Rattle.brd_kernel.proofs.RunningMadeLemmas.{made-runs, started-runs}
@@ -289,3 +290,16 @@ booted image config valid =
 pub boot-runs : (image : Image) (config : Configuration) (b : BoardState) (events : List Event) → IsConfiguration config →
     boot image config ≡ Ok b → IsRunning (after b events).kernel
 boot-runs image config b events valid is = after-runs b events (subst IsBooted is (booted image config valid))
+
+-- Who is ready.
+
+pub boot-lists : (image : Image) (config : Configuration) (b : BoardState) (events : List Event) (id cpu : ℕ) → IsConfiguration config →
+    boot image config ≡ Ok b →
+    has id (ready_on (after b events).kernel.tasks cpu) ≡ is_ready_on (task_at (after b events).kernel.tasks id) cpu
+boot-lists image config b events id cpu valid is =
+    let runs : IsRunning (after b events).kernel = boot-runs image config b events valid is in
+    listed-ready (after b events).kernel.tasks id cpu runs.tasks.consistent
+
+pub boot-once : (image : Image) (config : Configuration) (b : BoardState) (events : List Event) (cpu : ℕ) → IsConfiguration config →
+    boot image config ≡ Ok b → AreApart (ready_on (after b events).kernel.tasks cpu)
+boot-once image config b events cpu valid is = (boot-runs image config b events valid is).tasks.once cpu

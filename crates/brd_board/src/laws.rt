@@ -4,10 +4,12 @@ ghost use Rattle.std.specs.Prelude.{◌≡◌, ◌≤◌, ℕ, true, List, None,
 ghost use Rattle.brd_link.specs.LinkSet.{linked_address};
 ghost use Rattle.brd_mem.specs.declared.image.Image.{Image as ImageOf};
 ghost use Rattle.brd_config.specs.Configuration.{Configuration, IsConfiguration};
+ghost use Rattle.brd_queue.specs.Queue.{has, AreApart};
+ghost use Rattle.brd_tasks.specs.Tasks.{task_at, ready_on};
 ghost use Rattle.brd_kernel.specs.Kernel.{running_on};
 ghost use Rattle.brd_kernel.specs.Dispatch.{IsSettled, has_changed};
 ghost use Rattle.brd_kernel.specs.Waiting.{WaitsAreKept};
-ghost use Rattle.brd_kernel.specs.Running.{IsRunning, RunsOnce};
+ghost use Rattle.brd_kernel.specs.Running.{is_ready_on, IsRunning, RunsOnce};
 ghost use Rattle.brd_board.specs.declared.event.Event.{Event as EventOf};
 ghost use Rattle.brd_board.specs.declared.event.Report.TheVariants as report;
 ghost use Rattle.brd_board.specs.Board.{BoardState, reported, happens, after};
@@ -59,8 +61,7 @@ pub fn an_off_board_stays()
 {}
 
 /// After every list of events from a boot the task that runs on a processor is ready, and assigned to it, also where the processor is held: while it
-/// handles an interrupt, is CPU-locked, has dispatching disabled or is stopped. No event ends this. And each task stands in the ready list
-/// of its processor exactly where it is ready, with its priority, once, and in no other.
+/// handles an interrupt, is CPU-locked, has dispatching disabled or is stopped. No event ends this.
 pub fn who_runs_is_ready()
     ensures boot { (image : ImageOf) (config : Configuration) (board : BoardState) (events : List EventOf) → IsConfiguration config → boot image config ≡ Ok board → IsRunning (after board events).kernel }
     ensures event { (board : BoardState) (event : EventOf) → IsRunning board.kernel → IsRunning (happens board event).board.kernel }
@@ -74,4 +75,11 @@ pub fn who_runs_is_ready()
 pub fn an_instruction_changes_only_its_own()
     ensures boot { (image : ImageOf) (config : Configuration) (board : BoardState) (events : List EventOf) (event : EventOf) (address : ℕ) → IsConfiguration config → boot image config ≡ Ok board → (happens (after board events) event).report ≡ report.Ran address → ChangesOnlyItsOwn (after board events) event address (happens (after board events) event).board }
     ensures event { (board : BoardState) (event : EventOf) (address : ℕ) → IsRunning board.kernel → (happens board event).report ≡ report.Ran address → ChangesOnlyItsOwn board event address (happens board event).board }
+{}
+
+/// After every list of events from a boot each task stands in the ready list of a processor exactly where it is ready and assigned to it, and
+/// stands there once.
+pub fn who_is_ready_stands_in_its_list()
+    ensures listed { (image : ImageOf) (config : Configuration) (board : BoardState) (events : List EventOf) (id cpu : ℕ) → IsConfiguration config → boot image config ≡ Ok board → has id (ready_on (after board events).kernel.tasks cpu) ≡ is_ready_on (task_at (after board events).kernel.tasks id) cpu }
+    ensures once { (image : ImageOf) (config : Configuration) (board : BoardState) (events : List EventOf) (cpu : ℕ) → IsConfiguration config → boot image config ≡ Ok board → AreApart (ready_on (after board events).kernel.tasks cpu) }
 {}
