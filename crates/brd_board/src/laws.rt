@@ -54,32 +54,49 @@ pub fn conditional_stores()
         boot image config ≡ Ok board → WordLaw board events }
 {}
 
-/// A board that is off stays as it is: whatever happens, it reports Off and nothing else, and after every list of events it is the same board.
+/// A board that is off stays as it is: whatever happens, it reports Off and nothing else, and after every list of
+/// events it is the same board.
 pub fn an_off_board_stays()
-    ensures event { (board : BoardState) (event : EventOf) → board.kernel.off ≡ true → happens board event ≡ reported board report.Off }
-    ensures after { (board : BoardState) (events : List EventOf) → board.kernel.off ≡ true → after board events ≡ board }
+    ensures event { (board : BoardState) (event : EventOf) →
+        board.kernel.off ≡ true → happens board event ≡ reported board report.Off }
+    ensures after { (board : BoardState) (events : List EventOf) →
+        board.kernel.off ≡ true → after board events ≡ board }
 {}
 
-/// After every list of events from a boot the task that runs on a processor is ready, and assigned to it, also where the processor is held: while it
-/// handles an interrupt, is CPU-locked, has dispatching disabled or is stopped. No event ends this.
+/// After every list of events from a boot the task that runs on a processor is ready, and assigned to it, also where
+/// the processor is held: while it handles an interrupt, is CPU-locked, has dispatching disabled or is stopped. No
+/// event ends this.
 pub fn who_runs_is_ready()
-    ensures boot { (image : ImageOf) (config : Configuration) (board : BoardState) (events : List EventOf) → IsConfiguration config → boot image config ≡ Ok board → IsRunning (after board events).kernel }
-    ensures event { (board : BoardState) (event : EventOf) → IsRunning board.kernel → IsRunning (happens board event).board.kernel }
+    ensures boot { (image : ImageOf) (config : Configuration) (board : BoardState) (events : List EventOf) →
+        IsConfiguration config → boot image config ≡ Ok board → IsRunning (after board events).kernel }
+    ensures event { (board : BoardState) (event : EventOf) →
+        IsRunning board.kernel → IsRunning (happens board event).board.kernel }
     // So the running task of a processor stands in its ready list, and in no other, and runs on no other processor.
-    ensures once { (board : BoardState) (cpu id : ℕ) → IsRunning board.kernel → running_on board.kernel cpu ≡ Some id → RunsOnce board.kernel cpu id }
+    ensures once { (board : BoardState) (cpu id : ℕ) →
+        IsRunning board.kernel → running_on board.kernel cpu ≡ Some id → RunsOnce board.kernel cpu id }
 {}
 
-/// Where an event reports Ran, an ordinary instruction was executed, and beside memory and links it has changed only the context in which it
-/// was executed: the running task's, or where a handler executed the handler's. No other task differs in anything, nor does a register of
-/// another processor; who runs, the marks of processors, ready lists, objects, interrupt lines, faults, console and count of ticks are as they were.
+/// Where an event reports Ran, an ordinary instruction was executed, and beside memory and links it has changed only
+/// the context in which it was executed: the running task's, or where a handler executed the handler's. No other task
+/// differs in anything, nor does a register of another processor; who runs, the marks of processors, ready lists,
+/// objects, interrupt lines, faults, console and count of ticks are as they were.
 pub fn an_instruction_changes_only_its_own()
-    ensures boot { (image : ImageOf) (config : Configuration) (board : BoardState) (events : List EventOf) (event : EventOf) (address : ℕ) → IsConfiguration config → boot image config ≡ Ok board → (happens (after board events) event).report ≡ report.Ran address → ChangesOnlyItsOwn (after board events) event address (happens (after board events) event).board }
-    ensures event { (board : BoardState) (event : EventOf) (address : ℕ) → IsRunning board.kernel → (happens board event).report ≡ report.Ran address → ChangesOnlyItsOwn board event address (happens board event).board }
+    ensures boot { (image : ImageOf) (config : Configuration) (board : BoardState) (events : List EventOf) (event : EventOf) (address : ℕ) →
+        IsConfiguration config → boot image config ≡ Ok board →
+        (happens (after board events) event).report ≡ report.Ran address →
+        ChangesOnlyItsOwn (after board events) event address (happens (after board events) event).board }
+    ensures event { (board : BoardState) (event : EventOf) (address : ℕ) →
+        IsRunning board.kernel → (happens board event).report ≡ report.Ran address →
+        ChangesOnlyItsOwn board event address (happens board event).board }
 {}
 
-/// After every list of events from a boot each task stands in the ready list of a processor exactly where it is ready and assigned to it, and
-/// stands there once.
+/// After every list of events from a boot each task stands in the ready list of a processor exactly where it is ready
+/// and assigned to it, and stands there once.
 pub fn who_is_ready_stands_in_its_list()
-    ensures listed { (image : ImageOf) (config : Configuration) (board : BoardState) (events : List EventOf) (id cpu : ℕ) → IsConfiguration config → boot image config ≡ Ok board → has id (ready_on (after board events).kernel.tasks cpu) ≡ is_ready_on (task_at (after board events).kernel.tasks id) cpu }
-    ensures once { (image : ImageOf) (config : Configuration) (board : BoardState) (events : List EventOf) (cpu : ℕ) → IsConfiguration config → boot image config ≡ Ok board → AreApart (ready_on (after board events).kernel.tasks cpu) }
+    ensures listed { (image : ImageOf) (config : Configuration) (board : BoardState) (events : List EventOf) (id cpu : ℕ) →
+        IsConfiguration config → boot image config ≡ Ok board →
+        has id (ready_on (after board events).kernel.tasks cpu)
+        ≡ is_ready_on (task_at (after board events).kernel.tasks id) cpu }
+    ensures once { (image : ImageOf) (config : Configuration) (board : BoardState) (events : List EventOf) (cpu : ℕ) →
+        IsConfiguration config → boot image config ≡ Ok board → AreApart (ready_on (after board events).kernel.tasks cpu) }
 {}
