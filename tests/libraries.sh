@@ -1,9 +1,11 @@
 #!/bin/bash
 # The tests of what the program doesn't use yet, by the programs of other crates that `rt ci` leaves: configuration
-# texts, boards of several tasks, object files, boards of a source. tests/libraries.sh PROGRAM (which it doesn't run).
+# texts, journals, boards of several tasks, object files, boards of a source. tests/libraries.sh PROGRAM (which it
+# doesn't run).
 . "$(dirname "$0")/check.sh"
 . tests/growths.sh
 rows=crates/config_rows/out/config_rows
+journals=crates/journal_rows/out/journal_rows
 scenes=crates/board_rows/out/board_rows
 elf=crates/elf_bench/out/elf_bench
 builds=crates/image_rows/out/image_rows
@@ -13,6 +15,11 @@ if [ -x "$rows" ]; then
     sed -n '60,90p' crates/config_rows/stdin > "$work/in"
     "$rows" < "$work/in" > "$work/wanted"
     refuse_each "configuration texts" 1 "*[Mm]emory*" "$rows"
+fi
+if [ -x "$journals" ]; then
+    sed -n '/^# Neighbours/,/^$/p' crates/journal_rows/stdin > "$work/in"
+    "$journals" < "$work/in" > "$work/wanted"
+    refuse_each "journal texts" 1 "*[Mm]emory*" "$journals"
 fi
 if [ -x "$scenes" ]; then
     sed -n '/^= stacks/,/^$/p' crates/board_rows/stdin > "$work/in"

@@ -21,7 +21,8 @@ use Rattle.brd_journal.specs.Runs.{copies, events_of, runs_of, AreCut}
 use Rattle.brd_journal.specs.Adding.{added}
 use Rattle.brd_journal.specs.Journal.{JournalState, appended}
 use Rattle.brd_journal.specs.Text.{first_line, event_text, line_text, lines_of_runs, text_of_runs, text_of, IsNumbered, AreNumbered, CanBeSpelled, Spells}
-use Rattle.brd_journal.specs.Reading.{run_of_line, lines_read, journal_by_lines, journal_of, Says}
+use Rattle.brd_journal.specs.Reading.{run_of_line, lines_read, journal_by_lines, journal_of}
+use Rattle.brd_journal.specs.Meaning.{Says}
 use Rattle.brd_journal.proofs.EventLemmas.{copies-suc, copies-one}
 use Rattle.brd_journal.proofs.Cutting.{runs_events, runs_cut}
 use Rattle.brd_journal.proofs.AddLemmas.{added_runs, length_added}
@@ -47,7 +48,7 @@ more_runs es (e ∷ more) =
 
 -- ---- lines and the newlines behind them
 
-lines_front : (line rest : List ℕ) → list_all stays_on line ≡ true → lines_of (line ++ 10 ∷ rest) ≡ line ∷ lines_of rest
+pub lines_front : (line rest : List ℕ) → list_all stays_on line ≡ true → lines_of (line ++ 10 ∷ rest) ≡ line ∷ lines_of rest
 lines_front line rest h =
     let some = some_line rest in
     let back : join_with_byte 10 (some.0 ∷ some.1) ≡ rest = rw some.2 at (joined rest) in
@@ -74,18 +75,18 @@ event_stays (Step cpu) small = kind_stays 83 32 (decimal cpu) byte_stays.0 byte_
 event_stays Tick small = rw (byte_stays.1) refl
 event_stays (Raise line) small = kind_stays 82 32 (decimal line) byte_stays.2 byte_stays.3 (digits_pass stays_on digit_stays line (omega arith))
 
-line_stays : (run : Run) → CanBeSpelled run → list_all stays_on (line_text run) ≡ true
+pub line_stays : (run : Run) → CanBeSpelled run → list_all stays_on (line_text run) ≡ true
 line_stays run can =
     all_append (event_text run.event) (32 ∷ decimal run.count) (event_stays run.event can.numbered)
     (rw (byte_stays.3, digits_pass stays_on digit_stays run.count (omega (arith, can.most))) refl)
 
-first_stays : list_all stays_on first_line ≡ true
+pub first_stays : list_all stays_on first_line ≡ true
 unfolding stays_on
 first_stays = refl
 
 -- ---- what is spelled is read
 
-fits : (j : JournalState) (more : List Event) → length (runs_of (j.events ++ more)) ≤ j.limit → appended j more ≡ Ok (record { limit = j.limit; events = j.events ++ more })
+pub fits : (j : JournalState) (more : List Event) → length (runs_of (j.events ++ more)) ≤ j.limit → appended j more ≡ Ok (record { limit = j.limit; events = j.events ++ more })
 fits j more le = rw (le-leb (length (runs_of (j.events ++ more))) j.limit le) refl
 
 lines_again : (runs : List Run) (j : JournalState) (n : ℕ) → AllByRecursion CanBeSpelled runs → length (runs_of (j.events ++ events_of runs)) ≤ j.limit
@@ -114,7 +115,7 @@ record AreRead (j k : JournalState) (text : List ℕ) : Type 0 where
   same : k ≡ record { limit = j.limit; events = j.events ++ events_of runs }
   within : length (runs_of j.events) ≤ j.limit → length (runs_of (j.events ++ events_of runs)) ≤ j.limit
 
-appended_is : (j k : JournalState) (more : List Event) → appended j more ≡ Ok k → (length (runs_of (j.events ++ more)) ≤ j.limit) × (k ≡ record { limit = j.limit; events = j.events ++ more })
+pub appended_is : (j k : JournalState) (more : List Event) → appended j more ≡ Ok k → (length (runs_of (j.events ++ more)) ≤ j.limit) × (k ≡ record { limit = j.limit; events = j.events ++ more })
 appended_is j k more h =
     elim (cases_Bool (leb (length (runs_of (j.events ++ more))) j.limit)) [
       | inl fits ↦
@@ -123,11 +124,11 @@ appended_is j k more h =
       | inr full ↦ let q : Err Full ≡ Ok k = rw full at h in absurd (cc)
     ]
 
-or_fault_is : (f : JournalFault) (o : Option Run) (run : Run) → or_fault f o ≡ Ok run → o ≡ Some run
+pub or_fault_is : (f : JournalFault) (o : Option Run) (run : Run) → or_fault f o ≡ Ok run → o ≡ Some run
 or_fault_is f None run h = absurd (cc)
 or_fault_is f (Some x) run h = cc
 
-empty_is : (line : List ℕ) → eqb (length line) 0 ≡ true → line ≡ []
+pub empty_is : (line : List ℕ) → eqb (length line) 0 ≡ true → line ≡ []
 empty_is [] h = refl
 empty_is (b ∷ bs) h = let q : false ≡ true = rw (not_zero (length (b ∷ bs)) (omega arith)) at h in absurd (cc)
 
@@ -186,7 +187,7 @@ record AreSaid (limit : ℕ) (journal : JournalState) (text : List ℕ) : Type 0
   same : journal ≡ record { limit = limit; events = events_of runs }
   within : length (runs_of (events_of runs)) ≤ limit
 
-no_runs : length (runs_of []) ≡ 0
+pub no_runs : length (runs_of []) ≡ 0
 unfolding runs_of
 no_runs = refl
 

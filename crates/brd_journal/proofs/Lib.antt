@@ -10,3 +10,4 @@ pub mod WriteLemmas
 pub mod NumberLemmas
 pub mod FieldLemmas
 pub mod GrammarLemmas
+pub mod FaultyLemmas

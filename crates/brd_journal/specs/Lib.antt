@@ -4,3 +4,4 @@ pub mod Faults
 pub mod Journal
 pub mod Text
 pub mod Reading
+pub mod Meaning

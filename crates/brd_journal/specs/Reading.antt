@@ -1,6 +1,7 @@
--- How a text is read: line by line from the front. The first line that has a fault decides; a line that has none of the forms is that
--- fault before its run is appended. That what is read is just what is spelled (Text) is proved as `laws::texts_follow_the_grammar`.
-use Rattle.std.specs.Prelude.{◌≡◌, ℕ, zero, suc, ◌+◌, ◌≤◌, ◌==◌, Bool, not, if◌then◌else◌, List, [], ◌∷◌, length, take, drop, Option, None, Some, option_and_then, option_map, Result, Ok, Err}
+-- How a text is read: line by line from the front. The first line that has a fault decides, and a line is read before its run is
+-- appended. Meaning says the same
+-- without reading; that both agree is proved as `laws::texts_follow_the_grammar` and `laws::the_first_wrong_line_decides`.
+use Rattle.std.specs.Prelude.{ℕ, zero, suc, ◌+◌, ◌==◌, Bool, not, if◌then◌else◌, List, [], ◌∷◌, length, take, drop, Option, None, Some, option_and_then, option_map, Result, Ok, Err}
 use Rattle.std.specs.List.{prefix_len}
 use Rattle.std.specs.Str.{bytes_eq}
 use Rattle.brd_text.specs.Faults.{◌>>=◌, or_fault}
@@ -10,9 +11,9 @@ use Rattle.brd_board.specs.declared.event.Event.TheVariants.{Step, Tick, Raise}
 use Rattle.brd_journal.specs.declared.fault.JournalFault.{JournalFault}
 use Rattle.brd_journal.specs.declared.fault.JournalFault.TheVariants.{Syntax}
 use Rattle.brd_journal.specs.declared.run.Run.{Run}
-use Rattle.brd_journal.specs.Runs.{most_count, copies, events_of, runs_of}
+use Rattle.brd_journal.specs.Runs.{most_count, copies}
 use Rattle.brd_journal.specs.Journal.{JournalState, appended}
-use Rattle.brd_journal.specs.Text.{first_line, Spells}
+use Rattle.brd_journal.specs.Text.{first_line}
 
 -- a byte of a field: a space ends it
 unfoldable pub in_field : ℕ → Bool
@@ -74,10 +75,3 @@ journal_by_lines limit (line ∷ next ∷ lines) =
 -- the journal of this limit that a text says, or the text's first fault
 unfoldable pub journal_of : ℕ → List ℕ → Result JournalState JournalFault
 journal_of limit text = journal_by_lines limit (lines_of text)
-
--- A text says a journal of this limit: it spells runs, whose events are the journal's and don't need more runs than the limit.
-pub record Says (limit : ℕ) (text : List ℕ) (journal : JournalState) : Type 0 where
-  pub runs : List Run
-  pub spelled : Spells text runs
-  pub within : length (runs_of (events_of runs)) ≤ limit
-  pub same : journal ≡ record { limit = limit; events = events_of runs }

@@ -1,11 +1,13 @@
 //! What holds of the definitions, whatever the code does.
 
-ghost use Rattle.std.specs.Prelude.{◌≡◌, ◌↔◌, ◌≤◌, ℕ, List, length, Some, Ok};
+ghost use Rattle.std.specs.Prelude.{◌≡◌, ◌↔◌, ◌≤◌, ℕ, List, length, Some, Ok, Err};
 ghost use Rattle.std.specs.List.{AllByRecursion};
 ghost use Rattle.brd_board.specs.declared.event.Event.{Event};
+ghost use Rattle.brd_journal.specs.declared.fault.JournalFault.{JournalFault};
 ghost use Rattle.brd_journal.specs.declared.run.Run.{Run};
 ghost use Rattle.brd_journal.specs.Journal.{JournalState};
-ghost use Rattle.brd_journal.specs.Reading.{run_of_line, journal_of, Says};
+ghost use Rattle.brd_journal.specs.Meaning.{Says, IsFirstFault};
+ghost use Rattle.brd_journal.specs.Reading.{run_of_line, journal_of};
 ghost use Rattle.brd_journal.specs.Runs.{runs_of, AreRunsOf};
 ghost use Rattle.brd_journal.specs.Text.{IsNumbered, SpellsRun, text_of};
 
@@ -23,6 +25,12 @@ pub fn lines_follow_the_grammar()
 /// A text is read as a journal just where it spells runs that make that journal.
 pub fn texts_follow_the_grammar()
     ensures { (limit : ℕ) (text : List ℕ) (journal : JournalState) → (journal_of limit text ≡ Ok journal) ↔ Says limit text journal }
+{}
+
+/// A text has a fault just where that is the fault of its first wrong line: the text spells what stands before that
+/// line, and the limit suffices for it.
+pub fn the_first_wrong_line_decides()
+    ensures { (limit : ℕ) (text : List ℕ) (fault : JournalFault) → (journal_of limit text ≡ Err fault) ↔ IsFirstFault limit text fault }
 {}
 
 /// The text of a list of events is read as that list, where the limit suffices.

@@ -18,6 +18,3 @@ pub use fault::JournalFault;
 pub use journal::{Journal, MOST_RUNS};
 pub use reading::read_text;
 pub use run::Run;
-
-#[cfg(test)]
-mod tests;

@@ -1,0 +1,141 @@
+//! Prints what the texts of a table say: for each line `| LIMIT TEXT` of standard input its answer and the line, every
+//! other line as it is. In a text `/` stands for a newline, `~` for a carriage return, `_` for a tab and `^` for the
+//! byte 0. A text that says a journal is answered by its runs, each behind a comma and a space but the first; the
+//! journal is also written and read again, and made once more event by event and run by run.
+#![tactic(auto)]
+
+use brd_board::Event;
+use brd_journal::{Journal, JournalFault, MOST_RUNS, Run, read_text};
+use std::alloc::{AllocError, Global};
+use std::io;
+use std::io::{BufRead, BufReader};
+
+/// The most events of a run that are appended one by one.
+const FEW: u32 = 16;
+
+/// The bytes that a text of the table stands for.
+fn bytes_of(alloc: Global, text: &[u8]) -> Result<Vec<u8>, AllocError> {
+    let mut bytes = Vec::new(alloc);
+    for byte in text {
+        bytes.push(match *byte {
+            b'/' => b'\n',
+            b'~' => b'\r',
+            b'_' => b'\t',
+            b'^' => 0,
+            byte => byte,
+        })?;
+    }
+    Ok(bytes)
+}
+
+/// A run as the table has it.
+fn shown_run(alloc: Global, run: Run) -> Result<String, AllocError> {
+    let count = run.count;
+    match run.event {
+        Event::Step(cpu) => format!(in alloc; "S {cpu} {count}"),
+        Event::Tick => format!(in alloc; "T {count}"),
+        Event::Raise(line) => format!(in alloc; "R {line} {count}"),
+    }
+}
+
+/// The runs of a journal as the table has them.
+fn shown(alloc: Global, journal: &Journal) -> Result<String, AllocError> {
+    let mut text = String::from_str(alloc, "ok")?;
+    for run in journal.runs() {
+        let run = shown_run(alloc, *run)?;
+        text.push_str(", ")?;
+        text.push_str(run.as_str())?;
+    }
+    Ok(text)
+}
+
+/// A fault as the table has it. That the program ran out of memory is no answer.
+fn shown_fault(alloc: Global, fault: JournalFault) -> Result<String, AllocError> {
+    match fault {
+        JournalFault::NoMemory => Err(AllocError),
+        JournalFault::Full => String::from_str(alloc, "Full"),
+        JournalFault::Syntax { line } => format!(in alloc; "Syntax {line}"),
+    }
+}
+
+/// Appends the events of a run: few of them one by one.
+fn append(journal: &mut Journal, run: Run) -> Result<(), JournalFault> {
+    if run.count > FEW {
+        return journal.push_run(run.event, run.count);
+    }
+    for _ in 0..run.count {
+        journal.push(run.event)?;
+    }
+    Ok(())
+}
+
+/// Appends the events of runs.
+fn append_all(journal: &mut Journal, runs: &[Run]) -> Result<(), JournalFault> {
+    for run in runs {
+        append(journal, *run)?;
+    }
+    Ok(())
+}
+
+/// What the journal is that is made of a journal's events: its runs, or the fault.
+fn made_again(alloc: Global, journal: &Journal, limit: u32) -> Result<String, AllocError> {
+    let mut made = Journal::new(alloc, limit.min(MOST_RUNS));
+    match append_all(&mut made, journal.runs()) {
+        Ok(()) => shown(alloc, &made),
+        Err(fault) => shown_fault(alloc, fault),
+    }
+}
+
+/// What the journal is that is read of a journal's text: its runs, or the fault.
+fn read_again(alloc: Global, journal: &Journal, limit: u32) -> Result<String, AllocError> {
+    let Ok(text) = journal.write_text(alloc) else {
+        return Err(AllocError);
+    };
+    match read_text(alloc, &text, limit.min(MOST_RUNS)) {
+        Ok(again) => shown(alloc, &again),
+        Err(fault) => shown_fault(alloc, fault),
+    }
+}
+
+/// What a text is answered: the runs, where the journal that is read again and the one that is made again have the
+/// same; or the fault.
+fn answer(alloc: Global, text: &[u8], limit: u32) -> Result<String, AllocError> {
+    let journal = match read_text(alloc, text, limit.min(MOST_RUNS)) {
+        Ok(journal) => journal,
+        Err(fault) => return shown_fault(alloc, fault),
+    };
+    let runs = shown(alloc, &journal)?;
+    let again = read_again(alloc, &journal, limit)?;
+    let made = made_again(alloc, &journal, limit)?;
+    if again.as_str() == runs.as_str() && made.as_str() == runs.as_str() {
+        return Ok(runs);
+    }
+    format!(in alloc; "{runs}; read again: {again}; made again: {made}")
+}
+
+/// The answer to a row, if it is one.
+fn answer_to(alloc: Global, line: &str) -> Result<Option<String>, AllocError> {
+    let Some((limit, text)) = line.strip_prefix("| ").and_then(|row| row.split_once(" ")) else {
+        return Ok(None);
+    };
+    let Ok(limit) = limit.parse::<u32>() else {
+        return Ok(None);
+    };
+    let text = bytes_of(alloc, text.as_bytes())?;
+    Ok(Some(answer(alloc, &text, limit)?))
+}
+
+fn run(rt: &(impl Input + Print + AllocGlobal)) -> io::Result<()> {
+    for line in BufReader::new(rt.alloc(), rt.reader())?.lines(rt.alloc()) {
+        let line = line?;
+        match answer_to(rt.alloc(), line.as_str())? {
+            Some(answer) => println!(rt; "{answer} {line}")?,
+            None => println!(rt; "{line}")?,
+        }
+    }
+    Ok(())
+}
+
+fn main(rt: HostRuntime) -> io::Result<()> {
+    run(&rt)
+}
