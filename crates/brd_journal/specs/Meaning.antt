@@ -15,12 +15,12 @@ pub record Says (limit : ℕ) (text : List ℕ) (journal : JournalState) : Type 
   pub within : length (runs_of (events_of runs)) ≤ limit
   pub same : journal ≡ record { limit = limit; events = events_of runs }
 
--- Bytes begin with no line of a run.
+-- bytes begin with no line of a run
 abbrev pub HasNoRun : List ℕ → Type 0
 HasNoRun rest = (run : Run) (behind : List ℕ) → CanBeSpelled run → rest ≡ line_text run ++ 10 ∷ behind → ⊥
 
--- Why the bytes behind so many lines of runs are a fault: they aren't the text's end and begin with no line of a run, or with one for
--- which the limit doesn't suffice.
+-- Why what stands behind these good lines is a fault: it isn't the text's end and begins with no line of a run, and then the fault has
+-- the line's number, before which stand the first line and those of the runs; or it begins with a line for which the limit doesn't suffice.
 abbrev pub IsWrong : ℕ → List Run → List ℕ → JournalFault → Type 0
 IsWrong limit front rest NoMemory = ⊥
 IsWrong limit front rest (Syntax line) = (line ≡ length front + 2) × (rest ≡ [] → ⊥) × HasNoRun rest
@@ -36,7 +36,7 @@ pub record FailsBehind (limit : ℕ) (text : List ℕ) (fault : JournalFault) : 
   pub within : length (runs_of (events_of front)) ≤ limit
   pub why : IsWrong limit front rest fault
 
--- The first line isn't that of a journal.
+-- the first line isn't that of a journal
 abbrev pub HasNoFirstLine : List ℕ → Type 0
 HasNoFirstLine text = (behind : List ℕ) → text ≡ first_line ++ 10 ∷ behind → ⊥
 

@@ -67,7 +67,8 @@ abbrev pub AreCut : List Run → Type 0
 AreCut [] = Unit {0}
 AreCut (run ∷ runs) = (1 ≤ run.count) × (run.count ≤ most_count) × (first_event runs ≡ Some run.event → run.count ≡ most_count) × AreCut runs
 
--- runs stand for these events, and are cut so: no others do and are
+-- These runs stand for the events, and are cut so. That just one list of runs does and is, is proved as
+-- `laws::events_have_one_list_of_runs`.
 pub record AreRunsOf (events : List Event) (runs : List Run) : Type 0 where
   pub same : events_of runs ≡ events
   pub cut : AreCut runs

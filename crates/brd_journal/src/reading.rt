@@ -26,10 +26,8 @@ pub fn read_text(alloc: Global, text: &[u8], limit: u32) -> Result<Journal, Jour
         return Err(JournalFault::Syntax { line: 1 });
     }
     let mut journal = Journal::new(alloc, limit);
-    match read_lines(&mut journal, rest) {
-        Ok(()) => Ok(journal),
-        Err(fault) => Err(fault),
-    }
+    read_lines(&mut journal, rest)?;
+    Ok(journal)
 }
 
 /// Appends the runs of the lines behind the first.
@@ -50,10 +48,7 @@ fn read_lines(journal: &mut Journal, text: &[u8]) -> Result<(), JournalFault>
         let Some(run) = run_of_line(line) else {
             return Err(JournalFault::Syntax { line: number });
         };
-        match journal.push_run(run.event, run.count) {
-            Ok(()) => {}
-            Err(fault) => return Err(fault),
-        }
+        journal.push_run(run.event, run.count)?;
         rest = after;
         number += 1;
     }

@@ -13,12 +13,7 @@ use brd_board::Event;
 fn is_same(event: Event, other: Event) -> bool
     ensures { result ≡ same_event event other }
 {
-    match (event, other) {
-        (Event::Step(cpu), Event::Step(other)) => cpu == other,
-        (Event::Tick, Event::Tick) => true,
-        (Event::Raise(line), Event::Raise(other)) => line == other,
-        _ => false,
-    }
+    event == other
 }
 
 /// How many more of an event the last run can count.

@@ -1,5 +1,6 @@
 use Rattle.std.proofs.Common.{ℕ, List, Option, Bor, ap, arith}
 use Rattle.std.specs.Prelude.{option_map}
+use Rattle.std.proofs.lemmas.Result.{err_from_is_err_and}
 use Rattle.brd_text.specs.Lines.{lines_of}
 use Rattle.brd_journal.specs.Reading.{lines_read}
 use Rattle.brd_journal.proofs.LineLemmas.{step_of, no_run, run_fails, goes_on}
@@ -12,13 +13,15 @@ returns-in_default-run_of_line c =
     (ap (λ (o : Option (Bor (List ℕ))). option_map (λ behind. behind.now) o) c.in-Some.is)
     c.in_default-run_of_line.ensures
 
-pub returns-in-Err : goal.returns-in-Err
-returns-in-Err c =
-    run_fails c.lines.journal c.lines.number c.lines.rest.now c.split_line.result.0.now c.in-Some.after.now _ c.in-Some-run_of_line.run' c.in-Err.fault (lines_read c.args.journal.now 2 (lines_of c.args.text.now))
+pub returns-in_err-push_run : goal.returns-in_err-push_run
+returns-in_err-push_run c =
+    let p = err_from_is_err_and c.from_residual.result c.from_residual.ensures.1 in
+    rw (p.1, p.2)
+    (run_fails c.lines.journal c.lines.number c.lines.rest.now c.split_line.result.0.now c.in-Some.after.now _ c.in-Some-run_of_line.run' _ (lines_read c.args.journal.now 2 (lines_of c.args.text.now))
     (step_of c.lines.journal c.lines.number c.lines.rest.now _ _ _ c.split_line.ensures.lines c.lines.invariant.same)
     (ap (λ (o : Option (Bor (List ℕ))). option_map (λ behind. behind.now) o) c.in-Some.is)
     c.in-Some-run_of_line.ensures
-    c.in-Err.ensures.appended
+    c.in_err-push_run.ensures.appended)
 
 pub lines-preserved : goal.lines-preserved
 lines-preserved c = record {
@@ -26,6 +29,6 @@ lines-preserved c = record {
       (step_of c.lines.journal c.lines.number c.lines.rest.now _ _ _ c.split_line.ensures.lines c.lines.invariant.same)
       (ap (λ (o : Option (Bor (List ℕ))). option_map (λ behind. behind.now) o) c.in-Some.is)
       c.in-Some-run_of_line.ensures
-      c.in-Ok.ensures.appended;
+      c.in_ok-push_run.ensures.appended;
   room = omega (arith, c.lines.invariant.room, rw c.in-Some.is at c.split_line.ensures.shorter);
 }
