@@ -1,6 +1,6 @@
 //! The RAM.
 
-ghost use Rattle.std.specs.Prelude.{◌≡◌, ℕ, ◌+◌, ◌-◌, ◌<◌, ◌≤◌, ◌↔◌, length, true, IfOk, IsErrOf};
+ghost use Rattle.std.specs.Prelude.{◌≡◌, Decides, ℕ, ◌+◌, ◌-◌, ◌<◌, ◌≤◌, ◌↔◌, length, true, IfOk, IsErrOf};
 ghost use Rattle.brd_base.specs.Space.{base, IsRamSize};
 ghost use Rattle.brd_word.specs.Words.{bytes_of_word};
 ghost use Rattle.brd_mem.specs.Memory.{Memory, size_of, zeros, contains, bytes_at, with_bytes, copied, byte_at};
@@ -18,7 +18,7 @@ ghost use Rattle.brd_mem.specs.Access.{
 };
 
 use crate::fault::{Exc, RamFault};
-use brd_base::{BASE, is_ram_size};
+use brd_base::{BASE, NoMemory, copy_with_room, is_ram_size};
 use brd_word::{bytes_of, half_bytes_of, half_of, word_of};
 use std::alloc::Global;
 use std::marker::Model;
@@ -49,6 +49,22 @@ impl Ram {
         }
         let bytes = vec![in alloc; 0; size as usize].map_err(|_| RamFault::NoMemory)?;
         Ok(Ram { bytes })
+    }
+
+    /// An equal RAM.
+    pub fn try_copy(&self) -> Result<Ram, NoMemory>
+        ensures { IfOk result (λ copy. copy ≡ self.now) }
+    {
+        Ok(Ram {
+            bytes: copy_with_room(&self.bytes, 0)?,
+        })
+    }
+
+    /// Whether both have the same bytes.
+    pub fn same(&self, other: &Ram) -> bool
+        ensures { Decides result (self.now ≡ other.now) }
+    {
+        self.bytes.as_slice() == other.bytes.as_slice()
     }
 
     /// How many bytes it has.

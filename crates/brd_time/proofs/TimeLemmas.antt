@@ -1,8 +1,9 @@
 -- What the kept numbers say, and the first task whose wait ends.
-use Rattle.std.proofs.Common.{◌≡◌, ◌≤◌, ◌<◌, ℕ, zero, suc, ◌+◌, ◌-◌, List, [], ◌∷◌, length, map, get_or, replicate, refl, sym, ap, subst, ◌∙◌, arith}
-use Rattle.std.specs.Prelude.{Bool, true, false, ◌==◌, nat_le, if◌then◌else◌, filter, find, slice_set, Option, None, Some, unwrap_or, is_some}
+use Rattle.std.proofs.Common.{◌≡◌, ◌≤◌, ◌<◌, ℕ, zero, suc, ◌+◌, ◌-◌, List, [], ◌∷◌, length, map, get_or, replicate, refl, sym, ap, subst, ◌∙◌, arith, drop, eqb}
+use Rattle.std.specs.Prelude.{Bool, true, false, ◌==◌, nat_le, if◌then◌else◌, filter, find, slice_set, Option, None, Some, unwrap_or, is_some, Decides}
 use Rattle.std.specs.List.{range_with_len}
-use Rattle.std.proofs.lemmas.Bool.{true≢false, false≢true}
+use Rattle.std.specs.Cmp.Lexicographic.{pointwise, bytes_decides}
+use Rattle.std.proofs.lemmas.Bool.{true≢false, false≢true, eqb-true}
 use Rattle.std.proofs.lemmas.Bool.Decides.{nat_tests}
 use Rattle.std.proofs.lemmas.List.{map-set, get_or-map, get_or-set_other}
 use Rattle.brd_lanes.specs.Scan.{IsLeast, IsLeastAt, NoneBetween, is_due_at}
@@ -162,3 +163,29 @@ unfolding due_from
 due-above t id from due below =
     filter-same (is_due (with_due t id due)) (is_due t) from (256 - from)
     (λ k above. ap (has_come t.count) (get_or-set_other t.dues id k due None (omega (arith, below, above))))
+
+-- equal kept numbers stand for equal ticks, and no others do
+
+apart-by : (a b : ℕ) (s t : Bool) → (a == never) ≡ s → (b == never) ≡ t → (if s then None else Some a) ≡ (if t then None else Some b) → a ≡ b
+apart-by a b true true p q e = eqb-true a never p ∙ sym (eqb-true b never q)
+apart-by a b true false p q e = absurd (false≢true (ap is_some e))
+apart-by a b false true p q e = absurd (true≢false (ap is_some e))
+apart-by a b false false p q e = ap (λ (due : Option ℕ). unwrap_or due 0) e
+
+dues_apart : (xs ys : List ℕ) → map due_in xs ≡ map due_in ys → xs ≡ ys
+dues_apart [] [] e = refl
+dues_apart [] (y ∷ ys) e = absurd (omega (arith, ap length e))
+dues_apart (x ∷ xs) [] e = absurd (omega (arith, ap length e))
+dues_apart (x ∷ xs) (y ∷ ys) e =
+    let first = ap (λ (dues : List (Option ℕ)). get_or dues 0 None) e in
+    λ i. apart-by x y (x == never) (y == never) refl refl first i ∷ dues_apart xs ys (ap (drop 1) e) i
+
+-- a test of what is kept is one of what it stands for
+pub same_dues : (a b : Time) (count count' : ℕ) (xs ys : List ℕ) (r : Bool)
+    → a ≡ record { count = count; dues = map due_in xs } → b ≡ record { count = count'; dues = map due_in ys }
+    → count ≡ count' → r ≡ pointwise eqb xs ys → Decides r (a ≡ b)
+same_dues a b count count' xs ys r is-a is-b counts is = (
+  λ yes. let equal = (bytes_decides xs ys).0 (sym is ∙ yes) in
+      is-a ∙ (λ i. record { count = counts i; dues = map due_in (equal i) }) ∙ sym is-b,
+  λ equal. is ∙ (bytes_decides xs ys).1 (dues_apart xs ys (ap (λ (time : Time). time.dues) (sym is-a ∙ equal ∙ is-b))),
+)

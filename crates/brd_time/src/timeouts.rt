@@ -1,13 +1,13 @@
 //! Ticks, and when the waits of tasks end.
 
-ghost use Rattle.std.specs.Prelude.{◌≡◌, ◌<◌, ◌≤◌, ◌^◌, ◌-◌, None, Some, IfOk, IfSome, nat_lt, replicate};
+ghost use Rattle.std.specs.Prelude.{◌≡◌, Decides, ◌<◌, ◌≤◌, ◌^◌, ◌-◌, None, Some, IfOk, IfSome, nat_lt, replicate};
 ghost use Rattle.brd_time.specs.Kept.{AreNotBefore};
 ghost use Rattle.brd_time.specs.Time.{beginning, due_of, with_due, advanced, last_count, next_due_of};
 
 #[cfg(test)]
 mod tests;
 
-use brd_base::NoMemory;
+use brd_base::{NoMemory, copy_with_room};
 use std::alloc::Global;
 use std::marker::Model;
 
@@ -50,6 +50,24 @@ impl Timeouts {
             dues,
             earliest: NEVER,
         })
+    }
+
+    /// Equal timeouts.
+    pub fn try_copy(&self) -> Result<Timeouts, NoMemory>
+        ensures { IfOk result (λ copy. copy ≡ self.now) }
+    {
+        Ok(Timeouts {
+            count: self.count,
+            dues: copy_with_room(&self.dues, 0)?,
+            earliest: self.earliest,
+        })
+    }
+
+    /// Whether both are equal: as many ticks, and each wait ends at the same one.
+    pub fn same(&self, other: &Timeouts) -> bool
+        ensures { Decides result (self.now ≡ other.now) }
+    {
+        self.count == other.count && self.dues.as_slice() == other.dues.as_slice()
     }
 
     /// How many ticks have passed.
