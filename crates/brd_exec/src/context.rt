@@ -17,6 +17,7 @@ ghost use Rattle.brd_exec.specs.State.{
   address_of,
 };
 
+use brd_base::Same;
 use brd_isa::{JumpIndex, Register};
 use brd_word::sign16;
 use std::marker::Model;
@@ -47,6 +48,12 @@ impl Model for Context {
 
     ghost inverse = { λ s.
         record { registers = s.registers; hi = s.hi; lo = s.lo; pc = s.pc; npc = s.npc; slot = s.slot } };
+}
+
+impl Same for Context {
+    fn same(&self, other: &Self) -> bool {
+        *self == *other
+    }
 }
 
 impl Context {

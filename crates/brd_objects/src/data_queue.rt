@@ -22,10 +22,10 @@ ghost use Rattle.brd_objects.specs.DataQueues.{
 
 use crate::sent::{Received, Sent};
 use bitflags::Flags;
-use brd_base::NoMemory;
+use brd_base::{NoMemory, Same, copy_with_room};
 use brd_config::{QueueAttributes, QueueConfig};
 use brd_queue::{Entry, Order, Queue};
-use std::alloc::Global;
+use std::alloc::{AllocError, Global};
 use std::marker::Model;
 
 /// A data queue (uITRON 4.0 specification, "Data Queues"). Only `new` takes memory.
@@ -47,6 +47,30 @@ impl Model for DataQueue {
     ghost view = { λ q. record { capacity = q.capacity; order = q.order; stored = q.stored.items; senders = q.senders; receivers = q.receivers } };
 
     ghost invariant = { λ q. (length q.stored.items ≤ q.capacity) × (q.capacity ≤ vec_capacity q.stored) };
+}
+
+impl Clone for DataQueue {
+    ghost is_clone = { λ queue copy. copy ≡ queue };
+
+    fn clone(&self) -> Result<Self, AllocError> {
+        Ok(DataQueue {
+            capacity: self.capacity,
+            order: self.order,
+            stored: copy_with_room(&self.stored, self.capacity as usize)?,
+            senders: self.senders.clone()?,
+            receivers: self.receivers.clone()?,
+        })
+    }
+}
+
+impl Same for DataQueue {
+    fn same(&self, other: &Self) -> bool {
+        self.capacity == other.capacity
+            && self.order == other.order
+            && self.stored.as_slice() == other.stored.as_slice()
+            && self.senders.same(&other.senders)
+            && self.receivers.same(&other.receivers)
+    }
 }
 
 impl DataQueue {

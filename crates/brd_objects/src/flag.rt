@@ -21,13 +21,13 @@ ghost use Rattle.brd_objects.specs.Waiters.{WantBits};
 use crate::waiters::Waiters;
 use crate::want::Want;
 use bitflags::Flags;
-use brd_base::NoMemory;
+use brd_base::{NoMemory, Same};
 use brd_config::{FlagAttributes, FlagConfig};
 use brd_queue::{Entry, Order};
 use std::alloc::Global;
 
 /// An event flag (uITRON 4.0 specification, "Eventflags").
-#[derive(Drop)]
+#[derive(Clone, Drop)]
 pub struct Flag {
     pattern: u32,
     order: Order,
@@ -36,6 +36,16 @@ pub struct Flag {
     /// A release clears the pattern (TA_CLR).
     clears: bool,
     waiters: Waiters,
+}
+
+impl Same for Flag {
+    fn same(&self, other: &Self) -> bool {
+        self.pattern == other.pattern
+            && self.order == other.order
+            && self.many == other.many
+            && self.clears == other.clears
+            && self.waiters.same(&other.waiters)
+    }
 }
 
 impl Flag {

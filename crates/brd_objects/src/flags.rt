@@ -1,6 +1,6 @@
 //! The event flags of a board.
 
-ghost use Rattle.std.specs.Prelude.{◌≡◌, ◌≢◌, ◌<◌, IfOk, IfSome, option_copied};
+ghost use Rattle.std.specs.Prelude.{◌≡◌, Decides, ◌≢◌, ◌<◌, IfOk, IfSome, option_copied};
 ghost use Rattle.brd_objects.specs.Table.{object_at, object_changed, objects_changed, made_at, made_below};
 ghost use Rattle.brd_objects.specs.Flags.{
   flag_of,
@@ -19,7 +19,7 @@ ghost use Rattle.brd_objects.specs.Waiters.{WantBits};
 
 use crate::flag::Flag;
 use crate::want::Want;
-use brd_base::NoMemory;
+use brd_base::{NoMemory, same_slices};
 use brd_config::FlagConfig;
 use std::alloc::Global;
 use std::marker::Model;
@@ -51,6 +51,22 @@ impl Flags {
         Ok(Flags {
             rows: rows_of(alloc, configs)?,
         })
+    }
+
+    /// Equal flags.
+    pub fn try_copy(&self) -> Result<Flags, NoMemory>
+        ensures { IfOk result (λ copy. copy ≡ self.now) }
+    {
+        Ok(Flags {
+            rows: self.rows.clone()?,
+        })
+    }
+
+    /// Whether both are equal.
+    pub fn same(&self, other: &Flags) -> bool
+        ensures { Decides result (self.now ≡ other.now) }
+    {
+        same_slices(self.rows.as_slice(), other.rows.as_slice())
     }
 
     /// The flag of an ID.

@@ -1,6 +1,6 @@
 //! The data queues of a board.
 
-ghost use Rattle.std.specs.Prelude.{◌≡◌, ◌<◌, IfOk, IfSome, option_copied};
+ghost use Rattle.std.specs.Prelude.{◌≡◌, Decides, ◌<◌, IfOk, IfSome, option_copied};
 ghost use Rattle.brd_objects.specs.Table.{object_at, object_changed, objects_changed, made_at, made_below};
 ghost use Rattle.brd_objects.specs.DataQueues.{
   data_queue_of,
@@ -21,7 +21,7 @@ ghost use Rattle.brd_objects.specs.DataQueues.{
 
 use crate::data_queue::DataQueue;
 use crate::sent::{Received, Sent};
-use brd_base::NoMemory;
+use brd_base::{NoMemory, same_slices};
 use brd_config::QueueConfig;
 use std::alloc::Global;
 use std::marker::Model;
@@ -53,6 +53,22 @@ impl Queues {
         Ok(Queues {
             rows: rows_of(alloc, configs)?,
         })
+    }
+
+    /// Equal queues.
+    pub fn try_copy(&self) -> Result<Queues, NoMemory>
+        ensures { IfOk result (λ copy. copy ≡ self.now) }
+    {
+        Ok(Queues {
+            rows: self.rows.clone()?,
+        })
+    }
+
+    /// Whether both are equal.
+    pub fn same(&self, other: &Queues) -> bool
+        ensures { Decides result (self.now ≡ other.now) }
+    {
+        same_slices(self.rows.as_slice(), other.rows.as_slice())
     }
 
     /// The data queue of an ID.

@@ -15,18 +15,27 @@ ghost use Rattle.brd_objects.specs.Semaphores.{
 };
 
 use bitflags::Flags;
-use brd_base::NoMemory;
+use brd_base::{NoMemory, Same};
 use brd_config::{SemaphoreAttributes, SemaphoreConfig};
 use brd_queue::{Entry, Order, Queue};
 use std::alloc::Global;
 
 /// A semaphore (uITRON 4.0 specification, "Semaphores").
-#[derive(Drop)]
+#[derive(Clone, Drop)]
 pub struct Semaphore {
     count: u16,
     maximum: u16,
     order: Order,
     waiters: Queue<()>,
+}
+
+impl Same for Semaphore {
+    fn same(&self, other: &Self) -> bool {
+        self.count == other.count
+            && self.maximum == other.maximum
+            && self.order == other.order
+            && self.waiters.same(&other.waiters)
+    }
 }
 
 impl Semaphore {

@@ -1,6 +1,6 @@
 //! The semaphores of a board.
 
-ghost use Rattle.std.specs.Prelude.{◌≡◌, ◌<◌, ◌==◌, IfOk, IfSome, length, find, option_copied};
+ghost use Rattle.std.specs.Prelude.{◌≡◌, Decides, ◌<◌, ◌==◌, IfOk, IfSome, length, find, option_copied};
 ghost use Rattle.brd_objects.specs.Table.{object_at, object_changed, objects_changed, made_at, made_below};
 ghost use Rattle.brd_objects.specs.Semaphores.{
   semaphore_of,
@@ -15,7 +15,7 @@ ghost use Rattle.brd_objects.specs.Semaphores.{
 };
 
 use crate::semaphore::Semaphore;
-use brd_base::NoMemory;
+use brd_base::{NoMemory, same_slices};
 use brd_config::SemaphoreConfig;
 use std::alloc::Global;
 use std::marker::Model;
@@ -47,6 +47,22 @@ impl Semaphores {
         Ok(Semaphores {
             rows: rows_of(alloc, configs)?,
         })
+    }
+
+    /// Equal semaphores.
+    pub fn try_copy(&self) -> Result<Semaphores, NoMemory>
+        ensures { IfOk result (λ copy. copy ≡ self.now) }
+    {
+        Ok(Semaphores {
+            rows: self.rows.clone()?,
+        })
+    }
+
+    /// Whether both are equal.
+    pub fn same(&self, other: &Semaphores) -> bool
+        ensures { Decides result (self.now ≡ other.now) }
+    {
+        same_slices(self.rows.as_slice(), other.rows.as_slice())
     }
 
     /// The semaphore of an ID.

@@ -6,10 +6,10 @@ ghost use Rattle.brd_queue.specs.Queue.{has, without, entered, placed, reordered
 ghost use Rattle.brd_objects.specs.Waiters.{first_satisfied, without_satisfied, WantBits};
 
 use crate::want::Want;
-use brd_base::NoMemory;
+use brd_base::{NoMemory, Same, copy_with_room};
 use brd_lanes::first_match;
 use brd_queue::{Entry, MOST_TASKS, Order, Queue, insert_within};
-use std::alloc::Global;
+use std::alloc::{AllocError, Global};
 use std::marker::Model;
 
 /// The tasks that wait for a flag, in their order, each with what it wants. What they want stands once more in columns, which are scanned.
@@ -36,6 +36,24 @@ impl Model for Waiters {
         × WantBits w.queue
         × (256 ≤ vec_capacity w.bits)
         × (256 ≤ vec_capacity w.modes) };
+}
+
+impl Clone for Waiters {
+    ghost is_clone = { λ waiters copy. copy ≡ waiters };
+
+    fn clone(&self) -> Result<Self, AllocError> {
+        Ok(Waiters {
+            queue: self.queue.clone()?,
+            bits: copy_with_room(&self.bits, MOST_TASKS)?,
+            modes: copy_with_room(&self.modes, MOST_TASKS)?,
+        })
+    }
+}
+
+impl Same for Waiters {
+    fn same(&self, other: &Self) -> bool {
+        self.queue.same(&other.queue)
+    }
 }
 
 impl Waiters {

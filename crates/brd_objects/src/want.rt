@@ -4,6 +4,8 @@ ghost use Rattle.std.specs.Prelude.{◌≡◌};
 ghost use Rattle.brd_objects.specs.Columns.{mode_word};
 ghost use Rattle.brd_objects.specs.Waiters.{satisfies};
 
+use brd_base::Same;
+
 /// Which of the bits have to be set (uITRON 4.0 specification, "Eventflags").
 #[derive(Clone, Copy, Debug, PartialEq, Eq)]
 pub enum Mode {
@@ -20,6 +22,12 @@ pub struct Want {
     pub bits: u32,
     /// Which of them have to be set.
     pub mode: Mode,
+}
+
+impl Same for Want {
+    fn same(&self, other: &Self) -> bool {
+        *self == *other
+    }
 }
 
 impl Mode {

@@ -1,5 +1,7 @@
 //! What a queue holds, and in which order.
 
+use brd_base::Same;
+
 /// A task in a queue.
 #[derive(Clone, Copy, Debug, Default, PartialEq, Eq)]
 pub struct Entry<W> {
@@ -9,6 +11,12 @@ pub struct Entry<W> {
     pub priority: u8,
     /// What it wants: `()` where all want the same.
     pub wanted: W,
+}
+
+impl<W: Same> Same for Entry<W> {
+    fn same(&self, other: &Self) -> bool {
+        self.id == other.id && self.priority == other.priority && self.wanted.same(&other.wanted)
+    }
 }
 
 /// Where a task enters a queue (uITRON 4.0 specification, the attributes TA_TFIFO and TA_TPRI).

@@ -6,8 +6,8 @@ ghost use Rattle.brd_queue.specs.Queue.{AreApart, has, priority_in, entered, beh
 
 use crate::entry::{Entry, Order};
 use crate::room::{MOST_TASKS, insert_within};
-use brd_base::NoMemory;
-use std::alloc::Global;
+use brd_base::{NoMemory, Same, copy_with_room, same_slices};
+use std::alloc::{AllocError, Global};
 use std::marker::Model;
 
 /// Tasks in the order in which they are served, none of them twice, each with what it wants. It has room for every task that there can be, so
@@ -27,6 +27,22 @@ impl<W> Model for Queue<W> {
     ghost view = { λ queue. queue.entries.items };
 
     ghost invariant = { λ queue. AreApart queue.entries.items × (256 ≤ vec_capacity queue.entries) };
+}
+
+impl<W: Same> Same for Queue<W> {
+    fn same(&self, other: &Self) -> bool {
+        same_slices(self.entries.as_slice(), other.entries.as_slice())
+    }
+}
+
+impl<W: Copy> Clone for Queue<W> {
+    ghost is_clone = { λ queue copy. copy ≡ queue };
+
+    fn clone(&self) -> Result<Self, AllocError> {
+        Ok(Queue {
+            entries: copy_with_room(&self.entries, MOST_TASKS)?,
+        })
+    }
 }
 
 impl<W: Copy + Drop> Queue<W> {

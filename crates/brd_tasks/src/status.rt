@@ -14,6 +14,8 @@ ghost use Rattle.brd_tasks.specs.Status.{
   resumed,
 };
 
+use brd_base::Same;
+
 /// A task's number, from 1 to 255.
 pub type TaskId = u16;
 
@@ -62,6 +64,12 @@ pub enum Status {
     Suspended,
     /// Waits, and is kept from running by sus_tsk.
     WaitingSuspended(WaitReason),
+}
+
+impl Same for Status {
+    fn same(&self, other: &Self) -> bool {
+        *self == *other
+    }
 }
 
 impl Status {

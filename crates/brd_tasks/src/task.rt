@@ -4,6 +4,7 @@ ghost use Rattle.std.specs.Prelude.{◌≡◌};
 ghost use Rattle.brd_tasks.specs.Tasks.{unstarted, opening_of, started, processor_of};
 
 use crate::status::{Status, TaskId, TaskState, WaitReason};
+use brd_base::Same;
 use brd_exec::Context;
 
 /// What is fixed of a task when the board is made.
@@ -47,6 +48,29 @@ pub struct Task {
     pub activation: Option<Request>,
     /// Whether a wake-up is queued.
     pub wakeup: bool,
+}
+
+impl Same for TaskSetup {
+    fn same(&self, other: &Self) -> bool {
+        *self == *other
+    }
+}
+
+impl Same for Request {
+    fn same(&self, other: &Self) -> bool {
+        *self == *other
+    }
+}
+
+impl Same for Task {
+    fn same(&self, other: &Self) -> bool {
+        self.setup.same(&other.setup)
+            && self.status.same(&other.status)
+            && self.priority == other.priority
+            && self.cpu == other.cpu
+            && self.activation.same(&other.activation)
+            && self.wakeup == other.wakeup
+    }
 }
 
 /// A task as it stands.

@@ -1,6 +1,6 @@
 //! The tasks of a board.
 
-ghost use Rattle.std.specs.Prelude.{◌≡◌, ◌<◌, Some, IsSome, IfSome, IfOk, All, length, find, ◌==◌, []};
+ghost use Rattle.std.specs.Prelude.{◌≡◌, Decides, ◌<◌, Some, IsSome, IfSome, IfOk, All, length, find, ◌==◌, []};
 ghost use Rattle.brd_tasks.specs.Status.{blocked, suspended, resumed};
 ghost use Rattle.brd_tasks.specs.Tasks.{
   task_at,
@@ -33,7 +33,7 @@ use crate::making::{contexts_of, empty_lists, rows_of};
 use crate::reply::answer;
 use crate::status::{Status, TaskId, WaitReason};
 use crate::task::{Request, Task, TaskSetup, TaskView};
-use brd_base::NoMemory;
+use brd_base::{NoMemory, copy_with_room, same_slices};
 use brd_exec::Context;
 use brd_queue::Queue;
 use std::alloc::Global;
@@ -69,6 +69,26 @@ impl Tasks {
             contexts: contexts_of(alloc, setups)?,
             ready: empty_lists(alloc)?,
         })
+    }
+
+    /// Equal tasks.
+    pub fn try_copy(&self) -> Result<Tasks, NoMemory>
+        ensures { IfOk result (λ copy. copy ≡ self.now) }
+    {
+        Ok(Tasks {
+            rows: copy_with_room(&self.rows, 0)?,
+            contexts: copy_with_room(&self.contexts, 0)?,
+            ready: self.ready.clone()?,
+        })
+    }
+
+    /// Whether both are equal.
+    pub fn same(&self, other: &Tasks) -> bool
+        ensures { Decides result (self.now ≡ other.now) }
+    {
+        same_slices(self.rows.as_slice(), other.rows.as_slice())
+            && same_slices(self.contexts.as_slice(), other.contexts.as_slice())
+            && same_slices(self.ready.as_slice(), other.ready.as_slice())
     }
 
     /// The task of a number, where there is one.
