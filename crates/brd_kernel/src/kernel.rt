@@ -1,6 +1,6 @@
 //! The kernel.
 
-ghost use Rattle.std.specs.Prelude.{◌≡◌, ◌<◌, ◌≤◌, ◌+◌, ◌==◌, ◌&&◌, ℕ, if◌then◌else◌, All, IfOk, IfSome, is_some, nat_lt, option_copied, option_map, true};
+ghost use Rattle.std.specs.Prelude.{◌≡◌, Decides, ◌<◌, ◌≤◌, ◌+◌, ◌==◌, ◌&&◌, ℕ, if◌then◌else◌, All, IfOk, IfSome, is_some, nat_lt, option_copied, option_map, true};
 ghost use Rattle.brd_tasks.specs.Ready.{IsProcessor, IsSetup};
 ghost use Rattle.brd_tasks.specs.Tasks.{activated};
 ghost use Rattle.brd_tasks.specs.declared.task.Request.TheVariants.{Assigned};
@@ -36,7 +36,7 @@ mod waits;
 
 use crate::making::{idle_processors, lines_of, no_contexts};
 use crate::processor::{Ended, Executor, Line, LineSetup, Marks, Processor, Standing};
-use brd_base::NoMemory;
+use brd_base::{NoMemory, copy_with_room, same_slices};
 use brd_config::{FlagConfig, QueueConfig, SemaphoreConfig};
 use brd_exec::{Context, run};
 use brd_link::Links;
@@ -139,6 +139,63 @@ impl Kernel {
             console: Vec::with_capacity(alloc, CONSOLE_SIZE)?,
             pending: false,
         })
+    }
+
+    /// An equal kernel.
+    pub fn try_copy(&self) -> Result<Kernel, NoMemory>
+        ensures { IfOk result (λ copy. copy ≡ self.now) }
+    {
+        Ok(Kernel {
+            off: self.off,
+            time: self.time.try_copy()?,
+            tasks: self.tasks.try_copy()?,
+            semaphores: self.semaphores.try_copy()?,
+            flags: self.flags.try_copy()?,
+            queues: self.queues.try_copy()?,
+            processors: self.processors,
+            executing: self.executing,
+            handler_contexts: copy_with_room(&self.handler_contexts, 0)?,
+            lines: copy_with_room(&self.lines, 0)?,
+            console: copy_with_room(&self.console, CONSOLE_SIZE)?,
+            pending: self.pending,
+        })
+    }
+
+    /// Whether both are equal, also in what was fixed when they were made.
+    pub fn same(&self, other: &Kernel) -> bool
+        ensures { Decides result (self.now ≡ other.now) }
+    {
+        self.is_off() == other.is_off()
+            && self.has_same_tables(other)
+            && self.has_same_processors(other)
+    }
+
+    /// Whether both have the same time, tasks and objects.
+    fn has_same_tables(&self, other: &Kernel) -> bool
+        ensures { Decides result ((self.now.time ≡ other.now.time) × (self.now.tasks ≡ other.now.tasks)
+            × (self.now.semaphores ≡ other.now.semaphores) × (self.now.flags ≡ other.now.flags)
+            × (self.now.queues ≡ other.now.queues)) }
+    {
+        self.time.same(&other.time)
+            && self.tasks.same(&other.tasks)
+            && self.semaphores.same(&other.semaphores)
+            && self.flags.same(&other.flags)
+            && self.queues.same(&other.queues)
+    }
+
+    /// Whether both have the same processors, lines and console.
+    fn has_same_processors(&self, other: &Kernel) -> bool
+        ensures { Decides result ((self.now.processors ≡ other.now.processors)
+            × (self.now.handler_contexts ≡ other.now.handler_contexts) × (self.now.lines ≡ other.now.lines)
+            × (self.now.console ≡ other.now.console)) }
+    {
+        same_slices(&self.processors, &other.processors)
+            && same_slices(
+                self.handler_contexts.as_slice(),
+                other.handler_contexts.as_slice(),
+            )
+            && same_slices(self.lines.as_slice(), other.lines.as_slice())
+            && self.console() == other.console()
     }
 
     /// Starts a task when the board is made; one that has been started before keeps the request.

@@ -15,6 +15,3 @@ pub use brd_tasks::{Request, TaskId, TaskSetup, TaskState, TaskView, WaitReason}
 pub use call::{Call, Ercd, Reply};
 pub use kernel::Kernel;
 pub use processor::{Ended, Executor, Handler, Line, LineSetup, Marks, Processor, Standing};
-
-#[cfg(test)]
-mod tests;

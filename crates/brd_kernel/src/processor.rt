@@ -4,6 +4,7 @@ ghost use Rattle.std.specs.Prelude.{◌≡◌, Some};
 ghost use Rattle.brd_kernel.specs.Kernel.{executor_in, is_held, idle, unmarked, quiet};
 ghost use Rattle.brd_kernel.specs.Always.{task_executing};
 
+use brd_base::Same;
 use brd_exec::Outcome;
 use brd_tasks::TaskId;
 
@@ -60,6 +61,16 @@ pub struct Processor {
     pub disabled: bool,
     /// Whether it is stopped for good.
     pub stopped: bool,
+}
+
+impl Same for Processor {
+    fn same(&self, other: &Self) -> bool {
+        self.running == other.running
+            && self.handling == other.handling
+            && self.locked == other.locked
+            && self.disabled == other.disabled
+            && self.stopped == other.stopped
+    }
 }
 
 impl Processor {
@@ -144,6 +155,12 @@ pub struct Line {
     pub handler: Option<Handler>,
     /// Whether an interrupt was raised that isn't accepted yet.
     pub pending: bool,
+}
+
+impl Same for Line {
+    fn same(&self, other: &Self) -> bool {
+        *self == *other
+    }
 }
 
 impl Line {

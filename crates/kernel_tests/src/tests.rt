@@ -1,7 +1,7 @@
-use super::*;
 use brd_base::NoMemory;
 use brd_config::{ConfigFault, parse};
 use brd_exec::Outcome;
+use brd_kernel::{Call, Ended, Handler, Kernel, LineSetup, Reply, Standing, TaskSetup, TaskState};
 use brd_link::Links;
 use brd_mem::Ram;
 use brd_tasks::are_setups;
