@@ -1,6 +1,6 @@
 //! The board.
 
-ghost use Rattle.std.specs.Prelude.{◌≡◌, ◌≤◌, All, IfOk, replicate, None};
+ghost use Rattle.std.specs.Prelude.{◌≡◌, Decides, ◌≤◌, All, IfOk, replicate, None};
 ghost use Rattle.brd_config.specs.View.{view};
 ghost use Rattle.brd_tasks.specs.Ready.{IsProcessor, IsSetup};
 ghost use Rattle.brd_board.specs.Board.{
@@ -18,6 +18,7 @@ ghost use Rattle.brd_board.specs.Board.{
   fault_of,
   task_of,
 };
+ghost use Rattle.brd_board.specs.declared.event.Event.TheVariants.{Step};
 ghost use Rattle.brd_board.specs.Setup.{Boots};
 ghost use Rattle.brd_board.specs.Boot.{boot, booted_kernel, boot_words, words_config};
 ghost use Rattle.brd_mem.specs.Memory.{byte_at};
@@ -29,7 +30,7 @@ use crate::links::end_links;
 use crate::load::loaded;
 use crate::setup::{handlers_of, setups_of, start_all};
 use crate::view::Fault;
-use brd_base::{BASE, List, NoMemory};
+use brd_base::{BASE, List, NoMemory, copy_with_room, same_slices};
 use brd_config::{Config, Operand, Stack, TaskAttributes, TaskConfig};
 use brd_exec::{Context, ExceptionCode, Outcome};
 use brd_kernel::{Ended, Kernel, LineSetup, Standing, TaskId, TaskSetup, TaskView};
@@ -94,6 +95,28 @@ impl Board {
         Board::boot(alloc, &image, &config)
     }
 
+    /// An equal board.
+    pub fn try_copy(&self) -> Result<Board, NoMemory>
+        ensures { IfOk result (λ copy. copy ≡ self.now) }
+    {
+        Ok(Board {
+            kernel: self.kernel.try_copy()?,
+            ram: self.ram.try_copy()?,
+            links: self.links,
+            faults: copy_with_room(&self.faults, 0)?,
+        })
+    }
+
+    /// Whether both are equal, also in what was fixed when they were made.
+    pub fn same(&self, other: &Board) -> bool
+        ensures { Decides result (self.now ≡ other.now) }
+    {
+        self.kernel.same(&other.kernel)
+            && self.ram.same(&other.ram)
+            && self.links == other.links
+            && same_slices(self.faults.as_slice(), other.faults.as_slice())
+    }
+
     /// Does one event. It takes no memory. Each loop over events has its own copy, which keeps what it needs in registers.
     #[inline(always)]
     #[tactic(auto, unfolding(crate::specs::Board::happens))]
@@ -116,6 +139,34 @@ impl Board {
     {
         for event in events {
             let _ = self.event(*event);
+        }
+    }
+
+    /// Does one event so many times. Steps have a loop of their own, since most events are steps.
+    pub fn repeat(&mut self, event: Event, count: u32)
+        ensures { self.new ≡ after self.old (replicate count event) }
+    {
+        match event {
+            Event::Step(cpu) => self.repeat_step(cpu, count),
+            Event::Tick | Event::Raise(_) => self.repeat_other(event, count),
+        }
+    }
+
+    /// Lets a processor do so many steps.
+    fn repeat_step(&mut self, cpu: u8, count: u32)
+        ensures { self.new ≡ after self.old (replicate count (Step cpu)) }
+    {
+        for _ in 0..count {
+            let _ = self.event(Event::Step(cpu));
+        }
+    }
+
+    /// Does one event so many times.
+    fn repeat_other(&mut self, event: Event, count: u32)
+        ensures { self.new ≡ after self.old (replicate count event) }
+    {
+        for _ in 0..count {
+            let _ = self.event(event);
         }
     }
 

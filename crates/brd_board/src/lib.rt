@@ -17,6 +17,3 @@ pub use boot::BootFault;
 pub use brd_kernel::{Standing, TaskId, TaskState, TaskView, WaitReason};
 pub use event::{Event, Report};
 pub use view::Fault;
-
-#[cfg(test)]
-mod tests;

@@ -1,5 +1,6 @@
 //! What the board shows of a processor.
 
+use brd_base::Same;
 use brd_exec::ExceptionCode;
 
 /// An exception as a processor keeps it.
@@ -11,4 +12,10 @@ pub struct Fault {
     pub epc: u32,
     /// Whether the instruction was in a delay slot.
     pub bd: bool,
+}
+
+impl Same for Fault {
+    fn same(&self, other: &Self) -> bool {
+        *self == *other
+    }
 }

@@ -1,5 +1,5 @@
-use super::*;
-use brd_base::{BASE, List};
+use brd_base::{BASE, List, NoMemory};
+use brd_board::{Board, BootFault, Event, Fault, Report, Standing, TaskState};
 use brd_config::parse;
 use brd_exec::{Context, ExceptionCode};
 use brd_isa::Register;
@@ -572,5 +572,38 @@ fn handlers_by_name(rt: HostRuntime) -> Result<(), Fail> {
     ];
     assert_eq!(rt; first_other(&mut board, &events), None);
     assert!(rt; enters(&board, 1, 0, 0x8000_0100));
+    Ok(())
+}
+
+/// Whether a copy is the same, no longer where the board alone does an event, and again where the copy has done it too.
+fn follows_its_copy(board: &mut Board, event: Event) -> Result<bool, NoMemory> {
+    let mut copy = board.try_copy()?;
+    let was_same = board.same(&copy);
+    let _ = board.event(event);
+    let is_same = board.same(&copy);
+    let _ = copy.event(event);
+    Ok(was_same && !is_same && board.same(&copy))
+}
+
+/// Copies through a program that writes a character, stores a byte, loads linked and goes wrong, with a tick between: each of these
+/// changes something else of the board.
+#[test]
+fn copies(rt: HostRuntime) -> Result<(), Fail> {
+    let words = [
+        0x2402_0028,
+        0x2404_0048,
+        0x0000_000c,
+        0x3c08_8000,
+        0xa102_0100,
+        0xc109_0100,
+        0x0000_000d,
+    ];
+    let mut board = Board::from_words(rt.alloc(), &words)?;
+    for step in 0..7u8 {
+        assert!(rt; follows_its_copy(&mut board, Event::Step(1))?, "{step}");
+    }
+    assert!(rt; follows_its_copy(&mut board, Event::Tick)?);
+    assert!(rt; !follows_its_copy(&mut board, Event::Step(2))?);
+    assert_eq!(rt; board.try_copy()?.console(), b"H".as_slice());
     Ok(())
 }
