@@ -1,5 +1,6 @@
 pub mod EventLemmas
 pub mod OneList
+pub mod ReplayLemmas
 pub mod Cutting
 pub mod AddLemmas
 pub mod KeptLemmas

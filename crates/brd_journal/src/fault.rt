@@ -13,7 +13,7 @@ pub enum JournalFault {
     #[error("out of memory")]
     NoMemory,
     /// The events need more runs than the journal's limit.
-    #[error("the journal is full: its events need more runs than its limit")]
+    #[error("its events need more runs than its limit")]
     Full,
     /// A line of the text has none of the forms, or no newline at its end. Lines are counted from 1.
     #[error("line {line}: expected `board-journal 1` first, then lines `S CPU COUNT`, `T COUNT` and `R LINE COUNT`")]

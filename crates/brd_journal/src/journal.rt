@@ -1,6 +1,7 @@
 //! Journals.
 
 ghost use Rattle.std.specs.Prelude.{◌≡◌, ℕ, ◌≤◌, ◌<◌, ◌==◌, ◌^◌, ◌∷◌, [], length, slice_get, OnErr, IfOk, Ok};
+ghost use Rattle.brd_board.specs.Board.{after};
 ghost use Rattle.brd_journal.specs.Faults.{Gives};
 ghost use Rattle.brd_journal.specs.Journal.{most_runs, appended};
 ghost use Rattle.brd_journal.specs.Reading.{journal_of};
@@ -12,7 +13,7 @@ use crate::run::Run;
 use crate::runs::{add, event_after};
 use crate::writing::written;
 use brd_base::NoMemory;
-use brd_board::Event;
+use brd_board::{Board, Event};
 use std::alloc::Global;
 use std::marker::Model;
 
@@ -100,6 +101,15 @@ impl Journal {
         ensures within { length result.now ≤ self.now.limit }
     {
         self.runs.as_slice()
+    }
+
+    /// Lets a board do the events, one after the other.
+    pub fn replay(&self, board: &mut Board)
+        ensures { board.new ≡ after board.old self.now.events }
+    {
+        for run in self.runs.as_slice() {
+            board.repeat(run.event, run.count);
+        }
     }
 
     /// The text: a first line, and a line for each run. It is read as this journal again, where the limit suffices.

@@ -126,7 +126,7 @@ fn faults(rt: HostRuntime) -> Result<(), Fail> {
         (JournalFault::NoMemory, "out of memory"),
         (
             JournalFault::Full,
-            "the journal is full: its events need more runs than its limit",
+            "its events need more runs than its limit",
         ),
         (
             JournalFault::Syntax { line: 3 },
