@@ -2,7 +2,7 @@
 
 ghost use Rattle.std.specs.Prelude.{codes};
 ghost use Rattle.clap.specs.Words.{found_of, first_value, subcommand_name_of};
-ghost use Rattle.brd_cli.specs.Usage.{IsNamed, IsAsmOf};
+ghost use Rattle.brd_cli.specs.Usage.{IsNamed, IsAsmOf, IsRunOf};
 
 use brd_command::Request;
 use clap::{Arg, ArgAction, ArgMatches, Command, Error};
@@ -14,7 +14,8 @@ pub fn board_command<'a>(alloc: Global) -> Result<Command<'a>, Error> {
         .about("An emulated MIPS32 board for real-time software")
         .subcommand_required(true)
         .subcommand(words_command(alloc)?)?
-        .subcommand(asm_command(alloc)?)?;
+        .subcommand(asm_command(alloc)?)?
+        .subcommand(run_command(alloc)?)?;
     Ok(board)
 }
 
@@ -48,6 +49,28 @@ fn asm_command<'a>(alloc: Global) -> Result<Command<'a>, Error> {
     Ok(command)
 }
 
+/// What `run` takes.
+fn run_command<'a>(alloc: Global) -> Result<Command<'a>, Error> {
+    let image = Arg::new(alloc, "IMAGE")
+        .required(true)
+        .action(ArgAction::Set)
+        .help("An object file, an ELF32 executable");
+    let config = Arg::new(alloc, "CONFIG")
+        .required(true)
+        .action(ArgAction::Set)
+        .help("A file of the kernel's configuration");
+    let journal = Arg::new(alloc, "JOURNAL")
+        .required(true)
+        .action(ArgAction::Set)
+        .help("A journal: the events that the board does");
+    let command = Command::new(alloc, "run")
+        .about("Boots a board, lets it do the events of a journal, and prints a report")
+        .arg(image)?
+        .arg(config)?
+        .arg(journal)?;
+    Ok(command)
+}
+
 /// What a command line asks for. `None` where a command or an argument is missing, which `clap` doesn't let through.
 pub fn request_of<'a>(matches: &ArgMatches<'a>) -> Option<Request<'a>>
     ensures { IsNamed (subcommand_name_of matches.now) result }
@@ -58,6 +81,7 @@ pub fn request_of<'a>(matches: &ArgMatches<'a>) -> Option<Request<'a>>
             Some(Request::Words { steps })
         }
         Some(("asm", of_asm)) => asm_request(of_asm),
+        Some(("run", of_run)) => run_request(of_run),
         _ => None,
     }
 }
@@ -71,4 +95,20 @@ fn asm_request<'a>(arguments: &ArgMatches<'a>) -> Option<Request<'a>>
         (Some(source), Some(out)) => Some(Request::Asm { source, out }),
         _ => None,
     }
+}
+
+/// The request of `run IMAGE CONFIG JOURNAL`.
+fn run_request<'a>(arguments: &ArgMatches<'a>) -> Option<Request<'a>>
+    ensures { IsRunOf (first_value (found_of arguments.now) (codes "IMAGE"))
+        (first_value (found_of arguments.now) (codes "CONFIG"))
+        (first_value (found_of arguments.now) (codes "JOURNAL")) result }
+{
+    let image = arguments.get_str("IMAGE")?;
+    let config = arguments.get_str("CONFIG")?;
+    let journal = arguments.get_str("JOURNAL")?;
+    Some(Request::Run {
+        image,
+        config,
+        journal,
+    })
 }

@@ -1,30 +1,33 @@
 -- What is known of an input that was read in part.
-use Rattle.std.proofs.Common.{◌<◌, ◌≤◌, ◌+◌, ◌++◌, length, take, ℕ, List, arith, length-append, length-take-le}
+use Rattle.std.proofs.Common.{refl, ◌<◌, ◌≤◌, ◌+◌, ◌++◌, length, take, ℕ, List, arith, length-append, length-take-le}
 use Rattle.std.specs.Prelude.{Option, Some, None}
 use Rattle.std.specs.Io.KnownBytes.{Consumes}
 use Rattle.std.specs.declared.io.Error.{Error}
 use Rattle.brd_command.specs.Faults.{IsOfRead}
 use Rattle.brd_command.specs.Input.{KeepsFromReading, most_bytes}
 use Rattle.brd_command.specs.declared.fault.CommandFault.{CommandFault}
-use Rattle.brd_command.specs.declared.fault.CommandFault.TheVariants.{NoMemory, Argument, Words, Source, ImageTooLarge, Open, Read, TooLong, TooManyReads, Write}
+use Rattle.brd_command.specs.declared.input_name.InputName.{InputName}
+use Rattle.brd_command.specs.declared.fault.CommandFault.TheVariants.{NoMemory, Argument, Words, Source, ImageTooLarge, Open, Read, TooLong, TooManyReads, Build, Journal, Write}
 
 -- an input of which more bytes were read than it may have
-pub too_long : (old mid new : Option (List ℕ)) (bytes piece : List ℕ) (n : ℕ) → Consumes old mid bytes → Consumes mid new (take n piece) → n ≤ length piece → most_bytes < length bytes + n → KeepsFromReading old TooLong
-too_long None mid new bytes piece n taken read all more = tt
-too_long (Some xs) None new bytes piece n taken read all more = absurd taken
-too_long (Some xs) (Some ys) None bytes piece n taken read all more = absurd read
-too_long (Some xs) (Some ys) (Some zs) bytes piece n taken read all more =
-    rw (taken, read) (omega (arith, length-append bytes (take n piece ++ zs), length-append (take n piece) zs, length-take-le n piece all, more))
+pub too_long : (old mid new : Option (List ℕ)) (bytes piece : List ℕ) (n : ℕ) (input : InputName) → Consumes old mid bytes → Consumes mid new (take n piece) → n ≤ length piece → most_bytes < length bytes + n → KeepsFromReading input old (TooLong input)
+too_long None mid new bytes piece n input taken read all more = (refl, tt)
+too_long (Some xs) None new bytes piece n input taken read all more = absurd taken
+too_long (Some xs) (Some ys) None bytes piece n input taken read all more = absurd read
+too_long (Some xs) (Some ys) (Some zs) bytes piece n input taken read all more =
+    (refl, rw (taken, read) (omega (arith, length-append bytes (take n piece ++ zs), length-append (take n piece) zs, length-take-le n piece all, more)))
 
 -- a read that failed keeps any input from being read
-pub read_failed : (input : Option (List ℕ)) (error : Error) (fault : CommandFault) → IsOfRead error fault → KeepsFromReading input fault
-read_failed input error NoMemory is = tt
-read_failed input error (Read e) is = tt
-read_failed input error TooLong is = absurd is
-read_failed input error TooManyReads is = absurd is
-read_failed input error (Words fault) is = absurd is
-read_failed input error Argument is = absurd is
-read_failed input error (Source fault excerpt) is = absurd is
-read_failed input error (Open name e) is = absurd is
-read_failed input error (Write e) is = absurd is
-read_failed input error ImageTooLarge is = absurd is
+pub read_failed : (name : InputName) (input : Option (List ℕ)) (error : Error) (fault : CommandFault) → IsOfRead name error fault → KeepsFromReading name input fault
+read_failed name input error NoMemory is = tt
+read_failed name input error (Read from e) is = is.0
+read_failed name input error (TooLong from) is = absurd is
+read_failed name input error (TooManyReads from) is = absurd is
+read_failed name input error (Build fault) is = absurd is
+read_failed name input error (Journal fault) is = absurd is
+read_failed name input error (Words fault) is = absurd is
+read_failed name input error Argument is = absurd is
+read_failed name input error (Source fault excerpt) is = absurd is
+read_failed name input error (Open file e) is = absurd is
+read_failed name input error (Write e) is = absurd is
+read_failed name input error ImageTooLarge is = absurd is

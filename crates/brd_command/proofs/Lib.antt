@@ -1,3 +1,5 @@
+pub mod RunLemmas
+pub mod ReportLemmas
 pub mod WordTextLemmas
 pub mod InputLemmas
 pub mod OutputLemmas

@@ -4,20 +4,16 @@ use Rattle.std.specs.Io.KnownBytes.{Keeps}
 use Rattle.brd_mem.specs.declared.image.Image.{Image}
 use Rattle.brd_elf.specs.File.{file, Fits}
 use Rattle.brd_elf.specs.Meaning.{meaning}
-use Rattle.brd_asm.specs.Image.{Program, program_of, IsImage}
+use Rattle.brd_asm.specs.Image.{program_of}
 use Rattle.brd_asm.specs.declared.fault.AsmFault.{AsmFault}
 use Rattle.brd_asm.specs.declared.fault.AsmFault.TheVariants as asm_fault
+use Rattle.brd_image.specs.Building.{IsImageOf}
 use Rattle.brd_command.specs.Excerpt.{line_excerpt}
 use Rattle.brd_command.specs.Input.{most_bytes}
 use Rattle.brd_command.specs.Output.{Writes, WritesFront}
 use Rattle.brd_command.specs.declared.fault.CommandFault.{CommandFault}
-use Rattle.brd_command.specs.declared.fault.CommandFault.TheVariants.{NoMemory, Argument, Words, Source, ImageTooLarge, Open, Read, TooLong, TooManyReads, Write}
-
--- the image of a source
-pub record IsImageOf (source : List ℕ) (image : Image) : Type 0 where
-  pub program : Program
-  pub is_program : program_of source ≡ Ok program
-  pub is_image : IsImage program image
+use Rattle.brd_command.specs.declared.input_name.InputName.TheVariants as input_name
+use Rattle.brd_command.specs.declared.fault.CommandFault.TheVariants.{NoMemory, Argument, Words, Source, ImageTooLarge, Open, Read, TooLong, TooManyReads, Build, Journal, Write}
 
 -- the object file of a source: the file of its image, which is read as that image again
 pub record IsObjectFile (source bytes : List ℕ) : Type 0 where
@@ -59,9 +55,11 @@ RefusesSource (Words fault) source old new = ⊥
 RefusesSource (Source fault excerpt) source old new = KeepsFromAssembling source (Source fault excerpt) × Keeps old new
 RefusesSource ImageTooLarge source old new = KeepsFromAssembling source ImageTooLarge × Keeps old new
 RefusesSource (Open name error) source old new = ⊥
-RefusesSource (Read error) source old new = Keeps old new
-RefusesSource TooLong source old new = (most_bytes < length source) × Keeps old new
-RefusesSource TooManyReads source old new = Keeps old new
+RefusesSource (Read input error) source old new = (input ≡ input_name.Source) × Keeps old new
+RefusesSource (TooLong input) source old new = (input ≡ input_name.Source) × (most_bytes < length source) × Keeps old new
+RefusesSource (TooManyReads input) source old new = (input ≡ input_name.Source) × Keeps old new
+RefusesSource (Build fault) source old new = ⊥
+RefusesSource (Journal fault) source old new = ⊥
 RefusesSource (Write error) source old new = WritesFront (IsObjectFile source) old new
 
 -- how `asm` ends: the source's object file was written, or it was refused

@@ -1,11 +1,16 @@
 -- The faults of the commands: which errors make them, and the status that each ends with.
-use Rattle.std.specs.Prelude.{◌≡◌, ◌≢◌, ℕ, List}
+use Rattle.std.specs.Prelude.{◌≡◌, ◌≢◌, ℕ, if◌then◌else◌, List}
 use Rattle.std.specs.declared.io.Error.{Error}
 use Rattle.std.specs.IoError.{error_kind}
 use Rattle.std.specs.declared.io.ErrorKind.TheVariants.{OutOfMemory}
+use Rattle.brd_image.specs.Faults as build
+use Rattle.brd_image.specs.declared.fault.BuildFault.{BuildFault}
+use Rattle.brd_journal.specs.Faults as journal
+use Rattle.brd_journal.specs.declared.fault.JournalFault.{JournalFault}
 use Rattle.brd_command.specs.Excerpt.{name_excerpt}
+use Rattle.brd_command.specs.declared.input_name.InputName.{InputName}
 use Rattle.brd_command.specs.declared.fault.CommandFault.{CommandFault}
-use Rattle.brd_command.specs.declared.fault.CommandFault.TheVariants.{NoMemory, Argument, Words, Source, ImageTooLarge, Open, Read, TooLong, TooManyReads, Write}
+use Rattle.brd_command.specs.declared.fault.CommandFault.TheVariants.{NoMemory, Argument, Words, Source, ImageTooLarge, Open, Read, TooLong, TooManyReads, Build, Journal, Write}
 
 -- the status that the program ends with
 abbrev pub status_of : CommandFault → ℕ
@@ -15,22 +20,32 @@ status_of (Words fault) = 1
 status_of (Source fault excerpt) = 1
 status_of ImageTooLarge = 1
 status_of (Open name error) = 4
-status_of (Read error) = 4
-status_of TooLong = 4
-status_of TooManyReads = 4
+status_of (Read input error) = 4
+status_of (TooLong input) = 4
+status_of (TooManyReads input) = 4
+status_of (Build fault) = 1
+status_of (Journal fault) = 1
 status_of (Write error) = 4
 
--- the fault of a read that failed with this error: want of memory where its kind says so, else the error
-abbrev pub IsOfRead : Error → CommandFault → Type 0
-IsOfRead error NoMemory = error_kind error ≡ OutOfMemory
-IsOfRead error (Read e) = (e ≡ error) × (error_kind error ≢ OutOfMemory)
-IsOfRead error _ = ⊥
+-- the fault of a read of an input that failed with this error: want of memory where its kind says so, else the error
+abbrev pub IsOfRead : InputName → Error → CommandFault → Type 0
+IsOfRead input error NoMemory = error_kind error ≡ OutOfMemory
+IsOfRead input error (Read from e) = (from ≡ input) × (e ≡ error) × (error_kind error ≢ OutOfMemory)
+IsOfRead input error _ = ⊥
 
 -- the fault of a file of that name that couldn't be opened: the error with the front of the name, or want of memory
 abbrev pub IsOfOpen : List ℕ → Error → CommandFault → Type 0
 IsOfOpen name error NoMemory = Unit {0}
 IsOfOpen name error (Open shown e) = (shown ≡ name_excerpt name) × (e ≡ error) × (error_kind error ≢ OutOfMemory)
 IsOfOpen name error _ = ⊥
+
+-- the fault of building as one of a command: that memory ran out stands alone
+abbrev pub of_build : BuildFault → CommandFault
+of_build fault = if build.is_no_memory fault then NoMemory else Build fault
+
+-- the fault of a journal's text, likewise
+abbrev pub of_journal : JournalFault → CommandFault
+of_journal fault = if journal.is_no_memory fault then NoMemory else Journal fault
 
 -- the fault of a command line that couldn't be taken: want of memory where the error's kind says so, else an argument
 -- that isn't UTF-8

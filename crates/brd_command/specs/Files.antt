@@ -1,9 +1,10 @@
--- What the files of a command give it, and how `asm` ends on them. `opened` and `created` say what a call on files did:
+-- What the files of a command give it, and how `asm` and `run` end on them. `opened` and `created` say what a call on files did:
 -- the files before, a name, what the call gave, and the files after.
-use Rattle.std.specs.Prelude.{ℕ, List, Option, IfSome, Result, Ok, Err, IsErrAnd}
+use Rattle.std.specs.Prelude.{◌≡◌, ℕ, List, Option, IfSome, Result, Ok, Err, IsErrAnd}
 use Rattle.std.specs.declared.io.Error.{Error}
 use Rattle.brd_command.specs.AsmCommand.{AsmEnds}
 use Rattle.brd_command.specs.Faults.{IsOfOpen}
+use Rattle.brd_command.specs.RunCommand.{RunEnds}
 use Rattle.brd_command.specs.declared.fault.CommandFault.{CommandFault}
 
 -- SOURCE is opened first; OUT is created only where SOURCE was opened; the source is read and the object file is
@@ -21,3 +22,23 @@ pub data AsmFilesEnd {F R W : Type 0}
       opened old source (Ok reader) between → created between out (Ok writer) new →
       IfSome (remaining reader) (λ text. AsmEnds result text (contents writer) (contents last)) →
       AsmFilesEnd opened created remaining contents old source out result new
+
+-- IMAGE is opened first, then CONFIG, then JOURNAL; they are read, and the report is written, only where all of them were opened. The fault
+-- of a file that couldn't be opened has that file's name, and then nothing was written.
+pub data RunFilesEnd {F R : Type 0}
+    (opened : F → List ℕ → Result R Error → F → Type 0) (remaining : R → Option (List ℕ))
+    (old : F) (image config journal : List ℕ) (before behind : Option (List ℕ)) (result : Result Unit CommandFault) (new : F) : Type 0 where
+  no_image : {error : Error} → opened old image (Err error) new → IsErrAnd result (IsOfOpen image error) → before ≡ behind →
+      RunFilesEnd opened remaining old image config journal before behind result new
+  no_config : {between : F} {reader : R} {error : Error} →
+      opened old image (Ok reader) between → opened between config (Err error) new → IsErrAnd result (IsOfOpen config error) → before ≡ behind →
+      RunFilesEnd opened remaining old image config journal before behind result new
+  no_journal : {first second : F} {of_image of_config : R} {error : Error} →
+      opened old image (Ok of_image) first → opened first config (Ok of_config) second → opened second journal (Err error) new →
+      IsErrAnd result (IsOfOpen journal error) → before ≡ behind →
+      RunFilesEnd opened remaining old image config journal before behind result new
+  ended : {first second : F} {of_image of_config of_journal : R} →
+      opened old image (Ok of_image) first → opened first config (Ok of_config) second → opened second journal (Ok of_journal) new →
+      IfSome (remaining of_image) (λ file. IfSome (remaining of_config) (λ statements. IfSome (remaining of_journal) (λ events.
+      RunEnds result file statements events before behind))) →
+      RunFilesEnd opened remaining old image config journal before behind result new

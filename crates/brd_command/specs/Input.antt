@@ -1,7 +1,8 @@
 -- Reading an input whole.
 use Rattle.std.specs.Prelude.{◌≡◌, ℕ, ◌<◌, ◌≤◌, List, length, Option, IfSome}
 use Rattle.brd_command.specs.declared.fault.CommandFault.{CommandFault}
-use Rattle.brd_command.specs.declared.fault.CommandFault.TheVariants.{NoMemory, Argument, Words, Source, ImageTooLarge, Open, Read, TooLong, TooManyReads, Write}
+use Rattle.brd_command.specs.declared.input_name.InputName.{InputName}
+use Rattle.brd_command.specs.declared.fault.CommandFault.TheVariants.{NoMemory, Argument, Words, Source, ImageTooLarge, Open, Read, TooLong, TooManyReads, Build, Journal, Write}
 
 -- how many bytes an input may have (own choice)
 abbrev pub most_bytes : ℕ
@@ -12,10 +13,11 @@ pub record IsWhole (input : Option (List ℕ)) (bytes : List ℕ) : Type 0 where
   pub all : IfSome input (λ left. bytes ≡ left)
   pub most : length bytes ≤ most_bytes
 
--- What may keep an input from being read whole. One that is called too long has more bytes than an input may have.
-abbrev pub KeepsFromReading : Option (List ℕ) → CommandFault → Type 0
-KeepsFromReading input NoMemory = Unit {0}
-KeepsFromReading input (Read error) = Unit {0}
-KeepsFromReading input TooLong = IfSome input (λ bytes. most_bytes < length bytes)
-KeepsFromReading input TooManyReads = Unit {0}
-KeepsFromReading input _ = ⊥
+-- What may keep the input of this name from being read whole. One that is called too long has more bytes than an input
+-- may have.
+abbrev pub KeepsFromReading : InputName → Option (List ℕ) → CommandFault → Type 0
+KeepsFromReading name input NoMemory = Unit {0}
+KeepsFromReading name input (Read from error) = from ≡ name
+KeepsFromReading name input (TooLong from) = (from ≡ name) × IfSome input (λ bytes. most_bytes < length bytes)
+KeepsFromReading name input (TooManyReads from) = from ≡ name
+KeepsFromReading name input _ = ⊥

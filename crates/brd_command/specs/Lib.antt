@@ -6,5 +6,7 @@ pub mod Input
 pub mod Output
 pub mod WordsCommand
 pub mod AsmCommand
+pub mod Report
+pub mod RunCommand
 pub mod Files
 pub mod Request

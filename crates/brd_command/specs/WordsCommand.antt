@@ -10,7 +10,8 @@ use Rattle.brd_command.specs.Shown.{board_shown}
 use Rattle.brd_command.specs.WordText.{words_of_text}
 use Rattle.brd_command.specs.declared.word_text.WordsFault.TheVariants as words_fault
 use Rattle.brd_command.specs.declared.fault.CommandFault.{CommandFault}
-use Rattle.brd_command.specs.declared.fault.CommandFault.TheVariants.{NoMemory, Argument, Words, Source, ImageTooLarge, Open, Read, TooLong, TooManyReads, Write}
+use Rattle.brd_command.specs.declared.input_name.InputName.TheVariants.{StandardInput}
+use Rattle.brd_command.specs.declared.fault.CommandFault.TheVariants.{NoMemory, Argument, Words, Source, ImageTooLarge, Open, Read, TooLong, TooManyReads, Build, Journal, Write}
 
 -- the bytes that show the board of these words after so many steps of processor 1
 pub record ShowsWords (words : List ℕ) (steps : ℕ) (bytes : List ℕ) : Type 0 where
@@ -34,9 +35,11 @@ RefusesWords (Words fault) input steps old new =
 RefusesWords (Source fault excerpt) input steps old new = ⊥
 RefusesWords ImageTooLarge input steps old new = ⊥
 RefusesWords (Open name error) input steps old new = ⊥
-RefusesWords (Read error) input steps old new = Keeps old new
-RefusesWords TooLong input steps old new = (most_bytes < length input) × Keeps old new
-RefusesWords TooManyReads input steps old new = Keeps old new
+RefusesWords (Read from error) input steps old new = (from ≡ StandardInput) × Keeps old new
+RefusesWords (TooLong from) input steps old new = (from ≡ StandardInput) × (most_bytes < length input) × Keeps old new
+RefusesWords (TooManyReads from) input steps old new = (from ≡ StandardInput) × Keeps old new
+RefusesWords (Build fault) input steps old new = ⊥
+RefusesWords (Journal fault) input steps old new = ⊥
 RefusesWords (Write error) input steps old new = WritesFront (ShowsText input steps) old new
 
 -- how `words` ends: the board of the input was written, or it was refused

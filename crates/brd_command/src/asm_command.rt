@@ -6,6 +6,7 @@ ghost use Rattle.brd_command.specs.AsmCommand.{AsmEnds, IsObjectFile, KeepsFromA
 use crate::excerpt::Excerpt;
 use crate::fault::CommandFault;
 use crate::input::read_whole;
+use crate::input_name::InputName;
 use crate::output::write_whole;
 use brd_asm::{AsmFault, assemble};
 use std::alloc::Global;
@@ -27,7 +28,7 @@ pub fn asm<R: Read, W: Write>(
     ensures { IfSome (R.remaining reader.old) (λ source.
         AsmEnds result source (W.contents writer.old) (W.contents writer.new)) }
 {
-    let source = match read_whole(alloc, reader) {
+    let source = match read_whole(alloc, InputName::Source, reader) {
         Ok(source) => source,
         Err(fault) => return Err(fault),
     };

@@ -4,9 +4,12 @@ ghost use Rattle.std.specs.Prelude.{◌≡◌};
 ghost use Rattle.brd_command.specs.declared.fault.CommandFault.TheVariants.{NoMemory as no_memory};
 
 use crate::excerpt::Excerpt;
+use crate::input_name::InputName;
 use crate::word_text::WordsFault;
 use brd_asm::AsmFault;
 use brd_base::NoMemory;
+use brd_image::BuildFault;
+use brd_journal::JournalFault;
 use std::alloc::{AllocError, AllocFailed, Global};
 use std::io::{self, ErrorKind};
 use thiserror::Error;
@@ -32,15 +35,21 @@ pub enum CommandFault {
     /// A file of this name couldn't be opened, or created.
     #[error("can't open {0}: {1}")]
     Open(Excerpt, io::Error),
-    /// Input couldn't be read.
-    #[error("can't read the input: {0}")]
-    Read(io::Error),
-    /// Input goes on past the limit.
-    #[error("the input is longer than 134,217,728 bytes")]
-    TooLong,
-    /// Input came in so small pieces that the limit of reads was reached.
-    #[error("the input didn't end within 268,435,456 reads")]
-    TooManyReads,
+    /// An input couldn't be read.
+    #[error("can't read {0}: {1}")]
+    Read(InputName, io::Error),
+    /// An input goes on past the limit.
+    #[error("{0} is longer than 134,217,728 bytes")]
+    TooLong(InputName),
+    /// An input came in so small pieces that the limit of reads was reached.
+    #[error("{0} didn't end within 268,435,456 reads")]
+    TooManyReads(InputName),
+    /// There is no board of the object file and the configuration.
+    #[error("{0}")]
+    Build(BuildFault),
+    /// The journal's text has a fault.
+    #[error("the journal: {0}")]
+    Journal(JournalFault),
     /// Output couldn't be written.
     #[error("can't write the output: {0}")]
     Write(io::Error),
@@ -49,14 +58,14 @@ pub enum CommandFault {
 impl CommandFault {
     ghost use Rattle.brd_command.specs.Faults.{status_of, IsOfRead, IsOfOpen, IsOfArguments};
 
-    /// The fault of a read that failed: want of memory, or the error itself.
-    pub fn of_read(error: io::Error) -> Self
-        ensures { IsOfRead error result }
+    /// The fault of a read of an input that failed: want of memory, or the error itself.
+    pub fn of_read(input: InputName, error: io::Error) -> Self
+        ensures { IsOfRead input error result }
     {
         if error.kind() == ErrorKind::OutOfMemory {
             return CommandFault::NoMemory;
         }
-        CommandFault::Read(error)
+        CommandFault::Read(input, error)
     }
 
     /// The fault of a file of that name that couldn't be opened or created: want of memory, or the error itself.
@@ -88,14 +97,44 @@ impl CommandFault {
         ensures { result ≡ status_of self.now }
     {
         match self {
-            CommandFault::Words(_) | CommandFault::Source(_, _) | CommandFault::ImageTooLarge => 1,
+            CommandFault::Words(_)
+            | CommandFault::Source(_, _)
+            | CommandFault::ImageTooLarge
+            | CommandFault::Build(_)
+            | CommandFault::Journal(_) => 1,
             CommandFault::Argument => 2,
             CommandFault::NoMemory => 3,
             CommandFault::Open(_, _)
-            | CommandFault::Read(_)
-            | CommandFault::TooLong
-            | CommandFault::TooManyReads
+            | CommandFault::Read(_, _)
+            | CommandFault::TooLong(_)
+            | CommandFault::TooManyReads(_)
             | CommandFault::Write(_) => 4,
+        }
+    }
+}
+
+impl From<BuildFault> for CommandFault {
+    ghost use Rattle.brd_command.specs.Faults.{of_build};
+
+    ghost from_gives = { λ of fault. fault ≡ of_build of };
+
+    fn from(fault: BuildFault) -> Self {
+        match fault {
+            BuildFault::NoMemory => CommandFault::NoMemory,
+            _ => CommandFault::Build(fault),
+        }
+    }
+}
+
+impl From<JournalFault> for CommandFault {
+    ghost use Rattle.brd_command.specs.Faults.{of_journal};
+
+    ghost from_gives = { λ of fault. fault ≡ of_journal of };
+
+    fn from(fault: JournalFault) -> Self {
+        match fault {
+            JournalFault::NoMemory => CommandFault::NoMemory,
+            _ => CommandFault::Journal(fault),
         }
     }
 }

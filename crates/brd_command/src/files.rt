@@ -2,10 +2,11 @@
 
 ghost use Rattle.std.specs.Prelude.{IfOk, IfErr, Ok, Err};
 ghost use Rattle.brd_command.specs.Faults.{IsOfOpen};
-ghost use Rattle.brd_command.specs.Files.{AsmFilesEnd};
+ghost use Rattle.brd_command.specs.Files.{AsmFilesEnd, RunFilesEnd};
 
 use crate::asm_command::asm;
 use crate::fault::CommandFault;
+use crate::run_command::run;
 use std::alloc::Global;
 use std::io::{self, Read, Write};
 
@@ -56,4 +57,37 @@ pub fn asm_files<F: Files>(
         Err(error) => return Err(CommandFault::of_open(alloc, out, error)),
     };
     asm(alloc, &mut reader, &mut writer)
+}
+
+/// Does `run` on its files: IMAGE is opened, then CONFIG, then JOURNAL, and then all are read. The report is written.
+pub fn run_files<F: Files, W: Write>(
+    alloc: Global,
+    files: &mut F,
+    image: &str,
+    config: &str,
+    journal: &str,
+    output: &mut W,
+) -> Result<(), CommandFault>
+    ensures { RunFilesEnd F.opened F.Input.remaining files.old image.now config.now journal.now
+        (W.contents output.old) (W.contents output.new) result files.new }
+{
+    let mut of_image = match files.open(image) {
+        Ok(reader) => reader,
+        Err(error) => return Err(CommandFault::of_open(alloc, image, error)),
+    };
+    let mut of_config = match files.open(config) {
+        Ok(reader) => reader,
+        Err(error) => return Err(CommandFault::of_open(alloc, config, error)),
+    };
+    let mut of_journal = match files.open(journal) {
+        Ok(reader) => reader,
+        Err(error) => return Err(CommandFault::of_open(alloc, journal, error)),
+    };
+    run(
+        alloc,
+        &mut of_image,
+        &mut of_config,
+        &mut of_journal,
+        output,
+    )
 }

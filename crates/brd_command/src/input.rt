@@ -4,6 +4,7 @@ ghost use Rattle.std.specs.Prelude.{MatchResult};
 ghost use Rattle.brd_command.specs.Input.{IsWhole, KeepsFromReading};
 
 use crate::fault::CommandFault;
+use crate::input_name::InputName;
 use std::alloc::Global;
 use std::io::{ErrorKind, Read};
 
@@ -13,22 +14,27 @@ const MOST_BYTES: usize = 134_217_728;
 /// How often an input is read at most.
 const MOST_READS: u32 = 268_435_456;
 
-/// All the bytes that a reader has left. It gives up past 134,217,728 bytes, and after 268,435,456 reads.
-pub fn read_whole<R: Read>(alloc: Global, reader: &mut R) -> Result<Vec<u8>, CommandFault>
+/// All the bytes that the reader of an input has left. It gives up past 134,217,728 bytes, and after 268,435,456 reads.
+pub fn read_whole<R: Read>(
+    alloc: Global,
+    input: InputName,
+    reader: &mut R,
+) -> Result<Vec<u8>, CommandFault>
     ensures { MatchResult result (λ bytes. IsWhole (R.remaining reader.old) bytes.items)
-        (KeepsFromReading (R.remaining reader.old)) }
+        (KeepsFromReading input (R.remaining reader.old)) }
 {
-    read_within(alloc, reader, MOST_READS)
+    read_within(alloc, input, reader, MOST_READS)
 }
 
-/// All the bytes that a reader has left. It gives up past 134,217,728 bytes, and after so many reads.
+/// All the bytes that the reader of an input has left. It gives up past 134,217,728 bytes, and after so many reads.
 fn read_within<R: Read>(
     alloc: Global,
+    input: InputName,
     reader: &mut R,
     most_reads: u32,
 ) -> Result<Vec<u8>, CommandFault>
     ensures { MatchResult result (λ bytes. IsWhole (R.remaining reader.old) bytes.items)
-        (KeepsFromReading (R.remaining reader.old)) }
+        (KeepsFromReading input (R.remaining reader.old)) }
 {
     let mut bytes = Vec::new(alloc);
     let mut piece = [0u8; 8192];
@@ -37,16 +43,16 @@ fn read_within<R: Read>(
             Ok(0) => return Ok(bytes),
             Ok(n) => {
                 if n > MOST_BYTES - bytes.len() {
-                    return Err(CommandFault::TooLong);
+                    return Err(CommandFault::TooLong(input));
                 }
                 bytes.extend_from_slice(&piece[..n])?;
             }
             Err(error) => {
                 if error.kind() != ErrorKind::Interrupted {
-                    return Err(CommandFault::of_read(error));
+                    return Err(CommandFault::of_read(input, error));
                 }
             }
         }
     }
-    Err(CommandFault::TooManyReads)
+    Err(CommandFault::TooManyReads(input))
 }

@@ -1,6 +1,7 @@
 //! The commands of the program `board`, over readers, writers and files.
 //!
-//! `specs/WordsCommand.antt` and `specs/AsmCommand.antt` say what a command writes for what it reads, and which faults keep it from that;
+//! `specs/WordsCommand.antt`, `specs/AsmCommand.antt` and `specs/RunCommand.antt` say what a command writes for what it reads, and which
+//! faults keep it from that;
 //! `specs/Files.antt` which files are opened, and in which order.
 #![tactic(auto)]
 
@@ -9,8 +10,11 @@ mod excerpt;
 mod fault;
 mod files;
 mod input;
+mod input_name;
 mod output;
+mod report;
 mod request;
+mod run_command;
 mod shown;
 mod word_text;
 mod words_command;
@@ -18,7 +22,9 @@ mod words_command;
 pub use asm_command::asm;
 pub use excerpt::Excerpt;
 pub use fault::CommandFault;
-pub use files::{Files, asm_files};
+pub use files::{Files, asm_files, run_files};
+pub use input_name::InputName;
 pub use request::{Request, perform};
+pub use run_command::run;
 pub use word_text::WordsFault;
 pub use words_command::words;

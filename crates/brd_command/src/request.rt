@@ -1,12 +1,12 @@
 //! What a command line asks for.
 
 ghost use Rattle.std.specs.Prelude.{◌≡◌, IfSome};
-ghost use Rattle.brd_command.specs.Files.{AsmFilesEnd};
-ghost use Rattle.brd_command.specs.Request.{IfWords, IfAsm};
+ghost use Rattle.brd_command.specs.Files.{AsmFilesEnd, RunFilesEnd};
+ghost use Rattle.brd_command.specs.Request.{IfWords, IfAsm, IfRun};
 ghost use Rattle.brd_command.specs.WordsCommand.{WordsEnds};
 
 use crate::fault::CommandFault;
-use crate::files::{Files, asm_files};
+use crate::files::{Files, asm_files, run_files};
 use crate::words_command::words;
 use std::alloc::Global;
 use std::io::{Read, Write};
@@ -15,13 +15,24 @@ use std::io::{Read, Write};
 #[derive(Clone, Copy, Debug)]
 pub enum Request<'a> {
     /// The board of the words on standard input, after so many steps, on standard output.
-    Words { steps: u32 },
+    Words {
+        steps: u32,
+    },
     /// The object file of the source in a file, in another file.
-    Asm { source: &'a str, out: &'a str },
+    Asm {
+        source: &'a str,
+        out: &'a str,
+    },
+    /// The report of the board of an object file and a configuration after a journal, on standard output.
+    Run {
+        image: &'a str,
+        config: &'a str,
+        journal: &'a str,
+    },
 }
 
 /// Does what was asked for, on files, standard input and standard output. `words` touches no file; `asm` neither reads
-/// standard input nor writes standard output.
+/// standard input nor writes standard output; `run` doesn't read standard input.
 pub fn perform<F: Files, R: Read, W: Write>(
     alloc: Global,
     files: &mut F,
@@ -35,9 +46,18 @@ pub fn perform<F: Files, R: Read, W: Write>(
     ensures asm_object { IfAsm request.entry (λ source out.
         AsmFilesEnd F.opened F.created F.Input.remaining F.Output.contents files.old source out result files.new) }
     ensures asm_streams { IfAsm request.entry (λ _ _. (input.new ≡ input.old) × (output.new ≡ output.old)) }
+    ensures run_report { IfRun request.entry (λ image config journal.
+        RunFilesEnd F.opened F.Input.remaining files.old image config journal
+        (W.contents output.old) (W.contents output.new) result files.new) }
+    ensures run_input { IfRun request.entry (λ _ _ _. input.new ≡ input.old) }
 {
     match request {
         Request::Words { steps } => words(alloc, input, output, steps),
         Request::Asm { source, out } => asm_files(alloc, files, source, out),
+        Request::Run {
+            image,
+            config,
+            journal,
+        } => run_files(alloc, files, image, config, journal, output),
     }
 }

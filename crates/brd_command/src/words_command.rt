@@ -1,13 +1,12 @@
 //! The command `words`.
 
-ghost use Rattle.std.specs.Prelude.{◌≡◌, ◌≤◌, length, replicate, IfOk, IfSome};
-ghost use Rattle.brd_board.specs.Board.{after};
-ghost use Rattle.brd_board.specs.declared.event.Event.TheVariants.{Step};
+ghost use Rattle.std.specs.Prelude.{◌≡◌, ◌≤◌, length, IfOk, IfSome};
 ghost use Rattle.brd_command.specs.Shown.{board_shown};
 ghost use Rattle.brd_command.specs.WordsCommand.{ShowsWords, WordsEnds};
 
 use crate::fault::CommandFault;
 use crate::input::read_whole;
+use crate::input_name::InputName;
 use crate::output::write_whole;
 use crate::shown::{show_context, show_fault};
 use crate::word_text::{WordsFault, parse_words};
@@ -27,7 +26,7 @@ pub fn words<R: Read, W: Write>(
     ensures { IfSome (R.remaining reader.old) (λ input.
         WordsEnds result input steps (W.contents writer.old) (W.contents writer.new)) }
 {
-    let text = match read_whole(alloc, reader) {
+    let text = match read_whole(alloc, InputName::StandardInput, reader) {
         Ok(text) => text,
         Err(fault) => return Err(fault),
     };
@@ -53,17 +52,8 @@ fn output_of(alloc: Global, words: &[u32], steps: u32) -> Result<Vec<u8>, NoMemo
         Err(BootFault::NoMemory) => return Err(NoMemory),
         Err(_) => unreachable!(),
     };
-    step_board(&mut board, steps);
+    board.repeat(Event::Step(1), steps);
     shown_board(alloc, &board)
-}
-
-/// Lets processor 1 execute so many instructions.
-fn step_board(board: &mut Board, steps: u32)
-    ensures { board.new ≡ after board.old (replicate steps (Step 1)) }
-{
-    for _ in 0..steps {
-        let _ = board.event(Event::Step(1));
-    }
 }
 
 /// What is written of a board.

@@ -1,5 +1,6 @@
 mod fakes;
 mod files;
+mod run;
 
 use brd_asm::AsmFault;
 use brd_command::{CommandFault, asm, words};
@@ -45,6 +46,14 @@ impl Tested {
         }
     }
 
+    /// What a fault calls its input.
+    fn name(self) -> &'static str {
+        match self {
+            Tested::Words => "standard input",
+            Tested::Asm => "the source",
+        }
+    }
+
     /// What it writes for its input.
     fn output(self, alloc: Global) -> Result<Vec<u8>, Fail> {
         let mut reader = self.input();
@@ -86,18 +95,13 @@ fn each_read_fails(rt: HostRuntime) -> Result<(), Fail> {
     let alloc = rt.alloc();
     for tested in [Tested::Words, Tested::Asm] {
         let reads = tested.input().len().saturating_add(1);
+        let text = format!(in alloc; "can't read {}: the reader's own words", tested.name())?;
         for fails_at in 1..=reads {
             let mut reader = Bytewise::new(tested.input());
             reader.fails_at = fails_at;
             let mut writer = Taking::new(alloc);
             let result = tested.run(alloc, &mut reader, &mut writer);
-            assert_fault(
-                &rt,
-                alloc,
-                result,
-                "can't read the input: the reader's own words",
-                4,
-            )?;
+            assert_fault(&rt, alloc, result, text.as_str(), 4)?;
             assert_eq!(rt; reader.reads, fails_at);
             assert_eq!(rt; writer.writes, 0);
         }
@@ -160,13 +164,8 @@ fn reads_end(rt: HostRuntime) -> Result<(), Fail> {
         let mut reader = Busy { reads: 0 };
         let mut writer = Taking::new(alloc);
         let result = tested.run(alloc, &mut reader, &mut writer);
-        assert_fault(
-            &rt,
-            alloc,
-            result,
-            "the input didn't end within 268,435,456 reads",
-            4,
-        )?;
+        let text = format!(in alloc; "{} didn't end within 268,435,456 reads", tested.name())?;
+        assert_fault(&rt, alloc, result, text.as_str(), 4)?;
         assert_eq!(rt; reader.reads, 268_435_456);
         assert_eq!(rt; writer.writes, 0);
     }

@@ -1,5 +1,5 @@
-//! Builds the board of a source and a configuration, and loads it once more from the source's object file: for the test
-//! that refuses each growth of both. Standard input is the source, a line `---`, and the configuration. For each of the
+//! Builds the board of a source and a configuration, loads it once more from the source's object file, and copies it: for
+//! the test that refuses each growth of all three. Standard input is the source, a line `---`, and the configuration. For each of the
 //! two boards it prints the reports of 100 steps of processor 1, a letter each (r `Ran`, c `Called`, o `Off`, - any
 //! other), and the console.
 #![tactic(auto)]
@@ -43,12 +43,12 @@ fn told_of_source(alloc: Global, source: &str, config: &str) -> Result<String> {
     }
 }
 
-/// What is told of the board that is loaded from the object file.
+/// What is told of a copy of the board that is loaded from the object file.
 fn told_of_file(alloc: Global, source: &str, config: &str) -> Result<String> {
     let image = assemble(alloc, source.as_bytes())?;
     let file = brd_elf::write(alloc, &image)?;
     match load(alloc, &file, config.as_bytes()) {
-        Ok(mut board) => Ok(stepped(alloc, &mut board)?),
+        Ok(board) => Ok(stepped(alloc, &mut board.try_copy()?)?),
         Err(fault) => bail!("{fault}"),
     }
 }
