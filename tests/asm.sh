@@ -38,9 +38,9 @@ printf 'something else' > "$work/object"
 "$board" asm / "$work/object" > "$work/out" 2> "$work/err"
 got=$?
 [ -s "$work/object" ] && got="$got, and OUT isn't empty"
-check "asm: a source that can't be read" 4 "$work/nothing" "board: can't read the input: $is_directory" "$got"
+check "asm: a source that can't be read" 4 "$work/nothing" "board: can't read the source: $is_directory" "$got"
 head -c 134217729 /dev/zero > "$work/source"
-asm "a source above the limit" 4 "board: the input is longer than 134,217,728 bytes"
+asm "a source above the limit" 4 "board: the source is longer than 134,217,728 bytes"
 
 # What a name holds that isn't printable ASCII is shown as '?', and no more than its first 255 bytes are.
 name=$'no\nsuch\t\e[31m\xc3\xa4 '

@@ -38,7 +38,7 @@ words "1,000,000 steps" 0 "$work/wanted" "" 1000000
 
 # Reading and writing.
 "$board" words 1 < / > "$work/out" 2> "$work/err"
-check "words: input that can't be read" 4 "$work/nothing" "board: can't read the input: $is_directory" $?
+check "words: input that can't be read" 4 "$work/nothing" "board: can't read standard input: $is_directory" $?
 "$board" words 1 < /dev/null > /dev/full 2> "$work/err"
 got=$?
 : > "$work/out"
@@ -51,7 +51,7 @@ is_broken="$( (trap '' PIPE; echo x | LC_ALL=C cat 2>&1 >&4) | sed 's/.*: //') (
 check "words: a pipe that nobody reads" 4 "$work/nothing" "board: can't write the output: $is_broken" $?
 exec 4>&-
 head -c 134217729 /dev/zero | tr '\0' ' ' > "$work/in"
-words "input above the limit" 4 "$work/nothing" "board: the input is longer than 134,217,728 bytes" 1
+words "input above the limit" 4 "$work/nothing" "board: standard input is longer than 134,217,728 bytes" 1
 head -c 134217728 "$work/in" > "$work/in2"
 mv "$work/in2" "$work/in"
 printf 'pc 80000004\n$29 80010000\n' > "$work/wanted"

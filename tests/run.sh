@@ -1,0 +1,85 @@
+#!/bin/bash
+# The tests of `board run`: tests/run.sh PROGRAM. Each folder of tests/scenarios is one: `source.s`, which is assembled, or
+# the object file `image.elf`; `config.cfg`; `journal`; and `report`, what `run` prints, or `fault`, what it says on standard
+# error with status 1. The head of the source says what happens in it. What of that is seen in registers and memory alone
+# is no part of a report: crates/board_rows has most of these scenes too, and compares all. What no folder can say follows.
+. "$(dirname "$0")/check.sh"
+. tests/growths.sh
+
+# run NAME STATUS OUTPUT-FILE ERROR IMAGE CONFIG JOURNAL: runs `board run`.
+run() {
+    "$board" run "$5" "$6" "$7" < /dev/null > "$work/out" 2> "$work/err"
+    check "run: $1" "$2" "$3" "$4" $?
+}
+
+for folder in tests/scenarios/*/; do
+    name=$(basename "$folder")
+    image=$folder/image.elf
+    if [ -e "$folder/source.s" ]; then
+        image=$work/image
+        if ! "$board" asm "$folder/source.s" "$image" 2> "$work/err"; then
+            fail "run: $name" "$(cat "$work/err")"
+            continue
+        fi
+    fi
+    if [ -e "$folder/fault" ]; then
+        run "$name" 1 "$work/nothing" "$(cat "$folder/fault")" "$image" "$folder/config.cfg" "$folder/journal"
+    else
+        run "$name" 0 "$folder/report" "" "$image" "$folder/config.cfg" "$folder/journal"
+    fi
+done
+
+# The examples: each that has a journal prints its report.
+for journal in examples/*/*.journal; do
+    name=${journal%.journal}
+    "$board" asm "$name.s" "$work/image" 2> "$work/err" || fail "run: $name" "$(cat "$work/err")"
+    run "$name" 0 "$name.report" "" "$work/image" "$name.cfg" "$journal"
+done
+
+# The files are opened in the order of the arguments, before any is read.
+hello=tests/scenarios/hello
+"$board" asm $hello/source.s "$work/hello"
+for missing in 5 6 7; do
+    arguments=("$work/hello" $hello/config.cfg $hello/journal)
+    for ((i = missing - 5; i < 3; i++)); do arguments[i]=$work/nosuch$i; done
+    run "argument $((missing - 4)) is missing" 4 "$work/nothing" \
+        "board: can't open $work/nosuch$((missing - 5)): $is_missing" "${arguments[@]}"
+done
+run "CONFIG is a folder" 4 "$work/nothing" "board: can't read the configuration: $is_directory" "$work/hello" / $hello/journal
+run "IMAGE is a folder" 4 "$work/nothing" "board: can't read the object file: $is_directory" / / /
+run "JOURNAL is a folder" 4 "$work/nothing" "board: can't read the journal: $is_directory" "$work/hello" $hello/config.cfg /
+
+# Files in each other's places.
+run "a source for IMAGE" 1 "$work/nothing" "board: the object file: no ELF file: it doesn't begin with the bytes 7F 45 4C 46" $hello/source.s $hello/config.cfg $hello/journal
+
+# A report that can't be written.
+if [ -e /dev/full ]; then
+    "$board" run "$work/hello" $hello/config.cfg $hello/journal > /dev/full 2> "$work/err"
+    status=$?
+    : > "$work/out"
+    check "run: a full output" 4 "$work/nothing" "board: can't write the output: $is_full" $status
+fi
+
+# An input one byte too long: the journal's newlines are never looked at.
+head -c 134217729 /dev/zero > "$work/long"
+run "a journal that is too long" 4 "$work/nothing" "board: the journal is longer than 134,217,728 bytes" \
+    "$work/hello" $hello/config.cfg "$work/long"
+rm "$work/long"
+
+# As many runs as a journal may have, none of which has a neighbour of its event, and one more.
+{ echo 'board-journal 1'; yes $'S 1 1\nT 1' | head -n 4194304; } > "$work/journal"
+sed 's/^events 6$/events 4194304/; s/^tick 0$/tick 4/' $hello/report > "$work/wanted"
+run "4,194,304 runs" 0 "$work/wanted" "" "$work/hello" $hello/config.cfg "$work/journal"
+echo 'S 1 1' >> "$work/journal"
+run "4,194,305 runs" 1 "$work/nothing" "board: the journal: its events need more runs than its limit" \
+    "$work/hello" $hello/config.cfg "$work/journal"
+echo 'S 1 1 ' >> "$work/journal"
+run "a wrong line behind 4,194,305 runs" 1 "$work/nothing" "board: the journal: its events need more runs than its limit" \
+    "$work/hello" $hello/config.cfg "$work/journal"
+rm "$work/journal"
+
+: > "$work/in"
+cp $hello/report "$work/wanted"
+refuse_each "run" 3 "board: out of memory" "$board" run "$work/hello" $hello/config.cfg $hello/journal
+
+summary

@@ -1,0 +1,4 @@
+# Ext_ker on one processor turns all off.
+one: nop
+two: addiu $v0, $0, 41
+syscall
