@@ -398,11 +398,8 @@ impl Kernel {
         let Some(processor) = self.processor(cpu) else {
             return false
         };
-        if processor.is_held() {
-            return false;
-        }
         let running = self.tasks.top(cpu);
-        if is_same_task(processor.running, running) {
+        if is_same_task(processor.running, running) || processor.is_held() {
             return false;
         }
         self.put_processor(
