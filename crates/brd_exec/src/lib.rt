@@ -16,6 +16,3 @@ mod value;
 pub use context::Context;
 pub use execute::run;
 pub use outcome::{ExceptionCode, Outcome};
-
-#[cfg(test)]
-mod tests;

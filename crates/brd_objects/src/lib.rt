@@ -22,6 +22,3 @@ pub use semaphore::Semaphore;
 pub use semaphores::Semaphores;
 pub use sent::{Received, Sent};
 pub use want::{Mode, Want};
-
-#[cfg(test)]
-mod tests;

@@ -11,6 +11,3 @@ mod syscall;
 pub use gate::{Caller, read, write};
 pub use place::{Asked, Place};
 pub use syscall::call;
-
-#[cfg(test)]
-mod tests;

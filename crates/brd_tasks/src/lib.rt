@@ -16,6 +16,3 @@ pub use reply::answer;
 pub use status::{Status, TaskId, TaskState, WaitReason};
 pub use task::{Request, Task, TaskSetup, TaskView};
 pub use tasks::Tasks;
-
-#[cfg(test)]
-mod tests;

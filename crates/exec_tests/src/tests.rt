@@ -2,7 +2,7 @@
 
 ghost use Rattle.std.specs.Prelude.{◌≤◌};
 
-use crate::{Context, ExceptionCode, Outcome, run};
+use brd_exec::{Context, ExceptionCode, Outcome, run};
 use brd_isa::Register;
 use brd_link::Links;
 use brd_mem::Ram;

@@ -1,8 +1,8 @@
-use super::*;
 use bitflags::Flags as Bits;
 use brd_config::{
     FlagAttributes, FlagConfig, QueueAttributes, QueueConfig, SemaphoreAttributes, SemaphoreConfig,
 };
+use brd_objects::*;
 use std::alloc::Global;
 use std::test::Fail;
 

@@ -1,7 +1,7 @@
-use super::*;
 use brd_exec::Context;
 use brd_isa::Register;
 use brd_kernel::{Call, Ercd, Reply};
+use brd_sysgate::*;
 
 /// A context with this number in $v0 and these arguments in $a0 to $a3.
 fn asks(number: u32, a0: u32, a1: u32) -> Context {

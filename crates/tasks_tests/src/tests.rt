@@ -1,7 +1,7 @@
-use super::*;
 use brd_base::NoMemory;
 use brd_exec::Context;
 use brd_isa::Register;
+use brd_tasks::*;
 use std::alloc::Global;
 use std::test::Fail;
 
