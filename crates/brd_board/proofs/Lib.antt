@@ -12,3 +12,4 @@ pub mod OffLemmas
 pub mod GateLemmas
 pub mod RunningLemmas
 pub mod OwnLemmas
+pub mod SizeLemmas

@@ -1,4 +1,5 @@
 pub mod Board
+pub mod Snapshot
 pub mod Setup
 pub mod Boot
 pub mod History

@@ -21,7 +21,8 @@ ghost use Rattle.brd_board.specs.Board.{
 ghost use Rattle.brd_board.specs.declared.event.Event.TheVariants.{Step};
 ghost use Rattle.brd_board.specs.Setup.{Boots};
 ghost use Rattle.brd_board.specs.Boot.{boot, booted_kernel, boot_words, words_config};
-ghost use Rattle.brd_mem.specs.Memory.{byte_at};
+ghost use Rattle.brd_board.specs.Snapshot.{snapshot_of, restored, Fits};
+ghost use Rattle.brd_mem.specs.Memory.{byte_at, size_of};
 ghost use Rattle.brd_mem.specs.Image.{image_of_words, IsLoadable};
 
 use crate::boot::BootFault;
@@ -29,6 +30,7 @@ use crate::event::{Event, Report};
 use crate::links::end_links;
 use crate::load::loaded;
 use crate::setup::{handlers_of, setups_of, start_all};
+use crate::snapshot::Snapshot;
 use crate::view::Fault;
 use brd_base::{BASE, List, NoMemory, copy_with_room, same_slices};
 use brd_config::{Config, Operand, Stack, TaskAttributes, TaskConfig};
@@ -115,6 +117,36 @@ impl Board {
             && self.ram.same(&other.ram)
             && self.links == other.links
             && same_slices(self.faults.as_slice(), other.faults.as_slice())
+    }
+
+    /// A snapshot over a boot whose RAM has the same size.
+    pub fn snapshot(&self, boot: &Board) -> Result<Snapshot, NoMemory>
+        requires sizes { size_of self.now.memory ≡ size_of boot.now.memory }
+        ensures is { IfOk result (λ snapshot. snapshot ≡ snapshot_of boot.now self.now) }
+        ensures fits { IfOk result (Fits boot.now) }
+        ensures back { IfOk result (λ snapshot. restored boot.now snapshot ≡ self.now) }
+    {
+        Ok(Snapshot {
+            kernel: self.kernel.try_copy()?,
+            pages: self.ram.pages(&boot.ram)?,
+            links: self.links,
+            faults: copy_with_room(&self.faults, 0)?,
+        })
+    }
+
+    /// The board that a snapshot over this boot was taken of.
+    pub fn from_snapshot(boot: &Board, snapshot: &Snapshot) -> Result<Board, NoMemory>
+        requires fits { Fits boot.now snapshot.now }
+        ensures { IfOk result (λ board. board ≡ restored boot.now snapshot.now) }
+    {
+        let mut ram = boot.ram.try_copy()?;
+        ram.put_back(&boot.ram, &snapshot.pages);
+        Ok(Board {
+            kernel: snapshot.kernel.try_copy()?,
+            ram,
+            links: snapshot.links,
+            faults: copy_with_room(&snapshot.faults, 0)?,
+        })
     }
 
     /// Does one event. It takes no memory. Each loop over events has its own copy, which keeps what it needs in registers.

@@ -3,6 +3,7 @@
 ghost use Rattle.std.specs.Prelude.{◌≡◌, ◌≤◌, ℕ, true, List, None, Some, Ok};
 ghost use Rattle.brd_link.specs.LinkSet.{linked_address};
 ghost use Rattle.brd_mem.specs.declared.image.Image.{Image as ImageOf};
+ghost use Rattle.brd_mem.specs.Memory.{size_of};
 ghost use Rattle.brd_config.specs.Configuration.{Configuration, IsConfiguration};
 ghost use Rattle.brd_queue.specs.Queue.{has, AreApart};
 ghost use Rattle.brd_tasks.specs.Tasks.{task_at, ready_on};
@@ -99,4 +100,10 @@ pub fn who_is_ready_stands_in_its_list()
         ≡ is_ready_on (task_at (after board events).kernel.tasks id) cpu }
     ensures once { (image : ImageOf) (config : Configuration) (board : BoardState) (events : List EventOf) (cpu : ℕ) →
         IsConfiguration config → boot image config ≡ Ok board → AreApart (ready_on (after board events).kernel.tasks cpu) }
+{}
+
+/// No event changes the size of RAM.
+pub fn ram_keeps_its_size()
+    ensures { (board : BoardState) (events : List EventOf) →
+        size_of (after board events).memory ≡ size_of board.memory }
 {}

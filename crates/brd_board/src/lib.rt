@@ -10,10 +10,12 @@ pub mod laws;
 mod links;
 mod load;
 mod setup;
+mod snapshot;
 mod view;
 
 pub use board::Board;
 pub use boot::BootFault;
 pub use brd_kernel::{Standing, TaskId, TaskState, TaskView, WaitReason};
 pub use event::{Event, Report};
+pub use snapshot::Snapshot;
 pub use view::Fault;

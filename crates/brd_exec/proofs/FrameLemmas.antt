@@ -93,43 +93,50 @@ inside-placed : (inside : Bool) (there new : Memory) (outside : Exc) → (if ins
 inside-placed true there new outside is = record { is_whole = refl; is_inside = refl; gives = sym (ap (λ r. unwrap_ok r there) is) }
 inside-placed false there new outside is = absurd (false≢true (ap is_ok is))
 
+-- a memory after a store into the block of an address
+pub record IsStored (address : ℕ) (old new : Memory) : Type 0 where
+  pub others : SameOutside address old new
+  pub size : size_of new ≡ size_of old
+
 -- what is put where it fits leaves the words of other blocks
 put-same : (memory new : Memory) (start : ℕ) (bytes : List ℕ) (address : ℕ) → new ≡ with_bytes memory (start - base) bytes →
     base ≤ start → start + length bytes ≤ base + size_of memory →
-    address / 16 * 16 ≤ start → start + length bytes ≤ address / 16 * 16 + 16 → SameOutside address memory new
-put-same memory new start bytes address is from to low high =
-    subst (SameOutside address memory) (sym is) (put-frame memory start bytes address from to low high)
+    address / 16 * 16 ≤ start → start + length bytes ≤ address / 16 * 16 + 16 → IsStored address memory new
+put-same memory new start bytes address is from to low high = record {
+  others = subst (SameOutside address memory) (sym is) (put-frame memory start bytes address from to low high);
+  size = ap size_of is ∙ length-put memory.bytes (start - base) bytes (omega (arith, from, to));
+}
 
-pub same-stored : (op : StoreOp) (memory : Memory) (address word : ℕ) (new : Memory) → store_gives op memory address word ≡ Ok new →
-    SameOutside address memory new
-same-stored StoreOp.Sb memory address word new is =
+pub is-stored : (op : StoreOp) (memory : Memory) (address word : ℕ) (new : Memory) → store_gives op memory address word ≡ Ok new →
+    IsStored address memory new
+is-stored StoreOp.Sb memory address word new is =
     let at : ℕ = address - base in
     let it = placed (address % 1 == 0) (contains (size_of memory) address 1) (λ at. put_byte memory at (word % 2 ^ 8)) at Exc.DBE Exc.AdES new is in
     let from : base ≤ address = grind (arith, nat_tests, it.is_inside) in
     let to : address + 1 ≤ base + size_of memory = grind (arith, nat_tests, it.is_inside) in
     put-same memory new address ((word % 2 ^ 8) ∷ []) address it.gives from to (omega arith) (omega arith)
-same-stored StoreOp.Sh memory address word new is =
+is-stored StoreOp.Sh memory address word new is =
     let at : ℕ = address - base in
     let it = placed (address % 2 == 0) (contains (size_of memory) address 2) (λ at. put_half memory at (word % 2 ^ 16)) at Exc.DBE Exc.AdES new is in
     let from : base ≤ address = grind (arith, nat_tests, it.is_inside) in
     let to : address + 2 ≤ base + size_of memory = grind (arith, nat_tests, it.is_inside) in
     let multiple : address % 2 ≡ 0 = grind (arith, nat_tests, it.is_whole) in
     put-same memory new address (bytes_of_half (word % 2 ^ 16)) address it.gives from to (omega arith) (omega arith)
-same-stored StoreOp.Sw memory address word new is =
+is-stored StoreOp.Sw memory address word new is =
     let at : ℕ = address - base in
     let it = placed (address % 4 == 0) (contains (size_of memory) address 4) (λ at. put_word memory at word) at Exc.DBE Exc.AdES new is in
     let from : base ≤ address = grind (arith, nat_tests, it.is_inside) in
     let to : address + 4 ≤ base + size_of memory = grind (arith, nat_tests, it.is_inside) in
     let multiple : address % 4 ≡ 0 = grind (arith, nat_tests, it.is_whole) in
     put-same memory new address (bytes_of_word word) address it.gives from to (omega arith) (omega arith)
-same-stored StoreOp.Swl memory address word new is =
+is-stored StoreOp.Swl memory address word new is =
     let bytes : List ℕ = take (4 - address % 4) (bytes_of_word word) in
     let it = inside-placed (contains (size_of memory) (aligned address) 4) (with_bytes memory (address - base) bytes) new Exc.DBE is in
     let from : base ≤ aligned address = grind (arith, nat_tests, it.is_inside) in
     let to : aligned address + 4 ≤ base + size_of memory = grind (arith, nat_tests, it.is_inside) in
     let wide : length bytes ≡ 4 - address % 4 = length-take-le (4 - address % 4) (bytes_of_word word) (omega arith) in
     put-same memory new address bytes address it.gives (omega (arith, from)) (omega (arith, to, wide)) (omega arith) (omega (arith, wide))
-same-stored StoreOp.Swr memory address word new is =
+is-stored StoreOp.Swr memory address word new is =
     let bytes : List ℕ = drop (3 - address % 4) (bytes_of_word word) in
     let it = inside-placed (contains (size_of memory) (aligned address) 4) (with_bytes memory (aligned address - base) bytes) new Exc.DBE is in
     let from : base ≤ aligned address = grind (arith, nat_tests, it.is_inside) in

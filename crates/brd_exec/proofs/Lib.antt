@@ -4,3 +4,4 @@ pub mod FrameLemmas
 pub mod StepLemmas
 pub mod KeptLemmas
 pub mod ZeroLemmas
+pub mod SizeLemmas

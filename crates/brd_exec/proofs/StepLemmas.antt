@@ -13,7 +13,7 @@ use Rattle.brd_exec.specs.State.{State, read}
 use Rattle.brd_exec.specs.Action.{Action, with_word, action}
 use Rattle.brd_exec.specs.Step.{Effect, unless_stopped, stores, loads_linked, stores_if_linked, store_gives, load_gives, with_code, done, of_next, next_instruction, effect, ended, meaning, ran}
 use Rattle.brd_exec.specs.Did.{Did, LoadedLinked, StoredAt, Conditional, Passed, Ended, did_load_linked, did_store, did_conditional, did_action, did_next, did}
-use Rattle.brd_exec.proofs.FrameLemmas.{SameOutside, same-stored}
+use Rattle.brd_exec.proofs.FrameLemmas.{SameOutside, is-stored}
 
 -- what something that a processor did makes of memory and links
 abbrev pub Moved : Memory → LinkSet → ℕ → Did → Memory → LinkSet → Type 0
@@ -38,7 +38,7 @@ does-unless cpu s memory links (Err (Stop.Raise code)) = (refl, refl)
 
 does-stores : (cpu : ℕ) (s : State) (memory : Memory) (links : LinkSet) (op : StoreOp) (address word : ℕ) (stored : Result Memory Exc) →
     store_gives op memory address word ≡ stored → Does s memory links cpu (did_store address stored) (stores cpu s links address stored)
-does-stores cpu s memory links op address word (Ok new) is = (same-stored op memory address word new is, refl)
+does-stores cpu s memory links op address word (Ok new) is = ((is-stored op memory address word new is).others, refl)
 does-stores cpu s memory links op address word (Err exc) is = (refl, refl)
 
 does-linked : (cpu : ℕ) (s : State) (memory : Memory) (links : LinkSet) (rt address : ℕ) (word : Result ℕ Exc) → loaded32 memory address ≡ word →
@@ -49,7 +49,7 @@ does-linked cpu s memory links rt address (Err exc) is = (refl, refl)
 does-if_linked : (cpu : ℕ) (s : State) (memory : Memory) (links : LinkSet) (rt address word : ℕ) (linked : Bool) (stored : Result Memory Exc) →
     is_linked links cpu address ≡ linked → stored32 memory address word ≡ stored →
     Does s memory links cpu (did_conditional address linked stored) (stores_if_linked cpu s memory links rt address linked stored)
-does-if_linked cpu s memory links rt address word true (Ok new) has is = (has, same-stored StoreOp.Sw memory address word new is, refl)
+does-if_linked cpu s memory links rt address word true (Ok new) has is = (has, (is-stored StoreOp.Sw memory address word new is).others, refl)
 does-if_linked cpu s memory links rt address word false (Ok new) has is = (refl, refl)
 does-if_linked cpu s memory links rt address word linked (Err exc) has is = (refl, refl)
 

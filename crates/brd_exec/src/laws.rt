@@ -55,3 +55,9 @@ pub fn register_0_stays_0()
     ensures { (cpu : ℕ) (s : State) (memory : Memory) (links : LinkSet) →
         read s 0 ≡ 0 → read (ran cpu s memory links).state 0 ≡ 0 }
 {}
+
+/// No instruction changes the size of RAM.
+pub fn ram_keeps_its_size()
+    ensures { (cpu : ℕ) (s : State) (memory : Memory) (links : LinkSet) →
+        size_of (ran cpu s memory links).memory ≡ size_of memory }
+{}

@@ -1,1 +1,2 @@
 mod ImageLemmas
+mod PageLemmas

@@ -1,3 +1,4 @@
 pub mod Memory
 pub mod Image
 pub mod Access
+pub mod Pages

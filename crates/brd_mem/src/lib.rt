@@ -4,12 +4,14 @@
 mod fault;
 mod image;
 pub mod laws;
+mod pages;
 mod plain;
 mod ram;
 mod words;
 
 pub use fault::{Exc, RamFault};
 pub use image::{Bytes, Image, Segment, Segments, Symbol, Symbols};
+pub use pages::{PAGE_SIZE, Page, Pages};
 pub use plain::is_plain;
 pub use ram::Ram;
 

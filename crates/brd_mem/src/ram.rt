@@ -1,6 +1,6 @@
 //! The RAM.
 
-ghost use Rattle.std.specs.Prelude.{◌≡◌, Decides, ℕ, ◌+◌, ◌-◌, ◌<◌, ◌≤◌, ◌↔◌, length, true, IfOk, IsErrOf};
+ghost use Rattle.std.specs.Prelude.{◌≡◌, Decides, ℕ, ◌+◌, ◌-◌, ◌*◌, ◌^◌, ◌<◌, ◌≤◌, ◌↔◌, ◌++◌, length, true, OnOk, IfOk, IsErrOf};
 ghost use Rattle.brd_base.specs.Space.{base, IsRamSize};
 ghost use Rattle.brd_word.specs.Words.{bytes_of_word};
 ghost use Rattle.brd_mem.specs.Memory.{Memory, size_of, zeros, contains, bytes_at, with_bytes, copied, byte_at};
@@ -16,8 +16,10 @@ ghost use Rattle.brd_mem.specs.Access.{
   storable32,
   Stores,
 };
+ghost use Rattle.brd_mem.specs.Pages.{page_size, page_of, with_pages, differing_at, differing, LieWithin};
 
 use crate::fault::{Exc, RamFault};
+use crate::pages::{PAGE_SIZE, Page, Pages};
 use brd_base::{BASE, NoMemory, copy_with_room, is_ram_size};
 use brd_word::{bytes_of, half_bytes_of, half_of, word_of};
 use std::alloc::Global;
@@ -185,6 +187,59 @@ impl Ram {
         ensures same_size { size_of self.new ≡ size_of self.old }
     {
         self.put_bytes((address - BASE) as usize, bytes);
+    }
+
+    /// The pages in which it differs from a RAM of its size, with the bytes that it has there itself.
+    pub fn pages(&self, base: &Ram) -> Result<Pages, NoMemory>
+        requires sizes { size_of self.now ≡ size_of base.now }
+        ensures is { IfOk result (λ pages. pages ≡ differing base.now self.now) }
+        ensures within { IfOk result (LieWithin (size_of base.now)) }
+        ensures back { IfOk result (λ pages. with_pages base.now pages ≡ self.now) }
+    {
+        let mut pages = Pages::new(*self.bytes.allocator());
+        for number in 0..self.bytes.len() / PAGE_SIZE {
+            self.note_page(number, base, &mut pages)?;
+        }
+        Ok(pages)
+    }
+
+    /// Puts a page at the end of these, unless the base has the same bytes there.
+    fn note_page(&self, number: usize, base: &Ram, pages: &mut Pages) -> Result<(), NoMemory>
+        requires sizes { size_of self.now ≡ size_of base.now }
+        requires within { number * page_size + page_size ≤ size_of self.now }
+        requires few { number < 2 ^ 12 }
+        ensures { OnOk result (pages.new ≡ pages.old ++ differing_at number base.now self.now) }
+    {
+        if self.page(number) != base.page(number) {
+            pages.push(Page {
+                number: number as u16,
+                bytes: self.bytes_at(number * PAGE_SIZE),
+            })?;
+        }
+        Ok(())
+    }
+
+    /// Becomes a RAM of its size with these pages in their places. So it becomes the one that they were taken of, where
+    /// that was compared with this base.
+    pub fn put_back(&mut self, base: &Ram, pages: &Pages)
+        requires sizes { size_of self.old ≡ size_of base.now }
+        requires within { LieWithin (size_of base.now) pages.now }
+        ensures { self.new ≡ with_pages base.now pages.now }
+    {
+        self.bytes.copy_from_slice(base.bytes.as_slice());
+        for page in pages.as_slice() {
+            self.put_bytes(page.number as usize * PAGE_SIZE, &page.bytes);
+        }
+    }
+
+    /// The bytes of a page.
+    fn page(&self, number: usize) -> &[u8]
+        requires { number * page_size + page_size ≤ size_of self.now }
+        ensures { result.now ≡ (page_of self.now number).bytes }
+    {
+        let bytes = self.bytes.as_slice();
+        let at = number * PAGE_SIZE;
+        &bytes[at..at + PAGE_SIZE]
     }
 
     /// The bytes from a place on.

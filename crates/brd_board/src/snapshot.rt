@@ -1,0 +1,28 @@
+//! Snapshots.
+
+use crate::view::Fault;
+use brd_kernel::Kernel;
+use brd_link::Links;
+use brd_mem::Pages;
+use std::marker::Model;
+
+/// What is kept of a board so that it can be had again from the boot: the pages of RAM in which they differ, and the
+/// rest whole.
+#[derive(Drop)]
+pub struct Snapshot {
+    pub(crate) kernel: Kernel,
+    pub(crate) pages: Pages,
+    pub(crate) links: Links,
+    pub(crate) faults: Vec<Option<Fault>>,
+}
+
+impl Model for Snapshot {
+    ghost use Rattle.std.specs.Prelude.{◌≡◌, length};
+    ghost use Rattle.brd_board.specs.Snapshot.{SnapshotState};
+
+    ghost Value = { SnapshotState };
+
+    ghost view = { λ s. record { kernel = s.kernel; pages = s.pages; links = s.links; faults = s.faults.items } };
+
+    ghost invariant = { λ s. length s.faults.items ≡ 9 };
+}

@@ -1,0 +1,18 @@
+//! Pages of a RAM.
+
+use brd_base::List;
+
+/// How many bytes a page has (own choice).
+pub const PAGE_SIZE: usize = 4_096;
+
+/// So many bytes of a RAM, from a multiple of their number on.
+#[derive(Clone, Copy)]
+pub struct Page {
+    /// Which page it is, counted from 0 at the first byte of RAM.
+    pub number: u16,
+    /// Its bytes.
+    pub bytes: [u8; PAGE_SIZE],
+}
+
+/// A list of pages.
+pub type Pages = List<Page>;
