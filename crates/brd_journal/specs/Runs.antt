@@ -1,6 +1,6 @@
 -- The runs of a list of events (own choice): its longest stretches of equal events, each cut from the front into pieces of the
 -- greatest count.
-use Rattle.std.specs.Prelude.{◌≡◌, ℕ, zero, suc, ◌+◌, ◌/◌, ◌%◌, ◌≤◌, ◌==◌, Bool, true, false, if◌then◌else◌, List, [], ◌∷◌, ◌++◌, replicate, Option, None, Some}
+use Rattle.std.specs.Prelude.{◌≡◌, ℕ, zero, suc, ◌+◌, ◌/◌, ◌%◌, ◌≤◌, ◌==◌, Bool, true, false, if◌then◌else◌, List, [], ◌∷◌, ◌++◌, length, drop, replicate, Option, None, Some}
 use Rattle.std.specs.List.{flat_map}
 use Rattle.brd_board.specs.declared.event.Event.{Event}
 use Rattle.brd_board.specs.declared.event.Event.TheVariants.{Step, Tick, Raise}
@@ -72,3 +72,8 @@ AreCut (run ∷ runs) = (1 ≤ run.count) × (run.count ≤ most_count) × (firs
 pub record AreRunsOf (events : List Event) (runs : List Run) : Type 0 where
   pub same : events_of runs ≡ events
   pub cut : AreCut runs
+
+-- What is left of a run behind so many events: how often its event still comes from there on, before others do. None behind the last one.
+abbrev pub IsRest : List Event → ℕ → Option Run → Type 0
+IsRest events others None = length events ≤ others
+IsRest events others (Some rest) = (1 ≤ rest.count) × (drop others events ≡ copies rest.event rest.count ++ drop (others + rest.count) events)

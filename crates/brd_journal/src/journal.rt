@@ -5,12 +5,12 @@ ghost use Rattle.brd_board.specs.Board.{after};
 ghost use Rattle.brd_journal.specs.Faults.{Gives};
 ghost use Rattle.brd_journal.specs.Journal.{most_runs, appended};
 ghost use Rattle.brd_journal.specs.Reading.{journal_of};
-ghost use Rattle.brd_journal.specs.Runs.{copies, events_of, runs_of};
+ghost use Rattle.brd_journal.specs.Runs.{IsRest, copies, events_of, runs_of};
 ghost use Rattle.brd_journal.specs.Text.{text_of};
 
 use crate::fault::JournalFault;
 use crate::run::Run;
-use crate::runs::{add, event_after};
+use crate::runs::{add, rest_after};
 use crate::writing::written;
 use brd_base::NoMemory;
 use brd_board::{Board, Event};
@@ -91,7 +91,16 @@ impl Journal {
     pub fn event_at(&self, others: u64) -> Option<Event>
         ensures { result ≡ slice_get self.now.events others }
     {
-        event_after(&self.runs, others)
+        let rest = self.rest_at(others)?;
+        Some(rest.event)
+    }
+
+    /// What is left of a run behind so many events: its event, and how often that still comes. It takes time as there
+    /// are runs.
+    pub fn rest_at(&self, others: u64) -> Option<Run>
+        ensures { IsRest self.now.events others result }
+    {
+        rest_after(&self.runs, others)
     }
 
     /// The runs: the longest stretches of equal events, each cut from the front into pieces of 4,294,967,295.

@@ -1,9 +1,9 @@
 //! Lists of runs.
 
-ghost use Rattle.std.specs.Prelude.{◌≡◌, ◌≤◌, length, slice_get, OnErr};
+ghost use Rattle.std.specs.Prelude.{◌≡◌, ◌≤◌, length, OnErr};
 ghost use Rattle.brd_journal.specs.Adding.{room_in, added_within};
 ghost use Rattle.brd_journal.specs.Faults.{Gives};
-ghost use Rattle.brd_journal.specs.Runs.{AreCut, events_of, same_event};
+ghost use Rattle.brd_journal.specs.Runs.{AreCut, IsRest, events_of, same_event};
 
 use crate::fault::JournalFault;
 use crate::run::Run;
@@ -57,14 +57,17 @@ pub(crate) fn add(
     Ok(())
 }
 
-/// The event that so many others of the runs stand before.
-pub(crate) fn event_after(runs: &[Run], others: u64) -> Option<Event>
-    ensures { result ≡ slice_get (events_of runs.now) others }
+/// What is left of a run behind so many events of the runs: its event, and how often that still comes.
+pub(crate) fn rest_after(runs: &[Run], others: u64) -> Option<Run>
+    ensures { IsRest (events_of runs.now) others result }
 {
     let mut left = others;
     for run in runs {
         if left < run.count as u64 {
-            return Some(run.event);
+            return Some(Run {
+                event: run.event,
+                count: run.count - left as u32,
+            });
         }
         left -= run.count as u64;
     }

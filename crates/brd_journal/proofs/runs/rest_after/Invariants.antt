@@ -1,8 +1,7 @@
 use Rattle.std.proofs.Common.{◌≡◌, drop}
-use Rattle.std.specs.Prelude.{slice_get}
 use Rattle.brd_journal.specs.Runs.{events_of}
-use Rattle.brd_journal.proofs.runs.event_after.Given as goal
+use Rattle.brd_journal.proofs.runs.rest_after.Given as goal
 
--- the event is the one that so many others of the runs that are left stand before
+-- behind so many events of the runs that are left stands what stands behind the others of all runs
 abbrev pub invariant-loop-run : goal.invariant-loop-run
-invariant-loop-run l = slice_get (events_of (drop l.run-index l.runs)) l.left ≡ slice_get (events_of l.runs) l.fn.others
+invariant-loop-run l = drop l.left (events_of (drop l.run-index l.runs)) ≡ drop l.fn.others (events_of l.runs)
