@@ -6,7 +6,7 @@ use Rattle.brd_board.specs.Board.{BoardState, happens, after}
 use Rattle.brd_journal.specs.declared.run.Run.{Run}
 use Rattle.brd_journal.specs.Runs.{copies, events_of}
 
-after-append : (b : BoardState) (front behind : List Event) → after b (front ++ behind) ≡ after (after b front) behind
+pub after-append : (b : BoardState) (front behind : List Event) → after b (front ++ behind) ≡ after (after b front) behind
 after-append b [] behind = refl
 after-append b (event ∷ front) behind = after-append (happens b event).board front behind
 

@@ -52,13 +52,13 @@ past_all events others none = omega (arith, length-drop others events, ap length
 
 -- its event is the one behind the others
 
-slice_get-drop : (events : List Event) (n : ℕ) → slice_get (drop n events) 0 ≡ slice_get events n
+pub slice_get-drop : (events : List Event) (n : ℕ) → slice_get (drop n events) 0 ≡ slice_get events n
 slice_get-drop [] zero = refl
 slice_get-drop [] (suc n) = refl
 slice_get-drop (e ∷ events) zero = refl
 slice_get-drop (e ∷ events) (suc n) = slice_get-drop events n
 
-first-of : (e : Event) (count : ℕ) (es : List Event) → 1 ≤ count → Some e ≡ slice_get (copies e count ++ es) 0
+pub first-of : (e : Event) (count : ℕ) (es : List Event) → 1 ≤ count → Some e ≡ slice_get (copies e count ++ es) 0
 first-of e zero es some = absurd (omega (arith, some))
 first-of e (suc count) es some = rw (copies-suc e count) refl
 

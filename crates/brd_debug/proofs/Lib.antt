@@ -1,0 +1,4 @@
+mod MarkLemmas
+mod PlayingLemmas
+mod SearchLemmas
+mod KeptLemmas

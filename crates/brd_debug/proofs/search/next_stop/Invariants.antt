@@ -1,0 +1,17 @@
+-- Up to where the board has played, there is no stop behind the position.
+use Rattle.std.proofs.Common.{◌≤◌, ◌+◌, ◌-◌, length}
+use Rattle.brd_debug.specs.Kept.{IsPlayed, AreKept}
+use Rattle.brd_debug.specs.Stops.{IsStop}
+use Rattle.brd_debug.proofs.SearchLemmas.{NoneFrom}
+use Rattle.brd_debug.proofs.search.next_stop.Given as goal
+
+abbrev pub invariant-loop-playback : goal.invariant-loop-playback
+invariant-loop-playback l = record {
+  from : l.shown.at + 1 ≤ l.playback.at;
+  none : NoneFrom (IsStop l.stops l.boot l.journal.events) (l.shown.at + 1) l.playback.at;
+  played : IsPlayed l.boot l.journal.events l.playback;
+  kept : AreKept l.boot l.journal.events l.snapshots;
+}
+
+abbrev pub decreases-loop-playback : goal.decreases-loop-playback
+decreases-loop-playback l = length l.journal.events - l.playback.at

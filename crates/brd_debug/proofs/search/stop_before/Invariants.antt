@@ -1,0 +1,14 @@
+-- There is no stop from here up to the position.
+use Rattle.std.proofs.Common.{◌≤◌}
+use Rattle.brd_debug.specs.Stops.{IsStop}
+use Rattle.brd_debug.proofs.SearchLemmas.{NoneFrom}
+use Rattle.brd_debug.proofs.search.stop_before.Given as goal
+
+abbrev pub invariant-loop-to : goal.invariant-loop-to
+invariant-loop-to l = record {
+  below : l.to ≤ l.shown.at;
+  none : NoneFrom (IsStop l.stops l.boot l.journal.events) l.to l.shown.at;
+}
+
+abbrev pub decreases-loop-to : goal.decreases-loop-to
+decreases-loop-to l = l.to

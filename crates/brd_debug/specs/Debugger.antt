@@ -1,0 +1,28 @@
+-- A debugger: a boot, the events of a journal, how many of them have happened to the board that it shows, and where it stops.
+use Rattle.std.specs.Prelude.{◌≡◌, ◌⊎◌, ℕ, ◌+◌, ◌<◌, ◌≤◌, List, length, Option, Some, None, Result, Ok, Err}
+use Rattle.brd_board.specs.declared.event.Event.{Event}
+use Rattle.brd_board.specs.Board.{BoardState}
+use Rattle.brd_debug.specs.declared.fault.DebugFault.{DebugFault}
+use Rattle.brd_debug.specs.declared.fault.DebugFault.TheVariants.{NoMemory, Past}
+use Rattle.brd_debug.specs.declared.stops.Stops.{Stops}
+use Rattle.brd_debug.specs.Stops.{board_at}
+
+pub record DebuggerState : Type 0 where
+  pub boot : BoardState
+  pub events : List Event
+  pub position : ℕ
+  pub stops : Stops
+
+-- the board that it shows: the one after the first events
+abbrev pub shown : DebuggerState → BoardState
+shown d = board_at d.boot d.events d.position
+
+-- A move to a position answers that it is past the end, and nothing else, exactly where there are fewer events.
+pub record Goes (d : DebuggerState) (position : ℕ) (result : Result Unit DebugFault) : Type 0 where
+  pub past : length d.events < position → result ≡ Err (Past (length d.events))
+  pub goes : position ≤ length d.events → (result ≡ Ok _) ⊎ (result ≡ Err NoMemory)
+
+-- what a search answers, and where it leads: to the stop that it found, or nowhere
+abbrev pub went : DebuggerState → Option ℕ → DebuggerState
+went d None = d
+went d (Some position) = record d { position = position }

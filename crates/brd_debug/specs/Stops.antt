@@ -1,0 +1,63 @@
+-- Where a debugger stops: at breaks, and where watched bytes change (own choice).
+use Rattle.std.specs.Prelude.{◌≡◌, ◌≢◌, ◌⊎◌, ℕ, ◌+◌, ◌<◌, ◌≤◌, ◌==◌, ◌||◌, nat_le, if◌then◌else◌, Bool, false, List, [], ◌∷◌, ◌++◌, length, take, slice_get, Option, Some, None, Contains}
+use Rattle.brd_mem.specs.Memory.{Memory, byte_at}
+use Rattle.brd_board.specs.declared.event.Event.{Event}
+use Rattle.brd_board.specs.declared.event.Report.{Report}
+use Rattle.brd_board.specs.declared.event.Report.TheVariants as report
+use Rattle.brd_board.specs.Board.{BoardState, happens, after}
+use Rattle.brd_debug.specs.declared.stops.Stops.{Stops}
+
+-- how many breaks there may be, and how many watches
+abbrev pub most_marks : ℕ
+most_marks = 64
+
+-- an address is one of the breaks or watches
+abbrev pub is_marked : List ℕ → ℕ → Bool
+is_marked [] address = false
+is_marked (mark ∷ marks) address = mark == address || is_marked marks address
+
+-- breaks or watches with one more, unless it is one already or there are as many as there may be
+abbrev pub marked : List ℕ → ℕ → List ℕ
+marked marks address = if is_marked marks address || nat_le most_marks (length marks) then marks else marks ++ address ∷ []
+
+-- An event executed an instruction at a break, whether it ended well, at a SYSCALL or by an exception.
+abbrev pub IsBreak : List ℕ → Report → Type 0
+IsBreak breaks (report.Ran address) = Contains breaks address
+IsBreak breaks (report.Called address) = Contains breaks address
+IsBreak breaks (report.Faulted address) = Contains breaks address
+IsBreak breaks (report.Accepted line) = ⊥
+IsBreak breaks report.Idle = ⊥
+IsBreak breaks report.Stopped = ⊥
+IsBreak breaks report.NoSuch = ⊥
+IsBreak breaks report.Ticked = ⊥
+IsBreak breaks report.TimeOver = ⊥
+IsBreak breaks report.Raised = ⊥
+IsBreak breaks report.Off = ⊥
+
+-- A watched byte differs between two memories.
+abbrev pub Differs : List ℕ → Memory → Memory → Type 0
+Differs watches before behind = (address : ℕ) × Contains watches address × (byte_at before address ≢ byte_at behind address)
+
+-- an event, as it happens to a board, is one at which a debugger stops
+abbrev pub StopsAt : Stops → BoardState → Event → Type 0
+StopsAt stops board event = IsBreak stops.breaks (happens board event).report ⊎ Differs stops.watches board.memory (happens board event).board.memory
+
+-- The board after the first so many events.
+abbrev pub board_at : BoardState → List Event → ℕ → BoardState
+board_at boot events position = after boot (take position events)
+
+-- A position is a stop where the event behind it is one.
+pub record IsStop (stops : Stops) (boot : BoardState) (events : List Event) (position : ℕ) : Type 0 where
+  pub event : Event
+  pub there : slice_get events position ≡ Some event
+  pub stops_there : StopsAt stops (board_at boot events position) event
+
+-- the least stop from a position on, before another one
+abbrev pub IsLeast : (ℕ → Type 0) → ℕ → ℕ → Option ℕ → Type 0
+IsLeast Stop from to (Some n) = (from ≤ n) × (n < to) × Stop n × ((m : ℕ) → from ≤ m → m < n → Stop m → ⊥)
+IsLeast Stop from to None = (m : ℕ) → from ≤ m → m < to → Stop m → ⊥
+
+-- the greatest stop from a position on, before another one
+abbrev pub IsGreatest : (ℕ → Type 0) → ℕ → ℕ → Option ℕ → Type 0
+IsGreatest Stop from to (Some n) = (from ≤ n) × (n < to) × Stop n × ((m : ℕ) → n < m → m < to → Stop m → ⊥)
+IsGreatest Stop from to None = (m : ℕ) → from ≤ m → m < to → Stop m → ⊥

@@ -1,0 +1,8 @@
+-- The bytes at watched addresses.
+use Rattle.std.specs.Prelude.{◌≡◌, ℕ, ◌<◌, List, length, slice_index, slice_index_or, Option, None}
+use Rattle.brd_mem.specs.Memory.{Memory, byte_at}
+
+-- the bytes that a memory has at addresses, in their order
+abbrev pub AreBytesAt : List ℕ → Memory → List (Option ℕ) → Type 0
+AreBytesAt addresses memory bytes =
+    (i : ℕ) → i < length addresses → slice_index_or bytes i None ≡ byte_at memory (slice_index addresses i)

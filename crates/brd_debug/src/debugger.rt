@@ -1,0 +1,156 @@
+//! The debugger.
+
+ghost use Rattle.std.specs.Prelude.{◌≡◌, ◌+◌, ◌<◌, ◌≤◌, ◌^◌, [], length, take, OnOk, OnErr, IfOk, IfSome};
+ghost use Rattle.brd_board.specs.Board.{after};
+ghost use Rattle.brd_debug.specs.Debugger.{shown, Goes, went};
+ghost use Rattle.brd_debug.specs.Kept.{IsPlayed, AreKept};
+ghost use Rattle.brd_debug.specs.Stops.{is_marked, marked, IsStop, IsLeast, IsGreatest};
+
+use crate::fault::DebugFault;
+use crate::playback::Playback;
+use crate::search::{next_stop, played_to, stop_before};
+use crate::snapshots::Snapshots;
+use crate::stops::Stops;
+use brd_base::NoMemory;
+use brd_board::Board;
+use brd_journal::Journal;
+use std::alloc::Global;
+use std::marker::Model;
+
+/// A debugger: shows the board after so many events of a journal, and finds the events at which it stops.
+#[derive(Drop)]
+pub struct Debugger {
+    boot: Board,
+    journal: Journal,
+    stops: Stops,
+    shown: Playback,
+    snapshots: Snapshots,
+}
+
+impl Model for Debugger {
+    ghost use Rattle.brd_debug.specs.Debugger.{DebuggerState};
+    ghost use Rattle.brd_debug.specs.Kept.{IsPlayed, AreKept};
+
+    ghost Value = { DebuggerState };
+
+    ghost view = { λ d. record { boot = d.boot; events = d.journal.events; position = d.shown.at; stops = d.stops } };
+
+    ghost invariant = { λ d. IsPlayed d.boot d.journal.events d.shown × AreKept d.boot d.journal.events d.snapshots };
+}
+
+impl Debugger {
+    /// A debugger of this boot and journal, before the first event and without stops.
+    pub fn new(alloc: Global, boot: Board, journal: Journal) -> Result<Debugger, NoMemory>
+        ensures { IfOk result (λ d. d ≡ record { boot = boot; events = journal.events; position = 0; stops = record { breaks = []; watches = [] } }) }
+    {
+        let board = boot.try_copy()?;
+        Ok(Debugger {
+            boot,
+            journal,
+            stops: Stops::new(),
+            shown: Playback { board, at: 0 },
+            snapshots: Snapshots::new(alloc),
+        })
+    }
+
+    /// How many events have happened to the board that it shows.
+    pub fn position(&self) -> u64
+        ensures { result ≡ self.now.position }
+    {
+        self.shown.at
+    }
+
+    /// The board after the first events of the journal, as many as its position says.
+    pub fn show(&self) -> &Board
+        ensures is { result.now ≡ shown self.now }
+        ensures after { result.now ≡ after self.now.boot (take self.now.position self.now.events) }
+    {
+        &self.shown.board
+    }
+
+    /// Stops from now on where an instruction at this address is executed, unless 64 others are set. Answers whether that
+    /// is set now.
+    pub fn add_break(&mut self, address: u32) -> bool
+        ensures is { self.new ≡ record self.old { stops = record self.old.stops { breaks = marked self.old.stops.breaks address } } }
+        ensures set { result ≡ is_marked self.new.stops.breaks address }
+    {
+        self.stops.breaks.add(address)
+    }
+
+    /// Stops from now on where the byte at this address changes, unless 64 others are watched. Answers whether it is
+    /// watched now.
+    pub fn add_watch(&mut self, address: u32) -> bool
+        ensures is { self.new ≡ record self.old { stops = record self.old.stops { watches = marked self.old.stops.watches address } } }
+        ensures set { result ≡ is_marked self.new.stops.watches address }
+    {
+        self.stops.watches.add(address)
+    }
+
+    /// Goes to a position: shows the board after so many events. An `Err` leaves it where it is.
+    pub fn goto(&mut self, position: u64) -> Result<(), DebugFault>
+        ensures goes { Goes self.old position result }
+        ensures ok { OnOk result (self.new ≡ record self.old { position = position }) }
+        ensures err { OnErr result (self.new ≡ self.old) }
+    {
+        let len = self.journal.len();
+        if position > len {
+            return Err(DebugFault::Past { len });
+        }
+        self.show_at(position)?;
+        Ok(())
+    }
+
+    /// Goes to the first stop behind its position. None, and no move, where there is none.
+    pub fn next_stop(&mut self) -> Result<Option<u64>, NoMemory>
+        ensures least { IfOk result (IsLeast (IsStop self.old.stops self.old.boot self.old.events) (self.old.position + 1) (length self.old.events)) }
+        ensures moved { IfOk result (λ found. self.new ≡ went self.old found) }
+        ensures err { OnErr result (self.new ≡ self.old) }
+    {
+        let found = next_stop(
+            &self.boot,
+            &self.journal,
+            &self.stops,
+            &mut self.snapshots,
+            &self.shown,
+        )?;
+        if let Some(position) = found {
+            self.show_at(position)?;
+        }
+        Ok(found)
+    }
+
+    /// Goes back to the last stop before its position. None, and no move, where there is none.
+    pub fn last_stop(&mut self) -> Result<Option<u64>, NoMemory>
+        ensures greatest { IfOk result (IsGreatest (IsStop self.old.stops self.old.boot self.old.events) 0 self.old.position) }
+        ensures moved { IfOk result (λ found. self.new ≡ went self.old found) }
+        ensures err { OnErr result (self.new ≡ self.old) }
+    {
+        let found = stop_before(
+            &self.boot,
+            &self.journal,
+            &self.stops,
+            &self.snapshots,
+            &self.shown,
+        )?;
+        if let Some(position) = found {
+            self.show_at(position)?;
+        }
+        Ok(found)
+    }
+
+    /// Shows the board after so many events.
+    fn show_at(&mut self, position: u64) -> Result<(), NoMemory>
+        requires { position ≤ length self.old.events }
+        ensures ok { OnOk result (self.new ≡ record self.old { position = position }) }
+        ensures err { OnErr result (self.new ≡ self.old) }
+    {
+        self.shown = played_to(
+            &self.boot,
+            &self.journal,
+            &mut self.snapshots,
+            &self.shown,
+            position,
+        )?;
+        Ok(())
+    }
+}

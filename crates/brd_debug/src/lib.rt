@@ -1,0 +1,16 @@
+//! The debugger: shows the board after any number of a journal's events, and searches forward and backward for the
+//! events at which it stops.
+//!
+//! `specs/Debugger.antt` says what it shows, `specs/Stops.antt` where it stops.
+#![tactic(auto)]
+
+mod debugger;
+mod fault;
+mod marks;
+mod playback;
+mod search;
+mod snapshots;
+mod stops;
+
+pub use debugger::Debugger;
+pub use fault::DebugFault;

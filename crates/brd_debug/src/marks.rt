@@ -1,0 +1,71 @@
+//! Sets of addresses.
+
+ghost use Rattle.std.specs.Prelude.{◌≡◌, ◌≤◌, Decides, Contains, [], length, take};
+ghost use Rattle.brd_debug.specs.Stops.{most_marks, is_marked, marked};
+
+use brd_lanes::hits;
+use std::marker::Model;
+
+/// How many addresses a set has at most.
+pub const MOST_MARKS: usize = 64;
+
+/// At most 64 addresses, each once. They take no memory of their own.
+#[derive(Drop)]
+pub struct Marks {
+    addresses: [u32; MOST_MARKS],
+    count: usize,
+}
+
+impl Model for Marks {
+    ghost use Rattle.std.specs.Prelude.{ℕ, ◌≤◌, List, take};
+
+    ghost Value = { List ℕ };
+
+    ghost view = { λ marks. take marks.count marks.addresses };
+
+    ghost invariant = { λ marks. marks.count ≤ 64 };
+}
+
+impl Marks {
+    /// No addresses.
+    pub fn new() -> Marks
+        ensures { result ≡ [] }
+    {
+        Marks {
+            addresses: [0; MOST_MARKS],
+            count: 0,
+        }
+    }
+
+    /// The addresses, in the order in which they came.
+    pub fn as_slice(&self) -> &[u32]
+        ensures is { result.now ≡ self.now }
+        ensures few { length result.now ≤ most_marks }
+    {
+        &self.addresses[..self.count]
+    }
+
+    /// Whether this address is one of them.
+    pub fn has(&self, address: u32) -> bool
+        ensures is { result ≡ is_marked self.now address }
+        ensures has { Decides result (Contains self.now address) }
+    {
+        hits(self.as_slice(), address)
+    }
+
+    /// Adds an address, unless there are 64 others. Answers whether it is one of them now.
+    pub fn add(&mut self, address: u32) -> bool
+        ensures is { self.new ≡ marked self.old address }
+        ensures added { result ≡ is_marked self.new address }
+    {
+        if self.has(address) {
+            return true;
+        }
+        if self.count == MOST_MARKS {
+            return false;
+        }
+        self.addresses[self.count] = address;
+        self.count += 1;
+        true
+    }
+}

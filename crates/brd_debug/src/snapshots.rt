@@ -1,0 +1,116 @@
+//! Snapshots of the boards that a journal makes.
+
+ghost use Rattle.std.specs.Prelude.{◌≡◌, ℕ, ◌+◌, ◌<◌, ◌≤◌, ◌^◌, ◌%◌, ◌==◌, List as ListOf, [], Contains, filter, IfSome};
+ghost use Rattle.brd_mem.specs.Memory.{size_of};
+ghost use Rattle.brd_board.specs.declared.event.Event.{Event as EventOf};
+ghost use Rattle.brd_board.specs.Board.{BoardState as BoardOf};
+ghost use Rattle.brd_debug.specs.Kept.{IsPlayed, IsKept, AreKept};
+
+use crate::playback::Playback;
+use brd_base::NoMemory;
+use brd_board::{Board, Snapshot};
+use std::alloc::Global;
+use std::marker::Model;
+
+/// How many events apart snapshots are at first.
+const FIRST_INTERVAL: u64 = 4_096;
+
+/// How many snapshots are kept at most.
+const MOST_KEPT: usize = 1_024;
+
+/// The snapshot of the board after so many events.
+#[derive(Drop)]
+pub struct Kept {
+    /// How many events.
+    pub at: u64,
+    /// The snapshot.
+    pub snapshot: Snapshot,
+}
+
+/// At most 1,024 snapshots, at multiples of an interval of events.
+#[derive(Drop)]
+pub struct Snapshots {
+    interval: u64,
+    kept: Vec<Kept>,
+}
+
+impl Model for Snapshots {
+    ghost use Rattle.std.specs.Prelude.{◌≤◌, ◌^◌, List, length};
+    ghost use Rattle.brd_debug.specs.declared.snapshots.Kept.{Kept};
+
+    ghost Value = { List Kept };
+
+    ghost view = { λ snapshots. snapshots.kept.items };
+
+    ghost invariant = { λ snapshots. (1 ≤ snapshots.interval) × (snapshots.interval ≤ 2 ^ 60) × (length snapshots.kept.items ≤ 1024) };
+}
+
+impl Snapshots {
+    /// No snapshots.
+    pub fn new(alloc: Global) -> Snapshots
+        ensures { result ≡ [] }
+    {
+        Snapshots {
+            interval: FIRST_INTERVAL,
+            kept: Vec::new(alloc),
+        }
+    }
+
+    /// The next multiple of the interval behind a position.
+    pub fn next(&self, at: u64) -> u64
+        requires { at < 2 ^ 60 }
+        ensures { at < result }
+    {
+        at - at % self.interval + self.interval
+    }
+
+    /// The last snapshot that was taken at or before a position.
+    pub fn nearest(&self, at: u64) -> Option<&Kept>
+        ensures { IfSome result (λ kept. Contains self.now kept.now × (kept.now.at ≤ at)) }
+    {
+        let mut found = None;
+        for kept in self.kept.as_slice() {
+            if kept.at <= at {
+                found = Some(kept);
+            }
+        }
+        found
+    }
+
+    /// Takes a snapshot of a board that has played up to a multiple of the interval, behind all that are kept. Where
+    /// there would be more than 1,024, the interval doubles first, and those that are no multiples of it are given up.
+    pub fn note(&mut self, boot: &Board, playback: &Playback) -> Result<(), NoMemory>
+        requires sizes { size_of playback.now.board.memory ≡ size_of boot.now.memory }
+        requires few { playback.now.at < 2 ^ 59 }
+        ensures { (events : ListOf EventOf) → IsPlayed boot.now events playback.now
+            → AreKept boot.now events self.old → AreKept boot.now events self.new }
+    {
+        if playback.at <= last(&self.kept) || playback.at % self.interval != 0 {
+            return Ok(());
+        }
+        if self.kept.len() < MOST_KEPT {
+            let snapshot = playback.board.snapshot(boot)?;
+            self.kept.push(Kept {
+                at: playback.at,
+                snapshot,
+            })?;
+        } else {
+            self.interval *= 2;
+            thin(&mut self.kept, self.interval);
+        }
+        Ok(())
+    }
+}
+
+/// The position of the last snapshot, 0 where there is none.
+fn last(kept: &[Kept]) -> u64 {
+    kept.last().map_or(0, |kept| kept.at)
+}
+
+/// Gives all snapshots up but those at multiples of an interval.
+fn thin(kept: &mut Vec<Kept>, interval: u64)
+    requires { 0 < interval }
+    ensures { kept.new.items ≡ filter (λ k. k.at % interval == 0) kept.old.items }
+{
+    kept.retain(|kept| kept.at % interval == 0);
+}

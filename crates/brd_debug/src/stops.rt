@@ -1,0 +1,79 @@
+//! Where a debugger stops.
+
+ghost use Rattle.std.specs.Prelude.{◌≡◌, ◌≤◌, Decides, [], length};
+ghost use Rattle.brd_debug.specs.Watching.{AreBytesAt};
+ghost use Rattle.brd_board.specs.Board.{happens};
+ghost use Rattle.brd_mem.specs.Memory.{Memory as MemoryOf};
+ghost use Rattle.brd_debug.specs.Stops.{most_marks, IsBreak, Differs, StopsAt};
+
+use crate::marks::{MOST_MARKS, Marks};
+use brd_board::{Board, Event, Report};
+
+/// Addresses of instructions, and addresses of bytes.
+#[derive(Drop)]
+pub struct Stops {
+    /// Where an instruction that is executed is a stop.
+    pub breaks: Marks,
+    /// Where a byte that changes is a stop.
+    pub watches: Marks,
+}
+
+impl Stops {
+    /// No stops.
+    pub fn new() -> Stops
+        ensures { result ≡ record { breaks = []; watches = [] } }
+    {
+        Stops {
+            breaks: Marks::new(),
+            watches: Marks::new(),
+        }
+    }
+
+    /// Lets an event happen to a board. Answers whether that is a stop.
+    pub fn happen(&self, board: &mut Board, event: Event) -> bool
+        ensures is { board.new ≡ (happens board.old event).board }
+        ensures stops { Decides result (StopsAt self.now board.old event) }
+    {
+        let watches = self.watches.as_slice();
+        let before = watched(watches, board);
+        let report = board.event(event);
+        self.is_break(report) || differ(watches, &before, board)
+    }
+
+    /// Whether an event with this report executed an instruction at a break.
+    fn is_break(&self, report: Report) -> bool
+        ensures { Decides result (IsBreak self.now.breaks report) }
+    {
+        match report {
+            Report::Ran(address) | Report::Called(address) | Report::Faulted(address) => {
+                self.breaks.has(address)
+            }
+            _ => false,
+        }
+    }
+}
+
+/// The bytes at watched addresses, in the order of these; None where RAM has none.
+fn watched(watches: &[u32], board: &Board) -> [Option<u8>; MOST_MARKS]
+    requires { length watches.now ≤ most_marks }
+    ensures { AreBytesAt watches.now board.now.memory result }
+{
+    let mut bytes = [None; MOST_MARKS];
+    for i in 0..watches.len() {
+        bytes[i] = board.memory(watches[i]);
+    }
+    bytes
+}
+
+/// Whether one of them is another byte now.
+fn differ(watches: &[u32], before: &[Option<u8>; MOST_MARKS], board: &Board) -> bool
+    requires { length watches.now ≤ most_marks }
+    ensures { (memory : MemoryOf) → AreBytesAt watches.now memory before.now → Decides result (Differs watches.now memory board.now.memory) }
+{
+    for i in 0..watches.len() {
+        if board.memory(watches[i]) != before[i] {
+            return true;
+        }
+    }
+    false
+}

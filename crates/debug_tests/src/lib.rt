@@ -1,0 +1,5 @@
+//! Tests of brd_debug: moves, stops, limits.
+#![tactic(auto)]
+
+#[cfg(test)]
+mod tests;
