@@ -1,5 +1,5 @@
 -- What a debugger keeps of the boards that a journal makes of its boot.
-use Rattle.std.specs.Prelude.{◌≡◌, ℕ, ◌≤◌, List, length, All}
+use Rattle.std.specs.Prelude.{◌≡◌, ℕ, ◌*◌, ◌%◌, ◌≤◌, ◌==◌, ◌&&◌, nat_lt, if◌then◌else◌, List, [], ◌∷◌, ◌++◌, length, map, filter, All}
 use Rattle.brd_board.specs.declared.event.Event.{Event}
 use Rattle.brd_board.specs.Board.{BoardState}
 use Rattle.brd_board.specs.Snapshot.{restored, Fits}
@@ -24,3 +24,35 @@ AreKept boot events kept = All (IsKept boot events) kept
 -- their pages lie inside the boot's RAM
 abbrev pub DoFit : BoardState → List Kept → Type 0
 DoFit boot kept = All (λ one. Fits boot one.snapshot) kept
+
+-- Snapshots, and how many events they are apart at least.
+pub record SnapshotsState : Type 0 where
+  pub interval : ℕ
+  pub kept : List Kept
+
+-- the same without what the snapshots show
+pub record Plan : Type 0 where
+  pub interval : ℕ
+  pub positions : List ℕ
+
+abbrev pub plan_of : SnapshotsState → Plan
+plan_of s = record { interval = s.interval; positions = map (λ kept. kept.at) s.kept }
+
+-- the last position, 0 where there is none
+abbrev pub last_of : List ℕ → ℕ
+last_of [] = 0
+last_of (position ∷ []) = position
+last_of (position ∷ next ∷ positions) = last_of (next ∷ positions)
+
+-- how many snapshots are kept at most
+abbrev pub most_kept : ℕ
+most_kept = 1024
+
+-- A snapshot is taken at a multiple of the interval behind all others. Where there would be more than 1,024, the interval doubles instead,
+-- and those that are no multiples of it any more are given up.
+abbrev pub noted : Plan → ℕ → Plan
+noted plan at =
+    if nat_lt (last_of plan.positions) at && (at % plan.interval == 0)
+    then (if nat_lt (length plan.positions) most_kept then record plan { positions = plan.positions ++ at ∷ [] }
+    else record { interval = plan.interval * 2; positions = filter (λ position. position % (plan.interval * 2) == 0) plan.positions })
+    else plan

@@ -35,7 +35,7 @@ impl Model for Debugger {
 
     ghost view = { λ d. record { boot = d.boot; events = d.journal.events; position = d.shown.at; stops = d.stops } };
 
-    ghost invariant = { λ d. IsPlayed d.boot d.journal.events d.shown × AreKept d.boot d.journal.events d.snapshots };
+    ghost invariant = { λ d. IsPlayed d.boot d.journal.events d.shown × AreKept d.boot d.journal.events d.snapshots.kept };
 }
 
 impl Debugger {

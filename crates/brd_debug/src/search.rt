@@ -22,11 +22,11 @@ pub(crate) fn played_to(
     to: u64,
 ) -> Result<Playback, NoMemory>
     requires shown { IsPlayed boot.now journal.now.events shown.now }
-    requires kept { AreKept boot.now journal.now.events snapshots.old }
+    requires kept { AreKept boot.now journal.now.events snapshots.old.kept }
     requires within { to ≤ length journal.now.events }
     ensures played { IfOk result (IsPlayed boot.now journal.now.events) }
     ensures at { IfOk result (λ playback. playback.at ≡ to) }
-    ensures kept { AreKept boot.now journal.now.events snapshots.new }
+    ensures kept { AreKept boot.now journal.now.events snapshots.new.kept }
 {
     let len = journal.len();
     let mut playback = nearest(boot, snapshots, shown, to)?;
@@ -47,9 +47,9 @@ pub(crate) fn next_stop(
     shown: &Playback,
 ) -> Result<Option<u64>, NoMemory>
     requires shown { IsPlayed boot.now journal.now.events shown.now }
-    requires kept { AreKept boot.now journal.now.events snapshots.old }
+    requires kept { AreKept boot.now journal.now.events snapshots.old.kept }
     ensures least { IfOk result (IsLeast (IsStop stops.now boot.now journal.now.events) (shown.now.at + 1) (length journal.now.events)) }
-    ensures kept { AreKept boot.now journal.now.events snapshots.new }
+    ensures kept { AreKept boot.now journal.now.events snapshots.new.kept }
 {
     let len = journal.len();
     if shown.at == len {
@@ -78,7 +78,7 @@ pub(crate) fn stop_before(
     shown: &Playback,
 ) -> Result<Option<u64>, NoMemory>
     requires shown { IsPlayed boot.now journal.now.events shown.now }
-    requires kept { AreKept boot.now journal.now.events snapshots.now }
+    requires kept { AreKept boot.now journal.now.events snapshots.now.kept }
     ensures { IfOk result (IsGreatest (IsStop stops.now boot.now journal.now.events) 0 shown.now.at) }
 {
     let mut to = shown.at;
@@ -96,9 +96,9 @@ pub(crate) fn stop_before(
 
 /// A board to play on from to a position: that of a snapshot at or before it, or the boot.
 fn from_snapshot(boot: &Board, snapshots: &Snapshots, to: u64) -> Result<Playback, NoMemory>
-    requires { DoFit boot.now snapshots.now }
+    requires { DoFit boot.now snapshots.now.kept }
     ensures at { IfOk result (λ playback. playback.at ≤ to) }
-    ensures played { (events : ListOf EventOf) → AreKept boot.now events snapshots.now → IfOk result (IsPlayed boot.now events) }
+    ensures played { (events : ListOf EventOf) → AreKept boot.now events snapshots.now.kept → IfOk result (IsPlayed boot.now events) }
 {
     let Some(kept) = snapshots.nearest(to) else {
         return Ok(Playback {
@@ -119,9 +119,9 @@ fn nearest(
     shown: &Playback,
     to: u64,
 ) -> Result<Playback, NoMemory>
-    requires { DoFit boot.now snapshots.now }
+    requires { DoFit boot.now snapshots.now.kept }
     ensures at { IfOk result (λ playback. playback.at ≤ to) }
-    ensures played { (events : ListOf EventOf) → IsPlayed boot.now events shown.now → AreKept boot.now events snapshots.now
+    ensures played { (events : ListOf EventOf) → IsPlayed boot.now events shown.now → AreKept boot.now events snapshots.now.kept
         → IfOk result (IsPlayed boot.now events) }
 {
     let kept = snapshots.nearest(to).map_or(0, |kept| kept.at);

@@ -1,10 +1,10 @@
 //! Snapshots of the boards that a journal makes.
 
-ghost use Rattle.std.specs.Prelude.{◌≡◌, ℕ, ◌+◌, ◌<◌, ◌≤◌, ◌^◌, ◌%◌, ◌==◌, List as ListOf, [], Contains, filter, IfSome};
+ghost use Rattle.std.specs.Prelude.{◌≡◌, ℕ, ◌+◌, ◌<◌, ◌≤◌, ◌^◌, ◌%◌, ◌==◌, List as ListOf, [], Contains, filter, map, OnOk, IfSome};
 ghost use Rattle.brd_mem.specs.Memory.{size_of};
 ghost use Rattle.brd_board.specs.declared.event.Event.{Event as EventOf};
 ghost use Rattle.brd_board.specs.Board.{BoardState as BoardOf};
-ghost use Rattle.brd_debug.specs.Kept.{IsPlayed, IsKept, AreKept};
+ghost use Rattle.brd_debug.specs.Kept.{IsPlayed, AreKept, plan_of, last_of, noted};
 
 use crate::playback::Playback;
 use brd_base::NoMemory;
@@ -35,12 +35,12 @@ pub struct Snapshots {
 }
 
 impl Model for Snapshots {
-    ghost use Rattle.std.specs.Prelude.{◌≤◌, ◌^◌, List, length};
-    ghost use Rattle.brd_debug.specs.declared.snapshots.Kept.{Kept};
+    ghost use Rattle.std.specs.Prelude.{◌≤◌, ◌^◌, length};
+    ghost use Rattle.brd_debug.specs.Kept.{SnapshotsState};
 
-    ghost Value = { List Kept };
+    ghost Value = { SnapshotsState };
 
-    ghost view = { λ snapshots. snapshots.kept.items };
+    ghost view = { λ snapshots. record { interval = snapshots.interval; kept = snapshots.kept.items } };
 
     ghost invariant = { λ snapshots. (1 ≤ snapshots.interval) × (snapshots.interval ≤ 2 ^ 60) × (length snapshots.kept.items ≤ 1024) };
 }
@@ -48,7 +48,7 @@ impl Model for Snapshots {
 impl Snapshots {
     /// No snapshots.
     pub fn new(alloc: Global) -> Snapshots
-        ensures { result ≡ [] }
+        ensures { result ≡ record { interval = 4096; kept = [] } }
     {
         Snapshots {
             interval: FIRST_INTERVAL,
@@ -66,7 +66,7 @@ impl Snapshots {
 
     /// The last snapshot that was taken at or before a position.
     pub fn nearest(&self, at: u64) -> Option<&Kept>
-        ensures { IfSome result (λ kept. Contains self.now kept.now × (kept.now.at ≤ at)) }
+        ensures { IfSome result (λ kept. Contains self.now.kept kept.now × (kept.now.at ≤ at)) }
     {
         let mut found = None;
         for kept in self.kept.as_slice() {
@@ -82,8 +82,9 @@ impl Snapshots {
     pub fn note(&mut self, boot: &Board, playback: &Playback) -> Result<(), NoMemory>
         requires sizes { size_of playback.now.board.memory ≡ size_of boot.now.memory }
         requires few { playback.now.at < 2 ^ 59 }
-        ensures { (events : ListOf EventOf) → IsPlayed boot.now events playback.now
-            → AreKept boot.now events self.old → AreKept boot.now events self.new }
+        ensures kept { (events : ListOf EventOf) → IsPlayed boot.now events playback.now
+            → AreKept boot.now events self.old.kept → AreKept boot.now events self.new.kept }
+        ensures noted { OnOk result (plan_of self.new ≡ noted (plan_of self.old) playback.now.at) }
     {
         if playback.at <= last(&self.kept) || playback.at % self.interval != 0 {
             return Ok(());
@@ -103,8 +104,13 @@ impl Snapshots {
 }
 
 /// The position of the last snapshot, 0 where there is none.
-fn last(kept: &[Kept]) -> u64 {
-    kept.last().map_or(0, |kept| kept.at)
+fn last(kept: &[Kept]) -> u64
+    ensures { result ≡ last_of (map (λ one. one.at) kept.now) }
+{
+    if kept.is_empty() {
+        return 0;
+    }
+    kept[kept.len() - 1].at
 }
 
 /// Gives all snapshots up but those at multiples of an interval.

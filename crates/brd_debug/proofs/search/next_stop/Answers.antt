@@ -27,9 +27,17 @@ loop-playback-preserved c =
           c.first_stop-found.result (sym c.is_some.ensures ∙ c.if-is_some.false)
           (c.first_stop-found.ensures.least c.args.boot.now c.loop-playback.invariant.played)));
       played = c.first_stop-found.ensures.played c.args.boot.now c.loop-playback.invariant.played;
-      kept = c.in_ok-note.ensures c.args.journal.now.events c.loop-playback.invariant.played c.loop-playback.invariant.kept;
+      kept = c.in_ok-note.ensures.kept c.args.journal.now.events c.loop-playback.invariant.played c.loop-playback.invariant.kept;
     }
 
 pub returns-clause-least : goal.returns-clause-least
 returns-clause-least c = λ m above below stop.
     c.loop-playback.invariant.none m above (omega (arith, below, c.loop-playback-test.false, c.len-len.ensures.len)) stop
+
+pub returns-in_err-note-clause-kept : goal.returns-in_err-note-clause-kept
+returns-in_err-note-clause-kept c =
+    c.in_err-note.ensures.kept c.args.journal.now.events c.loop-playback.invariant.played c.loop-playback.invariant.kept
+
+pub returns-then-is_some-clause-kept : goal.returns-then-is_some-clause-kept
+returns-then-is_some-clause-kept c =
+    c.in_ok-note.ensures.kept c.args.journal.now.events c.loop-playback.invariant.played c.loop-playback.invariant.kept

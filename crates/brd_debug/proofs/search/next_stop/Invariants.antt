@@ -10,7 +10,7 @@ invariant-loop-playback l = record {
   from : l.shown.at + 1 ≤ l.playback.at;
   none : NoneFrom (IsStop l.stops l.boot l.journal.events) (l.shown.at + 1) l.playback.at;
   played : IsPlayed l.boot l.journal.events l.playback;
-  kept : AreKept l.boot l.journal.events l.snapshots;
+  kept : AreKept l.boot l.journal.events l.snapshots.kept;
 }
 
 abbrev pub decreases-loop-playback : goal.decreases-loop-playback

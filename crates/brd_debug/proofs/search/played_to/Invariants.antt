@@ -7,7 +7,7 @@ abbrev pub invariant-loop-playback : goal.invariant-loop-playback
 invariant-loop-playback l = record {
   on : l.playback.at ≤ l.to;
   played : IsPlayed l.boot l.journal.events l.playback;
-  kept : AreKept l.boot l.journal.events l.snapshots;
+  kept : AreKept l.boot l.journal.events l.snapshots.kept;
 }
 
 abbrev pub decreases-loop-playback : goal.decreases-loop-playback
