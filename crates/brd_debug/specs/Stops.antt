@@ -7,7 +7,7 @@ use Rattle.brd_board.specs.declared.event.Report.TheVariants as report
 use Rattle.brd_board.specs.Board.{BoardState, happens, after}
 use Rattle.brd_debug.specs.declared.stops.Stops.{Stops}
 
--- how many breaks there may be, and how many watches
+-- how many breaks there may be, and how many watches (own choice)
 abbrev pub most_marks : ℕ
 most_marks = 64
 
@@ -20,7 +20,7 @@ is_marked (mark ∷ marks) address = mark == address || is_marked marks address
 abbrev pub marked : List ℕ → ℕ → List ℕ
 marked marks address = if is_marked marks address || nat_le most_marks (length marks) then marks else marks ++ address ∷ []
 
--- An event executed an instruction at a break, whether it ended well, at a SYSCALL or by an exception.
+-- An event's report names a break: the instruction there was executed, was a SYSCALL, or raised an exception, also by its fetch.
 abbrev pub IsBreak : List ℕ → Report → Type 0
 IsBreak breaks (report.Ran address) = Contains breaks address
 IsBreak breaks (report.Called address) = Contains breaks address

@@ -55,7 +55,8 @@ impl Debugger {
 
     /// How many events have happened to the board that it shows.
     pub fn position(&self) -> u64
-        ensures { result ≡ self.now.position }
+        ensures is { result ≡ self.now.position }
+        ensures within { result ≤ length self.now.events }
     {
         self.shown.at
     }
@@ -78,7 +79,7 @@ impl Debugger {
     }
 
     /// Stops from now on where the byte at this address changes, unless 64 others are watched. Answers whether it is
-    /// watched now.
+    /// watched now. Where RAM has no byte nothing changes.
     pub fn add_watch(&mut self, address: u32) -> bool
         ensures is { self.new ≡ record self.old { stops = record self.old.stops { watches = marked self.old.stops.watches address } } }
         ensures set { result ≡ is_marked self.new.stops.watches address }
@@ -100,7 +101,8 @@ impl Debugger {
         Ok(())
     }
 
-    /// Goes to the first stop behind its position. None, and no move, where there is none.
+    /// Goes to the first stop behind its position, and answers that. None, and no move, where there is none. An `Err`
+    /// leaves it where it is.
     pub fn next_stop(&mut self) -> Result<Option<u64>, NoMemory>
         ensures least { IfOk result (IsLeast (IsStop self.old.stops self.old.boot self.old.events) (self.old.position + 1) (length self.old.events)) }
         ensures moved { IfOk result (λ found. self.new ≡ went self.old found) }
@@ -119,7 +121,8 @@ impl Debugger {
         Ok(found)
     }
 
-    /// Goes back to the last stop before its position. None, and no move, where there is none.
+    /// Goes back to the last stop before its position, and answers that. None, and no move, where there is none. An
+    /// `Err` leaves it where it is.
     pub fn last_stop(&mut self) -> Result<Option<u64>, NoMemory>
         ensures greatest { IfOk result (IsGreatest (IsStop self.old.stops self.old.boot self.old.events) 0 self.old.position) }
         ensures moved { IfOk result (λ found. self.new ≡ went self.old found) }

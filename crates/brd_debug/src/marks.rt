@@ -6,7 +6,7 @@ ghost use Rattle.brd_debug.specs.Stops.{most_marks, is_marked, marked};
 use brd_lanes::hits;
 use std::marker::Model;
 
-/// How many addresses a set has at most.
+/// How many addresses a set has at most (own choice).
 pub const MOST_MARKS: usize = 64;
 
 /// At most 64 addresses, each once. They take no memory of their own.

@@ -1,6 +1,6 @@
 //! Snapshots of the boards that a journal makes.
 
-ghost use Rattle.std.specs.Prelude.{◌≡◌, ℕ, ◌+◌, ◌<◌, ◌≤◌, ◌^◌, ◌%◌, ◌==◌, List as ListOf, [], Contains, filter, map, OnOk, IfSome};
+ghost use Rattle.std.specs.Prelude.{◌≡◌, ℕ, ◌+◌, ◌<◌, ◌≤◌, ◌^◌, ◌%◌, ◌==◌, List as ListOf, [], Contains, filter, map, OnOk, OnErr, IfSome};
 ghost use Rattle.brd_mem.specs.Memory.{size_of};
 ghost use Rattle.brd_board.specs.declared.event.Event.{Event as EventOf};
 ghost use Rattle.brd_board.specs.Board.{BoardState as BoardOf};
@@ -12,10 +12,10 @@ use brd_board::{Board, Snapshot};
 use std::alloc::Global;
 use std::marker::Model;
 
-/// How many events apart snapshots are at first.
+/// How many events apart snapshots are at first (own choice).
 const FIRST_INTERVAL: u64 = 4_096;
 
-/// How many snapshots are kept at most.
+/// How many snapshots are kept at most (own choice).
 const MOST_KEPT: usize = 1_024;
 
 /// The snapshot of the board after so many events.
@@ -78,13 +78,14 @@ impl Snapshots {
     }
 
     /// Takes a snapshot of a board that has played up to a multiple of the interval, behind all that are kept. Where
-    /// there would be more than 1,024, the interval doubles first, and those that are no multiples of it are given up.
+    /// there would be more than 1,024, the interval doubles instead, and those that are no multiples of it are given up.
     pub fn note(&mut self, boot: &Board, playback: &Playback) -> Result<(), NoMemory>
         requires sizes { size_of playback.now.board.memory ≡ size_of boot.now.memory }
         requires few { playback.now.at < 2 ^ 59 }
         ensures kept { (events : ListOf EventOf) → IsPlayed boot.now events playback.now
             → AreKept boot.now events self.old.kept → AreKept boot.now events self.new.kept }
         ensures noted { OnOk result (plan_of self.new ≡ noted (plan_of self.old) playback.now.at) }
+        ensures err { OnErr result (self.new ≡ self.old) }
     {
         if playback.at <= last(&self.kept) || playback.at % self.interval != 0 {
             return Ok(());

@@ -25,11 +25,11 @@ at_run events runs i n others d h within so_far =
     let behind = events_of (drop (i + 1) runs) in
     let left : ℕ = run.count - n in
     let here : drop others events ≡ copies run.event left ++ behind =
-        sym so_far ∙ opened runs i n d h ∙ among run.event run.count n behind (omega (arith, within)) in
+    sym so_far ∙ opened runs i n d h ∙ among run.event run.count n behind (omega (arith, within)) in
     let none : left - left ≡ 0 = omega arith in
     let next : drop (others + left) events ≡ behind =
-        sym (drop-drop left others events) ∙ ap (drop left) here ∙ among run.event left left behind (omega arith)
-        ∙ ap (λ k. copies run.event k ++ behind) none ∙ rw (copies-zero run.event) refl in
+    sym (drop-drop left others events) ∙ ap (drop left) here ∙ among run.event left left behind (omega arith)
+    ∙ ap (λ k. copies run.event k ++ behind) none ∙ rw (copies-zero run.event) refl in
     (omega (arith, within), here ∙ ap (λ rest. copies run.event left ++ rest) (sym next))
 
 pub past_run : (events : List Event) (runs : List Run) (i n others : ℕ) (d : Run) → i < length runs → (get_or runs i d).count ≤ n →
@@ -41,7 +41,7 @@ past_run events runs i n others d h past so_far =
     let there : run.count + (n - run.count) ≡ n = omega (arith, past) in
     let none : run.count - run.count ≡ 0 = omega arith in
     sym (ap (drop (n - run.count)) (among run.event run.count run.count behind (omega arith)
-      ∙ ap (λ k. copies run.event k ++ behind) none ∙ rw (copies-zero run.event) refl))
+    ∙ ap (λ k. copies run.event k ++ behind) none ∙ rw (copies-zero run.event) refl))
     ∙ drop-drop (n - run.count) run.count (copies run.event run.count ++ behind)
     ∙ ap (λ k. drop k (copies run.event run.count ++ behind)) there
     ∙ sym (opened runs i n d h) ∙ so_far

@@ -73,7 +73,7 @@ pub record AreRunsOf (events : List Event) (runs : List Run) : Type 0 where
   pub same : events_of runs ≡ events
   pub cut : AreCut runs
 
--- What is left of a run behind so many events: how often its event still comes from there on, before others do. None behind the last one.
+-- What is left of a run behind so many events: its event, which comes at least so often from there on. None behind the last one.
 abbrev pub IsRest : List Event → ℕ → Option Run → Type 0
 IsRest events others None = length events ≤ others
 IsRest events others (Some rest) = (1 ≤ rest.count) × (drop others events ≡ copies rest.event rest.count ++ drop (others + rest.count) events)

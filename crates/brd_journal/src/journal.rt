@@ -95,8 +95,8 @@ impl Journal {
         Some(rest.event)
     }
 
-    /// What is left of a run behind so many events: its event, and how often that still comes. It takes time as there
-    /// are runs.
+    /// What is left of a run behind so many events: its event, and how often the run has that from there on. It takes
+    /// time as there are runs.
     pub fn rest_at(&self, others: u64) -> Option<Run>
         ensures { IsRest self.now.events others result }
     {

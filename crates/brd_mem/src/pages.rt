@@ -5,7 +5,7 @@ use brd_base::List;
 /// How many bytes a page has (own choice).
 pub const PAGE_SIZE: usize = 4_096;
 
-/// So many bytes of a RAM, from a multiple of their number on.
+/// A page of a RAM: 4,096 bytes, from a multiple of 4,096 on.
 #[derive(Clone, Copy)]
 pub struct Page {
     /// Which page it is, counted from 0 at the first byte of RAM.

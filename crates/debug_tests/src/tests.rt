@@ -2,6 +2,7 @@ use brd_board::{Board, Event};
 use brd_debug::{DebugFault, Debugger};
 use brd_journal::Journal;
 use std::alloc::Global;
+use std::process::Abort;
 use std::test::Fail;
 
 /// Three NOPs, a branch back to the first, and a NOP in its slot: a turn has five instructions.
@@ -19,7 +20,19 @@ const STORES: [u32; 8] = [
     0xbb84_0100, // swr $a0, 0x100($gp): byte 0x100 becomes 1
 ];
 
-/// A debugger of a board of these words, over so many steps.
+/// A move, and where it leads: None is nowhere.
+#[derive(Clone, Copy)]
+enum Move {
+    Next(Option<u64>),
+    Back(Option<u64>),
+    Goto(u64),
+    /// To a position behind the last of so many events.
+    Past(u64, u64),
+}
+
+use Move::{Back, Goto, Next, Past};
+
+/// A debugger of a board of these words, over so many steps of processor 1.
 fn debugger_of(alloc: Global, words: &[u32], steps: u32) -> Result<Debugger, Fail> {
     let boot = Board::from_words(alloc, words)?;
     let mut journal = Journal::new(alloc, 8);
@@ -27,52 +40,52 @@ fn debugger_of(alloc: Global, words: &[u32], steps: u32) -> Result<Debugger, Fai
     Ok(Debugger::new(alloc, boot, journal)?)
 }
 
-/// Where processor 1 goes on.
-fn pc(debugger: &Debugger) -> u32 {
-    debugger
-        .show()
-        .registers(1)
-        .map_or(0, |context| context.pc())
+/// Does these moves, each of which has to lead where it says.
+fn follow(rt: &impl Abort, debugger: &mut Debugger, moves: &[Move]) {
+    for step in moves {
+        let before = debugger.position();
+        match *step {
+            Next(found) => {
+                assert_eq!(rt; debugger.next_stop(), Ok(found));
+                assert_eq!(rt; debugger.position(), found.unwrap_or(before));
+            }
+            Back(found) => {
+                assert_eq!(rt; debugger.last_stop(), Ok(found));
+                assert_eq!(rt; debugger.position(), found.unwrap_or(before));
+            }
+            Goto(position) => {
+                assert_eq!(rt; debugger.goto(position), Ok(()));
+                assert_eq!(rt; debugger.position(), position);
+            }
+            Past(position, len) => {
+                assert_eq!(rt; debugger.goto(position), Err(DebugFault::Past { len }));
+                assert_eq!(rt; debugger.position(), before);
+            }
+        }
+    }
 }
 
 /// A break in a loop, met forward and backward.
 #[test]
 fn breaks(rt: HostRuntime) -> Result<(), Fail> {
     let mut debugger = debugger_of(rt.alloc(), &LOOP, 10)?;
-    assert_eq!(rt; debugger.position(), 0);
-    assert_eq!(rt; debugger.next_stop()?, None);
-    assert_eq!(rt; debugger.last_stop()?, None);
+    follow(&rt, &mut debugger, &[Next(None), Back(None)]);
     assert!(rt; debugger.add_break(0x8000_0008));
-    assert_eq!(rt; debugger.next_stop()?, Some(2));
-    assert_eq!(rt; pc(&debugger), 0x8000_0008);
-    assert_eq!(rt; debugger.next_stop()?, Some(7));
-    assert_eq!(rt; debugger.next_stop()?, None);
-    assert_eq!(rt; debugger.position(), 7);
-    assert_eq!(rt; debugger.last_stop()?, Some(2));
-    assert_eq!(rt; debugger.last_stop()?, None);
-    assert_eq!(rt; debugger.position(), 2);
-    assert_eq!(rt; debugger.goto(11), Err(DebugFault::Past { len: 10 }));
-    assert_eq!(rt; debugger.position(), 2);
-    assert_eq!(rt; debugger.goto(10), Ok(()));
-    assert_eq!(rt; debugger.next_stop()?, None);
-    assert_eq!(rt; debugger.last_stop()?, Some(7));
-    Ok(())
-}
-
-/// Each position shows the board that a plain replay gives.
-#[test]
-fn shows_the_replay(rt: HostRuntime) -> Result<(), Fail> {
-    let alloc = rt.alloc();
-    let mut debugger = debugger_of(alloc, &LOOP, 100)?;
-    let mut at = 0;
-    for _ in 0..40u8 {
-        at = (at * 7 + 31) % 101;
-        assert_eq!(rt; debugger.goto(at), Ok(()));
-        let mut board = Board::from_words(alloc, &LOOP)?;
-        board.repeat(Event::Step(1), at as u32);
-        assert_eq!(rt; debugger.position(), at);
-        assert!(rt; debugger.show().same(&board));
-    }
+    follow(
+        &rt,
+        &mut debugger,
+        &[
+            Next(Some(2)),
+            Next(Some(7)),
+            Next(None),
+            Back(Some(2)),
+            Back(None),
+            Past(11, 10),
+            Goto(10),
+            Next(None),
+            Back(Some(7)),
+        ],
+    );
     Ok(())
 }
 
@@ -81,23 +94,59 @@ fn shows_the_replay(rt: HostRuntime) -> Result<(), Fail> {
 fn watches(rt: HostRuntime) -> Result<(), Fail> {
     let mut debugger = debugger_of(rt.alloc(), &STORES, 8)?;
     assert!(rt; debugger.add_watch(0x8000_0103));
-    assert_eq!(rt; debugger.next_stop()?, Some(2));
-    assert_eq!(rt; debugger.next_stop()?, Some(6));
-    assert_eq!(rt; debugger.next_stop()?, None);
-    assert_eq!(rt; debugger.last_stop()?, Some(2));
+    follow(
+        &rt,
+        &mut debugger,
+        &[Next(Some(2)), Next(Some(6)), Next(None), Back(Some(2))],
+    );
     assert!(rt; debugger.add_watch(0x8000_0101));
     assert!(rt; debugger.add_watch(0x8000_0100));
     assert!(rt; debugger.add_watch(0x7fff_ffff));
-    assert_eq!(rt; debugger.next_stop()?, Some(4));
-    assert_eq!(rt; debugger.next_stop()?, Some(5));
-    assert_eq!(rt; debugger.next_stop()?, Some(6));
-    assert_eq!(rt; debugger.next_stop()?, Some(7));
-    assert_eq!(rt; debugger.next_stop()?, None);
-    assert_eq!(rt; debugger.last_stop()?, Some(6));
-    assert_eq!(rt; debugger.last_stop()?, Some(5));
-    assert_eq!(rt; debugger.last_stop()?, Some(4));
-    assert_eq!(rt; debugger.last_stop()?, Some(2));
-    assert_eq!(rt; debugger.last_stop()?, None);
+    follow(
+        &rt,
+        &mut debugger,
+        &[
+            Next(Some(4)),
+            Next(Some(5)),
+            Next(Some(6)),
+            Next(Some(7)),
+            Next(None),
+            Back(Some(6)),
+            Back(Some(5)),
+            Back(Some(4)),
+            Back(Some(2)),
+            Back(None),
+        ],
+    );
+    Ok(())
+}
+
+/// Across snapshots, which are 4,096 events apart, forward and backward.
+#[test]
+fn far(rt: HostRuntime) -> Result<(), Fail> {
+    let mut debugger = debugger_of(rt.alloc(), &LOOP, 20_000)?;
+    assert!(rt; debugger.add_break(0x8000_0008));
+    follow(
+        &rt,
+        &mut debugger,
+        &[
+            Goto(4_098),
+            Back(Some(4_097)),
+            Back(Some(4_092)),
+            Goto(8_193),
+            Back(Some(8_192)),
+            Goto(9_000),
+            Back(Some(8_997)),
+            Next(Some(9_002)),
+            Goto(20_000),
+            Back(Some(19_997)),
+            Goto(4_096),
+            Next(Some(4_097)),
+        ],
+    );
+    let mut board = Board::from_words(rt.alloc(), &LOOP)?;
+    board.repeat(Event::Step(1), 4_097);
+    assert!(rt; debugger.show().same(&board));
     Ok(())
 }
 
@@ -113,6 +162,6 @@ fn limits(rt: HostRuntime) -> Result<(), Fail> {
     assert!(rt; !debugger.add_watch(64));
     assert!(rt; debugger.add_break(63));
     assert!(rt; debugger.add_watch(0));
-    assert_eq!(rt; debugger.next_stop()?, None);
+    follow(&rt, &mut debugger, &[Next(None)]);
     Ok(())
 }
