@@ -11,7 +11,7 @@ use Rattle.brd_board.specs.Board.{BoardState}
 use Rattle.brd_debug.specs.declared.snapshots.Kept.{Kept}
 use Rattle.brd_board.proofs.SizeLemmas.{size-after}
 use Rattle.brd_debug.specs.declared.playback.Playback.{Playback}
-use Rattle.brd_debug.specs.Kept.{IsPlayed, IsKept, AreKept, DoFit, SnapshotsState, plan_of, last_of, noted}
+use Rattle.brd_debug.specs.Kept.{IsPlayed, AreKept, DoFit, SnapshotsState, plan_of, last_of, noted}
 
 pub kept-fit : (boot : BoardState) (events : List Event) (kept : List Kept) → AreKept boot events kept → DoFit boot kept
 kept-fit boot events kept are k d within = (are k d within).fits

@@ -1,7 +1,5 @@
-use Rattle.std.proofs.Common.{◌≡◌, ℕ, ◌≤◌, List, subst, sym, arith}
-use Rattle.std.proofs.lemmas.Bool.Decides.{nat_tests}
+use Rattle.std.proofs.Common.{◌≤◌, subst, sym, arith}
 use Rattle.brd_journal.specs.declared.run.Run.{Run}
-use Rattle.brd_journal.specs.Runs.{IsRest}
 use Rattle.brd_debug.specs.Playing.{IsLeft}
 use Rattle.brd_debug.proofs.PlayingLemmas.{left-event, left-less}
 use Rattle.brd_debug.proofs.playback.next_event.Goals.{then-rest-eq0+in_ok-rest, else-rest-eq0}

@@ -1,4 +1,4 @@
-use Rattle.std.proofs.Common.{◌≡◌, ◌+◌, ◌≤◌, length, sym, ◌∙◌, arith}
+use Rattle.std.proofs.Common.{arith}
 use Rattle.brd_debug.proofs.KeptLemmas.{size-played}
 use Rattle.brd_debug.proofs.search.played_to.Goals as goal
 

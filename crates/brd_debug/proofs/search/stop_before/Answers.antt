@@ -1,4 +1,4 @@
-use Rattle.std.proofs.Common.{◌≡◌, ◌≤◌, sym, ◌∙◌, arith}
+use Rattle.std.proofs.Common.{sym, ◌∙◌, arith}
 use Rattle.brd_debug.specs.Stops.{IsStop}
 use Rattle.brd_debug.proofs.SearchLemmas.{found-greatest, none-greatest, none-both}
 use Rattle.brd_debug.proofs.search.stop_before.Goals as goal

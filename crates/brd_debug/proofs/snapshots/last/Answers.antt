@@ -1,4 +1,4 @@
-use Rattle.std.proofs.Common.{◌<◌, length, arith}
+use Rattle.std.proofs.Common.{arith}
 use Rattle.std.proofs.lemmas.Bool.Decides.{nat_tests}
 use Rattle.brd_debug.proofs.KeptLemmas.{last-is}
 use Rattle.brd_debug.proofs.snapshots.last.Goals as goal

@@ -1,5 +1,4 @@
-use Rattle.std.proofs.Common.{◌≡◌, ◌+◌, ◌<◌, ◌≤◌, length, sym, ◌∙◌, subst, arith}
-use Rattle.std.specs.Prelude.{Some, None, slice_get}
+use Rattle.std.proofs.Common.{sym, ◌∙◌, arith}
 use Rattle.brd_debug.specs.Stops.{IsStop}
 use Rattle.brd_debug.proofs.PlayingLemmas.{left-none, there-is, played-one, stops-there, goes-on}
 use Rattle.brd_debug.proofs.SearchLemmas.{none-more}

@@ -1,4 +1,4 @@
-use Rattle.std.proofs.Common.{◌≡◌, ◌+◌, ◌≤◌, length, arith}
+use Rattle.std.proofs.Common.{◌+◌, ◌≤◌, arith}
 use Rattle.brd_debug.proofs.PlayingLemmas.{played-run}
 use Rattle.brd_debug.proofs.playback.Playback.play_to.Goals as goal
 
