@@ -398,8 +398,11 @@ impl Kernel {
         let Some(processor) = self.processor(cpu) else {
             return false
         };
+        if processor.is_held() {
+            return false;
+        }
         let running = self.tasks.top(cpu);
-        if is_same_task(processor.running, running) || processor.is_held() {
+        if is_same_task(processor.running, running) {
             return false;
         }
         self.put_processor(
