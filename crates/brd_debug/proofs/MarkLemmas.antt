@@ -3,7 +3,7 @@ use Rattle.std.proofs.Common.{◌≡◌, ℕ, zero, suc, ◌<◌, List, [], ◌�
 use Rattle.std.specs.Prelude.{Bool, true, false, ◌==◌, Decides, Contains, slice_index_or}
 use Rattle.std.proofs.lemmas.Bool.{cases_Bool, false≢true}
 use Rattle.std.proofs.lemmas.Bool.Decides.{nat_tests}
-use Rattle.brd_debug.specs.Stops.{is_marked}
+use Rattle.brd_debug.specs.Marks.{is_marked}
 
 found : (marks : List ℕ) (address : ℕ) → is_marked marks address ≡ true → Contains marks address
 found [] address is = absurd (false≢true is)

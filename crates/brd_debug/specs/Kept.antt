@@ -44,6 +44,10 @@ last_of [] = 0
 last_of (position ∷ []) = position
 last_of (position ∷ next ∷ positions) = last_of (next ∷ positions)
 
+-- how many events apart they are at first (own choice)
+abbrev pub first_interval : ℕ
+first_interval = 4096
+
 -- how many snapshots are kept at most (own choice)
 abbrev pub most_kept : ℕ
 most_kept = 1024

@@ -1,3 +1,4 @@
+pub mod Marks
 pub mod Stops
 pub mod Watching
 pub mod Playing

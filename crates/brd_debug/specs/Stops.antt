@@ -1,24 +1,11 @@
 -- Where a debugger stops: at breaks, and where watched bytes change (own choice).
-use Rattle.std.specs.Prelude.{◌≡◌, ◌≢◌, ◌⊎◌, ℕ, ◌<◌, ◌≤◌, ◌==◌, ◌||◌, nat_le, if◌then◌else◌, Bool, false, List, [], ◌∷◌, ◌++◌, length, take, slice_get, Option, Some, None, Contains}
+use Rattle.std.specs.Prelude.{◌≡◌, ◌≢◌, ◌⊎◌, ℕ, ◌<◌, ◌≤◌, List, take, slice_get, Option, Some, None, Contains}
 use Rattle.brd_mem.specs.Memory.{Memory, byte_at}
 use Rattle.brd_board.specs.declared.event.Event.{Event}
 use Rattle.brd_board.specs.declared.event.Report.{Report}
 use Rattle.brd_board.specs.declared.event.Report.TheVariants as report
 use Rattle.brd_board.specs.Board.{BoardState, happens, after}
 use Rattle.brd_debug.specs.declared.stops.Stops.{Stops}
-
--- how many breaks there may be, and how many watches (own choice)
-abbrev pub most_marks : ℕ
-most_marks = 64
-
--- an address is one of the breaks or watches
-abbrev pub is_marked : List ℕ → ℕ → Bool
-is_marked [] address = false
-is_marked (mark ∷ marks) address = mark == address || is_marked marks address
-
--- breaks or watches with one more, unless it is one already or there are as many as there may be
-abbrev pub marked : List ℕ → ℕ → List ℕ
-marked marks address = if is_marked marks address || nat_le most_marks (length marks) then marks else marks ++ address ∷ []
 
 -- An event's report names a break: the instruction there was executed, was a SYSCALL, or raised an exception, also by its fetch.
 abbrev pub IsBreak : List ℕ → Report → Type 0

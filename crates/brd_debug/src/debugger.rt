@@ -4,7 +4,8 @@ ghost use Rattle.std.specs.Prelude.{◌≡◌, ◌+◌, ◌<◌, ◌≤◌, ◌^
 ghost use Rattle.brd_board.specs.Board.{after};
 ghost use Rattle.brd_debug.specs.Debugger.{shown, Goes, went};
 ghost use Rattle.brd_debug.specs.Kept.{IsPlayed, AreKept};
-ghost use Rattle.brd_debug.specs.Stops.{is_marked, marked, IsStop, IsLeast, IsGreatest};
+ghost use Rattle.brd_debug.specs.Marks.{is_marked, marked};
+ghost use Rattle.brd_debug.specs.Stops.{IsStop, IsLeast, IsGreatest};
 
 use crate::fault::DebugFault;
 use crate::playback::Playback;

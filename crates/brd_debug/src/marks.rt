@@ -1,7 +1,7 @@
 //! Sets of addresses.
 
 ghost use Rattle.std.specs.Prelude.{◌≡◌, ◌≤◌, Decides, Contains, [], length, take};
-ghost use Rattle.brd_debug.specs.Stops.{most_marks, is_marked, marked};
+ghost use Rattle.brd_debug.specs.Marks.{most_marks, is_marked, marked};
 
 use brd_lanes::hits;
 use std::marker::Model;
@@ -18,12 +18,13 @@ pub struct Marks {
 
 impl Model for Marks {
     ghost use Rattle.std.specs.Prelude.{ℕ, ◌≤◌, List, take};
+    ghost use Rattle.brd_debug.specs.Marks.{most_marks};
 
     ghost Value = { List ℕ };
 
     ghost view = { λ marks. take marks.count marks.addresses };
 
-    ghost invariant = { λ marks. marks.count ≤ 64 };
+    ghost invariant = { λ marks. marks.count ≤ most_marks };
 }
 
 impl Marks {

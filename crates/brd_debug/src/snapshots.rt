@@ -4,7 +4,7 @@ ghost use Rattle.std.specs.Prelude.{◌≡◌, ℕ, ◌+◌, ◌<◌, ◌≤◌,
 ghost use Rattle.brd_mem.specs.Memory.{size_of};
 ghost use Rattle.brd_board.specs.declared.event.Event.{Event as EventOf};
 ghost use Rattle.brd_board.specs.Board.{BoardState as BoardOf};
-ghost use Rattle.brd_debug.specs.Kept.{IsPlayed, AreKept, plan_of, last_of, noted};
+ghost use Rattle.brd_debug.specs.Kept.{IsPlayed, AreKept, first_interval, plan_of, last_of, noted};
 
 use crate::playback::Playback;
 use brd_base::NoMemory;
@@ -36,19 +36,19 @@ pub struct Snapshots {
 
 impl Model for Snapshots {
     ghost use Rattle.std.specs.Prelude.{◌≤◌, ◌^◌, length};
-    ghost use Rattle.brd_debug.specs.Kept.{SnapshotsState};
+    ghost use Rattle.brd_debug.specs.Kept.{SnapshotsState, most_kept};
 
     ghost Value = { SnapshotsState };
 
     ghost view = { λ snapshots. record { interval = snapshots.interval; kept = snapshots.kept.items } };
 
-    ghost invariant = { λ snapshots. (1 ≤ snapshots.interval) × (snapshots.interval ≤ 2 ^ 60) × (length snapshots.kept.items ≤ 1024) };
+    ghost invariant = { λ snapshots. (1 ≤ snapshots.interval) × (snapshots.interval ≤ 2 ^ 60) × (length snapshots.kept.items ≤ most_kept) };
 }
 
 impl Snapshots {
     /// No snapshots.
     pub fn new(alloc: Global) -> Snapshots
-        ensures { result ≡ record { interval = 4096; kept = [] } }
+        ensures { result ≡ record { interval = first_interval; kept = [] } }
     {
         Snapshots {
             interval: FIRST_INTERVAL,

@@ -4,7 +4,8 @@ ghost use Rattle.std.specs.Prelude.{◌≡◌, ◌≤◌, Decides, [], length};
 ghost use Rattle.brd_debug.specs.Watching.{AreBytesAt};
 ghost use Rattle.brd_board.specs.Board.{happens};
 ghost use Rattle.brd_mem.specs.Memory.{Memory as MemoryOf};
-ghost use Rattle.brd_debug.specs.Stops.{most_marks, IsBreak, Differs, StopsAt};
+ghost use Rattle.brd_debug.specs.Marks.{most_marks};
+ghost use Rattle.brd_debug.specs.Stops.{IsBreak, Differs, StopsAt};
 
 use crate::marks::{MOST_MARKS, Marks};
 use brd_board::{Board, Event, Report};

@@ -1,6 +1,6 @@
 use Rattle.std.proofs.Common.{◌<◌, length, take, ap, sym, ◌∙◌, arith}
 use Rattle.std.proofs.lemmas.List.{take_more_set}
-use Rattle.brd_debug.specs.Stops.{is_marked}
+use Rattle.brd_debug.specs.Marks.{is_marked}
 use Rattle.brd_debug.proofs.MarkLemmas.{marked-last}
 use Rattle.brd_debug.proofs.marks.Marks.add.Goals as goal
 
