@@ -129,7 +129,7 @@ length-grown [] j = refl
 length-grown (r ∷ []) j = refl
 length-grown (r ∷ s ∷ rs) j = ap suc (length-grown (s ∷ rs) j)
 
-new_run : (e : Event) (m : ℕ) → 0 < m → run_of_count e m ≡ run_of e m ∷ []
+pub new_run : (e : Event) (m : ℕ) → 0 < m → run_of_count e m ≡ run_of e m ∷ []
 new_run e zero h = absurd (omega arith)
 new_run e (suc m) h = refl
 

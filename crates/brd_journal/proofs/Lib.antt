@@ -4,6 +4,7 @@ pub mod ReplayLemmas
 pub mod Cutting
 pub mod AddLemmas
 pub mod KeptLemmas
+pub mod StartLemmas
 pub mod RestLemmas
 pub mod LineLemmas
 pub mod DecimalLemmas

@@ -1,11 +1,14 @@
 -- What is left of a run behind so many events.
-use Rattle.std.proofs.Common.{◌≡◌, ℕ, zero, suc, ◌+◌, ◌-◌, ◌≤◌, ◌<◌, List, [], ◌∷◌, ◌++◌, length, get_or, drop, refl, sym, ap, subst, ◌∙◌, arith}
-use Rattle.std.specs.Prelude.{Option, Some, None, slice_get}
-use Rattle.std.proofs.lemmas.List.{drop_more, drop-drop, length-drop}
+use Rattle.std.proofs.Common.{◌≡◌, ℕ, zero, suc, ◌+◌, ◌-◌, ◌≤◌, ◌<◌, List, [], ◌∷◌, ◌++◌, length, get_or, take, drop, refl, sym, ap, subst, ◌∙◌, inl, inr, arith}
+use Rattle.std.specs.Prelude.{Option, Some, None, IfSome, slice_get}
+use Rattle.std.proofs.lemmas.Bool.{cases_lt}
+use Rattle.std.proofs.lemmas.List.{drop_more, take_all, take-append-drop}
 use Rattle.brd_board.specs.declared.event.Event.{Event}
 use Rattle.brd_journal.specs.declared.run.Run.{Run}
-use Rattle.brd_journal.specs.Runs.{copies, events_of, IsRest}
-use Rattle.brd_journal.proofs.EventLemmas.{copies-suc, copies-zero}
+use Rattle.brd_journal.specs.Runs.{copies, events_of, runs_of, AreCut, starts_of, IsRestOfRun, IsRest, ComesBehind}
+use Rattle.brd_journal.proofs.EventLemmas.{copies-suc, copies-zero, events-append}
+use Rattle.brd_journal.proofs.Cutting.{runs_events, runs_are}
+use Rattle.brd_journal.proofs.StartLemmas.{start_at, length-starts, one_more_run}
 
 -- behind fewer events than a run has
 among : (e : Event) (c n : ℕ) (es : List Event) → n ≤ c → drop n (copies e c ++ es) ≡ copies e (c - n) ++ es
@@ -13,44 +16,77 @@ among e c zero es h = let all : c - 0 ≡ c = omega arith in rw (all) refl
 among e zero (suc n) es h = absurd (omega (arith, h))
 among e (suc c) (suc n) es h = let less : suc c - suc n ≡ c - n = omega arith in rw (copies-suc e c, less) (among e c n es (omega (arith, h)))
 
-opened : (runs : List Run) (i n : ℕ) (d : Run) → i < length runs
-    → drop n (events_of (drop i runs)) ≡ drop n (copies (get_or runs i d).event (get_or runs i d).count ++ events_of (drop (i + 1) runs))
-opened runs i n d h = ap (λ (rs : List Run). drop n (events_of rs)) (drop_more runs i d h)
+-- ---- the rest of a run that is found
 
-pub at_run : (events : List Event) (runs : List Run) (i n others : ℕ) (d : Run) → i < length runs → n < (get_or runs i d).count →
-    drop n (events_of (drop i runs)) ≡ drop others events →
-    IsRest events others (Some (record { event = (get_or runs i d).event; count = (get_or runs i d).count - n }))
-at_run events runs i n others d h within so_far =
-    let run = get_or runs i d in
-    let behind = events_of (drop (i + 1) runs) in
-    let left : ℕ = run.count - n in
-    let here : drop others events ≡ copies run.event left ++ behind =
-    sym so_far ∙ opened runs i n d h ∙ among run.event run.count n behind (omega (arith, within)) in
-    let none : left - left ≡ 0 = omega arith in
-    let next : drop (others + left) events ≡ behind =
-    sym (drop-drop left others events) ∙ ap (drop left) here ∙ among run.event left left behind (omega arith)
-    ∙ ap (λ k. copies run.event k ++ behind) none ∙ rw (copies-zero run.event) refl in
-    (omega (arith, within), here ∙ ap (λ rest. copies run.event left ++ rest) (sym next))
+-- a run of which some is left there
+pub rest_there : (runs : List Run) (others i start : ℕ) (run : Run) → AreCut runs → i < length runs → run ≡ get_or runs i run → start ≡ get_or (starts_of runs) i start
+    → start ≤ others → others - start < run.count → IsRest (events_of runs) others (Some (record { event = run.event; count = run.count - (others - start) }))
+rest_there runs others i start run cut within is from begun left =
+    let here : start ≡ length (events_of (take i runs)) = omega (arith, from, start_at 0 runs i start within) in
+    record {
+      before = take i runs;
+      run = run;
+      behind = drop (i + 1) runs;
+      among = sym (runs_are runs cut) ∙ sym (take-append-drop i runs)
+          ∙ ap (λ (rs : List Run). take i runs ++ rs) (drop_more runs i run within ∙ ap (λ (r : Run). r ∷ drop (i + 1) runs) (sym is));
+      begun = omega (arith, here, begun);
+      unended = omega (arith, here, begun, left);
+      event = refl;
+      ends = omega (arith, here, begun, left);
+    }
 
-pub past_run : (events : List Event) (runs : List Run) (i n others : ℕ) (d : Run) → i < length runs → (get_or runs i d).count ≤ n →
-    drop n (events_of (drop i runs)) ≡ drop others events →
-    drop (n - (get_or runs i d).count) (events_of (drop (i + 1) runs)) ≡ drop others events
-past_run events runs i n others d h past so_far =
-    let run = get_or runs i d in
-    let behind = events_of (drop (i + 1) runs) in
-    let there : run.count + (n - run.count) ≡ n = omega (arith, past) in
-    let none : run.count - run.count ≡ 0 = omega arith in
-    sym (ap (drop (n - run.count)) (among run.event run.count run.count behind (omega arith)
-    ∙ ap (λ k. copies run.event k ++ behind) none ∙ rw (copies-zero run.event) refl))
-    ∙ drop-drop (n - run.count) run.count (copies run.event run.count ++ behind)
-    ∙ ap (λ k. drop k (copies run.event run.count ++ behind)) there
-    ∙ sym (opened runs i n d h) ∙ so_far
+-- no run begins at the first event or before
+pub none_begun : (runs : List Run) (others : ℕ) → ((k d : ℕ) → 0 ≤ k → k < length (starts_of runs) → others < get_or (starts_of runs) k d) → length (events_of runs) ≤ others
+none_begun [] others later = omega arith
+none_begun (r ∷ rs) others later = absurd (omega (arith, later 0 0 (omega arith) (omega arith)))
 
--- behind all of them
-pub past_all : (events : List Event) (others : ℕ) → [] ≡ drop others events → length events ≤ others
-past_all events others none = omega (arith, length-drop others events, ap length none)
+-- the last run that has begun has ended
+pub all_ended : (runs : List Run) (others i start : ℕ) (run : Run) → i < length runs → run ≡ get_or runs i run → start ≡ get_or (starts_of runs) i start
+    → start ≤ others → run.count ≤ others - start → ((k d : ℕ) → i + 1 ≤ k → k < length (starts_of runs) → others < get_or (starts_of runs) k d) → length (events_of runs) ≤ others
+all_ended runs others i start run within is from begun ended later =
+    let here : start ≡ length (events_of (take i runs)) = omega (arith, from, start_at 0 runs i start within) in
+    let count : run.count ≡ (get_or runs i run).count = ap (λ (r : Run). r.count) is in
+    let next : length (events_of (take (i + 1) runs)) ≡ start + run.count = omega (arith, one_more_run runs i run within, here, count) in
+    elim (cases_lt (i + 1) (length runs)) [
+      | inl more ↦ absurd (omega (arith, later (i + 1) 0 (omega arith) (omega (arith, length-starts 0 runs, more)), start_at 0 runs (i + 1) 0 more, next, begun, ended))
+      | inr last ↦
+          let whole : length (events_of (take (i + 1) runs)) ≡ length (events_of runs) = ap (λ (rs : List Run). length (events_of rs)) (take_all (i + 1) runs last) in
+          omega (arith, whole, next, begun, ended)
+    ]
 
--- its event is the one behind the others
+-- ---- it comes there
+
+comes : (front : List Event) (e : Event) (c : ℕ) (back : List Event) (others left : ℕ) → length front ≤ others → others + left ≡ length front + c →
+    drop others (front ++ (copies e c ++ back)) ≡ copies e left ++ drop (others + left) (front ++ (copies e c ++ back))
+comes [] e c back others left begun ends =
+    let size : c - others ≡ left = omega (arith, ends) in
+    let whole : others + left ≡ c = omega (arith, ends) in
+    let none : c - c ≡ 0 = omega arith in
+    let next : drop (others + left) (copies e c ++ back) ≡ back =
+    ap (λ (n : ℕ). drop n (copies e c ++ back)) whole ∙ among e c c back (omega arith) ∙ ap (λ (n : ℕ). copies e n ++ back) none ∙ rw (copies-zero e) refl in
+    among e c others back (omega (arith, ends)) ∙ ap (λ (n : ℕ). copies e n ++ back) size ∙ ap (λ (es : List Event). copies e left ++ es) (sym next)
+comes (x ∷ front) e c back zero left begun ends = absurd (omega (arith, begun))
+comes (x ∷ front) e c back (suc others) left begun ends =
+    let next : suc others + left ≡ suc (others + left) = omega arith in
+    rw next (comes front e c back others left (omega (arith, begun)) (omega (arith, ends)))
+
+rest_comes : (events : List Event) (others : ℕ) (rest : Run) → IsRestOfRun (runs_of events) others rest → ComesBehind events others rest
+rest_comes events others rest it =
+    let front : List Event = events_of it.before in
+    let back : List Event = events_of it.behind in
+    let whole : front ++ (copies it.run.event it.run.count ++ back) ≡ events =
+    sym (events-append it.before (it.run ∷ it.behind)) ∙ ap events_of (sym it.among) ∙ runs_events events in
+    let here = comes front it.run.event it.run.count back others rest.count it.begun it.ends in
+    let P : List Event → Type 0 = λ es. drop others es ≡ copies it.run.event rest.count ++ drop (others + rest.count) es in (
+      omega (arith, it.unended, it.ends),
+      subst P whole here ∙ ap (λ (e : Event). copies e rest.count ++ drop (others + rest.count) events) (sym it.event),
+    )
+
+pub found_comes : (events : List Event) (others : ℕ) (found : Option Run) → IsRest events others found → IfSome found (ComesBehind events others)
+found_comes events others None is = tt
+found_comes events others (Some rest) is = rest_comes events others rest is
+
+-- ---- its event is the one behind the others
 
 pub slice_get-drop : (events : List Event) (n : ℕ) → slice_get (drop n events) 0 ≡ slice_get events n
 slice_get-drop [] zero = refl
@@ -62,9 +98,7 @@ pub first-of : (e : Event) (count : ℕ) (es : List Event) → 1 ≤ count → S
 first-of e zero es some = absurd (omega (arith, some))
 first-of e (suc count) es some = rw (copies-suc e count) refl
 
-pub rest_some : (events : List Event) (others : ℕ) (rest : Run) (found : Option Run) → IsRest events others found → found ≡ Some rest →
-    Some rest.event ≡ slice_get events others
-rest_some events others rest found is was =
-    let it : IsRest events others (Some rest) = subst (IsRest events others) was is in
+pub rest_some : (events : List Event) (others : ℕ) (rest : Run) → ComesBehind events others rest → Some rest.event ≡ slice_get events others
+rest_some events others rest it =
     first-of rest.event rest.count (drop (others + rest.count) events) it.0
     ∙ ap (λ es. slice_get es 0) (sym it.1) ∙ slice_get-drop events others

@@ -1,6 +1,6 @@
 -- The runs of a list of events (own choice): its longest stretches of equal events, each cut from the front into pieces of the
 -- greatest count.
-use Rattle.std.specs.Prelude.{◌≡◌, ℕ, zero, suc, ◌+◌, ◌/◌, ◌%◌, ◌≤◌, ◌==◌, Bool, true, false, if◌then◌else◌, List, [], ◌∷◌, ◌++◌, length, drop, replicate, Option, None, Some}
+use Rattle.std.specs.Prelude.{◌≡◌, ℕ, zero, suc, ◌+◌, ◌/◌, ◌%◌, ◌<◌, ◌≤◌, ◌==◌, Bool, true, false, if◌then◌else◌, List, [], ◌∷◌, ◌++◌, length, drop, replicate, Option, None, Some}
 use Rattle.std.specs.List.{flat_map}
 use Rattle.brd_board.specs.declared.event.Event.{Event}
 use Rattle.brd_board.specs.declared.event.Event.TheVariants.{Step, Tick, Raise}
@@ -73,7 +73,32 @@ pub record AreRunsOf (events : List Event) (runs : List Run) : Type 0 where
   pub same : events_of runs ≡ events
   pub cut : AreCut runs
 
--- What is left of a run behind so many events: its event, which comes at least so often from there on. None behind the last one.
+-- the position of each run's first event, where the first run begins at this one
+abbrev pub starts_from : ℕ → List Run → List ℕ
+starts_from start [] = []
+starts_from start (run ∷ runs) = start ∷ starts_from (start + run.count) runs
+
+-- where each run begins: how many events stand before it
+abbrev pub starts_of : List Run → List ℕ
+starts_of runs = starts_from 0 runs
+
+-- What is left of one of these runs behind so many events: the run has begun there and hasn't ended, and the rest has its event and ends
+-- where it ends.
+pub record IsRestOfRun (runs : List Run) (others : ℕ) (rest : Run) : Type 0 where
+  pub before : List Run
+  pub run : Run
+  pub behind : List Run
+  pub among : runs ≡ before ++ run ∷ behind
+  pub begun : length (events_of before) ≤ others
+  pub unended : others < length (events_of before) + run.count
+  pub event : rest.event ≡ run.event
+  pub ends : others + rest.count ≡ length (events_of before) + run.count
+
+-- What is left behind so many events of the run that the next event belongs to. None behind the last event.
 abbrev pub IsRest : List Event → ℕ → Option Run → Type 0
 IsRest events others None = length events ≤ others
-IsRest events others (Some rest) = (1 ≤ rest.count) × (drop others events ≡ copies rest.event rest.count ++ drop (others + rest.count) events)
+IsRest events others (Some rest) = IsRestOfRun (runs_of events) others rest
+
+-- behind so many events an event comes at least so often
+abbrev pub ComesBehind : List Event → ℕ → Run → Type 0
+ComesBehind events others run = (1 ≤ run.count) × (drop others events ≡ copies run.event run.count ++ drop (others + run.count) events)

@@ -3,7 +3,7 @@
 ghost use Rattle.std.specs.Prelude.{◌≡◌};
 ghost use Rattle.brd_journal.specs.declared.fault.JournalFault.TheVariants.{NoMemory as no_memory};
 
-use std::alloc::AllocFailed;
+use std::alloc::{AllocError, AllocFailed};
 use thiserror::Error;
 
 /// Why an event isn't appended to a journal, or a text isn't read as one.
@@ -18,6 +18,14 @@ pub enum JournalFault {
     /// A line of the text has none of the forms, or no newline at its end. Lines are counted from 1.
     #[error("line {line}: expected `board-journal 1` first, then lines `S CPU COUNT`, `T COUNT` and `R LINE COUNT`")]
     Syntax { line: usize },
+}
+
+impl From<AllocError> for JournalFault {
+    ghost from_gives = { λ _ fault. fault ≡ no_memory };
+
+    fn from(_e: AllocError) -> JournalFault {
+        JournalFault::NoMemory
+    }
 }
 
 impl<T: Drop> From<AllocFailed<T>> for JournalFault {

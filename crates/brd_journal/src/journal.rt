@@ -1,16 +1,16 @@
 //! Journals.
 
-ghost use Rattle.std.specs.Prelude.{◌≡◌, ℕ, ◌≤◌, ◌<◌, ◌==◌, ◌^◌, ◌∷◌, [], length, slice_get, OnErr, IfOk, Ok};
+ghost use Rattle.std.specs.Prelude.{◌≡◌, ℕ, ◌≤◌, ◌<◌, ◌==◌, ◌^◌, ◌∷◌, [], length, slice_get, OnErr, IfOk, IfSome, Ok};
 ghost use Rattle.brd_board.specs.Board.{after};
 ghost use Rattle.brd_journal.specs.Faults.{Gives};
 ghost use Rattle.brd_journal.specs.Journal.{most_runs, appended};
 ghost use Rattle.brd_journal.specs.Reading.{journal_of};
-ghost use Rattle.brd_journal.specs.Runs.{IsRest, copies, events_of, runs_of};
+ghost use Rattle.brd_journal.specs.Runs.{IsRest, ComesBehind, copies, events_of, runs_of};
 ghost use Rattle.brd_journal.specs.Text.{text_of};
 
 use crate::fault::JournalFault;
 use crate::run::Run;
-use crate::runs::{add, rest_after};
+use crate::runs::RunTable;
 use crate::writing::written;
 use brd_base::NoMemory;
 use brd_board::{Board, Event};
@@ -20,11 +20,11 @@ use std::marker::Model;
 /// The greatest limit of a journal.
 pub const MOST_RUNS: u32 = 4_194_304;
 
-/// A list of events that has at most so many runs. It is kept as its runs.
+/// A list of events that has at most so many runs. It is kept as its runs and where each begins.
 #[derive(Debug, Drop)]
 pub struct Journal {
     limit: u32,
-    runs: Vec<Run>,
+    runs: RunTable,
     len: u64,
 }
 
@@ -34,9 +34,9 @@ impl Model for Journal {
 
     ghost Value = { JournalState };
 
-    ghost view = { λ journal. record { limit = journal.limit; events = events_of journal.runs.items } };
+    ghost view = { λ journal. record { limit = journal.limit; events = events_of journal.runs } };
 
-    ghost invariant = { λ journal. IsKept journal.limit journal.runs.items journal.len };
+    ghost invariant = { λ journal. IsKept journal.limit journal.runs journal.len };
 }
 
 impl Journal {
@@ -47,7 +47,7 @@ impl Journal {
     {
         Journal {
             limit,
-            runs: Vec::new(alloc),
+            runs: RunTable::new(alloc),
             len: 0,
         }
     }
@@ -67,7 +67,7 @@ impl Journal {
         ensures appended { Gives (λ _. self.new) result (appended self.old (copies event count)) }
         ensures err { OnErr result (self.new ≡ self.old) }
     {
-        add(&mut self.runs, self.limit as usize, event, count)?;
+        self.runs.add(self.limit as usize, event, count, self.len)?;
         self.len += count as u64;
         Ok(())
     }
@@ -87,7 +87,7 @@ impl Journal {
         self.len == 0
     }
 
-    /// The event that so many others stand before. It takes time as there are runs.
+    /// The event that so many others stand before. A binary search finds its run.
     pub fn event_at(&self, others: u64) -> Option<Event>
         ensures { result ≡ slice_get self.now.events others }
     {
@@ -95,12 +95,13 @@ impl Journal {
         Some(rest.event)
     }
 
-    /// What is left of a run behind so many events: its event, and how often the run has that from there on. It takes
-    /// time as there are runs.
+    /// What is left of a run behind so many events: its event, and how often the run has that from there on. A binary
+    /// search finds the run.
     pub fn rest_at(&self, others: u64) -> Option<Run>
-        ensures { IsRest self.now.events others result }
+        ensures exact { IsRest self.now.events others result }
+        ensures comes { IfSome result (ComesBehind self.now.events others) }
     {
-        rest_after(&self.runs, others)
+        self.runs.rest_after(others)
     }
 
     /// The runs: the longest stretches of equal events, each cut from the front into pieces of 4,294,967,295.
@@ -127,6 +128,6 @@ impl Journal {
         ensures again { IfOk result (λ text. (limit : ℕ) → length (runs_of self.now.events) ≤ limit
             → journal_of limit text.items ≡ Ok (record { limit = limit; events = self.now.events })) }
     {
-        written(alloc, &self.runs)
+        written(alloc, self.runs.as_slice())
     }
 }

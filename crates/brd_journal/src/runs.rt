@@ -1,6 +1,6 @@
 //! Lists of runs.
 
-ghost use Rattle.std.specs.Prelude.{◌≡◌, ◌≤◌, length, OnErr};
+ghost use Rattle.std.specs.Prelude.{◌≡◌, ◌+◌, ◌≤◌, ◌<◌, ◌^◌, [], length, OnErr};
 ghost use Rattle.brd_journal.specs.Adding.{room_in, added_within};
 ghost use Rattle.brd_journal.specs.Faults.{Gives};
 ghost use Rattle.brd_journal.specs.Runs.{AreCut, IsRest, events_of, same_event};
@@ -8,6 +8,8 @@ ghost use Rattle.brd_journal.specs.Runs.{AreCut, IsRest, events_of, same_event};
 use crate::fault::JournalFault;
 use crate::run::Run;
 use brd_board::Event;
+use std::alloc::Global;
+use std::marker::Model;
 
 /// Whether two events are the same.
 fn is_same(event: Event, other: Event) -> bool
@@ -30,46 +32,98 @@ fn room_for(runs: &[Run], event: Event) -> u32
     }
 }
 
-/// Adds an event so many times at the end, unless that makes more runs than the limit. An `Err` changes nothing.
-pub(crate) fn add(
-    runs: &mut Vec<Run>,
-    limit: usize,
-    event: Event,
-    count: u32,
-) -> Result<(), JournalFault>
-    requires cut { AreCut runs.old.items }
-    requires within { length runs.old.items ≤ limit }
-    ensures added { Gives (λ _. runs.new.items) result (added_within limit runs.old.items event count) }
-    ensures err { OnErr result (runs.new.items ≡ runs.old.items) }
-{
-    let joined = room_for(runs, event).min(count);
-    let rest = count - joined;
-    let end = runs.len();
-    if rest > 0 {
-        if end >= limit {
-            return Err(JournalFault::Full);
-        }
-        runs.push(Run { event, count: rest })?;
-    }
-    if joined > 0 {
-        runs[end - 1].count += joined;
-    }
-    Ok(())
+/// Runs, and beside each the position of its first event.
+#[derive(Debug, Drop)]
+pub(crate) struct RunTable {
+    runs: Vec<Run>,
+    starts: Vec<u64>,
 }
 
-/// What is left of a run behind so many events of the runs: its event, and how often that still comes.
-pub(crate) fn rest_after(runs: &[Run], others: u64) -> Option<Run>
-    ensures { IsRest (events_of runs.now) others result }
-{
-    let mut left = others;
-    for run in runs {
-        if left < run.count as u64 {
-            return Some(Run {
-                event: run.event,
-                count: run.count - left as u32,
-            });
+impl Model for RunTable {
+    ghost use Rattle.std.specs.Prelude.{◌≡◌, List};
+    ghost use Rattle.brd_journal.specs.declared.run.Run.{Run};
+    ghost use Rattle.brd_journal.specs.Runs.{starts_of};
+
+    ghost Value = { List Run };
+
+    ghost view = { λ table. table.runs.items };
+
+    ghost invariant = { λ table. table.starts.items ≡ starts_of table.runs.items };
+}
+
+impl RunTable {
+    /// No runs. It takes no memory.
+    pub(crate) fn new(alloc: Global) -> Self
+        ensures { result ≡ [] }
+    {
+        RunTable {
+            runs: Vec::new(alloc),
+            starts: Vec::new(alloc),
         }
-        left -= run.count as u64;
     }
-    None
+
+    /// The runs.
+    pub(crate) fn as_slice(&self) -> &[Run]
+        ensures { result.now ≡ self.now }
+    {
+        self.runs.as_slice()
+    }
+
+    /// Adds an event so many times at the end, behind so many others, unless that makes more runs than the limit. An
+    /// `Err` changes nothing.
+    pub(crate) fn add(
+        &mut self,
+        limit: usize,
+        event: Event,
+        count: u32,
+        others: u64,
+    ) -> Result<(), JournalFault>
+        requires cut { AreCut self.old }
+        requires within { length self.old ≤ limit }
+        requires behind { others ≡ length (events_of self.old) }
+        requires few { others + count < 2 ^ 64 }
+        ensures added { Gives (λ _. self.new) result (added_within limit self.old event count) }
+        ensures err { OnErr result (self.new ≡ self.old) }
+    {
+        let joined = room_for(&self.runs, event).min(count);
+        let rest = count - joined;
+        let end = self.runs.len();
+        if rest > 0 {
+            if end >= limit {
+                return Err(JournalFault::Full);
+            }
+            // Room for its start comes first, so that a run that is refused changes nothing.
+            self.starts.reserve(1)?;
+            self.runs.push(Run { event, count: rest })?;
+            self.starts.push(others + joined as u64)?;
+        }
+        if joined > 0 {
+            self.runs[end - 1].count += joined;
+        }
+        Ok(())
+    }
+
+    /// What is left of a run behind so many events: its event, and how often that still comes. A binary search finds
+    /// the run.
+    pub(crate) fn rest_after(&self, others: u64) -> Option<Run>
+        requires { AreCut self.now }
+        ensures { IsRest (events_of self.now) others result }
+    {
+        let begun = self
+            .starts
+            .as_slice()
+            .partition_point(|start| *start <= others);
+        if begun == 0 {
+            return None;
+        }
+        let run = self.runs[begun - 1];
+        let gone = others - self.starts[begun - 1];
+        if gone >= run.count as u64 {
+            return None;
+        }
+        Some(Run {
+            event: run.event,
+            count: run.count - gone as u32,
+        })
+    }
 }

@@ -8,6 +8,6 @@ loop-self-preserved c =
     record {
       on = on;
       played = λ boot is. played-run boot c.args.journal.now.events c.loop-self.self c.repeat.new.self c.min-count.result c.in-Some.rest
-          (c.loop-self.invariant.played boot is) c.in-Some.ensures.1 (omega (arith, c.min-count.ensures)) c.repeat.ensures
+          (c.loop-self.invariant.played boot is) c.in-Some.ensures.comes.1 (omega (arith, c.min-count.ensures)) c.repeat.ensures
           (omega (arith, on, c.requires.within));
     }

@@ -5,4 +5,4 @@ use Rattle.brd_journal.proofs.Cutting.{runs_are}
 use Rattle.brd_journal.proofs.journal.Journal.runs.Goals as goal
 
 pub returns-clause-runs : goal.returns-clause-runs
-returns-clause-runs c = c.as_slice.ensures.value ∙ runs_are c.self.inside.runs.items c.self.invariant.cut ∙ ap (λ (j : JournalState). runs_of j.events) c.self.view_is
+returns-clause-runs c = c.as_slice.ensures ∙ runs_are c.self.inside.runs c.self.invariant.cut ∙ ap (λ (j : JournalState). runs_of j.events) c.self.view_is

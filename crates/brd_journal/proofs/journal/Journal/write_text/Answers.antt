@@ -11,12 +11,12 @@ use Rattle.brd_journal.proofs.journal.Journal.write_text.Goals as goal
 use Rattle.brd_journal.proofs.journal.Journal.write_text.Goals.{After-written}
 
 -- the runs that are written are those of the journal's events
-same_runs : (c : After-written) → c.deref.result.now ≡ runs_of c.args.self.now.events
-same_runs c = c.deref.ensures.value ∙ runs_are c.self.inside.runs.items c.self.invariant.cut ∙ ap (λ (j : JournalState). runs_of j.events) c.self.view_is
+same_runs : (c : After-written) → c.as_slice.result.now ≡ runs_of c.args.self.now.events
+same_runs c = c.as_slice.ensures ∙ runs_are c.self.inside.runs c.self.invariant.cut ∙ ap (λ (j : JournalState). runs_of j.events) c.self.view_is
 
 pub returns-clause-is : goal.returns-clause-is
 returns-clause-is c =
-    IfOk-weaker c.written.result (λ text. text.items ≡ text_of_runs c.deref.result.now) (λ text. text.items ≡ text_of c.args.self.now.events)
+    IfOk-weaker c.written.result (λ text. text.items ≡ text_of_runs c.as_slice.result.now) (λ text. text.items ≡ text_of c.args.self.now.events)
     (λ text is. is ∙ ap text_of_runs (same_runs c)) c.written.ensures.is
 
 both : {T E : Type 0} (r : Result T E) (P Q R : T → Type 0) → IfOk r P → IfOk r Q → ((x : T) → P x → Q x → R x) → IfOk r R
@@ -25,7 +25,7 @@ both (Err e) P Q R p q f = tt
 
 pub returns-clause-again : goal.returns-clause-again
 returns-clause-again c =
-    both c.written.result (λ text. text.items ≡ text_of_runs c.deref.result.now) (λ _. AreNumbered c.deref.result.now)
+    both c.written.result (λ text. text.items ≡ text_of_runs c.as_slice.result.now) (λ _. AreNumbered c.as_slice.result.now)
     (λ text. (limit : ℕ) → length (runs_of c.args.self.now.events) ≤ limit → journal_of limit text.items ≡ Ok (record { limit = limit; events = c.args.self.now.events }))
     c.written.ensures.is c.written.ensures.numbered
     (λ text is numbered limit le.
