@@ -2,7 +2,7 @@
 
 ghost use Rattle.std.specs.Prelude.{codes};
 ghost use Rattle.clap.specs.Words.{found_of, first_value, subcommand_name_of};
-ghost use Rattle.brd_cli.specs.Usage.{IsNamed, IsAsmOf, IsRunOf};
+ghost use Rattle.brd_cli.specs.Usage.{IsNamed, IsAsmOf, IsRunOf, IsDebugOf};
 
 use brd_command::Request;
 use clap::{Arg, ArgAction, ArgMatches, Command, Error};
@@ -15,7 +15,8 @@ pub fn board_command<'a>(alloc: Global) -> Result<Command<'a>, Error> {
         .subcommand_required(true)
         .subcommand(words_command(alloc)?)?
         .subcommand(asm_command(alloc)?)?
-        .subcommand(run_command(alloc)?)?;
+        .subcommand(run_command(alloc)?)?
+        .subcommand(debug_command(alloc)?)?;
     Ok(board)
 }
 
@@ -51,6 +52,24 @@ fn asm_command<'a>(alloc: Global) -> Result<Command<'a>, Error> {
 
 /// What `run` takes.
 fn run_command<'a>(alloc: Global) -> Result<Command<'a>, Error> {
+    with_inputs(
+        alloc,
+        "run",
+        "Boots a board, lets it do the events of a journal, and prints a report",
+    )
+}
+
+/// What `debug` takes.
+fn debug_command<'a>(alloc: Global) -> Result<Command<'a>, Error> {
+    with_inputs(
+        alloc,
+        "debug",
+        "Shows a board after any number of a journal's events, by commands from standard input",
+    )
+}
+
+/// A command that takes IMAGE, CONFIG and JOURNAL.
+fn with_inputs<'a>(alloc: Global, name: &'a str, about: &'a str) -> Result<Command<'a>, Error> {
     let image = Arg::new(alloc, "IMAGE")
         .required(true)
         .action(ArgAction::Set)
@@ -63,8 +82,8 @@ fn run_command<'a>(alloc: Global) -> Result<Command<'a>, Error> {
         .required(true)
         .action(ArgAction::Set)
         .help("A journal: the events that the board does");
-    let command = Command::new(alloc, "run")
-        .about("Boots a board, lets it do the events of a journal, and prints a report")
+    let command = Command::new(alloc, name)
+        .about(about)
         .arg(image)?
         .arg(config)?
         .arg(journal)?;
@@ -82,6 +101,7 @@ pub fn request_of<'a>(matches: &ArgMatches<'a>) -> Option<Request<'a>>
         }
         Some(("asm", of_asm)) => asm_request(of_asm),
         Some(("run", of_run)) => run_request(of_run),
+        Some(("debug", of_debug)) => debug_request(of_debug),
         _ => None,
     }
 }
@@ -107,6 +127,22 @@ fn run_request<'a>(arguments: &ArgMatches<'a>) -> Option<Request<'a>>
     let config = arguments.get_str("CONFIG")?;
     let journal = arguments.get_str("JOURNAL")?;
     Some(Request::Run {
+        image,
+        config,
+        journal,
+    })
+}
+
+/// The request of `debug IMAGE CONFIG JOURNAL`.
+fn debug_request<'a>(arguments: &ArgMatches<'a>) -> Option<Request<'a>>
+    ensures { IsDebugOf (first_value (found_of arguments.now) (codes "IMAGE"))
+        (first_value (found_of arguments.now) (codes "CONFIG"))
+        (first_value (found_of arguments.now) (codes "JOURNAL")) result }
+{
+    let image = arguments.get_str("IMAGE")?;
+    let config = arguments.get_str("CONFIG")?;
+    let journal = arguments.get_str("JOURNAL")?;
+    Some(Request::Debug {
         image,
         config,
         journal,

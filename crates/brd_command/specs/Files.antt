@@ -1,11 +1,14 @@
--- What the files of a command give it, and how `asm` and `run` end on them. `opened` and `created` say what a call on files did:
--- the files before, a name, what the call gave, and the files after.
+-- What the files of a command give it, and how `asm`, `run` and `debug` end on them. `opened` and `created` say what a call on files did:
+-- the files before, a name, what the call gave, and the files after. `remaining` says what a file has left to read; `before` and `behind`
+-- are what standard output held before and behind the command.
 use Rattle.std.specs.Prelude.{◌≡◌, ℕ, List, Option, IfSome, Result, Ok, Err, IsErrAnd}
 use Rattle.std.specs.declared.io.Error.{Error}
 use Rattle.brd_command.specs.AsmCommand.{AsmEnds}
 use Rattle.brd_command.specs.Faults.{IsOfOpen}
+use Rattle.brd_command.specs.Debugging.{DebugEnds}
 use Rattle.brd_command.specs.RunCommand.{RunEnds}
 use Rattle.brd_command.specs.declared.fault.CommandFault.{CommandFault}
+use Rattle.brd_command.specs.declared.files.Inputs.{Inputs}
 
 -- SOURCE is opened first; OUT is created only where SOURCE was opened; the source is read and the object file is
 -- written only where both succeeded. The fault of a file that couldn't be opened or created has that file's name.
@@ -23,22 +26,44 @@ pub data AsmFilesEnd {F R W : Type 0}
       IfSome (remaining reader) (λ text. AsmEnds result text (contents writer) (contents last)) →
       AsmFilesEnd opened created remaining contents old source out result new
 
--- IMAGE is opened first, then CONFIG, then JOURNAL; they are read, and the report is written, only where all of them were opened. The fault
--- of a file that couldn't be opened has that file's name, and then nothing was written.
+-- IMAGE is opened first, then CONFIG, then JOURNAL, up to the first that can't be. Its fault has that file's name, unless memory ran out.
+pub data OpensInputs {F R : Type 0} (opened : F → List ℕ → Result R Error → F → Type 0)
+    (old : F) (image config journal : List ℕ) (result : Result (Inputs R) CommandFault) (new : F) : Type 0 where
+  no_image : {error : Error} → opened old image (Err error) new → IsErrAnd result (IsOfOpen image error) →
+      OpensInputs opened old image config journal result new
+  no_config : {between : F} {reader : R} {error : Error} →
+      opened old image (Ok reader) between → opened between config (Err error) new → IsErrAnd result (IsOfOpen config error) →
+      OpensInputs opened old image config journal result new
+  no_journal : {first second : F} {of_image of_config : R} {error : Error} →
+      opened old image (Ok of_image) first → opened first config (Ok of_config) second → opened second journal (Err error) new →
+      IsErrAnd result (IsOfOpen journal error) →
+      OpensInputs opened old image config journal result new
+  all : {first second : F} {inputs : Inputs R} →
+      opened old image (Ok inputs.image) first → opened first config (Ok inputs.config) second → opened second journal (Ok inputs.journal) new →
+      result ≡ Ok inputs →
+      OpensInputs opened old image config journal result new
+
+-- The report is written only where all three files were opened; else nothing was written.
 pub data RunFilesEnd {F R : Type 0}
     (opened : F → List ℕ → Result R Error → F → Type 0) (remaining : R → Option (List ℕ))
     (old : F) (image config journal : List ℕ) (before behind : Option (List ℕ)) (result : Result Unit CommandFault) (new : F) : Type 0 where
-  no_image : {error : Error} → opened old image (Err error) new → IsErrAnd result (IsOfOpen image error) → before ≡ behind →
+  not_opened : {fault : CommandFault} → OpensInputs opened old image config journal (Err fault) new → result ≡ Err fault → before ≡ behind →
       RunFilesEnd opened remaining old image config journal before behind result new
-  no_config : {between : F} {reader : R} {error : Error} →
-      opened old image (Ok reader) between → opened between config (Err error) new → IsErrAnd result (IsOfOpen config error) → before ≡ behind →
-      RunFilesEnd opened remaining old image config journal before behind result new
-  no_journal : {first second : F} {of_image of_config : R} {error : Error} →
-      opened old image (Ok of_image) first → opened first config (Ok of_config) second → opened second journal (Err error) new →
-      IsErrAnd result (IsOfOpen journal error) → before ≡ behind →
-      RunFilesEnd opened remaining old image config journal before behind result new
-  ended : {first second : F} {of_image of_config of_journal : R} →
-      opened old image (Ok of_image) first → opened first config (Ok of_config) second → opened second journal (Ok of_journal) new →
-      IfSome (remaining of_image) (λ file. IfSome (remaining of_config) (λ statements. IfSome (remaining of_journal) (λ events.
+  ended : {inputs : Inputs R} → OpensInputs opened old image config journal (Ok inputs) new →
+      IfSome (remaining inputs.image) (λ file. IfSome (remaining inputs.config) (λ statements. IfSome (remaining inputs.journal) (λ events.
       RunEnds result file statements events before behind))) →
       RunFilesEnd opened remaining old image config journal before behind result new
+
+-- Standard input, which had `input_first` in it and has `input` left, is read, and answers are written, only where all three files were
+-- opened; else neither was.
+pub data DebugFilesEnd {F R C : Type 0}
+    (opened : F → List ℕ → Result R Error → F → Type 0) (remaining : R → Option (List ℕ)) (unread : C → Option (List ℕ))
+    (old : F) (image config journal : List ℕ) (input_first input : C) (before behind : Option (List ℕ))
+    (result : Result Unit CommandFault) (new : F) : Type 0 where
+  not_opened : {fault : CommandFault} → OpensInputs opened old image config journal (Err fault) new → result ≡ Err fault → before ≡ behind →
+      input ≡ input_first →
+      DebugFilesEnd opened remaining unread old image config journal input_first input before behind result new
+  ended : {inputs : Inputs R} → OpensInputs opened old image config journal (Ok inputs) new →
+      IfSome (remaining inputs.image) (λ file. IfSome (remaining inputs.config) (λ statements. IfSome (remaining inputs.journal) (λ events.
+      DebugEnds unread file statements events input_first input result before behind))) →
+      DebugFilesEnd opened remaining unread old image config journal input_first input before behind result new

@@ -7,6 +7,11 @@ pub mod Output
 pub mod WordsCommand
 pub mod AsmCommand
 pub mod Report
+pub mod Start
 pub mod RunCommand
+pub mod DebugLine
+pub mod Lines
+pub mod Answers
+pub mod Debugging
 pub mod Files
 pub mod Request

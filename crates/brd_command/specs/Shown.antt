@@ -1,4 +1,4 @@
--- What `words` prints of a board: lines of a name and a value (own choice).
+-- What `words` prints of a board, and `debug` of a context: lines of a name and a value (own choice).
 use Rattle.std.specs.Prelude.{ℕ, ◌+◌, ◌==◌, Bool, if◌then◌else◌, List, [], ◌∷◌, ◌++◌, codes, Option, Some, None}
 use Rattle.std.specs.Fmt.{decimal}
 use Rattle.brd_exec.specs.State.{State}

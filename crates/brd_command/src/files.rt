@@ -2,9 +2,10 @@
 
 ghost use Rattle.std.specs.Prelude.{IfOk, IfErr, Ok, Err};
 ghost use Rattle.brd_command.specs.Faults.{IsOfOpen};
-ghost use Rattle.brd_command.specs.Files.{AsmFilesEnd, RunFilesEnd};
+ghost use Rattle.brd_command.specs.Files.{OpensInputs, AsmFilesEnd, RunFilesEnd, DebugFilesEnd};
 
 use crate::asm_command::asm;
+use crate::debug_command::debug;
 use crate::fault::CommandFault;
 use crate::run_command::run;
 use std::alloc::Global;
@@ -59,6 +60,43 @@ pub fn asm_files<F: Files>(
     asm(alloc, &mut reader, &mut writer)
 }
 
+/// The files that a command over a journal reads.
+#[derive(Drop)]
+struct Inputs<R> {
+    image: R,
+    config: R,
+    journal: R,
+}
+
+/// Opens IMAGE, then CONFIG, then JOURNAL.
+fn open_inputs<F: Files>(
+    alloc: Global,
+    files: &mut F,
+    image: &str,
+    config: &str,
+    journal: &str,
+) -> Result<Inputs<F::Input>, CommandFault>
+    ensures { OpensInputs F.opened files.old image.now config.now journal.now result files.new }
+{
+    let of_image = match files.open(image) {
+        Ok(reader) => reader,
+        Err(error) => return Err(CommandFault::of_open(alloc, image, error)),
+    };
+    let of_config = match files.open(config) {
+        Ok(reader) => reader,
+        Err(error) => return Err(CommandFault::of_open(alloc, config, error)),
+    };
+    let of_journal = match files.open(journal) {
+        Ok(reader) => reader,
+        Err(error) => return Err(CommandFault::of_open(alloc, journal, error)),
+    };
+    Ok(Inputs {
+        image: of_image,
+        config: of_config,
+        journal: of_journal,
+    })
+}
+
 /// Does `run` on its files: IMAGE is opened, then CONFIG, then JOURNAL, and then all are read. The report is written.
 pub fn run_files<F: Files, W: Write>(
     alloc: Global,
@@ -71,23 +109,43 @@ pub fn run_files<F: Files, W: Write>(
     ensures { RunFilesEnd F.opened F.Input.remaining files.old image.now config.now journal.now
         (W.contents output.old) (W.contents output.new) result files.new }
 {
-    let mut of_image = match files.open(image) {
-        Ok(reader) => reader,
-        Err(error) => return Err(CommandFault::of_open(alloc, image, error)),
-    };
-    let mut of_config = match files.open(config) {
-        Ok(reader) => reader,
-        Err(error) => return Err(CommandFault::of_open(alloc, config, error)),
-    };
-    let mut of_journal = match files.open(journal) {
-        Ok(reader) => reader,
-        Err(error) => return Err(CommandFault::of_open(alloc, journal, error)),
+    let mut inputs = match open_inputs(alloc, files, image, config, journal) {
+        Ok(inputs) => inputs,
+        Err(fault) => return Err(fault),
     };
     run(
         alloc,
-        &mut of_image,
-        &mut of_config,
-        &mut of_journal,
+        &mut inputs.image,
+        &mut inputs.config,
+        &mut inputs.journal,
+        output,
+    )
+}
+
+/// Does `debug` on its files: IMAGE is opened, then CONFIG, then JOURNAL, and then all are read. The commands come from
+/// `input`, and the answers are written.
+pub fn debug_files<F: Files, R: Read, W: Write>(
+    alloc: Global,
+    files: &mut F,
+    image: &str,
+    config: &str,
+    journal: &str,
+    input: &mut R,
+    output: &mut W,
+) -> Result<(), CommandFault>
+    ensures { DebugFilesEnd F.opened F.Input.remaining R.remaining files.old image.now config.now journal.now
+        input.old input.new (W.contents output.old) (W.contents output.new) result files.new }
+{
+    let mut inputs = match open_inputs(alloc, files, image, config, journal) {
+        Ok(inputs) => inputs,
+        Err(fault) => return Err(fault),
+    };
+    debug(
+        alloc,
+        &mut inputs.image,
+        &mut inputs.config,
+        &mut inputs.journal,
+        input,
         output,
     )
 }

@@ -9,10 +9,10 @@ use std::alloc::Global;
 use std::io::{ErrorKind, Read};
 
 /// How many bytes an input may have.
-const MOST_BYTES: usize = 134_217_728;
+pub const MOST_BYTES: usize = 134_217_728;
 
 /// How often an input is read at most.
-const MOST_READS: u32 = 268_435_456;
+pub const MOST_READS: u32 = 268_435_456;
 
 /// All the bytes that the reader of an input has left. It gives up past 134,217,728 bytes, and after 268,435,456 reads.
 pub fn read_whole<R: Read>(

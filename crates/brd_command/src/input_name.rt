@@ -5,7 +5,7 @@ use std::fmt;
 /// An input of a command, as a fault calls it.
 #[derive(Clone, Copy, Debug, PartialEq, Eq)]
 pub enum InputName {
-    /// The words of `words`.
+    /// The words of `words`, the commands of `debug`.
     StandardInput,
     /// SOURCE: assembler source.
     Source,

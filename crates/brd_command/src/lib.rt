@@ -1,28 +1,34 @@
 //! The commands of the program `board`, over readers, writers and files.
 //!
-//! `specs/WordsCommand.antt`, `specs/AsmCommand.antt` and `specs/RunCommand.antt` say what a command writes for what it reads, and which
-//! faults keep it from that;
-//! `specs/Files.antt` which files are opened, and in which order.
+//! `specs/WordsCommand.antt`, `specs/AsmCommand.antt`, `specs/RunCommand.antt` and `specs/Debugging.antt` say what a command
+//! writes for what it reads, and which faults keep it from that; `specs/Files.antt` which files are opened, and in which
+//! order.
 #![tactic(auto)]
 
 mod asm_command;
+mod debug_answer;
+mod debug_command;
+mod debug_line;
 mod excerpt;
 mod fault;
 mod files;
 mod input;
 mod input_name;
+mod lines;
 mod output;
 mod report;
 mod request;
 mod run_command;
 mod shown;
+mod start;
 mod word_text;
 mod words_command;
 
 pub use asm_command::asm;
+pub use debug_command::debug;
 pub use excerpt::Excerpt;
 pub use fault::CommandFault;
-pub use files::{Files, asm_files, run_files};
+pub use files::{Files, asm_files, debug_files, run_files};
 pub use input_name::InputName;
 pub use request::{Request, perform};
 pub use run_command::run;

@@ -36,7 +36,12 @@ pub fn report(alloc: Global, board: &Board, events: u64) -> Result<Vec<u8>, NoMe
 }
 
 /// Puts a line at the end: a name and a number.
-fn show_number(alloc: Global, out: &mut Vec<u8>, name: &str, number: u64) -> Result<(), NoMemory>
+pub fn show_number(
+    alloc: Global,
+    out: &mut Vec<u8>,
+    name: &str,
+    number: u64,
+) -> Result<(), NoMemory>
     ensures { OnOk result (out.new.items ≡ out.old.items ++ number_line name.now number) }
 {
     let line = format!(in alloc; "{name} {number}\n")?;

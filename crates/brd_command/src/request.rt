@@ -1,12 +1,12 @@
 //! What a command line asks for.
 
 ghost use Rattle.std.specs.Prelude.{◌≡◌, IfSome};
-ghost use Rattle.brd_command.specs.Files.{AsmFilesEnd, RunFilesEnd};
-ghost use Rattle.brd_command.specs.Request.{IfWords, IfAsm, IfRun};
+ghost use Rattle.brd_command.specs.Files.{AsmFilesEnd, RunFilesEnd, DebugFilesEnd};
+ghost use Rattle.brd_command.specs.Request.{IfWords, IfAsm, IfRun, IfDebug};
 ghost use Rattle.brd_command.specs.WordsCommand.{WordsEnds};
 
 use crate::fault::CommandFault;
-use crate::files::{Files, asm_files, run_files};
+use crate::files::{Files, asm_files, debug_files, run_files};
 use crate::words_command::words;
 use std::alloc::Global;
 use std::io::{Read, Write};
@@ -29,10 +29,18 @@ pub enum Request<'a> {
         config: &'a str,
         journal: &'a str,
     },
+    /// The debugger of the board of an object file and a configuration, and of a journal: the answers to the commands on
+    /// standard input, on standard output.
+    Debug {
+        image: &'a str,
+        config: &'a str,
+        journal: &'a str,
+    },
 }
 
 /// Does what was asked for, on files, standard input and standard output. `words` touches no file; `asm` neither reads
-/// standard input nor writes standard output; `run` doesn't read standard input.
+/// standard input nor writes standard output; `run` doesn't read standard input. `debug` reads that only
+/// where its files could be opened and make a debugger.
 pub fn perform<F: Files, R: Read, W: Write>(
     alloc: Global,
     files: &mut F,
@@ -50,6 +58,9 @@ pub fn perform<F: Files, R: Read, W: Write>(
         RunFilesEnd F.opened F.Input.remaining files.old image config journal
         (W.contents output.old) (W.contents output.new) result files.new) }
     ensures run_input { IfRun request.entry (λ _ _ _. input.new ≡ input.old) }
+    ensures debug_answers { IfDebug request.entry (λ image config journal.
+        DebugFilesEnd F.opened F.Input.remaining R.remaining files.old image config journal
+        input.old input.new (W.contents output.old) (W.contents output.new) result files.new) }
 {
     match request {
         Request::Words { steps } => words(alloc, input, output, steps),
@@ -59,5 +70,10 @@ pub fn perform<F: Files, R: Read, W: Write>(
             config,
             journal,
         } => run_files(alloc, files, image, config, journal, output),
+        Request::Debug {
+            image,
+            config,
+            journal,
+        } => debug_files(alloc, files, image, config, journal, input, output),
     }
 }

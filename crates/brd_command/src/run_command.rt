@@ -1,20 +1,20 @@
 //! The command `run`.
 
-ghost use Rattle.std.specs.Prelude.{◌≡◌, IfSome, MatchResult};
-ghost use Rattle.brd_command.specs.RunCommand.{RunEnds, ShowsRun, KeepsFromRunning};
+ghost use Rattle.std.specs.Prelude.{◌≡◌, length, IfOk, IfSome};
+ghost use Rattle.brd_board.specs.Board.{after};
+ghost use Rattle.brd_command.specs.Report.{report_of};
+ghost use Rattle.brd_command.specs.RunCommand.{RunEnds};
 
 use crate::fault::CommandFault;
-use crate::input::read_whole;
-use crate::input_name::InputName;
 use crate::output::write_whole;
 use crate::report::report;
-use brd_image::load;
-use brd_journal::{MOST_RUNS, read_text};
+use crate::start::{Start, read_start};
+use brd_base::NoMemory;
 use std::alloc::Global;
 use std::io::{Read, Write};
 
 /// Reads an object file, a configuration and a journal to their ends, in this order, lets the board that the first two
-/// make do the journal's events, and writes its report. Nothing is written before a fault of what was read is known.
+/// make do the journal's events, and writes its report. Nothing is written where what was read has a fault.
 pub fn run<R: Read, W: Write>(
     alloc: Global,
     image: &mut R,
@@ -26,40 +26,24 @@ pub fn run<R: Read, W: Write>(
         IfSome (R.remaining journal.old) (λ events.
         RunEnds result file statements events (W.contents writer.old) (W.contents writer.new)))) }
 {
-    let file = match read_whole(alloc, InputName::Image, image) {
-        Ok(file) => file,
+    let start = match read_start(alloc, image, config, journal) {
+        Ok(start) => start,
         Err(fault) => return Err(fault),
     };
-    let statements = match read_whole(alloc, InputName::Configuration, config) {
-        Ok(statements) => statements,
-        Err(fault) => return Err(fault),
-    };
-    let events = match read_whole(alloc, InputName::Journal, journal) {
-        Ok(events) => events,
-        Err(fault) => return Err(fault),
-    };
-    let output = match report_of_run(alloc, &file, &statements, &events) {
-        Ok(output) => output,
-        Err(fault) => return Err(fault),
-    };
+    let output = report_behind(alloc, start)?;
     match write_whole(writer, &output) {
         Ok(()) => Ok(()),
         Err(error) => Err(CommandFault::Write(error)),
     }
 }
 
-/// The report of the board that an object file and a configuration make, after a journal's events.
-fn report_of_run(
-    alloc: Global,
-    image: &[u8],
-    config: &[u8],
-    journal: &[u8],
-) -> Result<Vec<u8>, CommandFault>
-    ensures { MatchResult result (λ output. ShowsRun image.now config.now journal.now output.items)
-        (KeepsFromRunning image.now config.now journal.now) }
+/// The report of a board behind the events of a journal.
+fn report_behind(alloc: Global, start: Start) -> Result<Vec<u8>, NoMemory>
+    ensures { IfOk result (λ output.
+        output.items ≡ report_of (length start.journal.events) (after start.board start.journal.events)) }
 {
-    let mut board = load(alloc, image, config)?;
-    let journal = read_text(alloc, journal, MOST_RUNS)?;
+    let Start { mut board, journal } = start;
     journal.replay(&mut board);
-    Ok(report(alloc, &board, journal.len())?)
+    let output = report(alloc, &board, journal.len())?;
+    Ok(output)
 }

@@ -1,3 +1,4 @@
+mod debug;
 mod fakes;
 mod files;
 mod run;

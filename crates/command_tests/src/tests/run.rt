@@ -9,9 +9,9 @@ use std::test::Fail;
 
 const SOURCE: &[u8] = b"_start: addiu $v0, $0, 40\naddiu $a0, $0, 72\nsyscall\n";
 
-const CONFIG: &[u8] = b"BOARD(1, 0x10000); CRE_TSK(1, {TA_ACT, 0, _start, 1, 256, NULL});";
+pub const CONFIG: &[u8] = b"BOARD(1, 0x10000); CRE_TSK(1, {TA_ACT, 0, _start, 1, 256, NULL});";
 
-const JOURNAL: &[u8] = b"board-journal 1\nS 1 3\n";
+pub const JOURNAL: &[u8] = b"board-journal 1\nS 1 3\n";
 
 const REPORT: &[u8] =
     b"events 3\ntick 0\noff 0\ncpu 1 task 1 pc 8000000c\ntask 1 ready pri 1 cpu 1\nconsole 1\nH\n";
@@ -20,7 +20,7 @@ const REPORT: &[u8] =
 const NAMES: [&str; 3] = ["the object file", "the configuration", "the journal"];
 
 /// The object file of `SOURCE`.
-fn image(alloc: Global) -> Result<Vec<u8>, Fail> {
+pub fn image(alloc: Global) -> Result<Vec<u8>, Fail> {
     let image = assemble(alloc, SOURCE)?;
     Ok(brd_elf::write(alloc, &image)?)
 }

@@ -1,15 +1,9 @@
 use Rattle.std.proofs.Common.{refl}
-use Rattle.brd_command.specs.Files.RunFilesEnd.{no_image, no_config, no_journal, ended}
+use Rattle.brd_command.specs.Files.RunFilesEnd.{not_opened, ended}
 use Rattle.brd_command.proofs.files.run_files.Goals as goal
 
 pub returns-in-Err : goal.returns-in-Err
-returns-in-Err g c = no_image c.in-Err.ensures c.of_open.ensures refl
-
-pub returns-in-Err-open : goal.returns-in-Err-open
-returns-in-Err-open g c = no_config c.in-Ok.ensures c.in-Err-open.ensures c.of_open-in-Err-open.ensures refl
-
-pub returns-in-Err-open-2 : goal.returns-in-Err-open-2
-returns-in-Err-open-2 g c = no_journal c.in-Ok.ensures c.in-Ok-open.ensures c.in-Err-open-2.ensures c.of_open-in-Err-open-2.ensures refl
+returns-in-Err g c = not_opened c.in-Err.ensures refl refl
 
 pub returns : goal.returns
-returns g c = ended c.in-Ok.ensures c.in-Ok-open.ensures c.in-Ok-open-2.ensures c.run.ensures
+returns g c = ended c.in-Ok.ensures c.run.ensures

@@ -5,3 +5,6 @@ returns-in-Asm-clause-asm_object g c = rw c.in-Asm.is c.asm_files.ensures
 
 pub returns-in-Run-clause-run_report : goal.returns-in-Run-clause-run_report
 returns-in-Run-clause-run_report g c = rw c.in-Run.is c.run_files.ensures
+
+pub returns-in-Debug-clause-debug_answers : goal.returns-in-Debug-clause-debug_answers
+returns-in-Debug-clause-debug_answers g c = rw c.in-Debug.is c.debug_files.ensures

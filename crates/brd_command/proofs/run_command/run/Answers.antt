@@ -3,10 +3,11 @@ use Rattle.brd_command.proofs.run_command.run.Goals as goal
 
 pub returns-in-Ok-write_whole : goal.returns-in-Ok-write_whole
 returns-in-Ok-write_whole g c =
-    reported _ _ _ _ _ _ _ _ c.deref.ensures.value c.deref-2.ensures.value c.deref-3.ensures.value c.deref-4.ensures.value _ _ _ _ _
-    c.in-Ok.ensures c.in-Ok-read_whole.ensures c.in-Ok-read_whole-2.ensures c.in-Ok-report_of_run.ensures c.in-Ok-write_whole.ensures.whole
+    reported c.in-Ok.start _ _ c.deref.ensures.value c.in_ok-output.ensures
+    (g.R.Read.remaining c.args.image.now) (g.R.Read.remaining c.args.config.now) (g.R.Read.remaining c.args.journal.now) _ _ c.in-Ok.ensures c.in-Ok-write_whole.ensures.whole
 
 pub returns : goal.returns
 returns g c =
-    not_reported _ _ _ _ _ _ _ _ c.deref.ensures.value c.deref-2.ensures.value c.deref-3.ensures.value c.deref-4.ensures.value _ _ _ _ _ c.in-Err-write_whole.error
-    c.in-Ok.ensures c.in-Ok-read_whole.ensures c.in-Ok-read_whole-2.ensures c.in-Ok-report_of_run.ensures c.in-Err-write_whole.ensures.front
+    not_reported c.in-Ok.start _ _ c.deref.ensures.value c.in_ok-output.ensures
+    (g.R.Read.remaining c.args.image.now) (g.R.Read.remaining c.args.config.now) (g.R.Read.remaining c.args.journal.now) _ _ c.in-Err-write_whole.error c.in-Ok.ensures
+    c.in-Err-write_whole.ensures.front

@@ -1,0 +1,137 @@
+-- Commands that are done one after the other.
+use Rattle.std.proofs.Common.{◌≡◌, ◌+◌, ◌≤◌, ℕ, List, [], ◌∷◌, ◌++◌, length, map, refl, sym, ap, subst, ◌∙◌, inl, arith}
+use Rattle.std.specs.Prelude.{◌⊎◌, Option, Some, None, IfSome, Result, Ok, Err}
+use Rattle.std.specs.Io.KnownBytes.{Appends}
+use Rattle.std.specs.declared.io.Error.{Error}
+use Rattle.std.proofs.lemmas.List.{append_assoc}
+use Rattle.brd_debug.specs.Debugger.{DebuggerState}
+use Rattle.brd_command.specs.Answers.{Does, HasDone}
+use Rattle.brd_command.specs.Answers.HasDone.{one_more as one_more_done}
+use Rattle.brd_command.specs.DebugLine.{command_lines, command_of, commands_of}
+use Rattle.brd_command.specs.Debugging.{debugger_of, AnswersToFirst, AnswersToAll, EndsAnswering, Debugs}
+use Rattle.brd_command.specs.Input.{most_bytes}
+use Rattle.brd_command.specs.Lines.{TakesLine, CountsLine}
+use Rattle.brd_command.specs.Output.{AppendsFront, Writes, WritesFront}
+use Rattle.brd_command.specs.Start.{AreWithin, IsStart}
+use Rattle.brd_command.specs.declared.debug_line.DebugCommand.TheVariants.{Quit}
+use Rattle.brd_command.specs.declared.fault.CommandFault.{CommandFault}
+use Rattle.brd_command.specs.declared.lines.Taken.{Taken}
+use Rattle.brd_command.specs.declared.start.Start.{Start}
+use Rattle.brd_command.proofs.OutputLemmas.{one_more}
+
+-- The answers to the commands of a text, but for those of what is left of it, were written.
+abbrev pub IsAnswered : DebuggerState → List ℕ → Option (List ℕ) → ℕ → DebuggerState → Option (List ℕ) → Option (List ℕ) → Type 0
+IsAnswered first text left taken d old now =
+    (rest : List ℕ) × (bytes : List ℕ) × (left ≡ Some rest) × (taken + length rest ≡ length text)
+    × HasDone first (commands_of text) bytes d (commands_of rest) × Appends old now bytes
+
+module _ (first d : DebuggerState) (left after : Option (List ℕ)) (taken next : Taken) (found : Option (List ℕ)) (old now : Option (List ℕ))
+    (takes : (t : List ℕ) → left ≡ Some t → TakesLine t taken found after next) (counts : CountsLine taken found next) where
+  -- the text has ended
+  ended_text : (text : List ℕ) → found ≡ None → IsAnswered first text left taken.bytes d old now → Writes (AnswersToAll first text after) old now
+  ended_text text none (rest, bytes, is, counted, done, written) =
+      let step = subst (λ f. TakesLine rest taken f after next) none (takes rest is) in
+      let few = subst (λ f. CountsLine taken f next) none counts in
+      record {
+        bytes = bytes;
+        are_meant = record {
+          last = d;
+          left = [];
+          rest = [];
+          done = subst (λ cs. HasDone first (commands_of text) bytes d cs) (ap (map command_of) step.0) done;
+          is_unread = step.1;
+          over = refl;
+          within = omega (arith, counted, step.2, few);
+        };
+        written = written;
+      }
+
+  pub all_answered : (input : Option (List ℕ)) → found ≡ None → ((text : List ℕ) → input ≡ Some text → IsAnswered first text left taken.bytes d old now)
+      → IfSome input (λ text. Writes (AnswersToAll first text after) old now)
+  all_answered None none answered = tt
+  all_answered (Some text) none answered = ended_text text none (answered text refl)
+
+  module _ (line : List ℕ) (some : found ≡ Some line) where
+    -- the next command is `quit`
+    quit_text : (text : List ℕ) → command_of line ≡ Quit → IsAnswered first text left taken.bytes d old now
+        → Writes (AnswersToAll first text after) old now
+    quit_text text quits (rest, bytes, is, counted, done, written) =
+        let step = subst (λ f. TakesLine rest taken f after next) some (takes rest is) in
+        let few = subst (λ f. CountsLine taken f next) some counts in
+        record {
+          bytes = bytes;
+          are_meant = record {
+            last = d;
+            left = command_of line ∷ commands_of step.0;
+            rest = step.0;
+            done = subst (λ cs. HasDone first (commands_of text) bytes d cs) (ap (map command_of) step.2) done;
+            is_unread = step.1;
+            over = (quits, refl);
+            within = omega (arith, counted, step.3, few.1);
+          };
+          written = written;
+        }
+
+    pub quit_answered : (input : Option (List ℕ)) → command_of line ≡ Quit
+        → ((text : List ℕ) → input ≡ Some text → IsAnswered first text left taken.bytes d old now)
+        → IfSome input (λ text. Writes (AnswersToAll first text after) old now)
+    quit_answered None quits answered = tt
+    quit_answered (Some text) quits answered = quit_text text quits (answered text refl)
+
+    module _ (answer : List ℕ) (behind : DebuggerState) (does : Does d (command_of line) answer behind) (new : Option (List ℕ)) where
+      done_more : (text rest bytes : List ℕ) → (is : left ≡ Some rest) → HasDone first (commands_of text) bytes d (commands_of rest)
+          → (more : List ℕ) → command_lines rest ≡ line ∷ command_lines more → HasDone first (commands_of text) (bytes ++ answer) behind (commands_of more)
+      done_more text rest bytes is done more lines =
+          one_more_done bytes answer d behind (command_of line) (commands_of more)
+          (subst (λ cs. HasDone first (commands_of text) bytes d cs) (ap (map command_of) lines) done) does
+
+      -- the answer was written
+      pub more_answered : (text : List ℕ) → Appends now new answer → IsAnswered first text left taken.bytes d old now
+          → IsAnswered first text after next.bytes behind old new
+      more_answered text appends (rest, bytes, is, counted, done, written) =
+          let step = subst (λ f. TakesLine rest taken f after next) some (takes rest is) in (
+            step.0,
+            bytes ++ answer,
+            step.1,
+            omega (arith, counted, step.3),
+            done_more text rest bytes is done step.0 step.2,
+            one_more old now new bytes answer written appends,
+          )
+
+      -- a front of the answer was written
+      front_text : (text : List ℕ) → AppendsFront now new answer → IsAnswered first text left taken.bytes d old now
+          → WritesFront (AnswersToFirst first (commands_of text)) old new
+      front_text text front (rest, bytes, is, counted, done, written) =
+          let step = subst (λ f. TakesLine rest taken f after next) some (takes rest is) in
+          record {
+            bytes = bytes ++ answer;
+            are_meant = record { last = behind; left = commands_of step.0; done = done_more text rest bytes is done step.0 step.2 };
+            written = record {
+              front = bytes ++ front.front;
+              rest = front.rest;
+              whole = append_assoc bytes front.front front.rest ∙ ap (λ (e : List ℕ). bytes ++ e) front.whole;
+              written = one_more old now new bytes front.front written front.written;
+            };
+          }
+
+      pub front_answered : (input : Option (List ℕ)) → AppendsFront now new answer
+          → ((text : List ℕ) → input ≡ Some text → IsAnswered first text left taken.bytes d old now)
+          → IfSome input (λ text. WritesFront (AnswersToFirst first (commands_of text)) old new)
+      front_answered None front answered = tt
+      front_answered (Some text) front answered = front_text text front (answered text refl)
+
+-- three inputs that give a debugger
+pub debugs : (start : Start) (d : DebuggerState) (result : Result Unit CommandFault) (unread_first unread old new : Option (List ℕ))
+    (Other : List ℕ → List ℕ → List ℕ → Type 0) → d ≡ debugger_of start → (image config journal : Option (List ℕ))
+    → IfSome image (λ i. IfSome config (λ c. IfSome journal (λ j. AreWithin i c j × IsStart i c j start)))
+    → IfSome unread_first (λ text. EndsAnswering result d text unread old new)
+    → IfSome image (λ i. IfSome config (λ c. IfSome journal (λ j. Debugs i c j unread_first unread result old new ⊎ Other i c j)))
+debugs start d result unread_first unread old new Other is None config journal starts ends = tt
+debugs start d result unread_first unread old new Other is (Some i) None journal starts ends = tt
+debugs start d result unread_first unread old new Other is (Some i) (Some c) None starts ends = tt
+debugs start d result unread_first unread old new Other is (Some i) (Some c) (Some j) starts ends = inl (record {
+  start = start;
+  within = starts.0;
+  is_start = starts.1;
+  ends = subst (λ (s : DebuggerState). IfSome unread_first (λ text. EndsAnswering result s text unread old new)) is ends;
+})

@@ -1,0 +1,8 @@
+use Rattle.brd_command.proofs.AnswerLemmas.{debugs}
+use Rattle.brd_command.proofs.debug_command.debug.Goals as goal
+
+pub returns : goal.returns
+returns g c =
+    debugs c.in-Ok.start c.in_ok-debugger.debugger _ _ _ _ _ _ c.in_ok-debugger.ensures
+    (g.R.Read.remaining c.args.image.now) (g.R.Read.remaining c.args.config.now) (g.R.Read.remaining c.args.journal.now)
+    c.in-Ok.ensures c.answer_all.ensures

@@ -1,0 +1,47 @@
+-- Reading standard input line by line.
+use Rattle.std.specs.Prelude.{◌≡◌, ℕ, ◌+◌, ◌<◌, ◌≤◌, true, List, [], ◌∷◌, length, Option, None, Some}
+use Rattle.brd_command.specs.DebugLine.{command_lines}
+use Rattle.brd_command.specs.Input.{most_bytes}
+use Rattle.brd_command.specs.declared.fault.CommandFault.{CommandFault}
+use Rattle.brd_command.specs.declared.fault.CommandFault.TheVariants.{NoMemory, Argument, Words, Source, ImageTooLarge, Open, Read, TooLong, TooManyReads, Build, Journal, Write}
+use Rattle.brd_command.specs.declared.input_name.InputName.TheVariants.{StandardInput}
+use Rattle.brd_command.specs.declared.lines.Taken.{Taken}
+
+-- how often an input is read at most (own choice)
+abbrev pub most_reads : ℕ
+most_reads = 268435456
+
+-- an input of which it is known that it has ended has no bytes left
+abbrev pub KnowsEnd : Taken → Option (List ℕ) → Type 0
+KnowsEnd taken left = taken.ended ≡ true → (text : List ℕ) → left ≡ Some text → text ≡ []
+
+-- Of an input with these bytes left one byte was taken, or none, since it has no more.
+abbrev pub TakesByte : List ℕ → Option ℕ → Option (List ℕ) → Type 0
+TakesByte text None after = (text ≡ []) × (after ≡ Some [])
+TakesByte text (Some byte) after = (rest : List ℕ) × (after ≡ Some rest) × (text ≡ byte ∷ rest)
+
+-- one byte more was taken, and not more than an input may have; or none
+abbrev pub CountsByte : Taken → Option ℕ → Taken → Type 0
+CountsByte old None new = new.bytes ≡ old.bytes
+CountsByte old (Some byte) new = (new.bytes ≡ old.bytes + 1) × (new.bytes ≤ most_bytes)
+
+-- Of an input with these bytes left the first line was taken, or none, since it has no more.
+abbrev pub TakesLine : List ℕ → Taken → Option (List ℕ) → Option (List ℕ) → Taken → Type 0
+TakesLine text old None after new = (command_lines text ≡ []) × (after ≡ Some []) × (new.bytes ≡ old.bytes + length text)
+TakesLine text old (Some line) after new =
+    (rest : List ℕ) × (after ≡ Some rest) × (command_lines text ≡ line ∷ command_lines rest)
+    × (new.bytes + length rest ≡ old.bytes + length text)
+
+-- some bytes more were taken, and not more than an input may have; or none
+abbrev pub CountsLine : Taken → Option (List ℕ) → Taken → Type 0
+CountsLine old None new = new.bytes ≤ most_bytes
+CountsLine old (Some line) new = (old.bytes < new.bytes) × (new.bytes ≤ most_bytes)
+
+-- What may keep standard input, of which so many bytes were taken and these are left, from being read on. One that is called too long has
+-- more bytes than an input may have.
+abbrev pub KeepsFromTaking : Taken → List ℕ → CommandFault → Type 0
+KeepsFromTaking taken left NoMemory = Unit {0}
+KeepsFromTaking taken left (Read from error) = from ≡ StandardInput
+KeepsFromTaking taken left (TooLong from) = (from ≡ StandardInput) × (most_bytes < taken.bytes + length left)
+KeepsFromTaking taken left (TooManyReads from) = from ≡ StandardInput
+KeepsFromTaking taken left _ = ⊥
