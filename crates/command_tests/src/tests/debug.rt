@@ -11,24 +11,24 @@ const COMMANDS: &[u8] = b"goto 2\nback\nregs 1";
 
 const ANSWERS: &[u8] = b"at 2\nnone\npc 80000008\n$2 00000028\n$4 00000048\n$29 80010000\n";
 
-/// Debugs the firmware of `run`'s tests, by commands of which a read fails, where that isn't 0.
+/// Debugs the firmware of `run`'s tests, by commands of which the read of this number fails, where that isn't 0.
 fn debug_failing(
     alloc: Global,
+    image: &[u8],
     commands: &[u8],
     fails_at: usize,
     writer: &mut Taking,
 ) -> Result<(), CommandFault> {
-    let image = match image(alloc) {
-        Ok(image) => image,
-        Err(_) => return Err(CommandFault::NoMemory),
-    };
+    let mut image = image;
+    let mut config = CONFIG;
+    let mut journal = JOURNAL;
     let mut commands = Bytewise::new(commands);
     commands.fails_at = fails_at;
     debug(
         alloc,
-        &mut image.as_slice(),
-        &mut CONFIG.as_slice(),
-        &mut JOURNAL.as_slice(),
+        &mut image,
+        &mut config,
+        &mut journal,
         &mut commands,
         writer,
     )
@@ -39,9 +39,10 @@ fn debug_failing(
 #[test]
 fn each_read_of_commands_fails(rt: HostRuntime) -> Result<(), Fail> {
     let alloc = rt.alloc();
+    let image = image(alloc)?;
     for fails_at in 1..=COMMANDS.len().saturating_add(1) {
         let mut writer = Taking::new(alloc);
-        let result = debug_failing(alloc, COMMANDS, fails_at, &mut writer);
+        let result = debug_failing(alloc, image.as_slice(), COMMANDS, fails_at, &mut writer);
         let text = "can't read standard input: the reader's own words";
         assert_fault(&rt, alloc, result, text, 4)?;
         let lines = match fails_at {
@@ -58,16 +59,17 @@ fn each_read_of_commands_fails(rt: HostRuntime) -> Result<(), Fail> {
 #[test]
 fn each_write_of_answers_fails(rt: HostRuntime) -> Result<(), Fail> {
     let alloc = rt.alloc();
+    let image = image(alloc)?;
     for fails_at in 1..=ANSWERS.len().saturating_add(3) {
         let mut writer = Taking::new(alloc);
         writer.fails_at = fails_at;
-        let result = debug_failing(alloc, COMMANDS, 0, &mut writer);
+        let result = debug_failing(alloc, image.as_slice(), COMMANDS, 0, &mut writer);
         let text = "can't write the output: the writer's own words";
         assert_fault(&rt, alloc, result, text, 4)?;
         assert!(rt; ANSWERS.starts_with(writer.taken.as_slice()));
     }
     let mut writer = Taking::new(alloc);
-    debug_failing(alloc, COMMANDS, 0, &mut writer)?;
+    debug_failing(alloc, image.as_slice(), COMMANDS, 0, &mut writer)?;
     assert_eq!(rt; writer.taken.as_slice(), ANSWERS);
     Ok(())
 }
@@ -76,6 +78,7 @@ fn each_write_of_answers_fails(rt: HostRuntime) -> Result<(), Fail> {
 #[test]
 fn lines_of_debug(rt: HostRuntime) -> Result<(), Fail> {
     let alloc = rt.alloc();
+    let image = image(alloc)?;
     for (commands, answers) in [
         (b"".as_slice(), b"".as_slice()),
         (b"\n", b"unknown\n"),
@@ -106,7 +109,7 @@ fn lines_of_debug(rt: HostRuntime) -> Result<(), Fail> {
         (b"watch 80000000\nnext\n", b"ok\nnone\n"),
     ] {
         let mut writer = Taking::new(alloc);
-        debug_failing(alloc, commands, 0, &mut writer)?;
+        debug_failing(alloc, image.as_slice(), commands, 0, &mut writer)?;
         assert_eq!(rt; writer.taken.as_slice(), answers);
     }
     Ok(())
