@@ -40,6 +40,8 @@ bench:
 	crates/asm_bench/out/asm_bench time
 	cd crates/elf_bench && rt run >/dev/null
 	crates/elf_bench/out/elf_bench time
+	$(MAKE) board
+	tests/debug_speed $(BOARD)
 
 clean:
 	rm -rf build crates/*/out

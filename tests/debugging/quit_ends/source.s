@@ -1,0 +1,2 @@
+# What stands behind `quit` is not done.
+_start: nop
