@@ -69,7 +69,7 @@ for fault in tests/scenarios/*/fault; do
     debug "fault of $(basename "$folder")" 1 "$work/nothing" "$(cat "$fault")" "$image" "$folder/config.cfg" "$folder/journal"
 done
 for missing in 5 6 7; do
-    arguments=("$work/five" $config $journal)
+    arguments=("$work/five" "$config" "$journal")
     for ((i = missing - 5; i < 3; i++)); do arguments[i]=$work/nosuch$i; done
     debug "argument $((missing - 4)) is missing" 4 "$work/nothing" \
         "board: can't open $work/nosuch$((missing - 5)): $is_missing" "${arguments[@]}"
@@ -84,6 +84,14 @@ head -c 134217729 /dev/zero > "$work/long"
 debug "a journal that is too long" 4 "$work/nothing" "board: the journal is longer than 134,217,728 bytes" \
     "$work/five" $config "$work/long"
 rm "$work/long"
+
+# Commands of as many bytes as an input may have, in a last line without a newline, and of one more.
+{ printf 'goto 1\n'; head -c 134217721 /dev/zero; } > "$work/in"
+printf 'at 1\nunknown\n' > "$work/wanted"
+debug "as many bytes of commands as there may be" 0 "$work/wanted" "" "$work/five" $config $journal
+echo >> "$work/in"
+echo 'at 1' > "$work/wanted"
+debug "one byte more" 4 "$work/wanted" "board: standard input is longer than 134,217,728 bytes" "$work/five" $config $journal
 
 # Commands that can't be read, and answers that can't be written.
 "$board" debug "$work/five" $config $journal < / > "$work/out" 2> "$work/err"
@@ -128,6 +136,14 @@ asks() {
 }
 asks "one command at a time" 'break 80000008' ok next 'at 2' next 'at 7' next none 'mem 8000000f' fc back 'at 2' stop unknown \
     '' unknown 'goto 11' 'past 10' 'regs 2' none 'goto 10' 'at 10' back 'at 7'
+
+# Behind `quit` nothing is awaited: here the input stays open.
+mkfifo "$work/open"
+exec 3<> "$work/open"
+echo quit >&3
+timeout 50 "$board" debug "$work/five" $config $journal <&3 > "$work/out" 2> "$work/err"
+check "debug: quit, and an input that stays open" 0 "$work/nothing" "" $?
+exec 3>&-
 
 # shown ADDRESS ADDRESS < POSITIONS: for each position a line of six columns: the position, where processors 1 and 2 are
 # (`none` where that is nowhere), the bytes at the two addresses, and all registers of both.
