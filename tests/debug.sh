@@ -296,9 +296,13 @@ for report in tests/scenarios/*/report; do
     check "debug: the end of $(basename "$folder")" 0 "$work/wanted" "" "${PIPESTATUS[0]}"
 done
 
-# Memory.
-printf '%s\n' 'break 80000008' next 'regs 1' 'watch 80000000' 'goto 10' back 'mem 80000000' 'goto 11' stop > "$work/in"
-printf '%s\n' ok 'at 2' 'pc 80000008' '$29 80010000' ok 'at 10' 'at 7' 00 'past 10' unknown > "$work/wanted"
-refuse_each debug 3 "board: out of memory" "$board" debug "$work/five" $five/config.cfg $five/journal
+# Memory, also where snapshots are taken and played from.
+long=tests/debugging/long_run
+assembled "memory" $long/source.s
+printf '%s\n' 'break 80000008' next 'regs 1' 'watch 80000000' 'goto 10' back 'mem 80000000' 'goto 5000001' stop \
+    'goto 9000' next back 'goto 4097' back 'goto 8200' back > "$work/in"
+printf '%s\n' ok 'at 2' 'pc 80000008' '$29 80010000' ok 'at 10' 'at 7' 00 'past 5000000' unknown \
+    'at 9000' 'at 9002' 'at 8997' 'at 4097' 'at 4092' 'at 8200' 'at 8197' > "$work/wanted"
+refuse_each debug 3 "board: out of memory" "$board" debug "$work/image" $long/config.cfg $long/journal
 
 summary
