@@ -174,32 +174,49 @@ impl Board {
         }
     }
 
-    /// Does one event so many times. Steps have a loop of their own, since most events are steps.
-    pub fn repeat(&mut self, event: Event, count: u32)
-        ensures { self.new ≡ after self.old (replicate count event) }
+    /// Does one event, as `event` does, but not in line: a program whose loops all use this and `repeat` has one copy of what a
+    /// step does, which the compiler then lays into its loop.
+    pub fn event_apart(&mut self, event: Event) -> Report
+        ensures { record { board = self.new; report = result } ≡ happens self.old event }
     {
         match event {
-            Event::Step(cpu) => self.repeat_step(cpu, count),
-            Event::Tick | Event::Raise(_) => self.repeat_other(event, count),
-        }
-    }
-
-    /// Lets a processor do so many steps.
-    fn repeat_step(&mut self, cpu: u8, count: u32)
-        ensures { self.new ≡ after self.old (replicate count (Step cpu)) }
-    {
-        for _ in 0..count {
-            let _ = self.event(Event::Step(cpu));
+            Event::Step(cpu) => self.steps(cpu, 1),
+            Event::Tick => self.event(Event::Tick),
+            Event::Raise(line) => self.event(Event::Raise(line)),
         }
     }
 
     /// Does one event so many times.
-    fn repeat_other(&mut self, event: Event, count: u32)
+    pub fn repeat(&mut self, event: Event, count: u32)
         ensures { self.new ≡ after self.old (replicate count event) }
     {
+        let _ = match event {
+            Event::Step(cpu) => self.steps(cpu, count),
+            Event::Tick => self.repeat_in_line(Event::Tick, count),
+            Event::Raise(line) => self.repeat_in_line(Event::Raise(line), count),
+        };
+    }
+
+    /// Lets a processor do so many steps. Answers what the only one reports.
+    #[inline(never)]
+    fn steps(&mut self, cpu: u8, count: u32) -> Report
+        ensures done { self.new ≡ after self.old (replicate count (Step cpu)) }
+        ensures one { count ≡ 1 → result ≡ (happens self.old (Step cpu)).report }
+    {
+        self.repeat_in_line(Event::Step(cpu), count)
+    }
+
+    /// Does one event so many times. Answers what the only one reports.
+    #[inline(always)]
+    fn repeat_in_line(&mut self, event: Event, count: u32) -> Report
+        ensures done { self.new ≡ after self.old (replicate count event) }
+        ensures one { count ≡ 1 → result ≡ (happens self.old event).report }
+    {
+        let mut last = Report::NoSuch;
         for _ in 0..count {
-            let _ = self.event(event);
+            last = self.event(event);
         }
+        last
     }
 
     /// A processor does its next step: it accepts an interrupt, or whoever executes on it does one instruction.

@@ -37,7 +37,7 @@ impl Stops {
     {
         let watches = self.watches.as_slice();
         let before = watched(watches, board);
-        let report = board.event(event);
+        let report = board.event_apart(event);
         self.is_break(report) || differ(watches, &before, board)
     }
 
