@@ -7,10 +7,6 @@ use Rattle.brd_command.specs.declared.fault.CommandFault.TheVariants.{NoMemory, 
 use Rattle.brd_command.specs.declared.input_name.InputName.TheVariants.{StandardInput}
 use Rattle.brd_command.specs.declared.lines.Taken.{Taken}
 
--- how often an input is read at most (own choice)
-abbrev pub most_reads : ℕ
-most_reads = 268435456
-
 -- an input of which it is known that it has ended has no bytes left
 abbrev pub KnowsEnd : Taken → Option (List ℕ) → Type 0
 KnowsEnd taken left = taken.ended ≡ true → (text : List ℕ) → left ≡ Some text → text ≡ []
