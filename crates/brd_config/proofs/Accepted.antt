@@ -116,14 +116,14 @@ handler_again line handlers ys processors processor t bits v apart =
 -- ---- statements
 
 -- What is said so far, and by the statements that follow, comes to the whole.
-record Leads (whole c : Configuration) (class : Option ℕ) (ss : List Statement) : Type 0 where
-  processors : whole.processors ≡ c.processors
-  ram : whole.ram ≡ c.ram
-  tasks : whole.tasks ≡ c.tasks ++ tasks_of class ss
-  semaphores : whole.semaphores ≡ c.semaphores ++ semaphores_of ss
-  flags : whole.flags ≡ c.flags ++ flags_of ss
-  queues : whole.queues ≡ c.queues ++ queues_of ss
-  handlers : whole.handlers ≡ c.handlers ++ handlers_of class ss
+pub record Leads (whole c : Configuration) (class : Option ℕ) (ss : List Statement) : Type 0 where
+  pub processors : whole.processors ≡ c.processors
+  pub ram : whole.ram ≡ c.ram
+  pub tasks : whole.tasks ≡ c.tasks ++ tasks_of class ss
+  pub semaphores : whole.semaphores ≡ c.semaphores ++ semaphores_of ss
+  pub flags : whole.flags ≡ c.flags ++ flags_of ss
+  pub queues : whole.queues ≡ c.queues ++ queues_of ss
+  pub handlers : whole.handlers ≡ c.handlers ++ handlers_of class ss
 
 regroup : {X : Type 0} (xs : List X) (x : X) (ys : List X) → xs ++ x ∷ ys ≡ (xs ++ x ∷ []) ++ ys
 regroup xs x ys = sym (append_assoc xs (x ∷ []) ys)
@@ -199,7 +199,7 @@ goes_on line whole c class (Handler x) ss valid l nested =
 -- ---- the text
 
 may_stand : (processors : ℕ) (class : Option ℕ) (x : Statement) (ss : List Statement) → AreNested processors class (x ∷ ss) → MayStand (is_some class) x
-may_stand processors class (Board p ram) ss nested = absurd nested
+may_stand processors class (Board p ram) ss nested = tt
 may_stand processors None (Class n) ss nested = refl
 may_stand processors (Some m) (Class n) ss nested = absurd nested.0
 may_stand processors None ClassEnd ss nested = absurd nested.0
@@ -271,7 +271,7 @@ unfolding statement_step
 last_step c t e = rw (at_its_end t e) refl
 
 -- nothing follows
-all_said : (whole c : Configuration) (class : Option ℕ) → Leads whole c class [] → c ≡ whole
+pub all_said : (whole c : Configuration) (class : Option ℕ) → Leads whole c class [] → c ≡ whole
 all_said whole c class l =
     let tasks = l.tasks ∙ append-nil c.tasks in
     let semaphores = l.semaphores ∙ append-nil c.semaphores in
@@ -334,11 +334,12 @@ enough (x ∷ ss) tokens s =
 
 -- ---- the first statement
 
-started : ℕ → ℕ → Configuration
+-- a board alone
+abbrev pub started : ℕ → ℕ → Configuration
 started processors ram = record { processors = processors; ram = ram; tasks = []; semaphores = []; flags = []; queues = []; handlers = [] }
 
 board_of_again : (line processors ram : ℕ) → IsWithin 1 8 processors → IsRamSize ram → board_of line processors ram ≡ Ok (started processors ram)
-unfolding board_of started
+unfolding board_of
 board_of_again line processors ram v w = rw (within_again 1 8 (BadProcessor line) processors v, ram_again ram w) refl
 
 first_again : (processors ram : ℕ) (ps : List Piece) (t : Text) → IsWithin 1 8 processors → IsRamSize ram → Ahead (form (Board processors ram) ++ ps) t → (u : Text) × (first_statement t ≡ Ok (record { config = started processors ram; class = None }, u)) × Ahead ps u
@@ -349,7 +350,7 @@ first_again processors ram ps t v w s =
     (b.0, rw (f.0, b.1, board_of_again (first t).line processors ram v w) refl, b.2)
 
 pub config_again : (bytes : List ℕ) (processors ram : ℕ) (ss : List Statement) → IsText bytes (Board processors ram ∷ ss) → AreValid processors ram ss → config_of bytes ≡ Ok (said processors ram ss)
-unfolding config_of statements_from started
+unfolding config_of statements_from
 config_again bytes processors ram ss text valid =
     let t = tokens_of bytes in
     let tokens : bare_tokens t ≡ text.0 = spelled 1 bytes text.0 text.1 in

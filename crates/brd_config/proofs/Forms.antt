@@ -264,9 +264,9 @@ handler_again x ps t s =
     let l = tail_step ps t1 a.1 in
     (others (others (others t1)), rw (h.1, a.0, l.0) refl, l.1)
 
--- Where a statement may stand: classes outside of classes, their ends inside, and BOARD first, which is none of these.
+-- Where a statement may stand: classes outside of classes, their ends inside.
 abbrev pub MayStand : Bool → Statement → Type 0
-MayStand in_class (Board processors ram) = ⊥
+MayStand in_class (Board processors ram) = Unit {0}
 MayStand in_class (Class n) = in_class ≡ false
 MayStand in_class ClassEnd = in_class ≡ true
 MayStand in_class (Task x) = Unit {0}
@@ -277,7 +277,10 @@ MayStand in_class (Handler x) = Unit {0}
 
 pub statement_again : (in_class : Bool) (x : Statement) (ps : List Piece) (t : Text) → MayStand in_class x → Ahead (form x ++ ps) t → Reads (statement_at in_class t) x ps
 unfolding statement_at behind_keyword keyword_of
-statement_again in_class (Board processors ram) ps t may s = absurd may
+statement_again in_class (Board processors ram) ps t may s =
+    let f = exactly_step (codes "BOARD") (Sign 40 ∷ Numeral processors ∷ Sign 44 ∷ Numeral ram ∷ Sign 41 ∷ Sign 59 ∷ ps) t s in
+    let r = board_again processors ram ps (others t) f.1 in
+    (r.0, rw (f.0, r.1) refl, r.2)
 statement_again in_class (Class n) ps t may s =
     let f = exactly_step (codes "CLASS") (Sign 40 ∷ ClassName n ∷ Sign 41 ∷ Sign 123 ∷ ps) t s in
     let r = class_again n ps (others t) f.1 in

@@ -1,4 +1,5 @@
--- What a text says is a configuration: each value is within its limits, and IDs of one kind are distinct.
+-- What a text says is a configuration: each value is within its limits, and IDs of one kind are distinct. What a
+-- statement adds is the object that it says.
 use Rattle.std.proofs.Common.{◌≡◌, ◌≢◌, ℕ, suc, ◌<◌, ◌≤◌, Bool, true, false, cond, not, ◌&&◌, List, [], ◌∷◌, ◌++◌, length, get_or, Some, None, Result, Ok, Err, refl, sym, ap, subst, ◌∙◌, inl, inr, arith}
 use Rattle.std.specs.Prelude.{AllPairs, nat_eq, nat_le}
 use Rattle.std.specs.List.{list_any}
@@ -33,6 +34,7 @@ use Rattle.brd_config.specs.declared.statement.Statement.TheVariants.{Board, Cla
 use Rattle.brd_config.specs.Statements.{statement_at, board_at}
 use Rattle.brd_config.specs.Configuration.{Configuration, IsWithin, IsTask, IsSemaphore, IsFlag, IsQueue, IsHandler, IsConfiguration}
 use Rattle.brd_config.specs.Meaning.{State, within, only_bits, refused, is_ram_size, task_of, semaphore_of, flag_of, queue_of, handler_of, added, processor_of, is_end, is_board, one_more, statement_step, statements_from, board_of, first_board, first_statement, config_of}
+use Rattle.brd_config.specs.Grammar.{task_said, semaphore_said, flag_said, queue_said, handler_said}
 use Rattle.brd_config.proofs.RamSize.{has_ram_size}
 
 -- ---- lists
@@ -55,7 +57,7 @@ keys_stay key xs x none all = AllPairs-push (λ s t. key s ≢ key t) xs x all (
 
 -- ---- values
 
-within_ok : (low high : ℕ) (f : ConfigFault) (n m : ℕ) → within low high f n ≡ Ok m → (m ≡ n) × IsWithin low high m
+pub within_ok : (low high : ℕ) (f : ConfigFault) (n m : ℕ) → within low high f n ≡ Ok m → (m ≡ n) × IsWithin low high m
 unfolding within
 within_ok low high f n m e =
     let p = passed (nat_le low n && nat_le n high) f n m e in
@@ -64,12 +66,12 @@ within_ok low high f n m e =
     let most = leb-true n high both.1 in
     (sym p.1, rw (← p.1) (record { least = least; most = most }))
 
-only_bits_ok : (allowed : ℕ) (f : ConfigFault) (bits m : ℕ) → only_bits allowed f bits ≡ Ok m → m ≤ allowed
+only_bits_ok : (allowed : ℕ) (f : ConfigFault) (bits m : ℕ) → only_bits allowed f bits ≡ Ok m → (m ≡ bits) × (m ≤ allowed)
 unfolding only_bits
 only_bits_ok allowed f bits m e =
     let p = passed (nat_eq (bit_and bits allowed) bits) f bits m e in
     let same = eqb-true _ _ p.0 in
-    omega (arith, and_le_r bits allowed, same, p.1)
+    (sym p.1, omega (arith, and_le_r bits allowed, same, p.1))
 
 -- ---- objects
 
@@ -80,7 +82,7 @@ refused_ok : (test : Bool) (f : ConfigFault) (x : Unit {0}) → refused test f �
 refused_ok test f x e = not_refused test f tt x e
 
 -- the values of steps that did not fail, and what they make
-two_ok : {A B X : Type 0} (r0 : Result A ConfigFault) (r1 : Result B ConfigFault) (f : A → B → X) (x : X) → (r0 >>= λ a. r1 >>= λ b. Ok (f a b)) ≡ Ok x
+pub two_ok : {A B X : Type 0} (r0 : Result A ConfigFault) (r1 : Result B ConfigFault) (f : A → B → X) (x : X) → (r0 >>= λ a. r1 >>= λ b. Ok (f a b)) ≡ Ok x
     → (a : A) × (b : B) × (r0 ≡ Ok a) × (r1 ≡ Ok b) × (f a b ≡ x)
 two_ok (Err w) r1 f x h = absurd (cc)
 two_ok (Ok a) (Err w) f x h = absurd (cc)
@@ -110,8 +112,8 @@ five_ok (Ok a) (Ok b) (Ok c) (Err w) r4 f x h = absurd (cc)
 five_ok (Ok a) (Ok b) (Ok c) (Ok d) (Err w) f x h = absurd (cc)
 five_ok (Ok a) (Ok b) (Ok c) (Ok d) (Ok v) f x h = (a, b, c, d, v, refl, refl, refl, refl, refl, ok_is (f a b c d v) x h)
 
-task_ok : (line : ℕ) (tasks : List TaskConfig) (processors processor : ℕ) (t : TaskStatement) (x : TaskConfig) → IsWithin 1 processors processor → task_of line tasks processor t ≡ Ok x
-    → IsTask processors x × (list_any (λ o. nat_eq o.id x.id) tasks ≡ false)
+pub task_ok : (line : ℕ) (tasks : List TaskConfig) (processors processor : ℕ) (t : TaskStatement) (x : TaskConfig) → IsWithin 1 processors processor → task_of line tasks processor t ≡ Ok x
+    → IsTask processors x × (list_any (λ o. nat_eq o.id x.id) tasks ≡ false) × (x ≡ task_said processor t)
 unfolding task_of
 task_ok line tasks processors processor t x on e =
     let p = five_ok (within 1 255 (BadId line) t.id) (refused (list_any (λ o. nat_eq o.id t.id) tasks) (Duplicate line)) (only_bits 3 (BadAttribute line) t.attributes)
@@ -122,10 +124,10 @@ task_ok line tasks processors processor t x on e =
     let attributes = only_bits_ok 3 (BadAttribute line) t.attributes p.2 p.7 in
     let priority = within_ok 1 16 (BadPriority line) t.priority p.3 p.8 in
     let sized : 1 ≤ t.stack_size = not_zero t.stack_size (refused_ok (nat_eq t.stack_size 0) (BadCount line) p.4 p.9) in
-    rw (← p.10) (record { id = id.1; processor = on; attributes = attributes; priority = priority.1; stack_size = sized }, rw id.0 new)
+    rw (← p.10) (record { id = id.1; processor = on; attributes = attributes.1; priority = priority.1; stack_size = sized }, rw id.0 new, rw (id.0, attributes.0, priority.0) refl)
 
-semaphore_ok : (line : ℕ) (semaphores : List SemaphoreConfig) (t : SemaphoreStatement) (x : SemaphoreConfig) → semaphore_of line semaphores t ≡ Ok x
-    → IsSemaphore x × (list_any (λ o. nat_eq o.id x.id) semaphores ≡ false)
+pub semaphore_ok : (line : ℕ) (semaphores : List SemaphoreConfig) (t : SemaphoreStatement) (x : SemaphoreConfig) → semaphore_of line semaphores t ≡ Ok x
+    → IsSemaphore x × (list_any (λ o. nat_eq o.id x.id) semaphores ≡ false) × (x ≡ semaphore_said t)
 unfolding semaphore_of
 semaphore_ok line semaphores t x e =
     let p = five_ok (within 1 255 (BadId line) t.id) (refused (list_any (λ o. nat_eq o.id t.id) semaphores) (Duplicate line)) (only_bits 1 (BadAttribute line) t.attributes)
@@ -136,9 +138,9 @@ semaphore_ok line semaphores t x e =
     let attributes = only_bits_ok 1 (BadAttribute line) t.attributes p.2 p.7 in
     let maximum = within_ok 1 65535 (BadCount line) t.maximum p.3 p.8 in
     let initial = within_ok 0 t.maximum (BadCount line) t.initial p.4 p.9 in
-    rw (← p.10) (record { id = id.1; attributes = attributes; initial = rw maximum.0 initial.1.most; maximum = maximum.1 }, rw id.0 new)
+    rw (← p.10) (record { id = id.1; attributes = attributes.1; initial = rw maximum.0 initial.1.most; maximum = maximum.1 }, rw id.0 new, rw (id.0, attributes.0, initial.0, maximum.0) refl)
 
-flag_ok : (line : ℕ) (flags : List FlagConfig) (t : FlagStatement) (x : FlagConfig) → flag_of line flags t ≡ Ok x → IsFlag x × (list_any (λ o. nat_eq o.id x.id) flags ≡ false)
+pub flag_ok : (line : ℕ) (flags : List FlagConfig) (t : FlagStatement) (x : FlagConfig) → flag_of line flags t ≡ Ok x → IsFlag x × (list_any (λ o. nat_eq o.id x.id) flags ≡ false) × (x ≡ flag_said t)
 unfolding flag_of
 flag_ok line flags t x e =
     let p = three_ok (within 1 255 (BadId line) t.id) (refused (list_any (λ o. nat_eq o.id t.id) flags) (Duplicate line)) (only_bits 7 (BadAttribute line) t.attributes)
@@ -146,9 +148,9 @@ flag_ok line flags t x e =
     let id = within_ok 1 255 (BadId line) t.id p.0 p.3 in
     let new = refused_ok (list_any (λ o. nat_eq o.id t.id) flags) (Duplicate line) p.1 p.4 in
     let attributes = only_bits_ok 7 (BadAttribute line) t.attributes p.2 p.5 in
-    rw (← p.6) (record { id = id.1; attributes = attributes }, rw id.0 new)
+    rw (← p.6) (record { id = id.1; attributes = attributes.1 }, rw id.0 new, rw (id.0, attributes.0) refl)
 
-queue_ok : (line : ℕ) (queues : List QueueConfig) (t : QueueStatement) (x : QueueConfig) → queue_of line queues t ≡ Ok x → IsQueue x × (list_any (λ o. nat_eq o.id x.id) queues ≡ false)
+pub queue_ok : (line : ℕ) (queues : List QueueConfig) (t : QueueStatement) (x : QueueConfig) → queue_of line queues t ≡ Ok x → IsQueue x × (list_any (λ o. nat_eq o.id x.id) queues ≡ false) × (x ≡ queue_said t)
 unfolding queue_of
 queue_ok line queues t x e =
     let p = four_ok (within 1 255 (BadId line) t.id) (refused (list_any (λ o. nat_eq o.id t.id) queues) (Duplicate line)) (only_bits 1 (BadAttribute line) t.attributes)
@@ -157,30 +159,31 @@ queue_ok line queues t x e =
     let new = refused_ok (list_any (λ o. nat_eq o.id t.id) queues) (Duplicate line) p.1 p.5 in
     let attributes = only_bits_ok 1 (BadAttribute line) t.attributes p.2 p.6 in
     let capacity = within_ok 0 256 (BadCount line) t.capacity p.3 p.7 in
-    rw (← p.8) (record { id = id.1; attributes = attributes; capacity = capacity.1.most }, rw id.0 new)
+    rw (← p.8) (record { id = id.1; attributes = attributes.1; capacity = capacity.1.most }, rw id.0 new, rw (id.0, attributes.0, capacity.0) refl)
 
-handler_ok : (line : ℕ) (handlers : List HandlerConfig) (processors processor : ℕ) (t : HandlerStatement) (x : HandlerConfig) → IsWithin 1 processors processor → handler_of line handlers processor t ≡ Ok x
-    → IsHandler processors x × (list_any (λ o. nat_eq o.line x.line) handlers ≡ false)
+pub handler_ok : (line : ℕ) (handlers : List HandlerConfig) (processors processor : ℕ) (t : HandlerStatement) (x : HandlerConfig) → IsWithin 1 processors processor → handler_of line handlers processor t ≡ Ok x
+    → IsHandler processors x × (list_any (λ o. nat_eq o.line x.line) handlers ≡ false) × (x ≡ handler_said processor t) × (t.attributes ≤ 1)
 unfolding handler_of
 handler_ok line handlers processors processor t x on e =
     let p = three_ok (within 0 31 (BadId line) t.line) (refused (list_any (λ o. nat_eq o.line t.line) handlers) (Duplicate line)) (only_bits 1 (BadAttribute line) t.attributes)
     (λ number new attributes. record { line = number; processor = processor; address = t.address }) x e in
     let number = within_ok 0 31 (BadId line) t.line p.0 p.3 in
     let new = refused_ok (list_any (λ o. nat_eq o.line t.line) handlers) (Duplicate line) p.1 p.4 in
-    rw (← p.6) (record { line = number.1.most; processor = on }, rw number.0 new)
+    let attributes = only_bits_ok 1 (BadAttribute line) t.attributes p.2 p.5 in
+    rw (← p.6) (record { line = number.1.most; processor = on }, rw number.0 new, rw number.0 refl, omega (arith, attributes.0, attributes.1))
 
 -- ---- statements
 
-one_ok : {A X : Type 0} (r : Result A ConfigFault) (f : A → X) (x : X) → (r >>= λ a. Ok (f a)) ≡ Ok x → (a : A) × (r ≡ Ok a) × (f a ≡ x)
+pub one_ok : {A X : Type 0} (r : Result A ConfigFault) (f : A → X) (x : X) → (r >>= λ a. Ok (f a)) ≡ Ok x → (a : A) × (r ≡ Ok a) × (f a ≡ x)
 one_ok (Err w) f x h = absurd (cc)
 one_ok (Ok a) f x h = (a, refl, ok_is (f a) x h)
 
 -- what holds of the statements so far
-record IsState (s : State) : Type 0 where
-  config : IsConfiguration s.config
-  class : IsWithin 1 s.config.processors (processor_of s.class)
+pub record IsState (s : State) : Type 0 where
+  pub config : IsConfiguration s.config
+  pub class : IsWithin 1 s.config.processors (processor_of s.class)
 
-added_ok : (line : ℕ) (s t : State) (x : Statement) → added line s x ≡ Ok t → IsState s → IsState t
+pub added_ok : (line : ℕ) (s t : State) (x : Statement) → added line s x ≡ Ok t → IsState s → IsState t
 unfolding added
 added_ok line s t (Board processors ram) e h = absurd (never (within 1 8 (BadProcessor line) processors) e)
   where
@@ -305,7 +308,7 @@ first_board_ok line t s e =
     let same : made ≡ s = ok_is made s b.2 in
     subst (λ (x : State × Text). IsState x.0) same (record { config = valid; class = record { least = omega arith; most = valid.processors.least } })
 
-first_ok : (t : Text) (s : State × Text) → first_statement t ≡ Ok s → IsState s.0
+pub first_ok : (t : Text) (s : State × Text) → first_statement t ≡ Ok s → IsState s.0
 unfolding first_statement
 first_ok t s e = first_board_ok (first t).line (others t) s (passed_by (is_board (first t).token) e)
   where

@@ -6,6 +6,7 @@ mod checks;
 mod config;
 mod draft;
 mod fault;
+pub mod laws;
 mod objects;
 mod parser;
 mod reading;

@@ -1,0 +1,418 @@
+-- What is read as a statement is spelled in its form.
+use Rattle.std.proofs.Common.{◌≡◌, ℕ, zero, suc, Bool, true, false, cond, List, [], ◌∷◌, ◌++◌, length, map, drop, Option, Some, None, Result, Ok, Err, refl, sym, ap, subst, ◌∙◌, inl, inr, append_assoc}
+use Rattle.std.specs.Prelude.{◌&&◌, nat_eq, codes}
+use Rattle.std.specs.Str.{bytes_eq}
+use Rattle.std.specs.Int.RustNames.{bit_or}
+use Rattle.std.proofs.lemmas.Bool.{cases_Bool, and_parts, eqb-true}
+use Rattle.std.proofs.lemmas.Slice.Eq.{bytes_eq-Decides}
+use Rattle.brd_text.specs.Tokens.{Token, Placed, Text, first, others}
+use Rattle.brd_text.specs.Tokens.Token.{Run, Mark, Unclosed, End}
+use Rattle.brd_text.specs.Numbers.{number_of}
+use Rattle.brd_text.specs.Faults.{◌>>=◌, or_fault}
+use Rattle.brd_text.specs.Turns.{Flow, followed, repeated, flow_of}
+use Rattle.brd_text.specs.Spelling.{bare_tokens}
+use Rattle.brd_text.proofs.FaultLemmas.{bind_ok, ok_is, passed}
+use Rattle.brd_config.specs.declared.fault.ConfigFault.{ConfigFault}
+use Rattle.brd_config.specs.declared.fault.ConfigFault.TheVariants.{NoMemory, Syntax}
+use Rattle.brd_config.specs.declared.objects.Operand.{Operand}
+use Rattle.brd_config.specs.declared.objects.Stack.{Stack}
+use Rattle.brd_config.specs.declared.statement.Keyword.{Keyword}
+use Rattle.brd_config.specs.declared.statement.Keyword.TheVariants as keywords
+use Rattle.brd_config.specs.declared.statement.Statement.{Statement}
+use Rattle.brd_config.specs.declared.statement.Statement.TheVariants.{Board, Class, ClassEnd, Task, Semaphore, Flag, Queue, Handler}
+use Rattle.brd_config.specs.Statements.{keyword_of, board_at, class_at, task_at, semaphore_at, flag_at, queue_at, handler_at, behind_keyword, statement_by, statement_at}
+use Rattle.brd_config.specs.Reading.{attribute_of, class_of, operand_of, stack_of, is_area, run_of, number_at, expect_mark, mark_at, attribute_at, expect_joint, joint_at, attribute_step, attributes_at, operand_at, stack_at, area_at, class_number_at, head_at, tail_at}
+use Rattle.brd_config.specs.Grammar.{Piece, Joined, IsSpelled, AreSpelled, object, form}
+use Rattle.brd_config.specs.Grammar.Piece.{Exactly, Sign, Numeral, Attributes, Value, StackValue, Area, ClassName}
+use Rattle.brd_config.specs.Grammar.Joined.{last, bar}
+use Rattle.brd_config.proofs.Forms.{MayStand}
+
+-- ---- pieces at the front of a text
+
+-- The tokens of a text up to another spell these pieces.
+pub record Front (ps : List Piece) (t u : Text) : Type 0 where
+  pub front : List Token
+  pub spelled : AreSpelled ps front
+  pub tokens : bare_tokens t ≡ front ++ bare_tokens u
+
+pub both_spelled : (ps qs : List Piece) (front rest : List Token) → AreSpelled ps front → AreSpelled qs rest → AreSpelled (ps ++ qs) (front ++ rest)
+both_spelled [] qs front rest s r = subst (λ (ws : List Token). AreSpelled qs (ws ++ rest)) (sym s) r
+both_spelled (p ∷ ps) qs front rest s r = (s.0, s.1 ++ rest, s.2, both_spelled ps qs s.1 rest s.3 r, ap (λ (ws : List Token). ws ++ rest) s.4 ∙ append_assoc s.0 s.1 rest)
+
+infixr 10 ◌then◌
+pub ◌then◌ : {ps qs : List Piece} {t u v : Text} → Front ps t u → Front qs u v → Front (ps ++ qs) t v
+◌then◌ {ps = ps} {qs = qs} {v = v} a b = record {
+  front = a.front ++ b.front;
+  spelled = both_spelled ps qs a.front b.front a.spelled b.spelled;
+  tokens = a.tokens ∙ ap (λ (ws : List Token). a.front ++ ws) b.tokens ∙ sym (append_assoc a.front b.front (bare_tokens v));
+}
+
+-- ---- one token
+
+first_token : (t : Text) (w : Token) → (w ≡ End → ⊥) → (first t).token ≡ w → bare_tokens t ≡ w ∷ bare_tokens (others t)
+first_token t w some e = by_tokens t.tokens e
+  where
+    by_tokens : (ps : List Placed) → (first (record { tokens = ps; end = t.end })).token ≡ w → map (λ p. p.token) ps ≡ w ∷ map (λ p. p.token) (drop 1 ps)
+    by_tokens [] e = absurd (some (sym e))
+    by_tokens (p ∷ ps) e = ap (λ (v : Token). v ∷ map (λ p. p.token) ps) e
+
+one_front : (p : Piece) (w : Token) (t u : Text) → (w ≡ End → ⊥) → IsSpelled p (w ∷ []) → (first t).token ≡ w → others t ≡ u → Front (p ∷ []) t u
+one_front p w t u some is e behind = record {
+  front = w ∷ [];
+  spelled = (w ∷ [], [], is, refl, refl);
+  tokens = first_token t w some e ∙ ap (λ (v : Text). w ∷ bare_tokens v) behind;
+}
+
+run_is : (w : Token) (line : ℕ) (run : List ℕ) → run_of w line ≡ Ok run → w ≡ Run run
+run_is (Run r) line run e = ap (λ (x : List ℕ). Run x) (ok_is r run e)
+run_is (Mark b) line run e = absurd (cc)
+run_is Unclosed line run e = absurd (cc)
+run_is End line run e = absurd (cc)
+
+some_is : {A : Type 0} (o : Option A) (d : ConfigFault) (x : A) → or_fault d o ≡ Ok x → o ≡ Some x
+some_is None d x e = absurd (cc)
+some_is (Some y) d x e = ap (λ z. Some z) (ok_is y x e)
+
+-- what reads a run that stands for a value
+abbrev pub read_by : {A : Type 0} → (List ℕ → Option A) → Text → Result (A × Text) ConfigFault
+read_by stands_for t = run_of (first t).token (first t).line >>= λ run. or_fault (Syntax (first t).line) (stands_for run) >>= λ x. Ok (x, others t)
+
+record IsRead {A : Type 0} (stands_for : List ℕ → Option A) (t u : Text) (x : A) : Type 0 where
+  run : List ℕ
+  value : stands_for run ≡ Some x
+  token : (first t).token ≡ Run run
+  behind : others t ≡ u
+
+run_back : {A : Type 0} (stands_for : List ℕ → Option A) (t : Text) (r : A × Text) → read_by stands_for t ≡ Ok r → IsRead stands_for t r.1 r.0
+run_back {A = A} stands_for t r e =
+    let a = bind_ok (run_of (first t).token (first t).line) (λ run. or_fault (Syntax (first t).line) (stands_for run) >>= λ x. Ok (x, others t)) r e in
+    let b = bind_ok (or_fault (Syntax (first t).line) (stands_for a.0)) (λ x. Ok (x, others t)) r a.2 in
+    let made : A × Text = (b.0, others t) in
+    let same : made ≡ r = ok_is made r b.2 in
+    record {
+      run = a.0;
+      value = some_is (stands_for a.0) (Syntax (first t).line) b.0 b.1 ∙ ap (λ (q : A × Text). Some q.0) same;
+      token = run_is (first t).token (first t).line a.0 a.1;
+      behind = ap (λ (q : A × Text). q.1) same;
+    }
+
+value_front : {A : Type 0} (stands_for : List ℕ → Option A) (piece : A → Piece) → ((x : A) (run : List ℕ) → stands_for run ≡ Some x → IsSpelled (piece x) (Run run ∷ [])) → (t : Text) (r : A × Text) → read_by stands_for t ≡ Ok r → Front (piece r.0 ∷ []) t r.1
+value_front stands_for piece spells t r e =
+    let a = run_back stands_for t r e in
+    one_front (piece r.0) (Run a.run) t r.1 (λ e. cc) (spells r.0 a.run a.value) a.token a.behind
+
+numeral_back : (t : Text) (r : ℕ × Text) → number_at t ≡ Ok r → Front (Numeral r.0 ∷ []) t r.1
+unfolding number_at
+numeral_back t r e = value_front number_of Numeral (λ n run h. (run, refl, h)) t r e
+
+value_back : (t : Text) (r : Operand × Text) → operand_at t ≡ Ok r → Front (Value r.0 ∷ []) t r.1
+unfolding operand_at
+value_back t r e = value_front operand_of Value (λ v run h. (run, refl, h)) t r e
+
+stack_back : (t : Text) (r : Stack × Text) → stack_at t ≡ Ok r → Front (StackValue r.0 ∷ []) t r.1
+unfolding stack_at
+stack_back t r e = value_front stack_of StackValue (λ v run h. (run, refl, h)) t r e
+
+class_name_back : (t : Text) (r : ℕ × Text) → class_number_at t ≡ Ok r → Front (ClassName r.0 ∷ []) t r.1
+unfolding class_number_at
+class_name_back t r e = value_front class_of ClassName (λ n run h. (run, refl, h)) t r e
+
+area_back : (t u : Text) → area_at t ≡ Ok u → Front (Area ∷ []) t u
+unfolding area_at
+area_back t u e =
+    let a = bind_ok (run_of (first t).token (first t).line) (λ run. cond (is_area run) (Ok (others t)) (Err (Syntax (first t).line))) u e in
+    let p = passed (is_area a.0) (Syntax (first t).line) (others t) u a.2 in
+    one_front Area (Run a.0) t u (λ e. cc) (a.0, refl, p.0) (run_is (first t).token (first t).line a.0 a.1) p.1
+
+mark_is : (mark : ℕ) (w : Token) (line : ℕ) (rest u : Text) → expect_mark mark w line rest ≡ Ok u → (w ≡ Mark mark) × (rest ≡ u)
+mark_is mark (Run run) line rest u e = absurd (cc)
+mark_is mark (Mark b) line rest u e =
+    let p = passed (nat_eq b mark) (Syntax line) rest u e in
+    (ap (λ (n : ℕ). Mark n) (eqb-true b mark p.0), p.1)
+mark_is mark Unclosed line rest u e = absurd (cc)
+mark_is mark End line rest u e = absurd (cc)
+
+sign_back : (b : ℕ) (t u : Text) → mark_at b t ≡ Ok u → Front (Sign b ∷ []) t u
+unfolding mark_at
+sign_back b t u e =
+    let p = mark_is b (first t).token (first t).line (others t) u e in
+    one_front (Sign b) (Mark b) t u (λ e. cc) refl p.0 p.1
+
+-- ---- attributes
+
+-- the mark behind an attribute
+abbrev pub joint : Bool → ℕ
+joint more = cond more 124 44
+
+joint_by : (b line : ℕ) (rest : Text) (j : Bool × Text) (is_bar is_end : Bool) → is_bar ≡ nat_eq b 124 → is_end ≡ nat_eq b 44 → cond is_bar (Ok (true, rest)) (cond is_end (Ok (false, rest)) (Err (Syntax line))) ≡ Ok j → (b ≡ joint j.0) × (rest ≡ j.1)
+joint_by b line rest j true is_end bar_is end_is e =
+    let found : Bool × Text = (true, rest) in
+    let same : found ≡ j = ok_is found j e in
+    (eqb-true b 124 (sym bar_is) ∙ ap (λ (q : Bool × Text). joint q.0) same, ap (λ (q : Bool × Text). q.1) same)
+joint_by b line rest j false true bar_is end_is e =
+    let found : Bool × Text = (false, rest) in
+    let same : found ≡ j = ok_is found j e in
+    (eqb-true b 44 (sym end_is) ∙ ap (λ (q : Bool × Text). joint q.0) same, ap (λ (q : Bool × Text). q.1) same)
+joint_by b line rest j false false bar_is end_is e = absurd (cc)
+
+joint_is : (w : Token) (line : ℕ) (rest : Text) (j : Bool × Text) → expect_joint 44 w line rest ≡ Ok j → (w ≡ Mark (joint j.0)) × (rest ≡ j.1)
+joint_is (Run run) line rest j e = absurd (cc)
+joint_is (Mark b) line rest j e =
+    let p = joint_by b line rest j (nat_eq b 124) (nat_eq b 44) refl refl e in
+    (ap (λ (n : ℕ). Mark n) p.0, p.1)
+joint_is Unclosed line rest j e = absurd (cc)
+joint_is End line rest j e = absurd (cc)
+
+-- a turn over one attribute
+pub record OneAttribute (before : ℕ) (t : Text) (flow : Flow (ℕ × Text) (ℕ × Text)) : Type 0 where
+  pub run : List ℕ
+  pub bits : ℕ
+  pub more : Bool
+  pub rest : Text
+  pub named : attribute_of run ≡ Some bits
+  pub tokens : bare_tokens t ≡ Run run ∷ Mark (joint more) ∷ bare_tokens rest
+  pub goes : flow_of more (bit_or before bits, rest) (bit_or before bits, rest) ≡ flow
+
+pub attribute_back : (before : ℕ) (t : Text) (flow : Flow (ℕ × Text) (ℕ × Text)) → attribute_step 44 (before, t) ≡ Ok flow → OneAttribute before t flow
+unfolding attribute_step attribute_at joint_at
+attribute_back before t flow e =
+    let a = bind_ok (read_by attribute_of t) (λ a. joint_at 44 a.1 >>= λ joint. Ok (flow_of joint.0 (bit_or before a.0, joint.1) (bit_or before a.0, joint.1))) flow e in
+    let j = bind_ok (joint_at 44 a.0.1) (λ joint. Ok (flow_of joint.0 (bit_or before a.0.0, joint.1) (bit_or before a.0.0, joint.1))) flow a.2 in
+    let r = run_back attribute_of t a.0 a.1 in
+    let m = joint_is (first a.0.1).token (first a.0.1).line (others a.0.1) j.0 j.1 in
+    let behind : bare_tokens a.0.1 ≡ Mark (joint j.0.0) ∷ bare_tokens j.0.1 = first_token a.0.1 (Mark (joint j.0.0)) (λ e. cc) m.0 ∙ ap (λ (v : Text). Mark (joint j.0.0) ∷ bare_tokens v) m.1 in
+    record {
+      run = r.run;
+      bits = a.0.0;
+      more = j.0.0;
+      rest = j.0.1;
+      named = r.value;
+      tokens = first_token t (Run r.run) (λ e. cc) r.token ∙ ap (λ (v : Text). Run r.run ∷ bare_tokens v) r.behind ∙ ap (λ (ws : List Token). Run r.run ∷ ws) behind;
+      goes = ok_is (flow_of j.0.0 (bit_or before a.0.0, j.0.1) (bit_or before a.0.0, j.0.1)) flow j.2;
+    }
+
+-- attributes, and the mark behind them
+record AreJoined (before bits : ℕ) (t u : Text) : Type 0 where
+  front : List Token
+  joined : Joined before bits front
+  tokens : bare_tokens t ≡ front ++ Mark 44 ∷ bare_tokens u
+
+joined_by : (n before : ℕ) (t rest : Text) (run : List ℕ) (bits : ℕ) (more : Bool) (r : ℕ × Text) → attribute_of run ≡ Some bits → bare_tokens t ≡ Run run ∷ Mark (joint more) ∷ bare_tokens rest
+    → ((b : ℕ) (t : Text) → repeated NoMemory (attribute_step 44) n (b, t) ≡ Ok r → AreJoined b r.0 t r.1)
+    → followed (repeated NoMemory (attribute_step 44) n) (flow_of more (bit_or before bits, rest) (bit_or before bits, rest)) ≡ Ok r → AreJoined before r.0 t r.1
+joined_by n before t rest run bits true r named tokens again e =
+    let j = again (bit_or before bits) rest e in
+    record { front = Run run ∷ Mark 124 ∷ j.front; joined = bar before run bits r.0 j.front named j.joined; tokens = tokens ∙ ap (λ (ws : List Token). Run run ∷ Mark 124 ∷ ws) j.tokens }
+joined_by n before t rest run bits false r named tokens again e =
+    let made : ℕ × Text = (bit_or before bits, rest) in
+    let same : made ≡ r = ok_is made r e in
+    subst (λ (q : ℕ × Text). AreJoined before q.0 t q.1) same (record { front = Run run ∷ []; joined = last before run bits named; tokens = tokens })
+
+joined_back : (n before : ℕ) (t : Text) (r : ℕ × Text) → repeated NoMemory (attribute_step 44) n (before, t) ≡ Ok r → AreJoined before r.0 t r.1
+unfolding repeated
+joined_back zero before t r e = absurd (cc)
+joined_back (suc n) before t r e =
+    let s = bind_ok (attribute_step 44 (before, t)) (followed (repeated NoMemory (attribute_step 44) n)) r e in
+    let a = attribute_back before t s.0 s.1 in
+    joined_by n before t a.rest a.run a.bits a.more r a.named a.tokens (λ b w x. joined_back n b w r x) (ap (followed (repeated NoMemory (attribute_step 44) n)) a.goes ∙ s.2)
+
+attributes_back : (t : Text) (r : ℕ × Text) → attributes_at 44 t ≡ Ok r → Front (Attributes r.0 ∷ Sign 44 ∷ []) t r.1
+unfolding attributes_at
+attributes_back t r e =
+    let j = joined_back (suc (length t.tokens)) 0 t r e in
+    record {
+      front = j.front ++ Mark 44 ∷ [];
+      spelled = (j.front, Mark 44 ∷ [], j.joined, (Mark 44 ∷ [], [], refl, refl, refl), refl);
+      tokens = j.tokens ∙ sym (append_assoc j.front (Mark 44 ∷ []) (bare_tokens r.1));
+    }
+
+-- ---- statements
+
+-- ( id , { attributes ,
+abbrev head_pieces : ℕ → ℕ → List Piece
+head_pieces id attributes = Sign 40 ∷ Numeral id ∷ Sign 44 ∷ Sign 123 ∷ Attributes attributes ∷ Sign 44 ∷ []
+
+head_back : (t : Text) (r : ℕ × ℕ × Text) → head_at t ≡ Ok r → Front (head_pieces r.0 r.1) t r.2
+unfolding head_at
+head_back t r e =
+    let a = bind_ok (mark_at 40 t) _ r e in
+    let b = bind_ok (number_at a.0) _ r a.2 in
+    let c = bind_ok (mark_at 44 b.0.1) _ r b.2 in
+    let d = bind_ok (mark_at 123 c.0) _ r c.2 in
+    let f = bind_ok (attributes_at 44 d.0) _ r d.2 in
+    let made : ℕ × ℕ × Text = (b.0.0, f.0.0, f.0.1) in
+    subst (λ (q : ℕ × ℕ × Text). Front (head_pieces q.0 q.1) t q.2) (ok_is made r f.2)
+    (sign_back 40 t a.0 a.1 then numeral_back a.0 b.0 b.1 then sign_back 44 b.0.1 c.0 c.1 then sign_back 123 c.0 d.0 d.1 then attributes_back d.0 f.0 f.1)
+
+tail_back : (t u : Text) → tail_at t ≡ Ok u → Front (Sign 125 ∷ Sign 41 ∷ Sign 59 ∷ []) t u
+unfolding tail_at
+tail_back t u e =
+    let a = bind_ok (mark_at 125 t) _ u e in
+    let b = bind_ok (mark_at 41 a.0) _ u a.2 in
+    sign_back 125 t a.0 a.1 then sign_back 41 a.0 b.0 b.1 then sign_back 59 b.0 u b.2
+
+pub board_back : (t : Text) (r : ℕ × ℕ × Text) → board_at t ≡ Ok r → Front (Sign 40 ∷ Numeral r.0 ∷ Sign 44 ∷ Numeral r.1 ∷ Sign 41 ∷ Sign 59 ∷ []) t r.2
+unfolding board_at
+board_back t r e =
+    let a = bind_ok (mark_at 40 t) _ r e in
+    let b = bind_ok (number_at a.0) _ r a.2 in
+    let c = bind_ok (mark_at 44 b.0.1) _ r b.2 in
+    let d = bind_ok (number_at c.0) _ r c.2 in
+    let f = bind_ok (mark_at 41 d.0.1) _ r d.2 in
+    let g = bind_ok (mark_at 59 f.0) _ r f.2 in
+    let made : ℕ × ℕ × Text = (b.0.0, d.0.0, g.0) in
+    subst (λ (q : ℕ × ℕ × Text). Front (Sign 40 ∷ Numeral q.0 ∷ Sign 44 ∷ Numeral q.1 ∷ Sign 41 ∷ Sign 59 ∷ []) t q.2) (ok_is made r g.2)
+    (sign_back 40 t a.0 a.1 then numeral_back a.0 b.0 b.1 then sign_back 44 b.0.1 c.0 c.1 then numeral_back c.0 d.0 d.1 then sign_back 41 d.0.1 f.0 f.1 then sign_back 59 f.0 g.0 g.1)
+
+keyword_name : Keyword → List ℕ
+keyword_name keywords.Board = codes "BOARD"
+keyword_name keywords.Class = codes "CLASS"
+keyword_name keywords.Task = codes "CRE_TSK"
+keyword_name keywords.Semaphore = codes "CRE_SEM"
+keyword_name keywords.Flag = codes "CRE_FLG"
+keyword_name keywords.Queue = codes "CRE_DTQ"
+keyword_name keywords.Handler = codes "DEF_INH"
+
+-- behind its first token a statement has the rest of its form, and it may stand here
+record Behind (name : List ℕ) (in_class : Bool) (t : Text) (r : Statement × Text) : Type 0 where
+  whole : (s : Text) → Front (Exactly name ∷ []) s t → Front (form r.0) s r.1
+  may : MayStand in_class r.0
+
+class_back : (t : Text) (r : Statement × Text) → class_at t ≡ Ok r → Behind (codes "CLASS") false t r
+unfolding class_at
+class_back t r e =
+    let a = bind_ok (mark_at 40 t) _ r e in
+    let b = bind_ok (class_number_at a.0) _ r a.2 in
+    let c = bind_ok (mark_at 41 b.0.1) _ r b.2 in
+    let d = bind_ok (mark_at 123 c.0) _ r c.2 in
+    let made : Statement × Text = (Class b.0.0, d.0) in
+    subst (Behind (codes "CLASS") false t) (ok_is made r d.2)
+    (record { whole = λ s f. f then sign_back 40 t a.0 a.1 then class_name_back a.0 b.0 b.1 then sign_back 41 b.0.1 c.0 c.1 then sign_back 123 c.0 d.0 d.1; may = refl })
+
+task_back : (in_class : Bool) (t : Text) (r : Statement × Text) → task_at t ≡ Ok r → Behind (codes "CRE_TSK") in_class t r
+unfolding task_at
+task_back in_class t r e =
+    let h = bind_ok (head_at t) _ r e in
+    let a = bind_ok (operand_at h.0.2) _ r h.2 in
+    let b = bind_ok (mark_at 44 a.0.1) _ r a.2 in
+    let c = bind_ok (operand_at b.0) _ r b.2 in
+    let d = bind_ok (mark_at 44 c.0.1) _ r c.2 in
+    let f = bind_ok (number_at d.0) _ r d.2 in
+    let g = bind_ok (mark_at 44 f.0.1) _ r f.2 in
+    let i = bind_ok (number_at g.0) _ r g.2 in
+    let j = bind_ok (mark_at 44 i.0.1) _ r i.2 in
+    let k = bind_ok (stack_at j.0) _ r j.2 in
+    let l = bind_ok (tail_at k.0.1) _ r k.2 in
+    let made : Statement × Text = (Task (record { id = h.0.0; attributes = h.0.1; exinf = a.0.0; address = c.0.0; priority = f.0.0; stack_size = i.0.0; stack = k.0.0 }), l.0) in
+    subst (Behind (codes "CRE_TSK") in_class t) (ok_is made r l.2)
+    (record {
+      whole = λ s x. x then head_back t h.0 h.1 then value_back h.0.2 a.0 a.1 then sign_back 44 a.0.1 b.0 b.1 then value_back b.0 c.0 c.1 then sign_back 44 c.0.1 d.0 d.1 then numeral_back d.0 f.0 f.1 then sign_back 44 f.0.1 g.0 g.1 then numeral_back g.0 i.0 i.1 then sign_back 44 i.0.1 j.0 j.1 then stack_back j.0 k.0 k.1 then tail_back k.0.1 l.0 l.1;
+      may = tt;
+    })
+
+semaphore_back : (in_class : Bool) (t : Text) (r : Statement × Text) → semaphore_at t ≡ Ok r → Behind (codes "CRE_SEM") in_class t r
+unfolding semaphore_at
+semaphore_back in_class t r e =
+    let h = bind_ok (head_at t) _ r e in
+    let a = bind_ok (number_at h.0.2) _ r h.2 in
+    let b = bind_ok (mark_at 44 a.0.1) _ r a.2 in
+    let c = bind_ok (number_at b.0) _ r b.2 in
+    let l = bind_ok (tail_at c.0.1) _ r c.2 in
+    let made : Statement × Text = (Semaphore (record { id = h.0.0; attributes = h.0.1; initial = a.0.0; maximum = c.0.0 }), l.0) in
+    subst (Behind (codes "CRE_SEM") in_class t) (ok_is made r l.2)
+    (record { whole = λ s x. x then head_back t h.0 h.1 then numeral_back h.0.2 a.0 a.1 then sign_back 44 a.0.1 b.0 b.1 then numeral_back b.0 c.0 c.1 then tail_back c.0.1 l.0 l.1; may = tt })
+
+flag_back : (in_class : Bool) (t : Text) (r : Statement × Text) → flag_at t ≡ Ok r → Behind (codes "CRE_FLG") in_class t r
+unfolding flag_at
+flag_back in_class t r e =
+    let h = bind_ok (head_at t) _ r e in
+    let a = bind_ok (number_at h.0.2) _ r h.2 in
+    let l = bind_ok (tail_at a.0.1) _ r a.2 in
+    let made : Statement × Text = (Flag (record { id = h.0.0; attributes = h.0.1; pattern = a.0.0 }), l.0) in
+    subst (Behind (codes "CRE_FLG") in_class t) (ok_is made r l.2)
+    (record { whole = λ s x. x then head_back t h.0 h.1 then numeral_back h.0.2 a.0 a.1 then tail_back a.0.1 l.0 l.1; may = tt })
+
+queue_back : (in_class : Bool) (t : Text) (r : Statement × Text) → queue_at t ≡ Ok r → Behind (codes "CRE_DTQ") in_class t r
+unfolding queue_at
+queue_back in_class t r e =
+    let h = bind_ok (head_at t) _ r e in
+    let a = bind_ok (number_at h.0.2) _ r h.2 in
+    let b = bind_ok (mark_at 44 a.0.1) _ r a.2 in
+    let c = bind_ok (area_at b.0) _ r b.2 in
+    let l = bind_ok (tail_at c.0) _ r c.2 in
+    let made : Statement × Text = (Queue (record { id = h.0.0; attributes = h.0.1; capacity = a.0.0 }), l.0) in
+    subst (Behind (codes "CRE_DTQ") in_class t) (ok_is made r l.2)
+    (record { whole = λ s x. x then head_back t h.0 h.1 then numeral_back h.0.2 a.0 a.1 then sign_back 44 a.0.1 b.0 b.1 then area_back b.0 c.0 c.1 then tail_back c.0 l.0 l.1; may = tt })
+
+handler_back : (in_class : Bool) (t : Text) (r : Statement × Text) → handler_at t ≡ Ok r → Behind (codes "DEF_INH") in_class t r
+unfolding handler_at
+handler_back in_class t r e =
+    let h = bind_ok (head_at t) _ r e in
+    let a = bind_ok (operand_at h.0.2) _ r h.2 in
+    let l = bind_ok (tail_at a.0.1) _ r a.2 in
+    let made : Statement × Text = (Handler (record { line = h.0.0; attributes = h.0.1; address = a.0.0 }), l.0) in
+    subst (Behind (codes "DEF_INH") in_class t) (ok_is made r l.2)
+    (record { whole = λ s x. x then head_back t h.0 h.1 then value_back h.0.2 a.0 a.1 then tail_back a.0.1 l.0 l.1; may = tt })
+
+behind_back : (in_class : Bool) (line : ℕ) (k : Keyword) (t : Text) (r : Statement × Text) → behind_keyword in_class line k t ≡ Ok r → Behind (keyword_name k) in_class t r
+unfolding behind_keyword keyword_name
+behind_back in_class line keywords.Board t r e =
+    let b = bind_ok (board_at t) _ r e in
+    let made : Statement × Text = (Board b.0.0 b.0.1, b.0.2) in
+    subst (Behind (codes "BOARD") in_class t) (ok_is made r b.2) (record { whole = λ s x. x then board_back t b.0 b.1; may = tt })
+behind_back true line keywords.Class t r e = absurd (cc)
+behind_back false line keywords.Class t r e = class_back t r e
+behind_back in_class line keywords.Task t r e = task_back in_class t r e
+behind_back in_class line keywords.Semaphore t r e = semaphore_back in_class t r e
+behind_back in_class line keywords.Flag t r e = flag_back in_class t r e
+behind_back in_class line keywords.Queue t r e = queue_back in_class t r e
+behind_back in_class line keywords.Handler t r e = handler_back in_class t r e
+
+-- the first of these names, or one of the others
+one_name : (run name : List ℕ) (k q : Keyword) (others : Option Keyword) → name ≡ keyword_name k → (others ≡ Some q → run ≡ keyword_name q) → cond (bytes_eq run name) (Some k) others ≡ Some q → run ≡ keyword_name q
+one_name run name k q others is among e =
+    elim (cases_Bool (bytes_eq run name)) [
+      | inl same ↦ (bytes_eq-Decides run name).0 same ∙ is ∙ ap keyword_name (inside k q (rw same at e))
+      | inr other ↦ among (rw other at e)
+    ]
+  where
+    inside : (k q : Keyword) → Some k ≡ Some q → k ≡ q
+    inside k q e = cc
+
+keyword_is : (run : List ℕ) (q : Keyword) → keyword_of run ≡ Some q → run ≡ keyword_name q
+unfolding keyword_of keyword_name
+keyword_is run q e =
+    one_name run (codes "BOARD") keywords.Board q _ refl
+    (one_name run (codes "CLASS") keywords.Class q _ refl
+    (one_name run (codes "CRE_TSK") keywords.Task q _ refl
+    (one_name run (codes "CRE_SEM") keywords.Semaphore q _ refl
+    (one_name run (codes "CRE_FLG") keywords.Flag q _ refl
+    (one_name run (codes "CRE_DTQ") keywords.Queue q _ refl
+    (one_name run (codes "DEF_INH") keywords.Handler q _ refl
+    (λ none. absurd (cc)))))))) e
+
+-- a statement at the front of a text, where it may stand
+pub record IsStatement (in_class : Bool) (t : Text) (r : Statement × Text) : Type 0 where
+  pub front : Front (form r.0) t r.1
+  pub may : MayStand in_class r.0
+
+pub exactly : (run : List ℕ) (t : Text) → (first t).token ≡ Run run → Front (Exactly run ∷ []) t (others t)
+exactly run t e = one_front (Exactly run) (Run run) t (others t) (λ e. cc) refl e refl
+
+by_token : (in_class : Bool) (w : Token) (t : Text) (r : Statement × Text) → (first t).token ≡ w → statement_by in_class w (first t).line (others t) ≡ Ok r → IsStatement in_class t r
+by_token in_class (Run run) t r is e =
+    let k = bind_ok (or_fault (Syntax (first t).line) (keyword_of run)) (λ keyword. behind_keyword in_class (first t).line keyword (others t)) r e in
+    let named : run ≡ keyword_name k.0 = keyword_is run k.0 (some_is (keyword_of run) (Syntax (first t).line) k.0 k.1) in
+    let b = behind_back in_class (first t).line k.0 (others t) r k.2 in
+    record { front = b.whole t (exactly (keyword_name k.0) t (is ∙ ap (λ (x : List ℕ). Run x) named)); may = b.may }
+by_token in_class (Mark b) t r is e =
+    let made : Statement × Text = (ClassEnd, others t) in
+    let p = passed (in_class && nat_eq b 125) (Syntax (first t).line) made r e in
+    let parts = and_parts in_class (nat_eq b 125) p.0 in
+    subst (IsStatement in_class t) p.1 (record { front = one_front (Sign 125) (Mark b) t (others t) (λ e. cc) (ap (λ (n : ℕ). Mark n ∷ []) (eqb-true b 125 parts.1)) is refl; may = parts.0 })
+by_token in_class Unclosed t r is e = absurd (cc)
+by_token in_class End t r is e = absurd (cc)
+
+pub statement_back : (in_class : Bool) (t : Text) (r : Statement × Text) → statement_at in_class t ≡ Ok r → IsStatement in_class t r
+unfolding statement_at
+statement_back in_class t r e = by_token in_class (first t).token t r refl e

@@ -1,0 +1,276 @@
+-- A text that is read spells valid statements, and these say what was read.
+use Rattle.std.proofs.Common.{◌≡◌, ◌≢◌, ℕ, zero, suc, ◌≤◌, Bool, true, false, cond, not, ◌&&◌, List, [], ◌∷◌, ◌++◌, length, map, Option, Some, None, Result, Ok, Err, refl, sym, ap, subst, ◌∙◌, append_assoc, append-nil}
+use Rattle.std.specs.Prelude.{is_some, is_none, codes}
+use Rattle.std.specs.Str.{bytes_eq}
+use Rattle.std.specs.List.{flat_map, AllByRecursion}
+use Rattle.std.proofs.lemmas.Bool.{and_parts}
+use Rattle.std.proofs.lemmas.Slice.Eq.{bytes_eq-Decides}
+use Rattle.brd_text.specs.Tokens.{Token, Placed, Text, first, others, tokens_of}
+use Rattle.brd_text.specs.Tokens.Token.{Run, Mark, Unclosed, End}
+use Rattle.brd_text.specs.Tokens.Place.{Between}
+use Rattle.brd_text.specs.Faults.{◌>>=◌}
+use Rattle.brd_text.specs.Turns.{Flow, followed, repeated}
+use Rattle.brd_text.specs.Turns.Flow.{More, Done}
+use Rattle.brd_text.specs.Spelling.{bare_tokens}
+use Rattle.brd_text.proofs.FaultLemmas.{bind_ok, ok_is, passed}
+use Rattle.brd_config.specs.declared.fault.ConfigFault.{ConfigFault}
+use Rattle.brd_config.specs.declared.fault.ConfigFault.TheVariants.{NoMemory, Syntax, Duplicate, BadProcessor, BadCount}
+use Rattle.brd_config.specs.declared.objects.TaskConfig.{TaskConfig}
+use Rattle.brd_config.specs.declared.objects.SemaphoreConfig.{SemaphoreConfig}
+use Rattle.brd_config.specs.declared.objects.FlagConfig.{FlagConfig}
+use Rattle.brd_config.specs.declared.objects.QueueConfig.{QueueConfig}
+use Rattle.brd_config.specs.declared.objects.HandlerConfig.{HandlerConfig}
+use Rattle.brd_config.specs.declared.statement.Statement.{Statement}
+use Rattle.brd_config.specs.declared.statement.Statement.TheVariants.{Board, Class, ClassEnd, Task, Semaphore, Flag, Queue, Handler}
+use Rattle.brd_config.specs.Statements.{statement_at, board_at}
+use Rattle.brd_config.specs.Configuration.{Configuration, IsWithin, IsConfiguration}
+use Rattle.brd_config.specs.Meaning.{State, within, refused, is_ram_size, task_of, semaphore_of, flag_of, queue_of, handler_of, added, processor_of, is_end, is_board, one_more, statement_step, statements_from, board_of, first_board, first_statement, config_of}
+use Rattle.brd_config.specs.Grammar.{Piece, Joined, IsSpelled, AreSpelled, OneRun, form, IsOutside, IsInside, tasks_of, semaphores_of, flags_of, queues_of, handlers_of, task_said, semaphore_said, flag_said, queue_said, handler_said, said, AreNested, AreValid, Says}
+use Rattle.brd_config.specs.Grammar.Piece.{Exactly, Sign, Numeral, Attributes, Value, StackValue, Area, ClassName}
+use Rattle.brd_config.specs.Grammar.Joined.{last, bar}
+use Rattle.brd_config.proofs.Forms.{MayStand}
+use Rattle.brd_config.proofs.FormsBack.{Front, ◌then◌, both_spelled, exactly, board_back, statement_back}
+use Rattle.brd_config.proofs.SpelledBack.{AreClosed, AreTokens, spelled_back, are_tokens}
+use Rattle.brd_config.proofs.Validity.{IsState, one_ok, two_ok, within_ok, task_ok, semaphore_ok, flag_ok, queue_ok, handler_ok, added_ok, first_ok, config_is_valid}
+use Rattle.brd_config.proofs.Accepted.{Leads, started, all_said}
+
+-- ---- tokens of pieces
+
+both_closed : (front rest : List Token) → AreClosed front → AreClosed rest → AreClosed (front ++ rest)
+both_closed [] rest f r = r
+both_closed (w ∷ front) rest f r = (f.0, both_closed front rest f.1 r)
+
+run_closed : (P : List ℕ → Type 0) (tokens : List Token) → OneRun P tokens → AreClosed tokens
+run_closed P tokens s = subst AreClosed (sym s.1) ((λ e. cc), tt)
+
+joined_closed : (before bits : ℕ) (tokens : List Token) → Joined before bits tokens → AreClosed tokens
+joined_closed before _ _ (last _ run bits h) = ((λ e. cc), tt)
+joined_closed before _ _ (bar _ run bits all tokens h j) = ((λ e. cc), ((λ e. cc), joined_closed _ _ tokens j))
+
+piece_closed : (p : Piece) (tokens : List Token) → IsSpelled p tokens → AreClosed tokens
+piece_closed (Exactly run) tokens s = subst AreClosed (sym s) ((λ e. cc), tt)
+piece_closed (Sign b) tokens s = subst AreClosed (sym s) ((λ e. cc), tt)
+piece_closed (Numeral n) tokens s = run_closed _ tokens s
+piece_closed (Attributes bits) tokens s = joined_closed 0 bits tokens s
+piece_closed (Value v) tokens s = run_closed _ tokens s
+piece_closed (StackValue v) tokens s = run_closed _ tokens s
+piece_closed Area tokens s = run_closed _ tokens s
+piece_closed (ClassName n) tokens s = run_closed _ tokens s
+
+closed : (ps : List Piece) (tokens : List Token) → AreSpelled ps tokens → AreClosed tokens
+closed [] tokens s = subst AreClosed (sym s) tt
+closed (p ∷ ps) tokens s = subst AreClosed (sym s.4) (both_closed s.0 s.1 (piece_closed p s.0 s.2) (closed ps s.1 s.3))
+
+behind_front : (front rest : List Token) → AreTokens (front ++ rest) → AreTokens rest
+behind_front [] rest are = are
+behind_front (w ∷ front) rest are = behind_front front rest are.1
+
+end_is : (w : Token) → is_end w ≡ true → w ≡ End
+end_is (Run run) h = absurd (cc)
+end_is (Mark b) h = absurd (cc)
+end_is Unclosed h = absurd (cc)
+end_is End h = refl
+
+no_tokens : (t : Text) → AreTokens (bare_tokens t) → is_end (first t).token ≡ true → bare_tokens t ≡ []
+no_tokens t are h = by_tokens t.tokens are h
+  where
+    by_tokens : (ps : List Placed) → AreTokens (map (λ p. p.token) ps) → is_end (first (record { tokens = ps; end = t.end })).token ≡ true → map (λ p. p.token) ps ≡ []
+    by_tokens [] are h = refl
+    by_tokens (p ∷ ps) are h = absurd (are.0 (end_is p.token h))
+
+-- ---- what a statement adds is what it says
+
+outside : (class : Option ℕ) → is_some class ≡ false → IsOutside class
+outside None h = tt
+outside (Some n) h = absurd (cc)
+
+inside : (class : Option ℕ) → is_some class ≡ true → IsInside class
+inside None h = absurd (cc)
+inside (Some n) h = tt
+
+-- What holds of the statements behind a statement holds with it in front.
+abbrev GoesBack : Configuration → State → Statement → List Statement → State → Type 0
+GoesBack whole s x ss next = Leads whole next.config next.class ss → AreNested next.config.processors next.class ss → Leads whole s.config s.class (x ∷ ss) × AreNested s.config.processors s.class (x ∷ ss)
+
+goes_back : (line : ℕ) (whole : Configuration) (s next : State) (x : Statement) (ss : List Statement) → IsState s → MayStand (is_some s.class) x → added line s x ≡ Ok next → GoesBack whole s x ss next
+unfolding added
+goes_back line whole s next (Board processors ram) ss is may e = absurd (let p = bind_ok (within 1 8 (BadProcessor line) processors) (λ count. Err (Duplicate line)) next e in never p.2)
+  where
+    never : Err (Duplicate line) ≡ Ok next → ⊥
+    never e = cc
+goes_back line whole s next (Class n) ss is may e =
+    let p = one_ok (within 1 s.config.processors (BadProcessor line) n) (λ processor. record s { class = Some processor }) next e in
+    let w = within_ok 1 s.config.processors (BadProcessor line) n p.0 p.1 in
+    let same : record s { class = Some n } ≡ next = ap (λ (k : ℕ). record s { class = Some k }) (sym w.0) ∙ p.2 in
+    subst (GoesBack whole s (Class n) ss) same
+    (λ l nested. (record { processors = l.processors; ram = l.ram; tasks = l.tasks; semaphores = l.semaphores; flags = l.flags; queues = l.queues; handlers = l.handlers }, (outside s.class may, subst (IsWithin 1 s.config.processors) w.0 w.1, nested)))
+goes_back line whole s next ClassEnd ss is may e =
+    subst (GoesBack whole s ClassEnd ss) (ok_is (record s { class = None }) next e)
+    (λ l nested. (record { processors = l.processors; ram = l.ram; tasks = l.tasks; semaphores = l.semaphores; flags = l.flags; queues = l.queues; handlers = l.handlers }, (inside s.class may, nested)))
+goes_back line whole s next (Task x) ss is may e =
+    let add : TaskConfig → State = λ made. record s { config = record s.config { tasks = s.config.tasks ++ made ∷ [] } } in
+    let p = one_ok (task_of line s.config.tasks (processor_of s.class) x) add next e in
+    let ok = task_ok line s.config.tasks s.config.processors (processor_of s.class) x p.0 is.class p.1 in
+    subst (GoesBack whole s (Task x) ss) (ap add (sym ok.2) ∙ p.2)
+    (λ l nested. (record { processors = l.processors; ram = l.ram; tasks = l.tasks ∙ append_assoc s.config.tasks (task_said (processor_of s.class) x ∷ []) (tasks_of s.class ss); semaphores = l.semaphores; flags = l.flags; queues = l.queues; handlers = l.handlers }, nested))
+goes_back line whole s next (Semaphore x) ss is may e =
+    let add : SemaphoreConfig → State = λ made. record s { config = record s.config { semaphores = s.config.semaphores ++ made ∷ [] } } in
+    let p = one_ok (semaphore_of line s.config.semaphores x) add next e in
+    let ok = semaphore_ok line s.config.semaphores x p.0 p.1 in
+    subst (GoesBack whole s (Semaphore x) ss) (ap add (sym ok.2) ∙ p.2)
+    (λ l nested. (record { processors = l.processors; ram = l.ram; tasks = l.tasks; semaphores = l.semaphores ∙ append_assoc s.config.semaphores (semaphore_said x ∷ []) (semaphores_of ss); flags = l.flags; queues = l.queues; handlers = l.handlers }, nested))
+goes_back line whole s next (Flag x) ss is may e =
+    let add : FlagConfig → State = λ made. record s { config = record s.config { flags = s.config.flags ++ made ∷ [] } } in
+    let p = one_ok (flag_of line s.config.flags x) add next e in
+    let ok = flag_ok line s.config.flags x p.0 p.1 in
+    subst (GoesBack whole s (Flag x) ss) (ap add (sym ok.2) ∙ p.2)
+    (λ l nested. (record { processors = l.processors; ram = l.ram; tasks = l.tasks; semaphores = l.semaphores; flags = l.flags ∙ append_assoc s.config.flags (flag_said x ∷ []) (flags_of ss); queues = l.queues; handlers = l.handlers }, nested))
+goes_back line whole s next (Queue x) ss is may e =
+    let add : QueueConfig → State = λ made. record s { config = record s.config { queues = s.config.queues ++ made ∷ [] } } in
+    let p = one_ok (queue_of line s.config.queues x) add next e in
+    let ok = queue_ok line s.config.queues x p.0 p.1 in
+    subst (GoesBack whole s (Queue x) ss) (ap add (sym ok.2) ∙ p.2)
+    (λ l nested. (record { processors = l.processors; ram = l.ram; tasks = l.tasks; semaphores = l.semaphores; flags = l.flags; queues = l.queues ∙ append_assoc s.config.queues (queue_said x ∷ []) (queues_of ss); handlers = l.handlers }, nested))
+goes_back line whole s next (Handler x) ss is may e =
+    let add : HandlerConfig → State = λ made. record s { config = record s.config { handlers = s.config.handlers ++ made ∷ [] } } in
+    let p = one_ok (handler_of line s.config.handlers (processor_of s.class) x) add next e in
+    let ok = handler_ok line s.config.handlers s.config.processors (processor_of s.class) x p.0 is.class p.1 in
+    subst (GoesBack whole s (Handler x) ss) (ap add (sym ok.2) ∙ p.2)
+    (λ l nested. (record { processors = l.processors; ram = l.ram; tasks = l.tasks; semaphores = l.semaphores; flags = l.flags; queues = l.queues; handlers = l.handlers ∙ append_assoc s.config.handlers (handler_said (processor_of s.class) x ∷ []) (handlers_of s.class ss) }, (ok.3, nested)))
+
+-- ---- the statements up to the end
+
+-- Statements that a text spells, which lead from what is said so far to the whole.
+record Told (whole : Configuration) (s : State) (t : Text) : Type 0 where
+  statements : List Statement
+  spelled : AreSpelled (flat_map form statements) (bare_tokens t)
+  leads : Leads whole s.config s.class statements
+  nested : AreNested s.config.processors s.class statements
+
+-- nothing follows
+nothing_told : (whole : Configuration) (s : State × Text) → AreTokens (bare_tokens s.1) → (is_none s.0.class && is_end (first s.1).token) ≡ true → s.0.config ≡ whole → Told whole s.0 s.1
+nothing_told whole s are ends e =
+    let parts = and_parts (is_none s.0.class) (is_end (first s.1).token) ends in
+    subst (λ (c : Configuration). Told c s.0 s.1) e
+    (record {
+      statements = [];
+      spelled = no_tokens s.1 are parts.1;
+      leads = record { processors = refl; ram = refl; tasks = sym (append-nil s.0.config.tasks); semaphores = sym (append-nil s.0.config.semaphores); flags = sym (append-nil s.0.config.flags); queues = sym (append-nil s.0.config.queues); handlers = sym (append-nil s.0.config.handlers) };
+      nested = unnested s.0.class parts.0;
+    })
+  where
+    unnested : (class : Option ℕ) → is_none class ≡ true → IsOutside class
+    unnested None h = tt
+    unnested (Some n) h = absurd (cc)
+
+-- the turns that are left come to the whole
+abbrev Comes : ℕ → Configuration → State × Text → Type 0
+Comes n whole s = repeated NoMemory statement_step n s ≡ Ok whole
+
+more_told : (n : ℕ) (whole : Configuration) (s : State × Text) (flow : Flow (State × Text) Configuration) → IsState s.0 → AreTokens (bare_tokens s.1) → ((t : State × Text) → IsState t.0 → AreTokens (bare_tokens t.1) → Comes n whole t → Told whole t.0 t.1)
+    → one_more s ≡ Ok flow → followed (repeated NoMemory statement_step n) flow ≡ Ok whole → Told whole s.0 s.1
+unfolding one_more
+more_told n whole s flow is are again e h =
+    let a = bind_ok (statement_at (is_some s.0.class) s.1) (λ read. added (first s.1).line s.0 read.0 >>= λ next. Ok (More (next, read.1))) flow e in
+    let b = bind_ok (added (first s.1).line s.0 a.0.0) (λ next. Ok (More (next, a.0.1))) flow a.2 in
+    let x = statement_back (is_some s.0.class) s.1 a.0 a.1 in
+    let rest = behind_front x.front.front (bare_tokens a.0.1) (subst AreTokens x.front.tokens are) in
+    let comes : Comes n whole (b.0, a.0.1) = ap (followed (repeated NoMemory statement_step n)) (ok_is (More (b.0, a.0.1)) flow b.2) ∙ h in
+    let told = again (b.0, a.0.1) (added_ok (first s.1).line s.0 b.0 a.0.0 b.1 is) rest comes in
+    let back = goes_back (first s.1).line whole s.0 b.0 a.0.0 told.statements is x.may b.1 told.leads told.nested in
+    record {
+      statements = a.0.0 ∷ told.statements;
+      spelled = subst (AreSpelled (form a.0.0 ++ flat_map form told.statements)) (sym x.front.tokens) (both_spelled (form a.0.0) (flat_map form told.statements) x.front.front (bare_tokens a.0.1) x.front.spelled told.spelled);
+      leads = back.0;
+      nested = back.1;
+    }
+
+told_by : (n : ℕ) (whole : Configuration) (s : State × Text) (flow : Flow (State × Text) Configuration) (ends : Bool) → IsState s.0 → AreTokens (bare_tokens s.1) → ((t : State × Text) → IsState t.0 → AreTokens (bare_tokens t.1) → Comes n whole t → Told whole t.0 t.1)
+    → (is_none s.0.class && is_end (first s.1).token) ≡ ends → cond ends (Ok (Done s.0.config)) (one_more s) ≡ Ok flow → followed (repeated NoMemory statement_step n) flow ≡ Ok whole → Told whole s.0 s.1
+told_by n whole s flow true is are again ends e h =
+    nothing_told whole s are ends (ok_is s.0.config whole (ap (followed (repeated NoMemory statement_step n)) (ok_is (Done s.0.config) flow e) ∙ h))
+told_by n whole s flow false is are again ends e h = more_told n whole s flow is are again e h
+
+told_back : (n : ℕ) (whole : Configuration) (s : State × Text) → IsState s.0 → AreTokens (bare_tokens s.1) → Comes n whole s → Told whole s.0 s.1
+unfolding repeated statement_step
+told_back zero whole s is are e = absurd (cc)
+told_back (suc n) whole s is are e =
+    let b = bind_ok (statement_step s) (followed (repeated NoMemory statement_step n)) whole e in
+    told_by n whole s b.0 (is_none s.0.class && is_end (first s.1).token) is are (λ t ok ts h. told_back n whole t ok ts h) refl b.1 b.2
+
+-- ---- the first statement
+
+-- BOARD at the front, and what it says
+record IsBegun (t : Text) (s : State × Text) : Type 0 where
+  processors : ℕ
+  ram : ℕ
+  front : Front (form (Board processors ram)) t s.1
+  state : s.0 ≡ record { config = started processors ram; class = None }
+
+board_token : (w : Token) → is_board w ≡ true → w ≡ Run (codes "BOARD")
+board_token (Run run) h = ap (λ (x : List ℕ). Run x) ((bytes_eq-Decides run (codes "BOARD")).0 h)
+board_token (Mark b) h = absurd (cc)
+board_token Unclosed h = absurd (cc)
+board_token End h = absurd (cc)
+
+board_said : (line processors ram : ℕ) (c : Configuration) → board_of line processors ram ≡ Ok c → c ≡ started processors ram
+unfolding board_of
+board_said line processors ram c e =
+    let p = two_ok (within 1 8 (BadProcessor line) processors) (refused (not (is_ram_size ram)) (BadCount line))
+    (λ count sized. record { processors = count; ram = ram; tasks = []; semaphores = []; flags = []; queues = []; handlers = [] }) c e in
+    sym p.4 ∙ ap (λ (count : ℕ). started count ram) (within_ok 1 8 (BadProcessor line) processors p.0 p.2).0
+
+begun_back : (line : ℕ) (t : Text) (s : State × Text) → (first t).token ≡ Run (codes "BOARD") → first_board line (others t) ≡ Ok s → IsBegun t s
+unfolding first_board
+begun_back line t s is e =
+    let a = bind_ok (board_at (others t)) (λ board. board_of line board.0 board.1 >>= λ config. Ok (record { config = config; class = None }, board.2)) s e in
+    let b = bind_ok (board_of line a.0.0 a.0.1) (λ config. Ok (record { config = config; class = None }, a.0.2)) s a.2 in
+    let made : State × Text = (record { config = b.0; class = None }, a.0.2) in
+    subst (IsBegun t) (ok_is made s b.2) (record {
+      processors = a.0.0;
+      ram = a.0.1;
+      front = exactly (codes "BOARD") t is then board_back (others t) a.0 a.1;
+      state = ap (λ (c : Configuration). record { config = c; class = None }) (board_said line a.0.0 a.0.1 b.0 b.1);
+    })
+
+first_back : (t : Text) (s : State × Text) → first_statement t ≡ Ok s → IsBegun t s
+unfolding first_statement
+first_back t s e = by_token (is_board (first t).token) refl e
+  where
+    by_token : (b : Bool) → is_board (first t).token ≡ b → cond b (first_board (first t).line (others t)) (Err (Syntax (first t).line)) ≡ Ok s → IsBegun t s
+    by_token true is e = begun_back (first t).line t s (board_token (first t).token is) e
+    by_token false is e = absurd (cc)
+
+-- ---- the text
+
+-- all that there is, where nothing was said before
+whole_said : (whole : Configuration) (processors ram : ℕ) (ss : List Statement) → Leads whole (started processors ram) None ss → whole ≡ said processors ram ss
+whole_said whole processors ram ss l = sym (all_said whole (said processors ram ss) None (record {
+  processors = l.processors;
+  ram = l.ram;
+  tasks = l.tasks ∙ sym (append-nil (tasks_of None ss));
+  semaphores = l.semaphores ∙ sym (append-nil (semaphores_of ss));
+  flags = l.flags ∙ sym (append-nil (flags_of ss));
+  queues = l.queues ∙ sym (append-nil (queues_of ss));
+  handlers = l.handlers ∙ sym (append-nil (handlers_of None ss));
+}))
+
+says : (bytes : List ℕ) (c : Configuration) (s : State × Text) → IsConfiguration c → IsBegun (tokens_of bytes) s → Told c s.0 s.1 → Says bytes c
+says bytes c s valid begun told =
+    let ss = told.statements in
+    let front = begun.front in
+    let leads : Leads c (started begun.processors begun.ram) None ss = subst (λ (q : State). Leads c q.config q.class ss) begun.state told.leads in
+    let nested : AreNested begun.processors None ss = subst (λ (q : State). AreNested q.config.processors q.class ss) begun.state told.nested in
+    let same : c ≡ said begun.processors begun.ram ss = whole_said c begun.processors begun.ram ss leads in
+    let spelled : AreSpelled (flat_map form (Board begun.processors begun.ram ∷ ss)) (bare_tokens (tokens_of bytes)) =
+    subst (AreSpelled (form (Board begun.processors begun.ram) ++ flat_map form ss)) (sym front.tokens) (both_spelled (form (Board begun.processors begun.ram)) (flat_map form ss) front.front (bare_tokens s.1) front.spelled told.spelled) in
+    let bytes_spell = spelled_back 1 bytes (closed (flat_map form (Board begun.processors begun.ram ∷ ss)) (bare_tokens (tokens_of bytes)) spelled) in
+    (begun.processors, begun.ram, ss, (bare_tokens (tokens_of bytes), bytes_spell, spelled), record { nested = nested; values = subst IsConfiguration same valid }, same)
+
+pub says_back : (bytes : List ℕ) (c : Configuration) → config_of bytes ≡ Ok c → Says bytes c
+unfolding config_of statements_from
+says_back bytes c e =
+    let a = bind_ok (first_statement (tokens_of bytes)) statements_from c e in
+    let begun = first_back (tokens_of bytes) a.0 a.1 in
+    let rest = behind_front begun.front.front (bare_tokens a.0.1) (subst AreTokens begun.front.tokens (are_tokens Between 1 bytes)) in
+    says bytes c a.0 (config_is_valid bytes c e) begun (told_back (suc (length a.0.1.tokens)) c a.0 (first_ok (tokens_of bytes) a.0 a.1) rest a.2)
