@@ -232,37 +232,34 @@ attributes_back t r e =
 abbrev head_pieces : ℕ → ℕ → List Piece
 head_pieces id attributes = Sign 40 ∷ Numeral id ∷ Sign 44 ∷ Sign 123 ∷ Attributes attributes ∷ Sign 44 ∷ []
 
+-- a step that did not fail, and what follows from its value
+step_of : {A B Goal : Type 0} (r : Result A ConfigFault) (f : A → Result B ConfigFault) (y : B) → (r >>= f) ≡ Ok y → ((x : A) → r ≡ Ok x → f x ≡ Ok y → Goal) → Goal
+step_of (Ok x) f y e goal = goal x refl e
+step_of (Err w) f y e goal = absurd (cc)
+
+infixr 5 ◌gives◌
+◌gives◌ : {A B Goal : Type 0} {r : Result A ConfigFault} {f : A → Result B ConfigFault} {y : B} → (r >>= f) ≡ Ok y → ((x : A) → r ≡ Ok x → f x ≡ Ok y → Goal) → Goal
+◌gives◌ {r = r} {f = f} {y = y} e goal = step_of r f y e goal
+
 head_back : (t : Text) (r : ℕ × ℕ × Text) → head_at t ≡ Ok r → Front (head_pieces r.0 r.1) t r.2
 unfolding head_at
 head_back t r e =
-    let a = bind_ok (mark_at 40 t) _ r e in
-    let b = bind_ok (number_at a.0) _ r a.2 in
-    let c = bind_ok (mark_at 44 b.0.1) _ r b.2 in
-    let d = bind_ok (mark_at 123 c.0) _ r c.2 in
-    let f = bind_ok (attributes_at 44 d.0) _ r d.2 in
-    let made : ℕ × ℕ × Text = (b.0.0, f.0.0, f.0.1) in
-    subst (λ (q : ℕ × ℕ × Text). Front (head_pieces q.0 q.1) t q.2) (ok_is made r f.2)
-    (sign_back 40 t a.0 a.1 then numeral_back a.0 b.0 b.1 then sign_back 44 b.0.1 c.0 c.1 then sign_back 123 c.0 d.0 d.1 then attributes_back d.0 f.0 f.1)
+    e gives λ opened a e. e gives λ id b e. e gives λ listed c e. e gives λ inner d e. e gives λ attributes f e.
+    subst (λ (q : ℕ × ℕ × Text). Front (head_pieces q.0 q.1) t q.2) (ok_is (id.0, attributes.0, attributes.1) r e)
+    (sign_back 40 t opened a then numeral_back opened id b then sign_back 44 id.1 listed c then sign_back 123 listed inner d then attributes_back inner attributes f)
 
 tail_back : (t u : Text) → tail_at t ≡ Ok u → Front (Sign 125 ∷ Sign 41 ∷ Sign 59 ∷ []) t u
 unfolding tail_at
 tail_back t u e =
-    let a = bind_ok (mark_at 125 t) _ u e in
-    let b = bind_ok (mark_at 41 a.0) _ u a.2 in
-    sign_back 125 t a.0 a.1 then sign_back 41 a.0 b.0 b.1 then sign_back 59 b.0 u b.2
+    e gives λ listed a e. e gives λ closed b e.
+    sign_back 125 t listed a then sign_back 41 listed closed b then sign_back 59 closed u e
 
 pub board_back : (t : Text) (r : ℕ × ℕ × Text) → board_at t ≡ Ok r → Front (Sign 40 ∷ Numeral r.0 ∷ Sign 44 ∷ Numeral r.1 ∷ Sign 41 ∷ Sign 59 ∷ []) t r.2
 unfolding board_at
 board_back t r e =
-    let a = bind_ok (mark_at 40 t) _ r e in
-    let b = bind_ok (number_at a.0) _ r a.2 in
-    let c = bind_ok (mark_at 44 b.0.1) _ r b.2 in
-    let d = bind_ok (number_at c.0) _ r c.2 in
-    let f = bind_ok (mark_at 41 d.0.1) _ r d.2 in
-    let g = bind_ok (mark_at 59 f.0) _ r f.2 in
-    let made : ℕ × ℕ × Text = (b.0.0, d.0.0, g.0) in
-    subst (λ (q : ℕ × ℕ × Text). Front (Sign 40 ∷ Numeral q.0 ∷ Sign 44 ∷ Numeral q.1 ∷ Sign 41 ∷ Sign 59 ∷ []) t q.2) (ok_is made r g.2)
-    (sign_back 40 t a.0 a.1 then numeral_back a.0 b.0 b.1 then sign_back 44 b.0.1 c.0 c.1 then numeral_back c.0 d.0 d.1 then sign_back 41 d.0.1 f.0 f.1 then sign_back 59 f.0 g.0 g.1)
+    e gives λ opened a e. e gives λ processors b e. e gives λ second c e. e gives λ ram d e. e gives λ closed f e. e gives λ ended g e.
+    subst (λ (q : ℕ × ℕ × Text). Front (Sign 40 ∷ Numeral q.0 ∷ Sign 44 ∷ Numeral q.1 ∷ Sign 41 ∷ Sign 59 ∷ []) t q.2) (ok_is (processors.0, ram.0, ended) r e)
+    (sign_back 40 t opened a then numeral_back opened processors b then sign_back 44 processors.1 second c then numeral_back second ram d then sign_back 41 ram.1 closed f then sign_back 59 closed ended g)
 
 keyword_name : Keyword → List ℕ
 keyword_name keywords.Board = codes "BOARD"
@@ -281,85 +278,53 @@ record Behind (name : List ℕ) (in_class : Bool) (t : Text) (r : Statement × T
 class_back : (t : Text) (r : Statement × Text) → class_at t ≡ Ok r → Behind (codes "CLASS") false t r
 unfolding class_at
 class_back t r e =
-    let a = bind_ok (mark_at 40 t) _ r e in
-    let b = bind_ok (class_number_at a.0) _ r a.2 in
-    let c = bind_ok (mark_at 41 b.0.1) _ r b.2 in
-    let d = bind_ok (mark_at 123 c.0) _ r c.2 in
-    let made : Statement × Text = (Class b.0.0, d.0) in
-    subst (Behind (codes "CLASS") false t) (ok_is made r d.2)
-    (record { whole = λ s f. f then sign_back 40 t a.0 a.1 then class_name_back a.0 b.0 b.1 then sign_back 41 b.0.1 c.0 c.1 then sign_back 123 c.0 d.0 d.1; may = refl })
+    e gives λ opened a e. e gives λ n b e. e gives λ closed c e. e gives λ inner d e.
+    subst (Behind (codes "CLASS") false t) (ok_is (Class n.0, inner) r e)
+    (record { whole = λ s x. x then sign_back 40 t opened a then class_name_back opened n b then sign_back 41 n.1 closed c then sign_back 123 closed inner d; may = refl })
 
 task_back : (in_class : Bool) (t : Text) (r : Statement × Text) → task_at t ≡ Ok r → Behind (codes "CRE_TSK") in_class t r
 unfolding task_at
 task_back in_class t r e =
-    let h = bind_ok (head_at t) _ r e in
-    let a = bind_ok (operand_at h.0.2) _ r h.2 in
-    let b = bind_ok (mark_at 44 a.0.1) _ r a.2 in
-    let c = bind_ok (operand_at b.0) _ r b.2 in
-    let d = bind_ok (mark_at 44 c.0.1) _ r c.2 in
-    let f = bind_ok (number_at d.0) _ r d.2 in
-    let g = bind_ok (mark_at 44 f.0.1) _ r f.2 in
-    let i = bind_ok (number_at g.0) _ r g.2 in
-    let j = bind_ok (mark_at 44 i.0.1) _ r i.2 in
-    let k = bind_ok (stack_at j.0) _ r j.2 in
-    let l = bind_ok (tail_at k.0.1) _ r k.2 in
-    let made : Statement × Text = (Task (record { id = h.0.0; attributes = h.0.1; exinf = a.0.0; address = c.0.0; priority = f.0.0; stack_size = i.0.0; stack = k.0.0 }), l.0) in
-    subst (Behind (codes "CRE_TSK") in_class t) (ok_is made r l.2)
+    e gives λ head h e. e gives λ exinf a e. e gives λ second b e. e gives λ address c e. e gives λ third d e. e gives λ priority f e. e gives λ fourth g e. e gives λ size i e. e gives λ fifth j e. e gives λ stack k e. e gives λ ended l e.
+    subst (Behind (codes "CRE_TSK") in_class t) (ok_is (Task (record { id = head.0; attributes = head.1; exinf = exinf.0; address = address.0; priority = priority.0; stack_size = size.0; stack = stack.0 }), ended) r e)
     (record {
-      whole = λ s x. x then head_back t h.0 h.1 then value_back h.0.2 a.0 a.1 then sign_back 44 a.0.1 b.0 b.1 then value_back b.0 c.0 c.1 then sign_back 44 c.0.1 d.0 d.1 then numeral_back d.0 f.0 f.1 then sign_back 44 f.0.1 g.0 g.1 then numeral_back g.0 i.0 i.1 then sign_back 44 i.0.1 j.0 j.1 then stack_back j.0 k.0 k.1 then tail_back k.0.1 l.0 l.1;
+      whole = λ s x. x then head_back t head h then value_back head.2 exinf a then sign_back 44 exinf.1 second b then value_back second address c then sign_back 44 address.1 third d then numeral_back third priority f then sign_back 44 priority.1 fourth g then numeral_back fourth size i then sign_back 44 size.1 fifth j then stack_back fifth stack k then tail_back stack.1 ended l;
       may = tt;
     })
 
 semaphore_back : (in_class : Bool) (t : Text) (r : Statement × Text) → semaphore_at t ≡ Ok r → Behind (codes "CRE_SEM") in_class t r
 unfolding semaphore_at
 semaphore_back in_class t r e =
-    let h = bind_ok (head_at t) _ r e in
-    let a = bind_ok (number_at h.0.2) _ r h.2 in
-    let b = bind_ok (mark_at 44 a.0.1) _ r a.2 in
-    let c = bind_ok (number_at b.0) _ r b.2 in
-    let l = bind_ok (tail_at c.0.1) _ r c.2 in
-    let made : Statement × Text = (Semaphore (record { id = h.0.0; attributes = h.0.1; initial = a.0.0; maximum = c.0.0 }), l.0) in
-    subst (Behind (codes "CRE_SEM") in_class t) (ok_is made r l.2)
-    (record { whole = λ s x. x then head_back t h.0 h.1 then numeral_back h.0.2 a.0 a.1 then sign_back 44 a.0.1 b.0 b.1 then numeral_back b.0 c.0 c.1 then tail_back c.0.1 l.0 l.1; may = tt })
+    e gives λ head h e. e gives λ initial a e. e gives λ second b e. e gives λ maximum c e. e gives λ ended l e.
+    subst (Behind (codes "CRE_SEM") in_class t) (ok_is (Semaphore (record { id = head.0; attributes = head.1; initial = initial.0; maximum = maximum.0 }), ended) r e)
+    (record { whole = λ s x. x then head_back t head h then numeral_back head.2 initial a then sign_back 44 initial.1 second b then numeral_back second maximum c then tail_back maximum.1 ended l; may = tt })
 
 flag_back : (in_class : Bool) (t : Text) (r : Statement × Text) → flag_at t ≡ Ok r → Behind (codes "CRE_FLG") in_class t r
 unfolding flag_at
 flag_back in_class t r e =
-    let h = bind_ok (head_at t) _ r e in
-    let a = bind_ok (number_at h.0.2) _ r h.2 in
-    let l = bind_ok (tail_at a.0.1) _ r a.2 in
-    let made : Statement × Text = (Flag (record { id = h.0.0; attributes = h.0.1; pattern = a.0.0 }), l.0) in
-    subst (Behind (codes "CRE_FLG") in_class t) (ok_is made r l.2)
-    (record { whole = λ s x. x then head_back t h.0 h.1 then numeral_back h.0.2 a.0 a.1 then tail_back a.0.1 l.0 l.1; may = tt })
+    e gives λ head h e. e gives λ pattern a e. e gives λ ended l e.
+    subst (Behind (codes "CRE_FLG") in_class t) (ok_is (Flag (record { id = head.0; attributes = head.1; pattern = pattern.0 }), ended) r e)
+    (record { whole = λ s x. x then head_back t head h then numeral_back head.2 pattern a then tail_back pattern.1 ended l; may = tt })
 
 queue_back : (in_class : Bool) (t : Text) (r : Statement × Text) → queue_at t ≡ Ok r → Behind (codes "CRE_DTQ") in_class t r
 unfolding queue_at
 queue_back in_class t r e =
-    let h = bind_ok (head_at t) _ r e in
-    let a = bind_ok (number_at h.0.2) _ r h.2 in
-    let b = bind_ok (mark_at 44 a.0.1) _ r a.2 in
-    let c = bind_ok (area_at b.0) _ r b.2 in
-    let l = bind_ok (tail_at c.0) _ r c.2 in
-    let made : Statement × Text = (Queue (record { id = h.0.0; attributes = h.0.1; capacity = a.0.0 }), l.0) in
-    subst (Behind (codes "CRE_DTQ") in_class t) (ok_is made r l.2)
-    (record { whole = λ s x. x then head_back t h.0 h.1 then numeral_back h.0.2 a.0 a.1 then sign_back 44 a.0.1 b.0 b.1 then area_back b.0 c.0 c.1 then tail_back c.0 l.0 l.1; may = tt })
+    e gives λ head h e. e gives λ capacity a e. e gives λ second b e. e gives λ area c e. e gives λ ended l e.
+    subst (Behind (codes "CRE_DTQ") in_class t) (ok_is (Queue (record { id = head.0; attributes = head.1; capacity = capacity.0 }), ended) r e)
+    (record { whole = λ s x. x then head_back t head h then numeral_back head.2 capacity a then sign_back 44 capacity.1 second b then area_back second area c then tail_back area ended l; may = tt })
 
 handler_back : (in_class : Bool) (t : Text) (r : Statement × Text) → handler_at t ≡ Ok r → Behind (codes "DEF_INH") in_class t r
 unfolding handler_at
 handler_back in_class t r e =
-    let h = bind_ok (head_at t) _ r e in
-    let a = bind_ok (operand_at h.0.2) _ r h.2 in
-    let l = bind_ok (tail_at a.0.1) _ r a.2 in
-    let made : Statement × Text = (Handler (record { line = h.0.0; attributes = h.0.1; address = a.0.0 }), l.0) in
-    subst (Behind (codes "DEF_INH") in_class t) (ok_is made r l.2)
-    (record { whole = λ s x. x then head_back t h.0 h.1 then value_back h.0.2 a.0 a.1 then tail_back a.0.1 l.0 l.1; may = tt })
+    e gives λ head h e. e gives λ address a e. e gives λ ended l e.
+    subst (Behind (codes "DEF_INH") in_class t) (ok_is (Handler (record { line = head.0; attributes = head.1; address = address.0 }), ended) r e)
+    (record { whole = λ s x. x then head_back t head h then value_back head.2 address a then tail_back address.1 ended l; may = tt })
 
 behind_back : (in_class : Bool) (line : ℕ) (k : Keyword) (t : Text) (r : Statement × Text) → behind_keyword in_class line k t ≡ Ok r → Behind (keyword_name k) in_class t r
 unfolding behind_keyword keyword_name
 behind_back in_class line keywords.Board t r e =
-    let b = bind_ok (board_at t) _ r e in
-    let made : Statement × Text = (Board b.0.0 b.0.1, b.0.2) in
-    subst (Behind (codes "BOARD") in_class t) (ok_is made r b.2) (record { whole = λ s x. x then board_back t b.0 b.1; may = tt })
+    e gives λ board b e.
+    subst (Behind (codes "BOARD") in_class t) (ok_is (Board board.0 board.1, board.2) r e) (record { whole = λ s x. x then board_back t board b; may = tt })
 behind_back true line keywords.Class t r e = absurd (cc)
 behind_back false line keywords.Class t r e = class_back t r e
 behind_back in_class line keywords.Task t r e = task_back in_class t r e
