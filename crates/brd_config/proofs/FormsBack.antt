@@ -3,6 +3,7 @@ use Rattle.std.proofs.Common.{◌≡◌, ℕ, zero, suc, Bool, true, false, cond
 use Rattle.std.specs.Prelude.{◌&&◌, nat_eq, codes}
 use Rattle.std.specs.Str.{bytes_eq}
 use Rattle.std.specs.Int.RustNames.{bit_or}
+use Rattle.std.specs.List.{AllByRecursion}
 use Rattle.std.proofs.lemmas.Bool.{cases_Bool, and_parts, eqb-true}
 use Rattle.std.proofs.lemmas.Slice.Eq.{bytes_eq-Decides}
 use Rattle.brd_text.specs.Tokens.{Token, Placed, Text, first, others}
@@ -20,9 +21,9 @@ use Rattle.brd_config.specs.declared.statement.Keyword.{Keyword}
 use Rattle.brd_config.specs.declared.statement.Keyword.TheVariants as keywords
 use Rattle.brd_config.specs.declared.statement.Statement.{Statement}
 use Rattle.brd_config.specs.declared.statement.Statement.TheVariants.{Board, Class, ClassEnd, Task, Semaphore, Flag, Queue, Handler}
-use Rattle.brd_config.specs.Statements.{keyword_of, board_at, class_at, task_at, semaphore_at, flag_at, queue_at, handler_at, behind_keyword, statement_by, statement_at}
-use Rattle.brd_config.specs.Reading.{attribute_of, class_of, operand_of, stack_of, is_area, run_of, number_at, expect_mark, mark_at, attribute_at, expect_joint, joint_at, attribute_step, attributes_at, operand_at, stack_at, area_at, class_number_at, head_at, tail_at}
-use Rattle.brd_config.specs.Grammar.{Piece, Joined, IsSpelled, AreSpelled, object, form}
+use Rattle.brd_config.specs.Statements.{keyword_names, keyword_of, board_at, class_at, task_at, semaphore_at, flag_at, queue_at, handler_at, behind_keyword, statement_by, statement_at}
+use Rattle.brd_config.specs.Reading.{named_in, attribute_of, class_of, operand_of, stack_of, is_area, run_of, number_at, expect_mark, mark_at, attribute_at, expect_joint, joint_at, attribute_step, attributes_at, operand_at, stack_at, area_at, class_number_at, head_at, tail_at}
+use Rattle.brd_config.specs.Grammar.{Piece, Joined, IsSpelled, AreSpelled, form}
 use Rattle.brd_config.specs.Grammar.Piece.{Exactly, Sign, Numeral, Attributes, Value, StackValue, Area, ClassName}
 use Rattle.brd_config.specs.Grammar.Joined.{last, bar}
 use Rattle.brd_config.proofs.Forms.{MayStand}
@@ -333,28 +334,21 @@ behind_back in_class line keywords.Flag t r e = flag_back in_class t r e
 behind_back in_class line keywords.Queue t r e = queue_back in_class t r e
 behind_back in_class line keywords.Handler t r e = handler_back in_class t r e
 
--- the first of these names, or one of the others
-one_name : (run name : List ℕ) (k q : Keyword) (others : Option Keyword) → name ≡ keyword_name k → (others ≡ Some q → run ≡ keyword_name q) → cond (bytes_eq run name) (Some k) others ≡ Some q → run ≡ keyword_name q
-one_name run name k q others is among e =
-    elim (cases_Bool (bytes_eq run name)) [
-      | inl same ↦ (bytes_eq-Decides run name).0 same ∙ is ∙ ap keyword_name (inside k q (rw same at e))
-      | inr other ↦ among (rw other at e)
+-- what a table has for a name stands beside this name
+named_back : {A : Type 0} (rows : List (List ℕ × A)) (name : List ℕ) (x : A) (name_of : A → List ℕ) → AllByRecursion (λ row. row.0 ≡ name_of row.1) rows → named_in rows name ≡ Some x → name ≡ name_of x
+named_back [] name x name_of are e = absurd (cc)
+named_back (row ∷ rows) name x name_of are e =
+    elim (cases_Bool (bytes_eq name row.0)) [
+      | inl same ↦ (bytes_eq-Decides name row.0).0 same ∙ are.0 ∙ ap name_of (inside row.1 x (rw same at e))
+      | inr other ↦ named_back rows name x name_of are.1 (rw other at e)
     ]
   where
-    inside : (k q : Keyword) → Some k ≡ Some q → k ≡ q
-    inside k q e = cc
+    inside : {A : Type 0} (y x : A) → Some y ≡ Some x → y ≡ x
+    inside y x e = cc
 
-keyword_is : (run : List ℕ) (q : Keyword) → keyword_of run ≡ Some q → run ≡ keyword_name q
+keyword_is : (run : List ℕ) (k : Keyword) → keyword_of run ≡ Some k → run ≡ keyword_name k
 unfolding keyword_of keyword_name
-keyword_is run q e =
-    one_name run (codes "BOARD") keywords.Board q _ refl
-    (one_name run (codes "CLASS") keywords.Class q _ refl
-    (one_name run (codes "CRE_TSK") keywords.Task q _ refl
-    (one_name run (codes "CRE_SEM") keywords.Semaphore q _ refl
-    (one_name run (codes "CRE_FLG") keywords.Flag q _ refl
-    (one_name run (codes "CRE_DTQ") keywords.Queue q _ refl
-    (one_name run (codes "DEF_INH") keywords.Handler q _ refl
-    (λ none. absurd (cc)))))))) e
+keyword_is run k e = named_back keyword_names run k keyword_name (refl, (refl, (refl, (refl, (refl, (refl, (refl, tt))))))) e
 
 -- a statement at the front of a text, where it may stand
 pub record IsStatement (in_class : Bool) (t : Text) (r : Statement × Text) : Type 0 where

@@ -1,8 +1,7 @@
 -- No reading is given up for the number of its steps: each takes a token.
-use Rattle.std.proofs.Common.{◌≡◌, ◌≢◌, ℕ, zero, suc, ◌<◌, ◌≤◌, Bool, true, false, cond, not, ◌&&◌, List, [], ◌∷◌, ◌++◌, length, map, Option, Some, None, Result, Ok, Err, sym, ap, refl, ◌∙◌, arith}
-use Rattle.std.specs.Prelude.{is_some, is_none, nat_eq, nat_le, codes}
+use Rattle.std.proofs.Common.{◌≡◌, ◌≢◌, ℕ, zero, suc, ◌<◌, ◌≤◌, Bool, true, false, cond, ◌&&◌, List, [], ◌∷◌, length, Option, Some, None, Result, Ok, Err, ap, refl, ◌∙◌, arith}
+use Rattle.std.specs.Prelude.{is_some, is_none, nat_eq, nat_le}
 use Rattle.std.specs.Int.RustNames.{bit_and, bit_or}
-use Rattle.std.specs.List.{list_any}
 use Rattle.std.proofs.lemmas.List.{length-append, length-map}
 use Rattle.brd_text.specs.Tokens.{Token, Text, first, others, tokens_of}
 use Rattle.brd_text.specs.Tokens.Token.{Run, Mark, Unclosed, End}
@@ -30,8 +29,7 @@ use Rattle.brd_config.specs.declared.statement.QueueStatement.{QueueStatement}
 use Rattle.brd_config.specs.declared.statement.HandlerStatement.{HandlerStatement}
 use Rattle.brd_config.specs.Statements.{keyword_of, board_at, class_at, task_at, semaphore_at, flag_at, queue_at, handler_at, behind_keyword, statement_by, statement_at}
 use Rattle.brd_config.specs.Reading.{attribute_of, class_of, operand_of, stack_of, is_area, run_of, number_at, expect_mark, mark_at, attribute_at, expect_joint, joint_at, attribute_step, attributes_at, operand_at, stack_at, area_at, class_number_at, head_at, tail_at}
-use Rattle.brd_config.specs.Meaning.{State, within, only_bits, refused, is_ram_size, task_of, semaphore_of, flag_of, queue_of, handler_of, added, processor_of, is_end, is_board, one_more, statement_step, statements_from, board_of, first_board, first_statement, config_of}
-use Rattle.brd_config.specs.Configuration.{Configuration}
+use Rattle.brd_config.specs.Meaning.{State, within, only_bits, refused, task_of, semaphore_of, flag_of, queue_of, handler_of, added, processor_of, is_end, is_board, one_more, statement_step, statements_from, board_of, first_board, first_statement, config_of}
 use Rattle.brd_config.specs.Grammar.{Piece, Joined, IsSpelled, AreSpelled, form}
 use Rattle.brd_config.specs.Grammar.Piece.{Exactly, Sign, Numeral, Attributes, Value, StackValue, Area, ClassName}
 use Rattle.brd_config.specs.Grammar.Joined.{last, bar}

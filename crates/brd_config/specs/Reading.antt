@@ -1,5 +1,5 @@
 -- Numbers, marks, attributes and operands at the front of a text. Syntax has the line of the token that does not fit.
-use Rattle.std.specs.Prelude.{ℕ, Bool, true, false, List, length, take, drop, ◌==◌, if◌then◌else◌, ◌||◌, Option, Some, None, is_some, option_map, Result, Ok, Err, suc, codes}
+use Rattle.std.specs.Prelude.{ℕ, Bool, true, false, List, [], ◌∷◌, length, take, drop, ◌==◌, if◌then◌else◌, ◌||◌, Option, Some, None, is_some, option_map, Result, Ok, Err, suc, codes}
 use Rattle.std.specs.Str.{bytes_eq}
 use Rattle.std.specs.Int.RustNames.{bit_or}
 use Rattle.brd_text.specs.Bytes.{is_name}
@@ -17,18 +17,25 @@ use Rattle.brd_config.specs.declared.objects.Stack.TheVariants.{Automatic, At}
 
 -- ---- what a run stands for
 
+-- what a table of names has for a name
+abbrev pub named_in : {A : Type 0} → List (List ℕ × A) → List ℕ → Option A
+named_in [] name = None
+named_in (row ∷ rows) name = if bytes_eq name row.0 then Some row.1 else named_in rows name
+
 -- the attribute names of the uITRON 4.0 specification, each with its bits
+abbrev pub attribute_names : List (List ℕ × ℕ)
+attribute_names =
+    (codes "TA_HLNG", 0) ∷
+    (codes "TA_ASM", 1) ∷
+    (codes "TA_ACT", 2) ∷
+    (codes "TA_TFIFO", 0) ∷
+    (codes "TA_TPRI", 1) ∷
+    (codes "TA_WSGL", 0) ∷
+    (codes "TA_WMUL", 2) ∷
+    (codes "TA_CLR", 4) ∷ []
+
 unfoldable pub attribute_named : List ℕ → Option ℕ
-attribute_named run =
-    if bytes_eq run (codes "TA_HLNG") then Some 0
-    else (if bytes_eq run (codes "TA_ASM") then Some 1
-    else (if bytes_eq run (codes "TA_ACT") then Some 2
-    else (if bytes_eq run (codes "TA_TFIFO") then Some 0
-    else (if bytes_eq run (codes "TA_TPRI") then Some 1
-    else (if bytes_eq run (codes "TA_WSGL") then Some 0
-    else (if bytes_eq run (codes "TA_WMUL") then Some 2
-    else (if bytes_eq run (codes "TA_CLR") then Some 4
-    else None)))))))
+attribute_named run = named_in attribute_names run
 
 -- a name or a number
 abbrev pub named_or_number : Option ℕ → List ℕ → Option ℕ

@@ -1,7 +1,6 @@
 -- Statements at the front of a text. Their forms are those of the static API of the uITRON 4.0 specification, with
 -- CLASS as in the kernel configuration of TOPPERS/FMP; BOARD is of this product.
-use Rattle.std.specs.Prelude.{ℕ, Bool, ◌&&◌, List, ◌==◌, if◌then◌else◌, Option, Some, None, Result, Ok, Err, codes}
-use Rattle.std.specs.Str.{bytes_eq}
+use Rattle.std.specs.Prelude.{ℕ, Bool, ◌&&◌, List, [], ◌∷◌, ◌==◌, if◌then◌else◌, Option, Result, Ok, Err, codes}
 use Rattle.brd_text.specs.Tokens.{Token, Text, first, others}
 use Rattle.brd_text.specs.Tokens.Token.{Run, Mark, Unclosed, End}
 use Rattle.brd_text.specs.Faults.{◌>>=◌, or_fault}
@@ -11,18 +10,20 @@ use Rattle.brd_config.specs.declared.statement.Keyword.{Keyword}
 use Rattle.brd_config.specs.declared.statement.Keyword.TheVariants as keywords
 use Rattle.brd_config.specs.declared.statement.Statement.{Statement}
 use Rattle.brd_config.specs.declared.statement.Statement.TheVariants.{Board, Class, ClassEnd, Task, Semaphore, Flag, Queue, Handler}
-use Rattle.brd_config.specs.Reading.{number_at, mark_at, operand_at, stack_at, area_at, class_number_at, head_at, tail_at}
+use Rattle.brd_config.specs.Reading.{named_in, number_at, mark_at, operand_at, stack_at, area_at, class_number_at, head_at, tail_at}
+
+abbrev pub keyword_names : List (List ℕ × Keyword)
+keyword_names =
+    (codes "BOARD", keywords.Board) ∷
+    (codes "CLASS", keywords.Class) ∷
+    (codes "CRE_TSK", keywords.Task) ∷
+    (codes "CRE_SEM", keywords.Semaphore) ∷
+    (codes "CRE_FLG", keywords.Flag) ∷
+    (codes "CRE_DTQ", keywords.Queue) ∷
+    (codes "DEF_INH", keywords.Handler) ∷ []
 
 unfoldable pub keyword_of : List ℕ → Option Keyword
-keyword_of run =
-    if bytes_eq run (codes "BOARD") then Some keywords.Board
-    else (if bytes_eq run (codes "CLASS") then Some keywords.Class
-    else (if bytes_eq run (codes "CRE_TSK") then Some keywords.Task
-    else (if bytes_eq run (codes "CRE_SEM") then Some keywords.Semaphore
-    else (if bytes_eq run (codes "CRE_FLG") then Some keywords.Flag
-    else (if bytes_eq run (codes "CRE_DTQ") then Some keywords.Queue
-    else (if bytes_eq run (codes "DEF_INH") then Some keywords.Handler
-    else None))))))
+keyword_of run = named_in keyword_names run
 
 -- BOARD(processors, ram);
 unfoldable pub board_at : Text → Result (ℕ × ℕ × Text) ConfigFault

@@ -1,6 +1,6 @@
 //! Numbers, marks, attributes and operands at the front of a text.
 
-ghost use Rattle.std.specs.Prelude.{◌≡◌, ◌<◌, length, OnOk};
+ghost use Rattle.std.specs.Prelude.{◌≡◌, ◌<◌, length, map, OnOk};
 ghost use Rattle.brd_text.specs.Faults.{or_fault};
 ghost use Rattle.brd_text.specs.Turns.{flow_of};
 ghost use Rattle.brd_config.specs.Faults.{Gives};
@@ -12,36 +12,36 @@ use brd_base::List;
 use brd_text::{Scanner, Token};
 use std::alloc::Global;
 
+/// The bits of each attribute's name.
+const ATTRIBUTES: &[(&[u8], u32)] = &[
+    (b"TA_HLNG", 0),
+    (b"TA_ASM", 1),
+    (b"TA_ACT", 2),
+    (b"TA_TFIFO", 0),
+    (b"TA_TPRI", 1),
+    (b"TA_WSGL", 0),
+    (b"TA_WMUL", 2),
+    (b"TA_CLR", 4),
+];
+
+/// What a table has for a name.
+pub(crate) fn find<T: Copy>(rows: &[(&[u8], T)], name: &[u8]) -> Option<T>
+    ensures { result ≡ reads.named_in (map (λ row. (row.0.now, row.1)) rows.now) name.now }
+{
+    for (known, value) in rows {
+        if name == *known {
+            return Some(*value);
+        }
+    }
+    None
+}
+
 /// The bits of an attribute's name.
 #[tactic(auto, unfolding(crate::specs::Reading::attribute_named))]
 fn attribute_named(run: &[u8]) -> Option<u32>
     ensures { result ≡ reads.attribute_named run.now }
 {
-    if run == b"TA_HLNG".as_slice() {
-        return Some(0);
-    }
-    if run == b"TA_ASM".as_slice() {
-        return Some(1);
-    }
-    if run == b"TA_ACT".as_slice() {
-        return Some(2);
-    }
-    if run == b"TA_TFIFO".as_slice() {
-        return Some(0);
-    }
-    if run == b"TA_TPRI".as_slice() {
-        return Some(1);
-    }
-    if run == b"TA_WSGL".as_slice() {
-        return Some(0);
-    }
-    if run == b"TA_WMUL".as_slice() {
-        return Some(2);
-    }
-    if run == b"TA_CLR".as_slice() {
-        return Some(4);
-    }
-    None
+    find(ATTRIBUTES, run)
 }
 
 /// The bits of an attribute: a name or a number.

@@ -6,7 +6,7 @@ ghost use Rattle.brd_config.specs.Faults.{Gives};
 ghost use Rattle.brd_config.specs.Statements as statements;
 
 use crate::fault::ConfigFault;
-use crate::reading::{area, class_number, head, mark, number, operand, stack, tail};
+use crate::reading::{area, class_number, find, head, mark, number, operand, stack, tail};
 use crate::statement::{
     FlagStatement, HandlerStatement, Keyword, QueueStatement, SemaphoreStatement, Statement,
     TaskStatement,
@@ -14,33 +14,23 @@ use crate::statement::{
 use brd_text::{Scanner, Token};
 use std::alloc::Global;
 
+/// The keyword of each kind of statement.
+const KEYWORDS: &[(&[u8], Keyword)] = &[
+    (b"BOARD", Keyword::Board),
+    (b"CLASS", Keyword::Class),
+    (b"CRE_TSK", Keyword::Task),
+    (b"CRE_SEM", Keyword::Semaphore),
+    (b"CRE_FLG", Keyword::Flag),
+    (b"CRE_DTQ", Keyword::Queue),
+    (b"DEF_INH", Keyword::Handler),
+];
+
 /// The keyword that a run is.
 #[tactic(auto, unfolding(crate::specs::Statements::keyword_of))]
 fn keyword_of(run: &[u8]) -> Option<Keyword>
     ensures { result ≡ statements.keyword_of run.now }
 {
-    if run == b"BOARD".as_slice() {
-        return Some(Keyword::Board);
-    }
-    if run == b"CLASS".as_slice() {
-        return Some(Keyword::Class);
-    }
-    if run == b"CRE_TSK".as_slice() {
-        return Some(Keyword::Task);
-    }
-    if run == b"CRE_SEM".as_slice() {
-        return Some(Keyword::Semaphore);
-    }
-    if run == b"CRE_FLG".as_slice() {
-        return Some(Keyword::Flag);
-    }
-    if run == b"CRE_DTQ".as_slice() {
-        return Some(Keyword::Queue);
-    }
-    if run == b"DEF_INH".as_slice() {
-        return Some(Keyword::Handler);
-    }
-    None
+    find(KEYWORDS, run)
 }
 
 /// Takes what follows `BOARD`: the number of processors and the size of RAM.
