@@ -103,21 +103,52 @@ const POLL: u32 = 0;
 
 const BAD: u32 = 0xffff_fffe;
 
+/// Serves calls one after the other, each from a processor and with a dispatch behind it. The first that is answered
+/// otherwise than it should, or lets the running tasks of other processors change.
+fn first_other(
+    kernel: &mut Kernel,
+    rows: &[(u8, Call, Reply, u8)],
+) -> Option<(u8, Call, Reply, u8)> {
+    for (cpu, call, reply, changed) in rows {
+        let told = kernel.serve(*cpu, *call);
+        let dispatched = kernel.dispatch();
+        if told != *reply || dispatched != *changed {
+            return Some((*cpu, *call, told, dispatched));
+        }
+    }
+    None
+}
+
+/// The same for calls from processor 1 that let no running task change.
+fn first_other_of_one(
+    kernel: &mut Kernel,
+    rows: &[(Call, Reply)],
+) -> Option<(u8, Call, Reply, u8)> {
+    for (call, reply) in rows {
+        let found = first_other(kernel, &[(1, *call, *reply, 0)]);
+        if found.is_some() {
+            return found;
+        }
+    }
+    None
+}
+
+/// Whether a kernel is one of `two` to which nothing has happened.
+fn is_new(kernel: &Kernel) -> bool {
+    kernel.standing(0).is_none()
+        && kernel.standing(1) == Some(Standing::Task(1))
+        && kernel.standing(2) == Some(Standing::Task(3))
+        && kernel.standing(3).is_none()
+        && kernel.standing(255).is_none()
+        && kernel.now() == 0
+        && !kernel.is_off()
+        && kernel.task(4).map(|it| it.state) == Some(TaskState::Dormant)
+}
+
 #[test]
 fn making(rt: HostRuntime) -> Result<(), Fail> {
     let kernel = two(rt.alloc())?;
-    for (cpu, standing) in [
-        (0, None),
-        (1, Some(Standing::Task(1))),
-        (2, Some(Standing::Task(3))),
-        (3, None),
-        (255, None),
-    ] {
-        assert_eq!(rt; kernel.standing(cpu), standing, "{cpu}");
-    }
-    assert_eq!(rt; kernel.now(), 0);
-    assert!(rt; !kernel.is_off());
-    assert_eq!(rt; kernel.task(4).map(|it| it.state), Some(TaskState::Dormant));
+    assert!(rt; is_new(&kernel));
     Ok(())
 }
 
@@ -125,7 +156,7 @@ fn making(rt: HostRuntime) -> Result<(), Fail> {
 #[test]
 fn refusals(rt: HostRuntime) -> Result<(), Fail> {
     let mut kernel = two(rt.alloc())?;
-    for (call, reply) in [
+    let rows = [
         (Call::ActTsk(256), ID),
         (Call::ActTsk(9), NOEXS),
         (Call::CanAct(0xffff_ffff), ID),
@@ -158,10 +189,8 @@ fn refusals(rt: HostRuntime) -> Result<(), Fail> {
         (Call::RsmTsk(9), NOEXS),
         (Call::RsmTsk(1), OBJ),
         (Call::RsmTsk(4), OBJ),
-    ] {
-        assert_eq!(rt; kernel.serve(1, call), reply, "{call:?}");
-        assert_eq!(rt; kernel.dispatch(), 0, "{call:?}");
-    }
+    ];
+    assert_eq!(rt; first_other_of_one(&mut kernel, &rows), None);
     Ok(())
 }
 
@@ -171,7 +200,7 @@ fn refusals(rt: HostRuntime) -> Result<(), Fail> {
 fn refusals_of_processors(rt: HostRuntime) -> Result<(), Fail> {
     let mut kernel = two(rt.alloc())?;
     assert_eq!(rt; kernel.serve(1, Call::MactTsk(2, 2)), OK);
-    for (call, reply) in [
+    let rows = [
         (Call::MactTsk(256, 9), ID),
         (Call::MactTsk(9, 0), PAR),
         (Call::MactTsk(9, 3), PAR),
@@ -198,10 +227,8 @@ fn refusals_of_processors(rt: HostRuntime) -> Result<(), Fail> {
         (Call::IrotRdq(0), PAR),
         (Call::IrotRdq(17), PAR),
         (Call::IrotRdq(0x101), PAR),
-    ] {
-        assert_eq!(rt; kernel.serve(1, call), reply, "{call:?}");
-        assert_eq!(rt; kernel.dispatch(), 0, "{call:?}");
-    }
+    ];
+    assert_eq!(rt; first_other_of_one(&mut kernel, &rows), None);
     Ok(())
 }
 
@@ -211,26 +238,19 @@ fn refusals_of_processors(rt: HostRuntime) -> Result<(), Fail> {
 fn held(rt: HostRuntime) -> Result<(), Fail> {
     for (mark, unmark) in [(Call::DisDsp, Call::EnaDsp), (Call::LocCpu, Call::UnlCpu)] {
         let mut kernel = two(rt.alloc())?;
-        for (cpu, call, reply) in [
-            (1, mark, OK),
-            (1, mark, OK),
-            (2, Call::TerTsk(1), OBJ),
-            (2, Call::SusTsk(1), OBJ),
-            (2, Call::MigTsk(1, 2), OBJ),
-            (2, Call::ChgPri(1, 16), OK),
-            (2, Call::SusTsk(2), OK),
-            (2, Call::MigTsk(2, 2), OK),
-            (1, unmark, OK),
-            (2, Call::SusTsk(1), OK),
-        ] {
-            assert_eq!(rt; kernel.serve(cpu, call), reply, "{call:?}");
-            let changed = if call == Call::SusTsk(1) && reply == OK {
-                1
-            } else {
-                0
-            };
-            assert_eq!(rt; kernel.dispatch(), changed, "{call:?}");
-        }
+        let rows = [
+            (1, mark, OK, 0),
+            (1, mark, OK, 0),
+            (2, Call::TerTsk(1), OBJ, 0),
+            (2, Call::SusTsk(1), OBJ, 0),
+            (2, Call::MigTsk(1, 2), OBJ, 0),
+            (2, Call::ChgPri(1, 16), OK, 0),
+            (2, Call::SusTsk(2), OK, 0),
+            (2, Call::MigTsk(2, 2), OK, 0),
+            (1, unmark, OK, 0),
+            (2, Call::SusTsk(1), OK, 1),
+        ];
+        assert_eq!(rt; first_other(&mut kernel, &rows), None);
     }
     Ok(())
 }
@@ -251,42 +271,58 @@ fn with_lines(alloc: Global, in_turn: bool) -> Result<Kernel, NoMemory> {
     Kernel::new(alloc, 8, &[], &lines, &[], &[], &[])
 }
 
+/// Whether a processor accepts the interrupt of a line, and no other until its handler has ended.
+fn handles(kernel: &mut Kernel, cpu: u8, line: u8) -> bool {
+    kernel.accept(cpu) == Some(line)
+        && kernel.accept(cpu).is_none()
+        && kernel.standing(cpu) == Some(Standing::Handler(line))
+        && kernel.serve(cpu, Call::RetInt) == Reply::Silent
+}
+
+/// Whether 32 lines, raised from the highest down, are accepted by processor 1 alone, from the lowest up.
+fn handles_all(kernel: &mut Kernel) -> bool {
+    for line in 0..32u8 {
+        if !kernel.raise(31 - line) {
+            return false;
+        }
+    }
+    for line in 0..32u8 {
+        if kernel.deliverable(2).is_some() || !handles(kernel, 1, line) {
+            return false;
+        }
+    }
+    kernel.accept(1).is_none() && kernel.standing(1) == Some(Standing::Idle)
+}
+
 /// All 32 lines are pending on one processor: it accepts them from the lowest up, each once the handler before has ended.
 #[test]
 fn lines_of_one_processor(rt: HostRuntime) -> Result<(), Fail> {
     let mut kernel = with_lines(rt.alloc(), false)?;
-    for line in 0..32u8 {
-        assert!(rt; kernel.raise(31 - line), "{line}");
-    }
     assert!(rt; !kernel.raise(32));
-    for line in 0..32u8 {
-        assert_eq!(rt; kernel.deliverable(2), None, "{line}");
-        assert_eq!(rt; kernel.accept(1), Some(line));
-        assert_eq!(rt; kernel.accept(1), None, "{line}");
-        assert_eq!(rt; kernel.standing(1), Some(Standing::Handler(line)));
-        assert_eq!(rt; kernel.serve(1, Call::RetInt), Reply::Silent, "{line}");
-    }
-    assert_eq!(rt; kernel.accept(1), None);
-    assert_eq!(rt; kernel.standing(1), Some(Standing::Idle));
+    assert!(rt; handles_all(&mut kernel));
     Ok(())
+}
+
+/// Whether 32 lines are accepted by eight processors, four by each, the lowest first.
+fn handle_their_own(kernel: &mut Kernel) -> bool {
+    for line in 0..32u8 {
+        if !kernel.raise(line) {
+            return false;
+        }
+    }
+    for line in 0..32u8 {
+        if !handles(kernel, 1 + line % 8, line) {
+            return false;
+        }
+    }
+    (0..10u8).all(|cpu| kernel.deliverable(cpu).is_none())
 }
 
 /// The lines of eight processors: each accepts its own alone, the lowest first.
 #[test]
 fn lines_of_eight_processors(rt: HostRuntime) -> Result<(), Fail> {
     let mut kernel = with_lines(rt.alloc(), true)?;
-    for line in 0..32u8 {
-        assert!(rt; kernel.raise(line), "{line}");
-    }
-    for round in 0..4u8 {
-        for cpu in 1..9u8 {
-            assert_eq!(rt; kernel.accept(cpu), Some(round * 8 + cpu - 1));
-            assert_eq!(rt; kernel.serve(cpu, Call::RetInt), Reply::Silent);
-        }
-    }
-    for cpu in 0..10u8 {
-        assert_eq!(rt; kernel.accept(cpu), None, "{cpu}");
-    }
+    assert!(rt; handle_their_own(&mut kernel));
     Ok(())
 }
 
@@ -300,7 +336,7 @@ fn refusals_of_objects(rt: HostRuntime) -> Result<(), Fail> {
         Reply::Silent
     );
     assert_eq!(rt; kernel.dispatch(), 2);
-    for (call, reply) in [
+    let rows = [
         (Call::TslpTsk(BAD), PAR),
         (Call::TslpTsk(0x8000_0000), PAR),
         (Call::TslpTsk(POLL), TMOUT),
@@ -341,10 +377,8 @@ fn refusals_of_objects(rt: HostRuntime) -> Result<(), Fail> {
         (Call::TrcvDtq(2, BAD), PAR),
         (Call::TrcvDtq(3, POLL), NOEXS),
         (Call::TrcvDtq(2, POLL), TMOUT),
-    ] {
-        assert_eq!(rt; kernel.serve(1, call), reply, "{call:?}");
-        assert_eq!(rt; kernel.dispatch(), 0, "{call:?}");
-    }
+    ];
+    assert_eq!(rt; first_other_of_one(&mut kernel, &rows), None);
     Ok(())
 }
 
@@ -352,7 +386,7 @@ fn refusals_of_objects(rt: HostRuntime) -> Result<(), Fail> {
 #[test]
 fn calls_of_objects(rt: HostRuntime) -> Result<(), Fail> {
     let mut kernel = with_objects(rt.alloc())?;
-    for (cpu, call, reply, changed) in [
+    let rows = [
         // Task 1 takes the one, and waits for the next; task 3 returns it.
         (1, Call::TwaiSem(1, FOREVER), OK, 0),
         (1, Call::TwaiSem(1, 5), Reply::Silent, 1),
@@ -383,10 +417,8 @@ fn calls_of_objects(rt: HostRuntime) -> Result<(), Fail> {
         (2, Call::TrcvDtq(2, POLL), Reply::Answer(0, Some(12)), 0),
         (2, Call::TrcvDtq(2, POLL), Reply::Answer(0, Some(13)), 0),
         (2, Call::TrcvDtq(2, POLL), TMOUT, 0),
-    ] {
-        assert_eq!(rt; kernel.serve(cpu, call), reply, "{call:?}");
-        assert_eq!(rt; kernel.dispatch(), changed, "{call:?}");
-    }
+    ];
+    assert_eq!(rt; first_other(&mut kernel, &rows), None);
     Ok(())
 }
 
@@ -394,7 +426,7 @@ fn calls_of_objects(rt: HostRuntime) -> Result<(), Fail> {
 #[test]
 fn calls(rt: HostRuntime) -> Result<(), Fail> {
     let mut kernel = two(rt.alloc())?;
-    for (cpu, call, reply, changed) in [
+    let rows = [
         (1, Call::GetTid, Reply::Answer(0, Some(1)), 0),
         (2, Call::GetPid, Reply::Answer(0, Some(2)), 0),
         (2, Call::GetPri(0), Reply::Answer(0, Some(5)), 0),
@@ -428,10 +460,8 @@ fn calls(rt: HostRuntime) -> Result<(), Fail> {
         (2, Call::TerTsk(1), OK, 1),
         (1, Call::PutChr(0x1_0048), OK, 0),
         (1, Call::ExtKer, Reply::Silent, 0),
-    ] {
-        assert_eq!(rt; kernel.serve(cpu, call), reply, "{call:?}");
-        assert_eq!(rt; kernel.dispatch(), changed, "{call:?}");
-    }
+    ];
+    assert_eq!(rt; first_other(&mut kernel, &rows), None);
     assert_eq!(rt; kernel.console(), b"H".as_slice());
     assert!(rt; kernel.is_off());
     Ok(())
