@@ -1,2 +1,3 @@
 mod ImageLemmas
+mod MarkLemmas
 mod PageLemmas

@@ -1,6 +1,6 @@
 //! The RAM.
 
-ghost use Rattle.std.specs.Prelude.{◌≡◌, Decides, ℕ, ◌+◌, ◌-◌, ◌*◌, ◌^◌, ◌<◌, ◌≤◌, ◌↔◌, ◌++◌, length, true, OnOk, IfOk, IsErrOf};
+ghost use Rattle.std.specs.Prelude.{◌≡◌, Decides, ℕ, ◌+◌, ◌-◌, ◌*◌, ◌%◌, ◌^◌, ◌<◌, ◌≤◌, ◌↔◌, ◌++◌, length, bytes_eq, true, OnOk, IfOk, IsErrOf};
 ghost use Rattle.brd_base.specs.Space.{base, IsRamSize};
 ghost use Rattle.brd_word.specs.Words.{bytes_of_word};
 ghost use Rattle.brd_mem.specs.Memory.{Memory, size_of, zeros, contains, bytes_at, with_bytes, copied, byte_at};
@@ -17,6 +17,7 @@ ghost use Rattle.brd_mem.specs.Access.{
   Stores,
 };
 ghost use Rattle.brd_mem.specs.Pages.{page_size, page_of, with_pages, differing_at, differing, LieWithin};
+ghost use Rattle.brd_mem.specs.Marks.{AreMarked};
 
 use crate::fault::{Exc, RamFault};
 use crate::pages::{PAGE_SIZE, Page, Pages};
@@ -29,6 +30,8 @@ use std::marker::Model;
 #[derive(Drop)]
 pub struct Ram {
     bytes: Vec<u8>,
+    /// For each page, whether it may hold anything but zeros.
+    marks: Vec<bool>,
 }
 
 impl Model for Ram {
@@ -36,7 +39,7 @@ impl Model for Ram {
 
     ghost view = { λ ram. record { bytes = ram.bytes.items } };
 
-    ghost invariant = { λ ram. IsRamSize (length ram.bytes.items) };
+    ghost invariant = { λ ram. IsRamSize (length ram.bytes.items) × AreMarked ram.bytes.items ram.marks.items };
 }
 
 impl Ram {
@@ -49,8 +52,10 @@ impl Ram {
         if !is_ram_size(size) {
             return Err(RamFault::BadSize);
         }
-        let bytes = vec![in alloc; 0; size as usize].map_err(|_| RamFault::NoMemory)?;
-        Ok(Ram { bytes })
+        let size = size as usize;
+        let bytes = vec![in alloc; 0; size].map_err(|_| RamFault::NoMemory)?;
+        let marks = vec![in alloc; false; size / PAGE_SIZE].map_err(|_| RamFault::NoMemory)?;
+        Ok(Ram { bytes, marks })
     }
 
     /// An equal RAM.
@@ -59,6 +64,7 @@ impl Ram {
     {
         Ok(Ram {
             bytes: copy_with_room(&self.bytes, 0)?,
+            marks: copy_with_room(&self.marks, 0)?,
         })
     }
 
@@ -133,7 +139,7 @@ impl Ram {
         ensures { Stores (stored8 self.old address byte) self.old result self.new }
     {
         let at = self.place(address, 1, Exc::AdES, Exc::DBE)?;
-        self.put_bytes(at, &[byte]);
+        self.put_in_page(at, &[byte]);
         Ok(())
     }
 
@@ -142,7 +148,7 @@ impl Ram {
         ensures { Stores (stored16 self.old address half) self.old result self.new }
     {
         let at = self.place(address, 2, Exc::AdES, Exc::DBE)?;
-        self.put_bytes(at, &half_bytes_of(half));
+        self.put_in_page(at, &half_bytes_of(half));
         Ok(())
     }
 
@@ -151,7 +157,7 @@ impl Ram {
         ensures { Stores (stored32 self.old address word) self.old result self.new }
     {
         let at = self.place(address, 4, Exc::AdES, Exc::DBE)?;
-        self.put_bytes(at, &bytes_of(word));
+        self.put_in_page(at, &bytes_of(word));
         Ok(())
     }
 
@@ -210,13 +216,25 @@ impl Ram {
         requires few { number < 2 ^ 12 }
         ensures { OnOk result (pages.new ≡ pages.old ++ differing_at number base.now self.now) }
     {
-        if self.page(number) != base.page(number) {
+        if !self.has_alike(number, base) {
             pages.push(Page {
                 number: number as u16,
                 bytes: self.bytes_at(number * PAGE_SIZE),
             })?;
         }
         Ok(())
+    }
+
+    /// Whether both have the same bytes in a page. Where neither has a mark, both have zeros.
+    fn has_alike(&self, number: usize, base: &Ram) -> bool
+        requires sizes { size_of self.now ≡ size_of base.now }
+        requires within { number * page_size + page_size ≤ size_of self.now }
+        ensures { result ≡ bytes_eq (page_of self.now number).bytes (page_of base.now number).bytes }
+    {
+        if !self.marks[number] && !base.marks[number] {
+            return true;
+        }
+        self.page(number) == base.page(number)
     }
 
     /// Becomes the base, a RAM of its size, with these pages in their places. So it becomes the RAM that they were taken
@@ -227,8 +245,9 @@ impl Ram {
         ensures { self.new ≡ with_pages base.now pages.now }
     {
         self.bytes.copy_from_slice(base.bytes.as_slice());
+        self.marks.copy_from_slice(base.marks.as_slice());
         for page in pages.as_slice() {
-            self.put_bytes(page.number as usize * PAGE_SIZE, &page.bytes);
+            self.put_in_page(page.number as usize * PAGE_SIZE, &page.bytes);
         }
     }
 
@@ -252,6 +271,18 @@ impl Ram {
         bytes
     }
 
+    /// Puts these bytes, which one page has room for, from a place on.
+    fn put_in_page(&mut self, at: usize, bytes: &[u8])
+        requires inside { at + length bytes.now ≤ size_of self.old }
+        requires some { 0 < length bytes.now }
+        requires in_page { at % page_size + length bytes.now ≤ page_size }
+        ensures is { self.new ≡ with_bytes self.old at bytes.now }
+        ensures same_size { size_of self.new ≡ size_of self.old }
+    {
+        self.marks[at / PAGE_SIZE] = true;
+        self.bytes[at..at + bytes.len()].copy_from_slice(bytes);
+    }
+
     /// Puts these bytes from a place on.
     fn put_bytes(&mut self, at: usize, bytes: &[u8])
         requires { at + length bytes.now ≤ size_of self.old }
@@ -259,5 +290,7 @@ impl Ram {
         ensures same_size { size_of self.new ≡ size_of self.old }
     {
         self.bytes[at..at + bytes.len()].copy_from_slice(bytes);
+        let end = (at + bytes.len()).div_ceil(PAGE_SIZE);
+        self.marks[at / PAGE_SIZE..end].fill(true);
     }
 }

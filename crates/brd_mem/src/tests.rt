@@ -111,6 +111,41 @@ fn ranges(rt: HostRuntime) -> Result<(), Fail> {
 }
 
 #[test]
+fn pages(rt: HostRuntime) -> Result<(), Fail> {
+    let alloc = rt.alloc();
+    let blank = Ram::new(alloc, 16_777_216)?;
+    let mut ram = Ram::new(alloc, 16_777_216)?;
+    assert_eq!(rt; ram.pages(&blank)?.as_slice().len(), 0);
+    assert_eq!(rt; ram.store8(0x8000_0000, 1), Ok(()));
+    assert_eq!(rt; ram.store16(0x8080_0ffe, 0x0203), Ok(()));
+    assert_eq!(rt; ram.store32(0x80ff_fffc, 0x0405_0607), Ok(()));
+    ram.copy_in(0x8000_5fff, &[8, 9]);
+    assert_eq!(rt; ram.store32(0x8000_8000, 0), Ok(()));
+    let pages = ram.pages(&blank)?;
+    for (page, (number, at, byte)) in pages.as_slice().iter().zip([
+        (0, 0, 1),
+        (5, 4_095, 8),
+        (6, 0, 9),
+        (2_048, 4_095, 3),
+        (4_095, 4_095, 7),
+    ]) {
+        assert_eq!(rt; page.number, number);
+        assert_eq!(rt; page.bytes[at], byte, "{number}");
+    }
+    assert_eq!(rt; pages.as_slice().len(), 5);
+    let mut again = blank.try_copy()?;
+    again.put_back(&blank, &pages);
+    assert!(rt; again.same(&ram));
+    assert_eq!(rt; again.pages(&blank)?.as_slice().len(), 5);
+    assert_eq!(rt; blank.pages(&ram)?.as_slice().len(), 5);
+    let copy = ram.try_copy()?;
+    assert_eq!(rt; copy.pages(&blank)?.as_slice().len(), 5);
+    again.put_back(&blank, &blank.pages(&ram)?);
+    assert!(rt; again.same(&blank));
+    Ok(())
+}
+
+#[test]
 fn images_of_words(rt: HostRuntime) -> Result<(), Fail> {
     let image = Image::from_words(rt.alloc(), &[0x0102_0304, 0xfffe_fdfc])?;
     assert_eq!(rt; image.entry, 0x8000_0000);

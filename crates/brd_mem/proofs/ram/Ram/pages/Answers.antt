@@ -16,4 +16,4 @@ returns-clause-back c =
     let size : length c.self.inside.bytes.items ≡ size_of c.args.self.now = ap size_of c.self.view_is in
     ap (with_pages c.args.base.now) c.loop-number.invariant
     ∙ all-put c.loop-number.number c.args.base.now c.args.self.now c.requires.sizes
-    (omega (arith, size, c.loop-number.auto.number-end, c.loop-number-test.false, c.self.invariant.whole, c.len-number-end.ensures))
+    (omega (arith, size, c.loop-number.auto.number-end, c.loop-number-test.false, c.self.invariant.0.whole, c.len-number-end.ensures))
