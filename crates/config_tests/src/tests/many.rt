@@ -1,6 +1,6 @@
 //! As many objects as IDs and lines.
 
-use brd_config::parse;
+use brd_config::{Config, parse};
 use std::alloc::{AllocError, Global};
 use std::test::Fail;
 
@@ -22,26 +22,38 @@ fn text_of_all(alloc: Global) -> Result<String, AllocError> {
     Ok(text)
 }
 
+/// Whether there are as many objects of each kind as IDs, the tasks by their IDs.
+fn has_all(config: &Config) -> bool {
+    config.tasks.len() == 255
+        && config.semaphores.len() == 255
+        && config.flags.len() == 255
+        && config.queues.len() == 255
+        && config.handlers.len() == 32
+        && config
+            .tasks
+            .as_slice()
+            .iter()
+            .enumerate()
+            .all(|(place, task)| usize::from(task.id) == place + 1)
+}
+
+/// Whether the last object of each kind is that of the text.
+fn has_last_ones(config: &Config) -> bool {
+    let semaphore = config.semaphores.as_slice().last();
+    let flag = config.flags.as_slice().last();
+    let queue = config.queues.as_slice().last();
+    let handler = config.handlers.as_slice().last();
+    semaphore.is_some_and(|it| (it.id, it.initial, it.maximum) == (255, 255, 255))
+        && flag.is_some_and(|it| (it.id, it.pattern) == (255, 255))
+        && queue.is_some_and(|it| (it.id, it.capacity) == (255, 255))
+        && handler.is_some_and(|it| (it.line, it.processor) == (31, 1))
+}
+
 #[test]
 fn as_many_objects_as_ids(rt: HostRuntime) -> Result<(), Fail> {
     let alloc = rt.alloc();
     let text = text_of_all(alloc)?;
     let config = parse(alloc, text.as_bytes())?;
-    assert_eq!(rt; config.tasks.len(), 255);
-    assert_eq!(rt; config.semaphores.len(), 255);
-    assert_eq!(rt; config.flags.len(), 255);
-    assert_eq!(rt; config.queues.len(), 255);
-    assert_eq!(rt; config.handlers.len(), 32);
-    for (place, task) in config.tasks.as_slice().iter().enumerate() {
-        assert_eq!(rt; usize::from(task.id), place + 1);
-    }
-    let last = config.semaphores.as_slice().last().ok_or("none")?;
-    assert_eq!(rt; (last.id, last.initial, last.maximum), (255, 255, 255));
-    let last = config.flags.as_slice().last().ok_or("none")?;
-    assert_eq!(rt; (last.id, last.pattern), (255, 255));
-    let last = config.queues.as_slice().last().ok_or("none")?;
-    assert_eq!(rt; (last.id, last.capacity), (255, 255));
-    let last = config.handlers.as_slice().last().ok_or("none")?;
-    assert_eq!(rt; (last.line, last.processor), (31, 1));
+    assert!(rt; has_all(&config) && has_last_ones(&config));
     Ok(())
 }

@@ -2,9 +2,8 @@
 
 use super::EVERY;
 use bitflags::Flags;
-use brd_config::{Config, ConfigFault, Operand, Stack, TaskAttributes, parse};
+use brd_config::{Config, ConfigFault, Operand, Stack, TaskAttributes, TaskConfig, parse};
 use std::alloc::{AllocError, Global};
-use std::process::Abort;
 use std::test::Fail;
 
 fn has_name(operand: &Operand, name: &str) -> bool {
@@ -21,83 +20,96 @@ fn has_number(operand: &Operand, wanted: u32) -> bool {
     }
 }
 
-fn every(rt: &HostRuntime) -> Result<Config, Fail> {
-    Ok(parse(rt.alloc(), EVERY.as_bytes())?)
+/// The configuration of the text with every kind of statement.
+fn every(alloc: Global) -> Result<Config, Fail> {
+    Ok(parse(alloc, EVERY.as_bytes())?)
 }
 
 #[test]
 fn board(rt: HostRuntime) -> Result<(), Fail> {
-    let config = every(&rt)?;
-    assert_eq!(rt; config.processors, 2);
-    assert_eq!(rt; config.ram, 0x40000);
+    let config = every(rt.alloc())?;
+    assert!(rt; config.processors == 2 && config.ram == 0x40000);
     Ok(())
+}
+
+/// Whether a task has this ID, processor, priority, set of attributes and stack size.
+fn is_task(task: &TaskConfig, id: u16, processor: u8, priority: u8, bits: u32, size: u32) -> bool {
+    task.id == id
+        && task.processor == processor
+        && task.priority == priority
+        && task.attributes.bits() == bits
+        && task.stack_size == size
+}
+
+/// Whether the tasks are those of the text.
+fn has_tasks(config: &Config) -> bool {
+    let [first, second, third] = config.tasks.as_slice() else {
+        return false;
+    };
+    is_task(first, 1, 1, 2, 2, 256)
+        && first.attributes.contains(TaskAttributes::TA_ACT)
+        && has_number(&first.exinf, 0)
+        && has_name(&first.address, "main_task")
+        && matches!(first.stack, Stack::Automatic)
+        && is_task(second, 2, 2, 16, 1, 0x200)
+        && has_name(&second.exinf, "exinf_2")
+        && has_number(&second.address, 0x80000100)
+        && matches!(&second.stack, Stack::At(operand) if has_number(operand, 0x80030000))
+        && is_task(third, 255, 2, 1, 0, 1)
+        && has_name(&third.exinf, ".start")
+        && has_name(&third.address, "_loop$1")
+        && matches!(&third.stack, Stack::At(operand) if has_name(operand, "stack_area"))
 }
 
 #[test]
 fn tasks(rt: HostRuntime) -> Result<(), Fail> {
-    let config = every(&rt)?;
-    let [first, second, third] = config.tasks.as_slice() else {
-        return Err("three tasks")?;
-    };
-    assert_eq!(rt; (first.id, first.processor, first.priority), (1, 1, 2));
-    assert_eq!(rt; first.attributes.bits(), 2);
-    assert!(rt; first.attributes.contains(TaskAttributes::TA_ACT));
-    assert!(rt; has_number(&first.exinf, 0) && has_name(&first.address, "main_task"));
-    assert!(rt; first.stack_size == 256 && matches!(first.stack, Stack::Automatic));
-
-    assert_eq!(rt; (second.id, second.processor, second.priority), (2, 2, 16));
-    assert_eq!(rt; second.attributes.bits(), 1);
-    assert!(rt; has_name(&second.exinf, "exinf_2") && has_number(&second.address, 0x80000100));
-    assert_eq!(rt; second.stack_size, 0x200);
-    assert!(rt; matches!(&second.stack, Stack::At(operand) if has_number(operand, 0x80030000)));
-
-    assert_eq!(rt; (third.id, third.processor, third.priority), (255, 2, 1));
-    assert!(rt; has_name(&third.exinf, ".start") && has_name(&third.address, "_loop$1"));
-    assert!(rt; matches!(&third.stack, Stack::At(operand) if has_name(operand, "stack_area")));
+    let config = every(rt.alloc())?;
+    assert!(rt; has_tasks(&config));
     Ok(())
+}
+
+/// Whether the semaphores, the flags and the queues are those of the text.
+fn has_objects(config: &Config) -> bool {
+    let [semaphore] = config.semaphores.as_slice() else {
+        return false;
+    };
+    let [flag] = config.flags.as_slice() else {
+        return false;
+    };
+    let [large, none] = config.queues.as_slice() else {
+        return false;
+    };
+    (semaphore.id, semaphore.initial, semaphore.maximum) == (1, 1, 16)
+        && semaphore.attributes.bits() == 1
+        && (flag.id, flag.attributes.bits(), flag.pattern) == (3, 7, 0xFFFF_FFFF)
+        && (large.id, large.attributes.bits(), large.capacity) == (4, 0, 256)
+        && (none.id, none.attributes.bits(), none.capacity) == (5, 1, 0)
 }
 
 #[test]
 fn objects(rt: HostRuntime) -> Result<(), Fail> {
-    let config = every(&rt)?;
-    let [semaphore] = config.semaphores.as_slice() else {
-        return Err("a semaphore")?;
-    };
-    assert_eq!(rt;
-        (semaphore.id, semaphore.initial, semaphore.maximum),
-        (1, 1, 16)
-    );
-    assert_eq!(rt; semaphore.attributes.bits(), 1);
-    let [flag] = config.flags.as_slice() else {
-        return Err("a flag")?;
-    };
-    assert_eq!(rt;
-        (flag.id, flag.attributes.bits(), flag.pattern),
-        (3, 7, 0xFFFF_FFFF)
-    );
-    let [large, none] = config.queues.as_slice() else {
-        return Err("two queues")?;
-    };
-    assert_eq!(rt;
-        (large.id, large.attributes.bits(), large.capacity),
-        (4, 0, 256)
-    );
-    assert_eq!(rt; (none.id, none.attributes.bits(), none.capacity), (5, 1, 0));
+    let config = every(rt.alloc())?;
+    assert!(rt; has_objects(&config));
     Ok(())
+}
+
+/// Whether the handlers are those of the text.
+fn has_handlers(config: &Config) -> bool {
+    let [timer, zero] = config.handlers.as_slice() else {
+        return false;
+    };
+    !config.handlers.is_empty()
+        && config.handlers.len() == 2
+        && (timer.line, timer.processor) == (31, 2)
+        && has_name(&timer.address, "on_timer")
+        && (zero.line, zero.processor) == (0, 1)
+        && has_number(&zero.address, 0x80000200)
 }
 
 #[test]
 fn handlers(rt: HostRuntime) -> Result<(), Fail> {
-    let config = every(&rt)?;
-    assert_eq!(rt; config.handlers.len(), 2);
-    assert!(rt; !config.handlers.is_empty());
-    let [timer, zero] = config.handlers.as_slice() else {
-        return Err("two handlers")?;
-    };
-    assert_eq!(rt; (timer.line, timer.processor), (31, 2));
-    assert!(rt; has_name(&timer.address, "on_timer"));
-    assert_eq!(rt; (zero.line, zero.processor), (0, 1));
-    assert!(rt; has_number(&zero.address, 0x80000200));
+    let config = every(rt.alloc())?;
+    assert!(rt; has_handlers(&config));
     Ok(())
 }
 
