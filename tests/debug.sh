@@ -33,13 +33,9 @@ for commands in examples/*/*.commands; do
     debug "$name" 0 "$name.answers" "" "$work/image" "$name.cfg" "$name.journal"
 done
 
-# Of docs/DEBUGGING.md the example: behind each line `> COMMAND` stand the answers to it.
-name=examples/fault/fault
-sed -n 's/^    > //p' docs/DEBUGGING.md > "$work/in"
-sed -n '/^    > goto 7000$/,/^    > quit$/s/^    //p' docs/DEBUGGING.md | grep -v '^> ' > "$work/wanted"
-assembled "the document" $name.s
-debug "the document" 0 "$work/wanted" "" "$work/image" $name.cfg $name.journal
-cmp -s "$work/in" $name.commands || fail "debug: the document" "it doesn't have the commands of $name.commands"
+# The example of docs/DEBUGGING.md (whose answers tests/documents.sh compares) has the commands of its file.
+sed -n 's/^> //p' docs/DEBUGGING.md > "$work/in"
+verdict "the document" "$(cmp "$work/in" examples/fault/fault.commands 2>&1)"
 
 # Ten events of five words in a loop, of which the third is executed at 2 and 7. (The bytes of lines that only look like
 # commands are written out here, where they can be seen.)

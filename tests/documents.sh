@@ -1,0 +1,17 @@
+#!/bin/bash
+# The documents: the commands that they show, a test for each document, and the ways through the code of docs/WALKS.md.
+# tests/documents.sh PROGRAM
+. "$(dirname "$0")/check.sh"
+
+check_script "the walks" tests/walks
+lines=$(tests/documents "$board")
+more=$(tail -n 1 <<< "$lines")
+sed '$d' <<< "$lines"
+if [[ "$more" =~ ^([0-9]+)\ passed,\ ([0-9]+)\ failed$ ]]; then
+    passed=$((passed + BASH_REMATCH[1]))
+    failed=$((failed + BASH_REMATCH[2]))
+else
+    fail "the commands of the documents" "$more"
+fi
+
+summary
