@@ -1,20 +1,32 @@
-# board: an emulated MIPS32 board for real-time software, proved. The only tool needed is Rattle's `rt`.
+# board: an emulated MIPS32 board for real-time software, proved. `make demo` needs no toolchain; all else needs Rattle's
+# `rt`.
 BOARD = build/board
 
 # The crates whose wrong bodies `make attack` tries (none: all), as in `make attack CRATES="brd_exec brd_isa"`.
 CRATES =
 
-.PHONY: board demo test attack gate-times bench clean
+.PHONY: demo board dist test attack gate-times bench clean
 
-# Proves what has changed and leaves the program at build/board.
+# Unpacks the program of dist/ to build/board, and runs the examples.
+demo:
+	mkdir -p build
+	gunzip -c dist/board.gz > $(BOARD)
+	chmod +x $(BOARD)
+	sha256sum --check --quiet dist/board.sha256
+	examples/demo $(BOARD)
+
+# Proves what has changed, from nothing on a fresh clone, leaves the program at build/board, and says whether it is that
+# of dist/.
 board:
 	cd crates/brd_cli && rt run -- words 0 </dev/null >/dev/null
 	mkdir -p build
+	rm -f $(BOARD)
 	cp crates/brd_cli/out/brd_cli $(BOARD)
+	tests/dist --check $(BOARD)
 
-# Runs the delay-slot example.
-demo: board
-	$(BOARD) words 4 < examples/delay_slot.words
+# Puts the program that `make board` or `make test` left at build/board into dist/.
+dist:
+	tests/dist --write $(BOARD)
 
 # The whole gate: every proof from nothing, the wrong bodies of must-fail/, all tests and the command-line tests.
 test:
