@@ -4,6 +4,7 @@ use Rattle.std.specs.Prelude.{take, take_while}
 use Rattle.std.specs.List.{list_all, prefix_len, AllByRecursion}
 use Rattle.std.proofs.lemmas.Bool.{cases_Bool}
 use Rattle.brd_text.specs.Bytes.{is_run_byte, is_space}
+use Rattle.brd_source.specs.Reading.{is_end}
 use Rattle.brd_source.specs.Tokens.{Token, Place, opens_comment, string_len, quoted, sign_at, token_at, place_after, with_token, tokens_in}
 use Rattle.brd_source.specs.Tokens.Token.{Run, Percent, Quoted, Mark, Wrong}
 use Rattle.brd_source.specs.Tokens.Place.{Between, InRun, InString, Escaped, InComment}
@@ -71,3 +72,10 @@ with_one P (Some token) tokens h hs = (h, hs)
 pub each_token : (P : Token → Type 0) → HoldsOfTokens P → (place : Place) (bs : List ℕ) → AllByRecursion P (tokens_in place bs)
 each_token P holds place [] = tt
 each_token P holds place (b ∷ bs) = with_one P (token_at place b bs) (tokens_in (place_after place b bs) bs) (one_token P holds place b bs) (each_token P holds (place_after place b bs) bs)
+
+-- no token stands for the end
+abbrev pub AreTokens : List Token → Type 0
+AreTokens tokens = AllByRecursion (λ w. is_end w ≡ false) tokens
+
+pub tokens_in_line : (place : Place) (bs : List ℕ) → AreTokens (tokens_in place bs)
+tokens_in_line place bs = each_token (λ w. is_end w ≡ false) (record { run = λ run h. refl; percent = λ run. refl; in_quotes = λ text. refl; mark = λ b. refl; wrong = refl }) place bs

@@ -1,40 +1,38 @@
 -- What is read as a line has the form of one: directives, statements and lines.
 use Rattle.std.proofs.Common.{◌≡◌, ℕ, zero, suc, true, false, cond, List, [], ◌∷◌, ◌++◌, length, Option, Some, None, Ok, Err, refl, sym, ap, ◌∙◌, subst, inl, inr, append_assoc, append-nil}
-use Rattle.std.specs.Prelude.{codes, bytes_eq, ◌||◌, ◌⊎◌}
-use Rattle.std.specs.List.{AllByRecursion}
+use Rattle.std.specs.Prelude.{codes, bytes_eq, ◌||◌}
 use Rattle.std.proofs.lemmas.Bool.{cases_Bool}
 use Rattle.std.proofs.lemmas.Slice.Eq.{bytes_eq-Decides}
-use Rattle.brd_isa.specs.declared.mnemonic.Mnemonic.{Mnemonic}
-use Rattle.brd_isa.specs.Names.{lowered, named_in, mnemonic_named, ◌or_else◌}
+use Rattle.brd_isa.specs.Names.{lowered}
 use Rattle.brd_text.specs.Bytes.{is_name}
 use Rattle.brd_text.specs.Faults.{◌>>=◌}
 use Rattle.brd_text.specs.Turns.{followed, repeated, flow_of}
 use Rattle.brd_text.proofs.FaultLemmas.{bind_ok, ok_is, passed}
 use Rattle.brd_source.specs.declared.fault.LineFault.TheVariants.{NoMemory, Syntax}
-use Rattle.brd_source.specs.declared.statement.Width.{Width}
-use Rattle.brd_source.specs.declared.statement.Width.TheVariants as width
-use Rattle.brd_source.specs.declared.statements.Directive.{Directive}
-use Rattle.brd_source.specs.declared.statements.Directive.TheVariants as directives
-use Rattle.brd_source.specs.declared.statements.Shorthand.{Shorthand}
-use Rattle.brd_source.specs.Grammar.{comma, colon, ExpressionIs, ValuesAre, WidthIs, IsSetting, StatementIs, LineIs}
+use Rattle.brd_source.specs.declared.forms.Kind.{Kind}
+use Rattle.brd_source.specs.declared.words.Directive.{Directive}
+use Rattle.brd_source.specs.declared.words.Directive.TheVariants as directives
+use Rattle.brd_source.specs.declared.words.Word.{Word}
+use Rattle.brd_source.specs.declared.words.Word.TheVariants.{Mnemonic, Shorthand, Directive as Directs}
+use Rattle.brd_source.specs.Forms.{form_of, short_form_of, taken, instruction, stands_for}
+use Rattle.brd_source.specs.Grammar.{comma, colon, ExpressionIs, OperandsAre, ValuesAre, IsSetting, Says, StatementIs, LineIs}
 use Rattle.brd_source.specs.Grammar.ValuesAre.{one, many}
-use Rattle.brd_source.specs.Grammar.WidthIs.{byte, half, word}
 use Rattle.brd_source.specs.Grammar.IsSetting.{noreorder, noat, nomacro}
-use Rattle.brd_source.specs.Grammar.StatementIs.{left_out, instruction, shorthand, org, align, space, values, ascii, asciiz, equ, globl, set}
+use Rattle.brd_source.specs.Grammar.Says.{instructs, shortens, org, align, space, values, ascii, asciiz, equ, globl, set}
+use Rattle.brd_source.specs.Grammar.StatementIs.{left_out, begins}
 use Rattle.brd_source.specs.Grammar.LineIs.{statement, label}
-use Rattle.brd_source.specs.Reading.{is_mark, is_end, past, mark_at, run_at, name_at, end_at, expression_at}
-use Rattle.brd_source.specs.Statement.{Expression, Statement, Line}
+use Rattle.brd_source.specs.Reading.{is_mark, is_end, past, mark_at, run_at, name_at, end_at, expression_at, operands_at}
+use Rattle.brd_source.specs.Statement.{Expression, Operands, Instruction, Statement, Line}
 use Rattle.brd_source.specs.Statement.Statement.{Nothing, Instruct, Org, Align, Space, Data, Text, Equal}
-use Rattle.brd_source.specs.Statements.{shorthand_names, shorthand_at, data_names, order_names, directive_named, value_step, values_at, ended_text_at, equal_at, setting_at, directive_at, instruct, statement_as, statement_named, statement_at}
-use Rattle.brd_source.specs.Operands.{operands_at}
+use Rattle.brd_source.specs.Statements.{value_step, values_at, ended_text_at, equal_at, setting_at, directive_at, instruction_at, statement_as, statement_at}
 use Rattle.brd_source.specs.Texts.{text_of, text_at}
+use Rattle.brd_source.specs.Words.{word_named}
 use Rattle.brd_source.specs.Lines.{labelled, line_of}
-use Rattle.brd_source.specs.Tokens.{Token, Place, tokens_in, tokens_of, first, others}
+use Rattle.brd_source.specs.Tokens.{Token, tokens_of, first, others}
 use Rattle.brd_source.specs.Tokens.Place.{Between}
 use Rattle.brd_source.specs.Tokens.Token.{Run, Percent, Quoted, Mark, Wrong, End}
-use Rattle.brd_source.proofs.EachToken.{each_token}
-use Rattle.brd_source.proofs.OperandsBack.{Front, run_back, mark_front, mark_back, expression_back}
-use Rattle.brd_source.proofs.InstructionsBack.{operands_back, Shortens, shorthand_name, shorthand_back, table_back, shorthand_named}
+use Rattle.brd_source.proofs.EachToken.{AreTokens, tokens_in_line}
+use Rattle.brd_source.proofs.OperandsBack.{Front, got, run_back, mark_front, mark_back, expression_back, operands_back}
 
 -- ---- values
 
@@ -81,49 +79,15 @@ values_back (suc n) before tokens p h =
 
 -- ---- directives
 
-directive_name : Directive → List ℕ
-directive_name directives.Org = codes ".org"
-directive_name directives.Align = codes ".align"
-directive_name directives.Space = codes ".space"
-directive_name (directives.Values width.Byte) = codes ".byte"
-directive_name (directives.Values width.Half) = codes ".half"
-directive_name (directives.Values width.Word) = codes ".word"
-directive_name directives.Ascii = codes ".ascii"
-directive_name directives.Asciiz = codes ".asciiz"
-directive_name directives.Equ = codes ".equ"
-directive_name directives.Globl = codes ".globl"
-directive_name directives.Set = codes ".set"
+-- tokens that begin with what stands behind a word, and the rest of them
+abbrev Saying : Word → List Token → List Token → Statement → Type 0
+Saying word tokens rest s = Front (Says word) tokens rest s
 
-either : {A : Type 0} (o p : Option A) (x : A) → (o or_else p) ≡ Some x → (o ≡ Some x) ⊎ (p ≡ Some x)
-either None p x e = inr e
-either (Some y) p x e = inl e
-
-directive_is : (n : List ℕ) (d : Directive) → directive_named n ≡ Some d → n ≡ directive_name d
-unfolding directive_named directive_name
-directive_is n d e =
-    elim (either (named_in data_names n) (named_in order_names n) d e) [
-      | inl in_data ↦ table_back data_names n d directive_name (refl, (refl, (refl, (refl, (refl, (refl, (refl, tt))))))) in_data
-      | inr in_orders ↦ table_back order_names n d directive_name (refl, (refl, (refl, (refl, tt)))) in_orders
-    ]
-
-wide : (n : List ℕ) (w : Width) → n ≡ directive_name (directives.Values w) → WidthIs n w
-unfolding directive_name
-wide n width.Byte e = subst (λ (m : List ℕ). WidthIs m width.Byte) (sym e) byte
-wide n width.Half e = subst (λ (m : List ℕ). WidthIs m width.Half) (sym e) half
-wide n width.Word e = subst (λ (m : List ℕ). WidthIs m width.Word) (sym e) word
-
--- a statement at the front of tokens, and the rest of them
-abbrev pub Says : List Token → Statement × List Token → Type 0
-Says tokens p = Front StatementIs tokens p.1 p.0
-
-said : (run : List ℕ) (tokens rest : List Token) (front : List Token) (s : Statement) (p : Statement × List Token) → (s, rest) ≡ p → tokens ≡ front ++ rest → StatementIs (Run run ∷ front) s → Says (Run run ∷ tokens) p
-said run tokens rest front s p e tokens_are is = subst (λ (q : Statement × List Token). Says (Run run ∷ tokens) q) e (record { front = Run run ∷ front; tokens_are = ap (λ (ws : List Token). Run run ∷ ws) tokens_are; is = is })
-
-with_expression : (run : List ℕ) (tokens : List Token) (p : Statement × List Token) (made : Expression → Statement) → ((front : List Token) (e : Expression) → ExpressionIs front e → StatementIs (Run run ∷ front) (made e)) → (expression_at tokens >>= λ e. Ok (made e.0, e.1)) ≡ Ok p → Says (Run run ∷ tokens) p
-with_expression run tokens p made is h =
+with_expression : (word : Word) (tokens : List Token) (p : Statement × List Token) (made : Expression → Statement) → ((front : List Token) (e : Expression) → ExpressionIs front e → Says word front (made e)) → (expression_at tokens >>= λ e. Ok (made e.0, e.1)) ≡ Ok p → Saying word tokens p.1 p.0
+with_expression word tokens p made is h =
     let e = bind_ok (expression_at tokens) (λ e. Ok (made e.0, e.1)) p h in
     let b = expression_back tokens e.0.0 e.0.1 e.1 in
-    said run tokens e.0.1 b.front (made e.0.0) p (ok_is (made e.0.0, e.0.1) p e.2) b.tokens_are (is b.front e.0.0 b.is)
+    subst (λ (q : Statement × List Token). Saying word tokens q.1 q.0) (ok_is (made e.0.0, e.0.1) p e.2) (record { front = b.front; tokens_are = b.tokens_are; is = is b.front e.0.0 b.is })
 
 record AText (tokens rest : List Token) (bytes : List ℕ) : Type 0 where
   text : List ℕ
@@ -161,83 +125,80 @@ setting_is run h =
           ]
     ]
 
-directive_back : (run : List ℕ) (d : Directive) (tokens : List Token) (p : Statement × List Token) → lowered run ≡ directive_name d → directive_at d tokens ≡ Ok p → Says (Run run ∷ tokens) p
-unfolding directive_name values_at ended_text_at equal_at setting_at
-directive_back run directives.Org tokens p n h = with_expression run tokens p Org (λ front e is. org run front e n is) h
-directive_back run directives.Align tokens p n h = with_expression run tokens p Align (λ front e is. align run front e n is) h
-directive_back run directives.Space tokens p n h = with_expression run tokens p Space (λ front e is. space run front e n is) h
-directive_back run (directives.Values w) tokens p n h =
-    let v = bind_ok (values_at tokens) (λ v. Ok (Data w v.0, v.1)) p h in
+directive_back : (d : Directive) (tokens : List Token) (s : Statement) (rest : List Token) → directive_at d tokens ≡ Ok (s, rest) → Saying (Directs d) tokens rest s
+unfolding values_at ended_text_at equal_at setting_at
+directive_back directives.Org tokens s rest h = with_expression (Directs directives.Org) tokens (s, rest) Org org h
+directive_back directives.Align tokens s rest h = with_expression (Directs directives.Align) tokens (s, rest) Align align h
+directive_back directives.Space tokens s rest h = with_expression (Directs directives.Space) tokens (s, rest) Space space h
+directive_back (directives.Values w) tokens s rest h =
+    let v = bind_ok (values_at tokens) (λ v. Ok (Data w v.0, v.1)) (s, rest) h in
     let b = values_back (suc (length tokens)) [] tokens v.0 v.1 in
     let are : ValuesAre b.front v.0.0 = subst (λ (es : List Expression). ValuesAre b.front es) (sym b.all) b.are in
-    said run tokens v.0.1 b.front (Data w v.0.0) p (ok_is (Data w v.0.0, v.0.1) p v.2) b.tokens_are (values run b.front w v.0.0 (wide (lowered run) w n) are)
-directive_back run directives.Ascii tokens p n h =
-    let t = bind_ok (text_at tokens) (λ t. Ok (Text t.0, t.1)) p h in
+    got (Says (Directs (directives.Values w))) tokens v.0.1 rest (Data w v.0.0) s v.2 (record { front = b.front; tokens_are = b.tokens_are; is = values w b.front v.0.0 are })
+directive_back directives.Ascii tokens s rest h =
+    let t = bind_ok (text_at tokens) (λ t. Ok (Text t.0, t.1)) (s, rest) h in
     let b = text_back tokens t.0.0 t.0.1 t.1 in
-    said run tokens t.0.1 (Quoted b.text ∷ []) (Text t.0.0) p (ok_is (Text t.0.0, t.0.1) p t.2) b.tokens_are (ascii run b.text t.0.0 n b.is)
-directive_back run directives.Asciiz tokens p n h =
-    let z = bind_ok (ended_text_at tokens) (λ t. Ok (Text t.0, t.1)) p h in
+    got (Says (Directs directives.Ascii)) tokens t.0.1 rest (Text t.0.0) s t.2 (record { front = Quoted b.text ∷ []; tokens_are = b.tokens_are; is = ascii b.text t.0.0 b.is })
+directive_back directives.Asciiz tokens s rest h =
+    let z = bind_ok (ended_text_at tokens) (λ t. Ok (Text t.0, t.1)) (s, rest) h in
     let t = bind_ok (text_at tokens) (λ t. Ok (t.0 ++ 0 ∷ [], t.1)) z.0 z.1 in
     let b = text_back tokens t.0.0 t.0.1 t.1 in
-    let whole : (Text (t.0.0 ++ 0 ∷ []), t.0.1) ≡ p = ap (λ (q : List ℕ × List Token). (Text q.0, q.1)) (ok_is (t.0.0 ++ 0 ∷ [], t.0.1) z.0 t.2) ∙ ok_is (Text z.0.0, z.0.1) p z.2 in
-    said run tokens t.0.1 (Quoted b.text ∷ []) (Text (t.0.0 ++ 0 ∷ [])) p whole b.tokens_are (asciiz run b.text t.0.0 n b.is)
-directive_back run directives.Equ tokens p n h =
-    let g = bind_ok (name_at tokens) (λ name. mark_at 44 name.1 >>= λ behind. expression_at behind >>= λ value. Ok (Equal name.0 value.0, value.1)) p h in
-    let m = bind_ok (mark_at 44 g.0.1) (λ behind. expression_at behind >>= λ value. Ok (Equal g.0.0 value.0, value.1)) p g.2 in
-    let e = bind_ok (expression_at m.0) (λ value. Ok (Equal g.0.0 value.0, value.1)) p m.2 in
+    let whole : ◌≡◌ {A = Statement × List Token} (Text (t.0.0 ++ 0 ∷ []), t.0.1) (s, rest) = ap (λ (q : List ℕ × List Token). (Text q.0, q.1)) (ok_is (t.0.0 ++ 0 ∷ [], t.0.1) z.0 t.2) ∙ ok_is (Text z.0.0, z.0.1) (s, rest) z.2 in
+    subst (λ (q : Statement × List Token). Saying (Directs directives.Asciiz) tokens q.1 q.0) whole (record { front = Quoted b.text ∷ []; tokens_are = b.tokens_are; is = asciiz b.text t.0.0 b.is })
+directive_back directives.Equ tokens s rest h =
+    let g = bind_ok (name_at tokens) (λ name. mark_at 44 name.1 >>= λ behind. expression_at behind >>= λ value. Ok (Equal name.0 value.0, value.1)) (s, rest) h in
+    let m = bind_ok (mark_at 44 g.0.1) (λ behind. expression_at behind >>= λ value. Ok (Equal g.0.0 value.0, value.1)) (s, rest) g.2 in
+    let e = bind_ok (expression_at m.0) (λ value. Ok (Equal g.0.0 value.0, value.1)) (s, rest) m.2 in
     let name = name_back tokens g.0.0 g.0.1 g.1 in
     let b = expression_back m.0 e.0.0 e.0.1 e.1 in
-    said run tokens e.0.1 (Run g.0.0 ∷ comma ∷ b.front) (Equal g.0.0 e.0.0) p (ok_is (Equal g.0.0 e.0.0, e.0.1) p e.2) (name.0 ∙ ap (λ (ws : List Token). Run g.0.0 ∷ ws) (mark_back 44 g.0.1 m.0 m.1 ∙ ap (λ (ws : List Token). comma ∷ ws) b.tokens_are)) (equ run g.0.0 b.front e.0.0 n name.1 b.is)
-directive_back run directives.Globl tokens p n h =
-    let g = bind_ok (name_at tokens) (λ name. Ok (Nothing, name.1)) p h in
+    got (Says (Directs directives.Equ)) tokens e.0.1 rest (Equal g.0.0 e.0.0) s e.2 (record {
+      front = Run g.0.0 ∷ comma ∷ b.front;
+      tokens_are = name.0 ∙ ap (λ (ws : List Token). Run g.0.0 ∷ ws) (mark_back 44 g.0.1 m.0 m.1 ∙ ap (λ (ws : List Token). comma ∷ ws) b.tokens_are);
+      is = equ g.0.0 b.front e.0.0 name.1 b.is;
+    })
+directive_back directives.Globl tokens s rest h =
+    let g = bind_ok (name_at tokens) (λ name. Ok (Nothing, name.1)) (s, rest) h in
     let name = name_back tokens g.0.0 g.0.1 g.1 in
-    said run tokens g.0.1 (Run g.0.0 ∷ []) Nothing p (ok_is (Nothing, g.0.1) p g.2) name.0 (globl run g.0.0 n name.1)
-directive_back run directives.Set tokens p n h =
-    let r = bind_ok (run_at tokens) (λ run. cond (bytes_eq run.0 (codes "noreorder") || bytes_eq run.0 (codes "noat") || bytes_eq run.0 (codes "nomacro")) (Ok (Nothing, run.1)) (Err Syntax)) p h in
-    let t = passed (bytes_eq r.0.0 (codes "noreorder") || bytes_eq r.0.0 (codes "noat") || bytes_eq r.0.0 (codes "nomacro")) Syntax (Nothing, r.0.1) p r.2 in
-    said run tokens r.0.1 (Run r.0.0 ∷ []) Nothing p t.1 (run_back tokens r.0.0 r.0.1 r.1) (set run r.0.0 n (setting_is r.0.0 t.0))
+    got (Says (Directs directives.Globl)) tokens g.0.1 rest Nothing s g.2 (record { front = Run g.0.0 ∷ []; tokens_are = name.0; is = globl g.0.0 name.1 })
+directive_back directives.Set tokens s rest h =
+    let r = bind_ok (run_at tokens) (λ run. cond (bytes_eq run.0 (codes "noreorder") || bytes_eq run.0 (codes "noat") || bytes_eq run.0 (codes "nomacro")) (Ok (Nothing, run.1)) (Err Syntax)) (s, rest) h in
+    let t = passed (bytes_eq r.0.0 (codes "noreorder") || bytes_eq r.0.0 (codes "noat") || bytes_eq r.0.0 (codes "nomacro")) Syntax (Nothing, r.0.1) (s, rest) r.2 in
+    subst (λ (q : Statement × List Token). Saying (Directs directives.Set) tokens q.1 q.0) t.1 (record { front = Run r.0.0 ∷ []; tokens_are = run_back tokens r.0.0 r.0.1 r.1; is = set r.0.0 (setting_is r.0.0 t.0) })
 
 -- ---- statements
 
-by_mnemonic : (run : List ℕ) (m : Mnemonic) (tokens : List Token) (p : Statement × List Token) → mnemonic_named (lowered run) ≡ Some m → (operands_at m tokens >>= instruct) ≡ Ok p → Says (Run run ∷ tokens) p
-by_mnemonic run m tokens p n h =
-    let i = bind_ok (operands_at m tokens) instruct p h in
-    let b = operands_back m tokens i.0 i.1 in
-    said run tokens i.0.1 b.are.front (Instruct i.0.0) p (ok_is (Instruct i.0.0, i.0.1) p i.2) b.are.tokens_are (instruction run b.are.front m b.operands i.0.0 n b.are.are b.takes)
+with_operands : (word : Word) (form : Kind × Kind × Kind) (made : Operands → Instruction) (tokens : List Token) (s : Statement) (rest : List Token)
+    → ((front : List Token) (written operands : Operands) → OperandsAre front written → taken form written ≡ Ok operands → Says word front (Instruct (made operands)))
+    → instruction_at form made tokens ≡ Ok (s, rest) → Saying word tokens rest s
+unfolding instruction_at
+with_operands word form made tokens s rest is h =
+    let w = bind_ok (operands_at tokens) (λ written. taken form written.0 >>= λ operands. Ok (Instruct (made operands), written.1)) (s, rest) h in
+    let t = bind_ok (taken form w.0.0) (λ operands. Ok (Instruct (made operands), w.0.1)) (s, rest) w.2 in
+    let b = operands_back tokens w.0.0 w.0.1 w.1 in
+    got (Says word) tokens w.0.1 rest (Instruct (made t.0)) s t.2 (record { front = b.front; tokens_are = b.tokens_are; is = is b.front w.0.0 t.0 b.is t.1 })
 
-by_shorthand : (run : List ℕ) (s : Shorthand) (tokens : List Token) (p : Statement × List Token) → lowered run ≡ shorthand_name s → (shorthand_at s tokens >>= instruct) ≡ Ok p → Says (Run run ∷ tokens) p
-by_shorthand run s tokens p n h =
-    let i = bind_ok (shorthand_at s tokens) instruct p h in
-    let b = subst (λ (name : List ℕ). Shortens name tokens i.0.1 i.0.0) (sym n) (shorthand_back s tokens i.0 i.1) in
-    said run tokens i.0.1 b.are.front (Instruct i.0.0) p (ok_is (Instruct i.0.0, i.0.1) p i.2) b.are.tokens_are (shorthand run b.are.front b.operands i.0.0 b.are.are b.stands)
+said_back : (word : Word) (tokens : List Token) (s : Statement) (rest : List Token) → statement_as (Some word) tokens ≡ Ok (s, rest) → Saying word tokens rest s
+said_back (Mnemonic m) tokens s rest h = with_operands (Mnemonic m) (form_of m) (instruction m) tokens s rest (λ front written operands are takes. instructs m front written operands are takes) h
+said_back (Shorthand short) tokens s rest h = with_operands (Shorthand short) (short_form_of short) (stands_for short) tokens s rest (λ front written operands are takes. shortens short front written operands are takes) h
+said_back (Directs d) tokens s rest h = directive_back d tokens s rest h
 
-by_name : (run : List ℕ) (tokens : List Token) (p : Statement × List Token) (m : Option Mnemonic) (s : Option Shorthand) (d : Option Directive) → mnemonic_named (lowered run) ≡ m → named_in shorthand_names (lowered run) ≡ s → directive_named (lowered run) ≡ d → statement_as m s d tokens ≡ Ok p → Says (Run run ∷ tokens) p
-by_name run tokens p (Some m) s d m_is s_is d_is h = by_mnemonic run m tokens p m_is h
-by_name run tokens p None (Some s) d m_is s_is d_is h = by_shorthand run s tokens p (shorthand_named (lowered run) s s_is) h
-by_name run tokens p None None (Some d) m_is s_is d_is h = directive_back run d tokens p (directive_is (lowered run) d d_is) h
-by_name run tokens p None None None m_is s_is d_is h = absurd (cc)
+by_word : (run : List ℕ) (word : Option Word) (tokens : List Token) (s : Statement) (rest : List Token) → word_named (lowered run) ≡ word → statement_as word tokens ≡ Ok (s, rest) → Front StatementIs (Run run ∷ tokens) rest s
+by_word run None tokens s rest named h = absurd (cc)
+by_word run (Some word) tokens s rest named h =
+    let b = said_back word tokens s rest h in
+    record { front = Run run ∷ b.front; tokens_are = ap (λ (ws : List Token). Run run ∷ ws) b.tokens_are; is = begins run word b.front s named b.is }
 
--- no token stands for the end
-abbrev AreTokens : List Token → Type 0
-AreTokens tokens = AllByRecursion (λ w. is_end w ≡ false) tokens
-
-statement_back : (tokens : List Token) (p : Statement × List Token) → AreTokens tokens → statement_at tokens ≡ Ok p → Says tokens p
-unfolding statement_at statement_named
-statement_back [] p are h = subst (λ (q : Statement × List Token). Says [] q) (ok_is (Nothing, []) p h) (record { front = []; tokens_are = refl; is = left_out })
-statement_back (Run run ∷ tokens) p are h = by_name run tokens p (mnemonic_named (lowered run)) (named_in shorthand_names (lowered run)) (directive_named (lowered run)) refl refl refl h
-statement_back (Percent run ∷ tokens) p are h = absurd (cc)
-statement_back (Quoted text ∷ tokens) p are h = absurd (cc)
-statement_back (Mark b ∷ tokens) p are h = absurd (cc)
-statement_back (Wrong ∷ tokens) p are h = absurd (cc)
-statement_back (End ∷ tokens) p are h = absurd (differ are.0)
+statement_back : (tokens : List Token) (s : Statement) (rest : List Token) → AreTokens tokens → statement_at tokens ≡ Ok (s, rest) → Front StatementIs tokens rest s
+unfolding statement_at
+statement_back [] s rest are h = got StatementIs [] [] rest Nothing s h (record { front = []; tokens_are = refl; is = left_out })
+statement_back (Run run ∷ tokens) s rest are h = by_word run (word_named (lowered run)) tokens s rest refl h
+statement_back (End ∷ tokens) s rest are h = absurd (differ are.0)
   where
     differ : true ≡ false → ⊥
     differ e = cc
+statement_back (_ ∷ tokens) s rest are h = absurd (cc)
 
 -- ---- the tokens of a line
-
-tokens_in_line : (place : Place) (bs : List ℕ) → AreTokens (tokens_in place bs)
-tokens_in_line place bs = each_token (λ w. is_end w ≡ false) (record { run = λ run h. refl; percent = λ run. refl; in_quotes = λ text. refl; mark = λ b. refl; wrong = refl }) place bs
 
 behind_front : (front rest : List Token) → AreTokens (front ++ rest) → AreTokens rest
 behind_front [] rest are = are
@@ -293,7 +254,7 @@ line_back bytes said h =
     let x = bind_ok (end_at s.0.1) (λ ended. Ok (record { labels = l.0.0; statement = s.0.0 })) said s.2 in
     let labels = labels_back [] (tokens_of bytes) l.0 l.1 in
     let are = behind_front labels.front l.0.1 (subst AreTokens labels.tokens_are (tokens_in_line Between bytes)) in
-    let front = statement_back l.0.1 s.0 are s.1 in
+    let front = statement_back l.0.1 s.0.0 s.0.1 are s.1 in
     let none : s.0.1 ≡ [] = ended s.0.1 x.0 (behind_front front.front s.0.1 (subst AreTokens front.tokens_are are)) x.1 in
     let tokens : tokens_of bytes ≡ labels.front ++ front.front = labels.tokens_are ∙ ap (λ (ws : List Token). labels.front ++ ws) (front.tokens_are ∙ ap (λ (ws : List Token). front.front ++ ws) none ∙ append-nil front.front) in
     let is : record { labels = l.0.0; statement = s.0.0 } ≡ said = ok_is (record { labels = l.0.0; statement = s.0.0 }) said x.2 in

@@ -1,50 +1,45 @@
 -- What has the form of a line is read as what it spells: operands.
-use Rattle.std.proofs.Common.{◌≡◌, ℕ, true, false, eqb, List, [], ◌∷◌, ◌++◌, Some, None, Ok, refl, sym, ◌∙◌, inl, inr, append-nil, append_assoc, arith}
+use Rattle.std.proofs.Common.{◌≡◌, ℕ, true, false, eqb, List, [], ◌∷◌, ◌++◌, Some, None, Ok, refl, sym, ◌∙◌, subst, inl, inr, append-nil, append_assoc, arith}
 use Rattle.std.specs.Prelude.{ℤ}
 use Rattle.std.specs.List.{list_all}
-use Rattle.std.proofs.lemmas.Bool.{cases_Bool, and_parts}
+use Rattle.std.proofs.lemmas.Bool.{cases_Bool, and_parts, eqb-true}
 use Rattle.std.proofs.lemmas.Bool.Decides.{nat_tests}
 use Rattle.brd_text.specs.Bytes.{is_name, is_run_byte, begins_name, is_letter}
 use Rattle.brd_text.specs.Numbers.{hex_digit_value, digit_of, value_of, most_word, number_of}
 use Rattle.brd_text.proofs.Numerals.{value_behind-none}
-use Rattle.brd_source.specs.Grammar.{comma, opened, closed, NumberIs, ExpressionIs, ImmediateIs, Operand, OperandIs, OperandsAre}
+use Rattle.brd_source.specs.Grammar.{comma, opened, closed, NumberIs, ExpressionIs, ImmediateIs, OperandIs, OperandsAre}
 use Rattle.brd_source.specs.Grammar.NumberIs.{unsigned, negative}
 use Rattle.brd_source.specs.Grammar.ExpressionIs.{number, name, sum, difference}
 use Rattle.brd_source.specs.Grammar.ImmediateIs.{whole, high, low}
-use Rattle.brd_source.specs.Grammar.Operand.{Register, Value, At}
 use Rattle.brd_source.specs.Grammar.OperandIs.{register, value, offset, no_offset}
-use Rattle.brd_source.specs.Grammar.OperandsAre.{none, last, more}
+use Rattle.brd_source.specs.Grammar.OperandsAre.{none, one, two, three}
 use Rattle.brd_source.specs.Registers.{register_of}
-use Rattle.brd_source.specs.Statement.{Expression, Immediate}
+use Rattle.brd_source.specs.Statement.{Expression, Immediate, Operand, Operands}
 use Rattle.brd_source.specs.Statement.Immediate.{Whole}
 use Rattle.brd_source.specs.Tokens.{Token, first, others}
 use Rattle.brd_source.specs.Tokens.Token.{Run}
-use Rattle.brd_source.specs.Reading.{is_mark, is_end, past, mark_at, run_at, register_at, unsigned_at, number_at, addend_at, is_name_token, name_sum_at, plain_at, expression_at, half_at, whole_at, immediate_by, immediate_at, offset_at, base_at, register_comma_at, two_registers_at, two_registers_comma_at, three_registers_at}
+use Rattle.brd_source.specs.Reading.{is_mark, is_end, past, mark_at, run_at, register_at, unsigned_at, number_at, addend_at, is_name_token, name_sum_at, plain_at, expression_at, half_at, whole_at, immediate_by, immediate_at, offset_at, base_at, register_token, placed_at, operand_at, first_at, next_at, operands_at}
 
 -- ---- numbers
 
--- a run that is a number begins with a digit, and so is no name
-no_digit : (b : ℕ) → begins_name b ≡ true → digit_of 10 b ≡ None
-unfolding digit_of hex_digit_value begins_name is_letter
-no_digit b h = grind (arith, nat_tests)
+-- a run that is a number begins with a digit, and so is neither a name nor a register
+no_decimal : (b : ℕ) (bs : List ℕ) → digit_of 10 b ≡ None → value_of 10 most_word (b ∷ bs) ≡ None
+no_decimal b bs no_digit = rw (no_digit, value_behind-none 10 bs) refl
 
-no_decimal : (most b : ℕ) (bs : List ℕ) → begins_name b ≡ true → value_of 10 most (b ∷ bs) ≡ None
-no_decimal most b bs h = rw (no_digit b h, value_behind-none 10 bs) refl
-
-not_zero : (a : ℕ) → begins_name a ≡ true → eqb a 48 ≡ true → ⊥
-unfolding begins_name is_letter
-not_zero a h zero = grind (arith, nat_tests)
-
-no_number : (run : List ℕ) → is_name run ≡ true → number_of run ≡ None
+no_number : (b : ℕ) (bs : List ℕ) → eqb b 48 ≡ false → digit_of 10 b ≡ None → number_of (b ∷ bs) ≡ None
 unfolding number_of
-no_number [] h = absurd (cc)
-no_number (a ∷ []) h = no_decimal most_word a [] (and_parts (begins_name a) true h).0
-no_number (a ∷ b ∷ bs) h =
-    let begins = (and_parts (begins_name a) (list_all is_run_byte (b ∷ bs)) h).0 in
-    elim (cases_Bool (eqb a 48)) [
-      | inl zero ↦ absurd (not_zero a begins zero)
-      | inr other ↦ rw other (no_decimal most_word a (b ∷ bs) begins)
-    ]
+no_number b [] other no_digit = no_decimal b [] no_digit
+no_number b (c ∷ bs) other no_digit = rw other (no_decimal b (c ∷ bs) no_digit)
+
+named : (run : List ℕ) → is_name run ≡ true → (number_of run ≡ None) × (register_of run ≡ None)
+unfolding digit_of hex_digit_value begins_name is_letter
+named [] h = absurd (cc)
+named (b ∷ bs) h =
+    let begins = (and_parts (begins_name b) (list_all is_run_byte bs) h).0 in
+    let no_digit : digit_of 10 b ≡ None = grind (arith, nat_tests) in
+    let no_zero : eqb b 48 ≡ false = grind (arith, nat_tests) in
+    let no_dollar : eqb b 36 ≡ false = grind (arith, nat_tests) in
+    (no_number b bs no_zero no_digit, rw no_dollar refl)
 
 none_is_some : (n : ℕ) → None ≡ Some n → ⊥
 none_is_some n e = cc
@@ -52,8 +47,17 @@ none_is_some n e = cc
 is_no_name : (run : List ℕ) (n : ℕ) → number_of run ≡ Some n → is_name run ≡ false
 is_no_name run n e =
     elim (cases_Bool (is_name run)) [
-      | inl a_name ↦ absurd (none_is_some n (sym (no_number run a_name) ∙ e))
+      | inl a_name ↦ absurd (none_is_some n (sym (named run a_name).0 ∙ e))
       | inr no_name ↦ no_name
+    ]
+
+is_no_register : (run : List ℕ) (n : ℕ) → number_of run ≡ Some n → register_of run ≡ None
+unfolding digit_of hex_digit_value
+is_no_register [] n e = refl
+is_no_register (b ∷ bs) n e =
+    elim (cases_Bool (eqb b 36)) [
+      | inl dollar ↦ absurd (none_is_some n (sym (no_number 36 bs refl refl) ∙ subst (λ (c : ℕ). number_of (c ∷ bs) ≡ Some n) (eqb-true b 36 dollar) e))
+      | inr other ↦ rw other refl
     ]
 
 number_law : (tokens : List Token) (v : ℤ) (rest : List Token) → NumberIs tokens v → number_at (tokens ++ rest) ≡ Ok (v, rest)
@@ -104,57 +108,7 @@ immediate_law _ _ rest (whole tokens e x) ends = expression_front tokens e rest 
 immediate_law _ _ rest (high tokens e x) ends = rw (in_parentheses tokens e rest x) refl
 immediate_law _ _ rest (low tokens e x) ends = rw (in_parentheses tokens e rest x) refl
 
--- ---- operands
-
--- the first of several operands, and the others behind a comma
-record Split (tokens : List Token) (o p : Operand) (os : List Operand) : Type 0 where
-  front : List Token
-  behind : List Token
-  tokens_are : tokens ≡ front ++ comma ∷ behind
-  is : OperandIs front o
-  are : OperandsAre behind (p ∷ os)
-
-split : (tokens : List Token) (o p : Operand) (os : List Operand) → OperandsAre tokens (o ∷ p ∷ os) → Split tokens o p os
-split _ _ _ _ (more tokens others o p os is are) = record { front = tokens; behind = others; tokens_are = refl; is = is; are = are }
-
-only : (tokens : List Token) (o : Operand) → OperandsAre tokens (o ∷ []) → OperandIs tokens o
-only _ _ (last tokens o is) = is
-
-pub empty : (tokens : List Token) → OperandsAre tokens [] → tokens ≡ []
-empty _ none = refl
-
-register_front : (tokens : List Token) (r : ℕ) (rest : List Token) → OperandIs tokens (Register r) → register_at (tokens ++ rest) ≡ Ok (r, rest)
-unfolding register_at run_at
-register_front _ _ rest (register run r e) = rw e refl
-
-a_value : (tokens : List Token) (i : Immediate) → OperandIs tokens (Value i) → ImmediateIs tokens i
-a_value _ _ (value tokens i is) = is
-
-a_whole : (tokens : List Token) (e : Expression) → ImmediateIs tokens (Whole e) → ExpressionIs tokens e
-a_whole _ _ (whole tokens e is) = is
-
-pub last_register : (tokens : List Token) (r : ℕ) → OperandsAre tokens (Register r ∷ []) → register_at tokens ≡ Ok (r, [])
-last_register tokens r are = rw (append-nil tokens) at (register_front tokens r [] (only tokens (Register r) are))
-
-pub last_immediate : (tokens : List Token) (i : Immediate) → OperandsAre tokens (Value i ∷ []) → immediate_at tokens ≡ Ok (i, [])
-last_immediate tokens i are = rw (append-nil tokens) at (immediate_law tokens i [] (a_value tokens i (only tokens (Value i) are)) (refl, refl))
-
-pub only_expression : (tokens : List Token) (e : Expression) → ExpressionIs tokens e → expression_at tokens ≡ Ok (e, [])
-only_expression tokens e is = rw (append-nil tokens) at (expression_law tokens e [] is (refl, refl))
-
-pub last_expression : (tokens : List Token) (e : Expression) → OperandsAre tokens (Value (Whole e) ∷ []) → expression_at tokens ≡ Ok (e, [])
-last_expression tokens e are = only_expression tokens e (a_whole tokens e (a_value tokens (Whole e) (only tokens (Value (Whole e)) are)))
-
--- a place: its offset, and then its register
-pub record Placed (tokens : List Token) (i : Immediate) (r : ℕ) : Type 0 where
-  pub behind : List Token
-  pub offset_is : offset_at tokens ≡ Ok (i, behind)
-  pub base_is : base_at behind ≡ Ok (r, [])
-
-in_base : (run : List ℕ) (r : ℕ) → register_of run ≡ Some r → base_at (opened ∷ Run run ∷ closed ∷ []) ≡ Ok (r, [])
-unfolding base_at mark_at register_at run_at
-in_base run r e = rw e refl
-
+-- what expressions and immediates begin with
 number_no_mark : (mark : ℕ) (tokens : List Token) (v : ℤ) (rest : List Token) → eqb 45 mark ≡ false → NumberIs tokens v → is_mark mark (first (tokens ++ rest)) ≡ false
 number_no_mark mark _ _ rest h (unsigned run n e) = refl
 number_no_mark mark _ _ rest h (negative run n e) = h
@@ -165,129 +119,73 @@ expression_no_mark mark _ _ rest h (name run a_name) = refl
 expression_no_mark mark _ _ rest h (sum run tokens v a_name n) = refl
 expression_no_mark mark _ _ rest h (difference run tokens v a_name n) = refl
 
-pub immediate_no_mark : (mark : ℕ) (tokens : List Token) (i : Immediate) (rest : List Token) → eqb 45 mark ≡ false → ImmediateIs tokens i → is_mark mark (first (tokens ++ rest)) ≡ false
+immediate_no_mark : (mark : ℕ) (tokens : List Token) (i : Immediate) (rest : List Token) → eqb 45 mark ≡ false → ImmediateIs tokens i → is_mark mark (first (tokens ++ rest)) ≡ false
 immediate_no_mark mark _ _ rest h (whole tokens e x) = expression_no_mark mark tokens e rest h x
 immediate_no_mark mark _ _ rest h (high tokens e x) = refl
 immediate_no_mark mark _ _ rest h (low tokens e x) = refl
 
-placed : (tokens : List Token) (i : Immediate) (r : ℕ) → OperandIs tokens (At i r) → Placed tokens i r
-unfolding offset_at
-placed _ _ _ (offset tokens i run r is e) =
-    let rest = opened ∷ Run run ∷ closed ∷ [] in
-    record { behind = rest; offset_is = rw (immediate_no_mark 40 tokens i rest refl is) (immediate_law tokens i rest is (refl, refl)); base_is = in_base run r e }
-placed _ _ _ (no_offset run r e) = record { behind = opened ∷ Run run ∷ closed ∷ []; offset_is = refl; base_is = in_base run r e }
+-- neither the end of a line nor a register
+abbrev IsOther : Token → Type 0
+IsOther token = (is_end token ≡ false) × (register_token token ≡ None)
 
-pub last_place : (tokens : List Token) (i : Immediate) (r : ℕ) → OperandsAre tokens (At i r ∷ []) → Placed tokens i r
-last_place tokens i r are = placed tokens i r (only tokens (At i r) are)
+number_other : (tokens : List Token) (v : ℤ) (rest : List Token) → NumberIs tokens v → IsOther (first (tokens ++ rest))
+number_other _ _ rest (unsigned run n e) = (refl, is_no_register run n e)
+number_other _ _ rest (negative run n e) = (refl, refl)
 
--- ---- several operands
+immediate_other : (tokens : List Token) (i : Immediate) (rest : List Token) → ImmediateIs tokens i → IsOther (first (tokens ++ rest))
+immediate_other _ _ rest (whole _ _ (number tokens v n)) = number_other tokens v rest n
+immediate_other _ _ rest (whole _ _ (name run h)) = (refl, (named run h).1)
+immediate_other _ _ rest (whole _ _ (sum run tokens v h n)) = (refl, (named run h).1)
+immediate_other _ _ rest (whole _ _ (difference run tokens v h n)) = (refl, (named run h).1)
+immediate_other _ _ rest (high tokens e x) = (refl, refl)
+immediate_other _ _ rest (low tokens e x) = (refl, refl)
 
--- `register ,` in front of other operands
-pub record OneRegister (tokens : List Token) (r : ℕ) (os : List Operand) : Type 0 where
-  pub behind : List Token
-  pub read : register_comma_at tokens ≡ Ok (r, behind)
-  pub are : OperandsAre behind os
+pub only_expression : (tokens : List Token) (e : Expression) → ExpressionIs tokens e → expression_at tokens ≡ Ok (e, [])
+only_expression tokens e is = rw (append-nil tokens) at (expression_law tokens e [] is (refl, refl))
 
-register_comma : (tokens front behind : List Token) (r : ℕ) → tokens ≡ front ++ comma ∷ behind → OperandIs front (Register r) → register_comma_at tokens ≡ Ok (r, behind)
-unfolding register_comma_at mark_at
-register_comma tokens front behind r e is = rw (e, register_front front r (comma ∷ behind) is) refl
+-- ---- operands
 
-pub one_register : (tokens : List Token) (r : ℕ) (o : Operand) (os : List Operand) → OperandsAre tokens (Register r ∷ o ∷ os) → OneRegister tokens r (o ∷ os)
-one_register tokens r o os are =
-    let s = split tokens (Register r) o os are in
-    record { behind = s.behind; read = register_comma tokens s.front s.behind r s.tokens_are s.is; are = s.are }
+-- neither an addend nor a register in parentheses follows
+abbrev EndsAll : List Token → Type 0
+EndsAll rest = Ends rest × (is_mark 40 (first rest) ≡ false)
 
--- `register , register ,` in front of others
-pub record TwoRegisters (tokens : List Token) (a b : ℕ) (os : List Operand) : Type 0 where
-  pub behind : List Token
-  pub read : two_registers_comma_at tokens ≡ Ok (a, b, behind)
-  pub are : OperandsAre behind os
-
-pub two_registers : (tokens : List Token) (a b : ℕ) (o : Operand) (os : List Operand) → OperandsAre tokens (Register a ∷ Register b ∷ o ∷ os) → TwoRegisters tokens a b (o ∷ os)
-unfolding two_registers_comma_at
-two_registers tokens a b o os are =
-    let f = one_register tokens a (Register b) (o ∷ os) are in
-    let g = one_register f.behind b o os f.are in
-    record { behind = g.behind; read = rw (f.read, g.read) refl; are = g.are }
-
-pub last_two : (tokens : List Token) (a b : ℕ) → OperandsAre tokens (Register a ∷ Register b ∷ []) → two_registers_at tokens ≡ Ok (a, b, [])
-unfolding two_registers_at
-last_two tokens a b are =
-    let f = one_register tokens a (Register b) [] are in
-    rw (f.read, last_register f.behind b f.are) refl
-
-pub last_three : (tokens : List Token) (a b c : ℕ) → OperandsAre tokens (Register a ∷ Register b ∷ Register c ∷ []) → three_registers_at tokens ≡ Ok (a, b, c, [])
-unfolding three_registers_at
-last_three tokens a b c are =
-    let f = one_register tokens a (Register b) (Register c ∷ []) are in
-    rw (f.read, last_two f.behind b c f.are) refl
-
--- `expression ,` in front of other operands
-pub record OneExpression (tokens : List Token) (e : Expression) (os : List Operand) : Type 0 where
-  pub behind : List Token
-  pub read : expression_at tokens ≡ Ok (e, comma ∷ behind)
-  pub are : OperandsAre behind os
-
-expression_comma : (tokens front behind : List Token) (e : Expression) → tokens ≡ front ++ comma ∷ behind → ExpressionIs front e → expression_at tokens ≡ Ok (e, comma ∷ behind)
-expression_comma tokens front behind e is x = rw (is, expression_law front e (comma ∷ behind) x (refl, refl)) refl
-
-pub one_expression : (tokens : List Token) (e : Expression) (o : Operand) (os : List Operand) → OperandsAre tokens (Value (Whole e) ∷ o ∷ os) → OneExpression tokens e (o ∷ os)
-one_expression tokens e o os are =
-    let s = split tokens (Value (Whole e)) o os are in
-    record { behind = s.behind; read = expression_comma tokens s.front s.behind e s.tokens_are (a_whole s.front e (a_value s.front (Whole e) s.is)); are = s.are }
-
--- `register` in front of a comma and other operands
-pub record RegisterBefore (tokens : List Token) (r : ℕ) (os : List Operand) : Type 0 where
-  pub behind : List Token
-  pub read : register_at tokens ≡ Ok (r, comma ∷ behind)
-  pub are : OperandsAre behind os
-
-register_then_comma : (tokens front behind : List Token) (r : ℕ) → tokens ≡ front ++ comma ∷ behind → OperandIs front (Register r) → register_at tokens ≡ Ok (r, comma ∷ behind)
-register_then_comma tokens front behind r e is = rw (e, register_front front r (comma ∷ behind) is) refl
-
-pub register_before : (tokens : List Token) (r : ℕ) (o : Operand) (os : List Operand) → OperandsAre tokens (Register r ∷ o ∷ os) → RegisterBefore tokens r (o ∷ os)
-register_before tokens r o os are =
-    let s = split tokens (Register r) o os are in
-    record { behind = s.behind; read = register_then_comma tokens s.front s.behind r s.tokens_are s.is; are = s.are }
-
--- `register , register` in front of a comma and other operands
-pub record TwoBefore (tokens : List Token) (a b : ℕ) (os : List Operand) : Type 0 where
-  pub behind : List Token
-  pub read : two_registers_at tokens ≡ Ok (a, b, comma ∷ behind)
-  pub are : OperandsAre behind os
-
-pub two_before : (tokens : List Token) (a b : ℕ) (o : Operand) (os : List Operand) → OperandsAre tokens (Register a ∷ Register b ∷ o ∷ os) → TwoBefore tokens a b (o ∷ os)
-unfolding two_registers_at
-two_before tokens a b o os are =
-    let f = one_register tokens a (Register b) (o ∷ os) are in
-    let g = register_before f.behind b o os f.are in
-    record { behind = g.behind; read = rw (f.read, g.read) refl; are = g.are }
-
--- an expression has tokens
-number_some : (tokens : List Token) (v : ℤ) → NumberIs tokens v → is_end (first tokens) ≡ false
-number_some _ _ (unsigned run n e) = refl
-number_some _ _ (negative run n e) = refl
-
-pub expression_some : (tokens : List Token) (e : Expression) → ExpressionIs tokens e → is_end (first tokens) ≡ false
-expression_some _ _ (number tokens v n) = number_some tokens v n
-expression_some _ _ (name run h) = refl
-expression_some _ _ (sum run tokens v h n) = refl
-expression_some _ _ (difference run tokens v h n) = refl
-
-pub last_some : (tokens : List Token) (e : Expression) → OperandsAre tokens (Value (Whole e) ∷ []) → is_end (first tokens) ≡ false
-last_some tokens e are = expression_some tokens e (a_whole tokens e (a_value tokens (Whole e) (only tokens (Value (Whole e)) are)))
+operand_law : (tokens : List Token) (o : Operand) (rest : List Token) → OperandIs tokens o → EndsAll rest → operand_at (tokens ++ rest) ≡ Ok (o, rest)
+unfolding operand_at offset_at placed_at base_at mark_at register_at run_at
+operand_law _ _ rest (register run r e) ends = rw e refl
+operand_law _ _ rest (value tokens i is) ends = rw ((immediate_other tokens i rest is).1, immediate_no_mark 40 tokens i rest refl is, immediate_law tokens i rest is ends.0, ends.1) refl
+operand_law _ _ rest (offset tokens i run r is e) ends =
+    let behind : List Token = opened ∷ Run run ∷ closed ∷ rest in
+    rw (append_assoc tokens (opened ∷ Run run ∷ closed ∷ []) rest, (immediate_other tokens i behind is).1, immediate_no_mark 40 tokens i behind refl is, immediate_law tokens i behind is (refl, refl), e) refl
+operand_law _ _ rest (no_offset run r e) ends = rw e refl
 
 -- what operands begin with
-operand_front : (tokens : List Token) (o : Operand) (rest : List Token) → OperandIs tokens o → is_mark 58 (first (tokens ++ rest)) ≡ false
-operand_front _ _ rest (register run r e) = refl
-operand_front _ _ rest (value tokens i is) = immediate_no_mark 58 tokens i rest refl is
-operand_front _ _ rest (offset tokens i run r is e) = rw (append_assoc tokens (opened ∷ Run run ∷ closed ∷ []) rest) (immediate_no_mark 58 tokens i (opened ∷ Run run ∷ closed ∷ rest) refl is)
-operand_front _ _ rest (no_offset run r e) = refl
+operand_front : (tokens : List Token) (o : Operand) (rest : List Token) → OperandIs tokens o → (is_end (first (tokens ++ rest)) ≡ false) × (is_mark 58 (first (tokens ++ rest)) ≡ false)
+operand_front _ _ rest (register run r e) = (refl, refl)
+operand_front _ _ rest (value tokens i is) = ((immediate_other tokens i rest is).0, immediate_no_mark 58 tokens i rest refl is)
+operand_front _ _ rest (offset tokens i run r is e) =
+    let behind : List Token = opened ∷ Run run ∷ closed ∷ rest in
+    rw (append_assoc tokens (opened ∷ Run run ∷ closed ∷ []) rest) ((immediate_other tokens i behind is).0, immediate_no_mark 58 tokens i behind refl is)
+operand_front _ _ rest (no_offset run r e) = (refl, refl)
 
-pub operands_front : (tokens : List Token) (os : List Operand) → OperandsAre tokens os → is_mark 58 (first tokens) ≡ false
+only_operand : (tokens : List Token) (o : Operand) → OperandIs tokens o → operand_at tokens ≡ Ok (o, [])
+only_operand tokens o is = rw (append-nil tokens) at (operand_law tokens o [] is ((refl, refl), refl))
+
+pub operands_law : (tokens : List Token) (os : Operands) → OperandsAre tokens os → operands_at tokens ≡ Ok (os, [])
+unfolding operands_at first_at next_at
+operands_law _ _ none = refl
+operands_law _ _ (one xs a is) =
+    let some : is_end (first xs) ≡ false = rw (append-nil xs) at (operand_front xs a [] is).0 in
+    rw (some, only_operand xs a is) refl
+operands_law _ _ (two xs ys a b is_a is_b) = rw ((operand_front xs a (comma ∷ ys) is_a).0, operand_law xs a (comma ∷ ys) is_a ((refl, refl), refl), only_operand ys b is_b) refl
+operands_law _ _ (three xs ys zs a b c is_a is_b is_c) =
+    let behind : List Token = comma ∷ (ys ++ comma ∷ zs) in
+    rw ((operand_front xs a behind is_a).0, operand_law xs a behind is_a ((refl, refl), refl), operand_law ys b (comma ∷ zs) is_b ((refl, refl), refl), only_operand zs c is_c) refl
+
+pub operands_front : (tokens : List Token) (os : Operands) → OperandsAre tokens os → is_mark 58 (first tokens) ≡ false
 operands_front _ _ none = refl
-operands_front _ _ (last tokens o is) = rw (append-nil tokens) at (operand_front tokens o [] is)
-operands_front _ _ (more tokens others o p os is are) = operand_front tokens o (comma ∷ others) is
+operands_front _ _ (one xs a is) = rw (append-nil xs) at (operand_front xs a [] is).1
+operands_front _ _ (two xs ys a b is_a is_b) = (operand_front xs a (comma ∷ ys) is_a).1
+operands_front _ _ (three xs ys zs a b c is_a is_b is_c) = (operand_front xs a (comma ∷ (ys ++ comma ∷ zs)) is_a).1
 
 pub expression_front_token : (tokens : List Token) (e : Expression) → ExpressionIs tokens e → is_mark 58 (first tokens) ≡ false
 expression_front_token tokens e x = rw (append-nil tokens) at (expression_no_mark 58 tokens e [] refl x)

@@ -10,19 +10,19 @@ use Rattle.brd_text.specs.Faults.{◌>>=◌, or_fault}
 use Rattle.brd_text.proofs.FaultLemmas.{bind_ok, ok_is}
 use Rattle.brd_source.specs.declared.fault.LineFault.{LineFault}
 use Rattle.brd_source.specs.declared.fault.LineFault.TheVariants.{Syntax}
-use Rattle.brd_source.specs.Grammar.{comma, plus, minus, opened, closed, NumberIs, ExpressionIs, ImmediateIs, Operand, OperandIs, OperandsAre}
+use Rattle.brd_source.specs.Grammar.{comma, plus, minus, opened, closed, NumberIs, ExpressionIs, ImmediateIs, OperandIs, OperandsAre}
 use Rattle.brd_source.specs.Grammar.NumberIs.{unsigned, negative}
 use Rattle.brd_source.specs.Grammar.ExpressionIs.{number, name, sum, difference}
 use Rattle.brd_source.specs.Grammar.ImmediateIs.{whole, high, low}
-use Rattle.brd_source.specs.Grammar.Operand.{Register, Value, At}
 use Rattle.brd_source.specs.Grammar.OperandIs.{register, value, offset, no_offset}
-use Rattle.brd_source.specs.Grammar.OperandsAre.{none, last, more}
+use Rattle.brd_source.specs.Grammar.OperandsAre.{none, one, two, three}
 use Rattle.brd_source.specs.Registers.{register_of}
-use Rattle.brd_source.specs.Statement.{Expression, Immediate}
+use Rattle.brd_source.specs.Statement.{Expression, Immediate, Operand, Operands, zero_expression}
 use Rattle.brd_source.specs.Statement.Immediate.{Whole, High, Low}
+use Rattle.brd_source.specs.Statement.Operand.{Absent, Register, Value, Address}
 use Rattle.brd_source.specs.Tokens.{Token, first, others}
 use Rattle.brd_source.specs.Tokens.Token.{Run, Percent, Quoted, Mark, Wrong, End}
-use Rattle.brd_source.specs.Reading.{is_mark, past, mark_at, run_at, register_at, unsigned_at, signed, number_at, taken_off, addend_at, is_name_token, name_sum_at, plain_at, expression_at, zero_expression, half_of, half_at, whole_at, immediate_at, offset_at, base_at, register_comma_at, two_registers_at, two_registers_comma_at, three_registers_at}
+use Rattle.brd_source.specs.Reading.{is_mark, is_end, past, mark_at, run_at, register_at, unsigned_at, signed, number_at, taken_off, addend_at, is_name_token, name_sum_at, plain_at, expression_at, half_of, half_at, whole_at, immediate_at, offset_at, base_at, register_token, placed_at, operand_by, operand_at, first_at, next_at, operands_at}
 
 -- ---- tokens
 
@@ -234,101 +234,126 @@ base_back tokens r rest h =
     let reg = register_back o.0 b.0.0 b.0.1 b.1 in
     (reg.0, mark_back 40 tokens o.0 o.1 ∙ ap (λ (ws : List Token). opened ∷ ws) (reg.1 ∙ ap (λ (ws : List Token). Run reg.0 ∷ ws) (mark_back 41 b.0.1 c.0 c.1 ∙ ap (λ (ws : List Token). closed ∷ ws) left)), reg.2 ∙ ap (λ (m : ℕ). Some m) same)
 
--- tokens that begin with operands, and the rest of them
-pub record Operands (tokens rest : List Token) (os : List Operand) : Type 0 where
-  pub front : List Token
-  pub tokens_are : tokens ≡ front ++ rest
-  pub are : OperandsAre front os
+-- the same value and rest under other names
+pub got : {A : Type 0} (Is : List Token → A → Type 0) (tokens ahead rest : List Token) (x a : A) → ◌≡◌ {A = Result (A × List Token) LineFault} (Ok (x, ahead)) (Ok (a, rest)) → Front Is tokens ahead x → Front Is tokens rest a
+got Is tokens ahead rest x a e f = subst (λ q. Front Is tokens q.1 q.0) (ok_is (x, ahead) (a, rest) e) f
 
-pub no_operands : (tokens : List Token) → Operands tokens tokens []
-no_operands tokens = record { front = []; tokens_are = refl; are = none }
+with_base : (tokens : List Token) (i : Immediate) (ahead : List Token) (r : ℕ) (rest : List Token) → Front ImmediateIs tokens ahead i → base_at ahead ≡ Ok (r, rest) → Front OperandIs tokens rest (Address i r)
+with_base tokens i ahead r rest f h =
+    let base = base_back ahead r rest h in
+    record {
+      front = f.front ++ opened ∷ Run base.0 ∷ closed ∷ [];
+      tokens_are = f.tokens_are ∙ ap (λ (ws : List Token). f.front ++ ws) base.1 ∙ sym (append_assoc f.front (opened ∷ Run base.0 ∷ closed ∷ []) rest);
+      is = offset f.front i base.0 r f.is base.2;
+    }
 
-pub last_register : (tokens : List Token) (r : ℕ) (rest : List Token) → register_at tokens ≡ Ok (r, rest) → Operands tokens rest (Register r ∷ [])
-last_register tokens r rest e =
-    let b = register_back tokens r rest e in
-    record { front = Run b.0 ∷ []; tokens_are = b.1; are = last (Run b.0 ∷ []) (Register r) (register b.0 r b.2) }
-
-pub last_immediate : (tokens : List Token) (i : Immediate) (rest : List Token) → immediate_at tokens ≡ Ok (i, rest) → Operands tokens rest (Value i ∷ [])
-last_immediate tokens i rest e =
-    let b = immediate_back tokens i rest e in
-    record { front = b.front; tokens_are = b.tokens_are; are = last b.front (Value i) (value b.front i b.is) }
-
-pub last_expression : (tokens : List Token) (e : Expression) (rest : List Token) → expression_at tokens ≡ Ok (e, rest) → Operands tokens rest (Value (Whole e) ∷ [])
-last_expression tokens e rest h =
-    let b = expression_back tokens e rest h in
-    record { front = b.front; tokens_are = b.tokens_are; are = last b.front (Value (Whole e)) (value b.front (Whole e) (whole b.front e b.is)) }
-
-with_offset : (tokens : List Token) (i : Immediate) (run : List ℕ) (r : ℕ) (rest ahead : List Token) → Front ImmediateIs tokens ahead i → ahead ≡ opened ∷ Run run ∷ closed ∷ rest → register_of run ≡ Some r → Operands tokens rest (At i r ∷ [])
-with_offset tokens i run r rest ahead b base_is e = record {
-  front = b.front ++ opened ∷ Run run ∷ closed ∷ [];
-  tokens_are = b.tokens_are ∙ ap (λ (ws : List Token). b.front ++ ws) base_is ∙ sym (append_assoc b.front (opened ∷ Run run ∷ closed ∷ []) rest);
-  are = last (b.front ++ opened ∷ Run run ∷ closed ∷ []) (At i r) (offset b.front i run r b.is e);
-}
-
-without_offset : (tokens : List Token) (run : List ℕ) (r : ℕ) (rest : List Token) → tokens ≡ opened ∷ Run run ∷ closed ∷ rest → register_of run ≡ Some r → Operands tokens rest (At (Whole zero_expression) r ∷ [])
-without_offset tokens run r rest base_is e = record { front = opened ∷ Run run ∷ closed ∷ []; tokens_are = base_is; are = last (opened ∷ Run run ∷ closed ∷ []) (At (Whole zero_expression) r) (no_offset run r e) }
-
-pub last_place : (tokens : List Token) (i : Immediate) (ahead : List Token) (r : ℕ) (rest : List Token) → offset_at tokens ≡ Ok (i, ahead) → base_at ahead ≡ Ok (r, rest) → Operands tokens rest (At i r ∷ [])
-unfolding offset_at
-last_place tokens i ahead r rest o b =
-    let base_is = base_back ahead r rest b in
-    elim (cases_Bool (is_mark 40 (first tokens))) [
+-- an immediate, and the register in parentheses that may stand behind it
+placed_back : (tokens : List Token) (i : Immediate) (ahead : List Token) (o : Operand) (rest : List Token) → Front ImmediateIs tokens ahead i → placed_at i ahead ≡ Ok (o, rest) → Front OperandIs tokens rest o
+unfolding placed_at
+placed_back tokens i ahead o rest f h =
+    elim (cases_Bool (is_mark 40 (first ahead))) [
       | inl at_base ↦
-          let p = ok_is (Whole zero_expression, tokens) (i, ahead) (rw at_base at o) in
-          let same : Whole zero_expression ≡ i = ap (λ (q : Immediate × List Token). q.0) p in
-          let left : tokens ≡ ahead = ap (λ (q : Immediate × List Token). q.1) p in
-          subst (λ (j : Immediate). Operands tokens rest (At j r ∷ [])) same (without_offset tokens base_is.0 r rest (left ∙ base_is.1) base_is.2)
-      | inr at_offset ↦ with_offset tokens i base_is.0 r rest ahead (immediate_back tokens i ahead (rw at_offset at o)) base_is.1 base_is.2
+          let b = bind_ok (base_at ahead) (λ base. Ok (Address i base.0, base.1)) (o, rest) (rw at_base at h) in
+          got OperandIs tokens b.0.1 rest (Address i b.0.0) o b.2 (with_base tokens i ahead b.0.0 b.0.1 f b.1)
+      | inr alone ↦ got OperandIs tokens ahead rest (Value i) o (rw alone at h) (record { front = f.front; tokens_are = f.tokens_are; is = value f.front i f.is })
     ]
 
--- one operand more in front
-one_more : (tokens front ahead rest : List Token) (o p : Operand) (os : List Operand) → tokens ≡ front ++ comma ∷ ahead → OperandIs front o → Operands ahead rest (p ∷ os) → Operands tokens rest (o ∷ p ∷ os)
-one_more tokens front ahead rest o p os tokens_are is are = record {
-  front = front ++ comma ∷ are.front;
-  tokens_are = tokens_are ∙ ap (λ (ws : List Token). front ++ comma ∷ ws) are.tokens_are ∙ sym (append_assoc front (comma ∷ are.front) rest);
-  are = more front are.front o p os is are.are;
-}
+base_alone : (tokens : List Token) (o : Operand) (rest : List Token) → is_mark 40 (first tokens) ≡ true → placed_at (Whole zero_expression) tokens ≡ Ok (o, rest) → Front OperandIs tokens rest o
+unfolding placed_at
+base_alone tokens o rest at_base h =
+    let b = bind_ok (base_at tokens) (λ base. Ok (Address (Whole zero_expression) base.0, base.1)) (o, rest) (rw at_base at h) in
+    let base = base_back tokens b.0.0 b.0.1 b.1 in
+    got OperandIs tokens b.0.1 rest (Address (Whole zero_expression) b.0.0) o b.2 (record { front = opened ∷ Run base.0 ∷ closed ∷ []; tokens_are = base.1; is = no_offset base.0 b.0.0 base.2 })
 
-pub comma_then : (tokens ahead : List Token) (r : ℕ) (behind rest : List Token) (p : Operand) (os : List Operand) → register_at tokens ≡ Ok (r, ahead) → ahead ≡ comma ∷ behind → Operands behind rest (p ∷ os) → Operands tokens rest (Register r ∷ p ∷ os)
-comma_then tokens ahead r behind rest p os e at_comma are =
-    let b = register_back tokens r ahead e in
-    one_more tokens (Run b.0 ∷ []) behind rest (Register r) p os (b.1 ∙ ap (λ (ws : List Token). Run b.0 ∷ ws) at_comma) (register b.0 r b.2) are
+register_front : (tokens : List Token) (r : ℕ) → register_token (first tokens) ≡ Some r → Front OperandIs tokens (others tokens) (Register r)
+register_front [] r h = absurd (cc)
+register_front (Run run ∷ tokens) r h = record { front = Run run ∷ []; tokens_are = refl; is = register run r h }
+register_front (_ ∷ tokens) r h = absurd (cc)
 
-pub register_then : (tokens : List Token) (r : ℕ) (ahead rest : List Token) (p : Operand) (os : List Operand) → register_comma_at tokens ≡ Ok (r, ahead) → Operands ahead rest (p ∷ os) → Operands tokens rest (Register r ∷ p ∷ os)
-unfolding register_comma_at
-register_then tokens r ahead rest p os e are =
-    let a = bind_ok (register_at tokens) (λ r. mark_at 44 r.1 >>= λ behind. Ok (r.0, behind)) (r, ahead) e in
-    let m = bind_ok (mark_at 44 a.0.1) (λ behind. Ok (a.0.0, behind)) (r, ahead) a.2 in
-    let q = ok_is (a.0.0, m.0) (r, ahead) m.2 in
-    let same : a.0.0 ≡ r = ap (λ (x : ℕ × List Token). x.0) q in
-    let left : m.0 ≡ ahead = ap (λ (x : ℕ × List Token). x.1) q in
-    comma_then tokens a.0.1 r ahead rest p os (a.1 ∙ ap (λ (n : ℕ). Ok (n, a.0.1)) same) (mark_back 44 a.0.1 m.0 m.1 ∙ ap (λ (ws : List Token). comma ∷ ws) left) are
+no_register : (tokens : List Token) (x : Immediate × List Token) (o : Operand) (rest : List Token) → offset_at tokens ≡ Ok x → placed_at x.0 x.1 ≡ Ok (o, rest) → Front OperandIs tokens rest o
+unfolding offset_at
+no_register tokens x o rest e h =
+    elim (cases_Bool (is_mark 40 (first tokens))) [
+      | inl at_base ↦ base_alone tokens o rest at_base (subst (λ (q : Immediate × List Token). placed_at q.0 q.1 ≡ Ok (o, rest)) (sym (ok_is (Whole zero_expression, tokens) x (rw at_base at e))) h)
+      | inr at_offset ↦ placed_back tokens x.0 x.1 o rest (immediate_back tokens x.0 x.1 (rw at_offset at e)) h
+    ]
 
-pub expression_then : (tokens ahead : List Token) (e : Expression) (behind rest : List Token) (p : Operand) (os : List Operand) → expression_at tokens ≡ Ok (e, ahead) → mark_at 44 ahead ≡ Ok behind → Operands behind rest (p ∷ os) → Operands tokens rest (Value (Whole e) ∷ p ∷ os)
-expression_then tokens ahead e behind rest p os h m are =
-    let b = expression_back tokens e ahead h in
-    one_more tokens b.front behind rest (Value (Whole e)) p os (b.tokens_are ∙ ap (λ (ws : List Token). b.front ++ ws) (mark_back 44 ahead behind m)) (value b.front (Whole e) (whole b.front e b.is)) are
+operand_back : (tokens : List Token) (o : Operand) (rest : List Token) → operand_at tokens ≡ Ok (o, rest) → Front OperandIs tokens rest o
+unfolding operand_at
+operand_back tokens o rest h = by (register_token (first tokens)) refl h
+  where
+    by : (r : Option ℕ) → register_token (first tokens) ≡ r → operand_by r tokens ≡ Ok (o, rest) → Front OperandIs tokens rest o
+    by (Some r) is h = got OperandIs tokens (others tokens) rest (Register r) o h (register_front tokens r is)
+    by None is h =
+        let x = bind_ok (offset_at tokens) (λ offset. placed_at offset.0 offset.1) (o, rest) h in
+        no_register tokens x.0 o rest x.1 x.2
 
-pub two_then : (tokens : List Token) (a b : ℕ) (ahead rest : List Token) (p : Operand) (os : List Operand) → two_registers_comma_at tokens ≡ Ok (a, b, ahead) → Operands ahead rest (p ∷ os) → Operands tokens rest (Register a ∷ Register b ∷ p ∷ os)
-unfolding two_registers_comma_at
-two_then tokens a b ahead rest p os e are =
-    let x = bind_ok (register_comma_at tokens) (λ a. register_comma_at a.1 >>= λ b. Ok (a.0, b.0, b.1)) (a, b, ahead) e in
-    let y = bind_ok (register_comma_at x.0.1) (λ b. Ok (x.0.0, b.0, b.1)) (a, b, ahead) x.2 in
-    subst (λ (q : ℕ × ℕ × List Token). Operands q.2 rest (p ∷ os) → Operands tokens rest (Register q.0 ∷ Register q.1 ∷ p ∷ os)) (ok_is (x.0.0, y.0.0, y.0.1) (a, b, ahead) y.2)
-    (λ are. register_then tokens x.0.0 x.0.1 rest (Register y.0.0) (p ∷ os) x.1 (register_then x.0.1 y.0.0 y.0.1 rest p os y.1 are)) are
+-- the third operand behind two
+third_back : (tokens ahead xs ys : List Token) (a b c : Operand) (rest : List Token) → tokens ≡ (xs ++ comma ∷ ys) ++ ahead → OperandIs xs a → OperandIs ys b → next_at ahead ≡ Ok (c, rest) → Front OperandsAre tokens rest (a, b, c)
+unfolding next_at
+third_back tokens ahead xs ys a b c rest e is_a is_b h =
+    elim (cases_Bool (is_mark 44 (first ahead))) [
+      | inl goes_on ↦
+          let f = operand_back (others ahead) c rest (rw goes_on at h) in
+          let behind : ahead ≡ comma ∷ (f.front ++ rest) = mark_front 44 ahead goes_on ∙ ap (λ (ws : List Token). comma ∷ ws) f.tokens_are in
+          record {
+            front = xs ++ comma ∷ (ys ++ comma ∷ f.front);
+            tokens_are = e ∙ ap (λ (ws : List Token). (xs ++ comma ∷ ys) ++ ws) behind ∙ simp append_assoc;
+            is = three xs ys f.front a b c is_a is_b f.is;
+          }
+      | inr ends ↦
+          subst (λ (q : Operand × List Token). Front OperandsAre tokens q.1 (a, b, q.0)) (ok_is (Absent, ahead) (c, rest) (rw ends at h)) (record { front = xs ++ comma ∷ ys; tokens_are = e; is = two xs ys a b is_a is_b })
+    ]
 
-pub last_two : (tokens : List Token) (a b : ℕ) (rest : List Token) → two_registers_at tokens ≡ Ok (a, b, rest) → Operands tokens rest (Register a ∷ Register b ∷ [])
-unfolding two_registers_at
-last_two tokens a b rest e =
-    let x = bind_ok (register_comma_at tokens) (λ a. register_at a.1 >>= λ b. Ok (a.0, b.0, b.1)) (a, b, rest) e in
-    let y = bind_ok (register_at x.0.1) (λ b. Ok (x.0.0, b.0, b.1)) (a, b, rest) x.2 in
-    subst (λ (q : ℕ × ℕ × List Token). Operands tokens q.2 (Register q.0 ∷ Register q.1 ∷ [])) (ok_is (x.0.0, y.0.0, y.0.1) (a, b, rest) y.2)
-    (register_then tokens x.0.0 x.0.1 y.0.1 (Register y.0.0) [] x.1 (last_register x.0.1 y.0.0 y.0.1 y.1))
+-- nothing is read where no comma stands
+none_next : (tokens : List Token) (a : Operand) (rest : List Token) → is_mark 44 (first tokens) ≡ false → next_at tokens ≡ Ok (a, rest) → ◌≡◌ {A = Operand × List Token} (Absent, tokens) (a, rest)
+unfolding next_at
+none_next tokens a rest ends h = ok_is (Absent, tokens) (a, rest) (rw ends at h)
 
-pub last_three : (tokens : List Token) (a b c : ℕ) (rest : List Token) → three_registers_at tokens ≡ Ok (a, b, c, rest) → Operands tokens rest (Register a ∷ Register b ∷ Register c ∷ [])
-unfolding three_registers_at
-last_three tokens a b c rest e =
-    let x = bind_ok (register_comma_at tokens) (λ a. two_registers_at a.1 >>= λ b. Ok (a.0, b.0, b.1, b.2)) (a, b, c, rest) e in
-    let y = bind_ok (two_registers_at x.0.1) (λ b. Ok (x.0.0, b.0, b.1, b.2)) (a, b, c, rest) x.2 in
-    subst (λ (q : ℕ × ℕ × ℕ × List Token). Operands tokens q.3 (Register q.0 ∷ Register q.1 ∷ Register q.2 ∷ [])) (ok_is (x.0.0, y.0.0, y.0.1, y.0.2) (a, b, c, rest) y.2)
-    (register_then tokens x.0.0 x.0.1 y.0.2 (Register y.0.0) (Register y.0.1 ∷ []) x.1 (last_two x.0.1 y.0.0 y.0.1 y.0.2 y.1))
+-- the second and the third behind the first
+second_back : (tokens t xs : List Token) (a b c : Operand) (ahead rest : List Token) → tokens ≡ xs ++ t → OperandIs xs a → next_at t ≡ Ok (b, ahead) → next_at ahead ≡ Ok (c, rest) → Front OperandsAre tokens rest (a, b, c)
+unfolding next_at
+second_back tokens t xs a b c ahead rest e is_a h k =
+    elim (cases_Bool (is_mark 44 (first t))) [
+      | inl goes_on ↦
+          let f = operand_back (others t) b ahead (rw goes_on at h) in
+          let behind : t ≡ comma ∷ (f.front ++ ahead) = mark_front 44 t goes_on ∙ ap (λ (ws : List Token). comma ∷ ws) f.tokens_are in
+          third_back tokens ahead xs f.front a b c rest (e ∙ ap (λ (ws : List Token). xs ++ ws) behind ∙ simp append_assoc) is_a f.is k
+      | inr ends ↦
+          let p = none_next t b ahead ends h in
+          let last : next_at t ≡ Ok (c, rest) = subst (λ (q : Operand × List Token). next_at q.1 ≡ Ok (c, rest)) (sym p) k in
+          subst (λ (q : Operand × List Token). Front OperandsAre tokens q.1 (a, b, q.0)) (none_next t c rest ends last)
+          (subst (λ (q : Operand × List Token). Front OperandsAre tokens t (a, q.0, Absent)) p (record { front = xs; tokens_are = e; is = one xs a is_a }))
+    ]
+
+-- the end is no comma
+no_comma : (tokens : List Token) → is_end (first tokens) ≡ true → is_mark 44 (first tokens) ≡ false
+no_comma [] h = refl
+no_comma (End ∷ tokens) h = refl
+no_comma (_ ∷ tokens) h = absurd (cc)
+
+at_end : (tokens : List Token) (a b c : Operand × List Token) → is_end (first tokens) ≡ true → (Absent, tokens) ≡ a → next_at a.1 ≡ Ok b → next_at b.1 ≡ Ok c → Front OperandsAre tokens c.1 (a.0, b.0, c.0)
+at_end tokens a b c ends p h k =
+    let q = none_next tokens b.0 b.1 (no_comma tokens ends) (subst (λ (x : Operand × List Token). next_at x.1 ≡ Ok b) (sym p) h) in
+    let r = none_next tokens c.0 c.1 (no_comma tokens ends) (subst (λ (x : Operand × List Token). next_at x.1 ≡ Ok c) (sym q) k) in
+    subst (λ (x : Operand × List Token). Front OperandsAre tokens x.1 (a.0, b.0, x.0)) r
+    (subst (λ (x : Operand × List Token). Front OperandsAre tokens tokens (a.0, x.0, Absent)) q
+    (subst (λ (x : Operand × List Token). Front OperandsAre tokens tokens (x.0, Absent, Absent)) p (record { front = []; tokens_are = refl; is = none })))
+
+all_back : (tokens : List Token) (a b c : Operand × List Token) → first_at tokens ≡ Ok a → next_at a.1 ≡ Ok b → next_at b.1 ≡ Ok c → Front OperandsAre tokens c.1 (a.0, b.0, c.0)
+unfolding first_at
+all_back tokens a b c e h k =
+    elim (cases_Bool (is_end (first tokens))) [
+      | inl ends ↦ at_end tokens a b c ends (ok_is (Absent, tokens) a (rw ends at e)) h k
+      | inr goes_on ↦
+          let f = operand_back tokens a.0 a.1 (rw goes_on at e) in
+          second_back tokens a.1 f.front a.0 b.0 c.0 b.1 c.1 f.tokens_are f.is h k
+    ]
+
+pub operands_back : (tokens : List Token) (os : Operands) (rest : List Token) → operands_at tokens ≡ Ok (os, rest) → Front OperandsAre tokens rest os
+unfolding operands_at
+operands_back tokens os rest h =
+    let a = bind_ok (first_at tokens) (λ a. next_at a.1 >>= λ b. next_at b.1 >>= λ c. Ok ((a.0, b.0, c.0), c.1)) (os, rest) h in
+    let b = bind_ok (next_at a.0.1) (λ b. next_at b.1 >>= λ c. Ok ((a.0.0, b.0, c.0), c.1)) (os, rest) a.2 in
+    let c = bind_ok (next_at b.0.1) (λ c. Ok ((a.0.0, b.0.0, c.0), c.1)) (os, rest) b.2 in
+    got OperandsAre tokens c.0.1 rest (a.0.0, b.0.0, c.0.0) os c.2 (all_back tokens a.0 b.0 c.0 a.1 b.1 c.1)

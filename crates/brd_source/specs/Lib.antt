@@ -5,7 +5,8 @@ pub mod Tokens
 pub mod Fronts
 pub mod Registers
 pub mod Reading
-pub mod Operands
+pub mod Forms
+pub mod Words
 pub mod Texts
 pub mod Statements
 pub mod Lines

@@ -1,6 +1,6 @@
 -- The pieces of a line at its front: registers, numbers, expressions, immediates, offsets, and the marks between them. What
 -- has not the form is Syntax.
-use Rattle.std.specs.Prelude.{ℕ, ℤ, pos, Bool, true, false, List, ◌==◌, if◌then◌else◌, Some, None, Result, Ok, Err, codes}
+use Rattle.std.specs.Prelude.{ℕ, ℤ, pos, Bool, true, false, List, ◌==◌, if◌then◌else◌, Option, Some, None, Result, Ok, Err, codes}
 use Rattle.std.specs.Str.{bytes_eq}
 use lib.IntN.{neg_ℤ}
 use Rattle.brd_text.specs.Bytes.{is_name}
@@ -8,8 +8,9 @@ use Rattle.brd_text.specs.Numbers.{number_of}
 use Rattle.brd_text.specs.Faults.{◌>>=◌, or_fault}
 use Rattle.brd_source.specs.declared.fault.LineFault.{LineFault}
 use Rattle.brd_source.specs.declared.fault.LineFault.TheVariants.{Syntax}
-use Rattle.brd_source.specs.Statement.{Expression, Immediate}
+use Rattle.brd_source.specs.Statement.{Expression, Immediate, Operand, Operands, zero_expression}
 use Rattle.brd_source.specs.Statement.Immediate.{Whole, High, Low}
+use Rattle.brd_source.specs.Statement.Operand.{Absent, Register, Value, Address}
 use Rattle.brd_source.specs.Tokens.{Token, first, others}
 use Rattle.brd_source.specs.Tokens.Token.{Run, Percent, Quoted, Mark, Wrong, End}
 use Rattle.brd_source.specs.Registers.{register_of}
@@ -18,30 +19,18 @@ use Rattle.brd_source.specs.Registers.{register_of}
 
 -- whether a token is this mark
 abbrev pub is_mark : ℕ → Token → Bool
-is_mark mark (Run run) = false
-is_mark mark (Percent run) = false
-is_mark mark (Quoted text) = false
 is_mark mark (Mark b) = b == mark
-is_mark mark Wrong = false
-is_mark mark End = false
+is_mark mark _ = false
 
 -- whether the line ends here
 abbrev pub is_end : Token → Bool
-is_end (Run run) = false
-is_end (Percent run) = false
-is_end (Quoted text) = false
-is_end (Mark b) = false
-is_end Wrong = false
 is_end End = true
+is_end _ = false
 
 -- the bytes of a token that has to be a run
 abbrev pub run_of : Token → Result (List ℕ) LineFault
 run_of (Run run) = Ok run
-run_of (Percent run) = Err Syntax
-run_of (Quoted text) = Err Syntax
-run_of (Mark b) = Err Syntax
-run_of Wrong = Err Syntax
-run_of End = Err Syntax
+run_of _ = Err Syntax
 
 -- the tokens behind this mark, which may stand here
 unfoldable pub past : ℕ → List Token → List Token
@@ -104,11 +93,7 @@ addend_at tokens =
 
 abbrev pub is_name_token : Token → Bool
 is_name_token (Run run) = is_name run
-is_name_token (Percent run) = false
-is_name_token (Quoted text) = false
-is_name_token (Mark b) = false
-is_name_token Wrong = false
-is_name_token End = false
+is_name_token _ = false
 
 -- a name and what may stand behind it
 unfoldable pub name_sum_at : List Token → Result (Expression × List Token) LineFault
@@ -127,9 +112,6 @@ unfoldable pub expression_at : List Token → Result (Expression × List Token) 
 expression_at tokens = if is_name_token (first tokens) then name_sum_at tokens else plain_at tokens
 
 -- ---- immediates and offsets
-
-abbrev pub zero_expression : Expression
-zero_expression = record { name = None; number = pos 0 }
 
 -- %hi and %lo by the run behind the %
 abbrev pub half_of : List ℕ → Expression → Result Immediate LineFault
@@ -153,12 +135,8 @@ whole_at tokens = do
   Ok (Whole e.0, e.1)
 
 abbrev pub immediate_by : Token → List Token → Result (Immediate × List Token) LineFault
-immediate_by (Run run) tokens = whole_at tokens
 immediate_by (Percent run) tokens = half_at run (others tokens)
-immediate_by (Quoted text) tokens = whole_at tokens
-immediate_by (Mark b) tokens = whole_at tokens
-immediate_by Wrong tokens = whole_at tokens
-immediate_by End tokens = whole_at tokens
+immediate_by _ tokens = whole_at tokens
 
 -- an expression, %hi(expression) or %lo(expression)
 unfoldable pub immediate_at : List Token → Result (Immediate × List Token) LineFault
@@ -176,42 +154,37 @@ base_at tokens = do
   closed ← mark_at 41 base.1
   Ok (base.0, closed)
 
--- ---- registers with commas
+-- ---- operands
 
--- `register ,`
-unfoldable pub register_comma_at : List Token → Result (ℕ × List Token) LineFault
-register_comma_at tokens = do
-  r ← register_at tokens
-  behind ← mark_at 44 r.1
-  Ok (r.0, behind)
+-- the register that a token is
+abbrev pub register_token : Token → Option ℕ
+register_token (Run run) = register_of run
+register_token _ = None
 
--- `register , register`
-unfoldable pub two_registers_at : List Token → Result (ℕ × ℕ × List Token) LineFault
-two_registers_at tokens = do
-  a ← register_comma_at tokens
-  b ← register_at a.1
-  Ok (a.0, b.0, b.1)
+-- a register in parentheses behind an immediate, or the immediate alone
+unfoldable pub placed_at : Immediate → List Token → Result (Operand × List Token) LineFault
+placed_at i tokens = if is_mark 40 (first tokens) then (base_at tokens >>= λ base. Ok (Address i base.0, base.1)) else Ok (Value i, tokens)
 
--- `register , register ,`
-unfoldable pub two_registers_comma_at : List Token → Result (ℕ × ℕ × List Token) LineFault
-two_registers_comma_at tokens = do
-  a ← register_comma_at tokens
-  b ← register_comma_at a.1
-  Ok (a.0, b.0, b.1)
+abbrev pub operand_by : Option ℕ → List Token → Result (Operand × List Token) LineFault
+operand_by (Some r) tokens = Ok (Register r, others tokens)
+operand_by None tokens = offset_at tokens >>= λ offset. placed_at offset.0 offset.1
 
--- `register , register , register`
-unfoldable pub three_registers_at : List Token → Result (ℕ × ℕ × ℕ × List Token) LineFault
-three_registers_at tokens = do
-  a ← register_comma_at tokens
-  b ← two_registers_at a.1
-  Ok (a.0, b.0, b.1, b.2)
+-- a register, an immediate, or an offset and its register
+unfoldable pub operand_at : List Token → Result (Operand × List Token) LineFault
+operand_at tokens = operand_by (register_token (first tokens)) tokens
 
--- ---- codes that may be left out: then they are 0
+-- nothing, or an operand
+unfoldable pub first_at : List Token → Result (Operand × List Token) LineFault
+first_at tokens = if is_end (first tokens) then Ok (Absent, tokens) else operand_at tokens
 
--- nothing, or a code
-unfoldable pub code_at : List Token → Result (Expression × List Token) LineFault
-code_at tokens = if is_end (first tokens) then Ok (zero_expression, tokens) else expression_at tokens
+-- nothing, or a comma and an operand
+unfoldable pub next_at : List Token → Result (Operand × List Token) LineFault
+next_at tokens = if is_mark 44 (first tokens) then operand_at (others tokens) else Ok (Absent, tokens)
 
--- nothing, or a comma and a code
-unfoldable pub comma_code_at : List Token → Result (Expression × List Token) LineFault
-comma_code_at tokens = if is_mark 44 (first tokens) then expression_at (others tokens) else Ok (zero_expression, tokens)
+-- up to three operands with commas between them
+unfoldable pub operands_at : List Token → Result (Operands × List Token) LineFault
+operands_at tokens = do
+  a ← first_at tokens
+  b ← next_at a.1
+  c ← next_at b.1
+  Ok ((a.0, b.0, c.0), c.1)

@@ -1,24 +1,7 @@
 -- What a line of assembler source says, in lists and whole numbers: names are lists of bytes. The kinds of statements are
--- those of the code's types, and each instruction has the operands of its form in the order in which the code has them.
-use Rattle.std.specs.Prelude.{ℕ, ℤ, List, Option}
-use Rattle.brd_isa.specs.declared.instruction.ShiftOp.{ShiftOp}
-use Rattle.brd_isa.specs.declared.instruction.ShiftVariableOp.{ShiftVariableOp}
-use Rattle.brd_isa.specs.declared.instruction.RegisterOp.{RegisterOp}
-use Rattle.brd_isa.specs.declared.instruction.MoveFromOp.{MoveFromOp}
-use Rattle.brd_isa.specs.declared.instruction.MoveToOp.{MoveToOp}
-use Rattle.brd_isa.specs.declared.instruction.ProductOp.{ProductOp}
-use Rattle.brd_isa.specs.declared.instruction.TrapOp.{TrapOp}
-use Rattle.brd_isa.specs.declared.instruction.BranchRegimmOp.{BranchRegimmOp}
-use Rattle.brd_isa.specs.declared.instruction.TrapImmediateOp.{TrapImmediateOp}
-use Rattle.brd_isa.specs.declared.instruction.AccumulateOp.{AccumulateOp}
-use Rattle.brd_isa.specs.declared.instruction.CountOp.{CountOp}
-use Rattle.brd_isa.specs.declared.instruction.JumpOp.{JumpOp}
-use Rattle.brd_isa.specs.declared.instruction.BranchOp.{BranchOp}
-use Rattle.brd_isa.specs.declared.instruction.BranchZeroOp.{BranchZeroOp}
-use Rattle.brd_isa.specs.declared.instruction.ImmediateOp.{ImmediateOp}
-use Rattle.brd_isa.specs.declared.instruction.LoadOp.{LoadOp}
-use Rattle.brd_isa.specs.declared.instruction.StoreOp.{StoreOp}
-use Rattle.brd_isa.specs.declared.instruction.LinkedOp.{LinkedOp}
+-- those of the code's types.
+use Rattle.std.specs.Prelude.{ℕ, ◌%◌, ◌^◌, ℤ, pos, List, Option, None}
+use Rattle.brd_isa.specs.declared.mnemonic.Mnemonic.{Mnemonic}
 use Rattle.brd_source.specs.declared.statement.Width.{Width}
 
 -- the value of a name, if there is one, plus a number
@@ -26,40 +9,44 @@ pub record Expression : Type 0 where
   pub name : Option (List ℕ)
   pub number : ℤ
 
+abbrev pub zero_expression : Expression
+zero_expression = record { name = None; number = pos 0 }
+
 -- an immediate or an offset: the value itself, %hi of it, or %lo of it
 pub data Immediate : Type 0 where
   Whole : Expression → Immediate
   High : Expression → Immediate
   Low : Expression → Immediate
 
--- registers are numbers from 0 to 31
-pub data Instruction : Type 0 where
-  Shift : ShiftOp → ℕ → ℕ → Expression → Instruction
-  ShiftVariable : ShiftVariableOp → ℕ → ℕ → ℕ → Instruction
-  ThreeRegisters : RegisterOp → ℕ → ℕ → ℕ → Instruction
-  Multiply : ℕ → ℕ → ℕ → Instruction
-  JumpRegister : ℕ → Instruction
-  JumpLinkRegister : ℕ → ℕ → Instruction
-  Syscall : Expression → Instruction
-  Break : Expression → Instruction
-  Sync : Instruction
-  MoveFrom : MoveFromOp → ℕ → Instruction
-  MoveTo : MoveToOp → ℕ → Instruction
-  Product : ProductOp → ℕ → ℕ → Instruction
-  Accumulate : AccumulateOp → ℕ → ℕ → Instruction
-  Count : CountOp → ℕ → ℕ → Instruction
-  Trap : TrapOp → ℕ → ℕ → Expression → Instruction
-  TrapImmediate : TrapImmediateOp → ℕ → Immediate → Instruction
-  Jump : JumpOp → Expression → Instruction
-  Branch : BranchOp → ℕ → ℕ → Expression → Instruction
-  BranchZero : BranchZeroOp → ℕ → Expression → Instruction
-  BranchRegimm : BranchRegimmOp → ℕ → Expression → Instruction
-  WithImmediate : ImmediateOp → ℕ → ℕ → Immediate → Instruction
-  LoadUpper : ℕ → Immediate → Instruction
-  Load : LoadOp → ℕ → ℕ → Immediate → Instruction
-  Store : StoreOp → ℕ → ℕ → Immediate → Instruction
-  Linked : LinkedOp → ℕ → ℕ → Immediate → Instruction
-  Prefetch : Expression → ℕ → Immediate → Instruction
+-- an operand: none at all, a register from 0 to 31, a value, or an offset and the register that it is from
+pub data Operand : Type 0 where
+  Absent : Operand
+  Register : ℕ → Operand
+  Value : Immediate → Operand
+  Address : Immediate → ℕ → Operand
+
+-- up to three; those that are absent stand behind the others
+abbrev pub Operands : Type 0
+Operands = Operand × Operand × Operand
+
+-- The register of an operand, by the low five bits of its number, its value, and the expression that is its value. 0 stands for what it hasn't.
+abbrev pub register_in : Operand → ℕ
+register_in (Register r) = r % 2 ^ 5
+register_in (Address i r) = r % 2 ^ 5
+register_in _ = 0
+
+abbrev pub immediate_in : Operand → Immediate
+immediate_in (Value i) = i
+immediate_in (Address i r) = i
+immediate_in _ = Whole zero_expression
+
+abbrev pub expression_in : Operand → Expression
+expression_in (Value (Whole e)) = e
+expression_in _ = zero_expression
+
+pub record Instruction : Type 0 where
+  pub mnemonic : Mnemonic
+  pub operands : Operands
 
 -- what stands behind a line's labels; Instruct is an instruction
 pub data Statement : Type 0 where

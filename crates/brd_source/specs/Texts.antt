@@ -35,12 +35,8 @@ text_of bytes = text_from [] false bytes
 
 -- the bytes between the quotes of a token that has to be a string
 abbrev pub quoted_of : Token → Result (List ℕ) LineFault
-quoted_of (Run run) = Err Syntax
-quoted_of (Percent run) = Err Syntax
 quoted_of (Quoted text) = Ok text
-quoted_of (Mark b) = Err Syntax
-quoted_of Wrong = Err Syntax
-quoted_of End = Err Syntax
+quoted_of _ = Err Syntax
 
 -- a string
 unfoldable pub text_at : List Token → Result (List ℕ × List Token) LineFault

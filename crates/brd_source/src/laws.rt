@@ -1,11 +1,13 @@
 //! What the definitions of this crate say by themselves.
 
-ghost use Rattle.std.specs.Prelude.{◌≡◌, ◌↔◌, ℕ, List, Ok};
+ghost use Rattle.std.specs.Prelude.{◌≡◌, ◌↔◌, ℕ, List, Ok, true};
+ghost use Rattle.brd_source.specs.Forms.{form_of, are_of};
 ghost use Rattle.brd_source.specs.Grammar.{LineIs};
 ghost use Rattle.brd_source.specs.Lines.{line_of};
 ghost use Rattle.brd_source.specs.Names.{HasNames};
 ghost use Rattle.brd_source.specs.Spelling.{Spells, HaveEnds};
-ghost use Rattle.brd_source.specs.Statement.{Line};
+ghost use Rattle.brd_source.specs.Statement.{Instruction, Line};
+ghost use Rattle.brd_source.specs.Statement.Statement.{Instruct};
 ghost use Rattle.brd_source.specs.Tokens.{Token, tokens_of};
 
 /// What spells tokens, with any blanks between them and a comment behind them, is scanned as these tokens.
@@ -21,6 +23,11 @@ pub fn scanned_tokens_are_spelled()
 /// The labels of a line are names, and so is what its statement gives a value to.
 pub fn lines_have_names()
     ensures { (bytes : List ℕ) (line : Line) → line_of bytes ≡ Ok line → HasNames line }
+{}
+
+/// The instruction of a line has the operands that its mnemonic takes, none left out.
+pub fn instructions_have_their_operands()
+    ensures { (bytes : List ℕ) (line : Line) (i : Instruction) → line_of bytes ≡ Ok line → line.statement ≡ Instruct i → are_of (form_of i.mnemonic) i.operands ≡ true }
 {}
 
 /// What is read as a line is just what has the form of one, by the tokens that its bytes have, and so by any tokens that

@@ -2,9 +2,9 @@
 #![tactic(auto)]
 
 mod fault;
+mod forms;
 pub mod laws;
 mod line;
-mod operands;
 mod reading;
 mod register;
 mod scanner;
@@ -12,7 +12,8 @@ mod statement;
 mod statements;
 mod text;
 mod token;
+mod words;
 
 pub use fault::LineFault;
 pub use line::parse_line;
-pub use statement::{Expression, Immediate, Instruction, Line, Statement, Width};
+pub use statement::{Expression, Immediate, Instruction, Line, Operand, Statement, Width};

@@ -3,21 +3,14 @@
 ghost use Rattle.std.specs.Prelude.{◌≡◌, ◌<◌, ◌≤◌, pos, neg_ℤ, ◌≤ℤ◌, length, OnOk, IfOk};
 ghost use Rattle.brd_source.specs.Faults.{Gives};
 ghost use Rattle.brd_source.specs.Reading as reads;
-ghost use Rattle.brd_source.specs.View.{expression_value, immediate_value};
+ghost use Rattle.brd_source.specs.View.{expression_value, immediate_value, operand_value, operands_value};
 ghost use Rattle.brd_source.specs.Tokens.{first, others, seen};
 
 use crate::fault::LineFault;
 use crate::register::register_of;
 use crate::scanner::Scanner;
-use crate::statement::{Expression, Immediate};
+use crate::statement::{Expression, Immediate, Operand, ZERO};
 use crate::token::Token;
-use brd_isa::Register;
-
-/// The expression 0.
-pub(crate) const ZERO: Expression<'static> = Expression {
-    name: None,
-    number: 0,
-};
 
 /// Whether a token is this mark.
 fn is_mark(mark: u8, token: Token) -> bool
@@ -27,7 +20,7 @@ fn is_mark(mark: u8, token: Token) -> bool
 }
 
 /// Whether this mark stands at the front.
-pub(crate) fn has_mark(tokens: &Scanner, mark: u8) -> bool
+fn has_mark(tokens: &Scanner, mark: u8) -> bool
     ensures { result ≡ reads.is_mark mark (first tokens.now) }
 {
     is_mark(mark, tokens.peek())
@@ -104,7 +97,7 @@ pub(crate) fn name<'a>(tokens: &mut Scanner<'a>) -> Result<&'a [u8], LineFault>
 
 /// Takes a register.
 #[tactic(auto, unfolding(crate::specs::Reading::register_at))]
-pub(crate) fn register(tokens: &mut Scanner) -> Result<Register, LineFault>
+fn register(tokens: &mut Scanner) -> Result<u32, LineFault>
     ensures { Gives (λ r. (r, tokens.new)) result (reads.register_at tokens.old) }
 {
     let run = run(tokens)?;
@@ -259,7 +252,7 @@ fn whole<'a>(tokens: &mut Scanner<'a>) -> Result<Immediate<'a>, LineFault>
 
 /// Takes an immediate.
 #[tactic(auto, unfolding(crate::specs::Reading::immediate_at))]
-pub(crate) fn immediate<'a>(tokens: &mut Scanner<'a>) -> Result<Immediate<'a>, LineFault>
+fn immediate<'a>(tokens: &mut Scanner<'a>) -> Result<Immediate<'a>, LineFault>
     ensures { Gives (λ i. (immediate_value i, tokens.new)) result (reads.immediate_at tokens.old) }
 {
     if let Token::Percent(run) = tokens.peek() {
@@ -271,7 +264,7 @@ pub(crate) fn immediate<'a>(tokens: &mut Scanner<'a>) -> Result<Immediate<'a>, L
 
 /// Takes an offset, where one stands before the parenthesis of its register.
 #[tactic(auto, unfolding(crate::specs::Reading::offset_at))]
-pub(crate) fn offset<'a>(tokens: &mut Scanner<'a>) -> Result<Immediate<'a>, LineFault>
+fn offset<'a>(tokens: &mut Scanner<'a>) -> Result<Immediate<'a>, LineFault>
     ensures { Gives (λ i. (immediate_value i, tokens.new)) result (reads.offset_at tokens.old) }
 {
     if has_mark(tokens, b'(') {
@@ -282,7 +275,7 @@ pub(crate) fn offset<'a>(tokens: &mut Scanner<'a>) -> Result<Immediate<'a>, Line
 
 /// Takes a register in parentheses.
 #[tactic(auto, unfolding(crate::specs::Reading::base_at))]
-pub(crate) fn base(tokens: &mut Scanner) -> Result<Register, LineFault>
+fn base(tokens: &mut Scanner) -> Result<u32, LineFault>
     ensures { Gives (λ r. (r, tokens.new)) result (reads.base_at tokens.old) }
 {
     mark(tokens, b'(')?;
@@ -291,67 +284,73 @@ pub(crate) fn base(tokens: &mut Scanner) -> Result<Register, LineFault>
     Ok(base)
 }
 
-/// Takes `register ,`.
-#[tactic(auto, unfolding(crate::specs::Reading::register_comma_at))]
-pub(crate) fn register_comma(tokens: &mut Scanner) -> Result<Register, LineFault>
-    ensures { Gives (λ r. (r, tokens.new)) result (reads.register_comma_at tokens.old) }
+/// The register that stands at the front.
+fn register_in_front(tokens: &Scanner) -> Option<u32>
+    ensures { result ≡ reads.register_token (first tokens.now) }
 {
-    let register = register(tokens)?;
-    mark(tokens, b',')?;
-    Ok(register)
+    match tokens.peek() {
+        Token::Run(run) => register_of(run),
+        _ => None,
+    }
 }
 
-/// Takes `register , register`.
-#[tactic(auto, unfolding(crate::specs::Reading::two_registers_at))]
-pub(crate) fn two_registers(tokens: &mut Scanner) -> Result<(Register, Register), LineFault>
-    ensures { Gives (λ r. (r.0, r.1, tokens.new)) result (reads.two_registers_at tokens.old) }
+/// Takes the register in parentheses that may stand behind an immediate.
+#[tactic(auto, unfolding(crate::specs::Reading::placed_at))]
+fn placed<'a>(tokens: &mut Scanner<'a>, value: Immediate<'a>) -> Result<Operand<'a>, LineFault>
+    ensures { Gives (λ o. (operand_value o, tokens.new)) result (reads.placed_at (immediate_value value.entry) tokens.old) }
 {
-    let first = register_comma(tokens)?;
-    let second = register(tokens)?;
-    Ok((first, second))
+    if has_mark(tokens, b'(') {
+        let base = base(tokens)?;
+        return Ok(Operand::Address(value, base));
+    }
+    Ok(Operand::Value(value))
 }
 
-/// Takes `register , register ,`.
-#[tactic(auto, unfolding(crate::specs::Reading::two_registers_comma_at))]
-pub(crate) fn two_registers_comma(tokens: &mut Scanner) -> Result<(Register, Register), LineFault>
-    ensures { Gives (λ r. (r.0, r.1, tokens.new)) result (reads.two_registers_comma_at tokens.old) }
+/// Takes an operand.
+#[tactic(auto, unfolding(crate::specs::Reading::operand_at))]
+fn operand<'a>(tokens: &mut Scanner<'a>) -> Result<Operand<'a>, LineFault>
+    ensures { Gives (λ o. (operand_value o, tokens.new)) result (reads.operand_at tokens.old) }
 {
-    let first = register_comma(tokens)?;
-    let second = register_comma(tokens)?;
-    Ok((first, second))
+    if let Some(register) = register_in_front(tokens) {
+        tokens.next();
+        return Ok(Operand::Register(register));
+    }
+    let value = offset(tokens)?;
+    placed(tokens, value)
 }
 
-/// Takes `register , register , register`.
-#[tactic(auto, unfolding(crate::specs::Reading::three_registers_at))]
-pub(crate) fn three_registers(
-    tokens: &mut Scanner,
-) -> Result<(Register, Register, Register), LineFault>
-    ensures { Gives (λ r. (r.0, r.1, r.2, tokens.new)) result (reads.three_registers_at tokens.old) }
-{
-    let first = register_comma(tokens)?;
-    let (second, third) = two_registers(tokens)?;
-    Ok((first, second, third))
-}
-
-/// Takes a code, where the line goes on.
-#[tactic(auto, unfolding(crate::specs::Reading::code_at))]
-pub(crate) fn code<'a>(tokens: &mut Scanner<'a>) -> Result<Expression<'a>, LineFault>
-    ensures { Gives (λ e. (expression_value e, tokens.new)) result (reads.code_at tokens.old) }
+/// Takes an operand, where the line goes on.
+#[tactic(auto, unfolding(crate::specs::Reading::first_at))]
+fn first<'a>(tokens: &mut Scanner<'a>) -> Result<Operand<'a>, LineFault>
+    ensures { Gives (λ o. (operand_value o, tokens.new)) result (reads.first_at tokens.old) }
 {
     if is_end(tokens) {
-        return Ok(ZERO);
+        return Ok(Operand::Absent);
     }
-    expression(tokens)
+    operand(tokens)
 }
 
-/// Takes a comma and a code, where a comma stands here.
-#[tactic(auto, unfolding(crate::specs::Reading::comma_code_at))]
-pub(crate) fn comma_code<'a>(tokens: &mut Scanner<'a>) -> Result<Expression<'a>, LineFault>
-    ensures { Gives (λ e. (expression_value e, tokens.new)) result (reads.comma_code_at tokens.old) }
+/// Takes a comma and an operand, where a comma stands here.
+#[tactic(auto, unfolding(crate::specs::Reading::next_at))]
+fn next<'a>(tokens: &mut Scanner<'a>) -> Result<Operand<'a>, LineFault>
+    ensures { Gives (λ o. (operand_value o, tokens.new)) result (reads.next_at tokens.old) }
 {
     if has_mark(tokens, b',') {
         tokens.next();
-        return expression(tokens);
+        return operand(tokens);
     }
-    Ok(ZERO)
+    Ok(Operand::Absent)
+}
+
+/// Takes up to three operands with commas between them.
+#[tactic(auto, unfolding(crate::specs::Reading::operands_at))]
+pub(crate) fn operands<'a>(
+    tokens: &mut Scanner<'a>,
+) -> Result<(Operand<'a>, Operand<'a>, Operand<'a>), LineFault>
+    ensures { Gives (λ os. (operands_value os, tokens.new)) result (reads.operands_at tokens.old) }
+{
+    let first = first(tokens)?;
+    let second = next(tokens)?;
+    let third = next(tokens)?;
+    Ok((first, second, third))
 }

@@ -4,7 +4,8 @@ ghost use Rattle.std.specs.Prelude.{◌≡◌, ◌<◌, length, false, true, IfS
 ghost use Rattle.brd_source.specs.Tokens.{tokens_in, seen};
 ghost use Rattle.brd_source.specs.Tokens as tokens;
 ghost use Rattle.brd_source.specs.Tokens.Place.{Between, InString};
-ghost use Rattle.brd_source.specs.Fronts.{begins_token, Begins};
+ghost use Rattle.brd_source.specs.Fronts.{begins_token, Begins, fronted};
+ghost use Rattle.brd_source.specs.Reading.{is_end};
 
 use crate::token::Token;
 use brd_text::{behind, is_run_byte, is_space, run_len};
@@ -100,19 +101,37 @@ fn token_at(line: &[u8]) -> (Token<'_>, &[u8])
     (Token::Mark(*byte), after)
 }
 
+/// Whether a token is the end of a line.
+fn is_end(token: &Token) -> bool
+    ensures { result ≡ is_end (seen token.now) }
+{
+    matches!(token, Token::End)
+}
+
+/// The token at the front of what may begin with blanks, and what is behind it.
+fn front_of(line: &[u8]) -> (Token<'_>, &[u8])
+    ensures { fronted (seen result.0) (tokens_in Between result.1.now) ≡ tokens_in Between line.now }
+{
+    token_at(after_blanks(line))
+}
+
 /// Reads the tokens of a line from the front.
 #[derive(Debug, Drop)]
 pub(crate) struct Scanner<'a> {
+    /// The first token.
+    front: Token<'a>,
+    /// What is behind it.
     rest: &'a [u8],
 }
 
 impl<'a> Model for Scanner<'a> {
     ghost use Rattle.std.specs.Prelude.{List};
-    ghost use Rattle.brd_source.specs.Tokens.{Token, tokens_of};
+    ghost use Rattle.brd_source.specs.Tokens.{Token, tokens_of, seen};
+    ghost use Rattle.brd_source.specs.Fronts.{fronted};
 
     ghost Value = { List Token };
 
-    ghost view = { λ s. tokens_of s.rest.now };
+    ghost view = { λ s. fronted (seen s.front) (tokens_of s.rest.now) };
 }
 
 impl<'a> Scanner<'a> {
@@ -122,33 +141,43 @@ impl<'a> Scanner<'a> {
     pub(crate) fn new(line: &'a [u8]) -> Scanner<'a>
         ensures { result ≡ tokens_of line.now }
     {
-        Scanner { rest: line }
+        let (front, rest) = front_of(line);
+        Scanner { front, rest }
     }
 
     /// Takes the first token. `End` stands behind the last token, as often as it is asked for.
+    #[tactic(auto, using(crate::proofs::Fronts::first_fronted, crate::proofs::Fronts::others_fronted, crate::proofs::Fronts::end_fronted))]
     pub(crate) fn next(&mut self) -> Token<'a>
         ensures token { first self.old ≡ seen result }
         ensures behind { self.new ≡ others self.old }
     {
-        let (token, behind) = token_at(after_blanks(self.rest));
-        self.rest = behind;
+        let token = self.front;
+        if is_end(&token) {
+            return token;
+        }
+        let (front, rest) = front_of(self.rest);
+        self.front = front;
+        self.rest = rest;
         token
     }
 
     /// The first token, which stays.
+    #[tactic(auto, using(crate::proofs::Fronts::first_fronted))]
     pub(crate) fn peek(&self) -> Token<'a>
         ensures { first self.now ≡ seen result }
     {
-        let (token, _) = token_at(after_blanks(self.rest));
-        token
+        self.front
     }
 
     /// The token behind the first one; both stay.
+    #[tactic(auto, using(crate::proofs::Fronts::first_fronted, crate::proofs::Fronts::others_fronted, crate::proofs::Fronts::end_fronted))]
     pub(crate) fn peek_behind(&self) -> Token<'a>
         ensures { first (others self.now) ≡ seen result }
     {
-        let (_, behind) = token_at(after_blanks(self.rest));
-        let (token, _) = token_at(after_blanks(behind));
+        if is_end(&self.front) {
+            return Token::End;
+        }
+        let (token, _) = front_of(self.rest);
         token
     }
 }

@@ -1,11 +1,11 @@
 //! What a line of assembler source says.
 
+ghost use Rattle.std.specs.Prelude.{◌≡◌};
+ghost use Rattle.brd_source.specs.Statement as statements;
+ghost use Rattle.brd_source.specs.View.{expression_value, immediate_value, operand_value};
+
 use brd_base::List;
-use brd_isa::{
-    AccumulateOp, BranchOp, BranchRegimmOp, BranchZeroOp, CountOp, ImmediateOp, JumpOp, LinkedOp,
-    LoadOp, MoveFromOp, MoveToOp, ProductOp, Register, RegisterOp, ShiftOp, ShiftVariableOp,
-    StoreOp, TrapImmediateOp, TrapOp,
-};
+use brd_isa::{Mnemonic, Register};
 
 /// A whole number with sign: the value of a name, if there is one, plus a number.
 #[derive(Clone, Copy, Debug, PartialEq, Eq)]
@@ -15,6 +15,12 @@ pub struct Expression<'a> {
     /// What is added to it; above -2^32 and below 2^32.
     pub number: i64,
 }
+
+/// The expression 0.
+pub(crate) const ZERO: Expression<'static> = Expression {
+    name: None,
+    number: 0,
+};
 
 /// An immediate or an offset as it is written.
 #[derive(Clone, Copy, Debug, PartialEq, Eq)]
@@ -27,62 +33,61 @@ pub enum Immediate<'a> {
     Low(Expression<'a>),
 }
 
-/// An instruction, by the form of its operands as in `brd_isa::Insn`, with expressions in place of the numbers. Targets of
-/// branches and jumps are addresses. The operands stand in the order in which `Insn` has them.
+/// An operand of an instruction.
 #[derive(Clone, Copy, Debug, PartialEq, Eq)]
-pub enum Instruction<'a> {
-    /// `op rd, rt, sa`
-    Shift(ShiftOp, Register, Register, Expression<'a>),
-    /// `op rd, rt, rs`
-    ShiftVariable(ShiftVariableOp, Register, Register, Register),
-    /// `op rd, rs, rt`
-    ThreeRegisters(RegisterOp, Register, Register, Register),
-    /// `mul rd, rs, rt`
-    Multiply(Register, Register, Register),
-    /// `jr rs`
-    JumpRegister(Register),
-    /// `jalr rd, rs`, or `jalr rs`, where rd is 31
-    JumpLinkRegister(Register, Register),
-    /// `syscall`, `syscall code`; without a code it is 0
-    Syscall(Expression<'a>),
-    /// `break`, `break code`; without a code it is 0
-    Break(Expression<'a>),
-    /// `sync`
-    Sync,
-    /// `op rd`
-    MoveFrom(MoveFromOp, Register),
-    /// `op rs`
-    MoveTo(MoveToOp, Register),
-    /// `op rs, rt`
-    Product(ProductOp, Register, Register),
-    /// `op rs, rt`
-    Accumulate(AccumulateOp, Register, Register),
-    /// `op rd, rs`
-    Count(CountOp, Register, Register),
-    /// `op rs, rt`, `op rs, rt, code`; without a code it is 0
-    Trap(TrapOp, Register, Register, Expression<'a>),
-    /// `op rs, immediate`
-    TrapImmediate(TrapImmediateOp, Register, Immediate<'a>),
-    /// `op target`
-    Jump(JumpOp, Expression<'a>),
-    /// `op rs, rt, target`
-    Branch(BranchOp, Register, Register, Expression<'a>),
-    /// `op rs, target`
-    BranchZero(BranchZeroOp, Register, Expression<'a>),
-    /// `op rs, target`
-    BranchRegimm(BranchRegimmOp, Register, Expression<'a>),
-    /// `op rt, rs, immediate`
-    WithImmediate(ImmediateOp, Register, Register, Immediate<'a>),
-    /// `lui rt, immediate`
-    LoadUpper(Register, Immediate<'a>),
-    /// `op rt, offset(base)`: rt, base, offset
-    Load(LoadOp, Register, Register, Immediate<'a>),
-    /// `op rt, offset(base)`: rt, base, offset
-    Store(StoreOp, Register, Register, Immediate<'a>),
-    /// `op rt, offset(base)`: rt, base, offset
-    Linked(LinkedOp, Register, Register, Immediate<'a>),
-    /// `pref hint, offset(base)`: hint, base, offset
-    Prefetch(Expression<'a>, Register, Immediate<'a>),
+pub enum Operand<'a> {
+    /// None stands here.
+    Absent,
+    /// A register, 0 to 31.
+    Register(u32),
+    /// A value.
+    Value(Immediate<'a>),
+    /// `offset(base)`: an offset and a register.
+    Address(Immediate<'a>, u32),
+}
+
+impl<'a> Operand<'a> {
+    /// The operand that is a register, or the base of an address. Others have none, and 0 stands for it.
+    pub fn register(&self) -> Register
+        ensures { result ≡ statements.register_in (operand_value self.now) }
+    {
+        match self {
+            Operand::Register(register) => Register::low(*register),
+            Operand::Address(_, base) => Register::low(*base),
+            _ => Register::low(0),
+        }
+    }
+
+    /// The operand that is a value, or the offset of an address. Others have none, and 0 stands for it.
+    pub fn immediate(&self) -> Immediate<'a>
+        ensures { immediate_value result ≡ statements.immediate_in (operand_value self.now) }
+    {
+        match self {
+            Operand::Value(value) => *value,
+            Operand::Address(offset, _) => *offset,
+            _ => Immediate::Whole(ZERO),
+        }
+    }
+
+    /// The operand that is an expression. Others have none, and 0 stands for it.
+    pub fn expression(&self) -> Expression<'a>
+        ensures { expression_value result ≡ statements.expression_in (operand_value self.now) }
+    {
+        match self {
+            Operand::Value(Immediate::Whole(e)) => *e,
+            _ => ZERO,
+        }
+    }
+}
+
+/// An instruction: which it is, and the operands that it takes, by the table of `forms`. Targets of branches and jumps are
+/// addresses.
+#[derive(Clone, Copy, Debug, PartialEq, Eq)]
+pub struct Instruction<'a> {
+    /// Which instruction it is.
+    pub mnemonic: Mnemonic,
+    /// Its operands in the order in which they are written, none left out.
+    pub operands: (Operand<'a>, Operand<'a>, Operand<'a>),
 }
 
 /// How many bytes each value of `.byte`, `.half` and `.word` takes.

@@ -2,191 +2,24 @@
 
 ghost use Rattle.std.specs.Prelude.{◌≡◌, ◌<◌, map, length, OnOk};
 ghost use Rattle.brd_text.specs.Turns.{flow_of};
-ghost use Rattle.brd_isa.specs.Names.{lowered, named_in};
+ghost use Rattle.brd_isa.specs.Names.{lowered};
 ghost use Rattle.brd_source.specs.Faults.{Gives};
+ghost use Rattle.brd_source.specs.Forms as forms;
 ghost use Rattle.brd_source.specs.Statements as statements;
-ghost use Rattle.brd_source.specs.View.{expression_value, instruction_value, statement_value};
+ghost use Rattle.brd_source.specs.Words.{word_named};
+ghost use Rattle.brd_source.specs.View.{expression_value, operands_value, statement_value};
 
 use crate::fault::LineFault;
-use crate::operands::operands;
-use crate::reading::{ZERO, expression, mark, name, register_comma, run, take_mark, two_registers};
+use crate::forms::{form_of, short_form_of, stands_for, taken};
+use crate::reading::{expression, mark, name, operands, run, take_mark};
 use crate::scanner::Scanner;
-use crate::statement::{Expression, Instruction, Statement, Width};
+use crate::statement::{Expression, Instruction, Statement};
 use crate::text::text;
 use crate::token::Token;
+use crate::words::{Directive, Shorthand, Word, word_named};
 use brd_base::List;
-use brd_isa::{
-    BranchOp, BranchRegimmOp, Register, RegisterOp, ShiftOp, is_same_name, mnemonic_named,
-};
+use brd_isa::Mnemonic;
 use std::alloc::Global;
-
-/// Names for instructions that another mnemonic has too.
-#[derive(Clone, Copy, Debug)]
-pub(crate) enum Shorthand {
-    Nop,
-    Move,
-    Branch,
-    BranchIfZero,
-    BranchUnlessZero,
-    BranchAndLink,
-}
-
-/// Names that begin with a dot.
-#[derive(Clone, Copy, Debug)]
-pub(crate) enum Directive {
-    Org,
-    Align,
-    Space,
-    Values(Width),
-    Ascii,
-    Asciiz,
-    Equ,
-    Globl,
-    Set,
-}
-
-/// The shorthand of this name, without regard to case.
-fn shorthand_named(run: &[u8]) -> Option<Shorthand>
-    ensures { result ≡ named_in statements.shorthand_names (lowered run.now) }
-{
-    if is_same_name(run, b"nop") {
-        return Some(Shorthand::Nop);
-    }
-    if is_same_name(run, b"move") {
-        return Some(Shorthand::Move);
-    }
-    if is_same_name(run, b"b") {
-        return Some(Shorthand::Branch);
-    }
-    if is_same_name(run, b"beqz") {
-        return Some(Shorthand::BranchIfZero);
-    }
-    if is_same_name(run, b"bnez") {
-        return Some(Shorthand::BranchUnlessZero);
-    }
-    if is_same_name(run, b"bal") {
-        return Some(Shorthand::BranchAndLink);
-    }
-    None
-}
-
-/// The directive of this name that lays down bytes, without regard to case.
-fn data_named(run: &[u8]) -> Option<Directive>
-    ensures { result ≡ named_in statements.data_names (lowered run.now) }
-{
-    if is_same_name(run, b".word") {
-        return Some(Directive::Values(Width::Word));
-    }
-    if is_same_name(run, b".half") {
-        return Some(Directive::Values(Width::Half));
-    }
-    if is_same_name(run, b".byte") {
-        return Some(Directive::Values(Width::Byte));
-    }
-    if is_same_name(run, b".ascii") {
-        return Some(Directive::Ascii);
-    }
-    if is_same_name(run, b".asciiz") {
-        return Some(Directive::Asciiz);
-    }
-    if is_same_name(run, b".space") {
-        return Some(Directive::Space);
-    }
-    if is_same_name(run, b".align") {
-        return Some(Directive::Align);
-    }
-    None
-}
-
-/// Any other directive of this name, without regard to case.
-fn order_named(run: &[u8]) -> Option<Directive>
-    ensures { result ≡ named_in statements.order_names (lowered run.now) }
-{
-    if is_same_name(run, b".org") {
-        return Some(Directive::Org);
-    }
-    if is_same_name(run, b".equ") {
-        return Some(Directive::Equ);
-    }
-    if is_same_name(run, b".globl") {
-        return Some(Directive::Globl);
-    }
-    if is_same_name(run, b".set") {
-        return Some(Directive::Set);
-    }
-    None
-}
-
-/// The directive of this name, without regard to case.
-#[tactic(auto, unfolding(crate::specs::Statements::directive_named))]
-fn directive_named(run: &[u8]) -> Option<Directive>
-    ensures { result ≡ statements.directive_named (lowered run.now) }
-{
-    if let Some(directive) = data_named(run) {
-        return Some(directive);
-    }
-    order_named(run)
-}
-
-/// Takes `target`, behind `b`.
-#[tactic(auto, unfolding(crate::specs::Statements::branch_at))]
-fn branch<'a>(tokens: &mut Scanner<'a>) -> Result<Instruction<'a>, LineFault>
-    ensures { Gives (λ i. (instruction_value i, tokens.new)) result (statements.branch_at tokens.old) }
-{
-    let target = expression(tokens)?;
-    let zero = Register::low(0);
-    Ok(Instruction::Branch(BranchOp::Beq, zero, zero, target))
-}
-
-/// Takes `rs, target`, behind `beqz` or `bnez`.
-#[tactic(auto, unfolding(crate::specs::Statements::branch_regimm_at))]
-fn branch_regimm<'a>(tokens: &mut Scanner<'a>, op: BranchOp) -> Result<Instruction<'a>, LineFault>
-    ensures { Gives (λ i. (instruction_value i, tokens.new)) result (statements.branch_regimm_at op tokens.old) }
-{
-    let rs = register_comma(tokens)?;
-    let target = expression(tokens)?;
-    Ok(Instruction::Branch(op, rs, Register::low(0), target))
-}
-
-/// Takes `target`, behind `bal`.
-#[tactic(auto, unfolding(crate::specs::Statements::branch_and_link_at))]
-fn branch_and_link<'a>(tokens: &mut Scanner<'a>) -> Result<Instruction<'a>, LineFault>
-    ensures { Gives (λ i. (instruction_value i, tokens.new)) result (statements.branch_and_link_at tokens.old) }
-{
-    let target = expression(tokens)?;
-    let zero = Register::low(0);
-    Ok(Instruction::BranchRegimm(BranchRegimmOp::Bgezal, zero, target))
-}
-
-/// Takes `rd, rs`, behind `move`.
-#[tactic(auto, unfolding(crate::specs::Statements::move_at))]
-fn moved<'a>(tokens: &mut Scanner<'a>) -> Result<Instruction<'a>, LineFault>
-    ensures { Gives (λ i. (instruction_value i, tokens.new)) result (statements.move_at tokens.old) }
-{
-    let (rd, rs) = two_registers(tokens)?;
-    let zero = Register::low(0);
-    Ok(Instruction::ThreeRegisters(RegisterOp::Addu, rd, rs, zero))
-}
-
-/// Takes the operands behind a shorthand.
-fn behind_shorthand<'a>(
-    tokens: &mut Scanner<'a>,
-    form: Shorthand,
-) -> Result<Instruction<'a>, LineFault>
-    ensures { Gives (λ i. (instruction_value i, tokens.new)) result (statements.shorthand_at form tokens.old) }
-{
-    match form {
-        Shorthand::Nop => {
-            let zero = Register::low(0);
-            Ok(Instruction::Shift(ShiftOp::Sll, zero, zero, ZERO))
-        }
-        Shorthand::Move => moved(tokens),
-        Shorthand::Branch => branch(tokens),
-        Shorthand::BranchIfZero => branch_regimm(tokens, BranchOp::Beq),
-        Shorthand::BranchUnlessZero => branch_regimm(tokens, BranchOp::Bne),
-        Shorthand::BranchAndLink => branch_and_link(tokens),
-    }
-}
 
 /// Takes one more value, and a comma where one follows: then another value stands behind it.
 #[tactic(auto, unfolding(crate::specs::Statements::value_step))]
@@ -276,29 +109,44 @@ fn behind_directive<'a>(
     }
 }
 
-/// Takes what stands behind the token with which a statement begins.
-#[tactic(auto, unfolding(crate::specs::Statements::statement_named))]
-fn statement_named<'a>(
+/// Takes the operands of a mnemonic.
+#[tactic(auto, unfolding(crate::specs::Statements::instruction_at))]
+fn behind_mnemonic<'a>(
+    tokens: &mut Scanner<'a>,
+    mnemonic: Mnemonic,
+) -> Result<Statement<'a>, LineFault>
+    ensures { Gives (λ s. (statement_value s, tokens.new)) result (statements.instruction_at (forms.form_of mnemonic) (forms.instruction mnemonic) tokens.old) }
+{
+    let written = operands(tokens)?;
+    let operands = taken(form_of(mnemonic), written)?;
+    Ok(Statement::Instruction(Instruction { mnemonic, operands }))
+}
+
+/// Takes the operands of a shorthand.
+#[tactic(auto, unfolding(crate::specs::Statements::instruction_at))]
+fn behind_shorthand<'a>(
+    tokens: &mut Scanner<'a>,
+    shorthand: Shorthand,
+) -> Result<Statement<'a>, LineFault>
+    ensures { Gives (λ s. (statement_value s, tokens.new)) result (statements.instruction_at (forms.short_form_of shorthand) (forms.stands_for shorthand) tokens.old) }
+{
+    let written = operands(tokens)?;
+    let operands = taken(short_form_of(shorthand), written)?;
+    Ok(Statement::Instruction(stands_for(shorthand, operands)))
+}
+
+/// Takes what stands behind a word.
+fn behind_word<'a>(
     alloc: Global,
     tokens: &mut Scanner<'a>,
-    run: &[u8],
+    word: Option<Word>,
 ) -> Result<Statement<'a>, LineFault>
-    ensures { Gives (λ s. (statement_value s, tokens.new)) result (statements.statement_named (lowered run.now) tokens.old) }
+    ensures { Gives (λ s. (statement_value s, tokens.new)) result (statements.statement_as word tokens.old) }
 {
-    if let Some(mnemonic) = mnemonic_named(run) {
-        return match operands(tokens, mnemonic) {
-            Ok(instruction) => Ok(Statement::Instruction(instruction)),
-            Err(fault) => Err(fault),
-        };
-    }
-    if let Some(form) = shorthand_named(run) {
-        return match behind_shorthand(tokens, form) {
-            Ok(instruction) => Ok(Statement::Instruction(instruction)),
-            Err(fault) => Err(fault),
-        };
-    }
-    match directive_named(run) {
-        Some(name) => behind_directive(alloc, tokens, name),
+    match word {
+        Some(Word::Mnemonic(mnemonic)) => behind_mnemonic(tokens, mnemonic),
+        Some(Word::Shorthand(shorthand)) => behind_shorthand(tokens, shorthand),
+        Some(Word::Directive(directive)) => behind_directive(alloc, tokens, directive),
         None => Err(LineFault::Syntax),
     }
 }
@@ -313,7 +161,7 @@ pub(crate) fn statement<'a>(
 {
     match tokens.next() {
         Token::End => Ok(Statement::Nothing),
-        Token::Run(run) => statement_named(alloc, tokens, run),
+        Token::Run(run) => behind_word(alloc, tokens, word_named(run)),
         _ => Err(LineFault::Syntax),
     }
 }

@@ -6,11 +6,13 @@ mod forms;
 mod names;
 mod refused;
 
-use brd_isa::Register;
-use brd_source::{Expression, Immediate, Instruction, Line, LineFault, Statement, parse_line};
+use brd_isa::Mnemonic;
+use brd_source::{
+    Expression, Immediate, Instruction, Line, LineFault, Operand, Statement, parse_line,
+};
 
-fn r(number: u32) -> Register {
-    Register::low(number)
+fn r(number: u32) -> Operand<'static> {
+    Operand::Register(number)
 }
 
 fn n(number: i64) -> Expression<'static> {
@@ -24,8 +26,24 @@ fn sum(name: &[u8], number: i64) -> Expression<'_> {
     }
 }
 
-fn whole(number: i64) -> Immediate<'static> {
-    Immediate::Whole(n(number))
+fn whole(expression: Expression<'_>) -> Operand<'_> {
+    Operand::Value(Immediate::Whole(expression))
+}
+
+fn at(offset: Immediate<'_>, base: u32) -> Operand<'_> {
+    Operand::Address(offset, base)
+}
+
+const NONE: Operand<'static> = Operand::Absent;
+
+/// Whether a line is this instruction with these operands, without labels.
+fn is_read<'a>(
+    rt: &HostRuntime,
+    line: &str,
+    mnemonic: Mnemonic,
+    operands: (Operand<'a>, Operand<'a>, Operand<'a>),
+) -> bool {
+    is_instruction(rt, line, &Instruction { mnemonic, operands })
 }
 
 /// Whether a line is this instruction, without labels.

@@ -1,78 +1,130 @@
 //! Each form of operands, each shorthand, and how operands are written.
 
-use super::{is_instruction, is_same, n, r, sum, whole};
+use super::{NONE, at, is_read, is_same, n, r, sum, whole};
 use brd_isa::{
     AccumulateOp, BranchOp, BranchRegimmOp, BranchZeroOp, CountOp, ImmediateOp, JumpOp, LinkedOp,
-    LoadOp, MoveFromOp, MoveToOp, ProductOp, RegisterOp, ShiftOp, ShiftVariableOp, StoreOp,
-    TrapImmediateOp, TrapOp,
+    LoadOp, Mnemonic, MoveFromOp, MoveToOp, ProductOp, RegisterOp, ShiftOp, ShiftVariableOp,
+    StoreOp, TrapImmediateOp, TrapOp,
 };
-use brd_source::{Expression, Immediate, Instruction};
+use brd_source::{Expression, Immediate, Operand};
 
 #[test]
 fn computing(rt: HostRuntime) {
-    let sllv = Instruction::ShiftVariable(ShiftVariableOp::Sllv, r(1), r(2), r(3));
-    assert!(rt; is_instruction(&rt, "sllv $1, $2, $3", &sllv));
-    let subu = Instruction::ThreeRegisters(RegisterOp::Subu, r(1), r(2), r(3));
-    assert!(rt; is_instruction(&rt, "subu $at, $v0, $v1", &subu));
-    let mul = Instruction::Multiply(r(31), r(30), r(29));
-    assert!(rt; is_instruction(&rt, "mul $ra,$s8,$sp", &mul));
-    let mflo = Instruction::MoveFrom(MoveFromOp::Mflo, r(16));
-    assert!(rt; is_instruction(&rt, "mflo $s0", &mflo));
-    let mthi = Instruction::MoveTo(MoveToOp::Mthi, r(23));
-    assert!(rt; is_instruction(&rt, "mthi $s7", &mthi));
-    let divu = Instruction::Product(ProductOp::Divu, r(4), r(7));
-    assert!(rt; is_instruction(&rt, "divu $a0, $a3", &divu));
-    let msub = Instruction::Accumulate(AccumulateOp::Msub, r(8), r(15));
-    assert!(rt; is_instruction(&rt, "msub $t0, $t7", &msub));
-    let clo = Instruction::Count(CountOp::Clo, r(24), r(26));
-    assert!(rt; is_instruction(&rt, "clo $t8, $k0", &clo));
-    let sra = Instruction::Shift(ShiftOp::Sra, r(8), r(9), n(31));
-    assert!(rt; is_instruction(&rt, "sra $t0, $t1, 31", &sra));
-    let low = Immediate::Low(sum(b"d", 4));
-    let addiu = Instruction::WithImmediate(ImmediateOp::Addiu, r(8), r(9), low);
-    assert!(rt; is_instruction(&rt, "addiu $t0, $t1, %lo(d+4)", &addiu));
-    let lui = Instruction::LoadUpper(r(28), Immediate::High(sum(b"d", 0)));
-    assert!(rt; is_instruction(&rt, "lui $gp, %hi(d)", &lui));
+    let sllv = Mnemonic::ShiftVariable(ShiftVariableOp::Sllv);
+    assert!(rt; is_read(&rt, "sllv $1, $2, $3", sllv, (r(1), r(2), r(3))));
+    let subu = Mnemonic::ThreeRegisters(RegisterOp::Subu);
+    assert!(rt; is_read(&rt, "subu $at, $v0, $v1", subu, (r(1), r(2), r(3))));
+    assert!(rt;
+        is_read(
+            &rt,
+            "mul $ra,$s8,$sp",
+            Mnemonic::Multiply,
+            (r(31), r(30), r(29))
+        )
+    );
+    let mflo = Mnemonic::MoveFrom(MoveFromOp::Mflo);
+    assert!(rt; is_read(&rt, "mflo $s0", mflo, (r(16), NONE, NONE)));
+    let mthi = Mnemonic::MoveTo(MoveToOp::Mthi);
+    assert!(rt; is_read(&rt, "mthi $s7", mthi, (r(23), NONE, NONE)));
+    let divu = Mnemonic::Product(ProductOp::Divu);
+    assert!(rt; is_read(&rt, "divu $a0, $a3", divu, (r(4), r(7), NONE)));
+    let msub = Mnemonic::Accumulate(AccumulateOp::Msub);
+    assert!(rt; is_read(&rt, "msub $t0, $t7", msub, (r(8), r(15), NONE)));
+    let clo = Mnemonic::Count(CountOp::Clo);
+    assert!(rt; is_read(&rt, "clo $t8, $k0", clo, (r(24), r(26), NONE)));
+    let sra = Mnemonic::Shift(ShiftOp::Sra);
+    assert!(rt; is_read(&rt, "sra $t0, $t1, 31", sra, (r(8), r(9), whole(n(31)))));
+    let low = Operand::Value(Immediate::Low(sum(b"d", 4)));
+    let addiu = Mnemonic::WithImmediate(ImmediateOp::Addiu);
+    assert!(rt; is_read(&rt, "addiu $t0, $t1, %lo(d+4)", addiu, (r(8), r(9), low)));
+    let high = Operand::Value(Immediate::High(sum(b"d", 0)));
+    assert!(rt;
+        is_read(
+            &rt,
+            "lui $gp, %hi(d)",
+            Mnemonic::LoadUpper,
+            (r(28), high, NONE)
+        )
+    );
 }
 
 #[test]
 fn control(rt: HostRuntime) {
-    assert!(rt; is_instruction(&rt, "jr $ra", &Instruction::JumpRegister(r(31))));
-    let jalr = Instruction::JumpLinkRegister(r(2), r(25));
-    assert!(rt; is_instruction(&rt, "jalr $v0, $t9", &jalr));
-    let jalr = Instruction::JumpLinkRegister(r(31), r(25));
-    assert!(rt; is_instruction(&rt, "jalr $t9", &jalr));
-    assert!(rt; is_instruction(&rt, "sync", &Instruction::Sync));
-    assert!(rt; is_instruction(&rt, "syscall", &Instruction::Syscall(n(0))));
-    assert!(rt; is_instruction(&rt, "syscall 0xFFFFF", &Instruction::Syscall(n(0xfffff))));
-    assert!(rt; is_instruction(&rt, "break", &Instruction::Break(n(0))));
-    assert!(rt; is_instruction(&rt, "break code+1", &Instruction::Break(sum(b"code", 1))));
-    let tltu = Instruction::Trap(TrapOp::Tltu, r(2), r(3), n(0));
-    assert!(rt; is_instruction(&rt, "tltu $v0, $v1", &tltu));
-    let tne = Instruction::Trap(TrapOp::Tne, r(2), r(3), n(1023));
-    assert!(rt; is_instruction(&rt, "tne $v0, $v1, 1023", &tne));
-    let tgei = Instruction::TrapImmediate(TrapImmediateOp::Tgei, r(10), whole(-5));
-    assert!(rt; is_instruction(&rt, "tgei $t2, -5", &tgei));
-    let jal = Instruction::Jump(JumpOp::Jal, sum(b"main", 0));
-    assert!(rt; is_instruction(&rt, "jal main", &jal));
-    let bnel = Instruction::Branch(BranchOp::Bnel, r(4), r(0), sum(b".L1", -8));
-    assert!(rt; is_instruction(&rt, "bnel $a0, $zero, .L1-8", &bnel));
-    let bgtz = Instruction::BranchZero(BranchZeroOp::Bgtz, r(5), n(0x80000000));
-    assert!(rt; is_instruction(&rt, "bgtz $a1, 0x80000000", &bgtz));
-    let bltzall = Instruction::BranchRegimm(BranchRegimmOp::Bltzall, r(6), sum(b"x$y", 0));
-    assert!(rt; is_instruction(&rt, "bltzall $a2, x$y", &bltzall));
+    assert!(rt; is_read(&rt, "jr $ra", Mnemonic::JumpRegister, (r(31), NONE, NONE)));
+    let jalr = Mnemonic::JumpLinkRegister;
+    assert!(rt; is_read(&rt, "jalr $v0, $t9", jalr, (r(2), r(25), NONE)));
+    assert!(rt; is_read(&rt, "jalr $t9", jalr, (r(31), r(25), NONE)));
+    assert!(rt; is_read(&rt, "sync", Mnemonic::Sync, (NONE, NONE, NONE)));
+    let syscall = Mnemonic::Syscall;
+    assert!(rt; is_read(&rt, "syscall", syscall, (whole(n(0)), NONE, NONE)));
+    assert!(rt;
+        is_read(
+            &rt,
+            "syscall 0xFFFFF",
+            syscall,
+            (whole(n(0xfffff)), NONE, NONE)
+        )
+    );
+    assert!(rt; is_read(&rt, "break", Mnemonic::Break, (whole(n(0)), NONE, NONE)));
+    let code = whole(sum(b"code", 1));
+    assert!(rt; is_read(&rt, "break code+1", Mnemonic::Break, (code, NONE, NONE)));
+    let tltu = Mnemonic::Trap(TrapOp::Tltu);
+    assert!(rt; is_read(&rt, "tltu $v0, $v1", tltu, (r(2), r(3), whole(n(0)))));
+    let tne = Mnemonic::Trap(TrapOp::Tne);
+    assert!(rt; is_read(&rt, "tne $v0, $v1, 1023", tne, (r(2), r(3), whole(n(1023)))));
+    let tgei = Mnemonic::TrapImmediate(TrapImmediateOp::Tgei);
+    assert!(rt; is_read(&rt, "tgei $t2, -5", tgei, (r(10), whole(n(-5)), NONE)));
+    let jal = Mnemonic::Jump(JumpOp::Jal);
+    assert!(rt; is_read(&rt, "jal main", jal, (whole(sum(b"main", 0)), NONE, NONE)));
+    let bnel = Mnemonic::Branch(BranchOp::Bnel);
+    let target = whole(sum(b".L1", -8));
+    assert!(rt; is_read(&rt, "bnel $a0, $zero, .L1-8", bnel, (r(4), r(0), target)));
+    let bgtz = Mnemonic::BranchZero(BranchZeroOp::Bgtz);
+    assert!(rt;
+        is_read(
+            &rt,
+            "bgtz $a1, 0x80000000",
+            bgtz,
+            (r(5), whole(n(0x80000000)), NONE)
+        )
+    );
+    let bltzall = Mnemonic::BranchRegimm(BranchRegimmOp::Bltzall);
+    assert!(rt;
+        is_read(
+            &rt,
+            "bltzall $a2, x$y",
+            bltzall,
+            (r(6), whole(sum(b"x$y", 0)), NONE)
+        )
+    );
 }
 
 #[test]
 fn memory(rt: HostRuntime) {
-    let lhu = Instruction::Load(LoadOp::Lhu, r(8), r(29), whole(-4));
-    assert!(rt; is_instruction(&rt, "lhu $t0, -4($sp)", &lhu));
-    let swl = Instruction::Store(StoreOp::Swl, r(8), r(30), whole(0));
-    assert!(rt; is_instruction(&rt, "swl $t0, ($fp)", &swl));
-    let sc = Instruction::Linked(LinkedOp::Sc, r(27), r(11), Immediate::Low(sum(b"l", 0)));
-    assert!(rt; is_instruction(&rt, "sc $k1, %lo(l)($t3)", &sc));
-    let pref = Instruction::Prefetch(n(30), r(12), Immediate::Whole(sum(b"x", 0)));
-    assert!(rt; is_instruction(&rt, "pref 30, x($t4)", &pref));
+    let lhu = Mnemonic::Load(LoadOp::Lhu);
+    let below = at(Immediate::Whole(n(-4)), 29);
+    assert!(rt; is_read(&rt, "lhu $t0, -4($sp)", lhu, (r(8), below, NONE)));
+    let swl = Mnemonic::Store(StoreOp::Swl);
+    assert!(rt;
+        is_read(
+            &rt,
+            "swl $t0, ($fp)",
+            swl,
+            (r(8), at(Immediate::Whole(n(0)), 30), NONE)
+        )
+    );
+    let sc = Mnemonic::Linked(LinkedOp::Sc);
+    let low = at(Immediate::Low(sum(b"l", 0)), 11);
+    assert!(rt; is_read(&rt, "sc $k1, %lo(l)($t3)", sc, (r(27), low, NONE)));
+    let x = at(Immediate::Whole(sum(b"x", 0)), 12);
+    assert!(rt;
+        is_read(
+            &rt,
+            "pref 30, x($t4)",
+            Mnemonic::Prefetch,
+            (whole(n(30)), x, NONE)
+        )
+    );
 }
 
 #[test]
@@ -88,21 +140,36 @@ fn shorthands(rt: HostRuntime) {
 
 #[test]
 fn blanks_case_and_comments(rt: HostRuntime) {
-    let nop = Instruction::Shift(ShiftOp::Sll, r(0), r(0), n(0));
-    assert!(rt; is_instruction(&rt, "\tNOP\r# a \"string\" that isn't one, \u{e9} \0", &nop));
-    assert!(rt; is_instruction(&rt, "nOp//", &nop));
-    let lw = Instruction::Load(LoadOp::Lw, r(8), r(9), whole(4));
-    assert!(rt; is_instruction(&rt, "LW\t$t0 , 4 ( $t1 )#", &lw));
-    assert!(rt; is_instruction(&rt, "lw $8,4($9)", &lw));
-    let lui = Instruction::LoadUpper(r(8), Immediate::High(sum(b"d", -5)));
-    assert!(rt; is_instruction(&rt, "Lui $t0, %hi ( d - 5 )", &lui));
+    let sll = Mnemonic::Shift(ShiftOp::Sll);
+    let zeros = (r(0), r(0), whole(n(0)));
+    assert!(rt;
+        is_read(
+            &rt,
+            "\tNOP\r# a \"string\" that isn't one, \u{e9} \0",
+            sll,
+            zeros
+        )
+    );
+    assert!(rt; is_read(&rt, "nOp//", sll, zeros));
+    let lw = Mnemonic::Load(LoadOp::Lw);
+    let four = at(Immediate::Whole(n(4)), 9);
+    assert!(rt; is_read(&rt, "LW\t$t0 , 4 ( $t1 )#", lw, (r(8), four, NONE)));
+    assert!(rt; is_read(&rt, "lw $8,4($9)", lw, (r(8), four, NONE)));
+    let high = Operand::Value(Immediate::High(sum(b"d", -5)));
+    assert!(rt;
+        is_read(
+            &rt,
+            "Lui $t0, %hi ( d - 5 )",
+            Mnemonic::LoadUpper,
+            (r(8), high, NONE)
+        )
+    );
 }
 
 /// Whether `addiu $0, $0, ..` with this number has this value.
 fn is_number(rt: &HostRuntime, line: &str, value: Expression) -> bool {
-    let value = Immediate::Whole(value);
-    let wanted = Instruction::WithImmediate(ImmediateOp::Addiu, r(0), r(0), value);
-    is_instruction(rt, line, &wanted)
+    let addiu = Mnemonic::WithImmediate(ImmediateOp::Addiu);
+    is_read(rt, line, addiu, (r(0), r(0), whole(value)))
 }
 
 #[test]

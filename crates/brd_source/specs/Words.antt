@@ -1,0 +1,32 @@
+-- The names with which a statement begins, in lower case.
+use Rattle.std.specs.Prelude.{ℕ, List, [], ◌∷◌, Option, option_map, codes}
+use Rattle.brd_isa.specs.Names.{named_in, mnemonic_named, ◌or_else◌}
+use Rattle.brd_source.specs.declared.statement.Width.TheVariants.{Byte, Half, Word as FourBytes}
+use Rattle.brd_source.specs.declared.words.Shorthand.TheVariants.{Nop, Move, Branch, BranchIfZero, BranchUnlessZero, BranchAndLink}
+use Rattle.brd_source.specs.declared.words.Directive.TheVariants.{Org, Align, Space, Values, Ascii, Asciiz, Equ, Globl, Set}
+use Rattle.brd_source.specs.declared.words.Word.{Word}
+use Rattle.brd_source.specs.declared.words.Word.TheVariants.{Mnemonic, Shorthand, Directive}
+
+abbrev pub other_names : List (List ℕ × Word)
+other_names =
+    (codes "nop", Shorthand Nop) ∷
+    (codes "move", Shorthand Move) ∷
+    (codes "b", Shorthand Branch) ∷
+    (codes "beqz", Shorthand BranchIfZero) ∷
+    (codes "bnez", Shorthand BranchUnlessZero) ∷
+    (codes "bal", Shorthand BranchAndLink) ∷
+    (codes ".word", Directive (Values FourBytes)) ∷
+    (codes ".half", Directive (Values Half)) ∷
+    (codes ".byte", Directive (Values Byte)) ∷
+    (codes ".ascii", Directive Ascii) ∷
+    (codes ".asciiz", Directive Asciiz) ∷
+    (codes ".space", Directive Space) ∷
+    (codes ".align", Directive Align) ∷
+    (codes ".org", Directive Org) ∷
+    (codes ".equ", Directive Equ) ∷
+    (codes ".globl", Directive Globl) ∷
+    (codes ".set", Directive Set) ∷ []
+
+-- a mnemonic, a shorthand or a directive
+abbrev pub word_named : List ℕ → Option Word
+word_named name = option_map (λ m. Mnemonic m) (mnemonic_named name) or_else named_in other_names name
