@@ -7,21 +7,22 @@ use Rattle.brd_word.specs.Words.{bytes_of_word}
 use Rattle.brd_isa.specs.declared.instruction.Insn.{Insn}
 use Rattle.brd_isa.specs.declared.instruction.Insn.TheVariants as insn
 use Rattle.brd_isa.specs.declared.instruction.ImmediateOp.{ImmediateOp}
-use Rattle.brd_isa.specs.declared.instruction.ImmediateOp.TheVariants.{Addi, Addiu, Slti, Sltiu, Andi, Ori, Xori}
+use Rattle.brd_isa.specs.declared.instruction.ImmediateOp.TheVariants.{Andi, Ori, Xori}
+use Rattle.brd_isa.specs.declared.mnemonic.Mnemonic.{Mnemonic}
+use Rattle.brd_isa.specs.declared.mnemonic.Mnemonic.TheVariants as mnemonic
 use Rattle.brd_source.specs.declared.statement.Width.{Width}
 use Rattle.brd_source.specs.declared.statement.Width.TheVariants.{Byte, Half, Word}
-use Rattle.brd_source.specs.Statement.{Expression, Immediate, Instruction}
-use Rattle.brd_source.specs.Statement.Instruction.{Shift, ShiftVariable, ThreeRegisters, Multiply, JumpRegister, JumpLinkRegister, Syscall, Break, Sync, MoveFrom, MoveTo, Product, Accumulate, Count, Trap, TrapImmediate, Jump, Branch, BranchZero, BranchRegimm, WithImmediate, LoadUpper, Load, Store, Linked, Prefetch}
+use Rattle.brd_source.specs.Statement.{Expression, Operand, Instruction, register_in, expression_in, immediate_in}
 use Rattle.brd_asm.specs.declared.fault.AsmFault.{AsmFault}
 use Rattle.brd_asm.specs.declared.fault.AsmFault.TheVariants as fault
 use Rattle.brd_asm.specs.Values.{Name, value_of, modulo, signed_value, unsigned_value, known, within, up_to}
 use Rattle.brd_asm.specs.Layout.{Content, Piece}
 use Rattle.brd_asm.specs.Layout.Content.{Code, Values, Bytes, Zeros}
 
--- a number from 0 to high: a shift amount, a hint or a code
-unfoldable pub number_in : ℕ → List Name → ℕ → Expression → Result ℕ AsmFault
-number_in line names high e = do
-  v ← known line (value_of names e)
+-- a number from 0 to high: a shift amount or a code
+unfoldable pub number_in : ℕ → List Name → ℕ → Operand → Result ℕ AsmFault
+number_in line names high operand = do
+  v ← known line (value_of names (expression_in operand))
   up_to line high v
 
 -- the sixteen bits of a value from -32,768 to 32,767
@@ -31,35 +32,32 @@ signed_field line v = do
   Ok (modulo x (2 ^ 16))
 
 -- the field of an immediate or offset that is read as signed
-unfoldable pub signed_in : ℕ → List Name → Immediate → Result ℕ AsmFault
-signed_in line names immediate = do
-  v ← known line (signed_value names immediate)
+unfoldable pub signed_in : ℕ → List Name → Operand → Result ℕ AsmFault
+signed_in line names operand = do
+  v ← known line (signed_value names (immediate_in operand))
   signed_field line v
 
 -- the field of an immediate that isn't
-unfoldable pub unsigned_in : ℕ → List Name → Immediate → Result ℕ AsmFault
-unsigned_in line names immediate = do
-  v ← known line (unsigned_value names immediate)
+unfoldable pub unsigned_in : ℕ → List Name → Operand → Result ℕ AsmFault
+unsigned_in line names operand = do
+  v ← known line (unsigned_value names (immediate_in operand))
   up_to line 65535 v
 
 -- the logical operations have an unsigned immediate
-unfoldable pub immediate_in : ImmediateOp → ℕ → List Name → Immediate → Result ℕ AsmFault
-immediate_in Addi line names immediate = signed_in line names immediate
-immediate_in Addiu line names immediate = signed_in line names immediate
-immediate_in Slti line names immediate = signed_in line names immediate
-immediate_in Sltiu line names immediate = signed_in line names immediate
-immediate_in Andi line names immediate = unsigned_in line names immediate
-immediate_in Ori line names immediate = unsigned_in line names immediate
-immediate_in Xori line names immediate = unsigned_in line names immediate
+abbrev pub field_in : ImmediateOp → ℕ → List Name → Operand → Result ℕ AsmFault
+field_in Andi line names operand = unsigned_in line names operand
+field_in Ori line names operand = unsigned_in line names operand
+field_in Xori line names operand = unsigned_in line names operand
+field_in _ line names operand = signed_in line names operand
 
 -- a target that is a multiple of 4
 unfoldable pub aligned : ℕ → ℤ → Result ℤ AsmFault
 aligned line v = if modulo v 4 == 0 then Ok v else Err (fault.Misaligned line)
 
 -- The offset of a branch at a place: from its slot, which is 4 bytes behind it, -32,768 to 32,767 words.
-unfoldable pub offset_to : ℕ → ℕ → List Name → Expression → Result ℕ AsmFault
+unfoldable pub offset_to : ℕ → ℕ → List Name → Operand → Result ℕ AsmFault
 offset_to line place names target = do
-  v ← known line (value_of names target)
+  v ← known line (value_of names (expression_in target))
   distance ← within line (negsuc 131071) (pos 131068) (v -ℤ pos (place + 4))
   x ← aligned line v
   Ok (modulo (int_div_euclid distance (pos 4)) (2 ^ 16))
@@ -69,80 +67,53 @@ abbrev pub region_of : ℕ → ℕ
 region_of address = address / 2 ^ 28 * 2 ^ 28
 
 -- The index of a jump at a place. The target has the top four bits of the slot's address.
-unfoldable pub index_to : ℕ → ℕ → List Name → Expression → Result ℕ AsmFault
+unfoldable pub index_to : ℕ → ℕ → List Name → Operand → Result ℕ AsmFault
 index_to line place names target = do
-  v ← known line (value_of names target)
+  v ← known line (value_of names (expression_in target))
   x ← within line (pos (region_of (place + 4))) (pos (region_of (place + 4) + (2 ^ 28 - 1))) v
   y ← aligned line v
   Ok (modulo (int_div_euclid y (pos 4)) (2 ^ 26))
 
 -- The hint and the offset of a prefetch. The names of both count before their ranges.
-unfoldable pub prefetch_in : ℕ → List Name → Expression → Immediate → Result (ℕ × ℕ) AsmFault
+unfoldable pub prefetch_in : ℕ → List Name → Operand → Operand → Result (ℕ × ℕ) AsmFault
 prefetch_in line names hint offset = do
-  h ← known line (value_of names hint)
-  v ← known line (signed_value names offset)
+  h ← known line (value_of names (expression_in hint))
+  v ← known line (signed_value names (immediate_in offset))
   n ← up_to line 31 h
   x ← signed_field line v
   Ok (n, x)
 
--- the instruction, with its numbers, that stands at a place
+-- The instruction, with its numbers, that stands at a place: a line a form. A register is an operand or the base of an address.
+abbrev pub insn_of : ℕ → ℕ → List Name → Mnemonic → Operand → Operand → Operand → Result Insn AsmFault
+insn_of line place names (mnemonic.Shift op) a b c = number_in line names 31 c >>= λ n. Ok (insn.Shift op (register_in a) (register_in b) n)
+insn_of line place names (mnemonic.ShiftVariable op) a b c = Ok (insn.ShiftVariable op (register_in a) (register_in b) (register_in c))
+insn_of line place names (mnemonic.ThreeRegisters op) a b c = Ok (insn.ThreeRegisters op (register_in a) (register_in b) (register_in c))
+insn_of line place names mnemonic.Multiply a b c = Ok (insn.Multiply (register_in a) (register_in b) (register_in c))
+insn_of line place names mnemonic.JumpRegister a b c = Ok (insn.JumpRegister (register_in a))
+insn_of line place names mnemonic.JumpLinkRegister a b c = Ok (insn.JumpLinkRegister (register_in a) (register_in b))
+insn_of line place names mnemonic.Syscall a b c = number_in line names 1048575 a >>= λ n. Ok (insn.Syscall n)
+insn_of line place names mnemonic.Break a b c = number_in line names 1048575 a >>= λ n. Ok (insn.Break n)
+insn_of line place names mnemonic.Sync a b c = Ok insn.Sync
+insn_of line place names (mnemonic.MoveFrom op) a b c = Ok (insn.MoveFrom op (register_in a))
+insn_of line place names (mnemonic.MoveTo op) a b c = Ok (insn.MoveTo op (register_in a))
+insn_of line place names (mnemonic.Product op) a b c = Ok (insn.Product op (register_in a) (register_in b))
+insn_of line place names (mnemonic.Accumulate op) a b c = Ok (insn.Accumulate op (register_in a) (register_in b))
+insn_of line place names (mnemonic.Count op) a b c = Ok (insn.Count op (register_in a) (register_in b))
+insn_of line place names (mnemonic.Trap op) a b c = number_in line names 1023 c >>= λ n. Ok (insn.Trap op (register_in a) (register_in b) n)
+insn_of line place names (mnemonic.TrapImmediate op) a b c = signed_in line names b >>= λ n. Ok (insn.TrapImmediate op (register_in a) n)
+insn_of line place names (mnemonic.Jump op) a b c = index_to line place names a >>= λ n. Ok (insn.Jump op n)
+insn_of line place names (mnemonic.Branch op) a b c = offset_to line place names c >>= λ n. Ok (insn.Branch op (register_in a) (register_in b) n)
+insn_of line place names (mnemonic.BranchZero op) a b c = offset_to line place names b >>= λ n. Ok (insn.BranchZero op (register_in a) n)
+insn_of line place names (mnemonic.BranchRegimm op) a b c = offset_to line place names b >>= λ n. Ok (insn.BranchRegimm op (register_in a) n)
+insn_of line place names (mnemonic.WithImmediate op) a b c = field_in op line names c >>= λ n. Ok (insn.WithImmediate op (register_in a) (register_in b) n)
+insn_of line place names mnemonic.LoadUpper a b c = unsigned_in line names b >>= λ n. Ok (insn.LoadUpper (register_in a) n)
+insn_of line place names (mnemonic.Load op) a b c = signed_in line names b >>= λ n. Ok (insn.Load op (register_in a) (register_in b) n)
+insn_of line place names (mnemonic.Store op) a b c = signed_in line names b >>= λ n. Ok (insn.Store op (register_in a) (register_in b) n)
+insn_of line place names (mnemonic.Linked op) a b c = signed_in line names b >>= λ n. Ok (insn.Linked op (register_in a) (register_in b) n)
+insn_of line place names mnemonic.Prefetch a b c = prefetch_in line names a b >>= λ n. Ok (insn.Prefetch n.0 (register_in b) n.1)
+
 unfoldable pub instruction_of : ℕ → ℕ → List Name → Instruction → Result Insn AsmFault
-instruction_of line place names (Shift op rd rt sa) = do
-  n ← number_in line names 31 sa
-  Ok (insn.Shift op rd rt n)
-instruction_of line place names (ShiftVariable op rd rt rs) = Ok (insn.ShiftVariable op rd rt rs)
-instruction_of line place names (ThreeRegisters op rd rs rt) = Ok (insn.ThreeRegisters op rd rs rt)
-instruction_of line place names (Multiply rd rs rt) = Ok (insn.Multiply rd rs rt)
-instruction_of line place names (JumpRegister rs) = Ok (insn.JumpRegister rs)
-instruction_of line place names (JumpLinkRegister rd rs) = Ok (insn.JumpLinkRegister rd rs)
-instruction_of line place names (Syscall code) = do
-  n ← number_in line names 1048575 code
-  Ok (insn.Syscall n)
-instruction_of line place names (Break code) = do
-  n ← number_in line names 1048575 code
-  Ok (insn.Break n)
-instruction_of line place names Sync = Ok insn.Sync
-instruction_of line place names (MoveFrom op rd) = Ok (insn.MoveFrom op rd)
-instruction_of line place names (MoveTo op rs) = Ok (insn.MoveTo op rs)
-instruction_of line place names (Product op rs rt) = Ok (insn.Product op rs rt)
-instruction_of line place names (Accumulate op rs rt) = Ok (insn.Accumulate op rs rt)
-instruction_of line place names (Count op rd rs) = Ok (insn.Count op rd rs)
-instruction_of line place names (Trap op rs rt code) = do
-  n ← number_in line names 1023 code
-  Ok (insn.Trap op rs rt n)
-instruction_of line place names (TrapImmediate op rs immediate) = do
-  n ← signed_in line names immediate
-  Ok (insn.TrapImmediate op rs n)
-instruction_of line place names (Jump op target) = do
-  n ← index_to line place names target
-  Ok (insn.Jump op n)
-instruction_of line place names (Branch op rs rt target) = do
-  n ← offset_to line place names target
-  Ok (insn.Branch op rs rt n)
-instruction_of line place names (BranchZero op rs target) = do
-  n ← offset_to line place names target
-  Ok (insn.BranchZero op rs n)
-instruction_of line place names (BranchRegimm op rs target) = do
-  n ← offset_to line place names target
-  Ok (insn.BranchRegimm op rs n)
-instruction_of line place names (WithImmediate op rt rs immediate) = do
-  n ← immediate_in op line names immediate
-  Ok (insn.WithImmediate op rt rs n)
-instruction_of line place names (LoadUpper rt immediate) = do
-  n ← unsigned_in line names immediate
-  Ok (insn.LoadUpper rt n)
-instruction_of line place names (Load op rt from offset) = do
-  n ← signed_in line names offset
-  Ok (insn.Load op rt from n)
-instruction_of line place names (Store op rt from offset) = do
-  n ← signed_in line names offset
-  Ok (insn.Store op rt from n)
-instruction_of line place names (Linked op rt from offset) = do
-  n ← signed_in line names offset
-  Ok (insn.Linked op rt from n)
-instruction_of line place names (Prefetch hint from offset) = do
-  n ← prefetch_in line names hint offset
-  Ok (insn.Prefetch n.0 from n.1)
+instruction_of line place names i = insn_of line place names i.mnemonic i.operands.0 i.operands.1 i.operands.2
 
 -- the least and the greatest value of each width
 abbrev pub least_of : Width → ℤ

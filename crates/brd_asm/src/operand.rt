@@ -5,13 +5,13 @@ ghost use Rattle.std.specs.Int.{int_div_euclid};
 ghost use Rattle.brd_source.specs.View as source;
 ghost use Rattle.brd_asm.specs.Faults.{Gives};
 ghost use Rattle.brd_asm.specs.Values.{modulo};
-ghost use Rattle.brd_asm.specs.Meaning.{number_in, signed_field, signed_in, unsigned_in, immediate_in, aligned, offset_to, index_to, prefetch_in};
+ghost use Rattle.brd_asm.specs.Meaning.{number_in, signed_field, signed_in, unsigned_in, field_in, aligned, offset_to, index_to, prefetch_in};
 
 use crate::fault::AsmFault;
 use crate::names::Names;
 use crate::value::{known, modulo, signed_value, unsigned_value, up_to, value_of, within};
 use brd_isa::{Hint, ImmediateOp, JumpIndex, LongCode, ShiftAmount, ShortCode};
-use brd_source::{Expression, Immediate};
+use brd_source::Operand;
 
 /// What the numbers of an instruction depend on: its line and its place, and the names of the source.
 #[derive(Clone, Copy)]
@@ -27,77 +27,71 @@ pub struct Site<'a, 'b> {
 impl<'a, 'b> Site<'a, 'b> {
     /// A number from 0 to high.
     #[tactic(auto, unfolding(crate::specs::Meaning::number_in))]
-    fn number_in(self, high: u32, e: Expression) -> Result<u32, AsmFault>
-        ensures is { Gives (λ n. n) result (number_in self.entry.line self.entry.names.now high (source.expression_value e.entry)) }
+    fn number_in(self, high: u32, operand: Operand) -> Result<u32, AsmFault>
+        ensures is { Gives (λ n. n) result (number_in self.entry.line self.entry.names.now high (source.operand_value operand.entry)) }
         ensures below { IfOk result (λ n. n ≤ high) }
     {
-        let v = known(self.line, value_of(self.names, e))?;
+        let v = known(self.line, value_of(self.names, operand.expression()))?;
         up_to(self.line, high, v)
     }
 
     /// A shift amount.
-    pub fn shift_amount(self, e: Expression) -> Result<ShiftAmount, AsmFault>
-        ensures { Gives (λ n. n) result (number_in self.entry.line self.entry.names.now 31 (source.expression_value e.entry)) }
+    pub fn shift_amount(self, operand: Operand) -> Result<ShiftAmount, AsmFault>
+        ensures { Gives (λ n. n) result (number_in self.entry.line self.entry.names.now 31 (source.operand_value operand.entry)) }
     {
-        Ok(ShiftAmount::low(self.number_in(31, e)?))
+        Ok(ShiftAmount::low(self.number_in(31, operand)?))
     }
 
     /// The code of a system call or a break.
-    pub fn long_code(self, e: Expression) -> Result<LongCode, AsmFault>
-        ensures { Gives (λ n. n) result (number_in self.entry.line self.entry.names.now 1048575 (source.expression_value e.entry)) }
+    pub fn long_code(self, operand: Operand) -> Result<LongCode, AsmFault>
+        ensures { Gives (λ n. n) result (number_in self.entry.line self.entry.names.now 1048575 (source.operand_value operand.entry)) }
     {
-        Ok(LongCode::low(self.number_in(0xf_ffff, e)?))
+        Ok(LongCode::low(self.number_in(0xf_ffff, operand)?))
     }
 
     /// The code of a trap.
-    pub fn short_code(self, e: Expression) -> Result<ShortCode, AsmFault>
-        ensures { Gives (λ n. n) result (number_in self.entry.line self.entry.names.now 1023 (source.expression_value e.entry)) }
+    pub fn short_code(self, operand: Operand) -> Result<ShortCode, AsmFault>
+        ensures { Gives (λ n. n) result (number_in self.entry.line self.entry.names.now 1023 (source.operand_value operand.entry)) }
     {
-        Ok(ShortCode::low(self.number_in(0x3ff, e)?))
+        Ok(ShortCode::low(self.number_in(0x3ff, operand)?))
     }
 
     /// The field of an immediate or an offset that is read as signed.
     #[tactic(auto, unfolding(crate::specs::Meaning::signed_in))]
-    pub fn signed(self, immediate: Immediate) -> Result<u16, AsmFault>
-        ensures { Gives (λ n. n) result (signed_in self.entry.line self.entry.names.now (source.immediate_value immediate.entry)) }
+    pub fn signed(self, operand: Operand) -> Result<u16, AsmFault>
+        ensures { Gives (λ n. n) result (signed_in self.entry.line self.entry.names.now (source.operand_value operand.entry)) }
     {
-        let v = known(self.line, signed_value(self.names, immediate))?;
+        let v = known(self.line, signed_value(self.names, operand.immediate()))?;
         signed_field(self.line, v)
     }
 
     /// The field of an immediate that isn't.
     #[tactic(auto, unfolding(crate::specs::Meaning::unsigned_in))]
-    pub fn unsigned(self, immediate: Immediate) -> Result<u16, AsmFault>
-        ensures { Gives (λ n. n) result (unsigned_in self.entry.line self.entry.names.now (source.immediate_value immediate.entry)) }
+    pub fn unsigned(self, operand: Operand) -> Result<u16, AsmFault>
+        ensures { Gives (λ n. n) result (unsigned_in self.entry.line self.entry.names.now (source.operand_value operand.entry)) }
     {
-        let v = known(self.line, unsigned_value(self.names, immediate))?;
+        let v = known(self.line, unsigned_value(self.names, operand.immediate()))?;
         let n = up_to(self.line, 0xffff, v)?;
         Ok(n as u16)
     }
 
     /// The field of an immediate of an arithmetic or logical operation.
-    #[tactic(auto, unfolding(crate::specs::Meaning::immediate_in))]
-    pub fn immediate(self, op: ImmediateOp, immediate: Immediate) -> Result<u16, AsmFault>
-        ensures { Gives (λ n. n) result (immediate_in op self.entry.line self.entry.names.now (source.immediate_value immediate.entry)) }
+    pub fn field(self, op: ImmediateOp, operand: Operand) -> Result<u16, AsmFault>
+        ensures { Gives (λ n. n) result (field_in op self.entry.line self.entry.names.now (source.operand_value operand.entry)) }
     {
         match op {
-            ImmediateOp::Addi => self.signed(immediate),
-            ImmediateOp::Addiu => self.signed(immediate),
-            ImmediateOp::Slti => self.signed(immediate),
-            ImmediateOp::Sltiu => self.signed(immediate),
-            ImmediateOp::Andi => self.unsigned(immediate),
-            ImmediateOp::Ori => self.unsigned(immediate),
-            ImmediateOp::Xori => self.unsigned(immediate),
+            ImmediateOp::Andi | ImmediateOp::Ori | ImmediateOp::Xori => self.unsigned(operand),
+            _ => self.signed(operand),
         }
     }
 
     /// The offset of a branch: how many words its target lies behind the slot.
     #[tactic(auto, unfolding(crate::specs::Meaning::offset_to))]
-    pub fn offset_to(self, target: Expression) -> Result<u16, AsmFault>
-        ensures { Gives (λ n. n) result (offset_to self.entry.line self.entry.place self.entry.names.now (source.expression_value target.entry)) }
+    pub fn offset_to(self, target: Operand) -> Result<u16, AsmFault>
+        ensures { Gives (λ n. n) result (offset_to self.entry.line self.entry.place self.entry.names.now (source.operand_value target.entry)) }
     {
         let slot = self.place as u64 + 4;
-        let v = known(self.line, value_of(self.names, target))?;
+        let v = known(self.line, value_of(self.names, target.expression()))?;
         let distance = within(self.line, -131_072, 131_068, v - slot as i128)?;
         aligned(self.line, v)?;
         Ok(words_in(distance))
@@ -105,12 +99,12 @@ impl<'a, 'b> Site<'a, 'b> {
 
     /// The index of a jump, whose target has the top four bits of the slot's address.
     #[tactic(auto, unfolding(crate::specs::Meaning::index_to))]
-    pub fn index_to(self, target: Expression) -> Result<JumpIndex, AsmFault>
-        ensures { Gives (λ n. n) result (index_to self.entry.line self.entry.place self.entry.names.now (source.expression_value target.entry)) }
+    pub fn index_to(self, target: Operand) -> Result<JumpIndex, AsmFault>
+        ensures { Gives (λ n. n) result (index_to self.entry.line self.entry.place self.entry.names.now (source.operand_value target.entry)) }
     {
         let slot = self.place as u64 + 4;
         let region = (slot / 0x1000_0000 * 0x1000_0000) as i64;
-        let v = known(self.line, value_of(self.names, target))?;
+        let v = known(self.line, value_of(self.names, target.expression()))?;
         within(self.line, region, region + 0xfff_ffff, v)?;
         let target = aligned(self.line, v)?;
         let words = modulo(target.div_euclid(4), 0x400_0000);
@@ -119,11 +113,11 @@ impl<'a, 'b> Site<'a, 'b> {
 
     /// The hint and the offset of a prefetch: the names of both count before their ranges.
     #[tactic(auto, unfolding(crate::specs::Meaning::prefetch_in))]
-    pub fn prefetch(self, hint: Expression, offset: Immediate) -> Result<(Hint, u16), AsmFault>
-        ensures { Gives (λ fields. fields) result (prefetch_in self.entry.line self.entry.names.now (source.expression_value hint.entry) (source.immediate_value offset.entry)) }
+    pub fn prefetch(self, hint: Operand, offset: Operand) -> Result<(Hint, u16), AsmFault>
+        ensures { Gives (λ fields. fields) result (prefetch_in self.entry.line self.entry.names.now (source.operand_value hint.entry) (source.operand_value offset.entry)) }
     {
-        let hint = known(self.line, value_of(self.names, hint))?;
-        let offset = known(self.line, signed_value(self.names, offset))?;
+        let hint = known(self.line, value_of(self.names, hint.expression()))?;
+        let offset = known(self.line, signed_value(self.names, offset.immediate()))?;
         let n = up_to(self.line, 31, hint)?;
         let low = signed_field(self.line, offset)?;
         Ok((Hint::low(n), low))
