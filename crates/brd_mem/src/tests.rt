@@ -110,38 +110,66 @@ fn ranges(rt: HostRuntime) -> Result<(), Fail> {
     Ok(())
 }
 
+/// Writes into five pages of a RAM of 1 MiB: at both ends, over the border of two, and at the end of one.
+fn write_to_five(ram: &mut Ram) -> bool {
+    let is_written = ram.store8(0x8000_0000, 1).is_ok()
+        && ram.store16(0x8008_0ffe, 0x0203).is_ok()
+        && ram.store32(0x800f_fffc, 0x0405_0607).is_ok()
+        && ram.store32(0x8000_8000, 0).is_ok();
+    if ram.contains(0x8000_5fff, 2) {
+        ram.copy_in(0x8000_5fff, &[8, 9]);
+    }
+    is_written
+}
+
+/// Whether a list of pages has this one, of this number and with this byte at a place.
+fn has_page(pages: &Pages, index: usize, number: u16, at: usize, byte: u8) -> bool {
+    match pages.as_slice().get(index) {
+        Some(page) => page.number == number && at < PAGE_SIZE && page.bytes[at] == byte,
+        None => false,
+    }
+}
+
+/// The pages in which two RAMs of one size differ.
+fn differing(ram: &Ram, base: &Ram) -> Result<Pages, Fail> {
+    if ram.size() != base.size() {
+        return Err("the sizes differ")?;
+    }
+    Ok(ram.pages(base)?)
+}
+
+/// Whether a RAM differs from a blank one in the pages that were written; the one that got only zeros is none of them.
+fn differs_in_five(ram: &Ram, blank: &Ram) -> Result<bool, Fail> {
+    let pages = differing(ram, blank)?;
+    Ok(
+        pages.len() == 5
+            && has_page(&pages, 0, 0, 0, 1)
+            && has_page(&pages, 1, 5, 4_095, 8)
+            && has_page(&pages, 2, 6, 0, 9)
+            && has_page(&pages, 3, 128, 4_095, 3)
+            && has_page(&pages, 4, 255, 4_095, 7),
+    )
+}
+
+/// The RAM that the pages in which it differs from a base make of the base again.
+fn brought_back(ram: &Ram, base: &Ram) -> Result<Ram, Fail> {
+    if ram.size() != base.size() {
+        return Err("the sizes differ")?;
+    }
+    let pages = ram.pages(base)?;
+    let mut again = base.try_copy()?;
+    again.put_back(base, &pages);
+    Ok(again)
+}
+
 #[test]
 fn pages(rt: HostRuntime) -> Result<(), Fail> {
-    let alloc = rt.alloc();
-    let blank = Ram::new(alloc, 16_777_216)?;
-    let mut ram = Ram::new(alloc, 16_777_216)?;
-    assert_eq!(rt; ram.pages(&blank)?.as_slice().len(), 0);
-    assert_eq!(rt; ram.store8(0x8000_0000, 1), Ok(()));
-    assert_eq!(rt; ram.store16(0x8080_0ffe, 0x0203), Ok(()));
-    assert_eq!(rt; ram.store32(0x80ff_fffc, 0x0405_0607), Ok(()));
-    ram.copy_in(0x8000_5fff, &[8, 9]);
-    assert_eq!(rt; ram.store32(0x8000_8000, 0), Ok(()));
-    let pages = ram.pages(&blank)?;
-    for (page, (number, at, byte)) in pages.as_slice().iter().zip([
-        (0, 0, 1),
-        (5, 4_095, 8),
-        (6, 0, 9),
-        (2_048, 4_095, 3),
-        (4_095, 4_095, 7),
-    ]) {
-        assert_eq!(rt; page.number, number);
-        assert_eq!(rt; page.bytes[at], byte, "{number}");
-    }
-    assert_eq!(rt; pages.as_slice().len(), 5);
-    let mut again = blank.try_copy()?;
-    again.put_back(&blank, &pages);
-    assert!(rt; again.same(&ram));
-    assert_eq!(rt; again.pages(&blank)?.as_slice().len(), 5);
-    assert_eq!(rt; blank.pages(&ram)?.as_slice().len(), 5);
-    let copy = ram.try_copy()?;
-    assert_eq!(rt; copy.pages(&blank)?.as_slice().len(), 5);
-    again.put_back(&blank, &blank.pages(&ram)?);
-    assert!(rt; again.same(&blank));
+    let blank = Ram::new(rt.alloc(), 1_048_576)?;
+    let mut ram = Ram::new(rt.alloc(), 1_048_576)?;
+    assert!(rt; write_to_five(&mut ram) && differs_in_five(&ram, &blank)?);
+    let again = brought_back(&ram, &blank)?;
+    assert!(rt; again.same(&ram) && differs_in_five(&again, &blank)?);
+    assert!(rt; brought_back(&blank, &ram)?.same(&blank));
     Ok(())
 }
 
