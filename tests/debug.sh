@@ -75,7 +75,14 @@ debug "IMAGE is a folder" 4 "$work/nothing" "board: can't read the object file: 
 debug "JOURNAL is a folder" 4 "$work/nothing" "board: can't read the journal: $is_directory" "$work/five" $config /
 debug "JOURNAL is missing, IMAGE a folder" 4 "$work/nothing" "board: can't open $work/nosuch: $is_missing" / $config "$work/nosuch"
 debug "a source for IMAGE" 1 "$work/nothing" \
-    "board: the object file: no ELF file: it doesn't begin with the bytes 7F 45 4C 46" $five/source.s $config $journal
+    "board: the object file: no ELF file: it doesn't begin with the bytes 7F 45 4C 46; it looks like assembler source, which \"board asm\" makes an object file of" \
+    $five/source.s $config $journal
+debug "a journal for CONFIG" 1 "$work/nothing" \
+    "board: the configuration: line 1: found what no statement has here, expected one in the form of its kind; it looks like a journal" \
+    "$work/five" $journal $config
+debug "an object file for JOURNAL" 1 "$work/nothing" \
+    "board: the journal: line 1: expected \`board-journal 1\` first, then lines \`S CPU COUNT\`, \`T COUNT\` and \`R LINE COUNT\`; it looks like an object file" \
+    "$work/five" $config "$work/five"
 head -c 134217729 /dev/zero > "$work/long"
 debug "a journal that is too long" 4 "$work/nothing" "board: the journal is longer than 134,217,728 bytes" \
     "$work/five" $config "$work/long"

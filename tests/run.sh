@@ -52,8 +52,50 @@ run "CONFIG is a folder" 4 "$work/nothing" "board: can't read the configuration:
 run "IMAGE is a folder" 4 "$work/nothing" "board: can't read the object file: $is_directory" / / /
 run "JOURNAL is a folder" 4 "$work/nothing" "board: can't read the journal: $is_directory" "$work/hello" $hello/config.cfg /
 
-# Files in each other's places.
-run "a source for IMAGE" 1 "$work/nothing" "board: the object file: no ELF file: it doesn't begin with the bytes 7F 45 4C 46" $hello/source.s $hello/config.cfg $hello/journal
+# A file in the place of another. Fields: the argument, counted from 0; the file; what it looks like, where that is another
+# kind than it should be of.
+faults=("the object file: no ELF file: it doesn't begin with the bytes 7F 45 4C 46"
+    "the configuration: line 1: found what no statement has here, expected one in the form of its kind"
+    "the journal: line 1: expected \`board-journal 1\` first, then lines \`S CPU COUNT\`, \`T COUNT\` and \`R LINE COUNT\`")
+printf 'nop\0' > "$work/bytes"
+printf '{ BOARD(1, 0x10000);\n' > "$work/brace"
+printf 'BOARD (2;\n' > "$work/board"
+printf '/* a comment // and */ // another\n\n\tBOARD' > "$work/comments"
+printf 'board-journal 2\n' > "$work/version"
+printf '\x7fELF' > "$work/front"
+{ printf '%01024d' 0; printf '\1'; } > "$work/text"
+{ printf '%01023d' 0; printf '\1'; } > "$work/no_text"
+source='; it looks like assembler source, which "board asm" makes an object file of'
+while IFS='|' read -r place file looks; do
+    arguments=("$work/hello" $hello/config.cfg $hello/journal)
+    arguments[place]=$file
+    run "$(basename "$file") as argument $((place + 1))" 1 "$work/nothing" "board: ${faults[place]}$looks" "${arguments[@]}"
+done << END
+0|$hello/config.cfg|; it looks like a configuration
+0|$work/comments|; it looks like a configuration
+0|$hello/journal|; it looks like a journal
+0|$hello/source.s|$source
+0|$work/brace|$source
+0|$work/text|$source
+0|$work/no_text|
+0|$work/bytes|
+0|$work/nothing|
+1|$work/hello|; it looks like an object file
+1|$hello/journal|; it looks like a journal
+1|$hello/source.s|
+1|$work/board|
+1|$work/bytes|
+1|$work/nothing|
+2|$work/hello|; it looks like an object file
+2|$work/front|; it looks like an object file
+2|$hello/config.cfg|; it looks like a configuration
+2|$work/board|; it looks like a configuration
+2|$hello/source.s|
+2|$work/version|
+2|$work/bytes|
+2|$work/nothing|
+END
+run "all three turned round" 1 "$work/nothing" "board: ${faults[0]}; it looks like a journal" $hello/journal "$work/hello" $hello/config.cfg
 
 # A report that can't be written.
 if [ -e /dev/full ]; then

@@ -5,4 +5,5 @@ pub mod OutputLemmas
 pub mod ExcerptLemmas
 pub mod LineLemmas
 pub mod AnswerLemmas
+pub mod StartLemmas
 pub mod RunLemmas

@@ -9,6 +9,7 @@ use Rattle.brd_asm.specs.declared.fault.AsmFault.{AsmFault}
 use Rattle.brd_asm.specs.declared.fault.AsmFault.TheVariants as asm_fault
 use Rattle.brd_image.specs.Building.{IsImageOf}
 use Rattle.brd_command.specs.Excerpt.{line_excerpt}
+use Rattle.brd_command.specs.FileKinds.{source_looks_like}
 use Rattle.brd_command.specs.Input.{most_bytes}
 use Rattle.brd_command.specs.Output.{Writes, WritesFront}
 use Rattle.brd_command.specs.declared.fault.CommandFault.{CommandFault}
@@ -38,12 +39,13 @@ faulty_line (asm_fault.Range line) = line
 faulty_line (asm_fault.Misaligned line) = line
 faulty_line (asm_fault.Overlap line) = line
 
--- what may keep a source from having an object file: its first fault, with the front of the faulty line, or an image
--- that is too large
+-- what may keep a source from having an object file: its first fault, with the front of the faulty line and the other kind
+-- of which the source looks, or an image that is too large
 abbrev pub KeepsFromAssembling : List ℕ → CommandFault → Type 0
 KeepsFromAssembling source NoMemory = Unit {0}
-KeepsFromAssembling source (Source fault excerpt) =
+KeepsFromAssembling source (Source fault excerpt kind) =
     (program_of source ≡ Err fault) × (fault ≢ asm_fault.NoMemory) × (excerpt ≡ line_excerpt source (faulty_line fault))
+    × (kind ≡ source_looks_like source fault)
 KeepsFromAssembling source ImageTooLarge = IsTooLarge source
 KeepsFromAssembling source _ = ⊥
 
@@ -52,14 +54,14 @@ abbrev pub RefusesSource : CommandFault → List ℕ → Option (List ℕ) → O
 RefusesSource NoMemory source old new = Keeps old new
 RefusesSource Argument source old new = ⊥
 RefusesSource (Words fault) source old new = ⊥
-RefusesSource (Source fault excerpt) source old new = KeepsFromAssembling source (Source fault excerpt) × Keeps old new
+RefusesSource (Source fault excerpt kind) source old new = KeepsFromAssembling source (Source fault excerpt kind) × Keeps old new
 RefusesSource ImageTooLarge source old new = KeepsFromAssembling source ImageTooLarge × Keeps old new
 RefusesSource (Open name error) source old new = ⊥
 RefusesSource (Read input error) source old new = (input ≡ input_name.Source) × Keeps old new
 RefusesSource (TooLong input) source old new = (input ≡ input_name.Source) × (most_bytes < length source) × Keeps old new
 RefusesSource (TooManyReads input) source old new = (input ≡ input_name.Source) × Keeps old new
-RefusesSource (Build fault) source old new = ⊥
-RefusesSource (Journal fault) source old new = ⊥
+RefusesSource (Build fault kind) source old new = ⊥
+RefusesSource (Journal fault kind) source old new = ⊥
 RefusesSource (Write error) source old new = WritesFront (IsObjectFile source) old new
 
 -- how `asm` ends: the source's object file was written, or it was refused

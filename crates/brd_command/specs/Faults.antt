@@ -8,6 +8,7 @@ use Rattle.brd_image.specs.declared.fault.BuildFault.{BuildFault}
 use Rattle.brd_journal.specs.Faults as journal
 use Rattle.brd_journal.specs.declared.fault.JournalFault.{JournalFault}
 use Rattle.brd_command.specs.Excerpt.{name_excerpt}
+use Rattle.brd_command.specs.FileKinds.{build_looks_like, journal_looks_like}
 use Rattle.brd_command.specs.declared.input_name.InputName.{InputName}
 use Rattle.brd_command.specs.declared.fault.CommandFault.{CommandFault}
 use Rattle.brd_command.specs.declared.fault.CommandFault.TheVariants.{NoMemory, Argument, Words, Source, ImageTooLarge, Open, Read, TooLong, TooManyReads, Build, Journal, Write}
@@ -17,14 +18,14 @@ abbrev pub status_of : CommandFault → ℕ
 status_of NoMemory = 3
 status_of Argument = 2
 status_of (Words fault) = 1
-status_of (Source fault excerpt) = 1
+status_of (Source fault excerpt kind) = 1
 status_of ImageTooLarge = 1
 status_of (Open name error) = 4
 status_of (Read input error) = 4
 status_of (TooLong input) = 4
 status_of (TooManyReads input) = 4
-status_of (Build fault) = 1
-status_of (Journal fault) = 1
+status_of (Build fault kind) = 1
+status_of (Journal fault kind) = 1
 status_of (Write error) = 4
 
 -- the fault of a read of an input that failed with this error: want of memory where its kind says so, else the error
@@ -39,13 +40,13 @@ IsOfOpen name error NoMemory = Unit {0}
 IsOfOpen name error (Open shown e) = (shown ≡ name_excerpt name) × (e ≡ error) × (error_kind error ≢ OutOfMemory)
 IsOfOpen name error _ = ⊥
 
--- the fault of building as one of a command: that memory ran out stands alone
-abbrev pub of_build : BuildFault → CommandFault
-of_build fault = if build.is_no_memory fault then NoMemory else Build fault
+-- the fault of a board of an object file and a configuration: that memory ran out stands alone
+abbrev pub of_build : List ℕ → List ℕ → BuildFault → CommandFault
+of_build image config fault = if build.is_no_memory fault then NoMemory else Build fault (build_looks_like image config fault)
 
 -- the fault of a journal's text, likewise
-abbrev pub of_journal : JournalFault → CommandFault
-of_journal fault = if journal.is_no_memory fault then NoMemory else Journal fault
+abbrev pub of_journal : List ℕ → JournalFault → CommandFault
+of_journal text fault = if journal.is_no_memory fault then NoMemory else Journal fault (journal_looks_like text fault)
 
 -- the fault of a command line that couldn't be taken: want of memory where the error's kind says so, else an argument
 -- that isn't UTF-8

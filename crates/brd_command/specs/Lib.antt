@@ -1,6 +1,7 @@
 pub mod WordText
 pub mod Shown
 pub mod Excerpt
+pub mod FileKinds
 pub mod Faults
 pub mod Input
 pub mod Output

@@ -6,6 +6,7 @@ use Rattle.brd_image.specs.declared.fault.BuildFault.TheVariants as build_fault
 use Rattle.brd_journal.specs.Journal.{JournalState, most_runs}
 use Rattle.brd_journal.specs.Reading.{journal_of}
 use Rattle.brd_journal.specs.declared.fault.JournalFault.TheVariants as journal_fault
+use Rattle.brd_command.specs.FileKinds.{build_looks_like, journal_looks_like}
 use Rattle.brd_command.specs.Input.{most_bytes}
 use Rattle.brd_command.specs.declared.fault.CommandFault.{CommandFault}
 use Rattle.brd_command.specs.declared.fault.CommandFault.TheVariants.{NoMemory, Argument, Words, Source, ImageTooLarge, Open, Read, TooLong, TooManyReads, Build, Journal, Write}
@@ -23,12 +24,13 @@ abbrev pub AreWithin : List ℕ → List ℕ → List ℕ → Type 0
 AreWithin image config journal = (length image ≤ most_bytes) × (length config ≤ most_bytes) × (length journal ≤ most_bytes)
 
 -- Why an object file, a configuration and a journal that were read give no start: the first fault of the object file and the
--- configuration; or these make a board, and it is the first of the journal.
+-- configuration; or these make a board, and it is the first of the journal. With it stands the other kind of which the faulty one looks.
 abbrev pub KeepsFromMaking : List ℕ → List ℕ → List ℕ → CommandFault → Type 0
 KeepsFromMaking image config journal NoMemory = Unit {0}
-KeepsFromMaking image config journal (Build fault) = (loaded image config ≡ Err fault) × (fault ≢ build_fault.NoMemory)
-KeepsFromMaking image config journal (Journal fault) =
+KeepsFromMaking image config journal (Build fault kind) = (loaded image config ≡ Err fault) × (fault ≢ build_fault.NoMemory) × (kind ≡ build_looks_like image config fault)
+KeepsFromMaking image config journal (Journal fault kind) =
     (board : BoardState) × (loaded image config ≡ Ok board) × (journal_of most_runs journal ≡ Err fault) × (fault ≢ journal_fault.NoMemory)
+    × (kind ≡ journal_looks_like journal fault)
 KeepsFromMaking image config journal _ = ⊥
 
 -- the input of this name is one of the three, and those before it were read
@@ -52,12 +54,12 @@ abbrev pub KeepsFromStarting : List ℕ → List ℕ → List ℕ → CommandFau
 KeepsFromStarting image config journal NoMemory = Unit {0}
 KeepsFromStarting image config journal Argument = ⊥
 KeepsFromStarting image config journal (Words fault) = ⊥
-KeepsFromStarting image config journal (Source fault excerpt) = ⊥
+KeepsFromStarting image config journal (Source fault excerpt kind) = ⊥
 KeepsFromStarting image config journal ImageTooLarge = ⊥
 KeepsFromStarting image config journal (Open name error) = ⊥
 KeepsFromStarting image config journal (Read input error) = IsReached image config input
 KeepsFromStarting image config journal (TooLong input) = IsTooLong image config journal input
 KeepsFromStarting image config journal (TooManyReads input) = IsReached image config input
-KeepsFromStarting image config journal (Build fault) = AreWithin image config journal × KeepsFromMaking image config journal (Build fault)
-KeepsFromStarting image config journal (Journal fault) = AreWithin image config journal × KeepsFromMaking image config journal (Journal fault)
+KeepsFromStarting image config journal (Build fault kind) = AreWithin image config journal × KeepsFromMaking image config journal (Build fault kind)
+KeepsFromStarting image config journal (Journal fault kind) = AreWithin image config journal × KeepsFromMaking image config journal (Journal fault kind)
 KeepsFromStarting image config journal (Write error) = ⊥

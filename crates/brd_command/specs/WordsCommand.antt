@@ -32,14 +32,14 @@ RefusesWords NoMemory input steps old new = Keeps old new
 RefusesWords Argument input steps old new = ⊥
 RefusesWords (Words fault) input steps old new =
     (words_of_text input ≡ Err fault) × (fault ≢ words_fault.NoMemory) × Keeps old new
-RefusesWords (Source fault excerpt) input steps old new = ⊥
+RefusesWords (Source fault excerpt kind) input steps old new = ⊥
 RefusesWords ImageTooLarge input steps old new = ⊥
 RefusesWords (Open name error) input steps old new = ⊥
 RefusesWords (Read from error) input steps old new = (from ≡ StandardInput) × Keeps old new
 RefusesWords (TooLong from) input steps old new = (from ≡ StandardInput) × (most_bytes < length input) × Keeps old new
 RefusesWords (TooManyReads from) input steps old new = (from ≡ StandardInput) × Keeps old new
-RefusesWords (Build fault) input steps old new = ⊥
-RefusesWords (Journal fault) input steps old new = ⊥
+RefusesWords (Build fault kind) input steps old new = ⊥
+RefusesWords (Journal fault kind) input steps old new = ⊥
 RefusesWords (Write error) input steps old new = WritesFront (ShowsText input steps) old new
 
 -- how `words` ends: the board of the input was written, or it was refused

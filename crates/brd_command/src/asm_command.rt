@@ -2,9 +2,11 @@
 
 ghost use Rattle.std.specs.Prelude.{◌≡◌, IfSome, MatchResult};
 ghost use Rattle.brd_command.specs.AsmCommand.{AsmEnds, IsObjectFile, KeepsFromAssembling, faulty_line};
+ghost use Rattle.brd_command.specs.FileKinds.{source_looks_like};
 
 use crate::excerpt::Excerpt;
 use crate::fault::CommandFault;
+use crate::file_kind::{FileKind, other_kind};
 use crate::input::read_whole;
 use crate::input_name::InputName;
 use crate::output::write_whole;
@@ -51,7 +53,8 @@ fn object_file(alloc: Global, source: &[u8]) -> Result<Vec<u8>, CommandFault>
         Err(AsmFault::NoMemory) => return Err(CommandFault::NoMemory),
         Err(fault) => {
             let excerpt = Excerpt::of_line(alloc, source, line_of(fault))?;
-            return Err(CommandFault::Source(fault, excerpt));
+            let kind = looks_like(fault, source);
+            return Err(CommandFault::Source(fault, excerpt, kind));
         }
     };
     if image.segments.len() >= EXTENDED {
@@ -76,5 +79,15 @@ fn line_of(fault: AsmFault) -> usize
         | AsmFault::Range { line }
         | AsmFault::Misaligned { line }
         | AsmFault::Overlap { line } => line,
+    }
+}
+
+/// The other kind of which a source looks that hasn't the form of one.
+fn looks_like(fault: AsmFault, source: &[u8]) -> Option<FileKind>
+    ensures { result ≡ source_looks_like source.now fault }
+{
+    match fault {
+        AsmFault::Syntax { .. } => other_kind(FileKind::Source, source),
+        _ => None,
     }
 }

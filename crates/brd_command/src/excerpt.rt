@@ -69,7 +69,7 @@ impl fmt::Display for Excerpt {
 }
 
 /// No more than so many bytes.
-fn front_of(text: &[u8], most: usize) -> &[u8]
+pub fn front_of(text: &[u8], most: usize) -> &[u8]
     ensures { result.now ≡ take most text.now }
 {
     if text.len() <= most {

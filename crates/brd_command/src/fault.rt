@@ -1,13 +1,17 @@
 //! Why a command ends with a status that isn't 0.
 
 ghost use Rattle.std.specs.Prelude.{◌≡◌};
+ghost use Rattle.brd_command.specs.FileKinds as kinds;
 ghost use Rattle.brd_command.specs.declared.fault.CommandFault.TheVariants.{NoMemory as no_memory};
 
 use crate::excerpt::Excerpt;
+use crate::file_kind::{FileKind, hint, other_kind};
 use crate::input_name::InputName;
 use crate::word_text::WordsFault;
 use brd_asm::AsmFault;
 use brd_base::NoMemory;
+use brd_config::ConfigFault;
+use brd_elf::ElfFault;
 use brd_image::BuildFault;
 use brd_journal::JournalFault;
 use std::alloc::{AllocError, AllocFailed, Global};
@@ -26,9 +30,9 @@ pub enum CommandFault {
     /// The words on standard input have a fault.
     #[error("standard input: {0}")]
     Words(WordsFault),
-    /// The assembler source has a fault, in the line of this excerpt.
-    #[error("the source: {0}: {1}")]
-    Source(AsmFault, Excerpt),
+    /// The assembler source has a fault, in the line of this excerpt. It looks like a file of this kind.
+    #[error("the source: {0}: {1}{hint}", hint = hint(*.2))]
+    Source(AsmFault, Excerpt, Option<FileKind>),
     /// No object file can hold the image of the assembler source.
     #[error("the source: its image has more segments or bytes than an object file can hold")]
     ImageTooLarge,
@@ -44,19 +48,19 @@ pub enum CommandFault {
     /// An input came in so small pieces that the limit of reads was reached.
     #[error("{0} didn't end within 268,435,456 reads")]
     TooManyReads(InputName),
-    /// There is no board of the object file and the configuration.
-    #[error("{0}")]
-    Build(BuildFault),
-    /// The journal's text has a fault.
-    #[error("the journal: {0}")]
-    Journal(JournalFault),
+    /// There is no board of the object file and the configuration. The faulty one looks like a file of this kind.
+    #[error("{0}{hint}", hint = hint(*.1))]
+    Build(BuildFault, Option<FileKind>),
+    /// The journal's text has a fault. It looks like a file of this kind.
+    #[error("the journal: {0}{hint}", hint = hint(*.1))]
+    Journal(JournalFault, Option<FileKind>),
     /// Output couldn't be written.
     #[error("can't write the output: {0}")]
     Write(io::Error),
 }
 
 impl CommandFault {
-    ghost use Rattle.brd_command.specs.Faults.{status_of, IsOfRead, IsOfOpen, IsOfArguments};
+    ghost use Rattle.brd_command.specs.Faults.{status_of, IsOfRead, IsOfOpen, IsOfArguments, of_build, of_journal};
 
     /// The fault of a read of an input that failed: want of memory, or the error itself.
     pub fn of_read(input: InputName, error: io::Error) -> Self
@@ -91,6 +95,28 @@ impl CommandFault {
         }
     }
 
+    /// The fault of an object file and a configuration that make no board: want of memory, or the fault itself, and the
+    /// other kind of which the faulty one looks.
+    pub fn of_build(fault: BuildFault, image: &[u8], config: &[u8]) -> Self
+        ensures { result ≡ of_build image.now config.now fault }
+    {
+        match fault {
+            BuildFault::NoMemory => CommandFault::NoMemory,
+            _ => CommandFault::Build(fault, build_looks_like(fault, image, config)),
+        }
+    }
+
+    /// The fault of a text that is no journal: want of memory, or the fault itself, and the other kind of which the text
+    /// looks.
+    pub fn of_journal(fault: JournalFault, text: &[u8]) -> Self
+        ensures { result ≡ of_journal text.now fault }
+    {
+        match fault {
+            JournalFault::NoMemory => CommandFault::NoMemory,
+            _ => CommandFault::Journal(fault, journal_looks_like(fault, text)),
+        }
+    }
+
     /// The status that the program ends with: 1 for a fault of the input, 2 for one of the command line, 3 for want of
     /// memory, 4 where reading or writing failed.
     pub fn status(&self) -> u8
@@ -98,10 +124,10 @@ impl CommandFault {
     {
         match self {
             CommandFault::Words(_)
-            | CommandFault::Source(_, _)
+            | CommandFault::Source(_, _, _)
             | CommandFault::ImageTooLarge
-            | CommandFault::Build(_)
-            | CommandFault::Journal(_) => 1,
+            | CommandFault::Build(_, _)
+            | CommandFault::Journal(_, _) => 1,
             CommandFault::Argument => 2,
             CommandFault::NoMemory => 3,
             CommandFault::Open(_, _)
@@ -109,32 +135,6 @@ impl CommandFault {
             | CommandFault::TooLong(_)
             | CommandFault::TooManyReads(_)
             | CommandFault::Write(_) => 4,
-        }
-    }
-}
-
-impl From<BuildFault> for CommandFault {
-    ghost use Rattle.brd_command.specs.Faults.{of_build};
-
-    ghost from_gives = { λ of fault. fault ≡ of_build of };
-
-    fn from(fault: BuildFault) -> Self {
-        match fault {
-            BuildFault::NoMemory => CommandFault::NoMemory,
-            _ => CommandFault::Build(fault),
-        }
-    }
-}
-
-impl From<JournalFault> for CommandFault {
-    ghost use Rattle.brd_command.specs.Faults.{of_journal};
-
-    ghost from_gives = { λ of fault. fault ≡ of_journal of };
-
-    fn from(fault: JournalFault) -> Self {
-        match fault {
-            JournalFault::NoMemory => CommandFault::NoMemory,
-            _ => CommandFault::Journal(fault),
         }
     }
 }
@@ -160,5 +160,28 @@ impl<T: Drop> From<AllocFailed<T>> for CommandFault {
 
     fn from(_e: AllocFailed<T>) -> Self {
         CommandFault::NoMemory
+    }
+}
+
+/// The other kind of which an object file looks that is none, or a configuration that hasn't the form of one.
+fn build_looks_like(fault: BuildFault, image: &[u8], config: &[u8]) -> Option<FileKind>
+    ensures { result ≡ kinds.build_looks_like image.now config.now fault }
+{
+    match fault {
+        BuildFault::Elf(ElfFault::NotElf) => other_kind(FileKind::ObjectFile, image),
+        BuildFault::Config(ConfigFault::Syntax { .. }) => {
+            other_kind(FileKind::Configuration, config)
+        }
+        _ => None,
+    }
+}
+
+/// The other kind of which a text looks that hasn't the form of a journal.
+fn journal_looks_like(fault: JournalFault, text: &[u8]) -> Option<FileKind>
+    ensures { result ≡ kinds.journal_looks_like text.now fault }
+{
+    match fault {
+        JournalFault::Syntax { .. } => other_kind(FileKind::Journal, text),
+        _ => None,
     }
 }

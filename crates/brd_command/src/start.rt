@@ -59,7 +59,12 @@ fn make_start(
     ensures { MatchResult result (IsStart image.now config.now journal.now)
         (KeepsFromMaking image.now config.now journal.now) }
 {
-    let board = load(alloc, image, config)?;
-    let journal = read_text(alloc, journal, MOST_RUNS)?;
-    Ok(Start { board, journal })
+    let board = match load(alloc, image, config) {
+        Ok(board) => board,
+        Err(fault) => return Err(CommandFault::of_build(fault, image, config)),
+    };
+    match read_text(alloc, journal, MOST_RUNS) {
+        Ok(journal) => Ok(Start { board, journal }),
+        Err(fault) => Err(CommandFault::of_journal(fault, journal)),
+    }
 }

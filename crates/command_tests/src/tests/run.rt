@@ -95,7 +95,7 @@ fn faults_of_run(rt: HostRuntime) -> Result<(), Fail> {
     let elsewhere = b"BOARD(1, 0x10000); CRE_TSK(1, {0, 0, x, 1, 256, NULL});".as_slice();
     for (inputs, text) in [
         (
-            [b"ELF".as_slice(), b"".as_slice(), b"".as_slice()],
+            [b"\x7fEL".as_slice(), b"".as_slice(), b"".as_slice()],
             "the object file: no ELF file: it doesn't begin with the bytes 7F 45 4C 46",
         ),
         (
@@ -118,6 +118,49 @@ fn faults_of_run(rt: HostRuntime) -> Result<(), Fail> {
         let mut writer = Taking::new(alloc);
         let result = run_failing(alloc, inputs, 0, 0, &mut writer);
         assert_fault(&rt, alloc, result, text, 1)?;
+        assert_eq!(rt; writer.writes, 0);
+    }
+    Ok(())
+}
+
+/// A file in the place of another: its fault says of which kind it looks, where that is another than it should be of.
+#[test]
+fn files_in_each_others_places(rt: HostRuntime) -> Result<(), Fail> {
+    let alloc = rt.alloc();
+    let image = image(alloc)?;
+    let elf = "the object file: no ELF file: it doesn't begin with the bytes 7F 45 4C 46";
+    let config =
+        "the configuration: line 1: found what no statement has here, expected one in the form of its kind";
+    let journal =
+        "the journal: line 1: expected `board-journal 1` first, then lines `S CPU COUNT`, `T COUNT` and `R LINE COUNT`";
+    for (place, file, looks_like) in [
+        (0, CONFIG, "; it looks like a configuration"),
+        (0, JOURNAL, "; it looks like a journal"),
+        (
+            0,
+            SOURCE,
+            "; it looks like assembler source, which \"board asm\" makes an object file of",
+        ),
+        (0, b"\x7fEL", ""),
+        (0, b"", ""),
+        (1, image.as_slice(), "; it looks like an object file"),
+        (1, JOURNAL, "; it looks like a journal"),
+        (1, SOURCE, ""),
+        (1, b"BOARD", ""),
+        (2, image.as_slice(), "; it looks like an object file"),
+        (2, CONFIG, "; it looks like a configuration"),
+        (2, SOURCE, ""),
+        (2, b"board-journal", ""),
+    ] {
+        let (inputs, fault) = match place {
+            0 => ([file, CONFIG, JOURNAL], elf),
+            1 => ([image.as_slice(), file, JOURNAL], config),
+            _ => ([image.as_slice(), CONFIG, file], journal),
+        };
+        let mut writer = Taking::new(alloc);
+        let result = run_failing(alloc, inputs, 0, 0, &mut writer);
+        let text = format!(in alloc; "{fault}{looks_like}")?;
+        assert_fault(&rt, alloc, result, text.as_str(), 1)?;
         assert_eq!(rt; writer.writes, 0);
     }
     Ok(())
