@@ -12,11 +12,20 @@ done < tests/usage.table
 
 "$board" words $'\xff' < /dev/null > "$work/out" 2> "$work/err"
 check "an argument that isn't UTF-8" 2 "$work/nothing" "board: an argument isn't UTF-8" $?
-"$board" --help > "$work/out" 2> "$work/err"
-got=$?
-cp "$work/out" "$work/wanted"
-grep -qx 'Usage: board <COMMAND>' "$work/out" || got="$got without a usage line"
-check "help that was asked for" 0 "$work/wanted" "" "$got"
+# Help that was asked for: tests/help has the whole texts.
+# shows NAME ARGUMENT..: asks for the text of that name.
+shows() {
+    local name=$1
+    shift
+    "$board" "$@" < /dev/null > "$work/out" 2> "$work/err"
+    check "help that was asked for: board $*" 0 "tests/help/$name" "" $?
+}
+for arguments in -h --help help; do shows board $arguments; done
+for name in words asm run debug; do
+    shows $name $name -h
+    shows $name $name --help
+    shows $name help $name
+done
 : > "$work/out"
 for arguments in -h --help help 'words -h' 'help asm'; do
     # shellcheck disable=SC2086

@@ -8,10 +8,62 @@ use brd_command::Request;
 use clap::{Arg, ArgAction, ArgMatches, Command, Error};
 use std::alloc::Global;
 
+/// What help says of the files.
+const FILES: &str = "\
+Files:
+  source         text in the assembler's language: an instruction or a directive a line
+  object file    a big-endian ELF32 executable for MIPS, as `board asm` writes it
+  configuration  text of statements: BOARD(..); first, then CRE_TSK(..); and so on
+  journal        text: `board-journal 1` first, then lines as `S 1 6`, six steps of processor 1
+
+Example:
+  board asm hello.s hello.elf
+  board run hello.elf hello.cfg hello.journal";
+
+/// What the help of `words` says of its input.
+const WORDS: &str = "\
+Words have eight hexadecimal digits, with blanks or newlines between them.
+
+Example:
+  echo 24080005 01084821 | board words 2";
+
+/// What the help of `asm` says of its files.
+const SOURCE: &str = "\
+A source is text: an instruction or a directive a line. OUT is created, or emptied if it is there.
+
+Example:
+  board asm hello.s hello.elf";
+
+/// What the help of `run` says of its files.
+const RUN: &str = "\
+`board asm` makes an object file of a source. A configuration begins with BOARD(..); and a journal
+with the line `board-journal 1`.
+
+Example:
+  board asm hello.s hello.elf
+  board run hello.elf hello.cfg hello.journal";
+
+/// What the help of `debug` says of its commands.
+const DEBUG: &str = "\
+Commands, one a line:
+  goto N   goes to position N, behind N events
+  next     goes forward to the next stop
+  back     goes backward to the last stop before
+  break X  sets a break at the instruction at X
+  watch X  sets a watch on the byte at X
+  regs C   prints the registers of processor C
+  mem X    prints the byte at X
+  quit     ends
+N and C are decimal numbers, X is an address of eight hexadecimal digits.
+
+Example:
+  board debug hello.elf hello.cfg hello.journal";
+
 /// What the program takes: a command and its arguments.
 pub fn board_command<'a>(alloc: Global) -> Result<Command<'a>, Error> {
     let board = Command::new(alloc, "board")
         .about("An emulated MIPS32 board for real-time software")
+        .after_help(FILES)
         .subcommand_required(true)
         .subcommand(words_command(alloc)?)?
         .subcommand(asm_command(alloc)?)?
@@ -29,6 +81,7 @@ fn words_command<'a>(alloc: Global) -> Result<Command<'a>, Error> {
         .help("How many instructions processor 1 executes, 0 to 1,000,000");
     let command = Command::new(alloc, "words")
         .about("Runs the words that standard input has in hexadecimal, and prints the registers")
+        .after_help(WORDS)
         .arg(steps)?;
     Ok(command)
 }
@@ -45,6 +98,7 @@ fn asm_command<'a>(alloc: Global) -> Result<Command<'a>, Error> {
         .help("Where the object file goes, an ELF32 executable");
     let command = Command::new(alloc, "asm")
         .about("Assembles a source to an object file")
+        .after_help(SOURCE)
         .arg(source)?
         .arg(out)?;
     Ok(command)
@@ -56,6 +110,7 @@ fn run_command<'a>(alloc: Global) -> Result<Command<'a>, Error> {
         alloc,
         "run",
         "Boots a board, lets it do the events of a journal, and prints a report",
+        RUN,
     )
 }
 
@@ -65,11 +120,17 @@ fn debug_command<'a>(alloc: Global) -> Result<Command<'a>, Error> {
         alloc,
         "debug",
         "Shows a board after any number of a journal's events, by commands from standard input",
+        DEBUG,
     )
 }
 
 /// A command that takes IMAGE, CONFIG and JOURNAL.
-fn with_inputs<'a>(alloc: Global, name: &'a str, about: &'a str) -> Result<Command<'a>, Error> {
+fn with_inputs<'a>(
+    alloc: Global,
+    name: &'a str,
+    about: &'a str,
+    after_help: &'a str,
+) -> Result<Command<'a>, Error> {
     let image = Arg::new(alloc, "IMAGE")
         .required(true)
         .action(ArgAction::Set)
@@ -84,6 +145,7 @@ fn with_inputs<'a>(alloc: Global, name: &'a str, about: &'a str) -> Result<Comma
         .help("A journal: the events that the board does");
     let command = Command::new(alloc, name)
         .about(about)
+        .after_help(after_help)
         .arg(image)?
         .arg(config)?
         .arg(journal)?;
