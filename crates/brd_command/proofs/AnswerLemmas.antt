@@ -3,15 +3,14 @@ use Rattle.std.proofs.Common.{◌≡◌, ◌+◌, ◌≤◌, ℕ, List, [], ◌�
 use Rattle.std.specs.Prelude.{◌⊎◌, Option, Some, None, IfSome, Result, Ok, Err}
 use Rattle.std.specs.Io.KnownBytes.{Appends}
 use Rattle.std.specs.declared.io.Error.{Error}
-use Rattle.std.proofs.lemmas.List.{append_assoc}
 use Rattle.brd_debug.specs.Debugger.{DebuggerState}
 use Rattle.brd_command.specs.Answers.{Does, HasDone}
 use Rattle.brd_command.specs.Answers.HasDone.{one_more as one_more_done}
 use Rattle.brd_command.specs.DebugLine.{command_lines, command_of, commands_of}
-use Rattle.brd_command.specs.Debugging.{debugger_of, AnswersToFirst, AnswersToAll, EndsAnswering, Debugs}
+use Rattle.brd_command.specs.Debugging.{debugger_of, AnswersCutShort, AnswersToAll, EndsAnswering, Debugs}
 use Rattle.brd_command.specs.Input.{most_bytes}
 use Rattle.brd_command.specs.Lines.{TakesLine, CountsLine}
-use Rattle.brd_command.specs.Output.{AppendsFront, Writes, WritesFront}
+use Rattle.brd_command.specs.Output.{AppendsFront, Writes}
 use Rattle.brd_command.specs.Start.{AreWithin, IsStart}
 use Rattle.brd_command.specs.declared.debug_line.DebugCommand.TheVariants.{Quit}
 use Rattle.brd_command.specs.declared.fault.CommandFault.{CommandFault}
@@ -41,7 +40,7 @@ module _ (first d : DebuggerState) (left after : Option (List ℕ)) (taken next 
           done = subst (λ cs. HasDone first (commands_of text) bytes d cs) (ap (map command_of) step.0) done;
           is_unread = step.1;
           over = refl;
-          within = omega (arith, counted, step.2, few);
+          within = omega (arith, counted, step.2, few.0);
         };
         written = written;
       }
@@ -100,23 +99,31 @@ module _ (first d : DebuggerState) (left after : Option (List ℕ)) (taken next 
 
       -- a front of the answer was written
       front_text : (text : List ℕ) → AppendsFront now new answer → IsAnswered first text left taken.bytes d old now
-          → WritesFront (AnswersToFirst first (commands_of text)) old new
+          → Writes (AnswersCutShort first (commands_of text)) old new
       front_text text front (rest, bytes, is, counted, done, written) =
           let step = subst (λ f. TakesLine rest taken f after next) some (takes rest is) in
           record {
-            bytes = bytes ++ answer;
-            are_meant = record { last = behind; left = commands_of step.0; done = done_more text rest bytes is done step.0 step.2 };
-            written = record {
-              front = bytes ++ front.front;
+            bytes = bytes ++ front.front;
+            are_meant = record {
+              before = bytes;
+              last = d;
+              command = command_of line;
+              left = commands_of step.0;
+              done = subst (λ cs. HasDone first (commands_of text) bytes d cs) (ap (map command_of) step.2) done;
+              answer = answer;
+              next = behind;
+              does = does;
+              front = front.front;
               rest = front.rest;
-              whole = append_assoc bytes front.front front.rest ∙ ap (λ (e : List ℕ). bytes ++ e) front.whole;
-              written = one_more old now new bytes front.front written front.written;
+              whole = front.whole;
+              cut = refl;
             };
+            written = one_more old now new bytes front.front written front.written;
           }
 
       pub front_answered : (input : Option (List ℕ)) → AppendsFront now new answer
           → ((text : List ℕ) → input ≡ Some text → IsAnswered first text left taken.bytes d old now)
-          → IfSome input (λ text. WritesFront (AnswersToFirst first (commands_of text)) old new)
+          → IfSome input (λ text. Writes (AnswersCutShort first (commands_of text)) old new)
       front_answered None front answered = tt
       front_answered (Some text) front answered = front_text text front (answered text refl)
 

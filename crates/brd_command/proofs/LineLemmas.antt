@@ -69,7 +69,7 @@ module _ (text : List ℕ) (left after : Option (List ℕ)) (before : ℕ) (old 
   text_ends [] (rest, is, lines, counted) is-found empty =
       let step = subst (λ f. TakesByte rest f after) is-found (takes rest is) in
       let same = subst (λ f. CountsByte old f new) is-found counts in
-      (lines ∙ ap command_lines step.0, step.1, omega (arith, counted, ap length step.0, same))
+      (lines ∙ ap command_lines step.0, step.1, omega (arith, counted, ap length step.0, same.0))
   text_ends (b ∷ bs) taken is-found empty = absurd (omega (arith, empty))
 
   -- the text had ended behind bytes of a line
@@ -82,5 +82,5 @@ module _ (text : List ℕ) (left after : Option (List ℕ)) (before : ℕ) (old 
         [],
         step.1,
         lines ∙ ap (λ t. with_front (b ∷ bs) (command_lines t)) step.0 ∙ front_is_last b bs,
-        omega (arith, counted, ap length step.0, same),
+        omega (arith, counted, ap length step.0, same.0),
       )

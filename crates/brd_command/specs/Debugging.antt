@@ -1,11 +1,11 @@
 -- The command `debug`: what it writes for what it reads, and how it ends where it doesn't.
-use Rattle.std.specs.Prelude.{◌≡◌, ◌⊎◌, ℕ, ◌+◌, ◌<◌, ◌≤◌, List, [], ◌∷◌, length, Option, Some, IfSome, Result, Ok, Err}
+use Rattle.std.specs.Prelude.{◌≡◌, ◌⊎◌, ℕ, ◌+◌, ◌<◌, ◌≤◌, List, [], ◌∷◌, ◌++◌, length, Option, Some, IfSome, Result, Ok, Err}
 use Rattle.std.specs.Io.KnownBytes.{Appends, Keeps}
 use Rattle.brd_debug.specs.Debugger.{DebuggerState}
-use Rattle.brd_command.specs.Answers.{HasDone}
+use Rattle.brd_command.specs.Answers.{Does, HasDone}
 use Rattle.brd_command.specs.DebugLine.{commands_of}
 use Rattle.brd_command.specs.Input.{most_bytes}
-use Rattle.brd_command.specs.Output.{Writes, WritesFront}
+use Rattle.brd_command.specs.Output.{Writes}
 use Rattle.brd_command.specs.Start.{AreWithin, IsStart, KeepsFromStarting}
 use Rattle.brd_command.specs.declared.debug_line.DebugCommand.{DebugCommand}
 use Rattle.brd_command.specs.declared.debug_line.DebugCommand.TheVariants.{Quit}
@@ -23,6 +23,21 @@ pub record AnswersToFirst (d : DebuggerState) (commands : List DebugCommand) (by
   pub last : DebuggerState
   pub left : List DebugCommand
   pub done : HasDone d commands bytes last left
+
+-- What a debugger answers to the first of some commands, and a front of its answer to the next of them.
+pub record AnswersCutShort (d : DebuggerState) (commands : List DebugCommand) (bytes : List ℕ) : Type 0 where
+  pub before : List ℕ
+  pub last : DebuggerState
+  pub command : DebugCommand
+  pub left : List DebugCommand
+  pub done : HasDone d commands before last (command ∷ left)
+  pub answer : List ℕ
+  pub next : DebuggerState
+  pub does : Does last command answer next
+  pub front : List ℕ
+  pub rest : List ℕ
+  pub whole : front ++ rest ≡ answer
+  pub cut : bytes ≡ before ++ front
 
 -- Nothing is left to do, where these commands and this text are left: the input has ended; or the next command is `quit`, and what stands
 -- behind it isn't read.
@@ -42,14 +57,14 @@ pub record AnswersToAll (d : DebuggerState) (text : List ℕ) (unread : Option (
   pub within : length text ≤ most_bytes + length rest
 
 -- Why a debugger ends before it has answered to all commands of a text. The answers to those before were written; where writing failed, a
--- front of them.
+-- front of the answer to the next one too.
 abbrev pub StopsAnswering : CommandFault → DebuggerState → List ℕ → Option (List ℕ) → Option (List ℕ) → Type 0
 StopsAnswering NoMemory d text old new = Writes (AnswersToFirst d (commands_of text)) old new
 StopsAnswering (Read from error) d text old new = (from ≡ StandardInput) × Writes (AnswersToFirst d (commands_of text)) old new
 StopsAnswering (TooLong from) d text old new =
     (from ≡ StandardInput) × (most_bytes < length text) × Writes (AnswersToFirst d (commands_of text)) old new
 StopsAnswering (TooManyReads from) d text old new = (from ≡ StandardInput) × Writes (AnswersToFirst d (commands_of text)) old new
-StopsAnswering (Write error) d text old new = WritesFront (AnswersToFirst d (commands_of text)) old new
+StopsAnswering (Write error) d text old new = Writes (AnswersCutShort d (commands_of text)) old new
 StopsAnswering _ d text old new = ⊥
 
 -- how a debugger ends whose commands are a text: it has answered to all, or was stopped

@@ -16,9 +16,9 @@ abbrev pub TakesByte : List ℕ → Option ℕ → Option (List ℕ) → Type 0
 TakesByte text None after = (text ≡ []) × (after ≡ Some [])
 TakesByte text (Some byte) after = (rest : List ℕ) × (after ≡ Some rest) × (text ≡ byte ∷ rest)
 
--- one byte more was taken, and not more than an input may have; or none
+-- one byte more was taken, and not more than an input may have; or none, and it is known that there are no more
 abbrev pub CountsByte : Taken → Option ℕ → Taken → Type 0
-CountsByte old None new = new.bytes ≡ old.bytes
+CountsByte old None new = (new.bytes ≡ old.bytes) × (new.ended ≡ true)
 CountsByte old (Some byte) new = (new.bytes ≡ old.bytes + 1) × (new.bytes ≤ most_bytes)
 
 -- Of an input with these bytes left the first line was taken, or none, since it has no more.
@@ -28,9 +28,9 @@ TakesLine text old (Some line) after new =
     (rest : List ℕ) × (after ≡ Some rest) × (command_lines text ≡ line ∷ command_lines rest)
     × (new.bytes + length rest ≡ old.bytes + length text)
 
--- some bytes more were taken, and not more than an input may have; or none
+-- some bytes more were taken, and not more than an input may have; or none, and it is known that there are no more
 abbrev pub CountsLine : Taken → Option (List ℕ) → Taken → Type 0
-CountsLine old None new = new.bytes ≤ most_bytes
+CountsLine old None new = (new.bytes ≤ most_bytes) × (new.ended ≡ true)
 CountsLine old (Some line) new = (old.bytes < new.bytes) × (new.bytes ≤ most_bytes)
 
 -- What may keep standard input, of which so many bytes were taken and these are left, from being read on. One that is called too long has

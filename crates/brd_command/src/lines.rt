@@ -1,6 +1,6 @@
 //! Reading standard input line by line, as it comes.
 
-ghost use Rattle.std.specs.Prelude.{◌≡◌, ℕ, ◌≤◌, List as ListOf, option_map, MatchResult, IfOk, Some as some};
+ghost use Rattle.std.specs.Prelude.{◌≡◌, ℕ, ◌≤◌, true, List as ListOf, option_map, MatchResult, IfOk, Some as some};
 ghost use Rattle.brd_command.specs.Input.{most_bytes};
 ghost use Rattle.brd_command.specs.Lines.{KnowsEnd, TakesByte, CountsByte, TakesLine, CountsLine, KeepsFromTaking};
 
@@ -56,11 +56,12 @@ pub fn next_line<R: Read>(
     Ok(Some(line))
 }
 
-/// The next byte, `None` at the end.
+/// The next byte, `None` at the end. An input that is known to have ended isn't read.
 fn next_byte<R: Read>(reader: &mut R, taken: &mut Taken) -> Result<Option<u8>, CommandFault>
     requires few { taken.old.bytes ≤ most_bytes }
     requires ended { KnowsEnd taken.old (R.remaining reader.old) }
     ensures counts { IfOk result (λ byte. CountsByte taken.old byte taken.new) }
+    ensures unread { taken.old.ended ≡ true → (reader.new ≡ reader.old) × (taken.new ≡ taken.old) }
     ensures ended { KnowsEnd taken.new (R.remaining reader.new) }
     ensures reads { taken.old.reads ≤ taken.new.reads }
     ensures takes { (text : ListOf ℕ) → R.remaining reader.old ≡ some text

@@ -55,6 +55,39 @@ fn each_read_of_commands_fails(rt: HostRuntime) -> Result<(), Fail> {
     Ok(())
 }
 
+/// The end of the commands is found by one read, also behind a last line without a newline. Behind `quit` none is done.
+#[test]
+fn the_end_of_commands_is_read_once(rt: HostRuntime) -> Result<(), Fail> {
+    let alloc = rt.alloc();
+    let image = image(alloc)?;
+    for (commands, reads) in [
+        (COMMANDS, COMMANDS.len().saturating_add(1)),
+        (b"goto 2\n", 8),
+        (b"goto 2", 7),
+        (b"", 1),
+        (b"\n", 2),
+        (b"quit\n", 5),
+        (b"quit", 5),
+        (b"goto 1\nquit\ngoto 2\n", 12),
+    ] {
+        let mut file = image.as_slice();
+        let mut config = CONFIG;
+        let mut journal = JOURNAL;
+        let mut reader = Bytewise::new(commands);
+        let mut writer = Taking::new(alloc);
+        debug(
+            alloc,
+            &mut file,
+            &mut config,
+            &mut journal,
+            &mut reader,
+            &mut writer,
+        )?;
+        assert_eq!(rt; reader.reads, reads);
+    }
+    Ok(())
+}
+
 /// Each answer is written and flushed. Where a write fails, a front of the answers has been written.
 #[test]
 fn each_write_of_answers_fails(rt: HostRuntime) -> Result<(), Fail> {
