@@ -7,3 +7,4 @@ pub mod LineLemmas
 pub mod AnswerLemmas
 pub mod StartLemmas
 pub mod RunLemmas
+pub mod DebugLineLemmas

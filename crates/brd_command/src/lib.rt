@@ -15,6 +15,7 @@ mod file_kind;
 mod files;
 mod input;
 mod input_name;
+pub mod laws;
 mod lines;
 mod output;
 mod report;
