@@ -2,6 +2,7 @@
 use Rattle.std.specs.Prelude.{◌≡◌, ℕ, List, Option, None, Some, codes}
 use Rattle.brd_command.specs.declared.request.Request.{Request}
 use Rattle.brd_command.specs.declared.request.Request.TheVariants.{Words, Asm, Run, Debug}
+use Rattle.brd_cli.specs.declared.usage.Inputs.{Inputs}
 
 -- a request is that of the command of this name
 abbrev pub IsNamed : Option (List ℕ) → Option Request → Type 0
@@ -18,18 +19,10 @@ IsAsmOf (Some s) (Some o) request = ⊥
 IsAsmOf (Some s) None request = request ≡ None
 IsAsmOf None o request = request ≡ None
 
--- of `run`, the names of IMAGE, CONFIG and JOURNAL, where all are there
-abbrev pub IsRunOf : Option (List ℕ) → Option (List ℕ) → Option (List ℕ) → Option Request → Type 0
-IsRunOf (Some i) (Some c) (Some j) (Some (Run image config journal)) = (image.now ≡ i) × (config.now ≡ c) × (journal.now ≡ j)
-IsRunOf (Some i) (Some c) (Some j) request = ⊥
-IsRunOf (Some i) (Some c) None request = request ≡ None
-IsRunOf (Some i) None j request = request ≡ None
-IsRunOf None c j request = request ≡ None
-
--- of `debug`, the names of IMAGE, CONFIG and JOURNAL, where all are there
-abbrev pub IsDebugOf : Option (List ℕ) → Option (List ℕ) → Option (List ℕ) → Option Request → Type 0
-IsDebugOf (Some i) (Some c) (Some j) (Some (Debug image config journal)) = (image.now ≡ i) × (config.now ≡ c) × (journal.now ≡ j)
-IsDebugOf (Some i) (Some c) (Some j) request = ⊥
-IsDebugOf (Some i) (Some c) None request = request ≡ None
-IsDebugOf (Some i) None j request = request ≡ None
-IsDebugOf None c j request = request ≡ None
+-- the names of IMAGE, CONFIG and JOURNAL, where all are there
+abbrev pub AreInputsOf : Option (List ℕ) → Option (List ℕ) → Option (List ℕ) → Option Inputs → Type 0
+AreInputsOf (Some i) (Some c) (Some j) (Some inputs) = (inputs.image.now ≡ i) × (inputs.config.now ≡ c) × (inputs.journal.now ≡ j)
+AreInputsOf (Some i) (Some c) (Some j) None = ⊥
+AreInputsOf (Some i) (Some c) None result = result ≡ None
+AreInputsOf (Some i) None j result = result ≡ None
+AreInputsOf None c j result = result ≡ None

@@ -2,7 +2,7 @@
 
 ghost use Rattle.std.specs.Prelude.{codes};
 ghost use Rattle.clap.specs.Words.{found_of, first_value, subcommand_name_of};
-ghost use Rattle.brd_cli.specs.Usage.{IsNamed, IsAsmOf, IsRunOf, IsDebugOf};
+ghost use Rattle.brd_cli.specs.Usage.{IsNamed, IsAsmOf, AreInputsOf};
 
 use brd_command::Request;
 use clap::{Arg, ArgAction, ArgMatches, Command, Error};
@@ -162,8 +162,30 @@ pub fn request_of<'a>(matches: &ArgMatches<'a>) -> Option<Request<'a>>
             Some(Request::Words { steps })
         }
         Some(("asm", of_asm)) => asm_request(of_asm),
-        Some(("run", of_run)) => run_request(of_run),
-        Some(("debug", of_debug)) => debug_request(of_debug),
+        Some(("run", of_run)) => {
+            let Inputs {
+                image,
+                config,
+                journal,
+            } = inputs_of(of_run)?;
+            Some(Request::Run {
+                image,
+                config,
+                journal,
+            })
+        }
+        Some(("debug", of_debug)) => {
+            let Inputs {
+                image,
+                config,
+                journal,
+            } = inputs_of(of_debug)?;
+            Some(Request::Debug {
+                image,
+                config,
+                journal,
+            })
+        }
         _ => None,
     }
 }
@@ -179,32 +201,24 @@ fn asm_request<'a>(arguments: &ArgMatches<'a>) -> Option<Request<'a>>
     }
 }
 
-/// The request of `run IMAGE CONFIG JOURNAL`.
-fn run_request<'a>(arguments: &ArgMatches<'a>) -> Option<Request<'a>>
-    ensures { IsRunOf (first_value (found_of arguments.now) (codes "IMAGE"))
-        (first_value (found_of arguments.now) (codes "CONFIG"))
-        (first_value (found_of arguments.now) (codes "JOURNAL")) result }
-{
-    let image = arguments.get_str("IMAGE")?;
-    let config = arguments.get_str("CONFIG")?;
-    let journal = arguments.get_str("JOURNAL")?;
-    Some(Request::Run {
-        image,
-        config,
-        journal,
-    })
+/// The names of the files of a command over a journal.
+#[derive(Clone, Copy)]
+struct Inputs<'a> {
+    image: &'a str,
+    config: &'a str,
+    journal: &'a str,
 }
 
-/// The request of `debug IMAGE CONFIG JOURNAL`.
-fn debug_request<'a>(arguments: &ArgMatches<'a>) -> Option<Request<'a>>
-    ensures { IsDebugOf (first_value (found_of arguments.now) (codes "IMAGE"))
+/// The names IMAGE, CONFIG and JOURNAL.
+fn inputs_of<'a>(arguments: &ArgMatches<'a>) -> Option<Inputs<'a>>
+    ensures { AreInputsOf (first_value (found_of arguments.now) (codes "IMAGE"))
         (first_value (found_of arguments.now) (codes "CONFIG"))
         (first_value (found_of arguments.now) (codes "JOURNAL")) result }
 {
     let image = arguments.get_str("IMAGE")?;
     let config = arguments.get_str("CONFIG")?;
     let journal = arguments.get_str("JOURNAL")?;
-    Some(Request::Debug {
+    Some(Inputs {
         image,
         config,
         journal,

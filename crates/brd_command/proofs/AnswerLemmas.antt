@@ -7,11 +7,12 @@ use Rattle.brd_debug.specs.Debugger.{DebuggerState}
 use Rattle.brd_command.specs.Answers.{Does, HasDone}
 use Rattle.brd_command.specs.Answers.HasDone.{one_more as one_more_done}
 use Rattle.brd_command.specs.DebugLine.{command_lines, command_of, commands_of}
-use Rattle.brd_command.specs.Debugging.{debugger_of, AnswersCutShort, AnswersToAll, EndsAnswering, Debugs}
+use Rattle.brd_command.specs.Debugging.{debugger_of, AnswersCutShort, AnswersToAll, IsOver, EndsAnswering, Debugs}
 use Rattle.brd_command.specs.Input.{most_bytes}
 use Rattle.brd_command.specs.Lines.{TakesLine, CountsLine}
 use Rattle.brd_command.specs.Output.{AppendsFront, Writes}
 use Rattle.brd_command.specs.Start.{AreWithin, IsStart}
+use Rattle.brd_command.specs.declared.debug_line.DebugCommand.{DebugCommand}
 use Rattle.brd_command.specs.declared.debug_line.DebugCommand.TheVariants.{Quit}
 use Rattle.brd_command.specs.declared.fault.CommandFault.{CommandFault}
 use Rattle.brd_command.specs.declared.lines.Taken.{Taken}
@@ -26,24 +27,22 @@ IsAnswered first text left taken d old now =
 
 module _ (first d : DebuggerState) (left after : Option (List ℕ)) (taken next : Taken) (found : Option (List ℕ)) (old now : Option (List ℕ))
     (takes : (t : List ℕ) → left ≡ Some t → TakesLine t taken found after next) (counts : CountsLine taken found next) where
+  -- nothing is left to do
+  all_done : (text bytes rest : List ℕ) (commands : List DebugCommand) → HasDone first (commands_of text) bytes d commands → after ≡ Some rest
+      → IsOver commands rest → length text ≤ most_bytes + length rest → Appends old now bytes → Writes (AnswersToAll first text after) old now
+  all_done text bytes rest commands done unread over within written = record {
+    bytes = bytes;
+    are_meant = record { last = d; left = commands; rest = rest; done = done; is_unread = unread; over = over; within = within };
+    written = written;
+  }
+
   -- the text has ended
   ended_text : (text : List ℕ) → found ≡ None → IsAnswered first text left taken.bytes d old now → Writes (AnswersToAll first text after) old now
   ended_text text none (rest, bytes, is, counted, done, written) =
       let step = subst (λ f. TakesLine rest taken f after next) none (takes rest is) in
       let few = subst (λ f. CountsLine taken f next) none counts in
-      record {
-        bytes = bytes;
-        are_meant = record {
-          last = d;
-          left = [];
-          rest = [];
-          done = subst (λ cs. HasDone first (commands_of text) bytes d cs) (ap (map command_of) step.0) done;
-          is_unread = step.1;
-          over = refl;
-          within = omega (arith, counted, step.2, few.0);
-        };
-        written = written;
-      }
+      all_done text bytes [] [] (subst (λ cs. HasDone first (commands_of text) bytes d cs) (ap (map command_of) step.0) done) step.1 refl
+      (omega (arith, counted, step.2, few.0)) written
 
   pub all_answered : (input : Option (List ℕ)) → found ≡ None → ((text : List ℕ) → input ≡ Some text → IsAnswered first text left taken.bytes d old now)
       → IfSome input (λ text. Writes (AnswersToAll first text after) old now)
@@ -57,19 +56,9 @@ module _ (first d : DebuggerState) (left after : Option (List ℕ)) (taken next 
     quit_text text quits (rest, bytes, is, counted, done, written) =
         let step = subst (λ f. TakesLine rest taken f after next) some (takes rest is) in
         let few = subst (λ f. CountsLine taken f next) some counts in
-        record {
-          bytes = bytes;
-          are_meant = record {
-            last = d;
-            left = command_of line ∷ commands_of step.0;
-            rest = step.0;
-            done = subst (λ cs. HasDone first (commands_of text) bytes d cs) (ap (map command_of) step.2) done;
-            is_unread = step.1;
-            over = (quits, refl);
-            within = omega (arith, counted, step.3, few.1);
-          };
-          written = written;
-        }
+        all_done text bytes step.0 (command_of line ∷ commands_of step.0)
+        (subst (λ cs. HasDone first (commands_of text) bytes d cs) (ap (map command_of) step.2) done) step.1 (quits, refl)
+        (omega (arith, counted, step.3, few.1)) written
 
     pub quit_answered : (input : Option (List ℕ)) → command_of line ≡ Quit
         → ((text : List ℕ) → input ≡ Some text → IsAnswered first text left taken.bytes d old now)
