@@ -12,14 +12,16 @@ use Rattle.brd_source.specs.declared.fault.LineFault.{LineFault}
 use Rattle.brd_source.specs.Statement.{Expression, Statement, Line}
 use Rattle.brd_source.specs.Statement.Statement.{Nothing, Instruct, Org, Align, Space, Data, Text, Equal}
 use Rattle.brd_source.specs.Lines.{line_of}
-use Rattle.brd_source.proofs.Names.{has_names, all_push}
+use Rattle.brd_source.specs.Tokens.{tokens_of}
+use Rattle.brd_source.proofs.GrammarExact.{line_back}
+use Rattle.brd_source.proofs.Names as source_names
 use Rattle.brd_asm.specs.declared.fault.AsmFault.{AsmFault}
 use Rattle.brd_asm.specs.declared.fault.AsmFault.TheVariants as fault
 use Rattle.brd_asm.specs.Values.{Name, named, value_of, known, within, up_to}
 use Rattle.brd_asm.specs.Layout.{Content, Piece, Layout, Effect, size_of, alignment_of, gap, effect_of, own_name, is_defined, define, labelled, check_is_new, are_in_ram, overlaps, filled, happened, read, placed, all_placed, nothing}
 use Rattle.brd_asm.specs.Layout.Content.{Code, Values, Bytes, Zeros}
 use Rattle.brd_asm.specs.Layout.Effect.{Stays, Moves, Equates, Fills}
-use Rattle.brd_asm.proofs.PairLemmas.{Pairwise, pairs_push}
+use Rattle.brd_asm.proofs.PairLemmas.{all_push, Pairwise, pairs_push}
 use Rattle.brd_asm.proofs.SpelledLemmas.{inside}
 
 -- a test that was passed
@@ -323,12 +325,14 @@ one_line line bytes s t e =
 -- the statement, behind the labels
 pub statement_goes_on : (line : ℕ) (bytes : List ℕ) (s t : Layout) (one : OneLine line bytes s t) → GoesOn (layout s.place one.names s.pieces) t
 statement_goes_on line bytes s t one =
-    let is = is_effect line s.place s.names one.said.statement one.effect (has_names bytes one.said one.says).equal one.effect_is in
+    let named = source_names.names (tokens_of bytes) one.said (line_back bytes one.said one.says) in
+    let is = is_effect line s.place s.names one.said.statement one.effect named.equal one.effect_is in
     happens line one.effect (layout s.place one.names s.pieces) t is one.happens
 
 pub line_goes_on : (line : ℕ) (bytes : List ℕ) (s t : Layout) → OneLine line bytes s t → GoesOn s t
 line_goes_on line bytes s t one =
-    let named = names_go_on s one.names one.labels.adds (one.labels.are (has_names bytes one.said one.says).labels) in
+    let said = source_names.names (tokens_of bytes) one.said (line_back bytes one.said one.says) in
+    let named = names_go_on s one.names one.labels.adds (one.labels.are said.labels) in
     goes_on_all s (layout s.place one.names s.pieces) t named (statement_goes_on line bytes s t one)
 
 -- ---- all lines

@@ -1,7 +1,10 @@
 -- Lists whose elements stand in a relation, each to all behind it.
 use Rattle.std.proofs.Common.{List, [], ◌∷◌, ◌++◌}
 use Rattle.std.specs.List.{AllByRecursion}
-use Rattle.brd_source.proofs.Names.{all_push}
+
+pub all_push : {A : Type 0} (P : A → Type 0) (xs : List A) (x : A) → AllByRecursion P xs → P x → AllByRecursion P (xs ++ x ∷ [])
+all_push P [] x hs h = (h, tt)
+all_push P (y ∷ xs) x hs h = (hs.0, all_push P xs x hs.1 h)
 
 abbrev pub Pairwise : {A : Type 0} → (A → A → Type 0) → List A → Type 0
 Pairwise R [] = Unit {0}
