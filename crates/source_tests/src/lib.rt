@@ -1,4 +1,4 @@
-//! Tests of brd_source: lines with statements that were worked out by hand, and lines that have none of the forms.
+//! Tests of brd_source: the names of the mnemonics, and the answers to lines in bulk.
 #![tactic(auto)]
 
 #[cfg(test)]
