@@ -75,11 +75,6 @@ fn with_objects(alloc: Global) -> Result<Kernel, ConfigFault> {
     Ok(kernel)
 }
 
-/// An answer without a second result.
-const fn just(word: u32) -> Reply {
-    Reply::Answer(word, None)
-}
-
 const OK: Reply = Reply::Answer(0, None);
 
 const PAR: Reply = Reply::Answer(0xffff_ffef, None);
@@ -152,47 +147,77 @@ fn making(rt: HostRuntime) -> Result<(), Fail> {
     Ok(())
 }
 
+const REFUSALS: &[(Call, Reply)] = &[
+    (Call::ActTsk(256), ID),
+    (Call::ActTsk(9), NOEXS),
+    (Call::CanAct(0xffff_ffff), ID),
+    (Call::CanAct(5), NOEXS),
+    (Call::TerTsk(0), ID),
+    (Call::TerTsk(7), NOEXS),
+    (Call::TerTsk(1), ILUSE),
+    (Call::TerTsk(4), OBJ),
+    (Call::ChgPri(256, 17), ID),
+    (Call::ChgPri(9, 17), PAR),
+    (Call::ChgPri(9, 16), NOEXS),
+    (Call::ChgPri(4, 16), OBJ),
+    (Call::GetPri(300), ID),
+    (Call::GetPri(9), NOEXS),
+    (Call::GetPri(4), OBJ),
+    (Call::WupTsk(300), ID),
+    (Call::WupTsk(9), NOEXS),
+    (Call::WupTsk(4), OBJ),
+    (Call::CanWup(300), ID),
+    (Call::CanWup(9), NOEXS),
+    (Call::CanWup(4), OBJ),
+    (Call::RelWai(0), ID),
+    (Call::RelWai(9), NOEXS),
+    (Call::RelWai(1), OBJ),
+    (Call::RelWai(4), OBJ),
+    (Call::SusTsk(300), ID),
+    (Call::SusTsk(9), NOEXS),
+    (Call::SusTsk(4), OBJ),
+    (Call::RsmTsk(0), ID),
+    (Call::RsmTsk(9), NOEXS),
+    (Call::RsmTsk(1), OBJ),
+    (Call::RsmTsk(4), OBJ),
+];
+
 /// Each refusal of each call, from task 1 on processor 1; of two reasons the earlier one in the order is answered.
 #[test]
 fn refusals(rt: HostRuntime) -> Result<(), Fail> {
     let mut kernel = two(rt.alloc())?;
-    let rows = [
-        (Call::ActTsk(256), ID),
-        (Call::ActTsk(9), NOEXS),
-        (Call::CanAct(0xffff_ffff), ID),
-        (Call::CanAct(5), NOEXS),
-        (Call::TerTsk(0), ID),
-        (Call::TerTsk(7), NOEXS),
-        (Call::TerTsk(1), ILUSE),
-        (Call::TerTsk(4), OBJ),
-        (Call::ChgPri(256, 17), ID),
-        (Call::ChgPri(9, 17), PAR),
-        (Call::ChgPri(9, 16), NOEXS),
-        (Call::ChgPri(4, 16), OBJ),
-        (Call::GetPri(300), ID),
-        (Call::GetPri(9), NOEXS),
-        (Call::GetPri(4), OBJ),
-        (Call::WupTsk(300), ID),
-        (Call::WupTsk(9), NOEXS),
-        (Call::WupTsk(4), OBJ),
-        (Call::CanWup(300), ID),
-        (Call::CanWup(9), NOEXS),
-        (Call::CanWup(4), OBJ),
-        (Call::RelWai(0), ID),
-        (Call::RelWai(9), NOEXS),
-        (Call::RelWai(1), OBJ),
-        (Call::RelWai(4), OBJ),
-        (Call::SusTsk(300), ID),
-        (Call::SusTsk(9), NOEXS),
-        (Call::SusTsk(4), OBJ),
-        (Call::RsmTsk(0), ID),
-        (Call::RsmTsk(9), NOEXS),
-        (Call::RsmTsk(1), OBJ),
-        (Call::RsmTsk(4), OBJ),
-    ];
-    assert_eq!(rt; first_other_of_one(&mut kernel, &rows), None);
+    assert_eq!(rt; first_other_of_one(&mut kernel, REFUSALS), None);
     Ok(())
 }
+
+const REFUSALS_OF_PROCESSORS: &[(Call, Reply)] = &[
+    (Call::MactTsk(256, 9), ID),
+    (Call::MactTsk(9, 0), PAR),
+    (Call::MactTsk(9, 3), PAR),
+    (Call::MactTsk(2, 0x101), PAR),
+    (Call::MactTsk(9, 2), NOEXS),
+    (Call::MactTsk(2, 1), QOVR),
+    (Call::ImactTsk(0, 1), ID),
+    (Call::ImactTsk(9, 3), PAR),
+    (Call::ImactTsk(2, 1), QOVR),
+    (Call::IactTsk(0), ID),
+    (Call::IactTsk(9), NOEXS),
+    (Call::IactTsk(2), QOVR),
+    (Call::IwupTsk(0), ID),
+    (Call::IwupTsk(4), OBJ),
+    (Call::MigTsk(256, 3), ID),
+    (Call::MigTsk(9, 3), PAR),
+    (Call::MigTsk(2, 0x102), PAR),
+    (Call::MigTsk(9, 1), NOEXS),
+    (Call::MigTsk(4, 1), OBJ),
+    (Call::MigTsk(0, 1), OBJ),
+    (Call::MigTsk(2, 1), OBJ),
+    (Call::RotRdq(17), PAR),
+    (Call::RotRdq(0x100), PAR),
+    (Call::IrotRdq(0), PAR),
+    (Call::IrotRdq(17), PAR),
+    (Call::IrotRdq(0x101), PAR),
+];
 
 /// Each refusal of each call that names a processor or turns a list, from processor 1; of two reasons the earlier one in the order is
 /// answered. Task 2 has a request queued.
@@ -200,35 +225,10 @@ fn refusals(rt: HostRuntime) -> Result<(), Fail> {
 fn refusals_of_processors(rt: HostRuntime) -> Result<(), Fail> {
     let mut kernel = two(rt.alloc())?;
     assert_eq!(rt; kernel.serve(1, Call::MactTsk(2, 2)), OK);
-    let rows = [
-        (Call::MactTsk(256, 9), ID),
-        (Call::MactTsk(9, 0), PAR),
-        (Call::MactTsk(9, 3), PAR),
-        (Call::MactTsk(2, 0x101), PAR),
-        (Call::MactTsk(9, 2), NOEXS),
-        (Call::MactTsk(2, 1), QOVR),
-        (Call::ImactTsk(0, 1), ID),
-        (Call::ImactTsk(9, 3), PAR),
-        (Call::ImactTsk(2, 1), QOVR),
-        (Call::IactTsk(0), ID),
-        (Call::IactTsk(9), NOEXS),
-        (Call::IactTsk(2), QOVR),
-        (Call::IwupTsk(0), ID),
-        (Call::IwupTsk(4), OBJ),
-        (Call::MigTsk(256, 3), ID),
-        (Call::MigTsk(9, 3), PAR),
-        (Call::MigTsk(2, 0x102), PAR),
-        (Call::MigTsk(9, 1), NOEXS),
-        (Call::MigTsk(4, 1), OBJ),
-        (Call::MigTsk(0, 1), OBJ),
-        (Call::MigTsk(2, 1), OBJ),
-        (Call::RotRdq(17), PAR),
-        (Call::RotRdq(0x100), PAR),
-        (Call::IrotRdq(0), PAR),
-        (Call::IrotRdq(17), PAR),
-        (Call::IrotRdq(0x101), PAR),
-    ];
-    assert_eq!(rt; first_other_of_one(&mut kernel, &rows), None);
+    assert_eq!(rt;
+        first_other_of_one(&mut kernel, REFUSALS_OF_PROCESSORS),
+        None
+    );
     Ok(())
 }
 
@@ -326,6 +326,49 @@ fn lines_of_eight_processors(rt: HostRuntime) -> Result<(), Fail> {
     Ok(())
 }
 
+const REFUSALS_OF_OBJECTS: &[(Call, Reply)] = &[
+    (Call::TslpTsk(BAD), PAR),
+    (Call::TslpTsk(0x8000_0000), PAR),
+    (Call::TslpTsk(POLL), TMOUT),
+    (Call::DlyTsk(0x8000_0000), PAR),
+    (Call::DlyTsk(FOREVER), PAR),
+    (Call::SigSem(0), ID),
+    (Call::SigSem(256), ID),
+    (Call::SigSem(3), NOEXS),
+    (Call::SigSem(1), QOVR),
+    (Call::TwaiSem(256, BAD), ID),
+    (Call::TwaiSem(3, BAD), PAR),
+    (Call::TwaiSem(1, BAD), PAR),
+    (Call::TwaiSem(3, POLL), NOEXS),
+    (Call::TwaiSem(2, POLL), TMOUT),
+    (Call::SetFlg(0, 1), ID),
+    (Call::SetFlg(3, 1), NOEXS),
+    (Call::ClrFlg(256, 1), ID),
+    (Call::ClrFlg(3, 1), NOEXS),
+    (Call::TwaiFlg(0, 0, 2, BAD), ID),
+    (Call::TwaiFlg(3, 0, 0, POLL), PAR),
+    (Call::TwaiFlg(3, 1, 2, POLL), PAR),
+    (Call::TwaiFlg(3, 1, 0, BAD), PAR),
+    (Call::TwaiFlg(3, 1, 0, POLL), NOEXS),
+    (Call::TwaiFlg(1, 0, 0, POLL), PAR),
+    (Call::TwaiFlg(1, 1, 0, POLL), ILUSE),
+    (Call::TwaiFlg(1, 4, 1, FOREVER), ILUSE),
+    (Call::TwaiFlg(2, 1, 1, POLL), TMOUT),
+    (Call::TsndDtq(256, 7, BAD), ID),
+    (Call::TsndDtq(3, 7, BAD), PAR),
+    (Call::TsndDtq(2, 7, BAD), PAR),
+    (Call::TsndDtq(3, 7, POLL), NOEXS),
+    (Call::TsndDtq(1, 7, POLL), TMOUT),
+    (Call::FsndDtq(0, 7), ID),
+    (Call::FsndDtq(3, 7), NOEXS),
+    (Call::FsndDtq(1, 7), ILUSE),
+    (Call::TrcvDtq(256, BAD), ID),
+    (Call::TrcvDtq(3, BAD), PAR),
+    (Call::TrcvDtq(2, BAD), PAR),
+    (Call::TrcvDtq(3, POLL), NOEXS),
+    (Call::TrcvDtq(2, POLL), TMOUT),
+];
+
 /// Each refusal of each call that names an object or a time; of two reasons the earlier one in the order is answered, also where the
 /// call could be done at once. Task 3 waits for a bit of flag 1.
 #[test]
@@ -336,132 +379,92 @@ fn refusals_of_objects(rt: HostRuntime) -> Result<(), Fail> {
         Reply::Silent
     );
     assert_eq!(rt; kernel.dispatch(), 2);
-    let rows = [
-        (Call::TslpTsk(BAD), PAR),
-        (Call::TslpTsk(0x8000_0000), PAR),
-        (Call::TslpTsk(POLL), TMOUT),
-        (Call::DlyTsk(0x8000_0000), PAR),
-        (Call::DlyTsk(FOREVER), PAR),
-        (Call::SigSem(0), ID),
-        (Call::SigSem(256), ID),
-        (Call::SigSem(3), NOEXS),
-        (Call::SigSem(1), QOVR),
-        (Call::TwaiSem(256, BAD), ID),
-        (Call::TwaiSem(3, BAD), PAR),
-        (Call::TwaiSem(1, BAD), PAR),
-        (Call::TwaiSem(3, POLL), NOEXS),
-        (Call::TwaiSem(2, POLL), TMOUT),
-        (Call::SetFlg(0, 1), ID),
-        (Call::SetFlg(3, 1), NOEXS),
-        (Call::ClrFlg(256, 1), ID),
-        (Call::ClrFlg(3, 1), NOEXS),
-        (Call::TwaiFlg(0, 0, 2, BAD), ID),
-        (Call::TwaiFlg(3, 0, 0, POLL), PAR),
-        (Call::TwaiFlg(3, 1, 2, POLL), PAR),
-        (Call::TwaiFlg(3, 1, 0, BAD), PAR),
-        (Call::TwaiFlg(3, 1, 0, POLL), NOEXS),
-        (Call::TwaiFlg(1, 0, 0, POLL), PAR),
-        (Call::TwaiFlg(1, 1, 0, POLL), ILUSE),
-        (Call::TwaiFlg(1, 4, 1, FOREVER), ILUSE),
-        (Call::TwaiFlg(2, 1, 1, POLL), TMOUT),
-        (Call::TsndDtq(256, 7, BAD), ID),
-        (Call::TsndDtq(3, 7, BAD), PAR),
-        (Call::TsndDtq(2, 7, BAD), PAR),
-        (Call::TsndDtq(3, 7, POLL), NOEXS),
-        (Call::TsndDtq(1, 7, POLL), TMOUT),
-        (Call::FsndDtq(0, 7), ID),
-        (Call::FsndDtq(3, 7), NOEXS),
-        (Call::FsndDtq(1, 7), ILUSE),
-        (Call::TrcvDtq(256, BAD), ID),
-        (Call::TrcvDtq(3, BAD), PAR),
-        (Call::TrcvDtq(2, BAD), PAR),
-        (Call::TrcvDtq(3, POLL), NOEXS),
-        (Call::TrcvDtq(2, POLL), TMOUT),
-    ];
-    assert_eq!(rt; first_other_of_one(&mut kernel, &rows), None);
+    assert_eq!(rt; first_other_of_one(&mut kernel, REFUSALS_OF_OBJECTS), None);
     Ok(())
 }
+
+const CALLS_OF_OBJECTS: &[(u8, Call, Reply, u8)] = &[
+    // Task 1 takes the one, and waits for the next; task 3 returns it.
+    (1, Call::TwaiSem(1, FOREVER), OK, 0),
+    (1, Call::TwaiSem(1, 5), Reply::Silent, 1),
+    (2, Call::SigSem(1), OK, 1),
+    (2, Call::SigSem(1), OK, 0),
+    // Flag 2 clears itself; flag 1 keeps its pattern.
+    (1, Call::TwaiFlg(2, 6, 0, FOREVER), Reply::Silent, 1),
+    (2, Call::SetFlg(2, 2), OK, 0),
+    (2, Call::SetFlg(2, 4), OK, 1),
+    (2, Call::TwaiFlg(2, 6, 1, POLL), TMOUT, 0),
+    (
+        2,
+        Call::TwaiFlg(1, 1, 0, POLL),
+        Reply::Answer(0, Some(1)),
+        0,
+    ),
+    (2, Call::ClrFlg(1, 0xffff_fffe), OK, 0),
+    (2, Call::TwaiFlg(1, 1, 0, POLL), TMOUT, 0),
+    // Queue 1 hands over; queue 2 stores two data, and the third in the place of the first.
+    (1, Call::TrcvDtq(1, FOREVER), Reply::Silent, 1),
+    (2, Call::FsndDtq(1, 7), ILUSE, 0),
+    (2, Call::TsndDtq(1, 7, POLL), OK, 1),
+    (1, Call::TsndDtq(2, 10, POLL), OK, 0),
+    (1, Call::TsndDtq(2, 11, POLL), OK, 0),
+    (1, Call::FsndDtq(2, 12), OK, 0),
+    (1, Call::TsndDtq(2, 13, FOREVER), Reply::Silent, 1),
+    (2, Call::TrcvDtq(2, POLL), Reply::Answer(0, Some(11)), 1),
+    (2, Call::TrcvDtq(2, POLL), Reply::Answer(0, Some(12)), 0),
+    (2, Call::TrcvDtq(2, POLL), Reply::Answer(0, Some(13)), 0),
+    (2, Call::TrcvDtq(2, POLL), TMOUT, 0),
+];
 
 /// Calls of objects one after the other, each from a processor, with what they answer, and which processors' running tasks change.
 #[test]
 fn calls_of_objects(rt: HostRuntime) -> Result<(), Fail> {
     let mut kernel = with_objects(rt.alloc())?;
-    let rows = [
-        // Task 1 takes the one, and waits for the next; task 3 returns it.
-        (1, Call::TwaiSem(1, FOREVER), OK, 0),
-        (1, Call::TwaiSem(1, 5), Reply::Silent, 1),
-        (2, Call::SigSem(1), OK, 1),
-        (2, Call::SigSem(1), OK, 0),
-        // Flag 2 clears itself; flag 1 keeps its pattern.
-        (1, Call::TwaiFlg(2, 6, 0, FOREVER), Reply::Silent, 1),
-        (2, Call::SetFlg(2, 2), OK, 0),
-        (2, Call::SetFlg(2, 4), OK, 1),
-        (2, Call::TwaiFlg(2, 6, 1, POLL), TMOUT, 0),
-        (
-            2,
-            Call::TwaiFlg(1, 1, 0, POLL),
-            Reply::Answer(0, Some(1)),
-            0,
-        ),
-        (2, Call::ClrFlg(1, 0xffff_fffe), OK, 0),
-        (2, Call::TwaiFlg(1, 1, 0, POLL), TMOUT, 0),
-        // Queue 1 hands over; queue 2 stores two data, and the third in the place of the first.
-        (1, Call::TrcvDtq(1, FOREVER), Reply::Silent, 1),
-        (2, Call::FsndDtq(1, 7), ILUSE, 0),
-        (2, Call::TsndDtq(1, 7, POLL), OK, 1),
-        (1, Call::TsndDtq(2, 10, POLL), OK, 0),
-        (1, Call::TsndDtq(2, 11, POLL), OK, 0),
-        (1, Call::FsndDtq(2, 12), OK, 0),
-        (1, Call::TsndDtq(2, 13, FOREVER), Reply::Silent, 1),
-        (2, Call::TrcvDtq(2, POLL), Reply::Answer(0, Some(11)), 1),
-        (2, Call::TrcvDtq(2, POLL), Reply::Answer(0, Some(12)), 0),
-        (2, Call::TrcvDtq(2, POLL), Reply::Answer(0, Some(13)), 0),
-        (2, Call::TrcvDtq(2, POLL), TMOUT, 0),
-    ];
-    assert_eq!(rt; first_other(&mut kernel, &rows), None);
+    assert_eq!(rt; first_other(&mut kernel, CALLS_OF_OBJECTS), None);
     Ok(())
 }
+
+const CALLS: &[(u8, Call, Reply, u8)] = &[
+    (1, Call::GetTid, Reply::Answer(0, Some(1)), 0),
+    (2, Call::GetPid, Reply::Answer(0, Some(2)), 0),
+    (2, Call::GetPri(0), Reply::Answer(0, Some(5)), 0),
+    // Task 4 starts, and comes first by a higher priority.
+    (1, Call::ActTsk(4), OK, 0),
+    (1, Call::ActTsk(4), OK, 0),
+    (1, Call::ActTsk(4), QOVR, 0),
+    (1, Call::ChgPri(4, 1), OK, 2),
+    (2, Call::GetTid, Reply::Answer(0, Some(4)), 0),
+    (1, Call::CanAct(4), Reply::Answer(1, None), 0),
+    (1, Call::CanAct(4), Reply::Answer(0, None), 0),
+    (1, Call::ActTsk(4), OK, 0),
+    // It ends, and starts again with its first priority.
+    (2, Call::ExtTsk, Reply::Silent, 2),
+    (1, Call::GetPri(4), Reply::Answer(0, Some(9)), 0),
+    // Task 1 takes a wake-up that was queued, then sleeps.
+    (2, Call::WupTsk(1), OK, 0),
+    (2, Call::WupTsk(1), QOVR, 0),
+    (1, Call::TslpTsk(0xffff_ffff), OK, 0),
+    (1, Call::TslpTsk(0xffff_ffff), Reply::Silent, 1),
+    (1, Call::GetTid, Reply::Answer(0, Some(2)), 0),
+    (1, Call::SusTsk(1), OK, 0),
+    (1, Call::SusTsk(1), QOVR, 0),
+    (2, Call::WupTsk(1), OK, 0),
+    (2, Call::RsmTsk(1), OK, 1),
+    (1, Call::TslpTsk(0xffff_ffff), Reply::Silent, 1),
+    (2, Call::RelWai(1), OK, 1),
+    (2, Call::WupTsk(0), OK, 0),
+    (2, Call::CanWup(0), Reply::Answer(1, None), 0),
+    (2, Call::CanWup(3), Reply::Answer(0, None), 0),
+    (2, Call::TerTsk(1), OK, 1),
+    (1, Call::PutChr(0x1_0048), OK, 0),
+    (1, Call::ExtKer, Reply::Silent, 0),
+];
 
 /// Calls one after the other, each from a processor, with what they answer, and which processors' running tasks change.
 #[test]
 fn calls(rt: HostRuntime) -> Result<(), Fail> {
     let mut kernel = two(rt.alloc())?;
-    let rows = [
-        (1, Call::GetTid, Reply::Answer(0, Some(1)), 0),
-        (2, Call::GetPid, Reply::Answer(0, Some(2)), 0),
-        (2, Call::GetPri(0), Reply::Answer(0, Some(5)), 0),
-        // Task 4 starts, and comes first by a higher priority.
-        (1, Call::ActTsk(4), OK, 0),
-        (1, Call::ActTsk(4), OK, 0),
-        (1, Call::ActTsk(4), QOVR, 0),
-        (1, Call::ChgPri(4, 1), OK, 2),
-        (2, Call::GetTid, Reply::Answer(0, Some(4)), 0),
-        (1, Call::CanAct(4), just(1), 0),
-        (1, Call::CanAct(4), just(0), 0),
-        (1, Call::ActTsk(4), OK, 0),
-        // It ends, and starts again with its first priority.
-        (2, Call::ExtTsk, Reply::Silent, 2),
-        (1, Call::GetPri(4), Reply::Answer(0, Some(9)), 0),
-        // Task 1 takes a wake-up that was queued, then sleeps.
-        (2, Call::WupTsk(1), OK, 0),
-        (2, Call::WupTsk(1), QOVR, 0),
-        (1, Call::TslpTsk(0xffff_ffff), OK, 0),
-        (1, Call::TslpTsk(0xffff_ffff), Reply::Silent, 1),
-        (1, Call::GetTid, Reply::Answer(0, Some(2)), 0),
-        (1, Call::SusTsk(1), OK, 0),
-        (1, Call::SusTsk(1), QOVR, 0),
-        (2, Call::WupTsk(1), OK, 0),
-        (2, Call::RsmTsk(1), OK, 1),
-        (1, Call::TslpTsk(0xffff_ffff), Reply::Silent, 1),
-        (2, Call::RelWai(1), OK, 1),
-        (2, Call::WupTsk(0), OK, 0),
-        (2, Call::CanWup(0), just(1), 0),
-        (2, Call::CanWup(3), just(0), 0),
-        (2, Call::TerTsk(1), OK, 1),
-        (1, Call::PutChr(0x1_0048), OK, 0),
-        (1, Call::ExtKer, Reply::Silent, 0),
-    ];
-    assert_eq!(rt; first_other(&mut kernel, &rows), None);
+    assert_eq!(rt; first_other(&mut kernel, CALLS), None);
     assert_eq!(rt; kernel.console(), b"H".as_slice());
     assert!(rt; kernel.is_off());
     Ok(())
