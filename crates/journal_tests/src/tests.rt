@@ -26,59 +26,91 @@ fn shown(alloc: Global, journal: &Journal) -> Result<String, AllocError> {
     Ok(text)
 }
 
+const EVENTS: &[Event] = &[
+    Event::Step(1),
+    Event::Step(1),
+    Event::Step(1),
+    Event::Tick,
+    Event::Step(2),
+    Event::Raise(4),
+];
+
+/// Appends events one by one, and returns how many were taken before the first that had no room.
+fn push_all(journal: &mut Journal, events: &[Event]) -> usize {
+    for (n, event) in events.iter().enumerate() {
+        if journal.push(*event).is_err() {
+            return n;
+        }
+    }
+    events.len()
+}
+
+/// Whether the events of a journal are these.
+fn has_events(journal: &Journal, events: &[Event]) -> bool {
+    for (n, event) in events.iter().enumerate() {
+        if journal.event_at(n as u64) != Some(*event) {
+            return false;
+        }
+    }
+    let len = events.len() as u64;
+    journal.len() == len
+        && journal.event_at(len).is_none()
+        && journal.event_at(u64::MAX).is_none()
+        && journal.is_empty() == events.is_empty()
+}
+
+/// Whether a journal is written as this text.
+fn is_written(alloc: Global, journal: &Journal, text: &[u8]) -> bool {
+    match journal.write_text(alloc) {
+        Ok(written) => written.as_slice() == text,
+        Err(_) => false,
+    }
+}
+
 #[test]
 fn appended(rt: HostRuntime) -> Result<(), Fail> {
-    let alloc = rt.alloc();
-    let events = [
-        Event::Step(1),
-        Event::Step(1),
-        Event::Step(1),
-        Event::Tick,
-        Event::Step(2),
-        Event::Raise(4),
-    ];
-    let mut journal = Journal::new(alloc, 4);
-    assert!(rt; journal.is_empty());
-    for event in events {
-        journal.push(event)?;
-    }
-    assert!(rt; !journal.is_empty());
-    assert_eq!(rt; journal.len(), 6);
-    let text = journal.write_text(alloc)?;
-    assert_eq!(rt;
-        text.as_slice(),
-        b"board-journal 1\nS 1 3\nT 1\nS 2 1\nR 4 1\n".as_slice()
+    let mut journal = Journal::new(rt.alloc(), 4);
+    assert!(rt; has_events(&journal, &[]));
+    assert_eq!(rt; push_all(&mut journal, EVENTS), 6);
+    assert!(rt; has_events(&journal, EVENTS));
+    assert!(rt;
+        is_written(
+            rt.alloc(),
+            &journal,
+            b"board-journal 1\nS 1 3\nT 1\nS 2 1\nR 4 1\n"
+        )
     );
-    for (n, event) in events.iter().enumerate() {
-        assert_eq!(rt; journal.event_at(n as u64), Some(*event));
-    }
-    assert_eq!(rt; journal.event_at(6), None);
-    assert_eq!(rt; journal.event_at(u64::MAX), None);
-
-    let mut small = Journal::new(alloc, 2);
-    for (n, event) in events.iter().enumerate() {
-        let answer = small.push(*event);
-        assert_eq!(rt;
-            answer,
-            if n < 4 {
-                Ok(())
-            } else {
-                Err(JournalFault::Full)
-            },
-            "{n}"
-        );
-    }
-    assert_eq!(rt; small.len(), 4);
-    assert_eq!(rt; shown(alloc, &small)?.as_str(), "S 1 3,T 1,");
     Ok(())
+}
+
+#[test]
+fn appended_up_to_the_limit(rt: HostRuntime) -> Result<(), Fail> {
+    let mut journal = Journal::new(rt.alloc(), 2);
+    assert_eq!(rt; push_all(&mut journal, EVENTS), 4);
+    assert_eq!(rt; journal.push(Event::Raise(4)), FULL);
+    assert_eq!(rt; shown(rt.alloc(), &journal)?.as_str(), "S 1 3,T 1,");
+    Ok(())
+}
+
+/// Appends runs. The first that is answered otherwise than it should, or leaves other runs.
+fn first_other(
+    alloc: Global,
+    journal: &mut Journal,
+    rows: &[(Event, u32, Result<(), JournalFault>, &str)],
+) -> Result<Option<(Event, u32)>, AllocError> {
+    for (event, count, answer, runs) in rows {
+        if journal.push_run(*event, *count) != *answer || shown(alloc, journal)?.as_str() != *runs {
+            return Ok(Some((*event, *count)));
+        }
+    }
+    Ok(None)
 }
 
 /// A run that has no room left, and what goes behind it.
 #[test]
 fn full_runs(rt: HostRuntime) -> Result<(), Fail> {
-    let alloc = rt.alloc();
-    let mut journal = Journal::new(alloc, 2);
-    for (event, count, expected, runs) in [
+    let mut journal = Journal::new(rt.alloc(), 2);
+    let rows = [
         (Event::Tick, MOST - 1, Ok(()), "T 4294967294,"),
         (Event::Tick, 0, Ok(()), "T 4294967294,"),
         (Event::Tick, 1, Ok(()), "T 4294967295,"),
@@ -87,35 +119,39 @@ fn full_runs(rt: HostRuntime) -> Result<(), Fail> {
         (Event::Tick, 2, FULL, "T 4294967295,T 4294967294,"),
         (Event::Step(0), 0, Ok(()), "T 4294967295,T 4294967294,"),
         (Event::Step(0), 1, FULL, "T 4294967295,T 4294967294,"),
-    ] {
-        assert_eq!(rt; journal.push_run(event, count), expected);
-        assert_eq!(rt; shown(alloc, &journal)?.as_str(), runs);
-    }
+    ];
+    assert_eq!(rt; first_other(rt.alloc(), &mut journal, &rows)?, None);
     assert_eq!(rt; journal.len(), 8_589_934_589);
     assert_eq!(rt; journal.event_at(8_589_934_588), Some(Event::Tick));
     assert_eq!(rt; journal.event_at(8_589_934_589), None);
     Ok(())
 }
 
-/// A run that goes past the room of the last one, and journals of limit 0.
+/// A run that goes past the room of the last one.
 #[test]
-fn limits(rt: HostRuntime) -> Result<(), Fail> {
-    let alloc = rt.alloc();
-    let mut across = Journal::new(alloc, 3);
-    across.push_run(Event::Raise(7), 5)?;
-    across.push_run(Event::Raise(7), MOST)?;
-    across.push_run(Event::Raise(6), MOST)?;
-    assert_eq!(rt;
-        shown(alloc, &across)?.as_str(),
-        "R 7 4294967295,R 7 5,R 6 4294967295,"
-    );
-    let mut none = Journal::new(alloc, 0);
-    assert_eq!(rt; none.push(Event::Tick), FULL);
-    assert_eq!(rt; none.push_run(Event::Tick, 0), Ok(()));
-    assert_eq!(rt;
-        none.write_text(alloc)?.as_slice(),
-        b"board-journal 1\n".as_slice()
-    );
+fn runs_across(rt: HostRuntime) -> Result<(), Fail> {
+    let mut journal = Journal::new(rt.alloc(), 3);
+    let rows = [
+        (Event::Raise(7), 5, Ok(()), "R 7 5,"),
+        (Event::Raise(7), MOST, Ok(()), "R 7 4294967295,R 7 5,"),
+        (
+            Event::Raise(6),
+            MOST,
+            Ok(()),
+            "R 7 4294967295,R 7 5,R 6 4294967295,",
+        ),
+    ];
+    assert_eq!(rt; first_other(rt.alloc(), &mut journal, &rows)?, None);
+    Ok(())
+}
+
+/// A journal that takes nothing.
+#[test]
+fn no_runs(rt: HostRuntime) -> Result<(), Fail> {
+    let mut journal = Journal::new(rt.alloc(), 0);
+    let rows = [(Event::Tick, 1, FULL, ""), (Event::Tick, 0, Ok(()), "")];
+    assert_eq!(rt; first_other(rt.alloc(), &mut journal, &rows)?, None);
+    assert!(rt; is_written(rt.alloc(), &journal, b"board-journal 1\n"));
     Ok(())
 }
 

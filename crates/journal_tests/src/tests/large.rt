@@ -1,12 +1,10 @@
 use brd_board::Event;
 use brd_journal::{Journal, JournalFault, MOST_RUNS, read_text};
+use std::alloc::Global;
 use std::test::Fail;
 
-/// As many runs as a journal can have.
-#[test]
-fn large(rt: HostRuntime) -> Result<(), Fail> {
-    let alloc = rt.alloc();
-    let mut journal = Journal::new(alloc, MOST_RUNS);
+/// Appends as many runs as a journal can have, each another event than the one before.
+fn fill(journal: &mut Journal) -> Result<(), JournalFault> {
     for n in 0..MOST_RUNS {
         let event = if n % 2 == 0 {
             Event::Step(255)
@@ -15,15 +13,34 @@ fn large(rt: HostRuntime) -> Result<(), Fail> {
         };
         journal.push_run(event, 4_000_000_000)?;
     }
+    Ok(())
+}
+
+/// Whether a text of a journal has its runs, and is refused where there is room for one less.
+fn is_read_again(alloc: Global, journal: &Journal, text: &[u8]) -> bool {
+    match read_text(alloc, text, MOST_RUNS) {
+        Ok(again) => again.runs() == journal.runs() && is_full_one_below(alloc, text),
+        Err(_) => false,
+    }
+}
+
+fn is_full_one_below(alloc: Global, text: &[u8]) -> bool {
+    match read_text(alloc, text, MOST_RUNS - 1) {
+        Ok(_) => false,
+        Err(fault) => fault == JournalFault::Full,
+    }
+}
+
+/// As many runs as a journal can have.
+#[test]
+fn large(rt: HostRuntime) -> Result<(), Fail> {
+    let alloc = rt.alloc();
+    let mut journal = Journal::new(alloc, MOST_RUNS);
+    fill(&mut journal)?;
     assert_eq!(rt; journal.push(Event::Tick), Err(JournalFault::Full));
     assert_eq!(rt; journal.len(), 16_777_216_000_000_000);
     let text = journal.write_text(alloc)?;
     assert_eq!(rt; text.len(), 16 + 17 * 4_194_304);
-    let again = read_text(alloc, &text, MOST_RUNS)?;
-    assert!(rt; again.runs() == journal.runs());
-    assert_eq!(rt;
-        read_text(alloc, &text, MOST_RUNS - 1).err(),
-        Some(JournalFault::Full)
-    );
+    assert!(rt; is_read_again(alloc, &journal, &text));
     Ok(())
 }
