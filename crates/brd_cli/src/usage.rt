@@ -1,8 +1,8 @@
 //! The command line.
 
-ghost use Rattle.std.specs.Prelude.{codes};
-ghost use Rattle.clap.specs.Words.{found_of, first_value, subcommand_name_of};
-ghost use Rattle.brd_cli.specs.Usage.{IsNamed, IsAsmOf, AreInputsOf};
+ghost use Rattle.std.specs.Prelude.{◌≡◌, codes, option_map};
+ghost use Rattle.clap.specs.Words.{first_of, found_of, one_of, rows_of, subcommand_rows_of};
+ghost use Rattle.brd_cli.specs.Usage.{AreSteps, AreWords, IsAsm, IsAsked, IsDebug, IsRequestOf, IsRun, inputs_in, source_and_out};
 
 use brd_command::Request;
 use clap::{Arg, ArgAction, ArgMatches, Command, Error};
@@ -154,73 +154,87 @@ fn with_inputs<'a>(
 
 /// What a command line asks for. `None` where a command or an argument is missing, which `clap` doesn't let through.
 pub fn request_of<'a>(matches: &ArgMatches<'a>) -> Option<Request<'a>>
-    ensures { IsNamed (subcommand_name_of matches.now) result }
+    ensures { IsAsked (subcommand_rows_of matches.now) result }
 {
-    match matches.subcommand() {
-        Some(("words", of_words)) => {
-            let steps = of_words.get_one::<u32>("STEPS")?;
-            Some(Request::Words { steps })
-        }
-        Some(("asm", of_asm)) => asm_request(of_asm),
-        Some(("run", of_run)) => {
-            let Inputs {
-                image,
-                config,
-                journal,
-            } = inputs_of(of_run)?;
-            Some(Request::Run {
-                image,
-                config,
-                journal,
-            })
-        }
-        Some(("debug", of_debug)) => {
-            let Inputs {
-                image,
-                config,
-                journal,
-            } = inputs_of(of_debug)?;
-            Some(Request::Debug {
-                image,
-                config,
-                journal,
-            })
-        }
+    let (name, arguments) = matches.subcommand()?;
+    request_named(name, arguments)
+}
+
+/// The request of the command of this name.
+fn request_named<'a>(name: &str, arguments: &ArgMatches<'a>) -> Option<Request<'a>>
+    ensures { IsRequestOf name.now (rows_of (found_of arguments.now)) result }
+{
+    match name {
+        "words" => words_request(arguments),
+        "asm" => asm_request(arguments),
+        "run" => run_request(arguments),
+        "debug" => debug_request(arguments),
         _ => None,
     }
 }
 
-/// The request of `asm SOURCE OUT`.
+/// The request of `words`, where STEPS is there.
+fn words_request<'a>(arguments: &ArgMatches<'a>) -> Option<Request<'a>>
+    ensures { AreWords (one_of (codes "STEPS") (rows_of (found_of arguments.now))) result }
+{
+    let steps = steps_of(arguments)?;
+    Some(Request::Words { steps })
+}
+
+/// The request of `asm`, where its files are there.
 fn asm_request<'a>(arguments: &ArgMatches<'a>) -> Option<Request<'a>>
-    ensures { IsAsmOf (first_value (found_of arguments.now) (codes "SOURCE"))
-        (first_value (found_of arguments.now) (codes "OUT")) result }
+    ensures { IsAsm (source_and_out (rows_of (found_of arguments.now))) result }
 {
-    match (arguments.get_str("SOURCE"), arguments.get_str("OUT")) {
-        (Some(source), Some(out)) => Some(Request::Asm { source, out }),
-        _ => None,
-    }
+    let source = text_of(arguments, "SOURCE")?;
+    let out = text_of(arguments, "OUT")?;
+    Some(Request::Asm { source, out })
 }
 
-/// The names of the files of a command over a journal.
-#[derive(Clone, Copy)]
-struct Inputs<'a> {
-    image: &'a str,
-    config: &'a str,
-    journal: &'a str,
-}
-
-/// The names IMAGE, CONFIG and JOURNAL.
-fn inputs_of<'a>(arguments: &ArgMatches<'a>) -> Option<Inputs<'a>>
-    ensures { AreInputsOf (first_value (found_of arguments.now) (codes "IMAGE"))
-        (first_value (found_of arguments.now) (codes "CONFIG"))
-        (first_value (found_of arguments.now) (codes "JOURNAL")) result }
+/// The request of `run`, where its files are there.
+fn run_request<'a>(arguments: &ArgMatches<'a>) -> Option<Request<'a>>
+    ensures { IsRun (inputs_in (rows_of (found_of arguments.now))) result }
 {
-    let image = arguments.get_str("IMAGE")?;
-    let config = arguments.get_str("CONFIG")?;
-    let journal = arguments.get_str("JOURNAL")?;
-    Some(Inputs {
+    let (image, config, journal) = inputs_of(arguments)?;
+    Some(Request::Run {
         image,
         config,
         journal,
     })
+}
+
+/// The request of `debug`, where its files are there.
+fn debug_request<'a>(arguments: &ArgMatches<'a>) -> Option<Request<'a>>
+    ensures { IsDebug (inputs_in (rows_of (found_of arguments.now))) result }
+{
+    let (image, config, journal) = inputs_of(arguments)?;
+    Some(Request::Debug {
+        image,
+        config,
+        journal,
+    })
+}
+
+/// The names IMAGE, CONFIG and JOURNAL, where all are there.
+fn inputs_of<'a>(arguments: &ArgMatches<'a>) -> Option<(&'a str, &'a str, &'a str)>
+    ensures { option_map (λ names. (names.0.now, names.1.now, names.2.now)) result
+        ≡ inputs_in (rows_of (found_of arguments.now)) }
+{
+    let image = text_of(arguments, "IMAGE")?;
+    let config = text_of(arguments, "CONFIG")?;
+    let journal = text_of(arguments, "JOURNAL")?;
+    Some((image, config, journal))
+}
+
+/// What was given for an argument.
+fn text_of<'a>(arguments: &ArgMatches<'a>, name: &str) -> Option<&'a str>
+    ensures { option_map (λ text. text.now) result ≡ first_of name.now (rows_of (found_of arguments.now)) }
+{
+    arguments.get_str(name)
+}
+
+/// The number that was given for STEPS.
+fn steps_of(arguments: &ArgMatches) -> Option<u32>
+    ensures { AreSteps (one_of (codes "STEPS") (rows_of (found_of arguments.now))) result }
+{
+    arguments.get_one::<u32>("STEPS")
 }
