@@ -11,6 +11,7 @@ assembles() {
 
 while IFS='|' read -r kind source other before; do
     case $kind in
+    '' | '#'*) ;;
     no)
         wrong=
         assembles "$source" "$work/object"
@@ -25,6 +26,8 @@ while IFS='|' read -r kind source other before; do
         cmp -s "$work/object" "$work/wanted" || wrong="$wrong; another object file than that of '$other'"
         verdict "lines: '$source'" "$wrong"
         ;;
+    *) fail "lines: $kind|$source" "there is no such kind of row" ;;
     esac
 done < tests/lines.table
+[ "$passed" -gt 0 ] || fail "lines" "lines.table has no row"
 summary
