@@ -6,7 +6,7 @@ use Rattle.std.proofs.lemmas.Bool.{cases_Bool, leb-true, ltb-true, lt-ltb, le-le
 use Rattle.std.proofs.Math.Nat.{mod-eq_of_lt}
 use Rattle.brd_text.specs.Bytes.{is_name, is_run_byte, begins_name, is_letter, is_digit}
 use Rattle.brd_text.specs.Faults.{◌>>=◌}
-use Rattle.brd_text.proofs.FaultLemmas.{bind_ok, ok_is}
+use Rattle.brd_text.proofs.FaultLemmas.{bind_ok}
 use Rattle.brd_base.specs.Space.{base, top}
 use Rattle.brd_mem.specs.Image.{AreNamed, IsPlain, byte_in, symbol_value}
 use Rattle.brd_mem.specs.Image as images
@@ -17,6 +17,7 @@ use Rattle.brd_isa.specs.declared.instruction.Insn.{Insn}
 use Rattle.brd_source.specs.Statement.{Instruction, Line}
 use Rattle.brd_source.specs.Statement.Statement.{Instruct}
 use Rattle.brd_source.specs.Lines.{line_of}
+use Rattle.brd_source.proofs.OptionLemmas.{some_is}
 use Rattle.brd_asm.specs.declared.fault.AsmFault.{AsmFault}
 use Rattle.brd_asm.specs.Values.{Name, named, modulo}
 use Rattle.brd_text.specs.Lines.{lines_of}
@@ -115,7 +116,7 @@ plain text program image e is =
 -- ---- lines
 
 -- what a line of a text says, and what the lines before it place
-front : (line : ℕ) (before : List (List ℕ)) (bytes : List ℕ) (behind : List (List ℕ)) (s u : Layout) → all_placed line (before ++ bytes ∷ behind) s ≡ Ok u → (t : Layout) × (said : Line) × (all_placed line before s ≡ Ok t) × (line_of bytes ≡ Ok said)
+front : (line : ℕ) (before : List (List ℕ)) (bytes : List ℕ) (behind : List (List ℕ)) (s u : Layout) → all_placed line (before ++ bytes ∷ behind) s ≡ Ok u → (t : Layout) × (said : Line) × (all_placed line before s ≡ Ok t) × (line_of bytes ≡ Some said)
 front line [] bytes behind s u e =
     let b = bind_ok (placed line bytes s) (all_placed (line + 1) behind) u e in
     let one = one_line line bytes s b.0 b.1 in
@@ -160,8 +161,8 @@ goes text number before behind bytes so_far s lines number_is front whole =
     let b = bind_ok (placed number bytes so_far) (all_placed (number + 1) behind) s rest in
     record { next = b.0; one = one_line number bytes so_far b.0 b.1; on = lines_go_on (number + 1) behind b.0 s b.2 }
 
-said_is : (bytes : List ℕ) (said other : Line) → line_of bytes ≡ Ok said → line_of bytes ≡ Ok other → other ≡ said
-said_is bytes said other e f = ok_is other said (sym f ∙ e)
+said_is : (bytes : List ℕ) (said other : Line) → line_of bytes ≡ Some said → line_of bytes ≡ Some other → other ≡ said
+said_is bytes said other e f = some_is other said (sym f ∙ e)
 
 pub labels : (text : List ℕ) (program : Program) (image : Image) → program_of text ≡ Ok program → IsImage program image → HasLabels text image
 labels text program image e is = λ number place said line.

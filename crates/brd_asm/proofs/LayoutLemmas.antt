@@ -1,5 +1,5 @@
 -- One line on: what stays of a layout, and what is new in it.
-use Rattle.std.proofs.Common.{◌≡◌, ℕ, ◌+◌, ◌^◌, ◌<◌, ◌≤◌, Bool, true, false, not, cond, eqb, ltb, leb, List, [], ◌∷◌, ◌++◌, length, Some, Result, Ok, Err, refl, sym, ap, ◌∙◌, subst, inl, inr, arith, append_assoc, append-nil}
+use Rattle.std.proofs.Common.{◌≡◌, ℕ, ◌+◌, ◌^◌, ◌<◌, ◌≤◌, Bool, true, false, not, cond, eqb, ltb, leb, List, [], ◌∷◌, ◌++◌, length, Option, None, Some, Ok, Err, refl, sym, ap, ◌∙◌, subst, inl, inr, arith, append_assoc, append-nil}
 use Rattle.std.specs.Prelude.{ℤ, pos, negsuc, bytes_eq, is_some, ◌⊎◌, ◌&&◌, ◌%◌}
 use Rattle.std.specs.List.{AllByRecursion}
 use Rattle.std.proofs.lemmas.Bool.{cases_Bool, leb-true, and_parts, true≢false}
@@ -8,12 +8,11 @@ use Rattle.brd_text.specs.Bytes.{is_name}
 use Rattle.brd_text.specs.Faults.{◌>>=◌}
 use Rattle.brd_text.proofs.FaultLemmas.{bind_ok}
 use Rattle.brd_base.specs.Space.{base, top}
-use Rattle.brd_source.specs.declared.fault.LineFault.{LineFault}
 use Rattle.brd_source.specs.Statement.{Expression, Statement, Line}
 use Rattle.brd_source.specs.Statement.Statement.{Nothing, Instruct, Org, Align, Space, Data, Text, Equal}
 use Rattle.brd_source.specs.Lines.{line_of}
 use Rattle.brd_source.specs.Tokens.{tokens_of}
-use Rattle.brd_source.proofs.GrammarExact.{line_back}
+use Rattle.brd_source.proofs.LineForm.{said_line}
 use Rattle.brd_source.proofs.Names as source_names
 use Rattle.brd_asm.specs.declared.fault.AsmFault.{AsmFault}
 use Rattle.brd_asm.specs.declared.fault.AsmFault.TheVariants as fault
@@ -294,16 +293,16 @@ happens line (Fills content) s t is e =
 -- what a line does, part by part
 pub record OneLine (line : ℕ) (bytes : List ℕ) (s t : Layout) : Type 0 where
   pub said : Line
-  pub says : line_of bytes ≡ Ok said
+  pub says : line_of bytes ≡ Some said
   pub names : List Name
   pub labels : Labels s.place said.labels s.names names
   pub effect : Effect
   pub effect_is : effect_of line s.place s.names said.statement ≡ Ok effect
   pub happens : happened line effect (record { place = s.place; names = names; pieces = s.pieces }) ≡ Ok t
 
-was_read : (line : ℕ) (r : Result Line LineFault) (said : Line) → read line r ≡ Ok said → r ≡ Ok said
-was_read line (Ok l) said e = ap (λ (l : Line). Ok l) (inside l said e)
-was_read line (Err f) said e = absurd (cc)
+was_read : (line : ℕ) (r : Option Line) (said : Line) → read line r ≡ Ok said → r ≡ Some said
+was_read line (Some l) said e = ap (λ (l : Line). Some l) (inside l said e)
+was_read line None said e = absurd (cc)
 
 pub one_line : (line : ℕ) (bytes : List ℕ) (s t : Layout) → placed line bytes s ≡ Ok t → OneLine line bytes s t
 unfolding placed
@@ -325,13 +324,13 @@ one_line line bytes s t e =
 -- the statement, behind the labels
 pub statement_goes_on : (line : ℕ) (bytes : List ℕ) (s t : Layout) (one : OneLine line bytes s t) → GoesOn (layout s.place one.names s.pieces) t
 statement_goes_on line bytes s t one =
-    let named = source_names.names (tokens_of bytes) one.said (line_back bytes one.said one.says) in
+    let named = source_names.names (tokens_of bytes) one.said (said_line bytes one.said one.says) in
     let is = is_effect line s.place s.names one.said.statement one.effect named.equal one.effect_is in
     happens line one.effect (layout s.place one.names s.pieces) t is one.happens
 
 pub line_goes_on : (line : ℕ) (bytes : List ℕ) (s t : Layout) → OneLine line bytes s t → GoesOn s t
 line_goes_on line bytes s t one =
-    let said = source_names.names (tokens_of bytes) one.said (line_back bytes one.said one.says) in
+    let said = source_names.names (tokens_of bytes) one.said (said_line bytes one.said one.says) in
     let named = names_go_on s one.names one.labels.adds (one.labels.are said.labels) in
     goes_on_all s (layout s.place one.names s.pieces) t named (statement_goes_on line bytes s t one)
 

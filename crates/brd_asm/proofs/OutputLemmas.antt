@@ -1,6 +1,6 @@
 -- The output of contents, one behind the other.
 use Rattle.std.proofs.lemmas.List.{drop_more}
-use Rattle.std.proofs.Common.{◌≡◌, ◌<◌, get_or, drop, ℕ, ◌+◌, List, [], ◌∷◌, ◌++◌, length, Result, Ok, Err, refl, sym, ap, ◌∙◌, append_assoc, append-nil, Vec, Global}
+use Rattle.std.proofs.Common.{◌≡◌, ◌<◌, get_or, drop, ℕ, ◌+◌, List, [], ◌∷◌, ◌++◌, length, Result, Ok, Err, refl, sym, ap, ◌∙◌, append_assoc, append-nil}
 use Rattle.std.specs.Prelude.{ℤ, pos}
 use Rattle.brd_source.specs.declared.statement.Width.{Width}
 use Rattle.brd_asm.specs.Values.{within}
@@ -15,7 +15,7 @@ use Rattle.brd_asm.specs.Values.{Name}
 use Rattle.brd_asm.specs.Layout.{Piece}
 use Rattle.brd_asm.specs.Meaning.{Meaning, Placed, content_meaning, meanings}
 use Rattle.brd_asm.specs.Image.{Spells, AreSpelled}
-use Rattle.brd_asm.specs.Output.{Adds, behind, all_bytes, IsOutput}
+use Rattle.brd_asm.specs.Output.{Adds, behind, all_bytes}
 
 -- these, in front of what a result has
 abbrev pub in_front_of : {A : Type 0} → List A → Result (List A) AsmFault → Result (List A) AsmFault
@@ -83,17 +83,6 @@ progress_more names pieces rest p before after so_far meets =
       output_is = m.2.2 ∙ ap (λ (xs : List ℕ). xs ++ m.2.0) so_far.output_is ∙ sym (bytes_push so_far.spelled segment);
       same = sym (in_front_more so_far.done placed (meanings names rest)) ∙ sym (ap (λ (r : Result (List Placed) AsmFault). in_front_of so_far.done r) e) ∙ so_far.same;
     }
-
-pub progress_fails : (names : List Name) (pieces rest : List Piece) (p : Piece) (before : List ℕ) (e : AsmFault) → Progress names pieces (p ∷ rest) before
-    → Fails is_no_memory e (content_meaning p.line p.place names p.content) → Fails is_no_memory e (meanings names pieces)
-progress_fails names pieces rest p before e so_far fails =
-    passed_on is_no_memory e (content_meaning p.line p.place names p.content) (meanings names pieces) fails (λ h.
-    let f : in_front_of so_far.done (meanings names (p ∷ rest)) ≡ Err e = rw h refl in
-    sym so_far.same ∙ f)
-
-pub progress_ends : (names : List Name) (pieces : List Piece) (output : Vec ℕ Global) → Progress names pieces [] output.items → Meets (λ (o : Vec ℕ Global) contents. IsOutput contents o.items) (Ok output) (meanings names pieces)
-progress_ends names pieces output so_far =
-    rw (sym so_far.same) (record { spelled = so_far.spelled; are_spelled = rw (append-nil so_far.done) so_far.are_spelled; output_is = so_far.output_is })
 
 -- what is left of a list, from its next item on
 pub next_item : {X : Type 0} (xs : List X) (i : ℕ) (x : X) → x ≡ get_or xs i x → i < length xs → drop i xs ≡ x ∷ drop (i + 1) xs

@@ -25,12 +25,12 @@ pub record IsLine (text : List ℕ) (number address : ℕ) (said : Line) : Type 
   pub so_far : Layout
   pub placed : all_placed 1 before nothing ≡ Ok so_far
   pub address_is : address ≡ so_far.place
-  pub says : line_of bytes ≡ Ok said
+  pub says : line_of bytes ≡ Some said
 
--- every line has an address, and says something
+-- every line has an address, and is read
 abbrev pub HasLines : List ℕ → Type 0
 HasLines text =
-    (before : List (List ℕ)) (bytes : List ℕ) (behind : List (List ℕ)) → lines_of text ≡ before ++ bytes ∷ behind → (address : ℕ) × (said : Line) × IsLine text (1 + length before) address said × (line_of bytes ≡ Ok said)
+    (before : List (List ℕ)) (bytes : List ℕ) (behind : List (List ℕ)) → lines_of text ≡ before ++ bytes ∷ behind → (address : ℕ) × (said : Line) × IsLine text (1 + length before) address said × (line_of bytes ≡ Some said)
 
 -- every label's value is the address of its line
 abbrev pub HasLabels : List ℕ → Image → Type 0
@@ -41,8 +41,8 @@ HasLabels text image =
 abbrev pub Lies : List Segment → ℕ → List ℕ → Type 0
 Lies segments address bytes = (i : ℕ) → i < length bytes → byte_in segments (address + i) ≡ slice_get bytes i
 
--- At the address of each line with an instruction lie the bytes of a word that stands for that instruction, its operands
--- computed with the values of all the source's names.
+-- At the address of each line with an instruction lie the bytes of a word that stands for that instruction, its
+-- operands computed with the values of all the source's names.
 abbrev pub HasInstructions : List ℕ → Image → Type 0
 HasInstructions text image =
     (program : Program) (number address : ℕ) (said : Line) (instruction : Instruction) → program_of text ≡ Ok program → IsLine text number address said → said.statement ≡ Instruct instruction

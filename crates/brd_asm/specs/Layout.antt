@@ -1,9 +1,8 @@
 -- Where the statements of a source stand, and what its names are. Faults in the order in which they count on a line.
 use Rattle.std.specs.Prelude.{ℕ, ◌+◌, ◌-◌, ◌*◌, ◌%◌, ◌^◌, ℤ, pos, negsuc, Bool, not, ◌&&◌, ◌==◌, nat_lt, nat_le, if◌then◌else◌, List, [], ◌∷◌, ◌++◌, length, Option, None, Some, is_some, Result, Ok, Err}
 use Rattle.std.specs.List.{list_any}
-use Rattle.brd_text.specs.Faults.{◌>>=◌}
+use Rattle.brd_text.specs.Faults.{◌>>=◌, or_fault}
 use Rattle.brd_base.specs.Space.{base, top}
-use Rattle.brd_source.specs.declared.fault.LineFault.{LineFault}
 use Rattle.brd_source.specs.declared.statement.Width.{Width}
 use Rattle.brd_source.specs.declared.statement.Width.TheVariants.{Byte, Half, Word}
 use Rattle.brd_source.specs.Statement.{Expression, Instruction, Statement, Line}
@@ -49,7 +48,8 @@ alignment_of (Values width values) = bytes_in width
 alignment_of (Bytes bytes) = 1
 alignment_of (Zeros n) = 1
 
--- what a statement does, apart from its labels: it moves the place, gives a name its value, fills addresses, or does nothing
+-- what a statement does, apart from its labels: it moves the place, gives a name its value, fills addresses, or does
+-- nothing
 pub data Effect : Type 0 where
   Stays : Effect
   Moves : ℕ → Effect
@@ -141,9 +141,9 @@ happened line (Equates name value) s = do
   Ok (record { place = s.place; names = names; pieces = s.pieces })
 happened line (Fills content) s = filled line content s
 
-abbrev pub read : ℕ → Result Line LineFault → Result Line AsmFault
-read line (Ok l) = Ok l
-read line (Err e) = Err (fault.Syntax line)
+-- what a line says, and Syntax where it has none of the language's forms
+abbrev pub read : ℕ → Option Line → Result Line AsmFault
+read line said = or_fault (fault.Syntax line) said
 
 -- a line's faults in this order: Syntax, Twice, UnknownName, Range, Misaligned, Overlap
 unfoldable pub placed : ℕ → List ℕ → Layout → Result Layout AsmFault

@@ -1,5 +1,5 @@
--- What the pieces of a source mean, with all names known. Of one line first the names count, then the ranges of its operands,
--- then the alignment of a target.
+-- What the pieces of a source mean, with all names known. Of one line first the names count, then the ranges of its
+-- operands, then the alignment of a target.
 use Rattle.std.specs.Prelude.{ℕ, ◌+◌, ◌-◌, ◌*◌, ◌/◌, ◌%◌, ◌^◌, ℤ, pos, negsuc, ◌-ℤ◌, ◌==◌, if◌then◌else◌, List, [], ◌∷◌, ◌++◌, replicate, Result, Ok, Err}
 use Rattle.std.specs.Int.{int_div_euclid}
 use Rattle.brd_text.specs.Faults.{◌>>=◌}
@@ -83,7 +83,8 @@ prefetch_in line names hint offset = do
   x ← signed_field line v
   Ok (n, x)
 
--- The instruction, with its numbers, that stands at a place: a line a form. A register is an operand or the base of an address.
+-- The instruction, with its numbers, that stands at a place: a line a form. A register is an operand or the base of an
+-- address.
 abbrev pub insn_of : ℕ → ℕ → List Name → Mnemonic → Operand → Operand → Operand → Result Insn AsmFault
 insn_of line place names (mnemonic.Shift op) a b c = number_in line names 31 c >>= λ n. Ok (insn.Shift op (register_in a) (register_in b) n)
 insn_of line place names (mnemonic.ShiftVariable op) a b c = Ok (insn.ShiftVariable op (register_in a) (register_in b) (register_in c))

@@ -1,4 +1,5 @@
--- The values of names and expressions: whole numbers with sign, which become patterns of bits only after their ranges are tested.
+-- The values of names and expressions: whole numbers with sign, which become patterns of bits only after their ranges
+-- are tested.
 use Rattle.std.specs.Prelude.{ℕ, ◌-◌, ◌%◌, ◌^◌, ℤ, pos, negsuc, ◌+ℤ◌, ◌≤ℤ◌, ◌&&◌, nat_le, int_le, if◌then◌else◌, List, [], ◌∷◌, Option, None, Some, option_map, bytes_eq, Result, Ok, Err}
 use Rattle.std.specs.Int.{int_div_euclid}
 use Rattle.brd_source.specs.Statement.{Expression, Immediate}
@@ -33,8 +34,8 @@ abbrev pub modulo : ℤ → ℕ → ℕ
 modulo (pos a) n = a % n
 modulo (negsuc a) n = n - 1 - a % n
 
--- The values of %hi and %lo: the halves of e such that the low one, read as signed, and 65,536 times the high one add up
--- to e modulo 2 to the 32nd (`laws::halves_add_up`).
+-- The values of %hi and %lo: the halves of e such that the low one, read as signed, and 65,536 times the high one add
+-- up to e modulo 2 to the 32nd (`laws::halves_add_up`).
 abbrev pub high_half : ℤ → ℕ
 high_half v = modulo (int_div_euclid (v +ℤ pos 0x8000) (pos 0x10000)) (2 ^ 16)
 

@@ -22,9 +22,10 @@ use std::alloc::Global;
 ///
 /// # Errors
 ///
-/// The first faulty line of the first group of faults: `Syntax`, `Twice`, `UnknownName`, `Range`, `Misaligned`, `Overlap`, of one
-/// line the first in this order. Without one, the first faulty line of the second group: `UnknownName`, `Range`,
-/// `Misaligned` of operands that may use the names of later lines. `NoMemory` where memory runs out, at whatever point.
+/// The first faulty line of the first group of faults: `Syntax`, `Twice`, `UnknownName`, `Range`, `Misaligned`,
+/// `Overlap`, of one line the first in this order. Without one, the first faulty line of the second group:
+/// `UnknownName`, `Range`, `Misaligned` of operands that may use the names of later lines. `NoMemory` where memory runs
+/// out, at whatever point.
 #[tactic(auto, unfolding(crate::specs::Image::program_of))]
 pub fn assemble(alloc: Global, text: &[u8]) -> Result<Image, AsmFault>
     // What the text means, or its first fault.

@@ -1,5 +1,5 @@
 -- What stands where a name has to be is a name.
-use Rattle.std.proofs.Common.{◌≡◌, ℕ, true, List, sym, subst}
+use Rattle.std.proofs.Common.{◌≡◌, ℕ, true, List, subst}
 use Rattle.brd_text.specs.Bytes.{is_name}
 use Rattle.brd_source.specs.declared.words.Word.{Word}
 use Rattle.brd_source.specs.Grammar.{Says, StatementIs, LineIs}
@@ -8,7 +8,7 @@ use Rattle.brd_source.specs.Grammar.StatementIs.{left_out, begins}
 use Rattle.brd_source.specs.Grammar.LineIs.{statement, label}
 use Rattle.brd_source.specs.Names.{HasNames}
 use Rattle.brd_source.specs.Statement.{Expression, Statement, Line}
-use Rattle.brd_source.specs.Statement.Statement.{Nothing, Equal}
+use Rattle.brd_source.specs.Statement.Statement.{Equal}
 use Rattle.brd_source.specs.Tokens.{Token}
 
 same_name : (given name : List ℕ) (e value : Expression) → Equal given e ≡ Equal name value → given ≡ name

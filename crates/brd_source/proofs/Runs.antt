@@ -2,14 +2,22 @@
 use Rattle.std.proofs.Common.{◌≡◌, ℕ, suc, ◌+◌, sym, Bool, true, false, not, ◌||◌, List, [], ◌∷◌, drop, take, Option, Some, None, refl, ap, ◌∙◌, inl, inr, arith}
 use Rattle.std.proofs.lemmas.Bool.{cases_Bool, not-true, and_parts}
 use Rattle.std.proofs.lemmas.Bool.Decides.{nat_tests}
-use Rattle.std.specs.Prelude.{nat_eq, option_map}
+use Rattle.std.specs.Prelude.{nat_eq, option_map, take_while}
 use Rattle.std.specs.List.{prefix_len}
 use Rattle.brd_text.specs.Bytes.{is_letter, is_digit, is_run_byte, is_space}
 use Rattle.brd_text.proofs.Runs.{run_len}
-use Rattle.brd_source.specs.Tokens.{Token, Place, opens_comment, ends_string, escapes, string_len, quoted, tokens_in}
+use Rattle.brd_source.specs.Tokens.{Token, Place, opens_comment, string_len, quoted, tokens_in}
 use Rattle.brd_source.specs.Tokens.Token.{Run, Percent, Mark}
 use Rattle.brd_source.specs.Tokens.Place.{Between, InRun, InString, Escaped, InComment}
-use Rattle.brd_source.specs.Fronts.{begins_token, Begins}
+use Rattle.brd_source.specs.Fronts.{begins_token}
+
+-- A line begins with this token, and goes on so behind it.
+abbrev pub Begins : List ℕ → Token → List ℕ → Type 0
+Begins line token behind = tokens_in Between line ≡ token ∷ tokens_in Between behind
+
+-- a token, and others behind it, in two steps
+same_tokens : (t u : Token) (ts us : List Token) → t ≡ u → ts ≡ us → t ∷ ts ≡ u ∷ us
+same_tokens t u ts us e f = ap (λ (v : Token). v ∷ ts) e ∙ ap (λ (vs : List Token). u ∷ vs) f
 
 -- ---- bytes by kind
 
@@ -46,9 +54,6 @@ comment_step b left bs e opens =
     let none = opens-is b bs opens in
     rw (e, none.0, none.1, opens, or_true (is_space b)) (in_comment bs)
 
-pub at_token : (b : ℕ) (left bs : List ℕ) → left ≡ b ∷ bs → is_space b ≡ false → opens_comment b bs ≡ false → begins_token left ≡ true
-at_token b left bs e blank opens = rw (e, blank, opens) refl
-
 -- ---- runs
 
 -- behind the run that stands here
@@ -65,17 +70,16 @@ run_behind : (b n : ℕ) (bs : List ℕ) → n ≡ suc (prefix_len is_run_byte b
 run_behind b n bs e = rw e (run_rest bs)
 
 run_at : (b n : ℕ) (bs : List ℕ) → is_run_byte b ≡ true → n ≡ prefix_len is_run_byte (b ∷ bs) → Begins (b ∷ bs) (Run (take n (b ∷ bs))) (drop n (b ∷ bs))
-run_at b n bs h e = record {
-  token = rw (e, h) refl;
-  rest = rw h (run_behind b n bs (run_len b n bs h e));
-}
+run_at b n bs h e =
+    let front : tokens_in Between (b ∷ bs) ≡ Run (take_while is_run_byte (b ∷ bs)) ∷ tokens_in InRun bs = rw h refl in
+    front ∙ same_tokens (Run (take_while is_run_byte (b ∷ bs))) (Run (take n (b ∷ bs))) (tokens_in InRun bs) (tokens_in Between (drop n (b ∷ bs))) (rw e refl) (run_behind b n bs (run_len b n bs h e))
 
 pub run_front : (b n : ℕ) (line bs : List ℕ) → line ≡ b ∷ bs → is_run_byte b ≡ true → n ≡ prefix_len is_run_byte line → Begins line (Run (take n line)) (drop n line)
 run_front b n line bs e h len = rw e (run_at b n bs h (rw e at len))
 
 percent_at : (n : ℕ) (bs : List ℕ) → n ≡ prefix_len is_run_byte bs → Begins (37 ∷ bs) (Percent (take n bs)) (drop n bs)
 unfolding is_space is_run_byte is_letter is_digit
-percent_at n bs e = record { token = rw e refl; rest = rw e (run_rest bs) }
+percent_at n bs e = same_tokens (Percent (take_while is_run_byte bs)) (Percent (take n bs)) (tokens_in InRun bs) (tokens_in Between (drop n bs)) (rw e refl) (rw e (run_rest bs))
 
 pub percent_front : (b n : ℕ) (line bs : List ℕ) → line ≡ b ∷ bs → b ≡ 37 → n ≡ prefix_len is_run_byte bs → Begins line (Percent (take n bs)) (drop n bs)
 percent_front b n line bs e h len = rw (e, h) (percent_at n bs len)
@@ -122,26 +126,15 @@ behind_open bs e = string_over false bs ∙ ap (λ (o : Option ℕ). behind_stri
 
 string_at_front : (bs : List ℕ) (token : Token) (behind : List ℕ) → quoted (string_len false bs) bs ≡ token → tokens_in InString bs ≡ tokens_in Between behind → Begins (34 ∷ bs) token behind
 unfolding is_space is_run_byte is_letter is_digit
-string_at_front bs token behind e f = record { token = e; rest = f }
+string_at_front bs token behind e f = same_tokens (quoted (string_len false bs) bs) token (tokens_in InString bs) (tokens_in Between behind) e f
 
 pub string_front : (b : ℕ) (line bs : List ℕ) (token : Token) (behind : List ℕ) → line ≡ b ∷ bs → b ≡ 34 → quoted (string_len false bs) bs ≡ token → tokens_in InString bs ≡ tokens_in Between behind → Begins line token behind
 string_front b line bs token behind e h f g = rw (e, h) (string_at_front bs token behind f g)
 
--- one byte of a string on
-counted : (n : ℕ) (o : Option ℕ) → option_map (λ k. n + k) (option_map (λ k. suc k) o) ≡ option_map (λ k. n + 1 + k) o
-counted n (Some k) = ap (λ (m : ℕ). Some m) (omega arith)
-counted n None = refl
-
-pub string_more : (n i b : ℕ) (escaped next : Bool) (bytes bs : List ℕ) → drop i bytes ≡ b ∷ bs → ends_string escaped b ≡ false → next ≡ escapes escaped b → option_map (λ k. n + k) (string_len escaped (drop i bytes)) ≡ option_map (λ k. n + 1 + k) (string_len next bs)
-string_more n i b escaped next bytes bs e h f = rw (e, h, f) (counted n (string_len (escapes escaped b) bs))
-
 -- ---- marks
 
 mark_at_front : (b : ℕ) (bs : List ℕ) → is_run_byte b ≡ false → nat_eq b 37 ≡ false → nat_eq b 34 ≡ false → is_space b ≡ false → opens_comment b bs ≡ false → Begins (b ∷ bs) (Mark b) bs
-mark_at_front b bs h percent quote blank opens = record {
-  token = rw (h, percent, quote, blank, opens) refl;
-  rest = rw (h, percent, quote, blank, opens) refl;
-}
+mark_at_front b bs h percent quote blank opens = rw (h, percent, quote, blank, opens) refl
 
 pub mark_front : (b : ℕ) (line bs : List ℕ) → line ≡ b ∷ bs → is_run_byte b ≡ false → nat_eq b 37 ≡ false → nat_eq b 34 ≡ false → begins_token line ≡ true → Begins line (Mark b) bs
 mark_front b line bs e h percent quote at =

@@ -1,9 +1,7 @@
 -- The instruction of a line has the operands that its mnemonic takes.
-use Rattle.std.proofs.Common.{◌≡◌, true, List, Ok, refl, sym, ap, ◌∙◌, subst}
+use Rattle.std.proofs.Common.{◌≡◌, true, List, Some, refl, subst}
 use Rattle.std.specs.Prelude.{◌&&◌}
 use Rattle.std.proofs.lemmas.Bool.{and_parts}
-use Rattle.brd_text.proofs.FaultLemmas.{passed}
-use Rattle.brd_source.specs.declared.fault.LineFault.TheVariants.{Syntax}
 use Rattle.brd_source.specs.declared.forms.Kind.{Kind}
 use Rattle.brd_source.specs.declared.forms.Kind.TheVariants.{Nothing, Register, Number}
 use Rattle.brd_source.specs.declared.words.Shorthand.{Shorthand}
@@ -17,13 +15,14 @@ use Rattle.brd_source.specs.Grammar.LineIs.{statement, label}
 use Rattle.brd_source.specs.Statement.{Operands, Instruction, Statement, Line}
 use Rattle.brd_source.specs.Statement.Statement.{Instruct}
 use Rattle.brd_source.specs.Tokens.{Token}
+use Rattle.brd_source.proofs.OptionLemmas.{some_is, tested}
 
-taken_are : (form : Kind × Kind × Kind) (written operands : Operands) → taken form written ≡ Ok operands → are_of form operands ≡ true
+taken_are : (form : Kind × Kind × Kind) (written operands : Operands) → taken form written ≡ Some operands → are_of form operands ≡ true
 unfolding taken
 taken_are form written operands e =
     let all : Operands = completed form (linked form.0 written) in
-    let p = passed (are_of form all) Syntax all operands e in
-    subst (λ (os : Operands). are_of form os ≡ true) p.1 p.0
+    let p = tested (are_of form all) (Some all) operands e in
+    subst (λ (os : Operands). are_of form os ≡ true) (some_is all operands p.1) p.0
 
 HaveForm : Instruction → Type 0
 HaveForm i = are_of (form_of i.mnemonic) i.operands ≡ true

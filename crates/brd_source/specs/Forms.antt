@@ -1,13 +1,11 @@
 -- Which operands each mnemonic and each shorthand takes: a line a form.
-use Rattle.std.specs.Prelude.{ℕ, Bool, true, false, ◌&&◌, if◌then◌else◌, Result, Ok, Err}
+use Rattle.std.specs.Prelude.{ℕ, Bool, true, false, ◌&&◌, if◌then◌else◌, Option, Some, None}
 use Rattle.brd_isa.specs.declared.instruction.ShiftOp.TheVariants.{Sll}
 use Rattle.brd_isa.specs.declared.instruction.RegisterOp.TheVariants.{Addu}
 use Rattle.brd_isa.specs.declared.instruction.BranchOp.TheVariants.{Beq, Bne}
 use Rattle.brd_isa.specs.declared.instruction.BranchRegimmOp.TheVariants.{Bgezal}
 use Rattle.brd_isa.specs.declared.mnemonic.Mnemonic.{Mnemonic}
 use Rattle.brd_isa.specs.declared.mnemonic.Mnemonic.TheVariants as mnemonic
-use Rattle.brd_source.specs.declared.fault.LineFault.{LineFault}
-use Rattle.brd_source.specs.declared.fault.LineFault.TheVariants.{Syntax}
 use Rattle.brd_source.specs.declared.forms.Kind.{Kind}
 use Rattle.brd_source.specs.declared.forms.Kind.TheVariants.{Nothing, Register, Link, Number, Code, Value, Address}
 use Rattle.brd_source.specs.declared.words.Shorthand.{Shorthand}
@@ -111,6 +109,6 @@ abbrev pub completed : Kind × Kind × Kind → Operands → Operands
 completed form os = (filled form.0 os.0, filled form.1 os.1, filled form.2 os.2)
 
 -- the operands of this form that are written so, none left out
-unfoldable pub taken : Kind × Kind × Kind → Operands → Result Operands LineFault
+unfoldable pub taken : Kind × Kind × Kind → Operands → Option Operands
 taken form os =
-    if are_of form (completed form (linked form.0 os)) then Ok (completed form (linked form.0 os)) else Err Syntax
+    if are_of form (completed form (linked form.0 os)) then Some (completed form (linked form.0 os)) else None

@@ -1,22 +1,33 @@
--- What the scanner's parts find at the front of a line.
+-- What parts of the code find at the front of bytes or tokens.
 -- Only private functions' contracts name this; what a line says doesn't.
-use Rattle.std.specs.Prelude.{◌≡◌, ℕ, Bool, true, not, ◌&&◌, List, [], ◌∷◌}
+use Rattle.std.specs.Prelude.{ℕ, Bool, true, not, ◌&&◌, if◌then◌else◌, List, [], ◌∷◌, Option, Some, None}
 use Rattle.brd_text.specs.Bytes.{is_space}
-use Rattle.brd_source.specs.Tokens.{Token, opens_comment, tokens_in, first, others}
-use Rattle.brd_source.specs.Tokens.Token.{End}
+use Rattle.brd_source.specs.Lines.{is_label}
+use Rattle.brd_source.specs.Reading.{parts}
+use Rattle.brd_source.specs.Tokens.{Token, opens_comment, tokens_in}
 use Rattle.brd_source.specs.Tokens.Place.{Between}
+use Rattle.brd_source.specs.Tokens.Token.{Run, Mark}
 
 -- nothing, or a byte that is no blank and begins no comment
 abbrev pub begins_token : List ℕ → Bool
 begins_token [] = true
 begins_token (b ∷ bs) = not (is_space b) && not (opens_comment b bs)
 
--- A line begins with this token, and goes on so behind it.
-pub record Begins (line : List ℕ) (front : Token) (behind : List ℕ) : Type 0 where
-  pub token : first (tokens_in Between line) ≡ front
-  pub rest : others (tokens_in Between line) ≡ tokens_in Between behind
+-- a token and those of what is behind it; none where there is nothing
+abbrev pub fronted : Option (Token × List ℕ) → List Token
+fronted None = []
+fronted (Some front) = front.0 ∷ tokens_in Between front.1
 
--- tokens that begin with this one, none where it is the end
-abbrev pub fronted : Token → List Token → List Token
-fronted End tokens = []
-fronted token tokens = token ∷ tokens
+-- the parts behind a comma; none where no comma stands
+abbrev pub parts_behind : Option (List Token) → List (List Token)
+parts_behind None = []
+parts_behind (Some tokens) = parts tokens
+
+-- the label at the front
+abbrev pub label_of : List Token → Option (List ℕ)
+label_of (Run run ∷ Mark b ∷ tokens) = if is_label run b then Some run else None
+label_of _ = None
+
+-- labels, and the tokens behind them
+abbrev pub Labelled : Type 0
+Labelled = List (List ℕ) × List Token

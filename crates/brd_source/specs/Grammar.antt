@@ -1,7 +1,7 @@
--- The grammar of lines: which tokens, of those that bytes spell (Spelling), say what. What a single token stands for (a register, a number, a string)
--- is shared with the reading: Registers, brd_text's Numbers, Texts; so are the tables of names (Words) and of the operands that each word takes
--- (Forms). What is read as a line is just what has this form.
-use Rattle.std.specs.Prelude.{◌≡◌, ℕ, ℤ, pos, true, List, [], ◌∷◌, ◌++◌, Some, None, Ok, codes}
+-- The grammar of lines: which tokens, of those that bytes spell (Spelling), say what. What a single token stands for (a
+-- register, a number, a string) is shared with the reading: Registers, brd_text's Numbers, Texts; so are the tables of
+-- names (Words) and of the operands that each word takes (Forms). What is read as a line is just what has this form.
+use Rattle.std.specs.Prelude.{◌≡◌, ℕ, ℤ, pos, true, List, [], ◌∷◌, ◌++◌, Some, None, codes}
 use lib.IntN.{neg_ℤ}
 use Rattle.brd_isa.specs.declared.mnemonic.Mnemonic as mnemonics
 use Rattle.brd_isa.specs.Names.{lowered}
@@ -94,19 +94,19 @@ pub data IsSetting : List ℕ → Type 0 where
   noat : IsSetting (codes "noat")
   nomacro : IsSetting (codes "nomacro")
 
--- What stands behind a word, and the statement that it says: operands of the word's form, or those of a directive. .globl
--- and .set say nothing.
+-- What stands behind a word, and the statement that it says: operands of the word's form, or those of a directive.
+-- .globl and .set say nothing.
 pub data Says : Word → List Token → Statement → Type 0 where
   instructs : (m : mnemonics.Mnemonic) (tokens : List Token) (written operands : Operands) → OperandsAre tokens written
-      → taken (form_of m) written ≡ Ok operands → Says (Mnemonic m) tokens (Instruct (instruction m operands))
+      → taken (form_of m) written ≡ Some operands → Says (Mnemonic m) tokens (Instruct (instruction m operands))
   shortens : (s : shorthands.Shorthand) (tokens : List Token) (written operands : Operands) → OperandsAre tokens written
-      → taken (short_form_of s) written ≡ Ok operands → Says (Shorthand s) tokens (Instruct (stands_for s operands))
+      → taken (short_form_of s) written ≡ Some operands → Says (Shorthand s) tokens (Instruct (stands_for s operands))
   org : (tokens : List Token) (e : Expression) → ExpressionIs tokens e → Says (Directive directive.Org) tokens (Org e)
   align : (tokens : List Token) (e : Expression) → ExpressionIs tokens e → Says (Directive directive.Align) tokens (Align e)
   space : (tokens : List Token) (e : Expression) → ExpressionIs tokens e → Says (Directive directive.Space) tokens (Space e)
   values : (w : Width) (tokens : List Token) (es : List Expression) → ValuesAre tokens es → Says (Directive (directive.Values w)) tokens (Data w es)
-  ascii : (text bytes : List ℕ) → text_of text ≡ Ok bytes → Says (Directive directive.Ascii) (Quoted text ∷ []) (Text bytes)
-  asciiz : (text bytes : List ℕ) → text_of text ≡ Ok bytes → Says (Directive directive.Asciiz) (Quoted text ∷ []) (Text (bytes ++ 0 ∷ []))
+  ascii : (text bytes : List ℕ) → text_of text ≡ Some bytes → Says (Directive directive.Ascii) (Quoted text ∷ []) (Text bytes)
+  asciiz : (text bytes : List ℕ) → text_of text ≡ Some bytes → Says (Directive directive.Asciiz) (Quoted text ∷ []) (Text (bytes ++ 0 ∷ []))
   equ : (name : List ℕ) (tokens : List Token) (e : Expression) → is_name name ≡ true → ExpressionIs tokens e
       → Says (Directive directive.Equ) (Run name ∷ comma ∷ tokens) (Equal name e)
   globl : (name : List ℕ) → is_name name ≡ true → Says (Directive directive.Globl) (Run name ∷ []) Nothing

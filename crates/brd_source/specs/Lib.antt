@@ -2,7 +2,6 @@ pub mod Statement
 pub mod View
 pub mod Faults
 pub mod Tokens
-pub mod Fronts
 pub mod Registers
 pub mod Reading
 pub mod Forms
@@ -10,6 +9,7 @@ pub mod Words
 pub mod Texts
 pub mod Statements
 pub mod Lines
+pub mod Fronts
 pub mod Names
 pub mod Grammar
 pub mod Spelling

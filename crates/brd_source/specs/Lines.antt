@@ -1,26 +1,31 @@
--- How a whole line is read: any number of names with a colon, and at most one statement behind them. Grammar says the same as relations; that
--- just what has its form is read is proved as `lines_follow_the_grammar`.
-use Rattle.std.specs.Prelude.{ℕ, if◌then◌else◌, List, [], ◌∷◌, ◌++◌, Result, Ok}
-use Rattle.brd_text.specs.Faults.{◌>>=◌}
-use Rattle.brd_source.specs.declared.fault.LineFault.{LineFault}
-use Rattle.brd_source.specs.Statement.{Line}
+-- What a whole line says: any number of names with a colon, and at most one statement behind them. Grammar says the
+-- same as relations; that just what has its form is read is proved as `lines_follow_the_grammar`.
+use Rattle.std.specs.Prelude.{ℕ, Bool, if◌then◌else◌, ◌==◌, ◌&&◌, List, [], ◌∷◌, Option, option_map}
+use Rattle.brd_text.specs.Bytes.{is_name}
+use Rattle.brd_source.specs.Statement.{Statement, Line}
+use Rattle.brd_source.specs.Statements.{statement_from}
 use Rattle.brd_source.specs.Tokens.{Token, tokens_of}
-use Rattle.brd_source.specs.Reading.{is_mark, name_at, end_at}
-use Rattle.brd_source.specs.Statements.{statement_at}
+use Rattle.brd_source.specs.Tokens.Token.{Run, Mark}
 
--- The names with a colon at the front, behind those that are read already, and the tokens behind them. A token before a colon
--- has to be a name.
-abbrev pub labelled : List (List ℕ) → List Token → Result (List (List ℕ) × List Token) LineFault
-labelled labels [] = Ok (labels, [])
-labelled labels (token ∷ []) = Ok (labels, token ∷ [])
-labelled labels (token ∷ mark ∷ tokens) =
-    if is_mark 58 mark then (name_at (token ∷ mark ∷ tokens) >>= λ name. labelled (labels ++ name.0 ∷ []) tokens)
-    else Ok (labels, token ∷ mark ∷ tokens)
+-- whether a run and a mark are a label
+abbrev pub is_label : List ℕ → ℕ → Bool
+is_label run mark = mark == 58 && is_name run
+
+-- the labels at the front, and the tokens behind them
+abbrev pub labels_of : List Token → List (List ℕ)
+labels_of (Run run ∷ Mark b ∷ tokens) = if is_label run b then run ∷ labels_of tokens else []
+labels_of _ = []
+
+abbrev pub behind_labels : List Token → List Token
+behind_labels (Run run ∷ Mark b ∷ tokens) = if is_label run b then behind_labels tokens else Run run ∷ Mark b ∷ tokens
+behind_labels tokens = tokens
+
+abbrev pub with_labels : List (List ℕ) → Statement → Line
+with_labels labels statement = record { labels = labels; statement = statement }
+
+abbrev pub line_from : List Token → Option Line
+line_from tokens = option_map (with_labels (labels_of tokens)) (statement_from (behind_labels tokens))
 
 -- what a line says
-unfoldable pub line_of : List ℕ → Result Line LineFault
-line_of bytes = do
-  labels ← labelled [] (tokens_of bytes)
-  statement ← statement_at labels.1
-  ended ← end_at statement.1
-  Ok (record { labels = labels.0; statement = statement.0 })
+unfoldable pub line_of : List ℕ → Option Line
+line_of bytes = line_from (tokens_of bytes)

@@ -1,7 +1,7 @@
--- Which bytes spell which tokens: any blanks may stand between tokens, a comment behind them, and something has to stand
--- between two runs.
-use Rattle.std.specs.Prelude.{◌≡◌, ◌≢◌, ℕ, Bool, true, false, ◌&&◌, not, List, [], ◌∷◌, ◌++◌}
-use Rattle.std.specs.List.{list_all, AllByRecursion}
+-- Which bytes spell which tokens: any blanks may stand between tokens, a comment behind them, and something has to
+-- stand between two runs. A quote whose string has no end spells Wrong, with all that is behind it.
+use Rattle.std.specs.Prelude.{◌≡◌, ℕ, Bool, true, false, ◌&&◌, not, List, [], ◌∷◌, ◌++◌}
+use Rattle.std.specs.List.{list_all}
 use Rattle.brd_text.specs.Bytes.{is_run_byte, is_space}
 use Rattle.brd_text.specs.Spelling.{begins_with_run_byte}
 use Rattle.brd_source.specs.Tokens.{Token, opens_comment, ends_string, escapes}
@@ -23,9 +23,6 @@ pub data Spells : List ℕ → List Token → Type 0 where
       → Spells bytes tokens → Spells (37 ∷ (bs ++ bytes)) (Percent bs ∷ tokens)
   in_quotes : (text bytes : List ℕ) (tokens : List Token) → stays_open false text ≡ true → Spells bytes tokens
       → Spells (34 ∷ (text ++ 34 ∷ bytes)) (Quoted text ∷ tokens)
+  unended : (bytes : List ℕ) → ((text behind : List ℕ) → bytes ≡ text ++ 34 ∷ behind → stays_open false text ≡ false) → Spells (34 ∷ bytes) (Wrong ∷ [])
   mark : (b : ℕ) (bytes : List ℕ) (tokens : List Token) → is_run_byte b ≡ false → is_space b ≡ false → opens_comment b bytes ≡ false
       → (b ≡ 37 → ⊥) → (b ≡ 34 → ⊥) → Spells bytes tokens → Spells (b ∷ bytes) (Mark b ∷ tokens)
-
--- no string lacks its end
-abbrev pub HaveEnds : List Token → Type 0
-HaveEnds tokens = AllByRecursion (λ token. token ≢ Wrong) tokens

@@ -1,5 +1,5 @@
--- What a line of assembler source says, in lists and whole numbers: names are lists of bytes. The kinds of statements are
--- those of the code's types.
+-- What a line of assembler source says, in lists and whole numbers: names are lists of bytes. The kinds of statements
+-- are those of the code's types.
 use Rattle.std.specs.Prelude.{ℕ, ◌%◌, ◌^◌, ℤ, pos, List, Option, None}
 use Rattle.brd_isa.specs.declared.mnemonic.Mnemonic.{Mnemonic}
 use Rattle.brd_source.specs.declared.statement.Width.{Width}
@@ -29,7 +29,8 @@ pub data Operand : Type 0 where
 abbrev pub Operands : Type 0
 Operands = Operand × Operand × Operand
 
--- The register of an operand, by the low five bits of its number, its value, and the expression that is its value. 0 stands for what it hasn't.
+-- The register of an operand, by the low five bits of its number, its value, and the expression that is its value. 0
+-- stands for what it hasn't.
 abbrev pub register_in : Operand → ℕ
 register_in (Register r) = r % 2 ^ 5
 register_in (Address i r) = r % 2 ^ 5

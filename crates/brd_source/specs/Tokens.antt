@@ -1,23 +1,22 @@
 -- The tokens of a line. Spaces, tabs and carriage returns may stand between tokens; # and // begin a comment, which
 -- goes to the end of the line.
-use Rattle.std.specs.Prelude.{ℕ, suc, Bool, false, not, ◌&&◌, ◌||◌, ◌==◌, if◌then◌else◌, List, [], ◌∷◌, drop, take, take_while, Option, Some, None, option_map}
+use Rattle.std.specs.Prelude.{ℕ, suc, Bool, false, not, ◌&&◌, ◌||◌, ◌==◌, if◌then◌else◌, List, [], ◌∷◌, take, take_while, Option, Some, None, option_map}
 use Rattle.brd_text.specs.Bytes.{is_run_byte, is_space, begins_with}
 use Rattle.brd_source.specs.declared.token.Token as code
 use Rattle.brd_source.specs.declared.token.Token.TheVariants as code_of
 
--- A run is a longest stretch of letters, digits, `_`, `.` and `$`; Percent is % and the run directly behind it, of which
--- the bytes are given, none where no run is there; Quoted has the bytes between two quotes as they are written. A mark
--- is any other byte that is no blank. Wrong stands where a string has no end, End where a line has no more tokens.
+-- A run is a longest stretch of letters, digits, `_`, `.` and `$`; Percent is % and the run directly behind it, of
+-- which the bytes are given, none where no run is there; Quoted has the bytes between two quotes as they are written. A
+-- mark is any other byte that is no blank. Wrong stands where a string has no end.
 pub data Token : Type 0 where
   Run : List ℕ → Token
   Percent : List ℕ → Token
   Quoted : List ℕ → Token
   Mark : ℕ → Token
   Wrong : Token
-  End : Token
 
--- Where in a line a byte stands: between tokens; behind a byte of a run; in a string; behind a backslash in a string; in a
--- comment.
+-- Where in a line a byte stands: between tokens; behind a byte of a run; in a string; behind a backslash in a string;
+-- in a comment.
 pub data Place : Type 0 where
   Between : Place
   InRun : Place
@@ -29,7 +28,8 @@ pub data Place : Type 0 where
 abbrev pub opens_comment : ℕ → List ℕ → Bool
 opens_comment b bs = (b == 35) || ((b == 47) && begins_with 47 bs)
 
--- whether a byte ends a string, and whether it is a backslash before another byte of it; the byte behind a backslash is neither
+-- whether a byte ends a string, and whether it is a backslash before another byte of it; the byte behind a backslash is
+-- neither
 abbrev pub ends_string : Bool → ℕ → Bool
 ends_string escaped b = not escaped && (b == 34)
 
@@ -86,15 +86,6 @@ tokens_in place (b ∷ bs) = with_token (token_at place b bs) (tokens_in (place_
 abbrev pub tokens_of : List ℕ → List Token
 tokens_of bytes = tokens_in Between bytes
 
--- the first token, End where there is none
-abbrev pub first : List Token → Token
-first [] = End
-first (token ∷ tokens) = token
-
--- the tokens behind the first
-abbrev pub others : List Token → List Token
-others tokens = drop 1 tokens
-
 -- a token of the code, without the place of its bytes
 abbrev pub seen : code.Token → Token
 seen (code_of.Run run) = Run run.now
@@ -102,4 +93,3 @@ seen (code_of.Percent run) = Percent run.now
 seen (code_of.Quoted text) = Quoted text.now
 seen (code_of.Mark b) = Mark b
 seen code_of.Wrong = Wrong
-seen code_of.End = End

@@ -1,11 +1,9 @@
 //! Which operands each mnemonic and each shorthand takes: a line a form.
 
-ghost use Rattle.std.specs.Prelude.{◌≡◌};
-ghost use Rattle.brd_source.specs.Faults.{Gives};
+ghost use Rattle.std.specs.Prelude.{◌≡◌, option_map};
 ghost use Rattle.brd_source.specs.Forms as forms;
 ghost use Rattle.brd_source.specs.View.{instruction_value, operand_value, operands_value};
 
-use crate::fault::LineFault;
 use crate::statement::{Immediate, Instruction, Operand, ZERO};
 use crate::words::Shorthand;
 use Kind::{Address, Code, Link, Nothing, Number, Register, Value};
@@ -150,15 +148,15 @@ fn is_unlinked(kind: Kind, second: &Operand) -> bool
 pub(crate) fn taken<'a>(
     form: (Kind, Kind, Kind),
     written: (Operand<'a>, Operand<'a>, Operand<'a>),
-) -> Result<(Operand<'a>, Operand<'a>, Operand<'a>), LineFault>
-    ensures { Gives operands_value result (forms.taken form (operands_value written.entry)) }
+) -> Option<(Operand<'a>, Operand<'a>, Operand<'a>)>
+    ensures { option_map operands_value result ≡ forms.taken form (operands_value written.entry) }
 {
     let (a, b, c) = linked(form.0, written);
     let (a, b, c) = (filled(form.0, a), filled(form.1, b), filled(form.2, c));
     if is_of(form.0, &a) && is_of(form.1, &b) && is_of(form.2, &c) {
-        return Ok((a, b, c));
+        return Some((a, b, c));
     }
-    Err(LineFault::Syntax)
+    None
 }
 
 /// Operands with the first one where it is left out.

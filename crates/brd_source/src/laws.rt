@@ -1,11 +1,11 @@
 //! What the definitions of this crate say by themselves.
 
-ghost use Rattle.std.specs.Prelude.{◌≡◌, ◌↔◌, ℕ, List, Ok, true};
+ghost use Rattle.std.specs.Prelude.{◌≡◌, ◌↔◌, ℕ, List, Some, true};
 ghost use Rattle.brd_source.specs.Forms.{form_of, are_of};
 ghost use Rattle.brd_source.specs.Grammar.{LineIs};
 ghost use Rattle.brd_source.specs.Lines.{line_of};
 ghost use Rattle.brd_source.specs.Names.{HasNames};
-ghost use Rattle.brd_source.specs.Spelling.{Spells, HaveEnds};
+ghost use Rattle.brd_source.specs.Spelling.{Spells};
 ghost use Rattle.brd_source.specs.Statement.{Instruction, Line};
 ghost use Rattle.brd_source.specs.Statement.Statement.{Instruct};
 ghost use Rattle.brd_source.specs.Tokens.{Token, tokens_of};
@@ -15,24 +15,24 @@ pub fn spelled_tokens_are_scanned()
     ensures { (bytes : List ℕ) (tokens : List Token) → Spells bytes tokens → tokens_of bytes ≡ tokens }
 {}
 
-/// The tokens of a line are spelled by its bytes, where no string lacks its end.
+/// The tokens of a line are spelled by its bytes.
 pub fn scanned_tokens_are_spelled()
-    ensures { (bytes : List ℕ) → HaveEnds (tokens_of bytes) → Spells bytes (tokens_of bytes) }
+    ensures { (bytes : List ℕ) → Spells bytes (tokens_of bytes) }
 {}
 
 /// The labels of a line are names, and so is what its statement gives a value to.
 pub fn lines_have_names()
-    ensures { (bytes : List ℕ) (line : Line) → line_of bytes ≡ Ok line → HasNames line }
+    ensures { (bytes : List ℕ) (line : Line) → line_of bytes ≡ Some line → HasNames line }
 {}
 
 /// The instruction of a line has the operands that its mnemonic takes, none left out.
 pub fn instructions_have_their_operands()
-    ensures { (bytes : List ℕ) (line : Line) (i : Instruction) → line_of bytes ≡ Ok line → line.statement ≡ Instruct i → are_of (form_of i.mnemonic) i.operands ≡ true }
+    ensures { (bytes : List ℕ) (line : Line) (i : Instruction) → line_of bytes ≡ Some line → line.statement ≡ Instruct i → are_of (form_of i.mnemonic) i.operands ≡ true }
 {}
 
-/// What is read as a line is just what has the form of one, by the tokens that its bytes have, and so by any tokens that
-/// its bytes spell; and it is read as what these say.
+/// What is read as a line is just what has the form of one, by the tokens that its bytes have, and so by any tokens
+/// that its bytes spell; and it is read as what these say.
 pub fn lines_follow_the_grammar()
-    ensures exact { (bytes : List ℕ) (line : Line) → (line_of bytes ≡ Ok line) ↔ LineIs (tokens_of bytes) line }
-    ensures spelled { (bytes : List ℕ) (line : Line) → (line_of bytes ≡ Ok line) ↔ ((tokens : List Token) × Spells bytes tokens × LineIs tokens line) }
+    ensures exact { (bytes : List ℕ) (line : Line) → (line_of bytes ≡ Some line) ↔ LineIs (tokens_of bytes) line }
+    ensures spelled { (bytes : List ℕ) (line : Line) → (line_of bytes ≡ Some line) ↔ ((tokens : List Token) × Spells bytes tokens × LineIs tokens line) }
 {}

@@ -1,39 +1,49 @@
 //! A whole line.
 
-ghost use Rattle.std.specs.Prelude.{◌≡◌, [], map};
+ghost use Rattle.std.specs.Prelude.{◌≡◌, ◌≤◌, length, map, option_map, Some, IfSome};
 ghost use Rattle.brd_source.specs.Faults.{Gives};
+ghost use Rattle.brd_source.specs.Fronts as fronts;
 ghost use Rattle.brd_source.specs.Lines as lines;
-ghost use Rattle.brd_source.specs.Reading.{is_mark};
+ghost use Rattle.brd_source.specs.Tokens.{seen};
 ghost use Rattle.brd_source.specs.View.{line_value};
-ghost use Rattle.brd_source.specs.Tokens.{first, others};
 
 use crate::fault::LineFault;
-use crate::reading::{end, name};
-use crate::scanner::Scanner;
+use crate::scanner::scan;
 use crate::statement::Line;
 use crate::statements::statement;
 use crate::token::Token;
 use brd_base::List;
+use smallvec::SmallVec;
 use std::alloc::Global;
 
-/// Whether a colon stands behind the token at the front.
-fn has_label(tokens: &Scanner) -> bool
-    ensures { result ≡ is_mark 58 (first (others tokens.now)) }
+/// The label at the front, which is two tokens.
+fn label<'a>(tokens: &[Token<'a>]) -> Option<&'a [u8]>
+    ensures is { option_map (λ name. name.now) result ≡ fronts.label_of (map seen tokens.now) }
+    ensures long { IfSome result (λ _. 2 ≤ length tokens.now) }
 {
-    matches!(tokens.peek_behind(), Token::Mark(b':'))
+    match tokens {
+        [Token::Run(name), Token::Mark(b':'), ..] if brd_text::is_name(name) => Some(*name),
+        _ => None,
+    }
 }
 
-/// Takes the names with a colon.
-fn labels<'a>(alloc: Global, tokens: &mut Scanner<'a>) -> Result<List<&'a [u8]>, LineFault>
-    ensures { Gives (λ labels. (map (λ name. name.now) labels, tokens.new)) result (lines.labelled [] tokens.old) }
+/// The labels at the front, and the tokens behind them.
+fn labels<'t, 'a>(
+    alloc: Global,
+    tokens: &'t [Token<'a>],
+) -> Result<(List<&'a [u8]>, &'t [Token<'a>]), LineFault>
+    ensures { Gives {Y = fronts.Labelled} (λ front. (map (λ name. name.now) front.0, map seen front.1.now)) result (Some (lines.labels_of (map seen tokens.now), lines.behind_labels (map seen tokens.now))) }
 {
     let mut labels = List::new(alloc);
-    'labels: while has_label(tokens) {
-        let label = name(tokens)?;
-        tokens.next();
-        labels.push(label)?;
+    let mut rest = tokens;
+    'labels: while let Some(name) = label(rest) {
+        labels.push(name)?;
+        let [_, _, behind @ ..] = rest else {
+            break;
+        };
+        rest = behind;
     }
-    Ok(labels)
+    Ok((labels, rest))
 }
 
 /// What a line of source says: the bytes of one line, without the newline behind it.
@@ -45,9 +55,9 @@ fn labels<'a>(alloc: Global, tokens: &mut Scanner<'a>) -> Result<List<&'a [u8]>,
 pub fn parse_line<'a>(alloc: Global, bytes: &'a [u8]) -> Result<Line<'a>, LineFault>
     ensures { Gives line_value result (lines.line_of bytes.now) }
 {
-    let mut tokens = Scanner::new(bytes);
-    let labels = labels(alloc, &mut tokens)?;
-    let statement = statement(alloc, &mut tokens)?;
-    end(&tokens)?;
+    let mut tokens = SmallVec::new(alloc);
+    scan(bytes, &mut tokens)?;
+    let (labels, behind) = labels(alloc, tokens.as_slice())?;
+    let statement = statement(alloc, behind)?;
     Ok(Line { labels, statement })
 }

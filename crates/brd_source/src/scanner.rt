@@ -1,15 +1,16 @@
 //! The bytes of a line to tokens.
 
-ghost use Rattle.std.specs.Prelude.{◌≡◌, ◌<◌, length, false, true, IfSome};
-ghost use Rattle.brd_source.specs.Tokens.{tokens_in, seen};
+ghost use Rattle.std.specs.Prelude.{◌≡◌, ◌<◌, ◌≤◌, ◌++◌, length, false, true, map, option_map, Some, IfSome};
+ghost use Rattle.brd_source.specs.Faults.{Gives};
+ghost use Rattle.brd_source.specs.Fronts.{begins_token, fronted};
 ghost use Rattle.brd_source.specs.Tokens as tokens;
+ghost use Rattle.brd_source.specs.Tokens.{tokens_in, seen};
 ghost use Rattle.brd_source.specs.Tokens.Place.{Between, InString};
-ghost use Rattle.brd_source.specs.Fronts.{begins_token, Begins, fronted};
-ghost use Rattle.brd_source.specs.Reading.{is_end};
 
+use crate::fault::LineFault;
 use crate::token::Token;
 use brd_text::{behind, is_run_byte, is_space, run_len};
-use std::marker::Model;
+use smallvec::SmallVec;
 
 /// Whether a comment begins at a byte, with these behind it.
 fn opens_comment(byte: u8, after: &[u8]) -> bool
@@ -36,6 +37,7 @@ pub(crate) fn escapes(is_escaped: bool, byte: u8) -> bool
 fn after_blanks(line: &[u8]) -> &[u8]
     ensures same { tokens_in Between line.now ≡ tokens_in Between result.now }
     ensures token { begins_token result.now ≡ true }
+    ensures shorter { length result.now ≤ length line.now }
 {
     let mut left = line;
     while let Some((byte, after)) = left.split_first() {
@@ -70,6 +72,7 @@ fn string_len(rest: &[u8]) -> Option<usize>
 fn string_at(rest: &[u8]) -> (Token<'_>, &[u8])
     ensures token { tokens.quoted (tokens.string_len false rest.now) rest.now ≡ seen result.0 }
     ensures rest { tokens_in InString rest.now ≡ tokens_in Between result.1.now }
+    ensures shorter { length result.1.now ≤ length rest.now }
 {
     let Some(len) = string_len(rest) else {
         return (Token::Wrong, &[]);
@@ -80,104 +83,38 @@ fn string_at(rest: &[u8]) -> (Token<'_>, &[u8])
 }
 
 /// The token at the front, and what is behind it.
-fn token_at(line: &[u8]) -> (Token<'_>, &[u8])
+fn token_at(line: &[u8]) -> Option<(Token<'_>, &[u8])>
     requires { begins_token line.now ≡ true }
-    ensures { Begins line.now (seen result.0) result.1.now }
+    ensures front { tokens_in Between line.now ≡ fronted (option_map (λ front. (seen front.0, front.1.now)) result) }
+    ensures shorter { IfSome result (λ front. length front.1.now < length line.now) }
 {
     let Some((byte, after)) = line.split_first() else {
-        return (Token::End, line);
+        return None;
     };
     if is_run_byte(*byte) {
         let (run, behind) = line.split_at(run_len(line));
-        return (Token::Run(run), behind);
+        return Some((Token::Run(run), behind));
     }
     if *byte == b'%' {
         let (run, behind) = after.split_at(run_len(after));
-        return (Token::Percent(run), behind);
+        return Some((Token::Percent(run), behind));
     }
     if *byte == b'"' {
-        return string_at(after);
+        return Some(string_at(after));
     }
-    (Token::Mark(*byte), after)
+    Some((Token::Mark(*byte), after))
 }
 
-/// Whether a token is the end of a line.
-fn is_end(token: &Token) -> bool
-    ensures { result ≡ is_end (seen token.now) }
+/// Puts the tokens of a line behind those that are there. The list has room for sixteen without asking for memory.
+pub(crate) fn scan<'a>(line: &'a [u8], found: &mut SmallVec<Token<'a>, 16>) -> Result<(), LineFault>
+    ensures { Gives (λ _. map seen found.new.items) result (Some (map seen found.old.items ++ tokens.tokens_of line.now)) }
 {
-    matches!(token, Token::End)
-}
-
-/// The token at the front of what may begin with blanks, and what is behind it.
-fn front_of(line: &[u8]) -> (Token<'_>, &[u8])
-    ensures { fronted (seen result.0) (tokens_in Between result.1.now) ≡ tokens_in Between line.now }
-{
-    token_at(after_blanks(line))
-}
-
-/// Reads the tokens of a line from the front.
-#[derive(Debug, Drop)]
-pub(crate) struct Scanner<'a> {
-    /// The first token.
-    front: Token<'a>,
-    /// What is behind it.
-    rest: &'a [u8],
-}
-
-impl<'a> Model for Scanner<'a> {
-    ghost use Rattle.std.specs.Prelude.{List};
-    ghost use Rattle.brd_source.specs.Tokens.{Token, tokens_of, seen};
-    ghost use Rattle.brd_source.specs.Fronts.{fronted};
-
-    ghost Value = { List Token };
-
-    ghost view = { λ s. fronted (seen s.front) (tokens_of s.rest.now) };
-}
-
-impl<'a> Scanner<'a> {
-    ghost use Rattle.brd_source.specs.Tokens.{tokens_of, first, others, seen};
-
-    /// A scanner over all of a line.
-    pub(crate) fn new(line: &'a [u8]) -> Scanner<'a>
-        ensures { result ≡ tokens_of line.now }
-    {
-        let (front, rest) = front_of(line);
-        Scanner { front, rest }
+    let mut rest = line;
+    'tokens: while let Some((token, behind)) = token_at(after_blanks(rest)) {
+        let Ok(()) = found.push(token) else {
+            return Err(LineFault::NoMemory);
+        };
+        rest = behind;
     }
-
-    /// Takes the first token. `End` stands behind the last token, as often as it is asked for.
-    #[tactic(auto, using(crate::proofs::Fronts::first_fronted, crate::proofs::Fronts::others_fronted, crate::proofs::Fronts::end_fronted))]
-    pub(crate) fn next(&mut self) -> Token<'a>
-        ensures token { first self.old ≡ seen result }
-        ensures behind { self.new ≡ others self.old }
-    {
-        let token = self.front;
-        if is_end(&token) {
-            return token;
-        }
-        let (front, rest) = front_of(self.rest);
-        self.front = front;
-        self.rest = rest;
-        token
-    }
-
-    /// The first token, which stays.
-    #[tactic(auto, using(crate::proofs::Fronts::first_fronted))]
-    pub(crate) fn peek(&self) -> Token<'a>
-        ensures { first self.now ≡ seen result }
-    {
-        self.front
-    }
-
-    /// The token behind the first one; both stay.
-    #[tactic(auto, using(crate::proofs::Fronts::first_fronted, crate::proofs::Fronts::others_fronted, crate::proofs::Fronts::end_fronted))]
-    pub(crate) fn peek_behind(&self) -> Token<'a>
-        ensures { first (others self.now) ≡ seen result }
-    {
-        if is_end(&self.front) {
-            return Token::End;
-        }
-        let (token, _) = front_of(self.rest);
-        token
-    }
+    Ok(())
 }

@@ -80,8 +80,8 @@ impl<'a> Operand<'a> {
     }
 }
 
-/// An instruction: which it is, and the operands that it takes, by the table of `forms`. Targets of branches and jumps are
-/// addresses.
+/// An instruction: which it is, and the operands that it takes, by the table of `forms`. Targets of branches and jumps
+/// are addresses.
 #[derive(Clone, Copy, Debug, PartialEq, Eq)]
 pub struct Instruction<'a> {
     /// Which instruction it is.

@@ -1,18 +1,16 @@
-//! The statements of a line.
+//! What tokens say as statements.
 
-ghost use Rattle.std.specs.Prelude.{◌≡◌, ◌<◌, map, length, OnOk};
-ghost use Rattle.brd_text.specs.Turns.{flow_of};
-ghost use Rattle.brd_isa.specs.Names.{lowered};
+ghost use Rattle.std.specs.Prelude.{◌≡◌, ◌++◌, ◌∷◌, [], map, option_map};
 ghost use Rattle.brd_source.specs.Faults.{Gives};
 ghost use Rattle.brd_source.specs.Forms as forms;
+ghost use Rattle.brd_source.specs.Reading.{expression_from, parts, values_of};
 ghost use Rattle.brd_source.specs.Statements as statements;
-ghost use Rattle.brd_source.specs.Words.{word_named};
+ghost use Rattle.brd_source.specs.Tokens.{seen};
 ghost use Rattle.brd_source.specs.View.{expression_value, operands_value, statement_value};
 
 use crate::fault::LineFault;
 use crate::forms::{form_of, short_form_of, stands_for, taken};
-use crate::reading::{expression, mark, name, operands, run, take_mark};
-use crate::scanner::Scanner;
+use crate::reading::{expression, first_part, operands};
 use crate::statement::{Expression, Instruction, Statement};
 use crate::text::text;
 use crate::token::Token;
@@ -21,147 +19,144 @@ use brd_base::List;
 use brd_isa::Mnemonic;
 use std::alloc::Global;
 
-/// Takes one more value, and a comma where one follows: then another value stands behind it.
-#[tactic(auto, unfolding(crate::specs::Statements::value_step))]
-fn value<'a>(tokens: &mut Scanner<'a>, values: &mut List<Expression<'a>>) -> Result<bool, LineFault>
-    ensures read { Gives (λ more. flow_of more (map expression_value values.new, tokens.new) (map expression_value values.new, tokens.new)) result
-        (statements.value_step (map expression_value values.old, tokens.old)) }
-    ensures shorter { OnOk result (length tokens.new < length tokens.old) }
+/// An expression.
+fn value<'a>(tokens: &[Token<'a>]) -> Result<Expression<'a>, LineFault>
+    ensures { Gives expression_value result (expression_from (map seen tokens.now)) }
 {
-    let value = expression(tokens)?;
-    values.push(value)?;
-    Ok(take_mark(tokens, b','))
+    expression(tokens).ok_or(LineFault::Syntax)
 }
 
-/// Takes values with commas between them.
-#[tactic(auto, unfolding(crate::specs::Statements::values_at))]
-fn values<'a>(alloc: Global, tokens: &mut Scanner<'a>) -> Result<List<Expression<'a>>, LineFault>
-    ensures { Gives (λ v. (map expression_value v, tokens.new)) result (statements.values_at tokens.old) }
+/// Values with commas between them.
+fn values<'a>(alloc: Global, tokens: &[Token<'a>]) -> Result<List<Expression<'a>>, LineFault>
+    ensures { Gives (λ values. map expression_value values) result (values_of (parts (map seen tokens.now))) }
 {
     let mut values = List::new(alloc);
-    'values: loop {
-        match value(tokens, &mut values) {
-            Ok(more) => {
-                if more {
-                    continue;
-                }
-                return Ok(values);
-            }
-            Err(fault) => return Err(fault),
-        }
+    let mut rest = Some(tokens);
+    'values: while let Some(tokens) = rest {
+        let (part, behind) = first_part(tokens);
+        let value = value(part)?;
+        values.push(value)?;
+        rest = behind;
     }
+    Ok(values)
 }
 
-/// Takes a string and puts the byte 0 behind it.
-#[tactic(auto, unfolding(crate::specs::Statements::ended_text_at))]
-fn ended_text(alloc: Global, tokens: &mut Scanner) -> Result<List<u8>, LineFault>
-    ensures { Gives (λ text. (text, tokens.new)) result (statements.ended_text_at tokens.old) }
+/// A string with the byte 0 behind it.
+fn ended_text(alloc: Global, tokens: &[Token]) -> Result<List<u8>, LineFault>
+    ensures { Gives (λ text. text) result (option_map (λ text. text ++ 0 ∷ []) (statements.text_from (map seen tokens.now))) }
 {
     let mut text = text(alloc, tokens)?;
     text.push(0)?;
     Ok(text)
 }
 
-/// Takes `name, value`, behind `.equ`.
-#[tactic(auto, unfolding(crate::specs::Statements::equal_at))]
-fn equal<'a>(tokens: &mut Scanner<'a>) -> Result<Statement<'a>, LineFault>
-    ensures { Gives (λ s. (statement_value s, tokens.new)) result (statements.equal_at tokens.old) }
+/// `name, value`, behind `.equ`.
+#[tactic(auto, unfolding(crate::specs::Statements::equal_from))]
+fn equal<'a>(tokens: &[Token<'a>]) -> Option<Statement<'a>>
+    ensures { option_map statement_value result ≡ statements.equal_from (map seen tokens.now) }
 {
-    let name = name(tokens)?;
-    mark(tokens, b',')?;
-    let value = expression(tokens)?;
-    Ok(Statement::Equal(name, value))
-}
-
-/// Takes the token behind `.set`.
-#[tactic(auto, unfolding(crate::specs::Statements::setting_at))]
-fn setting<'a>(tokens: &mut Scanner<'a>) -> Result<Statement<'a>, LineFault>
-    ensures { Gives (λ s. (statement_value s, tokens.new)) result (statements.setting_at tokens.old) }
-{
-    let run = run(tokens)?;
-    if run == b"noreorder".as_slice() || run == b"noat".as_slice() || run == b"nomacro".as_slice() {
-        return Ok(Statement::Nothing);
+    match tokens {
+        [Token::Run(name), Token::Mark(b','), behind @ ..] if brd_text::is_name(name) => {
+            Some(Statement::Equal(name, expression(behind)?))
+        }
+        _ => None,
     }
-    Err(LineFault::Syntax)
 }
 
-/// Takes the operands behind a directive.
+/// A name, behind `.globl`.
+#[tactic(auto, unfolding(crate::specs::Statements::global_from))]
+fn global<'a>(tokens: &[Token<'a>]) -> Option<Statement<'a>>
+    ensures { option_map statement_value result ≡ statements.global_from (map seen tokens.now) }
+{
+    match tokens {
+        [Token::Run(name)] if brd_text::is_name(name) => Some(Statement::Nothing),
+        _ => None,
+    }
+}
+
+/// Whether a run may stand behind `.set`.
+fn is_setting(run: &[u8]) -> bool
+    ensures { result ≡ statements.is_setting run.now }
+{
+    run == b"noreorder".as_slice() || run == b"noat".as_slice() || run == b"nomacro".as_slice()
+}
+
+/// What may stand behind `.set`.
+#[tactic(auto, unfolding(crate::specs::Statements::setting_from))]
+fn setting<'a>(tokens: &[Token<'a>]) -> Option<Statement<'a>>
+    ensures { option_map statement_value result ≡ statements.setting_from (map seen tokens.now) }
+{
+    match tokens {
+        [Token::Run(run)] if is_setting(run) => Some(Statement::Nothing),
+        _ => None,
+    }
+}
+
+/// What stands behind a directive.
 fn behind_directive<'a>(
     alloc: Global,
-    tokens: &mut Scanner<'a>,
     directive: Directive,
+    tokens: &[Token<'a>],
 ) -> Result<Statement<'a>, LineFault>
-    ensures { Gives (λ s. (statement_value s, tokens.new)) result (statements.directive_at directive tokens.old) }
+    ensures { Gives statement_value result (statements.directive_from directive (map seen tokens.now)) }
 {
     match directive {
-        Directive::Org => Ok(Statement::Org(expression(tokens)?)),
-        Directive::Align => Ok(Statement::Align(expression(tokens)?)),
-        Directive::Space => Ok(Statement::Space(expression(tokens)?)),
+        Directive::Org => Ok(Statement::Org(value(tokens)?)),
+        Directive::Align => Ok(Statement::Align(value(tokens)?)),
+        Directive::Space => Ok(Statement::Space(value(tokens)?)),
         Directive::Values(width) => Ok(Statement::Data(width, values(alloc, tokens)?)),
         Directive::Ascii => Ok(Statement::Text(text(alloc, tokens)?)),
         Directive::Asciiz => Ok(Statement::Text(ended_text(alloc, tokens)?)),
-        Directive::Equ => equal(tokens),
-        Directive::Globl => {
-            name(tokens)?;
-            Ok(Statement::Nothing)
-        }
-        Directive::Set => setting(tokens),
+        Directive::Equ => equal(tokens).ok_or(LineFault::Syntax),
+        Directive::Globl => global(tokens).ok_or(LineFault::Syntax),
+        Directive::Set => setting(tokens).ok_or(LineFault::Syntax),
     }
 }
 
-/// Takes the operands of a mnemonic.
-#[tactic(auto, unfolding(crate::specs::Statements::instruction_at))]
-fn behind_mnemonic<'a>(
-    tokens: &mut Scanner<'a>,
-    mnemonic: Mnemonic,
-) -> Result<Statement<'a>, LineFault>
-    ensures { Gives (λ s. (statement_value s, tokens.new)) result (statements.instruction_at (forms.form_of mnemonic) (forms.instruction mnemonic) tokens.old) }
+/// What stands behind a mnemonic.
+#[tactic(auto, unfolding(crate::specs::Statements::instruction_from))]
+fn behind_mnemonic<'a>(mnemonic: Mnemonic, tokens: &[Token<'a>]) -> Option<Statement<'a>>
+    ensures { option_map statement_value result ≡ statements.instruction_from (forms.form_of mnemonic) (forms.instruction mnemonic) (map seen tokens.now) }
 {
-    let written = operands(tokens)?;
-    let operands = taken(form_of(mnemonic), written)?;
-    Ok(Statement::Instruction(Instruction { mnemonic, operands }))
+    let operands = taken(form_of(mnemonic), operands(tokens)?)?;
+    Some(Statement::Instruction(Instruction { mnemonic, operands }))
 }
 
-/// Takes the operands of a shorthand.
-#[tactic(auto, unfolding(crate::specs::Statements::instruction_at))]
-fn behind_shorthand<'a>(
-    tokens: &mut Scanner<'a>,
-    shorthand: Shorthand,
-) -> Result<Statement<'a>, LineFault>
-    ensures { Gives (λ s. (statement_value s, tokens.new)) result (statements.instruction_at (forms.short_form_of shorthand) (forms.stands_for shorthand) tokens.old) }
+/// What stands behind a shorthand.
+#[tactic(auto, unfolding(crate::specs::Statements::instruction_from))]
+fn behind_shorthand<'a>(shorthand: Shorthand, tokens: &[Token<'a>]) -> Option<Statement<'a>>
+    ensures { option_map statement_value result ≡ statements.instruction_from (forms.short_form_of shorthand) (forms.stands_for shorthand) (map seen tokens.now) }
 {
-    let written = operands(tokens)?;
-    let operands = taken(short_form_of(shorthand), written)?;
-    Ok(Statement::Instruction(stands_for(shorthand, operands)))
+    let operands = taken(short_form_of(shorthand), operands(tokens)?)?;
+    Some(Statement::Instruction(stands_for(shorthand, operands)))
 }
 
-/// Takes what stands behind a word.
+/// What stands behind a word.
 fn behind_word<'a>(
     alloc: Global,
-    tokens: &mut Scanner<'a>,
-    word: Option<Word>,
+    word: Word,
+    tokens: &[Token<'a>],
 ) -> Result<Statement<'a>, LineFault>
-    ensures { Gives (λ s. (statement_value s, tokens.new)) result (statements.statement_as word tokens.old) }
+    ensures { Gives statement_value result (statements.said_from word (map seen tokens.now)) }
 {
     match word {
-        Some(Word::Mnemonic(mnemonic)) => behind_mnemonic(tokens, mnemonic),
-        Some(Word::Shorthand(shorthand)) => behind_shorthand(tokens, shorthand),
-        Some(Word::Directive(directive)) => behind_directive(alloc, tokens, directive),
-        None => Err(LineFault::Syntax),
+        Word::Mnemonic(mnemonic) => behind_mnemonic(mnemonic, tokens).ok_or(LineFault::Syntax),
+        Word::Shorthand(shorthand) => behind_shorthand(shorthand, tokens).ok_or(LineFault::Syntax),
+        Word::Directive(directive) => behind_directive(alloc, directive, tokens),
     }
 }
 
-/// Takes the statement, which may be left out.
-#[tactic(auto, unfolding(crate::specs::Statements::statement_at))]
-pub(crate) fn statement<'a>(
-    alloc: Global,
-    tokens: &mut Scanner<'a>,
-) -> Result<Statement<'a>, LineFault>
-    ensures { Gives (λ s. (statement_value s, tokens.new)) result (statements.statement_at tokens.old) }
+/// A statement, which may be left out.
+#[tactic(auto, unfolding(crate::specs::Statements::statement_from))]
+pub(crate) fn statement<'a>(alloc: Global, tokens: &[Token<'a>]) -> Result<Statement<'a>, LineFault>
+    ensures { Gives statement_value result (statements.statement_from (map seen tokens.now)) }
 {
-    match tokens.next() {
-        Token::End => Ok(Statement::Nothing),
-        Token::Run(run) => behind_word(alloc, tokens, word_named(run)),
+    match tokens {
+        [] => Ok(Statement::Nothing),
+        [Token::Run(run), behind @ ..] => {
+            let word = word_named(run).ok_or(LineFault::Syntax)?;
+            behind_word(alloc, word, behind)
+        }
         _ => Err(LineFault::Syntax),
     }
 }

@@ -1,11 +1,13 @@
 //! Strings: the bytes between two quotes to the bytes that they stand for.
 
-ghost use Rattle.std.specs.Prelude.{◌≡◌};
+ghost use Rattle.std.specs.Prelude.{◌≡◌, map};
 ghost use Rattle.brd_source.specs.Faults.{Gives};
+ghost use Rattle.brd_source.specs.Statements.{text_from};
 ghost use Rattle.brd_source.specs.Texts as texts;
+ghost use Rattle.brd_source.specs.Tokens.{seen};
 
 use crate::fault::LineFault;
-use crate::scanner::{Scanner, escapes};
+use crate::scanner::escapes;
 use crate::token::Token;
 use brd_base::List;
 use std::alloc::Global;
@@ -67,13 +69,13 @@ fn text_of(alloc: Global, bytes: &[u8]) -> Result<List<u8>, LineFault>
     Ok(text)
 }
 
-/// Takes a string.
-#[tactic(auto, unfolding(crate::specs::Texts::text_at))]
-pub(crate) fn text(alloc: Global, tokens: &mut Scanner) -> Result<List<u8>, LineFault>
-    ensures { Gives (λ text. (text, tokens.new)) result (texts.text_at tokens.old) }
+/// A string.
+#[tactic(auto, unfolding(crate::specs::Statements::text_from))]
+pub(crate) fn text(alloc: Global, tokens: &[Token]) -> Result<List<u8>, LineFault>
+    ensures { Gives (λ text. text) result (text_from (map seen tokens.now)) }
 {
-    let Token::Quoted(bytes) = tokens.next() else {
-        return Err(LineFault::Syntax);
-    };
-    text_of(alloc, bytes)
+    match tokens {
+        [Token::Quoted(bytes)] => text_of(alloc, bytes),
+        _ => Err(LineFault::Syntax),
+    }
 }

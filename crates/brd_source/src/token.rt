@@ -1,5 +1,5 @@
 /// A token of a line, borrowed from its bytes.
-#[derive(Clone, Copy, Debug)]
+#[derive(Clone, Copy, Debug, Default)]
 pub(crate) enum Token<'a> {
     /// A longest stretch of letters, digits, `_`, `.` and `$`.
     Run(&'a [u8]),
@@ -9,8 +9,7 @@ pub(crate) enum Token<'a> {
     Quoted(&'a [u8]),
     /// Any other byte that is no blank, as `,`, or one that has no place in a line at all.
     Mark(u8),
-    /// A string without an end.
+    /// A string without an end. A list of tokens fills its free places with this.
+    #[default]
     Wrong,
-    /// No more tokens.
-    End,
 }

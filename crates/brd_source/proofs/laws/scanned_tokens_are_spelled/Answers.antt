@@ -2,4 +2,4 @@ use Rattle.brd_source.proofs.SpelledBack.{spelled_back}
 use Rattle.brd_source.proofs.laws.scanned_tokens_are_spelled.Goals as goal
 
 pub returns : goal.returns
-returns c = λ bytes ends. spelled_back bytes ends
+returns c = spelled_back

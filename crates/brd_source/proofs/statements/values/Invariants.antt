@@ -1,12 +1,18 @@
-use Rattle.std.proofs.Common.{length, map}
-use Rattle.brd_text.proofs.TurnLemmas.{Goes}
-use Rattle.brd_source.specs.declared.fault.LineFault.TheVariants.{NoMemory}
-use Rattle.brd_source.specs.Statements.{value_step, values_at}
+use Rattle.std.proofs.Common.{◌≡◌, ◌++◌, suc, length, map}
+use Rattle.std.specs.Prelude.{ℕ, Option, Some, None, option_map}
+use Rattle.brd_source.specs.Fronts.{parts_behind}
+use Rattle.brd_source.specs.Reading.{parts, values_of}
+use Rattle.brd_source.specs.Tokens.{seen}
 use Rattle.brd_source.specs.View.{expression_value}
 use Rattle.brd_source.proofs.statements.values.Given as goal
 
 abbrev pub invariant-values : goal.invariant-values
-invariant-values l = Goes NoMemory value_step (length l.tokens) (map expression_value l.values, l.tokens) (values_at l.fn.tokens)
+invariant-values l = option_map (λ es. map expression_value l.values ++ es) (values_of (parts_behind (option_map (λ tokens. map seen tokens.now) l.rest))) ≡ values_of (parts (map seen l.fn.tokens))
+
+-- how many tokens are left, and one for the last turn
+abbrev tokens_left : Option ℕ → ℕ
+tokens_left None = 0
+tokens_left (Some n) = suc n
 
 abbrev pub decreases-values : goal.decreases-values
-decreases-values l = length l.tokens
+decreases-values l = tokens_left (option_map (λ tokens. length tokens.now) l.rest)
