@@ -53,7 +53,7 @@ run "IMAGE is a folder" 4 "$work/nothing" "board: can't read the object file: $i
 run "JOURNAL is a folder" 4 "$work/nothing" "board: can't read the journal: $is_directory" "$work/hello" $hello/config.cfg /
 
 # A file in the place of another. Fields: the argument, counted from 0; the file; what it looks like, where that is another
-# kind than it should be of.
+# kind than it should be of, or that it is empty.
 faults=("the object file: no ELF file: it doesn't begin with the bytes 7F 45 4C 46"
     "the configuration: line 1: found what no statement has here, expected one in the form of its kind"
     "the journal: line 1: expected \`board-journal 1\` first, then lines \`S CPU COUNT\`, \`T COUNT\` and \`R LINE COUNT\`")
@@ -79,13 +79,13 @@ done << END
 0|$work/text|$source
 0|$work/no_text|
 0|$work/bytes|
-0|$work/nothing|
+0|$work/nothing|; it is empty
 1|$work/hello|; it looks like an object file
 1|$hello/journal|; it looks like a journal
 1|$hello/source.s|
 1|$work/board|
 1|$work/bytes|
-1|$work/nothing|
+1|$work/nothing|; it is empty
 2|$work/hello|; it looks like an object file
 2|$work/front|; it looks like an object file
 2|$hello/config.cfg|; it looks like a configuration
@@ -93,7 +93,7 @@ done << END
 2|$hello/source.s|
 2|$work/version|
 2|$work/bytes|
-2|$work/nothing|
+2|$work/nothing|; it is empty
 END
 run "all three turned round" 1 "$work/nothing" "board: ${faults[0]}; it looks like a journal" $hello/journal "$work/hello" $hello/config.cfg
 

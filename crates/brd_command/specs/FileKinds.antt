@@ -1,5 +1,5 @@
 -- What a file looks like by its front, and which faults of its form say so (own choice).
-use Rattle.std.specs.Prelude.{ℕ, Bool, true, false, not, nat_eq, nat_le, ◌&&◌, ◌||◌, ◌==◌, if◌then◌else◌, List, length, take, codes, Option, Some, None, option_and_then}
+use Rattle.std.specs.Prelude.{ℕ, Bool, true, false, nat_eq, nat_le, ◌&&◌, ◌||◌, ◌==◌, if◌then◌else◌, List, length, take, codes, Option, Some, None, option_and_then}
 use Rattle.std.specs.List.{starts_with, list_all}
 use Rattle.brd_text.specs.Bytes.{is_blank}
 use Rattle.brd_text.specs.Tokens.{first, tokens_of}
@@ -14,7 +14,7 @@ use Rattle.brd_asm.specs.declared.fault.AsmFault.TheVariants as asm_fault
 use Rattle.brd_journal.specs.declared.fault.JournalFault.{JournalFault}
 use Rattle.brd_journal.specs.declared.fault.JournalFault.TheVariants as journal_fault
 use Rattle.brd_command.specs.declared.file_kind.FileKind.{FileKind}
-use Rattle.brd_command.specs.declared.file_kind.FileKind.TheVariants.{ObjectFile, Configuration, Journal, Source}
+use Rattle.brd_command.specs.declared.file_kind.FileKind.TheVariants.{ObjectFile, Configuration, Journal, Source, Empty}
 
 -- the first word, behind blanks and comments, is BOARD
 abbrev pub begins_with_board : List ℕ → Bool
@@ -27,22 +27,19 @@ is_text_byte b = is_blank b || (nat_le 32 b && nat_le b 126)
 abbrev pub are_text : List ℕ → Bool
 are_text bytes = list_all is_text_byte bytes
 
--- text: bytes, of which the first 1,024 are those of a text
-abbrev pub is_text : List ℕ → Bool
-is_text bytes = not (length bytes == 0) && are_text (take 1024 bytes)
-
--- The kind of which a file looks: an object file and a journal by their first bytes, a configuration by its first word; any other text
--- is source.
-abbrev pub looks_like : List ℕ → Option FileKind
+-- The kind of which a file looks: an object file and a journal by their first bytes, a configuration by its first word.
+-- Any other text, by its first 1,024 bytes, is source.
+unfoldable pub looks_like : List ℕ → Option FileKind
 looks_like bytes =
-    if starts_with nat_eq bytes magic then Some ObjectFile
+    if length bytes == 0 then Some Empty
+    else (if starts_with nat_eq bytes magic then Some ObjectFile
     else (if starts_with nat_eq bytes (codes "board-journal") then Some Journal
     else (if begins_with_board bytes then Some Configuration
-    else (if is_text bytes then Some Source
-    else None)))
+    else (if are_text (take 1024 bytes) then Some Source
+    else None))))
 
--- Another kind than a file should be of. Text in the place of a configuration or a journal may be one that has a fault, so that it isn't
--- taken for source.
+-- Another kind than a file should be of. Text in the place of a configuration or a journal may be one that has a fault,
+-- so that it isn't taken for source.
 abbrev pub unless_own : FileKind → FileKind → Option FileKind
 unless_own ObjectFile ObjectFile = None
 unless_own Configuration Configuration = None
@@ -56,7 +53,8 @@ unless_own wanted kind = Some kind
 abbrev pub other_kind : FileKind → List ℕ → Option FileKind
 other_kind wanted bytes = option_and_then (unless_own wanted) (looks_like bytes)
 
--- What a fault of building says that its text looks like: an object file that is none, and a configuration that hasn't the form of one.
+-- What a fault of building says that its text looks like: an object file that is none, and a configuration that hasn't
+-- the form of one.
 abbrev pub build_looks_like : List ℕ → List ℕ → BuildFault → Option FileKind
 build_looks_like image config (build_fault.Elf elf_fault.NotElf) = other_kind ObjectFile image
 build_looks_like image config (build_fault.Config (config_fault.Syntax line)) = other_kind Configuration config

@@ -15,7 +15,7 @@ const JOURNAL: &[u8] = b"board-journal";
 /// How many bytes are looked at to tell text from other bytes.
 const MOST_OF_TEXT: usize = 1_024;
 
-/// A kind of file that a command reads.
+/// What a file is by its front: a kind of file that a command reads, or an empty one.
 #[derive(Clone, Copy, Debug, PartialEq, Eq)]
 pub enum FileKind {
     /// An object file.
@@ -26,10 +26,13 @@ pub enum FileKind {
     Journal,
     /// Assembler source.
     Source,
+    /// A file without a byte.
+    Empty,
 }
 
-/// The kind of which a file looks that should be of this kind: another one. `None` where it looks like what it should be,
-/// or like nothing known. Text that looks like no other kind is taken for source only in the place of an object file.
+/// The kind of which a file looks that should be of this kind: another one. `None` where it looks like what it should
+/// be, or like nothing known. Text that looks like no other kind is taken for source only in the place of an object
+/// file.
 pub fn other_kind(wanted: FileKind, bytes: &[u8]) -> Option<FileKind>
     ensures { result ≡ kinds.other_kind wanted bytes.now }
 {
@@ -43,9 +46,13 @@ pub fn other_kind(wanted: FileKind, bytes: &[u8]) -> Option<FileKind>
 }
 
 /// The kind of which a file looks by its front.
+#[tactic(auto, unfolding(crate::specs::FileKinds::looks_like))]
 fn looks_like(bytes: &[u8]) -> Option<FileKind>
     ensures { result ≡ kinds.looks_like bytes.now }
 {
+    if bytes.is_empty() {
+        return Some(FileKind::Empty);
+    }
     if bytes.starts_with(OBJECT_FILE) {
         return Some(FileKind::ObjectFile);
     }
@@ -55,7 +62,7 @@ fn looks_like(bytes: &[u8]) -> Option<FileKind>
     if begins_with_board(bytes) {
         return Some(FileKind::Configuration);
     }
-    if is_text(bytes) {
+    if are_text(front_of(bytes, MOST_OF_TEXT)) {
         return Some(FileKind::Source);
     }
     None
@@ -70,13 +77,6 @@ fn begins_with_board(bytes: &[u8]) -> bool
         Token::Run(word) => word == b"BOARD".as_slice(),
         _ => false,
     }
-}
-
-/// Whether there are bytes, and the front of them has only those of a text.
-fn is_text(bytes: &[u8]) -> bool
-    ensures { result ≡ kinds.is_text bytes.now }
-{
-    !bytes.is_empty() && are_text(front_of(bytes, MOST_OF_TEXT))
 }
 
 /// Whether all the bytes are those of a text.
@@ -102,6 +102,7 @@ fn is_text_byte(byte: u8) -> bool
 pub fn hint(kind: Option<FileKind>) -> &'static str {
     match kind {
         None => "",
+        Some(FileKind::Empty) => "; it is empty",
         Some(FileKind::ObjectFile) => "; it looks like an object file",
         Some(FileKind::Configuration) => "; it looks like a configuration",
         Some(FileKind::Journal) => "; it looks like a journal",

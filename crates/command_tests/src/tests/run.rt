@@ -123,7 +123,8 @@ fn faults_of_run(rt: HostRuntime) -> Result<(), Fail> {
     Ok(())
 }
 
-/// A file in the place of another: its fault says of which kind it looks, where that is another than it should be of.
+/// A file in the place of another: its fault says of which kind it looks, where that is another than it should be of,
+/// or that it is empty.
 #[test]
 fn files_in_each_others_places(rt: HostRuntime) -> Result<(), Fail> {
     let alloc = rt.alloc();
@@ -142,15 +143,17 @@ fn files_in_each_others_places(rt: HostRuntime) -> Result<(), Fail> {
             "; it looks like assembler source, which \"board asm\" makes an object file of",
         ),
         (0, b"\x7fEL", ""),
-        (0, b"", ""),
+        (0, b"", "; it is empty"),
         (1, image.as_slice(), "; it looks like an object file"),
         (1, JOURNAL, "; it looks like a journal"),
         (1, SOURCE, ""),
         (1, b"BOARD", ""),
+        (1, b"", "; it is empty"),
         (2, image.as_slice(), "; it looks like an object file"),
         (2, CONFIG, "; it looks like a configuration"),
         (2, SOURCE, ""),
         (2, b"board-journal", ""),
+        (2, b"", "; it is empty"),
     ] {
         let (inputs, fault) = match place {
             0 => ([file, CONFIG, JOURNAL], elf),
