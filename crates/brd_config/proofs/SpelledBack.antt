@@ -1,5 +1,5 @@
 -- Bytes spell the tokens that they have, where no comment lacks its end.
-use Rattle.std.proofs.Common.{◌≡◌, ◌≢◌, ℕ, zero, suc, ◌+◌, ◌≤◌, Bool, true, false, cond, not, ◌&&◌, ◌||◌, ◌⊎◌, List, [], ◌∷◌, ◌++◌, length, drop, take, map, Option, Some, None, refl, sym, ap, subst, ◌∙◌, inl, inr, arith}
+use Rattle.std.proofs.Common.{◌≡◌, ◌≢◌, ℕ, zero, suc, ◌≤◌, Bool, true, false, cond, not, ◌&&◌, ◌||◌, ◌⊎◌, List, [], ◌∷◌, ◌++◌, length, drop, take, map, Option, Some, None, refl, sym, ap, subst, ◌∙◌, inl, inr, arith}
 use Rattle.std.specs.Prelude.{nat_eq}
 use Rattle.std.specs.List.{list_all, prefix_len, AllByRecursion}
 use Rattle.std.proofs.lemmas.Bool.{cases_Bool, and_parts, eqb-true}
@@ -10,9 +10,9 @@ use Rattle.brd_text.specs.Tokens.{Token, Placed, Text, Place, opens_comment, tok
 use Rattle.brd_text.specs.Tokens.Token.{Run, Mark, Unclosed, End}
 use Rattle.brd_text.specs.Tokens.Place.{Between, InRun, InLine, Opened, InBlock, Closing}
 use Rattle.brd_text.specs.Gaps.{Begins}
-use Rattle.brd_text.specs.Spelling.{has_closing, begins_with_run_byte, Spells, bare_tokens}
+use Rattle.brd_text.specs.Spelling.{has_closing, Spells, bare_tokens}
 use Rattle.brd_text.specs.Spelling.Spells.{nothing, blank, line_comment, last_comment, block_comment, run, mark}
-use Rattle.brd_text.proofs.Runs.{blank_step, line_comment_step, block_comment_step, newline_ends, run_front, mark_front}
+use Rattle.brd_text.proofs.Runs.{blank_step, line_comment_step, block_comment_step, newline_ends, no_run_byte, run_bytes, run_front, mark_front}
 
 -- no comment lacks its end
 abbrev pub AreClosed : List Token → Type 0
@@ -150,31 +150,13 @@ commented n line b (c ∷ bs) shorter le h closed =
 
 -- ---- runs and marks
 
-no_run_byte : (bs : List ℕ) → begins_with_run_byte (drop (prefix_len is_run_byte bs) bs) ≡ false
-no_run_byte [] = refl
-no_run_byte (b ∷ bs) =
-    elim (cases_Bool (is_run_byte b)) [
-      | inl is_one ↦ let one : 1 + prefix_len is_run_byte bs ≡ suc (prefix_len is_run_byte bs) = omega arith in
-          rw (is_one, one) (no_run_byte bs)
-      | inr is_other ↦ rw is_other (rw is_other refl)
-    ]
-
-taken : (bs : List ℕ) → list_all is_run_byte (take (prefix_len is_run_byte bs) bs) ≡ true
-taken [] = refl
-taken (b ∷ bs) =
-    elim (cases_Bool (is_run_byte b)) [
-      | inl is_one ↦ let one : 1 + prefix_len is_run_byte bs ≡ suc (prefix_len is_run_byte bs) = omega arith in
-          rw (is_one, one) (rw is_one (taken bs))
-      | inr is_other ↦ rw is_other refl
-    ]
-
 run_back : (n line b : ℕ) (bs : List ℕ) → AtMost n → length bs ≤ n → is_run_byte b ≡ true → AreClosed (tokens_from line (b ∷ bs)) → Spells (b ∷ bs) (tokens_from line (b ∷ bs))
 run_back n line b bs shorter le h closed =
     let k = prefix_len is_run_byte bs in
     let len : suc k ≡ prefix_len is_run_byte (b ∷ bs) = rw h (omega arith) in
     let tokens : tokens_from line (b ∷ bs) ≡ Run (b ∷ take k bs) ∷ tokens_from line (drop k bs) = begun (Run (b ∷ take k bs)) line (b ∷ bs) (drop k bs) (run_front b (suc k) (b ∷ bs) bs refl h len) (λ e. cc) in
     let rest = shorter line (drop k bs) (omega (arith, length-drop k bs, le)) (subst AreClosed tokens closed).1 in
-    let are : list_all is_run_byte (b ∷ take k bs) ≡ true = rw h (taken bs) in
+    let are : list_all is_run_byte (b ∷ take k bs) ≡ true = rw h (run_bytes bs) in
     subst (λ (ws : List Token). Spells (b ∷ bs) ws) (sym tokens)
     (subst (λ (l : List ℕ). Spells (b ∷ l) (Run (b ∷ take k bs) ∷ tokens_from line (drop k bs))) (take-append-drop k bs) (run b (take k bs) (drop k bs) (tokens_from line (drop k bs)) are (no_run_byte bs) rest))
 

@@ -1,11 +1,11 @@
 -- Bytes spell the tokens that they have.
 use Rattle.std.proofs.Common.{◌≡◌, ℕ, zero, suc, ◌+◌, ◌≤◌, true, false, ◌&&◌, List, [], ◌∷◌, ◌++◌, length, drop, take, Option, Some, None, refl, sym, ap, ◌∙◌, subst, inl, inr, arith}
-use Rattle.std.specs.Prelude.{nat_eq, take_while}
+use Rattle.std.specs.Prelude.{nat_eq}
 use Rattle.std.specs.List.{list_all, prefix_len}
 use Rattle.std.proofs.lemmas.Bool.{cases_Bool, and_parts, eqb-false, eqb-true}
 use Rattle.std.proofs.lemmas.List.{take-append-drop, length-drop}
 use Rattle.brd_text.specs.Bytes.{is_run_byte, begins_with, is_space}
-use Rattle.brd_text.specs.Spelling.{begins_with_run_byte}
+use Rattle.brd_text.proofs.Runs.{no_run_byte, run_bytes}
 use Rattle.brd_source.specs.Tokens.{Token, opens_comment, string_len, quoted, tokens_in}
 use Rattle.brd_source.specs.Tokens.Token.{Run, Percent, Quoted, Mark, Wrong}
 use Rattle.brd_source.specs.Tokens.Place.{Between, InString}
@@ -34,28 +34,6 @@ commented b bs h =
 
 -- ---- runs
 
-no_run_byte : (bs : List ℕ) → begins_with_run_byte (drop (prefix_len is_run_byte bs) bs) ≡ false
-no_run_byte [] = refl
-no_run_byte (b ∷ bs) =
-    elim (cases_Bool (is_run_byte b)) [
-      | inl is_one ↦ let one : 1 + prefix_len is_run_byte bs ≡ suc (prefix_len is_run_byte bs) = omega arith in
-          rw (is_one, one) (no_run_byte bs)
-      | inr is_other ↦ rw is_other (rw is_other refl)
-    ]
-
-one_taken : (b : ℕ) (bs : List ℕ) → is_run_byte b ≡ true → take_while is_run_byte (b ∷ bs) ≡ b ∷ take_while is_run_byte bs
-one_taken b bs is_one =
-    let one : 1 + prefix_len is_run_byte bs ≡ suc (prefix_len is_run_byte bs) = omega arith in
-    rw (is_one, one) refl
-
-taken : (bs : List ℕ) → list_all is_run_byte (take_while is_run_byte bs) ≡ true
-taken [] = refl
-taken (b ∷ bs) =
-    elim (cases_Bool (is_run_byte b)) [
-      | inl is_one ↦ subst (λ (run : List ℕ). list_all is_run_byte run ≡ true) (sym (one_taken b bs is_one)) (rw is_one (taken bs))
-      | inr is_other ↦ rw is_other refl
-    ]
-
 -- what is to be shown of all bytes, of those that are at most n
 abbrev AtMost : ℕ → Type 0
 AtMost n = (bs : List ℕ) → length bs ≤ n → Spells bs (tokens_in Between bs)
@@ -68,7 +46,7 @@ run_back n b bs shorter le h =
     let k = prefix_len is_run_byte bs in
     let len : suc k ≡ prefix_len is_run_byte (b ∷ bs) = rw h (omega arith) in
     let rest = shorter (drop k bs) (omega (arith, length-drop k bs, le)) in
-    let are : list_all is_run_byte (b ∷ take k bs) ≡ true = rw h (taken bs) in
+    let are : list_all is_run_byte (b ∷ take k bs) ≡ true = rw h (run_bytes bs) in
     with_tokens (b ∷ bs) (Run (b ∷ take k bs) ∷ tokens_in Between (drop k bs)) (run_front b (suc k) (b ∷ bs) bs refl h len)
     (subst (λ (l : List ℕ). Spells (b ∷ l) (Run (b ∷ take k bs) ∷ tokens_in Between (drop k bs))) (take-append-drop k bs) (run b (take k bs) (drop k bs) (tokens_in Between (drop k bs)) are (no_run_byte bs) rest))
 
@@ -77,7 +55,7 @@ percent_back n bs shorter le =
     let k = prefix_len is_run_byte bs in
     let rest = shorter (drop k bs) (omega (arith, length-drop k bs, le)) in
     with_tokens (37 ∷ bs) (Percent (take k bs) ∷ tokens_in Between (drop k bs)) (percent_front 37 k (37 ∷ bs) bs refl refl refl)
-    (subst (λ (l : List ℕ). Spells (37 ∷ l) (Percent (take k bs) ∷ tokens_in Between (drop k bs))) (take-append-drop k bs) (percent_run (take k bs) (drop k bs) (tokens_in Between (drop k bs)) (taken bs) (no_run_byte bs) rest))
+    (subst (λ (l : List ℕ). Spells (37 ∷ l) (Percent (take k bs) ∷ tokens_in Between (drop k bs))) (take-append-drop k bs) (percent_run (take k bs) (drop k bs) (tokens_in Between (drop k bs)) (run_bytes bs) (no_run_byte bs) rest))
 
 -- ---- strings
 

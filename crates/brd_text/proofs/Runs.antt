@@ -11,6 +11,7 @@ use Rattle.brd_text.specs.Tokens.{opens_comment, tokens_in}
 use Rattle.brd_text.specs.Tokens.Token.{Run, Mark}
 use Rattle.brd_text.specs.Tokens.Place.{Between, InRun, InLine, Opened, InBlock}
 use Rattle.brd_text.specs.Gaps.{begins_token, Begins}
+use Rattle.brd_text.specs.Spelling.{begins_with_run_byte}
 
 -- ---- bytes by kind
 
@@ -43,6 +44,26 @@ all_in_run (b ∷ bs) =
 
 pub name_front : (b n : ℕ) (text bs : List ℕ) → text ≡ b ∷ bs → begins_name b ≡ true → n ≡ prefix_len is_run_byte bs → nat_eq n (length bs) ≡ is_name text
 name_front b n text bs e h len = rw (e, h, len) (all_in_run bs)
+
+-- ---- the longest run at the front
+
+pub no_run_byte : (bs : List ℕ) → begins_with_run_byte (drop (prefix_len is_run_byte bs) bs) ≡ false
+no_run_byte [] = refl
+no_run_byte (b ∷ bs) =
+    elim (cases_Bool (is_run_byte b)) [
+      | inl is_one ↦ let one : 1 + prefix_len is_run_byte bs ≡ suc (prefix_len is_run_byte bs) = omega arith in
+          rw (is_one, one) (no_run_byte bs)
+      | inr is_other ↦ rw is_other (rw is_other refl)
+    ]
+
+pub run_bytes : (bs : List ℕ) → list_all is_run_byte (take (prefix_len is_run_byte bs) bs) ≡ true
+run_bytes [] = refl
+run_bytes (b ∷ bs) =
+    elim (cases_Bool (is_run_byte b)) [
+      | inl is_one ↦ let one : 1 + prefix_len is_run_byte bs ≡ suc (prefix_len is_run_byte bs) = omega arith in
+          rw (is_one, one) (rw is_one (run_bytes bs))
+      | inr is_other ↦ rw is_other refl
+    ]
 
 -- ---- gaps
 

@@ -1,8 +1,6 @@
 -- A loop that takes a step after the other, against `repeated`.
 use Rattle.std.proofs.Common.{◌≡◌, ℕ, zero, suc, ◌<◌, ◌≤◌, Bool, true, false, Result, Ok, Err, sym, ap, subst, ◌∙◌, arith}
 use Rattle.brd_text.proofs.FaultLemmas.{bind_ok, ok_is, passed_on}
-use Rattle.std.specs.Prelude.{⊤}
-use Rattle.std.specs.Bool.{MatchBool}
 use Rattle.brd_text.specs.Faults.{◌>>=◌, Fails}
 use Rattle.brd_text.specs.Turns.{Flow, followed, repeated, flow_of}
 use Rattle.brd_text.specs.Turns.Flow.{More, Done}
@@ -51,15 +49,6 @@ flow_more spent step m k s t r false total g h e lt = absurd (cc)
 pub flow_done : {F S R : Type 0} (spent : F) (step : S → Result (Flow S R) F) (m : ℕ) (s t : S) (r : R) (more : Bool) (total : Result R F) → Goes spent step m s total → step s ≡ Ok (flow_of more t r) → more ≡ false → total ≡ Ok r
 flow_done spent step m s t r true total g h e = absurd (cc)
 flow_done spent step m s t r false total g h e = goes_done spent step m s r total g h
-
--- ---- faults
-
-pub fails_from : {F R : Type 0} (is_memory : F → Bool) (e : F) (read : Result R F) → read ≡ Err e → Fails is_memory e read
-fails_from is_memory e read h = given (is_memory e) h
-  where
-    given : (b : Bool) → read ≡ Err e → MatchBool b ⊤ (read ≡ Err e)
-    given true h = tt
-    given false h = h
 
 -- ---- what a whole run keeps
 
