@@ -19,28 +19,28 @@ use Rattle.brd_source.specs.Statement.Immediate.{Whole, High, Low}
 use Rattle.brd_source.specs.Statement.Operand.{Absent, Register, Value, Address}
 use Rattle.brd_source.specs.Statement.Statement.{Nothing, Instruct, Org, Align, Space, Data, Text, Equal}
 use Rattle.brd_source.specs.Texts.{text_of}
-use Rattle.brd_source.specs.Tokens.{Token}
+use Rattle.brd_source.specs.Tokens.{Token, closing_byte, colon_byte, comma_byte, minus_byte, opening_byte, plus_byte}
 use Rattle.brd_source.specs.Tokens.Token.{Run, Percent, Quoted, Mark}
 use Rattle.brd_source.specs.Words.{word_named}
 
--- the marks , : + - ( ) by their ASCII codes
+-- the marks , : + - ( )
 abbrev pub comma : Token
-comma = Mark 44
+comma = Mark comma_byte
 
 abbrev pub colon : Token
-colon = Mark 58
+colon = Mark colon_byte
 
 abbrev pub plus : Token
-plus = Mark 43
+plus = Mark plus_byte
 
 abbrev pub minus : Token
-minus = Mark 45
+minus = Mark minus_byte
 
 abbrev pub opened : Token
-opened = Mark 40
+opened = Mark opening_byte
 
 abbrev pub closed : Token
-closed = Mark 41
+closed = Mark closing_byte
 
 -- ---- operands
 

@@ -4,12 +4,12 @@ use Rattle.std.specs.Prelude.{ℕ, Bool, if◌then◌else◌, ◌==◌, ◌&&◌
 use Rattle.brd_text.specs.Bytes.{is_name}
 use Rattle.brd_source.specs.Statement.{Statement, Line}
 use Rattle.brd_source.specs.Statements.{statement_from}
-use Rattle.brd_source.specs.Tokens.{Token, tokens_of}
+use Rattle.brd_source.specs.Tokens.{Token, colon_byte, tokens_of}
 use Rattle.brd_source.specs.Tokens.Token.{Run, Mark}
 
 -- whether a run and a mark are a label
 abbrev pub is_label : List ℕ → ℕ → Bool
-is_label run mark = mark == 58 && is_name run
+is_label run mark = mark == colon_byte && is_name run
 
 -- the labels at the front, and the tokens behind them
 abbrev pub labels_of : List Token → List (List ℕ)

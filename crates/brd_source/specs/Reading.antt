@@ -10,7 +10,7 @@ use Rattle.brd_source.specs.Faults.{◌>>=◌}
 use Rattle.brd_source.specs.Statement.{Expression, Immediate, Operand, Operands, zero_expression}
 use Rattle.brd_source.specs.Statement.Immediate.{Whole, High, Low}
 use Rattle.brd_source.specs.Statement.Operand.{Absent, Register, Value, Address}
-use Rattle.brd_source.specs.Tokens.{Token}
+use Rattle.brd_source.specs.Tokens.{Token, closing_byte, comma_byte, minus_byte, opening_byte, plus_byte}
 use Rattle.brd_source.specs.Tokens.Token.{Run, Percent, Mark}
 use Rattle.brd_source.specs.Registers.{register_of}
 
@@ -19,15 +19,15 @@ use Rattle.brd_source.specs.Registers.{register_of}
 -- decimal digits, or 0x and hexadecimal digits, below 2 to the 32nd; a - may stand before them
 unfoldable pub number_from : List Token → Option ℤ
 number_from (Run run ∷ []) = option_map (λ n. pos n) (number_of run)
-number_from (Mark b ∷ Run run ∷ []) = if b == 45 then option_map (λ n. neg_ℤ (pos n)) (number_of run) else None
+number_from (Mark b ∷ Run run ∷ []) = if b == minus_byte then option_map (λ n. neg_ℤ (pos n)) (number_of run) else None
 number_from _ = None
 
 -- behind a name: nothing, + and a number, or - and a number
 unfoldable pub addend_from : List Token → Option ℤ
 addend_from [] = Some (pos 0)
 addend_from (Mark b ∷ tokens) =
-    if b == 43 then number_from tokens
-    else (if b == 45 then option_map (λ v. neg_ℤ v) (number_from tokens)
+    if b == plus_byte then number_from tokens
+    else (if b == minus_byte then option_map (λ v. neg_ℤ v) (number_from tokens)
     else None)
 addend_from _ = None
 
@@ -52,12 +52,13 @@ abbrev pub before_last : ℕ → List Token → List Token
 before_last n tokens = take (length tokens - n) tokens
 
 abbrev pub is_closed : List Token → Bool
-is_closed (Mark b ∷ []) = b == 41
+is_closed (Mark b ∷ []) = b == closing_byte
 is_closed _ = false
 
 -- ( expression )
 unfoldable pub in_parentheses : List Token → Option Expression
-in_parentheses (Mark b ∷ tokens) = if b == 40 && is_closed (last 1 tokens) then expression_from (before_last 1 tokens) else None
+in_parentheses (Mark b ∷ tokens) =
+    if b == opening_byte && is_closed (last 1 tokens) then expression_from (before_last 1 tokens) else None
 in_parentheses _ = None
 
 -- %hi and %lo by the run behind the %
@@ -81,7 +82,7 @@ register_from _ = None
 
 -- ( register )
 unfoldable pub base_from : List Token → Option ℕ
-base_from (Mark a ∷ Run run ∷ Mark b ∷ []) = if a == 40 && b == 41 then register_of run else None
+base_from (Mark a ∷ Run run ∷ Mark b ∷ []) = if a == opening_byte && b == closing_byte then register_of run else None
 base_from _ = None
 
 -- before the ( of a register: an immediate, or nothing for the offset 0
@@ -106,7 +107,7 @@ operand_from tokens = placed_from (base_from (last 3 tokens)) tokens
 -- ---- lists with commas
 
 abbrev pub is_comma : Token → Bool
-is_comma (Mark b) = b == 44
+is_comma (Mark b) = b == comma_byte
 is_comma _ = false
 
 -- What stands before the first comma, between two, and behind the last. Without a comma it is all, also of no tokens.

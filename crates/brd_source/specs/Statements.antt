@@ -14,7 +14,7 @@ use Rattle.brd_source.specs.Reading.{expression_from, operands_from, parts, valu
 use Rattle.brd_source.specs.Statement.{Operands, Instruction, Statement}
 use Rattle.brd_source.specs.Statement.Statement.{Nothing, Instruct, Org, Align, Space, Data, Text, Equal}
 use Rattle.brd_source.specs.Texts.{text_of}
-use Rattle.brd_source.specs.Tokens.{Token}
+use Rattle.brd_source.specs.Tokens.{Token, comma_byte}
 use Rattle.brd_source.specs.Tokens.Token.{Run, Quoted, Mark}
 use Rattle.brd_source.specs.Words.{word_named}
 
@@ -27,7 +27,7 @@ text_from _ = None
 
 -- name , value
 unfoldable pub equal_from : List Token → Option Statement
-equal_from (Run name ∷ Mark b ∷ tokens) = if is_name name && b == 44 then option_map (λ e. Equal name e) (expression_from tokens) else None
+equal_from (Run name ∷ Mark b ∷ tokens) = if is_name name && b == comma_byte then option_map (λ e. Equal name e) (expression_from tokens) else None
 equal_from _ = None
 
 -- a name, without effect

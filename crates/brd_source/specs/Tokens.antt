@@ -15,6 +15,25 @@ pub data Token : Type 0 where
   Mark : ℕ → Token
   Wrong : Token
 
+-- the bytes of the marks that a statement may have: , : + - ( )
+abbrev pub comma_byte : ℕ
+comma_byte = 44
+
+abbrev pub colon_byte : ℕ
+colon_byte = 58
+
+abbrev pub plus_byte : ℕ
+plus_byte = 43
+
+abbrev pub minus_byte : ℕ
+minus_byte = 45
+
+abbrev pub opening_byte : ℕ
+opening_byte = 40
+
+abbrev pub closing_byte : ℕ
+closing_byte = 41
+
 -- Where in a line a byte stands: between tokens; behind a byte of a run; in a string; behind a backslash in a string;
 -- in a comment.
 pub data Place : Type 0 where
