@@ -1,2 +1,4 @@
 pub mod End
+pub mod Laws
+pub mod Requests
 pub mod Usage

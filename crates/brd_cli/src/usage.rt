@@ -1,12 +1,12 @@
-//! The command line.
+//! The command line that the program takes.
 
-ghost use Rattle.std.specs.Prelude.{◌≡◌, codes, option_map};
-ghost use Rattle.clap.specs.Words.{first_of, found_of, one_of, rows_of, subcommand_rows_of};
-ghost use Rattle.brd_cli.specs.Usage.{AreSteps, AreWords, IsAsm, IsAsked, IsDebug, IsRequestOf, IsRun, inputs_in, source_and_out};
+ghost use Rattle.std.specs.Prelude.{◌≡◌, ◌∷◌, [], IfOk, codes, false, map};
+ghost use Rattle.clap.specs.Words.{app_of, rule_of};
+ghost use Rattle.brd_cli.specs.Usage as usage;
+ghost use Rattle.brd_cli.specs.Usage.{AddsForm, board, command_with, inputs, source_and_out, steps};
 
-use brd_command::Request;
-use clap::{Arg, ArgAction, ArgMatches, Command, Error};
-use std::alloc::Global;
+use clap::{Arg, ArgAction, Command};
+use std::alloc::{AllocError, Global};
 
 /// What help says of the files.
 const FILES: &str = "\
@@ -60,7 +60,9 @@ Example:
   board debug hello.elf hello.cfg hello.journal";
 
 /// What the program takes: a command and its arguments.
-pub fn board_command<'a>(alloc: Global) -> Result<Command<'a>, Error> {
+pub fn board_command<'a>(alloc: Global) -> Result<Command<'a>, AllocError>
+    ensures { IfOk result (λ command. app_of command ≡ board) }
+{
     let board = Command::new(alloc, "board")
         .about("An emulated MIPS32 board for real-time software")
         .after_help(FILES)
@@ -73,12 +75,15 @@ pub fn board_command<'a>(alloc: Global) -> Result<Command<'a>, Error> {
 }
 
 /// What `words` takes.
-fn words_command<'a>(alloc: Global) -> Result<Command<'a>, Error> {
-    let steps = Arg::new(alloc, "STEPS")
-        .required(true)
-        .action(ArgAction::Set)
-        .value_parser(clap::value_parser!(u32).range(0..=1_000_000))
-        .help("How many instructions processor 1 executes, 0 to 1,000,000");
+fn words_command<'a>(alloc: Global) -> Result<Command<'a>, AllocError>
+    ensures { IfOk result (AddsForm usage.words) }
+{
+    let steps = needed(
+        alloc,
+        "STEPS",
+        "How many instructions processor 1 executes, 0 to 1,000,000",
+    )
+    .value_parser(clap::value_parser!(u32).range(0..=1_000_000));
     let command = Command::new(alloc, "words")
         .about("Runs the words that standard input has in hexadecimal, and prints the registers")
         .after_help(WORDS)
@@ -87,25 +92,25 @@ fn words_command<'a>(alloc: Global) -> Result<Command<'a>, Error> {
 }
 
 /// What `asm` takes.
-fn asm_command<'a>(alloc: Global) -> Result<Command<'a>, Error> {
-    let source = Arg::new(alloc, "SOURCE")
-        .required(true)
-        .action(ArgAction::Set)
-        .help("A file of assembler source");
-    let out = Arg::new(alloc, "OUT")
-        .required(true)
-        .action(ArgAction::Set)
-        .help("Where the object file goes, an ELF32 executable");
+fn asm_command<'a>(alloc: Global) -> Result<Command<'a>, AllocError>
+    ensures { IfOk result (AddsForm usage.asm) }
+{
     let command = Command::new(alloc, "asm")
         .about("Assembles a source to an object file")
         .after_help(SOURCE)
-        .arg(source)?
-        .arg(out)?;
+        .arg(needed(alloc, "SOURCE", "A file of assembler source"))?
+        .arg(needed(
+            alloc,
+            "OUT",
+            "Where the object file goes, an ELF32 executable",
+        ))?;
     Ok(command)
 }
 
 /// What `run` takes.
-fn run_command<'a>(alloc: Global) -> Result<Command<'a>, Error> {
+fn run_command<'a>(alloc: Global) -> Result<Command<'a>, AllocError>
+    ensures { IfOk result (AddsForm usage.run) }
+{
     with_inputs(
         alloc,
         "run",
@@ -115,7 +120,9 @@ fn run_command<'a>(alloc: Global) -> Result<Command<'a>, Error> {
 }
 
 /// What `debug` takes.
-fn debug_command<'a>(alloc: Global) -> Result<Command<'a>, Error> {
+fn debug_command<'a>(alloc: Global) -> Result<Command<'a>, AllocError>
+    ensures { IfOk result (AddsForm usage.debug) }
+{
     with_inputs(
         alloc,
         "debug",
@@ -130,111 +137,29 @@ fn with_inputs<'a>(
     name: &'a str,
     about: &'a str,
     after_help: &'a str,
-) -> Result<Command<'a>, Error> {
-    let image = Arg::new(alloc, "IMAGE")
-        .required(true)
-        .action(ArgAction::Set)
-        .help("An object file, an ELF32 executable");
-    let config = Arg::new(alloc, "CONFIG")
-        .required(true)
-        .action(ArgAction::Set)
-        .help("A file of the kernel's configuration");
-    let journal = Arg::new(alloc, "JOURNAL")
-        .required(true)
-        .action(ArgAction::Set)
-        .help("A journal: the events that the board does");
+) -> Result<Command<'a>, AllocError>
+    ensures { IfOk result (AddsForm (command_with name.entry.now (map usage.needed inputs))) }
+{
     let command = Command::new(alloc, name)
         .about(about)
         .after_help(after_help)
-        .arg(image)?
-        .arg(config)?
-        .arg(journal)?;
+        .arg(needed(alloc, "IMAGE", "An object file, an ELF32 executable"))?
+        .arg(needed(alloc, "CONFIG", "A file of the kernel's configuration"))?
+        .arg(needed(
+            alloc,
+            "JOURNAL",
+            "A journal: the events that the board does",
+        ))?;
     Ok(command)
 }
 
-/// What a command line asks for. `None` where a command or an argument is missing, which `clap` doesn't let through.
-pub fn request_of<'a>(matches: &ArgMatches<'a>) -> Option<Request<'a>>
-    ensures { IsAsked (subcommand_rows_of matches.now) result }
+/// An argument that has to be given, with one value.
+fn needed<'a>(alloc: Global, name: &'a str, help: &'a str) -> Arg<'a>
+    ensures rule { rule_of result ≡ usage.needed name.entry.now }
+    ensures own { result.global ≡ false }
 {
-    let (name, arguments) = matches.subcommand()?;
-    request_named(name, arguments)
-}
-
-/// The request of the command of this name.
-fn request_named<'a>(name: &str, arguments: &ArgMatches<'a>) -> Option<Request<'a>>
-    ensures { IsRequestOf name.now (rows_of (found_of arguments.now)) result }
-{
-    match name {
-        "words" => words_request(arguments),
-        "asm" => asm_request(arguments),
-        "run" => run_request(arguments),
-        "debug" => debug_request(arguments),
-        _ => None,
-    }
-}
-
-/// The request of `words`, where STEPS is there.
-fn words_request<'a>(arguments: &ArgMatches<'a>) -> Option<Request<'a>>
-    ensures { AreWords (one_of (codes "STEPS") (rows_of (found_of arguments.now))) result }
-{
-    let steps = steps_of(arguments)?;
-    Some(Request::Words { steps })
-}
-
-/// The request of `asm`, where its files are there.
-fn asm_request<'a>(arguments: &ArgMatches<'a>) -> Option<Request<'a>>
-    ensures { IsAsm (source_and_out (rows_of (found_of arguments.now))) result }
-{
-    let source = text_of(arguments, "SOURCE")?;
-    let out = text_of(arguments, "OUT")?;
-    Some(Request::Asm { source, out })
-}
-
-/// The request of `run`, where its files are there.
-fn run_request<'a>(arguments: &ArgMatches<'a>) -> Option<Request<'a>>
-    ensures { IsRun (inputs_in (rows_of (found_of arguments.now))) result }
-{
-    let (image, config, journal) = inputs_of(arguments)?;
-    Some(Request::Run {
-        image,
-        config,
-        journal,
-    })
-}
-
-/// The request of `debug`, where its files are there.
-fn debug_request<'a>(arguments: &ArgMatches<'a>) -> Option<Request<'a>>
-    ensures { IsDebug (inputs_in (rows_of (found_of arguments.now))) result }
-{
-    let (image, config, journal) = inputs_of(arguments)?;
-    Some(Request::Debug {
-        image,
-        config,
-        journal,
-    })
-}
-
-/// The names IMAGE, CONFIG and JOURNAL, where all are there.
-fn inputs_of<'a>(arguments: &ArgMatches<'a>) -> Option<(&'a str, &'a str, &'a str)>
-    ensures { option_map (λ names. (names.0.now, names.1.now, names.2.now)) result
-        ≡ inputs_in (rows_of (found_of arguments.now)) }
-{
-    let image = text_of(arguments, "IMAGE")?;
-    let config = text_of(arguments, "CONFIG")?;
-    let journal = text_of(arguments, "JOURNAL")?;
-    Some((image, config, journal))
-}
-
-/// What was given for an argument.
-fn text_of<'a>(arguments: &ArgMatches<'a>, name: &str) -> Option<&'a str>
-    ensures { option_map (λ text. text.now) result ≡ first_of name.now (rows_of (found_of arguments.now)) }
-{
-    arguments.get_str(name)
-}
-
-/// The number that was given for STEPS.
-fn steps_of(arguments: &ArgMatches) -> Option<u32>
-    ensures { AreSteps (one_of (codes "STEPS") (rows_of (found_of arguments.now))) result }
-{
-    arguments.get_one::<u32>("STEPS")
+    Arg::new(alloc, name)
+        .required(true)
+        .action(ArgAction::Set)
+        .help(help)
 }

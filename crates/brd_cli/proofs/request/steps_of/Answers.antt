@@ -3,8 +3,8 @@ use Rattle.std.specs.declared.num.ParseIntError.{ParseIntError}
 use Rattle.std.specs.Str.Parse.{ParsesUnsigned, ExplainsUnsignedError, HasUnsignedDigitsIfOk}
 use Rattle.clap.proofs.WalkLemmas.{one_text-rows}
 use Rattle.clap.specs.Words.{ReadsOne, Text, found_of, one_text}
-use Rattle.brd_cli.specs.Usage.{AreSteps}
-use Rattle.brd_cli.proofs.usage.steps_of.Goals as goal
+use Rattle.brd_cli.specs.Requests.{AreSteps}
+use Rattle.brd_cli.proofs.request.steps_of.Goals as goal
 
 -- what is read of a text, by `get_one`
 are_steps : (text : Option Text) (steps : Option ℕ) → (text ≡ None → steps ≡ None)

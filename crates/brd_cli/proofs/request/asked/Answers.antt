@@ -1,0 +1,17 @@
+use Rattle.std.proofs.Common.{List, Err, Ok, Result, map}
+use Rattle.std.specs.Result.{IsErrAnd}
+use Rattle.clap.specs.Words.{Text}
+use Rattle.brd_command.specs.declared.request.Request.{Request}
+use Rattle.brd_cli.specs.End.{IsWantOfMemory}
+use Rattle.brd_cli.specs.Requests.{IsAnswer}
+use Rattle.brd_cli.specs.declared.end.Stop.{Stop}
+use Rattle.brd_cli.specs.declared.end.Stop.TheVariants.{Fault, Usage}
+use Rattle.brd_cli.proofs.request.asked.Goals as goal
+
+out_of_memory : (words : List Text) (result : Result Request Stop) → IsErrAnd result IsWantOfMemory → IsAnswer words result
+out_of_memory words (Ok request) is = absurd is
+out_of_memory words (Err (Fault fault)) is = cc
+out_of_memory words (Err (Usage error)) is = cc
+
+pub returns-in_err-board : goal.returns-in_err-board
+returns-in_err-board g c = out_of_memory (map g.S.AsStr.text c.args.words.now) c.from_residual.result c.from_residual.ensures.1

@@ -1,0 +1,103 @@
+//! What a command line asks for.
+
+ghost use Rattle.std.specs.Prelude.{◌≡◌, ◌∷◌, [], codes, map, option_map};
+ghost use Rattle.clap.specs.Words.{app_of, first_of, found_of, one_of, rows_of, subcommand_rows_of};
+ghost use Rattle.brd_cli.specs.Requests.{AreSteps, IsAnswer, IsAsked, IsRequestOf, given};
+ghost use Rattle.brd_cli.specs.Usage as usage;
+ghost use Rattle.brd_cli.specs.Usage.{inputs};
+
+use crate::end::Stop;
+use crate::usage::board_command;
+use brd_command::Request;
+use clap::error::ErrorKind;
+use clap::{ArgMatches, Command};
+use std::alloc::Global;
+use std::convert::AsStr;
+
+/// What the words of a command line ask for, of which the first is the program's name.
+pub fn asked<'a, S: AsStr>(alloc: Global, words: &'a [S]) -> Result<Request<'a>, Stop>
+    ensures { IsAnswer (map S.text words.entry.now) result }
+{
+    let mut board = board_command(alloc)?;
+    asked_of(&mut board, words)
+}
+
+/// What the words of a command line ask the program for.
+fn asked_of<'a, S: AsStr>(board: &mut Command<'a>, words: &'a [S]) -> Result<Request<'a>, Stop>
+    ensures { app_of board.old ≡ usage.board → IsAnswer (map S.text words.entry.now) result }
+{
+    let matches = board.try_get_matches_from_mut(words)?;
+    if let Some(request) = request_of(&matches) {
+        return Ok(request);
+    }
+    let missing = board.error(ErrorKind::MissingSubcommand, "a command is missing")?;
+    Err(Stop::from(missing))
+}
+
+/// What the matches of a command line ask for. `None` where a command or an argument is missing, which `clap` doesn't
+/// let through.
+fn request_of<'a>(matches: &ArgMatches<'a>) -> Option<Request<'a>>
+    ensures { IsAsked (subcommand_rows_of matches.now) result }
+{
+    let (name, arguments) = matches.subcommand()?;
+    request_named(name, arguments)
+}
+
+/// The request of the command of this name.
+fn request_named<'a>(name: &str, arguments: &ArgMatches<'a>) -> Option<Request<'a>>
+    ensures { IsRequestOf name.now (rows_of (found_of arguments.now)) result }
+{
+    match name {
+        "words" => {
+            let steps = steps_of(arguments)?;
+            Some(Request::Words { steps })
+        }
+        "asm" => {
+            let source = text_of(arguments, "SOURCE")?;
+            let out = text_of(arguments, "OUT")?;
+            Some(Request::Asm { source, out })
+        }
+        "run" => {
+            let (image, config, journal) = inputs_of(arguments)?;
+            Some(Request::Run {
+                image,
+                config,
+                journal,
+            })
+        }
+        "debug" => {
+            let (image, config, journal) = inputs_of(arguments)?;
+            Some(Request::Debug {
+                image,
+                config,
+                journal,
+            })
+        }
+        _ => None,
+    }
+}
+
+/// The names IMAGE, CONFIG and JOURNAL, where all are there.
+fn inputs_of<'a>(arguments: &ArgMatches<'a>) -> Option<(&'a str, &'a str, &'a str)>
+    ensures { option_map (λ names. names.0.now ∷ names.1.now ∷ names.2.now ∷ []) result
+        ≡ given inputs (rows_of (found_of arguments.now)) }
+{
+    let image = text_of(arguments, "IMAGE")?;
+    let config = text_of(arguments, "CONFIG")?;
+    let journal = text_of(arguments, "JOURNAL")?;
+    Some((image, config, journal))
+}
+
+/// What was given for an argument.
+fn text_of<'a>(arguments: &ArgMatches<'a>, name: &str) -> Option<&'a str>
+    ensures { option_map (λ text. text.now) result ≡ first_of name.now (rows_of (found_of arguments.now)) }
+{
+    arguments.get_str(name)
+}
+
+/// The number that was given for STEPS.
+fn steps_of(arguments: &ArgMatches) -> Option<u32>
+    ensures { AreSteps (one_of (codes "STEPS") (rows_of (found_of arguments.now))) result }
+{
+    arguments.get_one::<u32>("STEPS")
+}
