@@ -1,7 +1,7 @@
 //! Builds the board of a source and a configuration, loads it once more from the source's object file, and copies it: for
-//! the test that refuses each growth of all three. Standard input is the source, a line `---`, and the configuration. For each of the
-//! two boards it prints the reports of 100 steps of processor 1, a letter each (r `Ran`, c `Called`, o `Off`, - any
-//! other), and the console.
+//! the test that refuses each growth of all three. Standard input is the source, a line `---`, and the configuration. For
+//! each of the two boards it prints the reports of 100 steps of processor 1, a letter each (r `Ran`, c `Called`, o `Off`,
+//! - any other), and the console.
 #![tactic(auto)]
 
 use anyhow::{Result, bail};
@@ -43,12 +43,22 @@ fn told_of_source(alloc: Global, source: &str, config: &str) -> Result<String> {
     }
 }
 
-/// What is told of a copy of the board that is loaded from the object file.
-fn told_of_file(alloc: Global, source: &str, config: &str) -> Result<String> {
+/// The object file of a source.
+fn file_of(alloc: Global, source: &str) -> Result<Vec<u8>> {
     let image = assemble(alloc, source.as_bytes())?;
-    let file = brd_elf::write(alloc, &image)?;
-    match load(alloc, &file, config.as_bytes()) {
-        Ok(board) => Ok(stepped(alloc, &mut board.try_copy()?)?),
+    Ok(brd_elf::write(alloc, &image)?)
+}
+
+/// What is told of a copy of a board.
+fn told_of_copy(alloc: Global, board: &Board) -> Result<String> {
+    let mut copy = board.try_copy()?;
+    Ok(stepped(alloc, &mut copy)?)
+}
+
+/// What is told of a copy of the board that is loaded from an object file.
+fn told_of_file(alloc: Global, file: &[u8], config: &str) -> Result<String> {
+    match load(alloc, file, config.as_bytes()) {
+        Ok(board) => told_of_copy(alloc, &board),
         Err(fault) => bail!("{fault}"),
     }
 }
@@ -61,7 +71,7 @@ fn run(rt: &(impl Input + Print + AllocGlobal)) -> Result<()> {
     };
     let built = told_of_source(alloc, source, config)?;
     println!(rt; "{built}")?;
-    let loaded = told_of_file(alloc, source, config)?;
+    let loaded = told_of_file(alloc, &file_of(alloc, source)?, config)?;
     println!(rt; "{loaded}")?;
     Ok(())
 }
