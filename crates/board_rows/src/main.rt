@@ -299,14 +299,19 @@ fn heed(rt: &(impl Print + AllocGlobal), scene: &mut Scene, line: &str) -> io::R
     Ok(())
 }
 
-fn run(rt: &(impl Input + Print + AllocGlobal)) -> io::Result<()> {
+/// Heeds each line of standard input.
+fn heed_all(rt: &(impl Input + Print + AllocGlobal), scene: &mut Scene) -> io::Result<()> {
     let alloc = rt.alloc();
-    let mut scene = begun(alloc);
     for line in BufReader::new(alloc, rt.reader())?.lines(alloc) {
         let line = line?;
-        heed(rt, &mut scene, line.as_str())?;
+        heed(rt, scene, line.as_str())?;
     }
     Ok(())
+}
+
+fn run(rt: &(impl Input + Print + AllocGlobal)) -> io::Result<()> {
+    let mut scene = begun(rt.alloc());
+    heed_all(rt, &mut scene)
 }
 
 fn main(rt: HostRuntime) -> io::Result<()> {
