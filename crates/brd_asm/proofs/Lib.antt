@@ -1,7 +1,6 @@
 mod NamesLemmas
 mod IndexLemmas
 mod PieceLemmas
-mod TextLemmas
 mod OutputLemmas
 mod StretchLemmas
 mod RangeLemmas

@@ -40,60 +40,45 @@ impl<'a> Layout<'a> {
         }
     }
 
-    /// With one more line.
+    /// Places one more line. After a fault the layout is of no more use.
     #[tactic(auto, unfolding(crate::specs::Layout::placed))]
-    pub fn place(self, alloc: Global, line: usize, bytes: &'a [u8]) -> Result<Self, AsmFault>
-        ensures { Gives layout result (placed line bytes.now (layout self.entry)) }
+    pub fn place(&mut self, alloc: Global, line: usize, bytes: &'a [u8]) -> Result<(), AsmFault>
+        ensures { Gives (λ _. layout self.new) result (placed line bytes.now (layout self.old)) }
     {
-        let Layout {
-            place,
-            names,
-            pieces,
-        } = self;
         let Line { labels, statement } = read(alloc, line, bytes)?;
         let own = own_name(&statement);
         // By the names of earlier lines; a name that is defined twice comes before its faults.
-        let effect = effect_of(line, place, &names, statement);
-        let names = names.label(line, place, labels.as_slice())?;
-        check_is_new(line, own, &names)?;
-        let effect = effect?;
-        let labelled = Layout {
-            place,
-            names,
-            pieces,
-        };
-        labelled.after(line, effect)
+        let effect = effect_of(line, self.place, &self.names, statement);
+        self.names.label(line, self.place, labels.as_slice())?;
+        check_is_new(line, own, &self.names)?;
+        self.happen(line, effect?)
     }
 
-    /// With what a statement of a line does.
-    fn after(self, line: usize, effect: Effect<'a>) -> Result<Self, AsmFault>
-        ensures { Gives layout result (happened line (view.effect effect.entry) (layout self.entry)) }
+    /// Does what a statement of a line does.
+    fn happen(&mut self, line: usize, effect: Effect<'a>) -> Result<(), AsmFault>
+        ensures { Gives (λ _. layout self.new) result (happened line (view.effect effect.entry) (layout self.old)) }
     {
         match effect {
-            Effect::Stays => Ok(self),
-            Effect::Moves(place) => Ok(Layout { place, ..self }),
-            Effect::Equates(name, value) => {
-                let names = self.names.define(line, value, name)?;
-                Ok(Layout { names, ..self })
+            Effect::Stays => Ok(()),
+            Effect::Moves(place) => {
+                self.place = place;
+                Ok(())
             }
+            Effect::Equates(name, value) => self.names.define(line, value, name),
             Effect::Fills(content) => self.fill(line, content),
         }
     }
 
-    /// With content at the place, behind which the next statement stands.
+    /// Puts content at the place, behind which the next statement stands then.
     #[tactic(auto, unfolding(crate::specs::Layout::filled))]
-    fn fill(self, line: usize, content: Content<'a>) -> Result<Self, AsmFault>
-        ensures { Gives layout result (filled line (view.content content.entry) (layout self.entry)) }
+    fn fill(&mut self, line: usize, content: Content<'a>) -> Result<(), AsmFault>
+        ensures { Gives (λ _. layout self.new) result (filled line (view.content content.entry) (layout self.old)) }
     {
+        let place = self.place;
         let size = content.size();
         if size == 0 {
-            return Ok(self);
+            return Ok(());
         }
-        let Layout {
-            place,
-            names,
-            pieces,
-        } = self;
         if !are_in_ram(place, size) {
             return Err(AsmFault::Range { line });
         }
@@ -101,7 +86,7 @@ impl<'a> Layout<'a> {
         if place % content.alignment() != 0 {
             return Err(AsmFault::Misaligned { line });
         }
-        if pieces.overlaps(place, place + size) {
+        if self.pieces.overlaps(place, place + size) {
             return Err(AsmFault::Overlap { line });
         }
         let piece = Piece {
@@ -109,11 +94,9 @@ impl<'a> Layout<'a> {
             line,
             content,
         };
-        Ok(Layout {
-            place: place + size,
-            names,
-            pieces: pieces.with(piece, size)?,
-        })
+        self.pieces.push(piece, size)?;
+        self.place = place + size;
+        Ok(())
     }
 }
 

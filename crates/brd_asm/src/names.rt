@@ -1,6 +1,6 @@
 //! The names of a source and their values.
 
-ghost use Rattle.std.specs.Prelude.{◌≡◌, [], ◌∷◌, ◌++◌, false, map, IfOk};
+ghost use Rattle.std.specs.Prelude.{◌≡◌, [], ◌∷◌, ◌++◌, false, map, IfOk, OnOk};
 ghost use Rattle.brd_asm.specs.Faults.{Gives};
 ghost use Rattle.brd_asm.specs.Values.{named};
 ghost use Rattle.brd_asm.specs.Image.{symbol_of};
@@ -54,36 +54,34 @@ impl<'a> Names<'a> {
         self.value(name).is_some()
     }
 
-    /// With one more name, which on this line is defined.
+    /// Gives a value to one more name, which on this line is defined.
     #[tactic(auto, unfolding(crate::specs::Layout::define))]
-    pub fn define(self, line: usize, value: i64, name: &'a [u8]) -> Result<Self, AsmFault>
-        ensures { Gives (λ names. names) result (define line value name.entry.now self.entry) }
+    pub fn define(&mut self, line: usize, value: i64, name: &'a [u8]) -> Result<(), AsmFault>
+        ensures { Gives (λ _. self.new) result (define line value name.entry.now self.old) }
     {
         if self.has(name) {
             return Err(AsmFault::Twice { line });
         }
-        Ok(self.with(name, value)?)
+        Ok(self.add(name, value)?)
     }
 
-    /// With a name that has no value yet.
-    fn with(self, name: &'a [u8], value: i64) -> Result<Self, NoMemory>
-        requires { is_defined self name.now ≡ false }
-        ensures { IfOk result (λ names. names ≡ self.entry ++ record { name = name.entry.now; value = value } ∷ []) }
+    /// Gives a value to a name that has none yet.
+    fn add(&mut self, name: &'a [u8], value: i64) -> Result<(), NoMemory>
+        requires { is_defined self.old name.now ≡ false }
+        ensures { OnOk result (self.new ≡ self.old ++ record { name = name.entry.now; value = value } ∷ []) }
     {
-        let Names { mut values } = self;
-        values.insert(name, value)?;
-        Ok(Names { values })
+        self.values.insert(name, value)?;
+        Ok(())
     }
 
-    /// With these labels, which stand for a place.
-    pub fn label(self, line: usize, place: u32, labels: &[&'a [u8]]) -> Result<Self, AsmFault>
-        ensures { Gives (λ names. names) result (labelled line place (map (λ label. label.now) labels.now) self.entry) }
+    /// Gives a place to labels. After a fault those before it have it.
+    pub fn label(&mut self, line: usize, place: u32, labels: &[&'a [u8]]) -> Result<(), AsmFault>
+        ensures { Gives (λ _. self.new) result (labelled line place (map (λ label. label.now) labels.now) self.old) }
     {
-        let mut names = self;
         for label in labels {
-            names = names.define(line, i64::from(place), *label)?;
+            self.define(line, i64::from(place), *label)?;
         }
-        Ok(names)
+        Ok(())
     }
 
     /// The symbols of an image, in order of definition.

@@ -1,12 +1,12 @@
 //! The pieces of a source, and the ranges of addresses that they fill.
 
-ghost use Rattle.std.specs.Prelude.{◌≡◌, ◌+◌, ◌<◌, [], ◌∷◌, ◌++◌, true, false, map, length, IfOk};
+ghost use Rattle.std.specs.Prelude.{◌≡◌, ◌+◌, ◌<◌, [], ◌∷◌, ◌++◌, true, false, map, length, OnOk, OnErr};
 ghost use Rattle.brd_asm.specs.Layout.{size_of, are_in_ram, overlaps};
 ghost use Rattle.brd_asm.specs.Index.{AreRangesOf as AreRangesOfPieces};
 ghost use Rattle.brd_asm.specs.View as seen;
 
 use crate::piece::Piece;
-use brd_base::{List, NoMemory};
+use brd_base::NoMemory;
 use brd_ranges::{Range, Ranges};
 use std::alloc::Global;
 use std::marker::Model;
@@ -14,7 +14,7 @@ use std::marker::Model;
 /// Pieces in the order of the source, none over another.
 #[derive(Drop)]
 pub struct Pieces<'a> {
-    pieces: List<Piece<'a>>,
+    pieces: Vec<Piece<'a>>,
     /// The addresses of each, with how many bytes of other pieces lie before its own in the output.
     ranges: Ranges<u32>,
 }
@@ -27,9 +27,9 @@ impl<'a> Model for Pieces<'a> {
 
     ghost Value = { List PieceValue };
 
-    ghost view = { λ all. map seen_here.piece all.pieces };
+    ghost view = { λ all. map seen_here.piece all.pieces.items };
 
-    ghost invariant = { λ all. AreRangesOf all.ranges (map seen_here.piece all.pieces) };
+    ghost invariant = { λ all. AreRangesOf all.ranges (map seen_here.piece all.pieces.items) };
 }
 
 impl<'a> Pieces<'a> {
@@ -38,7 +38,7 @@ impl<'a> Pieces<'a> {
         ensures { result ≡ [] }
     {
         Pieces {
-            pieces: List::new(alloc),
+            pieces: Vec::new(alloc),
             ranges: Ranges::new(alloc),
         }
     }
@@ -51,26 +51,26 @@ impl<'a> Pieces<'a> {
         self.ranges.overlaps(low, high)
     }
 
-    /// With one piece more, of this size.
-    pub fn with(self, piece: Piece<'a>, size: u32) -> Result<Self, NoMemory>
+    /// Puts a piece of this size at the end. A refusal changes nothing, and the piece is given up.
+    pub fn push(&mut self, piece: Piece<'a>, size: u32) -> Result<(), NoMemory>
         requires size_is { size ≡ size_of (seen.piece piece).content }
         requires filled { 0 < size }
         requires inside { are_in_ram piece.place size ≡ true }
-        requires apart { overlaps self piece.place (piece.place + size) ≡ false }
-        ensures { IfOk result (λ all. all ≡ self.entry ++ seen.piece piece.entry ∷ []) }
+        requires apart { overlaps self.old piece.place (piece.place + size) ≡ false }
+        ensures ok { OnOk result (self.new ≡ self.old ++ seen.piece piece.entry ∷ []) }
+        ensures err { OnErr result (self.new ≡ self.old) }
     {
-        let Pieces {
-            mut pieces,
-            mut ranges,
-        } = self;
-        let offset = ranges.size();
-        ranges.insert(Range {
+        let range = Range {
             start: piece.place,
             end: piece.place + size,
-            item: offset,
-        })?;
-        pieces.push(piece)?;
-        Ok(Pieces { pieces, ranges })
+            item: self.ranges.size(),
+        };
+        self.pieces.push(piece)?;
+        if let Err(refused) = self.ranges.insert(range) {
+            self.pieces.pop();
+            return Err(refused);
+        }
+        Ok(())
     }
 
     /// The range of each piece.

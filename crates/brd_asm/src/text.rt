@@ -20,10 +20,7 @@ pub fn place_all<'a>(alloc: Global, text: &'a [u8]) -> Result<Layout<'a>, AsmFau
     let mut line = 1;
     'lines: loop {
         let (bytes, behind) = split_line(rest);
-        placed = match placed.place(alloc, line, bytes) {
-            Ok(more) => more,
-            Err(fault) => return Err(fault),
-        };
+        placed.place(alloc, line, bytes)?;
         let Some(after) = behind else {
             return Ok(placed);
         };
