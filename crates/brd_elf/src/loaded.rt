@@ -1,6 +1,6 @@
 //! The segments that are loaded, and the ranges of addresses that they fill.
 
-ghost use Rattle.std.specs.Prelude.{◌≡◌, ℕ, ◌+◌, ◌<◌, ◌^◌, List, [], ◌∷◌, ◌++◌, false, length, OnOk, IfOk};
+ghost use Rattle.std.specs.Prelude.{◌≡◌, ℕ, ◌+◌, ◌<◌, ◌^◌, List, [], ◌∷◌, ◌++◌, false, length, OnOk, OnErr};
 ghost use Rattle.brd_elf.specs.Segments.{lies_in};
 
 use brd_base::NoMemory;
@@ -12,7 +12,7 @@ use std::marker::Model;
 /// Segments in the order in which they were loaded, none over another.
 #[derive(Drop)]
 pub struct Loaded {
-    segments: Segments,
+    segments: Vec<Segment>,
     /// The addresses of each.
     ranges: Ranges<()>,
 }
@@ -24,9 +24,9 @@ impl Model for Loaded {
 
     ghost Value = { List Segment };
 
-    ghost view = { λ loaded. loaded.segments };
+    ghost view = { λ loaded. loaded.segments.items };
 
-    ghost invariant = { λ loaded. AreRangesOf loaded.ranges loaded.segments };
+    ghost invariant = { λ loaded. AreRangesOf loaded.ranges loaded.segments.items };
 }
 
 impl Loaded {
@@ -35,7 +35,7 @@ impl Loaded {
         ensures { result ≡ [] }
     {
         Loaded {
-            segments: Segments::new(alloc),
+            segments: Vec::new(alloc),
             ranges: Ranges::new(alloc),
         }
     }
@@ -47,24 +47,25 @@ impl Loaded {
         self.ranges.overlaps(low, high)
     }
 
-    /// With one segment more.
-    pub fn with(self, segment: Segment, end: u32) -> Result<Self, NoMemory>
+    /// Puts a segment at the end. A refusal changes nothing, and the segment is given up.
+    pub fn push(&mut self, segment: Segment, end: u32) -> Result<(), NoMemory>
         requires is_end { end ≡ segment.address + length segment.bytes }
         requires filled { segment.address < end }
-        requires apart { lies_in self segment.address end ≡ false }
-        ensures { IfOk result (λ loaded. loaded ≡ self ++ segment ∷ []) }
+        requires apart { lies_in self.old segment.address end ≡ false }
+        ensures ok { OnOk result (self.new ≡ self.old ++ segment ∷ []) }
+        ensures err { OnErr result (self.new ≡ self.old) }
     {
-        let Loaded {
-            mut segments,
-            mut ranges,
-        } = self;
-        ranges.insert(Range {
+        let range = Range {
             start: segment.address,
             end,
             item: (),
-        })?;
-        segments.push(segment)?;
-        Ok(Loaded { segments, ranges })
+        };
+        self.segments.push(segment)?;
+        if let Err(refused) = self.ranges.insert(range) {
+            self.segments.pop();
+            return Err(refused);
+        }
+        Ok(())
     }
 
     /// The segments.
@@ -75,6 +76,6 @@ impl Loaded {
             segments,
             ranges: _,
         } = self;
-        segments
+        Segments::from_vec(segments)
     }
 }

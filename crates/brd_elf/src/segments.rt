@@ -1,6 +1,6 @@
 //! Program headers, and the segments that they load.
 
-ghost use Rattle.std.specs.Prelude.{◌≡◌, ℕ, ◌+◌, ◌*◌, ◌≤◌, ◌<◌, ◌^◌, [], ◌∷◌, ◌++◌, length, drop, IfOk, false};
+ghost use Rattle.std.specs.Prelude.{◌≡◌, ℕ, ◌+◌, ◌*◌, ◌≤◌, ◌<◌, ◌^◌, [], ◌∷◌, ◌++◌, length, drop, IfOk, OnOk, false};
 ghost use Rattle.brd_elf.specs.Faults.{Gives};
 ghost use Rattle.brd_elf.specs.Segments.{program_header_at, is_dynamic, is_skipped, has_bad_sizes, is_cut, is_outside, lies_in, loaded_bytes, load_fault, loaded, loaded_from, segments_of};
 
@@ -57,52 +57,52 @@ fn load_all(alloc: Global, file: &[u8], start: usize, count: usize) -> Result<Se
     let mut segments = Loaded::new(alloc);
     let mut at = start;
     for _ in 0..count {
-        segments = load(alloc, file, at, segments)?;
+        load(alloc, file, at, &mut segments)?;
         at += LEN;
     }
     Ok(segments.into_segments())
 }
 
-/// The segments before, and behind them the one of the program header at an offset, if it has one.
+/// Puts the segment of the program header at an offset behind the others, if it has one.
 #[tactic(auto, unfolding(crate::specs::Segments::loaded))]
-fn load(alloc: Global, file: &[u8], at: usize, before: Loaded) -> Result<Loaded, ElfFault>
+fn load(alloc: Global, file: &[u8], at: usize, segments: &mut Loaded) -> Result<(), ElfFault>
     requires { at + 32 ≤ length file.now }
-    ensures { Gives (λ after. after) result (loaded file.now at (program_header_at (drop at file.now)) before) }
+    ensures { Gives (λ _. segments.new) result (loaded file.now at (program_header_at (drop at file.now)) segments.old) }
 {
     let header = program_header_at(&file[at..]);
     if is_dynamic(header) {
         return Err(ElfFault::Unsupported { at });
     }
     if is_skipped(header) {
-        return Ok(before);
+        return Ok(());
     }
-    match load_fault(file, at, header, &before) {
+    match load_fault(file, at, header, segments) {
         Some(fault) => Err(fault),
-        None => Ok(load_segment(alloc, file, header, before)?),
+        None => Ok(load_segment(alloc, file, header, segments)?),
     }
 }
 
-/// The segments before, and behind them the one of a program header that can be loaded.
+/// Puts the segment of a program header that can be loaded behind the others.
 fn load_segment(
     alloc: Global,
     file: &[u8],
     header: ProgramHeader,
-    before: Loaded,
-) -> Result<Loaded, NoMemory>
+    segments: &mut Loaded,
+) -> Result<(), NoMemory>
     requires skipped { is_skipped header ≡ false }
     requires sizes { has_bad_sizes header ≡ false }
     requires whole { is_cut file.now header ≡ false }
     requires inside { is_outside header ≡ false }
-    requires apart { lies_in before header.address (header.address + header.memory_size) ≡ false }
-    ensures { IfOk result (λ after. after
-        ≡ before ++ record { address = header.address; bytes = loaded_bytes file.now header } ∷ []) }
+    requires apart { lies_in segments.old header.address (header.address + header.memory_size) ≡ false }
+    ensures { OnOk result (segments.new
+        ≡ segments.old ++ record { address = header.address; bytes = loaded_bytes file.now header } ∷ []) }
 {
     let bytes = loaded_bytes(alloc, file, header)?;
     let segment = Segment {
         address: header.address,
         bytes,
     };
-    before.with(segment, header.address + header.memory_size)
+    segments.push(segment, header.address + header.memory_size)
 }
 
 /// The program header that bytes begin with.
