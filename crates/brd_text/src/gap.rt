@@ -33,6 +33,21 @@ fn line_end(rest: &[u8]) -> &[u8]
     left
 }
 
+/// What is behind bytes of a comment that neither end it nor their line.
+fn behind_comment_bytes(rest: &[u8]) -> &[u8]
+    ensures same { (line : ℕ) → tokens_in InBlock line rest.now ≡ tokens_in InBlock line result.now }
+    ensures room { length result.now ≤ length rest.now }
+{
+    let mut left = rest;
+    while let Some((byte, after)) = left.split_first() {
+        if *byte == b'*' || *byte == b'\n' {
+            return left;
+        }
+        left = after;
+    }
+    left
+}
+
 /// What is behind a comment that ends with `*/`.
 fn after_block(rest: &[u8], line: usize) -> Gap<'_>
     requires { line + length rest.now < 2 ^ 64 }
@@ -49,7 +64,7 @@ fn after_block(rest: &[u8], line: usize) -> Gap<'_>
             return Gap::Closed(end, at);
         }
         at = line_after(at, *byte);
-        left = after;
+        left = behind_comment_bytes(after);
     }
     Gap::Open(at)
 }
