@@ -13,6 +13,3 @@ pub use no_memory::NoMemory;
 pub use room::copy_with_room;
 pub use same::{Same, same_slices};
 pub use space::{BASE, TOP, is_ram_size};
-
-#[cfg(test)]
-mod tests;

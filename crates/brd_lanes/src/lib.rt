@@ -10,8 +10,6 @@ ghost use Rattle.brd_lanes.specs.Scan.{IsLeast, is_satisfied_at, is_due_at, is_b
 
 mod eight;
 mod plain;
-#[cfg(test)]
-mod tests;
 
 use eight::LANES;
 

@@ -11,8 +11,6 @@ ghost use Rattle.std.specs.Int.{bit_at};
 ghost use Rattle.brd_link.specs.LinkSet.{IsLinkSet, is_linked, linked_address, without, with_link, after_store, outside_block};
 
 pub mod laws;
-#[cfg(test)]
-mod tests;
 
 use brd_lanes::break_links;
 use std::marker::Model;
@@ -26,7 +24,7 @@ const BLOCK: u32 = 16;
 ///
 /// Bit j of `mask` says whether processor j + 1 has one, to the address `addresses[j]`. The address of
 /// a processor without a link is 0, so equal sets have equal fields.
-#[derive(Clone, Copy, Debug)]
+#[derive(Clone, Copy)]
 pub struct Links {
     addresses: [u32; PROCESSORS],
     mask: u8,

@@ -14,6 +14,3 @@ pub use image::{Bytes, Image, Segment, Segments, Symbol, Symbols};
 pub use pages::{PAGE_SIZE, Page, Pages};
 pub use plain::is_plain;
 pub use ram::Ram;
-
-#[cfg(test)]
-mod tests;

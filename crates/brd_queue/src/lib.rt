@@ -11,6 +11,3 @@ mod room;
 pub use entry::{Entry, Order};
 pub use queue::Queue;
 pub use room::{MOST_TASKS, insert_within};
-
-#[cfg(test)]
-mod tests;

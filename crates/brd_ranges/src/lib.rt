@@ -6,6 +6,3 @@ mod ranges;
 
 pub use range::Range;
 pub use ranges::Ranges;
-
-#[cfg(test)]
-mod tests;

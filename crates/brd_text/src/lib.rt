@@ -19,6 +19,3 @@ pub use line::{line_after, line_at, split_line};
 pub use numeral::{decimal, hex_value, number, plain_decimal};
 pub use scanner::Scanner;
 pub use token::Token;
-
-#[cfg(test)]
-mod tests;

@@ -4,9 +4,6 @@ ghost use Rattle.std.specs.Prelude.{◌≡◌, Decides, ◌<◌, ◌≤◌, ◌^
 ghost use Rattle.brd_time.specs.Kept.{AreNotBefore};
 ghost use Rattle.brd_time.specs.Time.{beginning, due_of, with_due, advanced, last_count, next_due_of};
 
-#[cfg(test)]
-mod tests;
-
 use brd_base::{NoMemory, copy_with_room};
 use std::alloc::Global;
 use std::marker::Model;

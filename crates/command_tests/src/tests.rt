@@ -76,8 +76,8 @@ fn assert_fault(
         Ok(()) => assert!(rt; false, "no fault, in place of: {text}"),
         Err(fault) => {
             let shown = format!(in alloc; "{fault}")?;
-            assert_eq!(rt; shown.as_str(), text);
-            assert_eq!(rt; fault.status(), status, "{text}");
+            assert!(rt; shown.as_str() == text);
+            assert!(rt; fault.status() == status, "{text}");
         }
     }
     Ok(())
@@ -86,7 +86,7 @@ fn assert_fault(
 #[test]
 fn bytes_in_and_out(rt: HostRuntime) -> Result<(), Fail> {
     let output = Tested::Words.output(rt.alloc())?;
-    assert_eq!(rt; output.as_slice(), OUTPUT);
+    assert!(rt; output.as_slice() == OUTPUT);
     Ok(())
 }
 
@@ -103,15 +103,15 @@ fn each_read_fails(rt: HostRuntime) -> Result<(), Fail> {
             let mut writer = Taking::new(alloc);
             let result = tested.run(alloc, &mut reader, &mut writer);
             assert_fault(&rt, alloc, result, text.as_str(), 4)?;
-            assert_eq!(rt; reader.reads, fails_at);
-            assert_eq!(rt; writer.writes, 0);
+            assert!(rt; reader.reads == fails_at);
+            assert!(rt; writer.writes == 0);
         }
         let mut reader = Bytewise::new(tested.input());
         let mut writer = Vec::new(alloc);
         tested.run(alloc, &mut reader, &mut writer)?;
-        assert_eq!(rt; reader.reads, reads);
+        assert!(rt; reader.reads == reads);
         let output = tested.output(alloc)?;
-        assert_eq!(rt; writer.as_slice(), output.as_slice());
+        assert!(rt; writer.as_slice() == output.as_slice());
     }
     Ok(())
 }
@@ -126,7 +126,7 @@ fn reads_and_writes_are_interrupted(rt: HostRuntime) -> Result<(), Fail> {
         writer.interrupts = true;
         tested.run(alloc, &mut reader, &mut writer)?;
         let output = tested.output(alloc)?;
-        assert_eq!(rt; writer.taken.as_slice(), output.as_slice());
+        assert!(rt; writer.taken.as_slice() == output.as_slice());
     }
     Ok(())
 }
@@ -152,8 +152,8 @@ fn many_reads(rt: HostRuntime) -> Result<(), Fail> {
     let mut reader = Bytewise::new(input.as_slice());
     let mut writer = Vec::new(alloc);
     words(alloc, &mut reader, &mut writer, 2)?;
-    assert_eq!(rt; reader.reads, 300_019);
-    assert_eq!(rt; writer.as_slice(), OUTPUT);
+    assert!(rt; reader.reads == 300_019);
+    assert!(rt; writer.as_slice() == OUTPUT);
     Ok(())
 }
 
@@ -167,8 +167,8 @@ fn reads_end(rt: HostRuntime) -> Result<(), Fail> {
         let result = tested.run(alloc, &mut reader, &mut writer);
         let text = format!(in alloc; "{} didn't end within 268,435,456 reads", tested.name())?;
         assert_fault(&rt, alloc, result, text.as_str(), 4)?;
-        assert_eq!(rt; reader.reads, 268_435_456);
-        assert_eq!(rt; writer.writes, 0);
+        assert!(rt; reader.reads == 268_435_456);
+        assert!(rt; writer.writes == 0);
     }
     Ok(())
 }
@@ -187,7 +187,7 @@ fn each_write_fails(rt: HostRuntime) -> Result<(), Fail> {
                 writer.kind = kind;
                 match tested.run(alloc, &mut reader, &mut writer) {
                     Err(CommandFault::Write(error)) => {
-                        assert_eq!(rt; error.kind(), kind);
+                        assert!(rt; error.kind() == kind);
                         assert_fault(
                             &rt,
                             alloc,
@@ -198,16 +198,16 @@ fn each_write_fails(rt: HostRuntime) -> Result<(), Fail> {
                     }
                     _ => assert!(rt; false, "write {taken} doesn't fail"),
                 }
-                assert_eq!(rt; writer.writes, writer.fails_at);
+                assert!(rt; writer.writes == writer.fails_at);
                 assert!(rt; output.as_slice().starts_with(writer.taken.as_slice()));
-                assert_eq!(rt; writer.taken.len(), taken);
+                assert!(rt; writer.taken.len() == taken);
             }
         }
         let mut reader = tested.input();
         let mut writer = Taking::new(alloc);
         tested.run(alloc, &mut reader, &mut writer)?;
-        assert_eq!(rt; writer.writes, output.len().saturating_add(1));
-        assert_eq!(rt; writer.taken.as_slice(), output.as_slice());
+        assert!(rt; writer.writes == output.len().saturating_add(1));
+        assert!(rt; writer.taken.as_slice() == output.as_slice());
     }
     Ok(())
 }
@@ -220,7 +220,7 @@ fn a_writer_takes_nothing(rt: HostRuntime) -> Result<(), Fail> {
     writer.is_full = true;
     let result = words(alloc, &mut reader, &mut writer, 2);
     assert_fault(&rt, alloc, result, "can't write the output: write zero", 4)?;
-    assert_eq!(rt; writer.writes, 1);
+    assert!(rt; writer.writes == 1);
     Ok(())
 }
 
@@ -246,7 +246,7 @@ fn faults_of_words(rt: HostRuntime) -> Result<(), Fail> {
         let mut writer = Taking::new(alloc);
         let result = words(alloc, &mut reader, &mut writer, 2);
         assert_fault(&rt, alloc, result, text, 1)?;
-        assert_eq!(rt; writer.writes, 0);
+        assert!(rt; writer.writes == 0);
     }
     Ok(())
 }
@@ -272,7 +272,7 @@ fn faults_of_a_source(rt: HostRuntime) -> Result<(), Fail> {
         let result = asm(alloc, &mut reader, &mut writer);
         let text = format!(in alloc; "the source: {fault}: {shown}")?;
         assert_fault(&rt, alloc, result, text.as_str(), 1)?;
-        assert_eq!(rt; writer.writes, 0);
+        assert!(rt; writer.writes == 0);
     }
     Ok(())
 }
@@ -330,7 +330,7 @@ fn an_image_is_too_large(rt: HostRuntime) -> Result<(), Fail> {
         "the source: its image has more segments or bytes than an object file can hold",
         1,
     )?;
-    assert_eq!(rt; writer.writes, 0);
+    assert!(rt; writer.writes == 0);
     Ok(())
 }
 
@@ -340,11 +340,11 @@ fn an_object_file_is_read_again(rt: HostRuntime) -> Result<(), Fail> {
     let alloc = rt.alloc();
     let written = Tested::Asm.output(alloc)?;
     let image = brd_elf::read(alloc, &written)?;
-    assert_eq!(rt; image.entry, 0x8000_0000);
-    assert_eq!(rt; image.segments.len(), 2);
-    assert_eq!(rt; image.symbols.len(), 2);
+    assert!(rt; image.entry == 0x8000_0000);
+    assert!(rt; image.segments.len() == 2);
+    assert!(rt; image.symbols.len() == 2);
     assert!(rt; is_plain(&image));
     let again = brd_elf::write(alloc, &image)?;
-    assert_eq!(rt; again.as_slice(), written.as_slice());
+    assert!(rt; again.as_slice() == written.as_slice());
     Ok(())
 }

@@ -50,7 +50,7 @@ fn each_read_of_commands_fails(rt: HostRuntime) -> Result<(), Fail> {
             8..13 => b"at 2\n",
             _ => b"at 2\nnone\n",
         };
-        assert_eq!(rt; writer.taken.as_slice(), lines);
+        assert!(rt; writer.taken.as_slice() == lines);
     }
     Ok(())
 }
@@ -83,7 +83,7 @@ fn the_end_of_commands_is_read_once(rt: HostRuntime) -> Result<(), Fail> {
             &mut reader,
             &mut writer,
         )?;
-        assert_eq!(rt; reader.reads, reads);
+        assert!(rt; reader.reads == reads);
     }
     Ok(())
 }
@@ -103,7 +103,7 @@ fn each_write_of_answers_fails(rt: HostRuntime) -> Result<(), Fail> {
     }
     let mut writer = Taking::new(alloc);
     debug_failing(alloc, image.as_slice(), COMMANDS, 0, &mut writer)?;
-    assert_eq!(rt; writer.taken.as_slice(), ANSWERS);
+    assert!(rt; writer.taken.as_slice() == ANSWERS);
     Ok(())
 }
 
@@ -143,7 +143,7 @@ fn lines_of_debug(rt: HostRuntime) -> Result<(), Fail> {
     ] {
         let mut writer = Taking::new(alloc);
         debug_failing(alloc, image.as_slice(), commands, 0, &mut writer)?;
-        assert_eq!(rt; writer.taken.as_slice(), answers);
+        assert!(rt; writer.taken.as_slice() == answers);
     }
     Ok(())
 }

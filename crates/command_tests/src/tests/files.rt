@@ -146,10 +146,10 @@ fn requests(rt: HostRuntime) -> Result<(), Fail> {
         let mut input = b"24080005".as_slice();
         let mut output = Vec::new(alloc);
         perform(alloc, &mut files, &mut input, &mut output, request)?;
-        assert_eq!(rt; input.len(), left);
-        assert_eq!(rt; output.as_slice(), written.as_bytes());
+        assert!(rt; input.len() == left);
+        assert!(rt; output.as_slice() == written.as_bytes());
         match notes.try_borrow() {
-            Ok(notes) => assert_eq!(rt; notes.as_str(), done),
+            Ok(notes) => assert!(rt; notes.as_str() == done),
             Err(_) => assert!(rt; false, "the notes are in use"),
         }
     }

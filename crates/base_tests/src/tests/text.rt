@@ -1,6 +1,6 @@
 //! Bytes, lines, tokens and numbers with values that were worked out by hand.
 
-use crate::{
+use brd_text::{
     Scanner, Token, decimal, hex_digits, hex_value, hex_word, is_blank, is_digit, is_letter,
     is_name, is_run_byte, is_space, line_after, line_at, number, plain_decimal, split_line,
 };

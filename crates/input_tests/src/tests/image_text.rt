@@ -1,5 +1,4 @@
-//! What an image holds, as a line of text: for tests.
-#![tactic(auto)]
+//! What an image holds, as a line of text.
 
 use brd_mem::Image;
 use std::alloc::{AllocError, Global};

@@ -1,4 +1,6 @@
-use super::*;
+//! Lists that grow, and RAM's sizes.
+
+use brd_base::{List, is_ram_size};
 use std::test::Fail;
 
 /// A list grows past many doublings, and keeps what was put into it.
@@ -12,12 +14,12 @@ fn lists_grow(rt: HostRuntime) -> Result<(), Fail> {
     }
     list.append(&[7, 8])?;
     assert!(rt; !list.is_empty());
-    assert_eq!(rt; list.len(), 100_002);
-    assert_eq!(rt; list.as_slice().get(99_999), Some(&99_999));
+    assert!(rt; list.len() == 100_002);
+    assert!(rt; list.as_slice().get(99_999) == Some(&99_999));
     let copy = List::from_slice(alloc, list.as_slice())?;
-    assert_eq!(rt; copy.as_slice(), list.as_slice());
+    assert!(rt; copy.as_slice() == list.as_slice());
     let vector = Vec::from_slice(alloc, &[1u8, 2])?;
-    assert_eq!(rt; List::from_vec(vector).as_slice(), [1u8, 2].as_slice());
+    assert!(rt; List::from_vec(vector).as_slice() == [1u8, 2].as_slice());
     Ok(())
 }
 
@@ -32,6 +34,6 @@ fn ram_sizes(rt: HostRuntime) {
         (16_777_216, true),
         (16_842_752, false),
     ] {
-        assert_eq!(rt; is_ram_size(size), may_be, "{size}");
+        assert!(rt; is_ram_size(size) == may_be, "{size}");
     }
 }

@@ -1,5 +1,7 @@
-use super::*;
+//! RAM, images and pages.
+
 use brd_base::NoMemory;
+use brd_mem::*;
 use std::alloc::Global;
 use std::test::Fail;
 
@@ -58,9 +60,9 @@ fn sizes(rt: HostRuntime) {
 #[test]
 fn accesses(rt: HostRuntime) -> Result<(), Fail> {
     let mut ram = Ram::new(rt.alloc(), 65_536)?;
-    assert_eq!(rt; ram.store32(0x8000_0100, 0x1234_5678), Ok(()));
-    assert_eq!(rt; ram.load32(0x8000_0100), Ok(0x1234_5678));
-    assert_eq!(rt; ram.fetch(0x8000_0100), Ok(0x1234_5678));
+    assert!(rt; ram.store32(0x8000_0100, 0x1234_5678) == Ok(()));
+    assert!(rt; ram.load32(0x8000_0100) == Ok(0x1234_5678));
+    assert!(rt; ram.fetch(0x8000_0100) == Ok(0x1234_5678));
     for (address, byte) in [
         (0x8000_00ff, Some(0)),
         (0x8000_0100, Some(0x12)),
@@ -73,7 +75,7 @@ fn accesses(rt: HostRuntime) -> Result<(), Fail> {
         (0x7fff_ffff, None),
         (0, None),
     ] {
-        assert_eq!(rt; ram.byte(address), byte, "{address}");
+        assert!(rt; ram.byte(address) == byte, "{address}");
     }
     for (address, load, store, fetch) in [
         (0x8000_0002, Exc::AdEL, Exc::AdES, Exc::AdEL),
@@ -82,9 +84,9 @@ fn accesses(rt: HostRuntime) -> Result<(), Fail> {
         (0, Exc::DBE, Exc::DBE, Exc::IBE),
         (0xffff_ffff, Exc::AdEL, Exc::AdES, Exc::AdEL),
     ] {
-        assert_eq!(rt; ram.load32(address), Err(load), "{address}");
-        assert_eq!(rt; ram.store32(address, 1), Err(store), "{address}");
-        assert_eq!(rt; ram.fetch(address), Err(fetch), "{address}");
+        assert!(rt; ram.load32(address) == Err(load), "{address}");
+        assert!(rt; ram.store32(address, 1) == Err(store), "{address}");
+        assert!(rt; ram.fetch(address) == Err(fetch), "{address}");
     }
     Ok(())
 }
@@ -102,11 +104,11 @@ fn ranges(rt: HostRuntime) -> Result<(), Fail> {
         (0x7fff_ffff, 1, false),
         (0xffff_ffff, 1, false),
     ] {
-        assert_eq!(rt; ram.contains(address, len), inside, "{address}, {len}");
+        assert!(rt; ram.contains(address, len) == inside, "{address}, {len}");
     }
     assert!(rt; ram.contains(0x8000_fffe, 2));
     ram.copy_in(0x8000_fffe, &[7, 9]);
-    assert_eq!(rt; ram.load32(0x8000_fffc), Ok(0x0000_0709));
+    assert!(rt; ram.load32(0x8000_fffc) == Ok(0x0000_0709));
     Ok(())
 }
 
@@ -176,18 +178,15 @@ fn pages(rt: HostRuntime) -> Result<(), Fail> {
 #[test]
 fn images_of_words(rt: HostRuntime) -> Result<(), Fail> {
     let image = Image::from_words(rt.alloc(), &[0x0102_0304, 0xfffe_fdfc])?;
-    assert_eq!(rt; image.entry, 0x8000_0000);
-    assert_eq!(rt; image.symbols.as_slice().len(), 0);
-    assert_eq!(rt; image.segments.as_slice().len(), 1);
+    assert!(rt; image.entry == 0x8000_0000);
+    assert!(rt; image.symbols.as_slice().len() == 0);
+    assert!(rt; image.segments.as_slice().len() == 1);
     for segment in image.segments.as_slice() {
-        assert_eq!(rt; segment.address, 0x8000_0000);
-        assert_eq!(rt;
-            segment.bytes.as_slice(),
-            [1, 2, 3, 4, 0xff, 0xfe, 0xfd, 0xfc].as_slice()
-        );
+        assert!(rt; segment.address == 0x8000_0000);
+        assert!(rt; segment.bytes.as_slice() == [1, 2, 3, 4, 0xff, 0xfe, 0xfd, 0xfc].as_slice());
     }
     let none = Image::from_words(rt.alloc(), &[])?;
-    assert_eq!(rt; none.segments.as_slice().len(), 0);
+    assert!(rt; none.segments.as_slice().len() == 0);
     Ok(())
 }
 
@@ -206,17 +205,19 @@ fn plain_segments(rt: HostRuntime) -> Result<(), Fail> {
     Ok(())
 }
 
+/// Names of symbols, and whether an image with these is plain.
+const NAMES: &[(&[&[u8]], bool)] = &[
+    (&[b""], false),
+    (&[b"a\0"], false),
+    (&[b"a", b"b", b"A"], true),
+    (&[b"a", b"b", b"a"], false),
+    (&[b"a", b"b", b"b"], false),
+];
+
 #[test]
 fn plain_names(rt: HostRuntime) -> Result<(), Fail> {
-    let alloc = rt.alloc();
-    for (names, plain) in [
-        ([b"".as_slice()].as_slice(), false),
-        ([b"a\0".as_slice()].as_slice(), false),
-        ([b"a".as_slice(), b"b", b"A"].as_slice(), true),
-        ([b"a".as_slice(), b"b", b"a"].as_slice(), false),
-        ([b"a".as_slice(), b"b", b"b"].as_slice(), false),
-    ] {
-        assert_eq!(rt; is_plain_with_names(alloc, names)?, plain);
+    for (names, plain) in NAMES {
+        assert!(rt; is_plain_with_names(rt.alloc(), *names)? == *plain);
     }
     Ok(())
 }

@@ -1,5 +1,5 @@
 //! Worked examples: which links a change leaves.
-use super::Links;
+use brd_link::Links;
 use std::process::Abort;
 
 const WORD: u32 = 0x8000_1000;
@@ -68,7 +68,7 @@ fn ends_by_a_store_of_another_into_the_block(rt: HostRuntime) {
     ];
     for (linked, is_own, stored, stays, name) in rows {
         let expected = if stays { Some(linked) } else { None };
-        assert_eq!(rt; after_store(linked, is_own, stored), expected, "{name}");
+        assert!(rt; after_store(linked, is_own, stored) == expected, "{name}");
     }
 }
 
@@ -82,7 +82,7 @@ fn takes_a_link_once(rt: HostRuntime) {
     assert!(rt; !links.take(1, WORD), "a second time");
     links.set(1, WORD);
     assert!(rt; !links.take(1, WORD + 4), "another word of the block");
-    assert_eq!(rt; links.state(1), None, "but the link ends");
+    assert!(rt; links.state(1).is_none(), "but the link ends");
     links.set(1, WORD);
     links.set(1, WORD + 64);
     assert!(rt; !links.take(1, WORD), "the word of the first of two");
@@ -105,7 +105,7 @@ fn keeps_two_processors_apart(rt: HostRuntime) {
     links.set(1, WORD);
     links.set(2, WORD);
     links.stored(1, WORD);
-    assert_eq!(rt; (links.state(1), links.state(2)), (Some(WORD), None));
+    assert!(rt; (links.state(1), links.state(2)) == (Some(WORD), None));
 }
 
 fn address_of(cpu: u8) -> u32 {
@@ -122,10 +122,10 @@ fn holds_a_link_for_each_processor(rt: HostRuntime) {
     let all = links;
     links.stored(5, address_of(7));
     for cpu in 1..9u8 {
-        assert_eq!(rt; all.state(cpu), Some(address_of(cpu)), "the copy, {cpu}");
+        assert!(rt; all.state(cpu) == Some(address_of(cpu)), "the copy, {cpu}");
         let ends = cpu == 4 || cpu == 6 || cpu == 7;
         let expected = if ends { None } else { Some(address_of(cpu)) };
-        assert_eq!(rt; links.state(cpu), expected, "{cpu}");
+        assert!(rt; links.state(cpu) == expected, "{cpu}");
     }
     assert!(rt; links != all);
     links.set(7, address_of(7));

@@ -1,4 +1,6 @@
-use super::*;
+//! Queues of tasks, by arrival and by priority.
+
+use brd_queue::{Entry, Order, Queue};
 use std::test::Fail;
 
 fn entry(id: u16, priority: u8) -> Entry<u32> {
@@ -21,10 +23,10 @@ fn put(queue: &mut Queue<u32>, order: Order, entry: Entry<u32>) -> Option<usize>
 #[test]
 fn by_priority(rt: HostRuntime) -> Result<(), Fail> {
     let mut queue = Queue::new(rt.alloc())?;
-    assert_eq!(rt; queue.first(), None);
+    assert!(rt; queue.first().is_none());
     for (id, priority, at) in [(1, 3, 0), (2, 1, 0), (3, 3, 2), (4, 2, 1), (5, 16, 4)] {
         let came = put(&mut queue, Order::Priority, entry(id, priority));
-        assert_eq!(rt; came, Some(at), "{id}");
+        assert!(rt; came == Some(at), "{id}");
     }
     let by_priority = [
         entry(2, 1),
@@ -33,7 +35,7 @@ fn by_priority(rt: HostRuntime) -> Result<(), Fail> {
         entry(3, 3),
         entry(5, 16),
     ];
-    assert_eq!(rt; queue.as_slice(), by_priority.as_slice());
+    assert!(rt; queue.as_slice() == by_priority.as_slice());
     queue.rotate(3);
     let turned = [
         entry(2, 1),
@@ -42,14 +44,14 @@ fn by_priority(rt: HostRuntime) -> Result<(), Fail> {
         entry(1, 3),
         entry(5, 16),
     ];
-    assert_eq!(rt; queue.as_slice(), turned.as_slice());
+    assert!(rt; queue.as_slice() == turned.as_slice());
     queue.rotate(9);
-    assert_eq!(rt; queue.leave(2), Some(0));
-    assert_eq!(rt; queue.leave(2), None);
-    assert_eq!(rt; queue.first(), Some(entry(4, 2)));
+    assert!(rt; queue.leave(2) == Some(0));
+    assert!(rt; queue.leave(2).is_none());
+    assert!(rt; queue.first() == Some(entry(4, 2)));
     assert!(rt; queue.has(5) && !queue.has(2));
-    assert_eq!(rt; queue.entry(5), Some(entry(5, 16)));
-    assert_eq!(rt; queue.entry(2), None);
+    assert!(rt; queue.entry(5) == Some(entry(5, 16)));
+    assert!(rt; queue.entry(2).is_none());
     Ok(())
 }
 
@@ -63,12 +65,12 @@ fn another_priority(rt: HostRuntime) -> Result<(), Fail> {
     queue.reorder(Order::Arrival, 2, 1);
     queue.reorder(Order::Arrival, 9, 1);
     let renumbered = [entry(1, 3), entry(2, 1), entry(3, 3), entry(4, 3)];
-    assert_eq!(rt; queue.as_slice(), renumbered.as_slice());
+    assert!(rt; queue.as_slice() == renumbered.as_slice());
     queue.reorder(Order::Priority, 1, 3);
     queue.reorder(Order::Priority, 4, 2);
     queue.reorder(Order::Priority, 9, 2);
     let moved = [entry(2, 1), entry(4, 2), entry(3, 3), entry(1, 3)];
-    assert_eq!(rt; queue.as_slice(), moved.as_slice());
+    assert!(rt; queue.as_slice() == moved.as_slice());
     Ok(())
 }
 
@@ -84,10 +86,10 @@ fn every_task(rt: HostRuntime) -> Result<(), Fail> {
                 "{id}"
             );
         }
-        assert_eq!(rt; queue.as_slice().len(), 256);
+        assert!(rt; queue.as_slice().len() == 256);
         let first = if order == Order::Arrival { 0 } else { 1 };
-        assert_eq!(rt; queue.first().map(|e| e.id), Some(first));
-        assert_eq!(rt; queue.leave(255), Some(if first == 0 { 255 } else { 127 }));
+        assert!(rt; queue.first().map(|e| e.id) == Some(first));
+        assert!(rt; queue.leave(255) == Some(if first == 0 { 255 } else { 127 }));
     }
     Ok(())
 }

@@ -1,4 +1,6 @@
-use super::*;
+//! Ranges that come in any order.
+
+use brd_ranges::{Range, Ranges};
 use std::test::Fail;
 
 /// Ranges that come in any order are walked by ascending address, and each is found.
@@ -15,7 +17,7 @@ fn ranges_ascend(rt: HostRuntime) -> Result<(), Fail> {
             item: i,
         })?;
     }
-    assert_eq!(rt; ranges.size(), 500_000);
+    assert!(rt; ranges.size() == 500_000);
     for (low, high, over) in [
         (0x8000_0004, 0x8000_0005, true),
         (0x8000_0005, 0x8000_000a, false),
@@ -23,15 +25,15 @@ fn ranges_ascend(rt: HostRuntime) -> Result<(), Fail> {
         (0, 0x8000_0000, false),
         (0, 0xffff_ffff, true),
     ] {
-        assert_eq!(rt; ranges.overlaps(low, high), over, "{low} {high}");
+        assert!(rt; ranges.overlaps(low, high) == over, "{low} {high}");
     }
     for i in 0..100_000u32 {
         let range = ranges.pop_first().ok_or("none")?;
         let start = 0x8000_0000 + 10 * i;
-        assert_eq!(rt; (range.start, range.end), (start, start + 5));
-        assert_eq!(rt; u64::from(range.item) * 7 % 100_000, u64::from(i));
+        assert!(rt; (range.start, range.end) == (start, start + 5));
+        assert!(rt; u64::from(range.item) * 7 % 100_000 == u64::from(i));
     }
     assert!(rt; ranges.pop_first().is_none());
-    assert_eq!(rt; ranges.size(), 0);
+    assert!(rt; ranges.size() == 0);
     Ok(())
 }

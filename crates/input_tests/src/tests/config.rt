@@ -1,0 +1,51 @@
+//! Texts with answers that were worked out by hand.
+
+mod changed;
+mod many;
+mod values;
+
+use brd_config::{Config, ConfigFault};
+
+/// What a text says, as a row has it: a configuration, or a fault and its line.
+#[derive(Clone, Copy, Debug, PartialEq, Eq)]
+enum Want {
+    Fine,
+    Syntax(usize),
+    Duplicate(usize),
+    BadId(usize),
+    BadAttribute(usize),
+    BadPriority(usize),
+    BadCount(usize),
+    BadProcessor(usize),
+    NoMemory,
+}
+
+fn answered(answer: &Result<Config, ConfigFault>) -> Want {
+    match answer {
+        Ok(_) => Want::Fine,
+        Err(ConfigFault::NoMemory) => Want::NoMemory,
+        Err(ConfigFault::Syntax { line }) => Want::Syntax(*line),
+        Err(ConfigFault::Duplicate { line }) => Want::Duplicate(*line),
+        Err(ConfigFault::BadId { line }) => Want::BadId(*line),
+        Err(ConfigFault::BadAttribute { line }) => Want::BadAttribute(*line),
+        Err(ConfigFault::BadPriority { line }) => Want::BadPriority(*line),
+        Err(ConfigFault::BadCount { line }) => Want::BadCount(*line),
+        Err(ConfigFault::BadProcessor { line }) => Want::BadProcessor(*line),
+    }
+}
+
+/// A text with a statement of every kind, comments of both forms, and numbers of both.
+const EVERY: &str = "/* every kind of statement */
+BOARD(2, 0x40000);  // processors, RAM
+CRE_TSK(1, {TA_HLNG | TA_ACT, 0, main_task, 2, 256, NULL});
+CRE_SEM(1, {TA_TPRI, 1, 0x10});
+CLASS(TCL_2) {
+    CRE_TSK(2, {TA_ASM, exinf_2, 0x80000100, 16, 0x200, 0x80030000});
+    CRE_TSK(255, {0, .start, _loop$1, 1, 1, stack_area});
+    DEF_INH(31, {TA_HLNG, on_timer});
+}
+CRE_FLG(3, {TA_WMUL | TA_CLR | 1, 0xFFFFFFFF});
+CRE_DTQ(4, {TA_TFIFO, 256, NULL});
+CRE_DTQ(5, {1, 0, 0x80020000});
+DEF_INH(0, {TA_ASM, 0x80000200});
+";

@@ -1,0 +1,8 @@
+//! What no clause says: worked examples, large values, growths that are refused.
+
+mod board;
+mod exec;
+mod kernel;
+mod objects;
+mod sysgate;
+mod tasks;

@@ -1,0 +1,516 @@
+use brd_base::NoMemory;
+use brd_config::{ConfigFault, parse};
+use brd_exec::Outcome;
+use brd_kernel::{Call, Ended, Handler, Kernel, LineSetup, Reply, Standing, TaskSetup, TaskState};
+use brd_link::Links;
+use brd_mem::Ram;
+use brd_tasks::are_setups;
+use std::alloc::Global;
+use std::test::Fail;
+
+/// A task of this number, processor and priority.
+fn setup(id: u16, cpu: u8, priority: u8) -> TaskSetup {
+    TaskSetup {
+        id,
+        cpu,
+        priority,
+        exinf: 0,
+        address: 0x8000_0000,
+        sp: 0,
+    }
+}
+
+/// A kernel of two processors. Tasks 1 and 2, of priorities 2 and 3, are ready on processor 1, and task 3 on processor 2; task 4, of
+/// processor 2 and priority 9, is dormant. Tasks 1 and 3 run.
+fn two(alloc: Global) -> Result<Kernel, NoMemory> {
+    let setups = [
+        setup(1, 1, 2),
+        setup(2, 1, 3),
+        setup(3, 2, 5),
+        setup(4, 2, 9),
+    ];
+    if !are_setups(&setups) {
+        return Err(NoMemory);
+    }
+    let mut kernel = Kernel::new(alloc, 2, &setups, &[], &[], &[], &[])?;
+    for id in [2, 1, 3] {
+        kernel.start(id);
+    }
+    let _ = kernel.dispatch();
+    Ok(kernel)
+}
+
+/// A kernel of two processors with two tasks on each, of which 1 and 3 run, and with objects: semaphore 1 is full, semaphore 2 is empty,
+/// flag 1 has bit 0 and lets one task wait, flag 2 has no bits, queue 1 stores nothing, and queue 2 is empty.
+fn with_objects(alloc: Global) -> Result<Kernel, ConfigFault> {
+    let config = parse(
+        alloc,
+        b"BOARD(2, 0x10000);
+        CRE_SEM(1, {TA_TFIFO, 1, 1}); CRE_SEM(2, {TA_TPRI, 0, 1});
+        CRE_FLG(1, {TA_WSGL, 1}); CRE_FLG(2, {TA_WMUL | TA_CLR, 0});
+        CRE_DTQ(1, {TA_TFIFO, 0, NULL}); CRE_DTQ(2, {TA_TPRI, 2, NULL});",
+    )?;
+    let setups = [
+        setup(1, 1, 2),
+        setup(2, 1, 3),
+        setup(3, 2, 5),
+        setup(4, 2, 9),
+    ];
+    if !are_setups(&setups) {
+        return Err(ConfigFault::NoMemory);
+    }
+    let mut kernel = Kernel::new(
+        alloc,
+        config.processors,
+        &setups,
+        &[],
+        config.semaphores.as_slice(),
+        config.flags.as_slice(),
+        config.queues.as_slice(),
+    )?;
+    for id in 1..5u16 {
+        kernel.start(id);
+    }
+    let _ = kernel.dispatch();
+    Ok(kernel)
+}
+
+const OK: Reply = Reply::Answer(0, None);
+
+const PAR: Reply = Reply::Answer(0xffff_ffef, None);
+
+const ID: Reply = Reply::Answer(0xffff_ffee, None);
+
+const ILUSE: Reply = Reply::Answer(0xffff_ffe4, None);
+
+const OBJ: Reply = Reply::Answer(0xffff_ffd7, None);
+
+const NOEXS: Reply = Reply::Answer(0xffff_ffd6, None);
+
+const QOVR: Reply = Reply::Answer(0xffff_ffd5, None);
+
+const TMOUT: Reply = Reply::Answer(0xffff_ffce, None);
+
+/// TMO_FEVR and TMO_POL, and what is no timeout.
+const FOREVER: u32 = 0xffff_ffff;
+
+const POLL: u32 = 0;
+
+const BAD: u32 = 0xffff_fffe;
+
+/// Serves calls one after the other, each from a processor and with a dispatch behind it. The first that is answered
+/// otherwise than it should, or lets the running tasks of other processors change.
+fn first_other(
+    kernel: &mut Kernel,
+    rows: &[(u8, Call, Reply, u8)],
+) -> Option<(u8, Call, Reply, u8)> {
+    for (cpu, call, reply, changed) in rows {
+        let told = kernel.serve(*cpu, *call);
+        let dispatched = kernel.dispatch();
+        if told != *reply || dispatched != *changed {
+            return Some((*cpu, *call, told, dispatched));
+        }
+    }
+    None
+}
+
+/// The same for calls from processor 1 that let no running task change.
+fn first_other_of_one(
+    kernel: &mut Kernel,
+    rows: &[(Call, Reply)],
+) -> Option<(u8, Call, Reply, u8)> {
+    for (call, reply) in rows {
+        let found = first_other(kernel, &[(1, *call, *reply, 0)]);
+        if found.is_some() {
+            return found;
+        }
+    }
+    None
+}
+
+/// Whether a kernel is one of `two` to which nothing has happened.
+fn is_new(kernel: &Kernel) -> bool {
+    kernel.standing(0).is_none()
+        && kernel.standing(1) == Some(Standing::Task(1))
+        && kernel.standing(2) == Some(Standing::Task(3))
+        && kernel.standing(3).is_none()
+        && kernel.standing(255).is_none()
+        && kernel.now() == 0
+        && !kernel.is_off()
+        && kernel.task(4).map(|it| it.state) == Some(TaskState::Dormant)
+}
+
+#[test]
+fn making(rt: HostRuntime) -> Result<(), Fail> {
+    let kernel = two(rt.alloc())?;
+    assert!(rt; is_new(&kernel));
+    Ok(())
+}
+
+const REFUSALS: &[(Call, Reply)] = &[
+    (Call::ActTsk(256), ID),
+    (Call::ActTsk(9), NOEXS),
+    (Call::CanAct(0xffff_ffff), ID),
+    (Call::CanAct(5), NOEXS),
+    (Call::TerTsk(0), ID),
+    (Call::TerTsk(7), NOEXS),
+    (Call::TerTsk(1), ILUSE),
+    (Call::TerTsk(4), OBJ),
+    (Call::ChgPri(256, 17), ID),
+    (Call::ChgPri(9, 17), PAR),
+    (Call::ChgPri(9, 16), NOEXS),
+    (Call::ChgPri(4, 16), OBJ),
+    (Call::GetPri(300), ID),
+    (Call::GetPri(9), NOEXS),
+    (Call::GetPri(4), OBJ),
+    (Call::WupTsk(300), ID),
+    (Call::WupTsk(9), NOEXS),
+    (Call::WupTsk(4), OBJ),
+    (Call::CanWup(300), ID),
+    (Call::CanWup(9), NOEXS),
+    (Call::CanWup(4), OBJ),
+    (Call::RelWai(0), ID),
+    (Call::RelWai(9), NOEXS),
+    (Call::RelWai(1), OBJ),
+    (Call::RelWai(4), OBJ),
+    (Call::SusTsk(300), ID),
+    (Call::SusTsk(9), NOEXS),
+    (Call::SusTsk(4), OBJ),
+    (Call::RsmTsk(0), ID),
+    (Call::RsmTsk(9), NOEXS),
+    (Call::RsmTsk(1), OBJ),
+    (Call::RsmTsk(4), OBJ),
+];
+
+/// Each refusal of each call, from task 1 on processor 1; of two reasons the earlier one in the order is answered.
+#[test]
+fn refusals(rt: HostRuntime) -> Result<(), Fail> {
+    let mut kernel = two(rt.alloc())?;
+    assert!(rt; first_other_of_one(&mut kernel, REFUSALS).is_none());
+    Ok(())
+}
+
+const REFUSALS_OF_PROCESSORS: &[(Call, Reply)] = &[
+    (Call::MactTsk(256, 9), ID),
+    (Call::MactTsk(9, 0), PAR),
+    (Call::MactTsk(9, 3), PAR),
+    (Call::MactTsk(2, 0x101), PAR),
+    (Call::MactTsk(9, 2), NOEXS),
+    (Call::MactTsk(2, 1), QOVR),
+    (Call::ImactTsk(0, 1), ID),
+    (Call::ImactTsk(9, 3), PAR),
+    (Call::ImactTsk(2, 1), QOVR),
+    (Call::IactTsk(0), ID),
+    (Call::IactTsk(9), NOEXS),
+    (Call::IactTsk(2), QOVR),
+    (Call::IwupTsk(0), ID),
+    (Call::IwupTsk(4), OBJ),
+    (Call::MigTsk(256, 3), ID),
+    (Call::MigTsk(9, 3), PAR),
+    (Call::MigTsk(2, 0x102), PAR),
+    (Call::MigTsk(9, 1), NOEXS),
+    (Call::MigTsk(4, 1), OBJ),
+    (Call::MigTsk(0, 1), OBJ),
+    (Call::MigTsk(2, 1), OBJ),
+    (Call::RotRdq(17), PAR),
+    (Call::RotRdq(0x100), PAR),
+    (Call::IrotRdq(0), PAR),
+    (Call::IrotRdq(17), PAR),
+    (Call::IrotRdq(0x101), PAR),
+];
+
+/// Each refusal of each call that names a processor or turns a list, from processor 1; of two reasons the earlier one in the order is
+/// answered. Task 2 has a request queued.
+#[test]
+fn refusals_of_processors(rt: HostRuntime) -> Result<(), Fail> {
+    let mut kernel = two(rt.alloc())?;
+    assert!(rt; kernel.serve(1, Call::MactTsk(2, 2)) == OK);
+    assert!(rt; first_other_of_one(&mut kernel, REFUSALS_OF_PROCESSORS).is_none());
+    Ok(())
+}
+
+/// Each mark of processor 1 holds task 1 there: processor 2 neither ends nor suspends nor moves it, but does so with task 2, which is
+/// ready there and doesn't run.
+#[test]
+fn held(rt: HostRuntime) -> Result<(), Fail> {
+    for (mark, unmark) in [(Call::DisDsp, Call::EnaDsp), (Call::LocCpu, Call::UnlCpu)] {
+        let mut kernel = two(rt.alloc())?;
+        let rows = [
+            (1, mark, OK, 0),
+            (1, mark, OK, 0),
+            (2, Call::TerTsk(1), OBJ, 0),
+            (2, Call::SusTsk(1), OBJ, 0),
+            (2, Call::MigTsk(1, 2), OBJ, 0),
+            (2, Call::ChgPri(1, 16), OK, 0),
+            (2, Call::SusTsk(2), OK, 0),
+            (2, Call::MigTsk(2, 2), OK, 0),
+            (1, unmark, OK, 0),
+            (2, Call::SusTsk(1), OK, 1),
+        ];
+        assert!(rt; first_other(&mut kernel, &rows).is_none());
+    }
+    Ok(())
+}
+
+/// A kernel of eight processors, each idle, whose 32 lines all have handlers: on processor 1, or on each processor in turn.
+fn with_lines(alloc: Global, in_turn: bool) -> Result<Kernel, NoMemory> {
+    let handler = Handler {
+        cpu: 1,
+        address: 0x8000_0100,
+    };
+    let mut lines = [LineSetup { line: 0, handler }; 32];
+    for n in 0..32usize {
+        lines[n].line = n as u8;
+        if in_turn {
+            lines[n].handler.cpu = 1 + n as u8 % 8;
+        }
+    }
+    Kernel::new(alloc, 8, &[], &lines, &[], &[], &[])
+}
+
+/// Whether a processor accepts the interrupt of a line, and no other until its handler has ended.
+fn handles(kernel: &mut Kernel, cpu: u8, line: u8) -> bool {
+    kernel.accept(cpu) == Some(line)
+        && kernel.accept(cpu).is_none()
+        && kernel.standing(cpu) == Some(Standing::Handler(line))
+        && kernel.serve(cpu, Call::RetInt) == Reply::Silent
+}
+
+/// Whether 32 lines, raised from the highest down, are accepted by processor 1 alone, from the lowest up.
+fn handles_all(kernel: &mut Kernel) -> bool {
+    for line in 0..32u8 {
+        if !kernel.raise(31 - line) {
+            return false;
+        }
+    }
+    for line in 0..32u8 {
+        if kernel.deliverable(2).is_some() || !handles(kernel, 1, line) {
+            return false;
+        }
+    }
+    kernel.accept(1).is_none() && kernel.standing(1) == Some(Standing::Idle)
+}
+
+/// All 32 lines are pending on one processor: it accepts them from the lowest up, each once the handler before has ended.
+#[test]
+fn lines_of_one_processor(rt: HostRuntime) -> Result<(), Fail> {
+    let mut kernel = with_lines(rt.alloc(), false)?;
+    assert!(rt; !kernel.raise(32));
+    assert!(rt; handles_all(&mut kernel));
+    Ok(())
+}
+
+/// Whether 32 lines are accepted by eight processors, four by each, the lowest first.
+fn handle_their_own(kernel: &mut Kernel) -> bool {
+    for line in 0..32u8 {
+        if !kernel.raise(line) {
+            return false;
+        }
+    }
+    for line in 0..32u8 {
+        if !handles(kernel, 1 + line % 8, line) {
+            return false;
+        }
+    }
+    (0..10u8).all(|cpu| kernel.deliverable(cpu).is_none())
+}
+
+/// The lines of eight processors: each accepts its own alone, the lowest first.
+#[test]
+fn lines_of_eight_processors(rt: HostRuntime) -> Result<(), Fail> {
+    let mut kernel = with_lines(rt.alloc(), true)?;
+    assert!(rt; handle_their_own(&mut kernel));
+    Ok(())
+}
+
+const REFUSALS_OF_OBJECTS: &[(Call, Reply)] = &[
+    (Call::TslpTsk(BAD), PAR),
+    (Call::TslpTsk(0x8000_0000), PAR),
+    (Call::TslpTsk(POLL), TMOUT),
+    (Call::DlyTsk(0x8000_0000), PAR),
+    (Call::DlyTsk(FOREVER), PAR),
+    (Call::SigSem(0), ID),
+    (Call::SigSem(256), ID),
+    (Call::SigSem(3), NOEXS),
+    (Call::SigSem(1), QOVR),
+    (Call::TwaiSem(256, BAD), ID),
+    (Call::TwaiSem(3, BAD), PAR),
+    (Call::TwaiSem(1, BAD), PAR),
+    (Call::TwaiSem(3, POLL), NOEXS),
+    (Call::TwaiSem(2, POLL), TMOUT),
+    (Call::SetFlg(0, 1), ID),
+    (Call::SetFlg(3, 1), NOEXS),
+    (Call::ClrFlg(256, 1), ID),
+    (Call::ClrFlg(3, 1), NOEXS),
+    (Call::TwaiFlg(0, 0, 2, BAD), ID),
+    (Call::TwaiFlg(3, 0, 0, POLL), PAR),
+    (Call::TwaiFlg(3, 1, 2, POLL), PAR),
+    (Call::TwaiFlg(3, 1, 0, BAD), PAR),
+    (Call::TwaiFlg(3, 1, 0, POLL), NOEXS),
+    (Call::TwaiFlg(1, 0, 0, POLL), PAR),
+    (Call::TwaiFlg(1, 1, 0, POLL), ILUSE),
+    (Call::TwaiFlg(1, 4, 1, FOREVER), ILUSE),
+    (Call::TwaiFlg(2, 1, 1, POLL), TMOUT),
+    (Call::TsndDtq(256, 7, BAD), ID),
+    (Call::TsndDtq(3, 7, BAD), PAR),
+    (Call::TsndDtq(2, 7, BAD), PAR),
+    (Call::TsndDtq(3, 7, POLL), NOEXS),
+    (Call::TsndDtq(1, 7, POLL), TMOUT),
+    (Call::FsndDtq(0, 7), ID),
+    (Call::FsndDtq(3, 7), NOEXS),
+    (Call::FsndDtq(1, 7), ILUSE),
+    (Call::TrcvDtq(256, BAD), ID),
+    (Call::TrcvDtq(3, BAD), PAR),
+    (Call::TrcvDtq(2, BAD), PAR),
+    (Call::TrcvDtq(3, POLL), NOEXS),
+    (Call::TrcvDtq(2, POLL), TMOUT),
+];
+
+/// Each refusal of each call that names an object or a time; of two reasons the earlier one in the order is answered, also where the
+/// call could be done at once. Task 3 waits for a bit of flag 1.
+#[test]
+fn refusals_of_objects(rt: HostRuntime) -> Result<(), Fail> {
+    let mut kernel = with_objects(rt.alloc())?;
+    assert!(rt; kernel.serve(2, Call::TwaiFlg(1, 2, 0, FOREVER)) == Reply::Silent);
+    assert!(rt; kernel.dispatch() == 2);
+    assert!(rt; first_other_of_one(&mut kernel, REFUSALS_OF_OBJECTS).is_none());
+    Ok(())
+}
+
+const CALLS_OF_OBJECTS: &[(u8, Call, Reply, u8)] = &[
+    // Task 1 takes the one, and waits for the next; task 3 returns it.
+    (1, Call::TwaiSem(1, FOREVER), OK, 0),
+    (1, Call::TwaiSem(1, 5), Reply::Silent, 1),
+    (2, Call::SigSem(1), OK, 1),
+    (2, Call::SigSem(1), OK, 0),
+    // Flag 2 clears itself; flag 1 keeps its pattern.
+    (1, Call::TwaiFlg(2, 6, 0, FOREVER), Reply::Silent, 1),
+    (2, Call::SetFlg(2, 2), OK, 0),
+    (2, Call::SetFlg(2, 4), OK, 1),
+    (2, Call::TwaiFlg(2, 6, 1, POLL), TMOUT, 0),
+    (
+        2,
+        Call::TwaiFlg(1, 1, 0, POLL),
+        Reply::Answer(0, Some(1)),
+        0,
+    ),
+    (2, Call::ClrFlg(1, 0xffff_fffe), OK, 0),
+    (2, Call::TwaiFlg(1, 1, 0, POLL), TMOUT, 0),
+    // Queue 1 hands over; queue 2 stores two data, and the third in the place of the first.
+    (1, Call::TrcvDtq(1, FOREVER), Reply::Silent, 1),
+    (2, Call::FsndDtq(1, 7), ILUSE, 0),
+    (2, Call::TsndDtq(1, 7, POLL), OK, 1),
+    (1, Call::TsndDtq(2, 10, POLL), OK, 0),
+    (1, Call::TsndDtq(2, 11, POLL), OK, 0),
+    (1, Call::FsndDtq(2, 12), OK, 0),
+    (1, Call::TsndDtq(2, 13, FOREVER), Reply::Silent, 1),
+    (2, Call::TrcvDtq(2, POLL), Reply::Answer(0, Some(11)), 1),
+    (2, Call::TrcvDtq(2, POLL), Reply::Answer(0, Some(12)), 0),
+    (2, Call::TrcvDtq(2, POLL), Reply::Answer(0, Some(13)), 0),
+    (2, Call::TrcvDtq(2, POLL), TMOUT, 0),
+];
+
+/// Calls of objects one after the other, each from a processor, with what they answer, and which processors' running tasks change.
+#[test]
+fn calls_of_objects(rt: HostRuntime) -> Result<(), Fail> {
+    let mut kernel = with_objects(rt.alloc())?;
+    assert!(rt; first_other(&mut kernel, CALLS_OF_OBJECTS).is_none());
+    Ok(())
+}
+
+const CALLS: &[(u8, Call, Reply, u8)] = &[
+    (1, Call::GetTid, Reply::Answer(0, Some(1)), 0),
+    (2, Call::GetPid, Reply::Answer(0, Some(2)), 0),
+    (2, Call::GetPri(0), Reply::Answer(0, Some(5)), 0),
+    // Task 4 starts, and comes first by a higher priority.
+    (1, Call::ActTsk(4), OK, 0),
+    (1, Call::ActTsk(4), OK, 0),
+    (1, Call::ActTsk(4), QOVR, 0),
+    (1, Call::ChgPri(4, 1), OK, 2),
+    (2, Call::GetTid, Reply::Answer(0, Some(4)), 0),
+    (1, Call::CanAct(4), Reply::Answer(1, None), 0),
+    (1, Call::CanAct(4), Reply::Answer(0, None), 0),
+    (1, Call::ActTsk(4), OK, 0),
+    // It ends, and starts again with its first priority.
+    (2, Call::ExtTsk, Reply::Silent, 2),
+    (1, Call::GetPri(4), Reply::Answer(0, Some(9)), 0),
+    // Task 1 takes a wake-up that was queued, then sleeps.
+    (2, Call::WupTsk(1), OK, 0),
+    (2, Call::WupTsk(1), QOVR, 0),
+    (1, Call::TslpTsk(0xffff_ffff), OK, 0),
+    (1, Call::TslpTsk(0xffff_ffff), Reply::Silent, 1),
+    (1, Call::GetTid, Reply::Answer(0, Some(2)), 0),
+    (1, Call::SusTsk(1), OK, 0),
+    (1, Call::SusTsk(1), QOVR, 0),
+    (2, Call::WupTsk(1), OK, 0),
+    (2, Call::RsmTsk(1), OK, 1),
+    (1, Call::TslpTsk(0xffff_ffff), Reply::Silent, 1),
+    (2, Call::RelWai(1), OK, 1),
+    (2, Call::WupTsk(0), OK, 0),
+    (2, Call::CanWup(0), Reply::Answer(1, None), 0),
+    (2, Call::CanWup(3), Reply::Answer(0, None), 0),
+    (2, Call::TerTsk(1), OK, 1),
+    (1, Call::PutChr(0x1_0048), OK, 0),
+    (1, Call::ExtKer, Reply::Silent, 0),
+];
+
+/// Calls one after the other, each from a processor, with what they answer, and which processors' running tasks change.
+#[test]
+fn calls(rt: HostRuntime) -> Result<(), Fail> {
+    let mut kernel = two(rt.alloc())?;
+    assert!(rt; first_other(&mut kernel, CALLS).is_none());
+    assert!(rt; kernel.console() == b"H".as_slice());
+    assert!(rt; kernel.is_off());
+    Ok(())
+}
+
+/// An exception ends the running task, whatever is queued for it.
+#[test]
+fn faults(rt: HostRuntime) -> Result<(), Fail> {
+    let mut kernel = two(rt.alloc())?;
+    let _ = kernel.serve(2, Call::ActTsk(1));
+    kernel.end_by_fault(1);
+    assert!(rt; kernel.dispatch() == 1);
+    assert!(rt; kernel.standing(1) == Some(Standing::Task(2)));
+    assert!(rt;
+        kernel.task(1).map(|it| (it.state, it.activations)) == Some((TaskState::Dormant, 0))
+    );
+    kernel.end_by_fault(1);
+    assert!(rt; kernel.dispatch() == 1);
+    assert!(rt; kernel.standing(1) == Some(Standing::Idle));
+    Ok(())
+}
+
+/// A line without a handler isn't raised, and nothing is delivered.
+#[test]
+fn lines(rt: HostRuntime) -> Result<(), Fail> {
+    let mut kernel = two(rt.alloc())?;
+    for line in [0, 31, 32, 255] {
+        assert!(rt; !kernel.raise(line), "{line}");
+    }
+    assert!(rt; kernel.deliverable(1).is_none());
+    assert!(rt; kernel.accept(1).is_none());
+    assert!(rt; kernel.tick());
+    assert!(rt; kernel.now() == 1);
+    Ok(())
+}
+
+/// A running task's instruction is done where its context lies; an idle processor does none.
+#[test]
+fn runs(rt: HostRuntime) -> Result<(), Fail> {
+    let alloc = rt.alloc();
+    let mut kernel = two(alloc)?;
+    let mut links = Links::new();
+    let mut ram = Ram::new(alloc, 65_536)?;
+    let ended = Ended {
+        address: 0x8000_0000,
+        outcome: Outcome::Done,
+    };
+    assert!(rt; kernel.run(1, &mut ram, &mut links) == Some(ended));
+    assert!(rt; kernel.context(1).map(|it| it.pc()) == Some(0x8000_0004));
+    assert!(rt; kernel.task(1).map(|it| it.context.pc()) == Some(0x8000_0004));
+    kernel.end_by_fault(2);
+    let _ = kernel.dispatch();
+    assert!(rt; kernel.run(2, &mut ram, &mut links).is_none());
+    Ok(())
+}

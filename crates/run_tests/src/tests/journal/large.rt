@@ -1,0 +1,46 @@
+use brd_board::Event;
+use brd_journal::{Journal, JournalFault, MOST_RUNS, read_text};
+use std::alloc::Global;
+use std::test::Fail;
+
+/// Appends as many runs as a journal can have, each another event than the one before.
+fn fill(journal: &mut Journal) -> Result<(), JournalFault> {
+    for n in 0..MOST_RUNS {
+        let event = if n % 2 == 0 {
+            Event::Step(255)
+        } else {
+            Event::Raise(200)
+        };
+        journal.push_run(event, 4_000_000_000)?;
+    }
+    Ok(())
+}
+
+/// Whether a text of a journal has its runs, and is refused where there is room for one less.
+fn is_read_again(alloc: Global, journal: &Journal, text: &[u8]) -> bool {
+    match read_text(alloc, text, MOST_RUNS) {
+        Ok(again) => again.runs() == journal.runs() && is_full_one_below(alloc, text),
+        Err(_) => false,
+    }
+}
+
+fn is_full_one_below(alloc: Global, text: &[u8]) -> bool {
+    match read_text(alloc, text, MOST_RUNS - 1) {
+        Ok(_) => false,
+        Err(fault) => fault == JournalFault::Full,
+    }
+}
+
+/// As many runs as a journal can have.
+#[test]
+fn large(rt: HostRuntime) -> Result<(), Fail> {
+    let alloc = rt.alloc();
+    let mut journal = Journal::new(alloc, MOST_RUNS);
+    fill(&mut journal)?;
+    assert!(rt; journal.push(Event::Tick) == Err(JournalFault::Full));
+    assert!(rt; journal.len() == 16_777_216_000_000_000);
+    let text = journal.write_text(alloc)?;
+    assert!(rt; text.len() == 16 + 17 * 4_194_304);
+    assert!(rt; is_read_again(alloc, &journal, &text));
+    Ok(())
+}
