@@ -18,7 +18,7 @@ use brd_mem::{Ram, Symbol};
 use std::alloc::Global;
 
 /// Where a task's stack lies.
-#[derive(Clone, Copy, Debug, PartialEq, Eq)]
+#[derive(Clone, Copy, PartialEq, Eq)]
 pub struct Region {
     /// Its lowest address.
     pub low: u32,
@@ -31,7 +31,7 @@ pub struct Region {
 }
 
 /// A task with its place in memory.
-#[derive(Clone, Copy, Debug, PartialEq, Eq)]
+#[derive(Clone, Copy, PartialEq, Eq)]
 pub struct Placed {
     /// What it is made of.
     pub setup: TaskSetup,

@@ -4,7 +4,7 @@ use brd_base::Same;
 use brd_exec::ExceptionCode;
 
 /// An exception as a processor keeps it.
-#[derive(Clone, Copy, Debug, PartialEq, Eq)]
+#[derive(Clone, Copy, PartialEq, Eq)]
 pub struct Fault {
     /// Which one.
     pub code: ExceptionCode,

@@ -10,7 +10,7 @@ use std::alloc::{AllocError, AllocFailed};
 use std::process::ExitCode;
 
 /// Why the program ends before its command is done.
-#[derive(Debug, Drop)]
+#[derive(Drop)]
 pub enum Stop {
     /// The command has a fault, or the command line couldn't be taken.
     Fault(CommandFault),

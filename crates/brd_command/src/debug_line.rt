@@ -6,7 +6,7 @@ ghost use Rattle.brd_command.specs.DebugLine as line;
 use brd_text::{hex_word, plain_decimal};
 
 /// What a line asks of the debugger.
-#[derive(Clone, Copy, Debug, PartialEq, Eq)]
+#[derive(Clone, Copy, PartialEq, Eq)]
 pub enum DebugCommand {
     /// Goes to a position: shows the board after so many events.
     Goto(u64),

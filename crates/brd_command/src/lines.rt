@@ -11,7 +11,7 @@ use std::alloc::Global;
 use std::io::{ErrorKind, Read};
 
 /// How much of an input was taken.
-#[derive(Clone, Copy, Debug)]
+#[derive(Clone, Copy)]
 pub struct Taken {
     /// How many bytes it has given.
     pub bytes: usize,

@@ -5,7 +5,7 @@ ghost use Rattle.std.specs.Prelude.{⊤, [], ◌∷◌, codes};
 use bitflags::{Flag, Flags, bitflag_items};
 
 /// Attributes of a task.
-#[derive(Clone, Copy, PartialEq, Eq, Debug)]
+#[derive(Clone, Copy, PartialEq, Eq)]
 pub struct TaskAttributes(u32);
 
 bitflag_items! {
@@ -40,7 +40,7 @@ impl Flags for TaskAttributes {
 }
 
 /// Attributes of a semaphore.
-#[derive(Clone, Copy, PartialEq, Eq, Debug)]
+#[derive(Clone, Copy, PartialEq, Eq)]
 pub struct SemaphoreAttributes(u32);
 
 bitflag_items! {
@@ -73,7 +73,7 @@ impl Flags for SemaphoreAttributes {
 }
 
 /// Attributes of an event flag.
-#[derive(Clone, Copy, PartialEq, Eq, Debug)]
+#[derive(Clone, Copy, PartialEq, Eq)]
 pub struct FlagAttributes(u32);
 
 bitflag_items! {
@@ -110,7 +110,7 @@ impl Flags for FlagAttributes {
 }
 
 /// Attributes of a data queue.
-#[derive(Clone, Copy, PartialEq, Eq, Debug)]
+#[derive(Clone, Copy, PartialEq, Eq)]
 pub struct QueueAttributes(u32);
 
 bitflag_items! {

@@ -6,7 +6,7 @@ use crate::objects::{FlagConfig, HandlerConfig, QueueConfig, SemaphoreConfig, Ta
 use brd_base::List;
 
 /// What a configuration text says. Each value is within its limits, and IDs of one kind are distinct, as `valid` says.
-#[derive(Debug, Drop)]
+#[derive(Drop)]
 pub struct Config {
     /// How many processors the board has: 1 to 8.
     pub processors: u8,

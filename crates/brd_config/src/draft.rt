@@ -4,7 +4,7 @@ use crate::objects::{FlagConfig, HandlerConfig, QueueConfig, SemaphoreConfig, Ta
 use brd_base::List;
 
 /// A configuration that is not finished yet.
-#[derive(Debug, Drop)]
+#[derive(Drop)]
 pub(crate) struct Draft {
     pub(crate) processors: u8,
     pub(crate) ram: u32,

@@ -4,14 +4,14 @@ use crate::attributes::{FlagAttributes, QueueAttributes, SemaphoreAttributes, Ta
 use brd_base::List;
 
 /// A number, or the name of a symbol of the image, whose value it then is.
-#[derive(Debug, Drop)]
+#[derive(Drop)]
 pub enum Operand {
     Number(u32),
     Name(List<u8>),
 }
 
 /// Where a task's stack lies.
-#[derive(Debug, Drop)]
+#[derive(Drop)]
 pub enum Stack {
     /// `NULL`: laid from the end of RAM downward.
     Automatic,
@@ -20,7 +20,7 @@ pub enum Stack {
 }
 
 /// A task, as `CRE_TSK` says it.
-#[derive(Debug, Drop)]
+#[derive(Drop)]
 pub struct TaskConfig {
     /// 1 to 255.
     pub id: u16,
@@ -39,7 +39,7 @@ pub struct TaskConfig {
 }
 
 /// A semaphore, as `CRE_SEM` says it.
-#[derive(Debug, Drop)]
+#[derive(Drop)]
 pub struct SemaphoreConfig {
     /// 1 to 255.
     pub id: u16,
@@ -51,7 +51,7 @@ pub struct SemaphoreConfig {
 }
 
 /// An event flag, as `CRE_FLG` says it.
-#[derive(Debug, Drop)]
+#[derive(Drop)]
 pub struct FlagConfig {
     /// 1 to 255.
     pub id: u16,
@@ -61,7 +61,7 @@ pub struct FlagConfig {
 }
 
 /// A data queue, as `CRE_DTQ` says it.
-#[derive(Debug, Drop)]
+#[derive(Drop)]
 pub struct QueueConfig {
     /// 1 to 255.
     pub id: u16,
@@ -71,7 +71,7 @@ pub struct QueueConfig {
 }
 
 /// An interrupt handler, as `DEF_INH` says it.
-#[derive(Debug, Drop)]
+#[derive(Drop)]
 pub struct HandlerConfig {
     /// The interrupt line: up to 31.
     pub line: u8,

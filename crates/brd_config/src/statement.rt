@@ -2,7 +2,7 @@
 
 use crate::objects::{Operand, Stack};
 
-#[derive(Debug, Drop)]
+#[derive(Drop)]
 pub(crate) enum Statement {
     /// `BOARD(processors, ram);`
     Board(u32, u32),
@@ -18,7 +18,7 @@ pub(crate) enum Statement {
 }
 
 /// `CRE_TSK(id, {attributes, exinf, address, priority, stack_size, stack});`
-#[derive(Debug, Drop)]
+#[derive(Drop)]
 pub(crate) struct TaskStatement {
     pub(crate) id: u32,
     pub(crate) attributes: u32,
@@ -30,7 +30,7 @@ pub(crate) struct TaskStatement {
 }
 
 /// `CRE_SEM(id, {attributes, initial, maximum});`
-#[derive(Debug, Drop)]
+#[derive(Drop)]
 pub(crate) struct SemaphoreStatement {
     pub(crate) id: u32,
     pub(crate) attributes: u32,
@@ -39,7 +39,7 @@ pub(crate) struct SemaphoreStatement {
 }
 
 /// `CRE_FLG(id, {attributes, pattern});`
-#[derive(Debug, Drop)]
+#[derive(Drop)]
 pub(crate) struct FlagStatement {
     pub(crate) id: u32,
     pub(crate) attributes: u32,
@@ -47,7 +47,7 @@ pub(crate) struct FlagStatement {
 }
 
 /// `CRE_DTQ(id, {attributes, capacity, area});`, whose area has no effect.
-#[derive(Debug, Drop)]
+#[derive(Drop)]
 pub(crate) struct QueueStatement {
     pub(crate) id: u32,
     pub(crate) attributes: u32,
@@ -55,7 +55,7 @@ pub(crate) struct QueueStatement {
 }
 
 /// `DEF_INH(line, {attributes, address});`
-#[derive(Debug, Drop)]
+#[derive(Drop)]
 pub(crate) struct HandlerStatement {
     pub(crate) line: u32,
     pub(crate) attributes: u32,
@@ -63,7 +63,7 @@ pub(crate) struct HandlerStatement {
 }
 
 /// The token with which a statement begins.
-#[derive(Clone, Copy, Debug, PartialEq, Eq)]
+#[derive(Clone, Copy)]
 pub(crate) enum Keyword {
     Board,
     Class,

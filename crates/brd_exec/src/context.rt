@@ -25,7 +25,7 @@ use std::marker::Model;
 /// 32 registers, of which register 0 is always 0, HI, LO, the addresses of the next instruction and of the one after
 /// it, and whether the next one is in a delay slot (the CPU registers of MIPS32, MD00082: *MIPS32 Architecture for
 /// Programmers, volume I: introduction*; own choice: `npc` and `slot` in place of a pending branch).
-#[derive(Clone, Copy, Debug, PartialEq, Eq)]
+#[derive(Clone, Copy, PartialEq, Eq)]
 pub struct Context {
     registers: [u32; 32],
     hi: u32,

@@ -58,7 +58,7 @@ impl From<Exc> for ExceptionCode {
 }
 
 /// How an instruction ended.
-#[derive(Clone, Copy, Debug, PartialEq, Eq)]
+#[derive(Clone, Copy, PartialEq, Eq)]
 pub enum Outcome {
     /// It was done.
     Done,
@@ -76,7 +76,7 @@ pub enum Outcome {
 }
 
 /// Where an instruction stops.
-#[derive(Clone, Copy, Debug, PartialEq, Eq)]
+#[derive(Clone, Copy, PartialEq, Eq)]
 pub enum Stop {
     /// At a service call.
     Call,

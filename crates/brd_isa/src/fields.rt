@@ -6,7 +6,7 @@ use std::marker::Model;
 
 /// The number of a general register, 0 to 31. It is kept in a `u32`, so that the fields of an instruction lie apart and
 /// the compiler can keep each in a register of its own.
-#[derive(Clone, Copy, Debug, PartialEq, Eq)]
+#[derive(Clone, Copy, PartialEq, Eq)]
 pub struct Register {
     number: u32,
 }
@@ -41,7 +41,7 @@ impl Register {
 }
 
 /// A shift's amount, 0 to 31 bits.
-#[derive(Clone, Copy, Debug, PartialEq, Eq)]
+#[derive(Clone, Copy, PartialEq, Eq)]
 pub struct ShiftAmount {
     bits: u8,
 }
@@ -76,7 +76,7 @@ impl ShiftAmount {
 }
 
 /// A prefetch's hint, 0 to 31.
-#[derive(Clone, Copy, Debug, PartialEq, Eq)]
+#[derive(Clone, Copy, PartialEq, Eq)]
 pub struct Hint {
     hint: u8,
 }
@@ -111,7 +111,7 @@ impl Hint {
 }
 
 /// A trap's code of 10 bits.
-#[derive(Clone, Copy, Debug, PartialEq, Eq)]
+#[derive(Clone, Copy, PartialEq, Eq)]
 pub struct ShortCode {
     code: u16,
 }
@@ -146,7 +146,7 @@ impl ShortCode {
 }
 
 /// The code of 20 bits of a SYSCALL or a BREAK.
-#[derive(Clone, Copy, Debug, PartialEq, Eq)]
+#[derive(Clone, Copy, PartialEq, Eq)]
 pub struct LongCode {
     value: u32,
 }
@@ -181,7 +181,7 @@ impl LongCode {
 }
 
 /// A jump's index of 26 bits, which counts words.
-#[derive(Clone, Copy, Debug, PartialEq, Eq)]
+#[derive(Clone, Copy, PartialEq, Eq)]
 pub struct JumpIndex {
     words: u32,
 }

@@ -3,7 +3,7 @@
 use crate::fields::{Hint, JumpIndex, LongCode, Register, ShiftAmount, ShortCode};
 
 /// Shifts by an amount in the word: `op rd, rt, sa`.
-#[derive(Clone, Copy, Debug, PartialEq, Eq)]
+#[derive(Clone, Copy)]
 pub enum ShiftOp {
     /// Shift left.
     Sll,
@@ -14,7 +14,7 @@ pub enum ShiftOp {
 }
 
 /// Shifts by the low five bits of a register: `op rd, rt, rs`.
-#[derive(Clone, Copy, Debug, PartialEq, Eq)]
+#[derive(Clone, Copy)]
 pub enum ShiftVariableOp {
     /// Shift left.
     Sllv,
@@ -25,7 +25,7 @@ pub enum ShiftVariableOp {
 }
 
 /// Operations on two registers: `op rd, rs, rt`.
-#[derive(Clone, Copy, Debug, PartialEq, Eq)]
+#[derive(Clone, Copy)]
 pub enum RegisterOp {
     /// rs where rt is 0; else rd stays.
     Movz,
@@ -54,7 +54,7 @@ pub enum RegisterOp {
 }
 
 /// Moves from HI and LO: `op rd`.
-#[derive(Clone, Copy, Debug, PartialEq, Eq)]
+#[derive(Clone, Copy)]
 pub enum MoveFromOp {
     /// From HI.
     Mfhi,
@@ -63,7 +63,7 @@ pub enum MoveFromOp {
 }
 
 /// Moves to HI and LO: `op rs`.
-#[derive(Clone, Copy, Debug, PartialEq, Eq)]
+#[derive(Clone, Copy)]
 pub enum MoveToOp {
     /// To HI.
     Mthi,
@@ -72,7 +72,7 @@ pub enum MoveToOp {
 }
 
 /// Products and quotients in HI and LO: `op rs, rt`.
-#[derive(Clone, Copy, Debug, PartialEq, Eq)]
+#[derive(Clone, Copy)]
 pub enum ProductOp {
     /// Signed product.
     Mult,
@@ -85,7 +85,7 @@ pub enum ProductOp {
 }
 
 /// Traps on two registers: `op rs, rt, code`.
-#[derive(Clone, Copy, Debug, PartialEq, Eq)]
+#[derive(Clone, Copy)]
 pub enum TrapOp {
     /// At or above, read signed.
     Tge,
@@ -102,7 +102,7 @@ pub enum TrapOp {
 }
 
 /// Branches that compare with 0, under the opcode REGIMM: `op rs, target`.
-#[derive(Clone, Copy, Debug, PartialEq, Eq)]
+#[derive(Clone, Copy)]
 pub enum BranchRegimmOp {
     /// Below 0.
     Bltz,
@@ -123,7 +123,7 @@ pub enum BranchRegimmOp {
 }
 
 /// Traps on a register and an immediate, under the opcode REGIMM: `op rs, immediate`.
-#[derive(Clone, Copy, Debug, PartialEq, Eq)]
+#[derive(Clone, Copy)]
 pub enum TrapImmediateOp {
     /// At or above, read signed.
     Tgei,
@@ -140,7 +140,7 @@ pub enum TrapImmediateOp {
 }
 
 /// Products that HI and LO are changed by: `op rs, rt`.
-#[derive(Clone, Copy, Debug, PartialEq, Eq)]
+#[derive(Clone, Copy)]
 pub enum AccumulateOp {
     /// Plus the signed product.
     Madd,
@@ -153,7 +153,7 @@ pub enum AccumulateOp {
 }
 
 /// Counts of leading bits: `op rd, rs`.
-#[derive(Clone, Copy, Debug, PartialEq, Eq)]
+#[derive(Clone, Copy)]
 pub enum CountOp {
     /// Leading zeros.
     Clz,
@@ -162,7 +162,7 @@ pub enum CountOp {
 }
 
 /// Jumps to an index: `op target`.
-#[derive(Clone, Copy, Debug, PartialEq, Eq)]
+#[derive(Clone, Copy, PartialEq, Eq)]
 pub enum JumpOp {
     /// Jump.
     J,
@@ -171,7 +171,7 @@ pub enum JumpOp {
 }
 
 /// Branches that compare two registers: `op rs, rt, target`.
-#[derive(Clone, Copy, Debug, PartialEq, Eq)]
+#[derive(Clone, Copy)]
 pub enum BranchOp {
     /// Equal.
     Beq,
@@ -184,7 +184,7 @@ pub enum BranchOp {
 }
 
 /// Branches that compare with 0: `op rs, target`.
-#[derive(Clone, Copy, Debug, PartialEq, Eq)]
+#[derive(Clone, Copy)]
 pub enum BranchZeroOp {
     /// At or below 0.
     Blez,
@@ -197,7 +197,7 @@ pub enum BranchZeroOp {
 }
 
 /// Operations on a register and an immediate: `op rt, rs, immediate`.
-#[derive(Clone, Copy, Debug, PartialEq, Eq)]
+#[derive(Clone, Copy)]
 pub enum ImmediateOp {
     /// Sum with the sign-extended immediate; overflow raises Ov.
     Addi,
@@ -216,7 +216,7 @@ pub enum ImmediateOp {
 }
 
 /// Loads: `op rt, offset(base)`.
-#[derive(Clone, Copy, Debug, PartialEq, Eq)]
+#[derive(Clone, Copy)]
 pub enum LoadOp {
     /// A byte, sign-extended.
     Lb,
@@ -235,7 +235,7 @@ pub enum LoadOp {
 }
 
 /// Stores: `op rt, offset(base)`.
-#[derive(Clone, Copy, Debug, PartialEq, Eq)]
+#[derive(Clone, Copy)]
 pub enum StoreOp {
     /// A byte.
     Sb,
@@ -250,7 +250,7 @@ pub enum StoreOp {
 }
 
 /// Loads and stores of a word that another processor may want too: `op rt, offset(base)`.
-#[derive(Clone, Copy, Debug, PartialEq, Eq)]
+#[derive(Clone, Copy)]
 pub enum LinkedOp {
     /// Load, and link the processor to the word.
     Ll,
@@ -260,7 +260,7 @@ pub enum LinkedOp {
 
 /// An instruction of MIPS32 Release 1 (MD00086, chapter 3). Offsets of branches count words from the delay slot, those of
 /// loads and stores bytes; both are signed.
-#[derive(Clone, Copy, Debug, PartialEq, Eq)]
+#[derive(Clone, Copy)]
 pub enum Insn {
     /// `op rd, rt, sa`
     Shift(ShiftOp, Register, Register, ShiftAmount),

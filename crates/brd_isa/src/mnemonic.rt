@@ -11,7 +11,7 @@ use crate::instruction::{
 };
 
 /// Which instruction it is, without its operands: as `Insn`.
-#[derive(Clone, Copy, Debug, PartialEq, Eq)]
+#[derive(Clone, Copy)]
 pub enum Mnemonic {
     /// `op rd, rt, sa`
     Shift(ShiftOp),

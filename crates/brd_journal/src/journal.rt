@@ -21,7 +21,7 @@ use std::marker::Model;
 pub const MOST_RUNS: u32 = 4_194_304;
 
 /// A list of events that has at most so many runs. It is kept as its runs and where each begins.
-#[derive(Debug, Drop)]
+#[derive(Drop)]
 pub struct Journal {
     limit: u32,
     runs: RunTable,

@@ -3,7 +3,7 @@
 use brd_board::Event;
 
 /// How often an event comes in a row.
-#[derive(Clone, Copy, Debug, PartialEq, Eq)]
+#[derive(Clone, Copy, PartialEq, Eq)]
 pub struct Run {
     /// The event.
     pub event: Event,

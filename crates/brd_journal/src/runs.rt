@@ -33,7 +33,7 @@ fn room_for(runs: &[Run], event: Event) -> u32
 }
 
 /// Runs, and beside each the position of its first event.
-#[derive(Debug, Drop)]
+#[derive(Drop)]
 pub(crate) struct RunTable {
     runs: Vec<Run>,
     starts: Vec<u64>,

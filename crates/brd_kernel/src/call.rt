@@ -4,7 +4,7 @@ ghost use Rattle.std.specs.Prelude.{◌≡◌};
 ghost use Rattle.brd_kernel.specs.Answer.{code_of};
 
 /// A service call with its arguments, as they are in the registers.
-#[derive(Clone, Copy, Debug, PartialEq, Eq)]
+#[derive(Clone, Copy, PartialEq, Eq)]
 pub enum Call {
     /// Starts a task, or queues a request to.
     ActTsk(u32),
@@ -83,7 +83,7 @@ pub enum Call {
 }
 
 /// Why a service call isn't done, or a wait ended without what was waited for (uITRON 4.0 specification, "Main Error Codes").
-#[derive(Clone, Copy, Debug, PartialEq, Eq)]
+#[derive(Clone, Copy, PartialEq, Eq)]
 pub enum Ercd {
     /// E_RSFN: there is no such call.
     Rsfn,
@@ -128,7 +128,7 @@ impl Ercd {
 }
 
 /// What a service call writes to its caller's registers.
-#[derive(Clone, Copy, Debug, PartialEq, Eq)]
+#[derive(Clone, Copy, PartialEq, Eq)]
 pub enum Reply {
     /// $v0, and $v1 where the call has a second result; it has none where it is refused.
     Answer(u32, Option<u32>),

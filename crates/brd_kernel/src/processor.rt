@@ -22,7 +22,7 @@ pub enum Standing {
 }
 
 /// Who executes on a processor.
-#[derive(Clone, Copy, Debug, PartialEq, Eq)]
+#[derive(Clone, Copy, PartialEq, Eq)]
 pub enum Executor {
     /// Its running task.
     Task(TaskId),
@@ -31,7 +31,7 @@ pub enum Executor {
 }
 
 /// What a task has set on its processor.
-#[derive(Clone, Copy, Debug, PartialEq, Eq)]
+#[derive(Clone, Copy, PartialEq, Eq)]
 pub struct Marks {
     /// It is CPU-locked (loc_cpu).
     pub locked: bool,
@@ -40,7 +40,7 @@ pub struct Marks {
 }
 
 /// An instruction that was executed.
-#[derive(Clone, Copy, Debug, PartialEq, Eq)]
+#[derive(Clone, Copy, PartialEq, Eq)]
 pub struct Ended {
     /// Its address.
     pub address: u32,
@@ -49,7 +49,7 @@ pub struct Ended {
 }
 
 /// A processor.
-#[derive(Clone, Copy, Debug, PartialEq, Eq)]
+#[derive(Clone, Copy, PartialEq, Eq)]
 pub struct Processor {
     /// The running task. While the processor is held it stays, whoever else is ready; in a handler it is the one that was interrupted.
     pub running: Option<TaskId>,
@@ -131,7 +131,7 @@ impl Processor {
 }
 
 /// The handler of an interrupt line (DEF_INH).
-#[derive(Clone, Copy, Debug, PartialEq, Eq)]
+#[derive(Clone, Copy, PartialEq, Eq)]
 pub struct Handler {
     /// The processor that handles the line's interrupts.
     pub cpu: u8,
@@ -140,7 +140,7 @@ pub struct Handler {
 }
 
 /// An interrupt line that has a handler (DEF_INH).
-#[derive(Clone, Copy, Debug, PartialEq, Eq)]
+#[derive(Clone, Copy, PartialEq, Eq)]
 pub struct LineSetup {
     /// Its number: up to 31.
     pub line: u8,
@@ -149,7 +149,7 @@ pub struct LineSetup {
 }
 
 /// An interrupt line.
-#[derive(Clone, Copy, Debug, PartialEq, Eq)]
+#[derive(Clone, Copy, PartialEq, Eq)]
 pub struct Line {
     /// Its handler, if it has one.
     pub handler: Option<Handler>,

@@ -1,7 +1,7 @@
 //! What becomes of a datum.
 
 /// What became of a datum that was sent.
-#[derive(Clone, Copy, Debug, PartialEq, Eq)]
+#[derive(Clone, Copy, PartialEq, Eq)]
 pub enum Sent {
     /// The task of this ID, which waited first, has it.
     Handed(u16),
@@ -12,7 +12,7 @@ pub enum Sent {
 }
 
 /// A datum that was received.
-#[derive(Clone, Copy, Debug, PartialEq, Eq)]
+#[derive(Clone, Copy, PartialEq, Eq)]
 pub struct Received {
     /// The datum.
     pub datum: u32,

@@ -7,7 +7,7 @@ ghost use Rattle.brd_objects.specs.Waiters.{satisfies};
 use brd_base::Same;
 
 /// Which of the bits have to be set (uITRON 4.0 specification, "Eventflags").
-#[derive(Clone, Copy, Debug, PartialEq, Eq)]
+#[derive(Clone, Copy, PartialEq, Eq)]
 pub enum Mode {
     /// TWF_ANDW: all of them.
     All,
@@ -16,7 +16,7 @@ pub enum Mode {
 }
 
 /// The bits for which a task waits.
-#[derive(Clone, Copy, Debug, PartialEq, Eq)]
+#[derive(Clone, Copy, PartialEq, Eq)]
 pub struct Want {
     /// The bits.
     pub bits: u32,

@@ -3,7 +3,7 @@
 use brd_base::Same;
 
 /// A task in a queue.
-#[derive(Clone, Copy, Debug, Default, PartialEq, Eq)]
+#[derive(Clone, Copy, Default, PartialEq, Eq)]
 pub struct Entry<W> {
     /// The task's ID.
     pub id: u16,
@@ -20,7 +20,7 @@ impl<W: Same> Same for Entry<W> {
 }
 
 /// Where a task enters a queue (uITRON 4.0 specification, the attributes TA_TFIFO and TA_TPRI).
-#[derive(Clone, Copy, Debug, PartialEq, Eq)]
+#[derive(Clone, Copy, PartialEq, Eq)]
 pub enum Order {
     /// At the end.
     Arrival,

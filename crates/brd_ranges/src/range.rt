@@ -1,7 +1,7 @@
 //! A range of addresses.
 
 /// The addresses from `start` up to, not including, `end`, and what belongs to them.
-#[derive(Debug, Drop)]
+#[derive(Drop)]
 pub struct Range<T> {
     /// The first address.
     pub start: u32,

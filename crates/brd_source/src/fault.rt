@@ -6,7 +6,7 @@ ghost use Rattle.brd_source.specs.declared.fault.LineFault.TheVariants.{NoMemory
 use brd_base::NoMemory;
 
 /// What keeps a line from being read.
-#[derive(Clone, Copy, Debug, PartialEq, Eq)]
+#[derive(Clone, Copy, PartialEq, Eq)]
 pub enum LineFault {
     /// The program ran out of memory.
     NoMemory,

@@ -10,7 +10,7 @@ use Kind::{Address, Code, Link, Nothing, Number, Register, Value};
 use brd_isa::{BranchOp, BranchRegimmOp, Mnemonic, RegisterOp, ShiftOp};
 
 /// What an operand has to be.
-#[derive(Clone, Copy, Debug)]
+#[derive(Clone, Copy)]
 pub(crate) enum Kind {
     /// Nothing at all.
     Nothing,

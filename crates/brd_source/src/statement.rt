@@ -8,7 +8,7 @@ use brd_base::List;
 use brd_isa::{Mnemonic, Register};
 
 /// A whole number with sign: the value of a name, if there is one, plus a number.
-#[derive(Clone, Copy, Debug, PartialEq, Eq)]
+#[derive(Clone, Copy)]
 pub struct Expression<'a> {
     /// The name, whose value isn't known yet.
     pub name: Option<&'a [u8]>,
@@ -23,7 +23,7 @@ pub(crate) const ZERO: Expression<'static> = Expression {
 };
 
 /// An immediate or an offset as it is written.
-#[derive(Clone, Copy, Debug, PartialEq, Eq)]
+#[derive(Clone, Copy)]
 pub enum Immediate<'a> {
     /// The value itself.
     Whole(Expression<'a>),
@@ -34,7 +34,7 @@ pub enum Immediate<'a> {
 }
 
 /// An operand of an instruction.
-#[derive(Clone, Copy, Debug, PartialEq, Eq)]
+#[derive(Clone, Copy)]
 pub enum Operand<'a> {
     /// None stands here.
     Absent,
@@ -82,7 +82,7 @@ impl<'a> Operand<'a> {
 
 /// An instruction: which it is, and the operands that it takes, by the table of `forms`. Targets of branches and jumps
 /// are addresses.
-#[derive(Clone, Copy, Debug, PartialEq, Eq)]
+#[derive(Clone, Copy)]
 pub struct Instruction<'a> {
     /// Which instruction it is.
     pub mnemonic: Mnemonic,
@@ -91,7 +91,7 @@ pub struct Instruction<'a> {
 }
 
 /// How many bytes each value of `.byte`, `.half` and `.word` takes.
-#[derive(Clone, Copy, Debug, PartialEq, Eq)]
+#[derive(Clone, Copy)]
 pub enum Width {
     /// One.
     Byte,
@@ -102,7 +102,7 @@ pub enum Width {
 }
 
 /// What stands behind a line's labels.
-#[derive(Debug, Drop)]
+#[derive(Drop)]
 pub enum Statement<'a> {
     /// Nothing, or a directive without effect: `.globl name`, `.set noreorder`, `.set noat`, `.set nomacro`.
     Nothing,
@@ -123,7 +123,7 @@ pub enum Statement<'a> {
 }
 
 /// A line of source.
-#[derive(Debug, Drop)]
+#[derive(Drop)]
 pub struct Line<'a> {
     /// The names with a colon before the statement, in order.
     pub labels: List<&'a [u8]>,

@@ -1,5 +1,5 @@
 /// A token of a line, borrowed from its bytes.
-#[derive(Clone, Copy, Debug, Default)]
+#[derive(Clone, Copy, Default)]
 pub(crate) enum Token<'a> {
     /// A longest stretch of letters, digits, `_`, `.` and `$`.
     Run(&'a [u8]),

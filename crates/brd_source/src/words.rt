@@ -8,7 +8,7 @@ use crate::statement::Width;
 use brd_isa::{Mnemonic, is_same_name, mnemonic_named};
 
 /// Names for instructions that another mnemonic has too.
-#[derive(Clone, Copy, Debug)]
+#[derive(Clone, Copy)]
 pub(crate) enum Shorthand {
     Nop,
     Move,
@@ -19,7 +19,7 @@ pub(crate) enum Shorthand {
 }
 
 /// Names that begin with a dot.
-#[derive(Clone, Copy, Debug)]
+#[derive(Clone, Copy)]
 pub(crate) enum Directive {
     Org,
     Align,
@@ -33,7 +33,7 @@ pub(crate) enum Directive {
 }
 
 /// What a statement begins with.
-#[derive(Clone, Copy, Debug)]
+#[derive(Clone, Copy)]
 pub(crate) enum Word {
     Mnemonic(Mnemonic),
     Shorthand(Shorthand),

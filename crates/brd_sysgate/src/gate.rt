@@ -16,7 +16,7 @@ const FOREVER: u32 = 0xffff_ffff;
 const POLL: u32 = 0;
 
 /// Who makes a service call.
-#[derive(Clone, Copy, Debug, PartialEq, Eq)]
+#[derive(Clone, Copy, PartialEq, Eq)]
 pub enum Caller {
     /// The running task.
     Task {

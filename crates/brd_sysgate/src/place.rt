@@ -3,7 +3,7 @@
 use brd_kernel::Call;
 
 /// From where a call may come, and when (own choice).
-#[derive(Clone, Copy, Debug, PartialEq, Eq)]
+#[derive(Clone, Copy, PartialEq, Eq)]
 pub enum Place {
     /// From a task that isn't CPU-locked.
     Task,
@@ -18,7 +18,7 @@ pub enum Place {
 }
 
 /// A service call, and from where it may come.
-#[derive(Clone, Copy, Debug, PartialEq, Eq)]
+#[derive(Clone, Copy, PartialEq, Eq)]
 pub struct Asked {
     /// From where it may come.
     pub place: Place,

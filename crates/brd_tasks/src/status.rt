@@ -52,7 +52,7 @@ pub enum TaskState {
 }
 
 /// A task's state, with what it waits for where it does.
-#[derive(Clone, Copy, Debug, PartialEq, Eq)]
+#[derive(Clone, Copy, PartialEq, Eq)]
 pub enum Status {
     /// Not started, or ended.
     Dormant,

@@ -8,7 +8,7 @@ use brd_base::Same;
 use brd_exec::Context;
 
 /// What is fixed of a task when the board is made.
-#[derive(Clone, Copy, Debug, PartialEq, Eq)]
+#[derive(Clone, Copy, PartialEq, Eq)]
 pub struct TaskSetup {
     /// Its number, from 1 to 255.
     pub id: TaskId,
@@ -25,7 +25,7 @@ pub struct TaskSetup {
 }
 
 /// A request to start a task (TOPPERS/FMP, act_tsk and mact_tsk).
-#[derive(Clone, Copy, Debug, PartialEq, Eq)]
+#[derive(Clone, Copy, PartialEq, Eq)]
 pub enum Request {
     /// On the processor that it is assigned to.
     Assigned,
@@ -34,7 +34,7 @@ pub enum Request {
 }
 
 /// A task but for its context.
-#[derive(Clone, Copy, Debug, PartialEq, Eq)]
+#[derive(Clone, Copy, PartialEq, Eq)]
 pub struct Task {
     /// What was fixed when the board was made.
     pub setup: TaskSetup,
@@ -74,7 +74,7 @@ impl Same for Task {
 }
 
 /// A task as it stands.
-#[derive(Clone, Copy, Debug, PartialEq, Eq)]
+#[derive(Clone, Copy, PartialEq, Eq)]
 pub struct TaskView {
     /// Its state.
     pub state: TaskState,

@@ -7,7 +7,7 @@ use crate::token::Token;
 use std::marker::Model;
 
 /// Reads the tokens of a text from the front.
-#[derive(Debug, Drop)]
+#[derive(Drop)]
 pub struct Scanner<'a> {
     rest: &'a [u8],
     line: usize,

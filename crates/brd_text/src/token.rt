@@ -1,5 +1,5 @@
 /// A token of a text, borrowed from its bytes.
-#[derive(Clone, Copy, Debug, PartialEq, Eq)]
+#[derive(Clone, Copy, PartialEq, Eq)]
 pub enum Token<'a> {
     /// A longest stretch of letters, digits, `_`, `.` and `$`.
     Run(&'a [u8]),

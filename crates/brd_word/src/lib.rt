@@ -70,7 +70,7 @@ pub fn mul_unsigned(a: u32, b: u32) -> u64
 }
 
 /// What a division gives.
-#[derive(Clone, Copy, Debug, PartialEq, Eq)]
+#[derive(Clone, Copy, PartialEq, Eq)]
 pub struct Division {
     /// The quotient, rounded toward zero.
     pub quotient: u32,
