@@ -179,14 +179,14 @@ fn pages(rt: HostRuntime) -> Result<(), Fail> {
 fn images_of_words(rt: HostRuntime) -> Result<(), Fail> {
     let image = Image::from_words(rt.alloc(), &[0x0102_0304, 0xfffe_fdfc])?;
     assert!(rt; image.entry == 0x8000_0000);
-    assert!(rt; image.symbols.as_slice().len() == 0);
+    assert!(rt; image.symbols.is_empty());
     assert!(rt; image.segments.as_slice().len() == 1);
     for segment in image.segments.as_slice() {
         assert!(rt; segment.address == 0x8000_0000);
         assert!(rt; segment.bytes.as_slice() == [1, 2, 3, 4, 0xff, 0xfe, 0xfd, 0xfc].as_slice());
     }
     let none = Image::from_words(rt.alloc(), &[])?;
-    assert!(rt; none.segments.as_slice().len() == 0);
+    assert!(rt; none.segments.is_empty());
     Ok(())
 }
 
