@@ -8,7 +8,6 @@ pub mod SectionLemmas
 pub mod TrieLemmas
 pub mod PlaceLemmas
 pub mod NamedLemmas
-pub mod PartLemmas
 pub mod BodyLemmas
 pub mod FieldLemmas
 pub mod HeaderLemmas

@@ -23,7 +23,6 @@ use Rattle.brd_elf.specs.Segments.{program_header_at, lies_in, is_dynamic, is_sk
 use Rattle.brd_elf.specs.Symbols.{entry_at, section_at, string_of, strings_of, is_named, with_symbol, named, kept, kept_from, symbol_table_from, symbols_by, symbols_of}
 use Rattle.brd_elf.specs.Meaning.{meaning}
 use Rattle.brd_elf.proofs.HeaderFaults.{without_fault}
-use Rattle.brd_elf.proofs.PartLemmas.{all_push}
 
 -- ---- steps that were passed
 
@@ -38,6 +37,10 @@ at_once true first next x is = inl (ok_is first x is)
 at_once false first next x is = inr (refl, is)
 
 -- ---- lists with one more
+
+all_push : {A : Type 0} (P : A → Type 0) (xs : List A) (x : A) → AllByRecursion P xs → P x → AllByRecursion P (xs ++ x ∷ [])
+all_push P [] x are is = (is, tt)
+all_push P (first ∷ xs) x are is = (are.0, all_push P xs x are.1 is)
 
 -- what lies nowhere where a segment does is apart from it
 apart_from : (segment other : Segment) → (ltb segment.address (other.address + length other.bytes) && ltb other.address (segment.address + length segment.bytes)) ≡ false → IsApart segment other

@@ -1,6 +1,6 @@
 //! The symbols that are kept, with a register for the test whether a name is new.
 
-ghost use Rattle.std.specs.Prelude.{◌≡◌, ℕ, ◌^◌, ◌<◌, ◌≤◌, List, [], ◌∷◌, ◌++◌, length, drop, slice_index_or, true, false, option_map, Some, IfOk, OnOk, IfSome};
+ghost use Rattle.std.specs.Prelude.{◌≡◌, ℕ, ◌^◌, ◌<◌, ◌≤◌, List, [], ◌∷◌, ◌++◌, length, drop, slice_index_or, true, false, option_map, Some, IfOk, OnOk, OnErr, IfSome};
 ghost use Rattle.brd_elf.specs.Faults.{Gives};
 ghost use Rattle.brd_elf.specs.Symbols.{string_of, kept};
 ghost use Rattle.brd_elf.specs.Trie.{path_of};
@@ -17,7 +17,7 @@ use std::marker::Model;
 /// Symbols in the order in which they were kept, no two with one name.
 #[derive(Drop)]
 pub struct Named<'a> {
-    symbols: Symbols,
+    symbols: Vec<Symbol>,
     /// The string table.
     places: Places<'a>,
     /// By its number, whether a string is the empty one or a symbol's name. A number behind the end has no mark.
@@ -29,10 +29,10 @@ impl<'a> Model for Named<'a> {
 
     ghost Value = { Known };
 
-    ghost view = { λ named. record { strings = named.places.strings; symbols = named.symbols; paths = named.places.paths } };
+    ghost view = { λ named. record { strings = named.places.strings; symbols = named.symbols.items; paths = named.places.paths } };
 
     ghost invariant = { λ named. IsRegister named.marks.items
-        (record { strings = named.places.strings; symbols = named.symbols; paths = named.places.paths }) };
+        (record { strings = named.places.strings; symbols = named.symbols.items; paths = named.places.paths }) };
 }
 
 impl<'a> Named<'a> {
@@ -44,31 +44,31 @@ impl<'a> Named<'a> {
         let places = Places::new(alloc, strings)?;
         let marks = vec![in alloc; true]?;
         Ok(Named {
-            symbols: Symbols::new(alloc),
+            symbols: Vec::new(alloc),
             places,
             marks,
         })
     }
 
-    /// With the symbol of an entry at an offset too, if it is kept.
+    /// Keeps the symbol of an entry at an offset too, if it is one that is kept. After a fault they are of no more use.
     #[tactic(auto, unfolding(crate::specs::Symbols::kept))]
-    pub fn with(mut self, alloc: Global, at: usize, entry: Entry) -> Result<Self, ElfFault>
-        ensures kept { Gives (λ named. named.symbols) result (kept self.entry.strings at entry self.entry.symbols) }
-        ensures strings { IfOk result (λ named. named.strings ≡ self.entry.strings) }
+    pub fn keep(&mut self, alloc: Global, at: usize, entry: Entry) -> Result<(), ElfFault>
+        ensures kept { Gives (λ _. self.new.symbols) result (kept self.old.strings at entry self.old.symbols) }
+        ensures strings { self.new.strings ≡ self.old.strings }
     {
         if entry.section == 0 {
-            return Ok(self);
+            return Ok(());
         }
         let start = entry.name as usize;
         let Some(number) = self.number_of(start)? else {
             return Err(ElfFault::Symbols { at });
         };
         if self.is_known(number) {
-            return Ok(self);
+            return Ok(());
         }
         match self.places.string_at(start) {
             None => Err(ElfFault::Symbols { at }),
-            Some(name) => Ok(self.with_name(alloc, number, name, entry.value)?),
+            Some(name) => Ok(self.add(alloc, number, name, entry.value)?),
         }
     }
 
@@ -91,37 +91,32 @@ impl<'a> Named<'a> {
         number < self.marks.len() && self.marks[number]
     }
 
-    /// With a symbol of a new name, that has a number.
-    fn with_name(
-        self,
+    /// Adds a symbol of a new name, that has a number.
+    fn add(
+        &mut self,
         alloc: Global,
         number: u32,
         name: &'a [u8],
         value: u32,
-    ) -> Result<Self, NoMemory>
-        requires there { number < length self.paths }
-        requires path { path_of self.paths number ≡ name.now }
-        requires new { is_known self.symbols (Some name.now) ≡ false }
-        ensures { IfOk result (λ named. named ≡ record {
-          strings = self.entry.strings;
-          paths = self.entry.paths;
-          symbols = self.entry.symbols ++ record { name = name.entry.now; value = value } ∷ [];
+    ) -> Result<(), NoMemory>
+        requires there { number < length self.old.paths }
+        requires path { path_of self.old.paths number ≡ name.now }
+        requires new { is_known self.old.symbols (Some name.now) ≡ false }
+        ensures added { OnOk result (self.new ≡ record {
+          strings = self.old.strings;
+          paths = self.old.paths;
+          symbols = self.old.symbols ++ record { name = name.now; value = value } ∷ [];
         }) }
+        ensures kept { OnErr result (self.new ≡ self.old) }
     {
-        let Named {
-            mut symbols,
-            places,
-            mut marks,
-        } = self;
-        mark(&mut marks, number as usize)?;
         let mut copy = Bytes::new(alloc);
         copy.append(name)?;
-        symbols.push(Symbol { name: copy, value })?;
-        Ok(Named {
-            symbols,
-            places,
-            marks,
-        })
+        self.symbols.push(Symbol { name: copy, value })?;
+        if let Err(refused) = mark(&mut self.marks, number as usize) {
+            self.symbols.pop();
+            return Err(refused);
+        }
+        Ok(())
     }
 
     /// The symbols.
@@ -133,13 +128,14 @@ impl<'a> Named<'a> {
             places: _,
             marks: _,
         } = self;
-        symbols
+        Symbols::from_vec(symbols)
     }
 }
 
 /// Sets a mark, which may lie behind the end; those that aren't there are no marks.
 fn mark(marks: &mut Vec<bool>, at: usize) -> Result<(), NoMemory>
     requires { at < 2 ^ 32 }
+    ensures same { OnErr result (marks.new.items ≡ marks.old.items) }
     ensures here { OnOk result (slice_index_or marks.new.items at false ≡ true) }
     ensures others { OnOk result ((place : ℕ) → (place ≡ at → ⊥)
         → slice_index_or marks.new.items place false ≡ slice_index_or marks.old.items place false) }

@@ -1,6 +1,6 @@
 //! The parts of the file of an image.
 
-ghost use Rattle.std.specs.Prelude.{◌≡◌, ℕ, ◌+◌, ◌*◌, ◌^◌, ◌<◌, ◌≤◌, ◌++◌, length, replicate, OnOk, IfOk};
+ghost use Rattle.std.specs.Prelude.{◌∷◌, [], ◌≡◌, ℕ, ◌+◌, ◌*◌, ◌^◌, ◌<◌, ◌≤◌, ◌++◌, length, replicate, OnOk, IfOk};
 ghost use Rattle.std.specs.List.{AllByRecursion};
 ghost use Rattle.brd_elf.specs.File.{halves, words, padding, padded, program_header, program_headers_from, data_of, symbol_entry, symbol_table, strings, section_headers, header_bytes};
 
@@ -77,7 +77,7 @@ pub fn put_header(
 }
 
 /// The program headers of segments, and the bytes of the segments, which lie behind them in the file.
-#[tactic(auto, using(crate::proofs::PartLemmas::programs_step), unfolding(crate::specs::File::program_headers_from))]
+#[tactic(auto, unfolding(crate::specs::File::program_headers_from))]
 pub fn lay_out_segments(alloc: Global, segments: &[Segment]) -> Result<(Vec<u8>, Vec<u8>), NoMemory>
     requires { length segments.now ≤ 2 ^ 24 }
     ensures programs { IfOk result (λ parts. parts.0.items ≡ program_headers_from (52 + 32 * length segments.now) segments.now) }
@@ -87,10 +87,25 @@ pub fn lay_out_segments(alloc: Global, segments: &[Segment]) -> Result<(Vec<u8>,
     let mut programs = Vec::new(alloc);
     let mut data = Vec::new(alloc);
     for segment in segments {
-        put_program_header(&mut programs, start + data.len(), segment)?;
-        put_padded(&mut data, segment.bytes.as_slice())?;
+        put_segment(&mut programs, &mut data, start, segment)?;
     }
     Ok((programs, data))
+}
+
+/// Puts a segment's program header and its bytes at the end of what those of earlier ones are; the first one's bytes lie
+/// at `start` in the file.
+fn put_segment(
+    programs: &mut Vec<u8>,
+    data: &mut Vec<u8>,
+    start: usize,
+    segment: &Segment,
+) -> Result<(), NoMemory>
+    requires { start + length data.old.items < 2 ^ 64 }
+    ensures program { OnOk result (programs.new.items ≡ programs.old.items ++ program_header (start + length data.old.items) segment.now) }
+    ensures bytes { OnOk result (data.new.items ≡ data.old.items ++ padded segment.now.bytes) }
+{
+    put_program_header(programs, start + data.len(), segment)?;
+    put_padded(data, segment.bytes.as_slice())
 }
 
 /// Puts the program header of a segment whose bytes lie at an offset at the end.
@@ -111,7 +126,7 @@ fn put_padded(out: &mut Vec<u8>, bytes: &[u8]) -> Result<(), NoMemory>
 }
 
 /// The symbol table and its strings.
-#[tactic(auto, using(crate::proofs::PartLemmas::entries_step, crate::proofs::PartLemmas::words_push), unfolding(crate::specs::File::symbol_entries_from))]
+#[tactic(auto, unfolding(crate::specs::File::symbol_entries_from))]
 pub fn lay_out_symbols(alloc: Global, symbols: &[Symbol]) -> Result<(Vec<u8>, Vec<u8>), NoMemory>
     ensures table { IfOk result (λ parts. parts.0.items ≡ symbol_table symbols.now) }
     ensures strings { IfOk result (λ parts. parts.1.items ≡ strings symbols.now) }
@@ -122,11 +137,21 @@ pub fn lay_out_symbols(alloc: Global, symbols: &[Symbol]) -> Result<(Vec<u8>, Ve
     let mut strings = Vec::new(alloc);
     strings.push(0)?;
     for symbol in symbols {
-        put_symbol(&mut table, strings.len(), symbol.value)?;
-        strings.extend_from_slice(symbol.name.as_slice())?;
-        strings.push(0)?;
+        put_named(&mut table, &mut strings, symbol)?;
     }
     Ok((table, strings))
+}
+
+/// Puts a symbol at the end of the table, and its name at the end of the strings.
+fn put_named(table: &mut Vec<u8>, strings: &mut Vec<u8>, symbol: &Symbol) -> Result<(), NoMemory>
+    ensures entry { OnOk result (table.new.items ≡ table.old.items ++ symbol_entry (length strings.old.items) symbol.now.value) }
+    ensures string { OnOk result (strings.new.items ≡ strings.old.items ++ symbol.now.name ++ 0 ∷ []) }
+    ensures word { symbol.now.value < 2 ^ 32 }
+{
+    put_symbol(table, strings.len(), symbol.value)?;
+    strings.extend_from_slice(symbol.name.as_slice())?;
+    strings.push(0)?;
+    Ok(())
 }
 
 /// Puts a symbol whose name lies at a place in the strings at the end.

@@ -76,7 +76,7 @@ fn keep_all(
     let mut symbols = Named::new(alloc, strings)?;
     let mut at = start;
     for _ in 0..count {
-        symbols = symbols.with(alloc, at, entry_at(&file[at..]))?;
+        symbols.keep(alloc, at, entry_at(&file[at..]))?;
         at += LEN;
     }
     Ok(symbols.into_symbols())
