@@ -74,10 +74,10 @@ fn execute(
     match *insn {
         Insn::Shift(op, rd, rt, sa) => shift(context, op, rd, rt, sa),
         Insn::ShiftVariable(op, rd, rt, rs) => shift_variable(context, op, rd, rt, rs),
-        Insn::ThreeRegisters(op, rd, rs, rt) => three_registers(context, op, rd, rs, rt)?,
+        Insn::ThreeRegisters(op, rd, rs, rt) => return three_registers(context, op, rd, rs, rt),
         Insn::Multiply(rd, rs, rt) => multiply(context, rd, rs, rt),
-        Insn::JumpRegister(rs) => jump_register(context, rs)?,
-        Insn::JumpLinkRegister(rd, rs) => call_register(context, rd, rs)?,
+        Insn::JumpRegister(rs) => return jump_register(context, rs),
+        Insn::JumpLinkRegister(rd, rs) => return call_register(context, rd, rs),
         Insn::Syscall(_) => return Err(Stop::Call),
         Insn::Break(_) => return Err(Stop::Raise(ExceptionCode::Bp)),
         Insn::Sync => context.advance(),
@@ -86,22 +86,21 @@ fn execute(
         Insn::Product(op, rs, rt) => product(context, op, rs, rt),
         Insn::Accumulate(op, rs, rt) => accumulate(context, op, rs, rt),
         Insn::Count(op, rd, rs) => count(context, op, rd, rs),
-        Insn::Trap(op, rs, rt, _) => trap_if(
-            context,
-            is_trap(op, context.read(rs), context.read(rt)),
-        )?,
-        Insn::TrapImmediate(op, rs, immediate) => {
-            trap_if(context, is_immediate_trap(op, context.read(rs), immediate))?
+        Insn::Trap(op, rs, rt, _) => {
+            return trap_if(context, is_trap(op, context.read(rs), context.read(rt)));
         }
-        Insn::Jump(op, index) => jump(context, op, index)?,
-        Insn::Branch(op, rs, rt, offset) => branch(context, op, rs, rt, offset)?,
-        Insn::BranchZero(op, rs, offset) => branch_zero(context, op, rs, offset)?,
-        Insn::BranchRegimm(op, rs, offset) => branch_regimm(context, op, rs, offset)?,
-        Insn::WithImmediate(op, rt, rs, immediate) => with_immediate(
-            context, op, rt, rs, immediate,
-        )?,
+        Insn::TrapImmediate(op, rs, immediate) => {
+            return trap_if(context, is_immediate_trap(op, context.read(rs), immediate));
+        }
+        Insn::Jump(op, index) => return jump(context, op, index),
+        Insn::Branch(op, rs, rt, offset) => return branch(context, op, rs, rt, offset),
+        Insn::BranchZero(op, rs, offset) => return branch_zero(context, op, rs, offset),
+        Insn::BranchRegimm(op, rs, offset) => return branch_regimm(context, op, rs, offset),
+        Insn::WithImmediate(op, rt, rs, immediate) => {
+            return with_immediate(context, op, rt, rs, immediate);
+        }
         Insn::LoadUpper(rt, immediate) => context.set(rt, u32::from(immediate) << 16),
-        Insn::Load(op, rt, base, offset) => load(context, ram, op, rt, base, offset)?,
+        Insn::Load(op, rt, base, offset) => return load(context, ram, op, rt, base, offset),
         Insn::Store(op, rt, base, offset) => {
             let address = context.address(base, offset);
             store(context, ram, op, rt, address)?;
@@ -114,7 +113,7 @@ fn execute(
         }
         Insn::Linked(LinkedOp::Sc, rt, base, offset) => {
             let address = context.address(base, offset);
-            store_if_linked(context, cpu, ram, links, rt, address)?;
+            return store_if_linked(context, cpu, ram, links, rt, address);
         }
         Insn::Prefetch(_, _, _) => context.advance(),
     }
