@@ -4,7 +4,7 @@ ghost use Rattle.std.specs.Prelude.{◌≡◌};
 ghost use Rattle.brd_kernel.specs.Answer.{code_of};
 
 /// A service call with its arguments, as they are in the registers.
-#[derive(Clone, Copy, PartialEq, Eq)]
+#[derive(Clone, Copy)]
 pub enum Call {
     /// Starts a task, or queues a request to.
     ActTsk(u32),

@@ -18,7 +18,7 @@ pub enum Place {
 }
 
 /// A service call, and from where it may come.
-#[derive(Clone, Copy, PartialEq, Eq)]
+#[derive(Clone, Copy)]
 pub struct Asked {
     /// From where it may come.
     pub place: Place,

@@ -6,8 +6,6 @@ use brd_exec::{Context, ExceptionCode, Outcome, run};
 use brd_isa::Register;
 use brd_link::Links;
 use brd_mem::Ram;
-use std::alloc::AllocGlobal;
-use std::process::Abort;
 use std::test::Fail;
 
 /// Where each instruction stands.
@@ -51,195 +49,238 @@ const BREAK: u32 = 0x0000_000d;
 
 const RESERVED: u32 = 0xffff_ffff;
 
-/// Does one instruction of a fresh context with this in $sp. Says how it ended and what $sp is then.
+/// The exceptions that instructions raise outside a delay slot.
+const ADEL: Outcome = Outcome::Exception {
+    code: ExceptionCode::AdEL,
+    epc: CODE,
+    bd: false,
+};
+
+const ADES: Outcome = Outcome::Exception {
+    code: ExceptionCode::AdES,
+    epc: CODE,
+    bd: false,
+};
+
+const DBE: Outcome = Outcome::Exception {
+    code: ExceptionCode::DBE,
+    epc: CODE,
+    bd: false,
+};
+
+const BP: Outcome = Outcome::Exception {
+    code: ExceptionCode::Bp,
+    epc: CODE,
+    bd: false,
+};
+
+const RI: Outcome = Outcome::Exception {
+    code: ExceptionCode::RI,
+    epc: CODE,
+    bd: false,
+};
+
+/// Does one instruction of a fresh context with this in $sp. Says what $sp is then, where the instruction ends so.
 fn done(
     ram: &mut Ram,
     links: &mut Links,
     cpu: u8,
     word: u32,
     stack: u32,
-) -> Result<(Outcome, u32), Fail>
+    ending: Outcome,
+) -> Option<u32>
     requires { (1 ≤ cpu) × (cpu ≤ 8) }
 {
     if ram.store32(CODE, word).is_err() {
-        return Err(Fail::from("no RAM for the instruction"));
+        return None;
     }
     let mut context = Context::opening(CODE, BLOCK, stack);
-    let outcome = run(&mut context, cpu, ram, links);
-    Ok((outcome, context.read(Register::low(29))))
+    if run(&mut context, cpu, ram, links) != ending {
+        return None;
+    }
+    Some(context.read(Register::low(29)))
 }
 
 /// An instruction of a processor, and how it ends.
 type Ended = (u8, u32, Outcome);
 
-/// The exception that an instruction raises outside a delay slot.
-fn exception(code: ExceptionCode) -> Outcome {
-    Outcome::Exception {
-        code,
-        epc: CODE,
-        bd: false,
+/// Instructions before an SC of processor 1, and the word that lies at `BLOCK` behind it.
+type Case = (&'static [Ended], u32);
+
+/// Whether instructions end as they say.
+fn all_end(ram: &mut Ram, links: &mut Links, before: &[Ended]) -> bool {
+    for (cpu, word, ending) in before {
+        let cpu = *cpu;
+        if cpu < 1 || cpu > 8 || done(ram, links, cpu, *word, BEFORE, *ending).is_none() {
+            return false;
+        }
+    }
+    true
+}
+
+/// Whether this word lies at `BLOCK`.
+fn holds(ram: &Ram, word: u32) -> bool {
+    match ram.load32(BLOCK) {
+        Ok(found) => found == word,
+        Err(_) => false,
     }
 }
 
 /// Does these instructions, each of which has to end as it says, and then an SC of processor 1 with `LAST`. That has to
-/// be done and to end the link; where it leaves `LAST` in the word it has to answer 1, and else 0. Gives the word.
-fn word_after_sc(
-    rt: &(impl Abort + AllocGlobal),
-    name: &str,
-    before: &[Ended],
-) -> Result<u32, Fail> {
-    let mut ram = Ram::new(rt.alloc(), 0x1_0000)?;
+/// be done and to end the link, and to leave this word; where that is `LAST` it has to answer 1, and else 0.
+fn leaves(ram: &mut Ram, before: &[Ended], left: u32) -> bool {
     let mut links = Links::new();
-    for (cpu, word, ending) in before {
-        let cpu = *cpu;
-        assert!(rt; 1 <= cpu && cpu <= 8, "{name}: processor {cpu}");
-        let (outcome, _) = done(&mut ram, &mut links, cpu, *word, BEFORE)?;
-        assert!(rt; outcome == *ending, "{name}: {word:08x}");
+    if ram.store32(BLOCK, 0).is_err() || !all_end(ram, &mut links, before) {
+        return false;
     }
-    let (outcome, answer) = done(&mut ram, &mut links, 1, SC, LAST)?;
-    assert!(rt; outcome == Outcome::Done, "{name}");
-    assert!(rt; links.state(1).is_none(), "{name}");
-    let Ok(word) = ram.load32(BLOCK) else {
-        return Err(Fail::from("no RAM at the block"));
-    };
-    assert!(rt; answer == u32::from(word == LAST), "{name}");
-    Ok(word)
+    let answer = done(ram, &mut links, 1, SC, LAST, Outcome::Done);
+    answer == Some(u32::from(left == LAST)) && links.state(1).is_none() && holds(ram, left)
+}
+
+/// The first of these cases that leaves another word.
+fn first_wrong(ram: &mut Ram, cases: &[Case]) -> Option<usize> {
+    for (n, (before, left)) in cases.iter().enumerate() {
+        if !leaves(ram, before, *left) {
+            return Some(n);
+        }
+    }
+    None
+}
+
+/// Stores of another processor behind an LL, and the word that the SC leaves.
+const STORES: &[(u32, u32)] = &[
+    // A word of the block, and one behind it.
+    (SW + 4, 0),
+    (SW + 0x10, LAST),
+    // The block's last byte, and the byte behind it.
+    (SB + 0xf, 0),
+    (SB + 0x10, LAST),
+    // A halfword of the block.
+    (SH + 0xe, 0),
+    // Parts of a word.
+    (SWL + 0xd, 0),
+    (SWR + 0x5, 0),
+    // The right part behind the block.
+    (SWR + 0x11, LAST),
+];
+
+/// The first of `STORES` behind which an SC leaves another word.
+fn first_wrong_store(ram: &mut Ram, cpu: u8) -> Option<usize> {
+    for (n, (store, left)) in STORES.iter().enumerate() {
+        let before = [(1, LL, Outcome::Done), (cpu, *store, Outcome::Done)];
+        if !leaves(ram, &before, *left) {
+            return Some(n);
+        }
+    }
+    None
 }
 
 /// The SC of processor 1 stores, unless another processor has stored into the block since its LL.
 #[test]
 fn stores_of_another(rt: HostRuntime) -> Result<(), Fail> {
-    for (name, store, left) in [
-        ("a word of the block", SW + 4, 0),
-        ("a word behind the block", SW + 0x10, LAST),
-        ("the block's last byte", SB + 0xf, 0),
-        ("the byte behind the block", SB + 0x10, LAST),
-        ("a halfword of the block", SH + 0xe, 0),
-        ("the left part of a word", SWL + 0xd, 0),
-        ("the right part of a word", SWR + 0x5, 0),
-        ("the right part behind the block", SWR + 0x11, LAST),
-    ] {
-        for cpu in [2, 8] {
-            let before = [(1, LL, Outcome::Done), (cpu, store, Outcome::Done)];
-            assert!(rt; word_after_sc(&rt, name, &before)? == left, "{name}");
-        }
-    }
+    let mut ram = Ram::new(rt.alloc(), 0x1_0000)?;
+    assert!(rt;
+        first_wrong_store(&mut ram, 2).is_none() && first_wrong_store(&mut ram, 8).is_none()
+    );
     Ok(())
 }
 
-/// Another processor's stores that don't store leave the link, and so do its LLs.
-#[test]
-fn what_else_another_does(rt: HostRuntime) -> Result<(), Fail> {
-    let linked = (1, LL, Outcome::Done);
-    let other_linked = (2, LL + 4, Outcome::Done);
-    let sc = (2, SC + 4, Outcome::Done);
-    let unaligned = (2, SW + 2, exception(ExceptionCode::AdES));
-    for (name, before, left) in [
-        ("nothing between", [linked].as_slice(), LAST),
-        ("an LL of the other alone", [other_linked].as_slice(), 0),
-        ("an LL", [linked, other_linked].as_slice(), LAST),
-        ("an SC without LL", [linked, sc].as_slice(), LAST),
-        ("an SC", [linked, other_linked, sc].as_slice(), 0),
-        ("a store that raises", [linked, unaligned].as_slice(), LAST),
-    ] {
-        assert!(rt; word_after_sc(&rt, name, before)? == left, "{name}");
-    }
-    Ok(())
-}
+const LINKED: Ended = (1, LL, Outcome::Done);
+
+const OTHER_LINKED: Ended = (2, LL + 4, Outcome::Done);
+
+const OTHER_SC: Ended = (2, SC + 4, Outcome::Done);
+
+/// What another processor does between.
+const OF_ANOTHER: &[Case] = &[
+    // Nothing.
+    (&[LINKED], LAST),
+    // An LL of the other alone.
+    (&[OTHER_LINKED], 0),
+    // An LL.
+    (&[LINKED, OTHER_LINKED], LAST),
+    // An SC without LL, and one behind it.
+    (&[LINKED, OTHER_SC], LAST),
+    (&[LINKED, OTHER_LINKED, OTHER_SC], 0),
+    // A store that raises.
+    (&[LINKED, (2, SW + 2, ADES)], LAST),
+];
 
 /// Which of the instructions that a processor does itself leave its link.
-#[test]
-fn what_ends_ones_own_link(rt: HostRuntime) -> Result<(), Fail> {
-    for (name, word, left) in [
-        ("a store into the block", SW + 4, LAST),
-        ("a store of the word", SW, LAST),
-        ("an SC", SC, BEFORE),
-        ("an SC to another word", SC + 4, 0),
-        ("an SC from register 0", SC_FROM_ZERO, 0),
-        ("a later LL of another word", LL + 4, 0),
-        ("a later LL to register 0", LL_TO_ZERO, LAST),
-    ] {
-        let before = [(1, LL, Outcome::Done), (1, word, Outcome::Done)];
-        assert!(rt; word_after_sc(&rt, name, &before)? == left, "{name}");
-    }
-    let before = [(1, LL_TO_ZERO, Outcome::Done)];
-    assert!(rt; word_after_sc(&rt, "an LL to register 0", &before)? == LAST);
-    Ok(())
-}
+const OF_ONESELF: &[Case] = &[
+    // A store into the block, and one of the word.
+    (&[LINKED, (1, SW + 4, Outcome::Done)], LAST),
+    (&[LINKED, (1, SW, Outcome::Done)], LAST),
+    // An SC, one to another word, one from register 0.
+    (&[LINKED, (1, SC, Outcome::Done)], BEFORE),
+    (&[LINKED, (1, SC + 4, Outcome::Done)], 0),
+    (&[LINKED, (1, SC_FROM_ZERO, Outcome::Done)], 0),
+    // A later LL of another word, one to register 0, and this one alone.
+    (&[LINKED, (1, LL + 4, Outcome::Done)], 0),
+    (&[LINKED, (1, LL_TO_ZERO, Outcome::Done)], LAST),
+    (&[(1, LL_TO_ZERO, Outcome::Done)], LAST),
+];
 
 /// An exception ends the link only where an SC raises it. The board ends it too, as at a SYSCALL.
+const OF_EXCEPTIONS: &[Case] = &[
+    (&[LINKED, (1, SW + 2, ADES)], LAST),
+    (&[LINKED, (1, SC + 1, ADES)], 0),
+    (&[LINKED, (1, SC_OUTSIDE, DBE)], 0),
+    (&[LINKED, (1, LL + 2, ADEL)], LAST),
+    (&[LINKED, (1, LL_OUTSIDE, DBE)], LAST),
+    (&[LINKED, (1, BREAK, BP)], LAST),
+    (&[LINKED, (1, RESERVED, RI)], LAST),
+    (&[LINKED, (1, SYSCALL, Outcome::Syscall)], LAST),
+];
+
+/// Another processor's stores that don't store leave the link, and so do its LLs; what a processor does itself, and what it
+/// raises, may end it.
 #[test]
-fn what_stops_with_a_link(rt: HostRuntime) -> Result<(), Fail> {
-    for (name, word, ending, left) in [
-        ("a store", SW + 2, exception(ExceptionCode::AdES), LAST),
-        ("an SC", SC + 1, exception(ExceptionCode::AdES), 0),
-        (
-            "an SC outside",
-            SC_OUTSIDE,
-            exception(ExceptionCode::DBE),
-            0,
-        ),
-        ("an LL", LL + 2, exception(ExceptionCode::AdEL), LAST),
-        (
-            "an LL outside",
-            LL_OUTSIDE,
-            exception(ExceptionCode::DBE),
-            LAST,
-        ),
-        ("a BREAK", BREAK, exception(ExceptionCode::Bp), LAST),
-        (
-            "a reserved word",
-            RESERVED,
-            exception(ExceptionCode::RI),
-            LAST,
-        ),
-        ("a SYSCALL", SYSCALL, Outcome::Syscall, LAST),
-    ] {
-        let before = [(1, LL, Outcome::Done), (1, word, ending)];
-        assert!(rt; word_after_sc(&rt, name, &before)? == left, "{name}");
-    }
+fn what_ends_a_link(rt: HostRuntime) -> Result<(), Fail> {
+    let mut ram = Ram::new(rt.alloc(), 0x1_0000)?;
+    assert!(rt;
+        first_wrong(&mut ram, OF_ANOTHER).is_none()
+            && first_wrong(&mut ram, OF_ONESELF).is_none()
+            && first_wrong(&mut ram, OF_EXCEPTIONS).is_none()
+    );
     Ok(())
 }
 
-/// What LL and SC raise, and what becomes of the link.
+/// What LL and SC raise, what $sp is then, and what becomes of the link.
+const RAISED: &[(u32, Outcome, u32, Option<u32>)] = &[
+    (LL, Outcome::Done, 0, Some(BLOCK)),
+    (LL + 1, ADEL, BEFORE, Some(BLOCK)),
+    (LL_OUTSIDE, DBE, BEFORE, Some(BLOCK)),
+    (SC + 2, ADES, BEFORE, None),
+    (LL + 8, Outcome::Done, 0, Some(BLOCK + 8)),
+    (SC_OUTSIDE, DBE, BEFORE, None),
+];
+
+/// The first row of `RAISED` that doesn't come so, one after the other.
+fn first_other_raised(ram: &mut Ram) -> Option<u32> {
+    let mut links = Links::new();
+    for (word, ending, stack, link) in RAISED {
+        let found = done(ram, &mut links, 1, *word, BEFORE, *ending);
+        if found != Some(*stack) || links.state(1) != *link {
+            return Some(*word);
+        }
+    }
+    None
+}
+
+/// Whether an SC from register 0 stores, and leaves that register 0.
+fn stores_zero(ram: &mut Ram) -> bool {
+    let mut links = Links::new();
+    ram.store32(BLOCK, 5).is_ok()
+        && done(ram, &mut links, 1, LL_TO_ZERO, BEFORE, Outcome::Done) == Some(BEFORE)
+        && done(ram, &mut links, 1, SC_FROM_ZERO, BEFORE, Outcome::Done) == Some(BEFORE)
+        && holds(ram, 0)
+        && links.state(1).is_none()
+}
+
 #[test]
 fn what_is_raised(rt: HostRuntime) -> Result<(), Fail> {
     let mut ram = Ram::new(rt.alloc(), 0x1_0000)?;
-    let mut links = Links::new();
-    for (word, raised, link) in [
-        (LL, None, Some(BLOCK)),
-        (LL + 1, Some(ExceptionCode::AdEL), Some(BLOCK)),
-        (LL_OUTSIDE, Some(ExceptionCode::DBE), Some(BLOCK)),
-        (SC + 2, Some(ExceptionCode::AdES), None),
-        (LL + 8, None, Some(BLOCK + 8)),
-        (SC_OUTSIDE, Some(ExceptionCode::DBE), None),
-    ] {
-        let after = match raised {
-            None => (Outcome::Done, 0),
-            Some(code) => (exception(code), BEFORE),
-        };
-        assert!(rt;
-            done(&mut ram, &mut links, 1, word, BEFORE)? == after,
-            "{word:08x}"
-        );
-        assert!(rt; links.state(1) == link, "{word:08x}");
-    }
-    Ok(())
-}
-
-/// An SC from register 0 stores, and that register stays 0.
-#[test]
-fn from_register_0(rt: HostRuntime) -> Result<(), Fail> {
-    let mut ram = Ram::new(rt.alloc(), 0x1_0000)?;
-    let mut links = Links::new();
-    if ram.store32(BLOCK, 5).is_err() {
-        return Err(Fail::from("no RAM at the block"));
-    }
-    let linked = done(&mut ram, &mut links, 1, LL_TO_ZERO, BEFORE)?;
-    assert!(rt; linked == (Outcome::Done, BEFORE));
-    let stored = done(&mut ram, &mut links, 1, SC_FROM_ZERO, BEFORE)?;
-    assert!(rt; stored == (Outcome::Done, BEFORE));
-    assert!(rt; ram.load32(BLOCK) == Ok(0));
-    assert!(rt; links.state(1).is_none());
+    assert!(rt; first_other_raised(&mut ram).is_none() && stores_zero(&mut ram));
     Ok(())
 }

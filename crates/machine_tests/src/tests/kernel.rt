@@ -1,12 +1,14 @@
+use bitflags::Flags as Bits;
 use brd_base::NoMemory;
-use brd_config::{ConfigFault, parse};
+use brd_config::{
+    FlagAttributes, FlagConfig, QueueAttributes, QueueConfig, SemaphoreAttributes, SemaphoreConfig,
+};
 use brd_exec::Outcome;
-use brd_kernel::{Call, Ended, Handler, Kernel, LineSetup, Reply, Standing, TaskSetup, TaskState};
+use brd_kernel::{Call, Handler, Kernel, LineSetup, Reply, Standing, TaskSetup, TaskState};
 use brd_link::Links;
 use brd_mem::Ram;
 use brd_tasks::are_setups;
 use std::alloc::Global;
-use std::test::Fail;
 
 /// A task of this number, processor and priority.
 fn setup(id: u16, cpu: u8, priority: u8) -> TaskSetup {
@@ -20,9 +22,15 @@ fn setup(id: u16, cpu: u8, priority: u8) -> TaskSetup {
     }
 }
 
-/// A kernel of two processors. Tasks 1 and 2, of priorities 2 and 3, are ready on processor 1, and task 3 on processor 2; task 4, of
-/// processor 2 and priority 9, is dormant. Tasks 1 and 3 run.
-fn two(alloc: Global) -> Result<Kernel, NoMemory> {
+/// A kernel of two processors with these objects, of which these tasks have been started. Tasks 1 and 2 are of processor 1
+/// and of priorities 2 and 3, tasks 3 and 4 of processor 2 and of priorities 5 and 9.
+fn of_four(
+    alloc: Global,
+    semaphores: &[SemaphoreConfig],
+    flags: &[FlagConfig],
+    queues: &[QueueConfig],
+    started: &[u16],
+) -> Result<Kernel, NoMemory> {
     let setups = [
         setup(1, 1, 2),
         setup(2, 1, 3),
@@ -32,47 +40,52 @@ fn two(alloc: Global) -> Result<Kernel, NoMemory> {
     if !are_setups(&setups) {
         return Err(NoMemory);
     }
-    let mut kernel = Kernel::new(alloc, 2, &setups, &[], &[], &[], &[])?;
-    for id in [2, 1, 3] {
-        kernel.start(id);
+    let mut kernel = Kernel::new(alloc, 2, &setups, &[], semaphores, flags, queues)?;
+    for id in started {
+        kernel.start(*id);
     }
     let _ = kernel.dispatch();
     Ok(kernel)
 }
 
-/// A kernel of two processors with two tasks on each, of which 1 and 3 run, and with objects: semaphore 1 is full, semaphore 2 is empty,
-/// flag 1 has bit 0 and lets one task wait, flag 2 has no bits, queue 1 stores nothing, and queue 2 is empty.
-fn with_objects(alloc: Global) -> Result<Kernel, ConfigFault> {
-    let config = parse(
-        alloc,
-        b"BOARD(2, 0x10000);
-        CRE_SEM(1, {TA_TFIFO, 1, 1}); CRE_SEM(2, {TA_TPRI, 0, 1});
-        CRE_FLG(1, {TA_WSGL, 1}); CRE_FLG(2, {TA_WMUL | TA_CLR, 0});
-        CRE_DTQ(1, {TA_TFIFO, 0, NULL}); CRE_DTQ(2, {TA_TPRI, 2, NULL});",
-    )?;
-    let setups = [
-        setup(1, 1, 2),
-        setup(2, 1, 3),
-        setup(3, 2, 5),
-        setup(4, 2, 9),
-    ];
-    if !are_setups(&setups) {
-        return Err(ConfigFault::NoMemory);
+/// A kernel without objects. Tasks 1 and 2 are ready on processor 1, and task 3 on processor 2; task 4 is dormant. Tasks 1
+/// and 3 run.
+fn two(alloc: Global) -> Result<Kernel, NoMemory> {
+    of_four(alloc, &[], &[], &[], &[2, 1, 3])
+}
+
+fn semaphore(id: u16, attributes: u32, initial: u16) -> SemaphoreConfig {
+    SemaphoreConfig {
+        id,
+        attributes: SemaphoreAttributes::from_bits_retain(attributes),
+        initial,
+        maximum: 1,
     }
-    let mut kernel = Kernel::new(
-        alloc,
-        config.processors,
-        &setups,
-        &[],
-        config.semaphores.as_slice(),
-        config.flags.as_slice(),
-        config.queues.as_slice(),
-    )?;
-    for id in 1..5u16 {
-        kernel.start(id);
+}
+
+fn flag(id: u16, attributes: u32, pattern: u32) -> FlagConfig {
+    FlagConfig {
+        id,
+        attributes: FlagAttributes::from_bits_retain(attributes),
+        pattern,
     }
-    let _ = kernel.dispatch();
-    Ok(kernel)
+}
+
+fn queue(id: u16, attributes: u32, capacity: u16) -> QueueConfig {
+    QueueConfig {
+        id,
+        attributes: QueueAttributes::from_bits_retain(attributes),
+        capacity,
+    }
+}
+
+/// A kernel of four ready tasks, of which 1 and 3 run. Semaphore 1 is full, semaphore 2 (TA_TPRI) is empty, flag 1 has bit 0
+/// and lets one task wait, flag 2 (TA_WMUL, TA_CLR) has no bits, queue 1 stores nothing, and queue 2 (TA_TPRI) is empty.
+fn with_objects(alloc: Global) -> Result<Kernel, NoMemory> {
+    let semaphores = [semaphore(1, 0, 1), semaphore(2, 1, 0)];
+    let flags = [flag(1, 0, 1), flag(2, 6, 0)];
+    let queues = [queue(1, 0, 0), queue(2, 1, 2)];
+    of_four(alloc, &semaphores, &flags, &queues, &[1, 2, 3, 4])
 }
 
 const OK: Reply = Reply::Answer(0, None);
@@ -98,31 +111,30 @@ const POLL: u32 = 0;
 
 const BAD: u32 = 0xffff_fffe;
 
-/// Serves calls one after the other, each from a processor and with a dispatch behind it. The first that is answered
-/// otherwise than it should, or lets the running tasks of other processors change.
-fn first_other(
-    kernel: &mut Kernel,
-    rows: &[(u8, Call, Reply, u8)],
-) -> Option<(u8, Call, Reply, u8)> {
-    for (cpu, call, reply, changed) in rows {
-        let told = kernel.serve(*cpu, *call);
-        let dispatched = kernel.dispatch();
-        if told != *reply || dispatched != *changed {
-            return Some((*cpu, *call, told, dispatched));
+/// A call from a processor, what it answers, and which processors' running tasks change by the dispatch behind it.
+type Served = (u8, Call, Reply, u8);
+
+/// Whether a call from a processor, with a dispatch behind it, is answered so and lets these running tasks change.
+fn serves(kernel: &mut Kernel, cpu: u8, call: Call, reply: Reply, changed: u8) -> bool {
+    let told = kernel.serve(cpu, call);
+    kernel.dispatch() == changed && told == reply
+}
+
+/// The first of these calls, one after the other, that isn't served so.
+fn first_other(kernel: &mut Kernel, rows: &[Served]) -> Option<usize> {
+    for (n, (cpu, call, reply, changed)) in rows.iter().enumerate() {
+        if !serves(kernel, *cpu, *call, *reply, *changed) {
+            return Some(n);
         }
     }
     None
 }
 
 /// The same for calls from processor 1 that let no running task change.
-fn first_other_of_one(
-    kernel: &mut Kernel,
-    rows: &[(Call, Reply)],
-) -> Option<(u8, Call, Reply, u8)> {
-    for (call, reply) in rows {
-        let found = first_other(kernel, &[(1, *call, *reply, 0)]);
-        if found.is_some() {
-            return found;
+fn first_other_of_one(kernel: &mut Kernel, rows: &[(Call, Reply)]) -> Option<usize> {
+    for (n, (call, reply)) in rows.iter().enumerate() {
+        if !serves(kernel, 1, *call, *reply, 0) {
+            return Some(n);
         }
     }
     None
@@ -137,14 +149,73 @@ fn is_new(kernel: &Kernel) -> bool {
         && kernel.standing(255).is_none()
         && kernel.now() == 0
         && !kernel.is_off()
-        && kernel.task(4).map(|it| it.state) == Some(TaskState::Dormant)
+        && is_dormant(kernel, 4)
+}
+
+/// Whether a task is dormant, with no request queued.
+fn is_dormant(kernel: &Kernel, id: u16) -> bool {
+    match kernel.task(id) {
+        Some(task) => task.state == TaskState::Dormant && task.activations == 0,
+        None => false,
+    }
+}
+
+/// What a test does with a kernel.
+#[derive(Clone, Copy)]
+enum Scene {
+    Making,
+    Refusals,
+    OfProcessors,
+    Held(Call, Call),
+    OneProcessor,
+    EightProcessors,
+    OfObjects,
+    Objects,
+    Calls,
+    Faults,
+    NoLines,
+    Runs,
+}
+
+/// The kernel of a scene.
+fn made(alloc: Global, scene: Scene) -> Result<Kernel, NoMemory> {
+    match scene {
+        Scene::OneProcessor => with_lines(alloc, false),
+        Scene::EightProcessors => with_lines(alloc, true),
+        Scene::OfObjects | Scene::Objects => with_objects(alloc),
+        _ => two(alloc),
+    }
+}
+
+/// Whether a scene's kernel does what it should. (Only this function owns a kernel.)
+fn goes_well(alloc: Global, scene: Scene) -> bool {
+    match made(alloc, scene) {
+        Ok(mut kernel) => does(alloc, &mut kernel, scene),
+        Err(_) => false,
+    }
+}
+
+/// Whether a kernel does in a scene what it should.
+fn does(alloc: Global, kernel: &mut Kernel, scene: Scene) -> bool {
+    match scene {
+        Scene::Making => is_new(kernel),
+        Scene::Refusals => first_other_of_one(kernel, REFUSALS).is_none(),
+        Scene::OfProcessors => refuses_of_processors(kernel),
+        Scene::Held(mark, unmark) => holds(kernel, mark, unmark),
+        Scene::OneProcessor => !kernel.raise(32) && handles_all(kernel),
+        Scene::EightProcessors => handle_their_own(kernel),
+        Scene::OfObjects => refuses_of_objects(kernel),
+        Scene::Objects => first_other(kernel, CALLS_OF_OBJECTS).is_none(),
+        Scene::Calls => serves_calls(kernel),
+        Scene::Faults => end_by_faults(kernel),
+        Scene::NoLines => has_no_lines(kernel),
+        Scene::Runs => runs_well(alloc, kernel),
+    }
 }
 
 #[test]
-fn making(rt: HostRuntime) -> Result<(), Fail> {
-    let kernel = two(rt.alloc())?;
-    assert!(rt; is_new(&kernel));
-    Ok(())
+fn making(rt: HostRuntime) {
+    assert!(rt; goes_well(rt.alloc(), Scene::Making));
 }
 
 const REFUSALS: &[(Call, Reply)] = &[
@@ -184,10 +255,8 @@ const REFUSALS: &[(Call, Reply)] = &[
 
 /// Each refusal of each call, from task 1 on processor 1; of two reasons the earlier one in the order is answered.
 #[test]
-fn refusals(rt: HostRuntime) -> Result<(), Fail> {
-    let mut kernel = two(rt.alloc())?;
-    assert!(rt; first_other_of_one(&mut kernel, REFUSALS).is_none());
-    Ok(())
+fn refusals(rt: HostRuntime) {
+    assert!(rt; goes_well(rt.alloc(), Scene::Refusals));
 }
 
 const REFUSALS_OF_PROCESSORS: &[(Call, Reply)] = &[
@@ -219,37 +288,46 @@ const REFUSALS_OF_PROCESSORS: &[(Call, Reply)] = &[
     (Call::IrotRdq(0x101), PAR),
 ];
 
+/// Task 2 has a request queued. Whether the calls are refused then.
+fn refuses_of_processors(kernel: &mut Kernel) -> bool {
+    serves(kernel, 1, Call::MactTsk(2, 2), OK, 0)
+        && first_other_of_one(kernel, REFUSALS_OF_PROCESSORS).is_none()
+}
+
 /// Each refusal of each call that names a processor or turns a list, from processor 1; of two reasons the earlier one in the order is
 /// answered. Task 2 has a request queued.
 #[test]
-fn refusals_of_processors(rt: HostRuntime) -> Result<(), Fail> {
-    let mut kernel = two(rt.alloc())?;
-    assert!(rt; kernel.serve(1, Call::MactTsk(2, 2)) == OK);
-    assert!(rt; first_other_of_one(&mut kernel, REFUSALS_OF_PROCESSORS).is_none());
-    Ok(())
+fn refusals_of_processors(rt: HostRuntime) {
+    assert!(rt; goes_well(rt.alloc(), Scene::OfProcessors));
+}
+
+/// What processor 2 may do with tasks 1 and 2 while 1 is held.
+const HELD: &[Served] = &[
+    (2, Call::TerTsk(1), OBJ, 0),
+    (2, Call::SusTsk(1), OBJ, 0),
+    (2, Call::MigTsk(1, 2), OBJ, 0),
+    (2, Call::ChgPri(1, 16), OK, 0),
+    (2, Call::SusTsk(2), OK, 0),
+    (2, Call::MigTsk(2, 2), OK, 0),
+];
+
+/// Whether a call, made twice by processor 1, holds task 1 there until another call.
+fn holds(kernel: &mut Kernel, mark: Call, unmark: Call) -> bool {
+    serves(kernel, 1, mark, OK, 0)
+        && serves(kernel, 1, mark, OK, 0)
+        && first_other(kernel, HELD).is_none()
+        && serves(kernel, 1, unmark, OK, 0)
+        && serves(kernel, 2, Call::SusTsk(1), OK, 1)
 }
 
 /// Each mark of processor 1 holds task 1 there: processor 2 neither ends nor suspends nor moves it, but does so with task 2, which is
 /// ready there and doesn't run.
 #[test]
-fn held(rt: HostRuntime) -> Result<(), Fail> {
-    for (mark, unmark) in [(Call::DisDsp, Call::EnaDsp), (Call::LocCpu, Call::UnlCpu)] {
-        let mut kernel = two(rt.alloc())?;
-        let rows = [
-            (1, mark, OK, 0),
-            (1, mark, OK, 0),
-            (2, Call::TerTsk(1), OBJ, 0),
-            (2, Call::SusTsk(1), OBJ, 0),
-            (2, Call::MigTsk(1, 2), OBJ, 0),
-            (2, Call::ChgPri(1, 16), OK, 0),
-            (2, Call::SusTsk(2), OK, 0),
-            (2, Call::MigTsk(2, 2), OK, 0),
-            (1, unmark, OK, 0),
-            (2, Call::SusTsk(1), OK, 1),
-        ];
-        assert!(rt; first_other(&mut kernel, &rows).is_none());
-    }
-    Ok(())
+fn held(rt: HostRuntime) {
+    assert!(rt;
+        goes_well(rt.alloc(), Scene::Held(Call::DisDsp, Call::EnaDsp))
+            && goes_well(rt.alloc(), Scene::Held(Call::LocCpu, Call::UnlCpu))
+    );
 }
 
 /// A kernel of eight processors, each idle, whose 32 lines all have handlers: on processor 1, or on each processor in turn.
@@ -293,11 +371,8 @@ fn handles_all(kernel: &mut Kernel) -> bool {
 
 /// All 32 lines are pending on one processor: it accepts them from the lowest up, each once the handler before has ended.
 #[test]
-fn lines_of_one_processor(rt: HostRuntime) -> Result<(), Fail> {
-    let mut kernel = with_lines(rt.alloc(), false)?;
-    assert!(rt; !kernel.raise(32));
-    assert!(rt; handles_all(&mut kernel));
-    Ok(())
+fn lines_of_one_processor(rt: HostRuntime) {
+    assert!(rt; goes_well(rt.alloc(), Scene::OneProcessor));
 }
 
 /// Whether 32 lines are accepted by eight processors, four by each, the lowest first.
@@ -312,15 +387,23 @@ fn handle_their_own(kernel: &mut Kernel) -> bool {
             return false;
         }
     }
-    (0..10u8).all(|cpu| kernel.deliverable(cpu).is_none())
+    has_none_deliverable(kernel)
+}
+
+/// Whether no interrupt is delivered to processors 0 to 9.
+fn has_none_deliverable(kernel: &Kernel) -> bool {
+    for cpu in 0..10u8 {
+        if kernel.deliverable(cpu).is_some() {
+            return false;
+        }
+    }
+    true
 }
 
 /// The lines of eight processors: each accepts its own alone, the lowest first.
 #[test]
-fn lines_of_eight_processors(rt: HostRuntime) -> Result<(), Fail> {
-    let mut kernel = with_lines(rt.alloc(), true)?;
-    assert!(rt; handle_their_own(&mut kernel));
-    Ok(())
+fn lines_of_eight_processors(rt: HostRuntime) {
+    assert!(rt; goes_well(rt.alloc(), Scene::EightProcessors));
 }
 
 const REFUSALS_OF_OBJECTS: &[(Call, Reply)] = &[
@@ -366,18 +449,20 @@ const REFUSALS_OF_OBJECTS: &[(Call, Reply)] = &[
     (Call::TrcvDtq(2, POLL), TMOUT),
 ];
 
+/// Task 3 waits for a bit of flag 1. Whether the calls are refused then.
+fn refuses_of_objects(kernel: &mut Kernel) -> bool {
+    serves(kernel, 2, Call::TwaiFlg(1, 2, 0, FOREVER), Reply::Silent, 2)
+        && first_other_of_one(kernel, REFUSALS_OF_OBJECTS).is_none()
+}
+
 /// Each refusal of each call that names an object or a time; of two reasons the earlier one in the order is answered, also where the
 /// call could be done at once. Task 3 waits for a bit of flag 1.
 #[test]
-fn refusals_of_objects(rt: HostRuntime) -> Result<(), Fail> {
-    let mut kernel = with_objects(rt.alloc())?;
-    assert!(rt; kernel.serve(2, Call::TwaiFlg(1, 2, 0, FOREVER)) == Reply::Silent);
-    assert!(rt; kernel.dispatch() == 2);
-    assert!(rt; first_other_of_one(&mut kernel, REFUSALS_OF_OBJECTS).is_none());
-    Ok(())
+fn refusals_of_objects(rt: HostRuntime) {
+    assert!(rt; goes_well(rt.alloc(), Scene::OfObjects));
 }
 
-const CALLS_OF_OBJECTS: &[(u8, Call, Reply, u8)] = &[
+const CALLS_OF_OBJECTS: &[Served] = &[
     // Task 1 takes the one, and waits for the next; task 3 returns it.
     (1, Call::TwaiSem(1, FOREVER), OK, 0),
     (1, Call::TwaiSem(1, 5), Reply::Silent, 1),
@@ -412,13 +497,11 @@ const CALLS_OF_OBJECTS: &[(u8, Call, Reply, u8)] = &[
 
 /// Calls of objects one after the other, each from a processor, with what they answer, and which processors' running tasks change.
 #[test]
-fn calls_of_objects(rt: HostRuntime) -> Result<(), Fail> {
-    let mut kernel = with_objects(rt.alloc())?;
-    assert!(rt; first_other(&mut kernel, CALLS_OF_OBJECTS).is_none());
-    Ok(())
+fn calls_of_objects(rt: HostRuntime) {
+    assert!(rt; goes_well(rt.alloc(), Scene::Objects));
 }
 
-const CALLS: &[(u8, Call, Reply, u8)] = &[
+const CALLS: &[Served] = &[
     (1, Call::GetTid, Reply::Answer(0, Some(1)), 0),
     (2, Call::GetPid, Reply::Answer(0, Some(2)), 0),
     (2, Call::GetPri(0), Reply::Answer(0, Some(5)), 0),
@@ -454,63 +537,94 @@ const CALLS: &[(u8, Call, Reply, u8)] = &[
     (1, Call::ExtKer, Reply::Silent, 0),
 ];
 
+/// Whether the calls are served, and leave a board that is off and has an H on its console.
+fn serves_calls(kernel: &mut Kernel) -> bool {
+    first_other(kernel, CALLS).is_none() && kernel.console() == b"H".as_slice() && kernel.is_off()
+}
+
 /// Calls one after the other, each from a processor, with what they answer, and which processors' running tasks change.
 #[test]
-fn calls(rt: HostRuntime) -> Result<(), Fail> {
-    let mut kernel = two(rt.alloc())?;
-    assert!(rt; first_other(&mut kernel, CALLS).is_none());
-    assert!(rt; kernel.console() == b"H".as_slice());
-    assert!(rt; kernel.is_off());
-    Ok(())
+fn calls(rt: HostRuntime) {
+    assert!(rt; goes_well(rt.alloc(), Scene::Calls));
+}
+
+/// Whether exceptions of processor 1 end task 1, whatever is queued for it, and then task 2.
+fn end_by_faults(kernel: &mut Kernel) -> bool {
+    let _ = kernel.serve(2, Call::ActTsk(1));
+    kernel.end_by_fault(1);
+    if kernel.dispatch() != 1
+        || kernel.standing(1) != Some(Standing::Task(2))
+        || !is_dormant(kernel, 1)
+    {
+        return false;
+    }
+    kernel.end_by_fault(1);
+    kernel.dispatch() == 1 && kernel.standing(1) == Some(Standing::Idle)
 }
 
 /// An exception ends the running task, whatever is queued for it.
 #[test]
-fn faults(rt: HostRuntime) -> Result<(), Fail> {
-    let mut kernel = two(rt.alloc())?;
-    let _ = kernel.serve(2, Call::ActTsk(1));
-    kernel.end_by_fault(1);
-    assert!(rt; kernel.dispatch() == 1);
-    assert!(rt; kernel.standing(1) == Some(Standing::Task(2)));
-    assert!(rt;
-        kernel.task(1).map(|it| (it.state, it.activations)) == Some((TaskState::Dormant, 0))
-    );
-    kernel.end_by_fault(1);
-    assert!(rt; kernel.dispatch() == 1);
-    assert!(rt; kernel.standing(1) == Some(Standing::Idle));
-    Ok(())
+fn faults(rt: HostRuntime) {
+    assert!(rt; goes_well(rt.alloc(), Scene::Faults));
+}
+
+/// Whether a kernel without handlers raises no line and delivers nothing, and time passes.
+fn has_no_lines(kernel: &mut Kernel) -> bool {
+    !kernel.raise(0)
+        && !kernel.raise(31)
+        && !kernel.raise(32)
+        && !kernel.raise(255)
+        && kernel.deliverable(1).is_none()
+        && kernel.accept(1).is_none()
+        && kernel.tick()
+        && kernel.now() == 1
 }
 
 /// A line without a handler isn't raised, and nothing is delivered.
 #[test]
-fn lines(rt: HostRuntime) -> Result<(), Fail> {
-    let mut kernel = two(rt.alloc())?;
-    for line in [0, 31, 32, 255] {
-        assert!(rt; !kernel.raise(line), "{line}");
+fn lines(rt: HostRuntime) {
+    assert!(rt; goes_well(rt.alloc(), Scene::NoLines));
+}
+
+/// Whether a processor does an instruction at RAM's first address.
+fn runs_the_first(kernel: &mut Kernel, cpu: u8, ram: &mut Ram) -> bool {
+    let mut links = Links::new();
+    match kernel.run(cpu, ram, &mut links) {
+        Some(ended) => ended.address == 0x8000_0000 && ended.outcome == Outcome::Done,
+        None => false,
     }
-    assert!(rt; kernel.deliverable(1).is_none());
-    assert!(rt; kernel.accept(1).is_none());
-    assert!(rt; kernel.tick());
-    assert!(rt; kernel.now() == 1);
-    Ok(())
+}
+
+/// Whether processor 1 and task 1 go on at the second word.
+fn goes_on(kernel: &Kernel) -> bool {
+    match (kernel.context(1), kernel.task(1)) {
+        (Some(context), Some(task)) => {
+            context.pc() == 0x8000_0004 && task.context.pc() == 0x8000_0004
+        }
+        _ => false,
+    }
+}
+
+/// Whether an idle processor 2 does no instruction.
+fn idles(kernel: &mut Kernel, ram: &mut Ram) -> bool {
+    let mut links = Links::new();
+    kernel.end_by_fault(2);
+    let _ = kernel.dispatch();
+    kernel.run(2, ram, &mut links).is_none()
+}
+
+/// Whether processor 1 does one instruction, and an idle processor 2 none.
+fn runs_well(alloc: Global, kernel: &mut Kernel) -> bool {
+    match Ram::new(alloc, 65_536) {
+        Ok(mut ram) => {
+            runs_the_first(kernel, 1, &mut ram) && goes_on(kernel) && idles(kernel, &mut ram)
+        }
+        Err(_) => false,
+    }
 }
 
 /// A running task's instruction is done where its context lies; an idle processor does none.
 #[test]
-fn runs(rt: HostRuntime) -> Result<(), Fail> {
-    let alloc = rt.alloc();
-    let mut kernel = two(alloc)?;
-    let mut links = Links::new();
-    let mut ram = Ram::new(alloc, 65_536)?;
-    let ended = Ended {
-        address: 0x8000_0000,
-        outcome: Outcome::Done,
-    };
-    assert!(rt; kernel.run(1, &mut ram, &mut links) == Some(ended));
-    assert!(rt; kernel.context(1).map(|it| it.pc()) == Some(0x8000_0004));
-    assert!(rt; kernel.task(1).map(|it| it.context.pc()) == Some(0x8000_0004));
-    kernel.end_by_fault(2);
-    let _ = kernel.dispatch();
-    assert!(rt; kernel.run(2, &mut ram, &mut links).is_none());
-    Ok(())
+fn runs(rt: HostRuntime) {
+    assert!(rt; goes_well(rt.alloc(), Scene::Runs));
 }
