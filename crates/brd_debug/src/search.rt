@@ -57,8 +57,26 @@ pub(crate) fn next_stop(
     }
     let mut playback = shown.try_copy()?;
     playback.play_to(journal, shown.at + 1);
+    stop_from(boot, journal, stops, snapshots, &mut playback)
+}
+
+/// The first stop from the position of a board on, which plays up to the snapshot behind it. It takes snapshots on its
+/// way.
+fn stop_from(
+    boot: &Board,
+    journal: &Journal,
+    stops: &Stops,
+    snapshots: &mut Snapshots,
+    playback: &mut Playback,
+) -> Result<Option<u64>, NoMemory>
+    requires played { IsPlayed boot.now journal.now.events playback.old }
+    requires kept { AreKept boot.now journal.now.events snapshots.old.kept }
+    ensures least { IfOk result (IsLeast (IsStop stops.now boot.now journal.now.events) playback.old.at (length journal.now.events)) }
+    ensures kept { AreKept boot.now journal.now.events snapshots.new.kept }
+{
+    let len = journal.len();
     while playback.at < len {
-        snapshots.note(boot, &playback)?;
+        snapshots.note(boot, playback)?;
         let end = snapshots.next(playback.at).min(len);
         let found = playback.first_stop(journal, stops, end);
         if found.is_some() {

@@ -2,14 +2,14 @@ use Rattle.std.proofs.Common.{◌≡◌, ◌+◌, length, subst, sym, ◌∙◌,
 use Rattle.brd_debug.specs.Stops.{IsStop}
 use Rattle.brd_debug.proofs.KeptLemmas.{size-played}
 use Rattle.brd_debug.proofs.SearchLemmas.{NoneFrom, found-least, none-of, none-least, none-both}
-use Rattle.brd_debug.proofs.search.next_stop.Goals as goal
+use Rattle.brd_debug.proofs.search.stop_from.Goals as goal
 
 pub note-requires-clause-sizes : goal.note-requires-clause-sizes
 note-requires-clause-sizes c = size-played c.args.boot.now c.args.journal.now.events c.loop-playback.playback c.loop-playback.invariant.played
 
 pub returns-then-is_some-clause-least : goal.returns-then-is_some-clause-least
 returns-then-is_some-clause-least c =
-    found-least (IsStop c.args.stops.now c.args.boot.now c.args.journal.now.events) (c.args.shown.now.at + 1) c.loop-playback.playback.at c.min-end.result
+    found-least (IsStop c.args.stops.now c.args.boot.now c.args.journal.now.events) c.args.playback.now.at c.loop-playback.playback.at c.min-end.result
     (length c.args.journal.now.events) c.first_stop-found.result (sym c.is_some.ensures ∙ c.if-is_some.true) c.loop-playback.invariant.from
     (omega (arith, c.min-end.ensures, c.len-len.ensures.len)) c.loop-playback.invariant.none
     (c.first_stop-found.ensures.least c.args.boot.now c.loop-playback.invariant.played)
@@ -20,7 +20,7 @@ loop-playback-preserved c =
     c.first_stop-found.ensures.at (none-of c.first_stop-found.result (sym c.is_some.ensures ∙ c.if-is_some.false)) in
     record {
       from = omega (arith, none, c.min-end.ensures, c.next.ensures, c.loop-playback-test.true, c.loop-playback.invariant.from);
-      none = none-both (IsStop c.args.stops.now c.args.boot.now c.args.journal.now.events) (c.args.shown.now.at + 1) c.loop-playback.playback.at
+      none = none-both (IsStop c.args.stops.now c.args.boot.now c.args.journal.now.events) c.args.playback.now.at c.loop-playback.playback.at
           c.first_stop-found.new.self.at c.loop-playback.invariant.none
           (subst (NoneFrom (IsStop c.args.stops.now c.args.boot.now c.args.journal.now.events) c.loop-playback.playback.at) (sym none)
           (none-least (IsStop c.args.stops.now c.args.boot.now c.args.journal.now.events) c.loop-playback.playback.at c.min-end.result

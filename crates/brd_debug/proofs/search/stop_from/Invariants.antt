@@ -1,14 +1,14 @@
--- Up to where the board has played, there is no stop behind the position.
+-- Up to where the board has played, there is no stop from where it began on.
 use Rattle.std.proofs.Common.{◌≤◌, ◌+◌, ◌-◌, length}
 use Rattle.brd_debug.specs.Kept.{IsPlayed, AreKept}
 use Rattle.brd_debug.specs.Stops.{IsStop}
 use Rattle.brd_debug.proofs.SearchLemmas.{NoneFrom}
-use Rattle.brd_debug.proofs.search.next_stop.Given as goal
+use Rattle.brd_debug.proofs.search.stop_from.Given as goal
 
 abbrev pub invariant-loop-playback : goal.invariant-loop-playback
 invariant-loop-playback l = record {
-  from : l.shown.at + 1 ≤ l.playback.at;
-  none : NoneFrom (IsStop l.stops l.boot l.journal.events) (l.shown.at + 1) l.playback.at;
+  from : l.fn.playback.at ≤ l.playback.at;
+  none : NoneFrom (IsStop l.stops l.boot l.journal.events) l.fn.playback.at l.playback.at;
   played : IsPlayed l.boot l.journal.events l.playback;
   kept : AreKept l.boot l.journal.events l.snapshots.kept;
 }
