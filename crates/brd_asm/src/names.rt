@@ -74,7 +74,7 @@ impl<'a> Names<'a> {
         Ok(())
     }
 
-    /// Gives a place to labels. After a fault those before it have it.
+    /// Gives a place to labels. After a fault the names are of no more use.
     pub fn label(&mut self, line: usize, place: u32, labels: &[&'a [u8]]) -> Result<(), AsmFault>
         ensures { Gives (λ _. self.new) result (labelled line place (map (λ label. label.now) labels.now) self.old) }
     {
