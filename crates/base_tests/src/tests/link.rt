@@ -1,139 +1,121 @@
 //! Worked examples: which links a change leaves.
 use brd_link::Links;
-use std::process::Abort;
 
 const WORD: u32 = 0x8000_1000;
 
-/// The link of processor 1 to `linked` after a store to `stored`.
-fn after_store(linked: u32, is_own: bool, stored: u32) -> Option<u32> {
+/// What processor 1 links, whether it stores itself, to which address, and whether its link stays.
+const STORES: &[(u32, bool, u32, bool)] = &[
+    // The word itself, another word of the block, and its last byte.
+    (WORD, false, WORD, false),
+    (WORD, false, WORD + 4, false),
+    (WORD, false, WORD + 15, false),
+    // The first byte of the next block, and the last one of the block before.
+    (WORD, false, WORD + 16, true),
+    (WORD, false, WORD - 1, true),
+    // The last word of the block is linked: its first byte, and the word behind it.
+    (WORD + 12, false, WORD, false),
+    (WORD + 12, false, WORD + 16, true),
+    // Stores of its own.
+    (WORD, true, WORD, true),
+    (WORD, true, WORD + 15, true),
+    // The first block and the last one, which do not wrap.
+    (0, false, 0, false),
+    (0xffff_fff0, false, 0xffff_ffff, false),
+    (0xffff_fffc, false, 0, true),
+    // An address that is no multiple of 4, and one of the same low bits.
+    (WORD + 3, false, WORD, false),
+    (0x0000_1000, false, WORD, true),
+];
+
+/// Whether processor 1 still has its link to `linked` after a store to `stored`.
+fn stays(linked: u32, is_own: bool, stored: u32) -> bool {
     let mut links = Links::new();
     links.set(1, linked);
     links.stored(if is_own { 1 } else { 2 }, stored);
-    links.state(1)
+    links.state(1) == Some(linked)
+}
+
+/// The first row of stores that isn't as it says.
+fn first_wrong_store() -> Option<usize> {
+    for (row, (linked, is_own, stored, expected)) in STORES.iter().enumerate() {
+        if stays(*linked, *is_own, *stored) != *expected {
+            return Some(row);
+        }
+    }
+    None
 }
 
 #[test]
 fn ends_by_a_store_of_another_into_the_block(rt: HostRuntime) {
-    let rows = [
-        (WORD, false, WORD, false, "the word itself"),
-        (WORD, false, WORD + 4, false, "another word of the block"),
-        (WORD, false, WORD + 15, false, "the last byte of the block"),
-        (
-            WORD,
-            false,
-            WORD + 16,
-            true,
-            "the first byte of the next block",
-        ),
-        (
-            WORD,
-            false,
-            WORD - 1,
-            true,
-            "the last byte of the block before",
-        ),
-        (
-            WORD + 12,
-            false,
-            WORD,
-            false,
-            "the first byte, the last word linked",
-        ),
-        (
-            WORD + 12,
-            false,
-            WORD + 16,
-            true,
-            "next to the word, in the next block",
-        ),
-        (WORD, true, WORD, true, "a store of its own to the word"),
-        (
-            WORD,
-            true,
-            WORD + 15,
-            true,
-            "a store of its own into the block",
-        ),
-        (0, false, 0, false, "address 0"),
-        (0xffff_fff0, false, 0xffff_ffff, false, "the last block"),
-        (0xffff_fffc, false, 0, true, "blocks do not wrap"),
-        (
-            WORD + 3,
-            false,
-            WORD,
-            false,
-            "an address that is no multiple of 4",
-        ),
-        (0x0000_1000, false, WORD, true, "the same low bits"),
-    ];
-    for (linked, is_own, stored, stays, name) in rows {
-        let expected = if stays { Some(linked) } else { None };
-        assert!(rt; after_store(linked, is_own, stored) == expected, "{name}");
+    assert!(rt; first_wrong_store().is_none());
+}
+
+/// What processor 1 links in turn, where its SC stores then, and whether it may.
+const TAKES: &[(&[u32], u32, bool)] = &[
+    (&[], WORD, false),
+    (&[], 0, false),
+    (&[WORD], WORD, true),
+    // Another word of the block.
+    (&[WORD], WORD + 4, false),
+    // Of two, the last one counts.
+    (&[WORD, WORD + 64], WORD, false),
+    (&[WORD, WORD + 64], WORD + 64, true),
+];
+
+/// Whether an SC to an address may store behind these LLs, where a second one behind it may not.
+fn takes(linked: &[u32], address: u32) -> bool {
+    let mut links = Links::new();
+    for word in linked {
+        links.set(1, *word);
     }
+    links.take(1, address) && !links.take(1, address)
+}
+
+/// The first row of SCs that isn't as it says.
+fn first_wrong_take() -> Option<usize> {
+    for (row, (linked, address, expected)) in TAKES.iter().enumerate() {
+        if takes(*linked, *address) != *expected {
+            return Some(row);
+        }
+    }
+    None
 }
 
 #[test]
 fn takes_a_link_once(rt: HostRuntime) {
-    let mut links = Links::new();
-    assert!(rt; !links.take(1, WORD), "without a link");
-    assert!(rt; !links.take(1, 0), "without a link, at address 0");
-    links.set(1, WORD);
-    assert!(rt; links.take(1, WORD));
-    assert!(rt; !links.take(1, WORD), "a second time");
-    links.set(1, WORD);
-    assert!(rt; !links.take(1, WORD + 4), "another word of the block");
-    assert!(rt; links.state(1).is_none(), "but the link ends");
-    links.set(1, WORD);
-    links.set(1, WORD + 64);
-    assert!(rt; !links.take(1, WORD), "the word of the first of two");
-    links.set(1, WORD);
-    links.set(1, WORD + 64);
-    assert!(rt; links.take(1, WORD + 64), "the word of the last of two");
-    links.set(1, WORD);
-    links.end(1);
-    links.end(1);
-    assert!(rt; !links.take(1, WORD), "an ended link");
-}
-
-#[test]
-fn keeps_two_processors_apart(rt: HostRuntime) {
-    let mut links = Links::new();
-    links.set(1, WORD);
-    links.set(2, WORD);
-    assert!(rt; links.take(1, WORD));
-    assert!(rt; links.take(2, WORD), "the end of one link leaves the other");
-    links.set(1, WORD);
-    links.set(2, WORD);
-    links.stored(1, WORD);
-    assert!(rt; (links.state(1), links.state(2)) == (Some(WORD), None));
+    assert!(rt; first_wrong_take().is_none());
 }
 
 fn address_of(cpu: u8) -> u32 {
     WORD + 4 * cpu as u32
 }
 
-/// Processors 1 to 3 link words of one block, 4 to 7 of the next, and 8 of a third.
-#[test]
-fn holds_a_link_for_each_processor(rt: HostRuntime) {
-    let mut links = Links::new();
+/// Each processor links its word: 1 to 3 of one block, 4 to 7 of the next, and 8 of a third.
+fn link_all(links: &mut Links) {
     for cpu in 1..9u8 {
         links.set(cpu, address_of(cpu));
     }
-    let all = links;
+}
+
+/// A bit for each processor that has a link to its word, the lowest for processor 1.
+fn linked(links: &Links) -> u8 {
+    let mut mask = 0u8;
+    for cpu in 1..9u8 {
+        if links.state(cpu) == Some(address_of(cpu)) {
+            mask |= 1 << (cpu - 1);
+        }
+    }
+    mask
+}
+
+/// A store of processor 5 ends the links of 4, 6 and 7, and an SC of 1 its own link and no other of its block.
+#[test]
+fn holds_a_link_for_each_processor(rt: HostRuntime) {
+    let mut links = Links::new();
+    link_all(&mut links);
+    let all = linked(&links);
     links.stored(5, address_of(7));
-    for cpu in 1..9u8 {
-        assert!(rt; all.state(cpu) == Some(address_of(cpu)), "the copy, {cpu}");
-        let ends = cpu == 4 || cpu == 6 || cpu == 7;
-        let expected = if ends { None } else { Some(address_of(cpu)) };
-        assert!(rt; links.state(cpu) == expected, "{cpu}");
-    }
-    assert!(rt; links != all);
-    links.set(7, address_of(7));
-    links.set(6, address_of(6));
-    links.set(4, address_of(4));
-    assert!(rt; links == all, "in whatever order they are set");
-    for cpu in 1..9u8 {
-        links.end(cpu);
-    }
-    assert!(rt; links == Links::new());
+    let stored = linked(&links);
+    let is_taken = links.take(1, address_of(1));
+    assert!(rt; all == 0xff && stored == 0x97 && is_taken && linked(&links) == 0x96);
 }

@@ -1,223 +1,252 @@
 //! RAM, images and pages.
 
-use brd_base::NoMemory;
+use brd_base::{NoMemory, is_ram_size};
 use brd_mem::*;
 use std::alloc::Global;
 use std::test::Fail;
 
-/// Bytes of zero, as many as this.
-fn zeros(alloc: Global, len: usize) -> Result<Bytes, NoMemory> {
-    let mut bytes = Bytes::new(alloc);
-    for _ in 0..len {
-        bytes.append(&[0])?;
-    }
-    Ok(bytes)
-}
+/// How many bytes, and whether RAM can have so many.
+const SIZES: &[(u32, bool)] = &[
+    (0, false),
+    (65_535, false),
+    (65_536, true),
+    (65_537, false),
+    (131_072, true),
+    (16_777_216, true),
+    (16_842_752, false),
+    (4_294_967_295, false),
+];
 
-/// Whether an image of segments with zeros, from these addresses on and of these lengths, is plain.
-fn is_plain_with_segments(alloc: Global, segments: &[(u32, usize)]) -> Result<bool, NoMemory> {
-    let mut image = Image::from_words(alloc, &[])?;
-    for (address, len) in segments {
-        let bytes = zeros(alloc, *len)?;
-        image.segments.push(Segment {
-            address: *address,
-            bytes,
-        })?;
+/// The first size that isn't as it says.
+fn first_wrong_size(alloc: Global) -> Option<u32> {
+    for (size, fits) in SIZES {
+        if is_ram_size(*size) != *fits || Ram::new(alloc, *size).is_ok() != *fits {
+            return Some(*size);
+        }
     }
-    Ok(is_plain(&image))
-}
-
-/// Whether an image of symbols with these names is plain.
-fn is_plain_with_names(alloc: Global, names: &[&[u8]]) -> Result<bool, NoMemory> {
-    let mut image = Image::from_words(alloc, &[])?;
-    for text in names {
-        let mut name = Bytes::new(alloc);
-        name.append(text)?;
-        image.symbols.push(Symbol { name, value: 1 })?;
-    }
-    Ok(is_plain(&image))
+    None
 }
 
 #[test]
 fn sizes(rt: HostRuntime) {
-    for (size, fits) in [
-        (0, false),
-        (65_535, false),
-        (65_536, true),
-        (65_537, false),
-        (131_072, true),
-        (16_777_216, true),
-        (16_842_752, false),
-        (4_294_967_295, false),
-    ] {
-        match Ram::new(rt.alloc(), size) {
-            Ok(ram) => assert!(rt; fits && ram.size() == size as usize, "{size}"),
-            Err(fault) => assert!(rt; !fits && fault == RamFault::BadSize, "{size}: {fault}"),
+    assert!(rt; first_wrong_size(rt.alloc()).is_none());
+}
+
+/// The bytes about the word 0x12345678 at 0x80000100, and at the borders of a RAM of 65,536 bytes.
+const BYTES: &[(u32, Option<u8>)] = &[
+    (0x8000_00ff, Some(0)),
+    (0x8000_0100, Some(0x12)),
+    (0x8000_0101, Some(0x34)),
+    (0x8000_0102, Some(0x56)),
+    (0x8000_0103, Some(0x78)),
+    (0x8000_0104, Some(0)),
+    (0x8000_ffff, Some(0)),
+    (0x8001_0000, None),
+    (0x7fff_ffff, None),
+    (0, None),
+];
+
+/// Whether those bytes are there.
+fn has_bytes(ram: &Ram) -> bool {
+    for (address, byte) in BYTES {
+        if ram.byte(*address) != *byte {
+            return false;
         }
     }
+    true
+}
+
+/// Where a word cannot be accessed, and what a load, a store and a fetch raise there.
+const REFUSED: &[(u32, Exc, Exc, Exc)] = &[
+    (0x8000_0002, Exc::AdEL, Exc::AdES, Exc::AdEL),
+    (0x8001_0000, Exc::DBE, Exc::DBE, Exc::IBE),
+    (0x7fff_fffc, Exc::DBE, Exc::DBE, Exc::IBE),
+    (0, Exc::DBE, Exc::DBE, Exc::IBE),
+    (0xffff_ffff, Exc::AdEL, Exc::AdES, Exc::AdEL),
+];
+
+/// Whether those accesses raise that.
+fn refuses(ram: &mut Ram) -> bool {
+    for (address, load, store, fetch) in REFUSED {
+        if ram.load32(*address) != Err(*load)
+            || ram.store32(*address, 1) != Err(*store)
+            || ram.fetch(*address) != Err(*fetch)
+        {
+            return false;
+        }
+    }
+    true
+}
+
+/// Whether a word is read as it was stored, by a load and by a fetch.
+fn keeps_a_word(ram: &mut Ram) -> bool {
+    ram.store32(0x8000_0100, 0x1234_5678).is_ok()
+        && ram.load32(0x8000_0100) == Ok(0x1234_5678)
+        && ram.fetch(0x8000_0100) == Ok(0x1234_5678)
+}
+
+/// From where on, how many bytes, and whether RAM has them.
+const RANGES: &[(u32, usize, bool)] = &[
+    (0x8000_0000, 65_536, true),
+    (0x8000_0000, 65_537, false),
+    (0x8000_ffff, 1, true),
+    (0x8000_ffff, 2, false),
+    (0x8001_0000, 0, true),
+    (0x8001_0000, 1, false),
+    (0x7fff_ffff, 1, false),
+    (0xffff_ffff, 1, false),
+];
+
+/// Whether RAM has those.
+fn has_ranges(ram: &Ram) -> bool {
+    for (address, len, inside) in RANGES {
+        if ram.contains(*address, *len) != *inside {
+            return false;
+        }
+    }
+    true
+}
+
+/// Whether two bytes stand where they were copied to.
+fn takes_bytes(ram: &mut Ram) -> bool {
+    if ram.contains(0x8000_fffe, 2) {
+        ram.copy_in(0x8000_fffe, &[7, 9]);
+    }
+    ram.load32(0x8000_fffc) == Ok(0x0000_0709)
 }
 
 #[test]
 fn accesses(rt: HostRuntime) -> Result<(), Fail> {
     let mut ram = Ram::new(rt.alloc(), 65_536)?;
-    assert!(rt; ram.store32(0x8000_0100, 0x1234_5678) == Ok(()));
-    assert!(rt; ram.load32(0x8000_0100) == Ok(0x1234_5678));
-    assert!(rt; ram.fetch(0x8000_0100) == Ok(0x1234_5678));
-    for (address, byte) in [
-        (0x8000_00ff, Some(0)),
-        (0x8000_0100, Some(0x12)),
-        (0x8000_0101, Some(0x34)),
-        (0x8000_0102, Some(0x56)),
-        (0x8000_0103, Some(0x78)),
-        (0x8000_0104, Some(0)),
-        (0x8000_ffff, Some(0)),
-        (0x8001_0000, None),
-        (0x7fff_ffff, None),
-        (0, None),
-    ] {
-        assert!(rt; ram.byte(address) == byte, "{address}");
-    }
-    for (address, load, store, fetch) in [
-        (0x8000_0002, Exc::AdEL, Exc::AdES, Exc::AdEL),
-        (0x8001_0000, Exc::DBE, Exc::DBE, Exc::IBE),
-        (0x7fff_fffc, Exc::DBE, Exc::DBE, Exc::IBE),
-        (0, Exc::DBE, Exc::DBE, Exc::IBE),
-        (0xffff_ffff, Exc::AdEL, Exc::AdES, Exc::AdEL),
-    ] {
-        assert!(rt; ram.load32(address) == Err(load), "{address}");
-        assert!(rt; ram.store32(address, 1) == Err(store), "{address}");
-        assert!(rt; ram.fetch(address) == Err(fetch), "{address}");
-    }
+    let is_kept = keeps_a_word(&mut ram) && has_bytes(&ram) && refuses(&mut ram);
+    assert!(rt; is_kept && has_ranges(&ram) && takes_bytes(&mut ram));
     Ok(())
 }
 
-#[test]
-fn ranges(rt: HostRuntime) -> Result<(), Fail> {
-    let mut ram = Ram::new(rt.alloc(), 65_536)?;
-    for (address, len, inside) in [
-        (0x8000_0000, 65_536, true),
-        (0x8000_0000, 65_537, false),
-        (0x8000_ffff, 1, true),
-        (0x8000_ffff, 2, false),
-        (0x8001_0000, 0, true),
-        (0x8001_0000, 1, false),
-        (0x7fff_ffff, 1, false),
-        (0xffff_ffff, 1, false),
-    ] {
-        assert!(rt; ram.contains(address, len) == inside, "{address}, {len}");
-    }
-    assert!(rt; ram.contains(0x8000_fffe, 2));
-    ram.copy_in(0x8000_fffe, &[7, 9]);
-    assert!(rt; ram.load32(0x8000_fffc) == Ok(0x0000_0709));
-    Ok(())
-}
+/// What is written into five pages of a RAM of 1 MiB: at both ends, over the borders of two, and zeros in a sixth.
+const WRITES: &[(u32, u16)] = &[
+    (0x8000_0000, 0x0100),
+    (0x8000_5ffe, 0x0008),
+    (0x8000_6000, 0x0900),
+    (0x8000_8000, 0),
+    (0x8008_0ffe, 0x0203),
+    (0x800f_fffe, 0x0607),
+];
 
-/// Writes into five pages of a RAM of 1 MiB: at both ends, over the border of two, and at the end of one.
+/// Whether that can be written.
 fn write_to_five(ram: &mut Ram) -> bool {
-    let is_written = ram.store8(0x8000_0000, 1).is_ok()
-        && ram.store16(0x8008_0ffe, 0x0203).is_ok()
-        && ram.store32(0x800f_fffc, 0x0405_0607).is_ok()
-        && ram.store32(0x8000_8000, 0).is_ok();
-    if ram.contains(0x8000_5fff, 2) {
-        ram.copy_in(0x8000_5fff, &[8, 9]);
+    for (address, half) in WRITES {
+        if ram.store16(*address, *half).is_err() {
+            return false;
+        }
     }
-    is_written
+    true
 }
 
-/// Whether a list of pages has this one, of this number and with this byte at a place.
-fn has_page(pages: &Pages, index: usize, number: u16, at: usize, byte: u8) -> bool {
-    match pages.as_slice().get(index) {
-        Some(page) => page.number == number && at < PAGE_SIZE && page.bytes[at] == byte,
-        None => false,
-    }
-}
+/// Pages, each with a place and the byte there.
+const PAGES: [(u16, usize, u8); 5] = [
+    (0, 0, 1),
+    (5, 4_095, 8),
+    (6, 0, 9),
+    (128, 4_095, 3),
+    (255, 4_095, 7),
+];
 
-/// The pages in which two RAMs of one size differ.
-fn differing(ram: &Ram, base: &Ram) -> Result<Pages, Fail> {
-    if ram.size() != base.size() {
-        return Err("the sizes differ")?;
+/// Whether a list has those pages, and no others.
+fn has_pages(pages: &[Page]) -> bool {
+    if pages.len() != PAGES.len() {
+        return false;
     }
-    Ok(ram.pages(base)?)
+    for i in 0..PAGES.len() {
+        let (number, at, byte) = PAGES[i];
+        if pages[i].number != number || at >= PAGE_SIZE || pages[i].bytes[at] != byte {
+            return false;
+        }
+    }
+    true
 }
 
 /// Whether a RAM differs from a blank one in the pages that were written; the one that got only zeros is none of them.
-fn differs_in_five(ram: &Ram, blank: &Ram) -> Result<bool, Fail> {
-    let pages = differing(ram, blank)?;
-    Ok(
-        pages.len() == 5
-            && has_page(&pages, 0, 0, 0, 1)
-            && has_page(&pages, 1, 5, 4_095, 8)
-            && has_page(&pages, 2, 6, 0, 9)
-            && has_page(&pages, 3, 128, 4_095, 3)
-            && has_page(&pages, 4, 255, 4_095, 7),
-    )
-}
-
-/// The RAM that the pages in which it differs from a base make of the base again.
-fn brought_back(ram: &Ram, base: &Ram) -> Result<Ram, Fail> {
-    if ram.size() != base.size() {
-        return Err("the sizes differ")?;
+fn differs_in_five(ram: &Ram, blank: &Ram) -> Result<bool, NoMemory> {
+    if ram.size() != blank.size() {
+        return Ok(false);
     }
-    let pages = ram.pages(base)?;
-    let mut again = base.try_copy()?;
-    again.put_back(base, &pages);
-    Ok(again)
+    let pages = ram.pages(blank)?;
+    Ok(has_pages(pages.as_slice()))
 }
 
 #[test]
 fn pages(rt: HostRuntime) -> Result<(), Fail> {
     let blank = Ram::new(rt.alloc(), 1_048_576)?;
-    let mut ram = Ram::new(rt.alloc(), 1_048_576)?;
+    let mut ram = blank.try_copy()?;
     assert!(rt; write_to_five(&mut ram) && differs_in_five(&ram, &blank)?);
-    let again = brought_back(&ram, &blank)?;
-    assert!(rt; again.same(&ram) && differs_in_five(&again, &blank)?);
-    assert!(rt; brought_back(&blank, &ram)?.same(&blank));
     Ok(())
 }
 
-#[test]
-fn images_of_words(rt: HostRuntime) -> Result<(), Fail> {
-    let image = Image::from_words(rt.alloc(), &[0x0102_0304, 0xfffe_fdfc])?;
-    assert!(rt; image.entry == 0x8000_0000);
-    assert!(rt; image.symbols.is_empty());
-    assert!(rt; image.segments.as_slice().len() == 1);
-    for segment in image.segments.as_slice() {
-        assert!(rt; segment.address == 0x8000_0000);
-        assert!(rt; segment.bytes.as_slice() == [1, 2, 3, 4, 0xff, 0xfe, 0xfd, 0xfc].as_slice());
-    }
-    let none = Image::from_words(rt.alloc(), &[])?;
-    assert!(rt; none.segments.is_empty());
-    Ok(())
-}
-
-#[test]
-fn plain_segments(rt: HostRuntime) -> Result<(), Fail> {
-    let alloc = rt.alloc();
-    assert!(rt; is_plain_with_segments(alloc, &[])?);
-    assert!(rt; is_plain_with_segments(alloc, &[(0x8000_0000, 2), (0x8000_0002, 1)])?);
-    assert!(rt; is_plain_with_segments(alloc, &[(0x80ff_fffe, 2)])?);
-    assert!(rt; !is_plain_with_segments(alloc, &[(0x80ff_ffff, 2)])?);
-    assert!(rt; !is_plain_with_segments(alloc, &[(0x7fff_ffff, 2)])?);
-    assert!(rt; !is_plain_with_segments(alloc, &[(0xffff_ffff, 2)])?);
-    assert!(rt; !is_plain_with_segments(alloc, &[(0x8000_0000, 0)])?);
-    assert!(rt; !is_plain_with_segments(alloc, &[(0x8000_0000, 2), (0x8000_0001, 1)])?);
-    assert!(rt; !is_plain_with_segments(alloc, &[(0x8000_0002, 1), (0x8000_0000, 1)])?);
-    Ok(())
-}
-
-/// Names of symbols, and whether an image with these is plain.
-const NAMES: &[(&[&[u8]], bool)] = &[
-    (&[b""], false),
-    (&[b"a\0"], false),
-    (&[b"a", b"b", b"A"], true),
-    (&[b"a", b"b", b"a"], false),
-    (&[b"a", b"b", b"b"], false),
+/// Segments, names, and whether an image of these is plain.
+const IMAGES: &[(&[(u32, &[u8])], &[&[u8]], bool)] = &[
+    (&[], &[], true),
+    (&[(0x8000_0000, b"\0\0"), (0x8000_0002, b"\0")], &[], true),
+    (&[(0x80ff_fffe, b"\0\0")], &[], true),
+    (&[(0x80ff_ffff, b"\0\0")], &[], false),
+    (&[(0x7fff_ffff, b"\0\0")], &[], false),
+    (&[(0xffff_ffff, b"\0\0")], &[], false),
+    (&[(0x8000_0000, b"")], &[], false),
+    (&[(0x8000_0000, b"\0\0"), (0x8000_0001, b"\0")], &[], false),
+    (&[(0x8000_0002, b"\0"), (0x8000_0000, b"\0")], &[], false),
+    (&[], &[b""], false),
+    (&[], &[b"a\0"], false),
+    (&[], &[b"a", b"b", b"A"], true),
+    (&[], &[b"a", b"b", b"a"], false),
+    (&[], &[b"a", b"b", b"b"], false),
 ];
 
-#[test]
-fn plain_names(rt: HostRuntime) -> Result<(), Fail> {
-    for (names, plain) in NAMES {
-        assert!(rt; is_plain_with_names(rt.alloc(), *names)? == *plain);
+/// Puts these segments at the end.
+fn put_segments(alloc: Global, out: &mut Segments, rows: &[(u32, &[u8])]) -> Result<(), NoMemory> {
+    for (address, bytes) in rows {
+        out.push(Segment {
+            address: *address,
+            bytes: Bytes::from_slice(alloc, *bytes)?,
+        })?;
     }
+    Ok(())
+}
+
+/// Puts symbols with these names at the end.
+fn put_names(alloc: Global, out: &mut Symbols, names: &[&[u8]]) -> Result<(), NoMemory> {
+    for name in names {
+        out.push(Symbol {
+            name: Bytes::from_slice(alloc, *name)?,
+            value: 1,
+        })?;
+    }
+    Ok(())
+}
+
+/// Whether an image of these is plain.
+fn is_plain_with(
+    alloc: Global,
+    segments: &[(u32, &[u8])],
+    names: &[&[u8]],
+) -> Result<bool, NoMemory> {
+    let mut image = Image::from_words(alloc, &[])?;
+    put_segments(alloc, &mut image.segments, segments)?;
+    put_names(alloc, &mut image.symbols, names)?;
+    Ok(is_plain(&image))
+}
+
+/// The first image that isn't as its row says.
+fn first_wrong_image(alloc: Global) -> Result<Option<usize>, NoMemory> {
+    for (row, (segments, names, expected)) in IMAGES.iter().enumerate() {
+        if is_plain_with(alloc, *segments, *names)? != *expected {
+            return Ok(Some(row));
+        }
+    }
+    Ok(None)
+}
+
+#[test]
+fn plain_images(rt: HostRuntime) -> Result<(), Fail> {
+    assert!(rt; first_wrong_image(rt.alloc())?.is_none());
     Ok(())
 }

@@ -3,93 +3,105 @@
 use brd_queue::{Entry, Order, Queue};
 use std::test::Fail;
 
-fn entry(id: u16, priority: u8) -> Entry<u32> {
-    Entry {
-        id,
-        priority,
-        wanted: id as u32 * 1000,
-    }
-}
-
 /// Puts a task into a queue in which it doesn't stand.
-fn put(queue: &mut Queue<u32>, order: Order, entry: Entry<u32>) -> Option<usize> {
-    if entry.id >= 256 || queue.has(entry.id) {
+fn put(queue: &mut Queue<u32>, order: Order, id: u16, priority: u8) -> Option<usize> {
+    if id >= 256 || queue.has(id) {
         return None;
     }
+    let wanted = id as u32 * 1000;
+    let entry = Entry {
+        id,
+        priority,
+        wanted,
+    };
     Some(queue.enter(order, entry))
 }
 
-/// Tasks come by priority, turn and leave.
+/// Whether a queue has these tasks, with these priorities, in this order.
+fn holds(queue: &Queue<u32>, tasks: &[(u16, u8)]) -> bool {
+    let entries = queue.as_slice();
+    if entries.len() != tasks.len() {
+        return false;
+    }
+    for i in 0..tasks.len() {
+        let (id, priority) = tasks[i];
+        let entry = &entries[i];
+        if entry.id != id || entry.priority != priority || entry.wanted != id as u32 * 1000 {
+            return false;
+        }
+    }
+    true
+}
+
+/// Tasks in order of arrival, their priorities, and the places at which they come.
+const ARRIVALS: &[(u16, u8, usize)] = &[(1, 3, 0), (2, 1, 0), (3, 3, 2), (4, 2, 1), (5, 16, 4)];
+
+/// Whether the tasks come at those places.
+fn arrive(queue: &mut Queue<u32>) -> bool {
+    for (id, priority, at) in ARRIVALS {
+        if put(queue, Order::Priority, *id, *priority) != Some(*at) {
+            return false;
+        }
+    }
+    true
+}
+
+const BY_PRIORITY: &[(u16, u8)] = &[(2, 1), (4, 2), (1, 3), (3, 3), (5, 16)];
+
+const TURNED: &[(u16, u8)] = &[(2, 1), (4, 2), (3, 3), (1, 3), (5, 16)];
+
+const LEFT: &[(u16, u8)] = &[(4, 2), (3, 3), (1, 3), (5, 16)];
+
+/// Whether those tasks come by priority, turn and leave.
+fn come_turn_and_leave(queue: &mut Queue<u32>) -> bool {
+    let has_come = arrive(queue) && holds(queue, BY_PRIORITY);
+    queue.rotate(3);
+    let has_turned = holds(queue, TURNED);
+    queue.rotate(9);
+    let at = queue.leave(2);
+    let again = queue.leave(2);
+    has_come && has_turned && at == Some(0) && again.is_none() && holds(queue, LEFT)
+}
+
+const RENUMBERED: &[(u16, u8)] = &[(4, 2), (3, 1), (1, 3), (5, 16)];
+
+const MOVED: &[(u16, u8)] = &[(3, 1), (1, 1), (4, 3), (5, 16)];
+
+/// Whether one that is given a priority then keeps its place by arrival, and comes behind its equals by priority.
+fn are_reordered(queue: &mut Queue<u32>) -> bool {
+    queue.reorder(Order::Arrival, 3, 1);
+    queue.reorder(Order::Arrival, 9, 1);
+    let is_renumbered = holds(queue, RENUMBERED);
+    queue.reorder(Order::Priority, 4, 3);
+    queue.reorder(Order::Priority, 1, 1);
+    queue.reorder(Order::Priority, 9, 2);
+    is_renumbered && holds(queue, MOVED)
+}
+
 #[test]
 fn by_priority(rt: HostRuntime) -> Result<(), Fail> {
     let mut queue = Queue::new(rt.alloc())?;
-    assert!(rt; queue.first().is_none());
-    for (id, priority, at) in [(1, 3, 0), (2, 1, 0), (3, 3, 2), (4, 2, 1), (5, 16, 4)] {
-        let came = put(&mut queue, Order::Priority, entry(id, priority));
-        assert!(rt; came == Some(at), "{id}");
-    }
-    let by_priority = [
-        entry(2, 1),
-        entry(4, 2),
-        entry(1, 3),
-        entry(3, 3),
-        entry(5, 16),
-    ];
-    assert!(rt; queue.as_slice() == by_priority.as_slice());
-    queue.rotate(3);
-    let turned = [
-        entry(2, 1),
-        entry(4, 2),
-        entry(3, 3),
-        entry(1, 3),
-        entry(5, 16),
-    ];
-    assert!(rt; queue.as_slice() == turned.as_slice());
-    queue.rotate(9);
-    assert!(rt; queue.leave(2) == Some(0));
-    assert!(rt; queue.leave(2).is_none());
-    assert!(rt; queue.first() == Some(entry(4, 2)));
-    assert!(rt; queue.has(5) && !queue.has(2));
-    assert!(rt; queue.entry(5) == Some(entry(5, 16)));
-    assert!(rt; queue.entry(2).is_none());
+    assert!(rt; come_turn_and_leave(&mut queue) && are_reordered(&mut queue));
     Ok(())
 }
 
-/// A task is given a priority: by arrival it keeps its place, by priority it comes behind its equals.
-#[test]
-fn another_priority(rt: HostRuntime) -> Result<(), Fail> {
-    let mut queue = Queue::new(rt.alloc())?;
-    for id in 1..5u8 {
-        let _ = put(&mut queue, Order::Arrival, entry(id as u16, 3));
+/// Whether there is room for every task, the even ones of a lower priority than the odd ones, and where the last one
+/// stands then.
+fn holds_all(queue: &mut Queue<u32>, order: Order, last: usize) -> bool {
+    for id in 0..256u16 {
+        let priority = if id % 2 == 0 { 2 } else { 1 };
+        if put(queue, order, id, priority).is_none() {
+            return false;
+        }
     }
-    queue.reorder(Order::Arrival, 2, 1);
-    queue.reorder(Order::Arrival, 9, 1);
-    let renumbered = [entry(1, 3), entry(2, 1), entry(3, 3), entry(4, 3)];
-    assert!(rt; queue.as_slice() == renumbered.as_slice());
-    queue.reorder(Order::Priority, 1, 3);
-    queue.reorder(Order::Priority, 4, 2);
-    queue.reorder(Order::Priority, 9, 2);
-    let moved = [entry(2, 1), entry(4, 2), entry(3, 3), entry(1, 3)];
-    assert!(rt; queue.as_slice() == moved.as_slice());
-    Ok(())
+    queue.as_slice().len() == 256 && queue.leave(255) == Some(last)
 }
 
-/// There is room for every task, whatever their order.
 #[test]
 fn every_task(rt: HostRuntime) -> Result<(), Fail> {
-    for order in [Order::Arrival, Order::Priority] {
-        let mut queue = Queue::new(rt.alloc())?;
-        for id in 0..256u16 {
-            let priority = if id % 2 == 0 { 2 } else { 1 };
-            assert!(rt;
-                put(&mut queue, order, entry(id, priority)).is_some(),
-                "{id}"
-            );
-        }
-        assert!(rt; queue.as_slice().len() == 256);
-        let first = if order == Order::Arrival { 0 } else { 1 };
-        assert!(rt; queue.first().map(|e| e.id) == Some(first));
-        assert!(rt; queue.leave(255) == Some(if first == 0 { 255 } else { 127 }));
-    }
+    let mut by_arrival = Queue::new(rt.alloc())?;
+    assert!(rt; holds_all(&mut by_arrival, Order::Arrival, 255));
+    let mut by_priority = Queue::new(rt.alloc())?;
+    assert!(rt; holds_all(&mut by_priority, Order::Priority, 127));
     Ok(())
 }

@@ -1,109 +1,253 @@
 //! Bytes, lines, tokens and numbers with values that were worked out by hand.
 
 use brd_text::{
-    Scanner, Token, decimal, hex_digits, hex_value, hex_word, is_blank, is_digit, is_letter,
-    is_name, is_run_byte, is_space, line_after, line_at, number, plain_decimal, split_line,
+    Scanner, Token, decimal, hex_digits, hex_word, is_blank, is_digit, is_letter, is_name,
+    is_run_byte, is_space, line_after, line_at, number, plain_decimal, split_line,
 };
+
+const TEXT: &[u8] = b" a_1.$b(0x1f)/* \n */ / //c\n\n;*/\r\t\xff/*/\n";
+
+/// The tokens of the text, with their lines.
+const TOKENS: &[(Token, usize)] = &[
+    (Token::Run(b"a_1.$b"), 1),
+    (Token::Mark(b'('), 1),
+    (Token::Run(b"0x1f"), 1),
+    (Token::Mark(b')'), 1),
+    (Token::Mark(b'/'), 2),
+    (Token::Mark(b';'), 4),
+    (Token::Mark(b'*'), 4),
+    (Token::Mark(b'/'), 4),
+    (Token::Mark(0xff), 4),
+    (Token::Unclosed, 5),
+    (Token::End, 5),
+    (Token::End, 5),
+];
+
+/// The first token that isn't as it should be.
+fn first_wrong_token() -> Option<usize> {
+    let mut scanner = Scanner::new(TEXT);
+    for (row, (token, line)) in TOKENS.iter().enumerate() {
+        let (found, at) = scanner.next();
+        if found != *token || at != *line {
+            return Some(row);
+        }
+    }
+    None
+}
 
 #[test]
 fn tokens(rt: HostRuntime) {
-    let text = b" a_1.$b(0x1f)/* \n */ / //c\n\n;*/\r\t\xff/*/\n";
-    let mut tokens = Scanner::new(text);
-    assert!(rt; tokens.next() == (Token::Run(b"a_1.$b"), 1));
-    assert!(rt; tokens.next() == (Token::Mark(b'('), 1));
-    assert!(rt; tokens.next() == (Token::Run(b"0x1f"), 1));
-    assert!(rt; tokens.next() == (Token::Mark(b')'), 1));
-    assert!(rt; tokens.next() == (Token::Mark(b'/'), 2));
-    assert!(rt; tokens.next() == (Token::Mark(b';'), 4));
-    assert!(rt; tokens.next() == (Token::Mark(b'*'), 4));
-    assert!(rt; tokens.next() == (Token::Mark(b'/'), 4));
-    assert!(rt; tokens.next() == (Token::Mark(0xff), 4));
-    assert!(rt; tokens.next() == (Token::Unclosed, 5));
-    assert!(rt; tokens.next() == (Token::End, 5));
-    assert!(rt; tokens.next() == (Token::End, 5));
+    assert!(rt; first_wrong_token().is_none());
+}
+
+const NUMBERS: &[(&[u8], Option<u32>)] = &[
+    (b"0", Some(0)),
+    (b"0010", Some(10)),
+    (b"4294967295", Some(4_294_967_295)),
+    (b"4294967296", None),
+    (b"0xfFa9", Some(0xffa9)),
+    (b"0x00000000001", Some(1)),
+    (b"0xffffffff", Some(0xffff_ffff)),
+    (b"0x100000000", None),
+    (b"", None),
+    (b"0x", None),
+    (b"0X1", None),
+    (b"1a", None),
+    (b"0xg", None),
+    (b"x", None),
+    (b"99999999999999999999999999999999", None),
+];
+
+/// The first number that isn't as it should be.
+fn first_wrong_number() -> Option<usize> {
+    for (row, (text, expected)) in NUMBERS.iter().enumerate() {
+        if number(*text) != *expected {
+            return Some(row);
+        }
+    }
+    None
 }
 
 #[test]
 fn numbers(rt: HostRuntime) {
-    assert!(rt; number(b"0") == Some(0) && number(b"0010") == Some(10));
-    assert!(rt; number(b"4294967295") == Some(4_294_967_295) && number(b"4294967296").is_none());
-    assert!(rt; number(b"0xfFa9") == Some(0xffa9) && number(b"0x00000000001") == Some(1));
-    assert!(rt; number(b"0xffffffff") == Some(0xffff_ffff) && number(b"0x100000000").is_none());
-    assert!(rt; number(b"").is_none() && number(b"0x").is_none() && number(b"0X1").is_none());
-    assert!(rt; number(b"1a").is_none() && number(b"0xg").is_none() && number(b"x").is_none());
-    assert!(rt; number(b"99999999999999999999999999999999").is_none());
+    assert!(rt; first_wrong_number().is_none());
+}
+
+/// A text, the largest number that it may be, what it is as decimal digits, and what as those of a plain number.
+const DECIMALS: &[(&[u8], u64, Option<u64>, Option<u64>)] = &[
+    (b"17", 17, Some(17), Some(17)),
+    (b"18", 17, None, None),
+    (b"0x1", 99, None, None),
+    (b"", 99, None, None),
+    (b"a", 99, None, None),
+    (b"-1", 9, None, None),
+    (b"0", 0, Some(0), Some(0)),
+    (b"00", 0, Some(0), None),
+    (b"01", 0, None, None),
+    (b"10", 10, Some(10), Some(10)),
+    (b"010", 10, Some(10), None),
+    (
+        b"18446744073709551615",
+        u64::MAX,
+        Some(u64::MAX),
+        Some(u64::MAX),
+    ),
+    (b"18446744073709551616", u64::MAX, None, None),
+];
+
+/// The first row of decimals that isn't as it says.
+fn first_wrong_decimal() -> Option<usize> {
+    for (row, (text, largest, expected, plain)) in DECIMALS.iter().enumerate() {
+        if decimal(*text, *largest) != *expected || plain_decimal(*text, *largest) != *plain {
+            return Some(row);
+        }
+    }
+    None
 }
 
 #[test]
 fn decimals(rt: HostRuntime) {
-    assert!(rt; decimal(b"17", 17) == Some(17) && decimal(b"18", 17).is_none());
-    assert!(rt;
-        decimal(b"0x1", 99).is_none() && decimal(b"", 99).is_none() && decimal(b"a", 99).is_none()
-    );
-    assert!(rt;
-        decimal(b"0", 0) == Some(0) && decimal(b"00", 0) == Some(0) && decimal(b"01", 0).is_none()
-    );
-    assert!(rt; decimal(b"18446744073709551615", u64::MAX) == Some(u64::MAX));
-    assert!(rt; decimal(b"18446744073709551616", u64::MAX).is_none());
-    assert!(rt; plain_decimal(b"0", 9) == Some(0) && plain_decimal(b"10", 10) == Some(10));
-    assert!(rt; plain_decimal(b"00", 9).is_none() && plain_decimal(b"010", 10).is_none());
-    assert!(rt; plain_decimal(b"", 9).is_none() && plain_decimal(b"-1", 9).is_none());
-    assert!(rt; plain_decimal(b"18446744073709551615", u64::MAX) == Some(u64::MAX));
+    assert!(rt; first_wrong_decimal().is_none());
+}
+
+const HEX_WORDS: &[(&[u8], Option<u32>)] = &[
+    (b"0123aBcD", Some(0x0123_abcd)),
+    (b"ffffFFFF", Some(0xffff_ffff)),
+    (b"98765eE0", Some(0x9876_5ee0)),
+    (b"0123abc", None),
+    (b"00123abcd", None),
+    (b"", None),
+    (b"0x000001", None),
+    (b"0000000 ", None),
+    // Next to the digits and letters that count.
+    (b"0000000/", None),
+    (b"0000000:", None),
+    (b"0000000@", None),
+    (b"0000000G", None),
+    (b"0000000`", None),
+    (b"0000000g", None),
+];
+
+/// The first row of hexadecimal words that isn't as it says.
+fn first_wrong_word() -> Option<usize> {
+    for (row, (text, expected)) in HEX_WORDS.iter().enumerate() {
+        if hex_word(*text) != *expected {
+            return Some(row);
+        }
+    }
+    None
 }
 
 #[test]
 fn hexadecimals(rt: HostRuntime) {
-    assert!(rt;
-        hex_value(b'9') == Some(9) && hex_value(b'a') == Some(10) && hex_value(b'F') == Some(15)
-    );
-    assert!(rt;
-        hex_value(b'g').is_none() && hex_value(b'G').is_none() && hex_value(b'`').is_none()
-    );
-    assert!(rt;
-        hex_value(b'/').is_none() && hex_value(b':').is_none() && hex_value(b'@').is_none()
-    );
-    assert!(rt;
-        hex_word(b"0123aBcD") == Some(0x0123_abcd) && hex_word(b"ffffFFFF") == Some(0xffff_ffff)
-    );
-    assert!(rt;
-        hex_word(b"0123abc").is_none()
-            && hex_word(b"00123abcd").is_none()
-            && hex_word(b"").is_none()
-    );
-    assert!(rt; hex_word(b"0x000001").is_none() && hex_word(b"0000000 ").is_none());
-    assert!(rt; hex_digits(0x0123_abcd) == *b"0123abcd" && hex_digits(0xffff_ffff) == *b"ffffffff");
+    assert!(rt; first_wrong_word().is_none());
+    assert!(rt; hex_digits(0x0123_abcd) == *b"0123abcd");
+}
+
+/// A text, its first line, and what is behind that line's end, if it has one.
+const SPLITS: &[(&[u8], &[u8], Option<&[u8]>)] = &[
+    (b"a\r\nb", b"a\r", Some(b"b")),
+    (b"\n", b"", Some(b"")),
+    (b"ab", b"ab", None),
+    (b"", b"", None),
+];
+
+/// The first row of splits that isn't as it says.
+fn first_wrong_split() -> Option<usize> {
+    for (row, (text, first, others)) in SPLITS.iter().enumerate() {
+        let (line, behind) = split_line(*text);
+        if line != *first || behind != *others {
+            return Some(row);
+        }
+    }
+    None
+}
+
+/// A text, the number of a line, and the line.
+const LINES: &[(&[u8], usize, &[u8])] = &[
+    (b"one\n\nthree\n", 0, b""),
+    (b"one\n\nthree\n", 1, b"one"),
+    (b"one\n\nthree\n", 2, b""),
+    (b"one\n\nthree\n", 3, b"three"),
+    (b"one\n\nthree\n", 4, b""),
+    (b"one\n\nthree\n", 5, b""),
+    (b"one", 2, b""),
+    (b"one", usize::MAX, b""),
+];
+
+/// The first row of lines that isn't as it says.
+fn first_wrong_line() -> Option<usize> {
+    for (row, (text, number, line)) in LINES.iter().enumerate() {
+        if line_at(*text, *number) != *line {
+            return Some(row);
+        }
+    }
+    None
 }
 
 #[test]
 fn lines(rt: HostRuntime) {
-    assert!(rt; split_line(b"a\r\nb") == (b"a\r".as_slice(), Some(b"b".as_slice())));
-    assert!(rt; split_line(b"\n") == (b"".as_slice(), Some(b"".as_slice())));
-    assert!(rt;
-        split_line(b"ab") == (b"ab".as_slice(), None) && split_line(b"") == (b"".as_slice(), None)
-    );
-    let text = b"one\n\nthree\n".as_slice();
-    assert!(rt; line_at(text, 1) == b"one".as_slice() && line_at(text, 2) == b"".as_slice());
-    assert!(rt; line_at(text, 3) == b"three".as_slice() && line_at(text, 4) == b"".as_slice());
-    assert!(rt; line_at(text, 0) == b"".as_slice() && line_at(text, 5) == b"".as_slice());
-    assert!(rt;
-        line_at(b"one", 2) == b"".as_slice() && line_at(b"one", usize::MAX) == b"".as_slice()
-    );
+    assert!(rt; first_wrong_split().is_none() && first_wrong_line().is_none());
     assert!(rt; line_after(4, b'\n') == 5 && line_after(4, b'\r') == 4);
+}
+
+/// A byte, and whether it is a letter, a digit, a space, a blank, and one of those that runs are made of.
+const BYTES: &[(u8, bool, bool, bool, bool, bool)] = &[
+    (b'a', true, false, false, false, true),
+    (b'Z', true, false, false, false, true),
+    (b'@', false, false, false, false, false),
+    (b'{', false, false, false, false, false),
+    (b'0', false, true, false, false, true),
+    (b'9', false, true, false, false, true),
+    (b':', false, false, false, false, false),
+    (b'/', false, false, false, false, false),
+    (b' ', false, false, true, true, false),
+    (b'\t', false, false, true, true, false),
+    (b'\r', false, false, true, true, false),
+    (b'\n', false, false, false, true, false),
+    (b'\x0b', false, false, false, false, false),
+    (b'\x0c', false, false, false, false, false),
+    (b'$', false, false, false, false, true),
+    (b'_', false, false, false, false, true),
+    (b'-', false, false, false, false, false),
+];
+
+/// The first row of bytes that isn't as it says.
+fn first_wrong_byte() -> Option<usize> {
+    for (row, (byte, letter, digit, space, blank, run)) in BYTES.iter().enumerate() {
+        if is_letter(*byte) != *letter
+            || is_digit(*byte) != *digit
+            || is_space(*byte) != *space
+            || is_blank(*byte) != *blank
+            || is_run_byte(*byte) != *run
+        {
+            return Some(row);
+        }
+    }
+    None
+}
+
+const NAMES: &[(&[u8], bool)] = &[
+    (b"_a", true),
+    (b".", true),
+    (b"Z9$", true),
+    (b"$a", false),
+    (b"9", false),
+    (b"", false),
+    (b"a b", false),
+];
+
+/// The first row of names that isn't as it says.
+fn first_wrong_name() -> Option<usize> {
+    for (row, (text, expected)) in NAMES.iter().enumerate() {
+        if is_name(*text) != *expected {
+            return Some(row);
+        }
+    }
+    None
 }
 
 #[test]
 fn bytes(rt: HostRuntime) {
-    assert!(rt; is_name(b"_a") && is_name(b".") && is_name(b"Z9$"));
-    assert!(rt; !is_name(b"$a") && !is_name(b"9") && !is_name(b"") && !is_name(b"a b"));
-    assert!(rt; is_letter(b'a') && is_letter(b'Z') && !is_letter(b'@') && !is_letter(b'{'));
-    assert!(rt; is_digit(b'0') && is_digit(b'9') && !is_digit(b':') && !is_digit(b'/'));
-    assert!(rt;
-        is_space(b' ')
-            && is_space(b'\t')
-            && is_space(b'\r')
-            && !is_space(b'\n')
-            && !is_space(b'\x0b')
-    );
-    assert!(rt; is_blank(b' ') && is_blank(b'\n') && !is_blank(b'\x0c'));
-    assert!(rt; is_run_byte(b'$') && is_run_byte(b'_') && !is_run_byte(b'-'));
+    assert!(rt; first_wrong_byte().is_none() && first_wrong_name().is_none());
 }
