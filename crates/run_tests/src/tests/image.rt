@@ -1,12 +1,13 @@
+mod booted;
 mod faults;
 mod files;
 mod large;
 mod runs;
 
-use brd_board::{Board, Event, TaskView};
+use brd_board::{Board, Event, Report, Standing, TaskState, TaskView};
 use brd_image::{BuildFault, Played, build, load, run};
 use brd_isa::Register;
-use std::alloc::{AllocError, Global};
+use std::alloc::Global;
 
 /// A task that begins at `_start`, on a board of one processor and 64 KiB.
 const ONE_TASK: &str = "BOARD(1, 0x10000); CRE_TSK(1, {TA_ACT, 0, _start, 1, 256, NULL});";
@@ -19,18 +20,77 @@ const ONE_LETTER: &str = "_start: addiu $v0, $0, 40
         syscall
 ";
 
-/// So many steps of processor 1.
-fn steps(alloc: Global, count: usize) -> Result<Vec<Event>, AllocError> {
-    vec![in alloc; Event::Step(1); count]
+/// 40 steps of processor 1.
+const STEPS: &[Event; 40] = &[Event::Step(1); 40];
+
+/// What a board shows: whether it is off, where task 1 goes on, the registers that aren't 0, and the console.
+struct Shown {
+    is_off: bool,
+    pc: u32,
+    words: &'static [(u32, u32)],
+    console: &'static [u8],
 }
 
-/// What steps of processor 1 report on the board of a source and a configuration, and what it shows then; or the fault.
-fn told(alloc: Global, source: &str, config: &str, count: usize) -> Result<String, AllocError> {
-    let events = steps(alloc, count)?;
-    match run(alloc, source.as_bytes(), config.as_bytes(), &events) {
-        Err(fault) => format!(in alloc; "{fault:?}"),
-        Ok(played) => shown(alloc, &played),
+/// Whether a source and a configuration make a board that reports this in as many steps of processor 1, and shows this
+/// then.
+fn tells(alloc: Global, source: &str, config: &str, reports: &[Report], shown: &Shown) -> bool {
+    let Some(steps) = STEPS.get(..reports.len()) else {
+        return false;
+    };
+    match run(alloc, source.as_bytes(), config.as_bytes(), steps) {
+        Ok(played) => has_played(&played, reports, shown),
+        Err(_) => false,
     }
+}
+
+/// Whether a board was played with these reports, and shows this.
+fn has_played(played: &Played, reports: &[Report], shown: &Shown) -> bool {
+    played.reports.as_slice() == reports && shows(&played.board, shown)
+}
+
+/// Whether a board shows this, and task 1 runs on processor 1.
+fn shows(board: &Board, shown: &Shown) -> bool {
+    board.is_off() == shown.is_off
+        && board.standing(1) == Some(Standing::Task(1))
+        && board.console() == shown.console
+        && shows_task(board, shown)
+}
+
+/// Whether task 1 of a board stands as it is shown.
+fn shows_task(board: &Board, shown: &Shown) -> bool {
+    match board.task(1) {
+        Some(task) => stands_so(&task, shown),
+        None => false,
+    }
+}
+
+/// Whether a task is ready on processor 1 with priority 1, goes on where it is shown, and has the words that are shown.
+fn stands_so(task: &TaskView, shown: &Shown) -> bool {
+    task.state == TaskState::Ready
+        && task.priority == 1
+        && task.cpu == 1
+        && task.context.pc() == shown.pc
+        && has_words(task, shown.words)
+}
+
+/// Whether the registers $1 to $31 of a task hold these words, and all others 0.
+fn has_words(task: &TaskView, words: &[(u32, u32)]) -> bool {
+    for number in 1..32u32 {
+        if task.context.read(Register::low(number)) != word_of(words, number) {
+            return false;
+        }
+    }
+    true
+}
+
+/// The word of a register among these, or 0.
+fn word_of(words: &[(u32, u32)], number: u32) -> u32 {
+    for (place, word) in words {
+        if *place == number {
+            return *word;
+        }
+    }
+    0
 }
 
 /// The fault of a build, if there is one.
@@ -49,43 +109,20 @@ fn load_fault(alloc: Global, elf: &[u8], config: &[u8]) -> Option<BuildFault> {
     }
 }
 
-/// The reports, and what the board shows.
-fn shown(alloc: Global, played: &Played) -> Result<String, AllocError> {
-    let mut text = String::new(alloc);
-    for report in played.reports.as_slice() {
-        write!(text, "{report:?} ")?;
+/// Whether a fault was found that is this one.
+fn is_fault(found: Option<BuildFault>, wanted: BuildFault) -> bool {
+    match found {
+        Some(fault) => fault == wanted,
+        None => false,
     }
-    show_board(&mut text, &played.board)?;
-    Ok(text)
 }
 
-/// What processor 1 does, task 1 as it stands, and the console; and that the board is off, where it is.
-fn show_board(text: &mut String, board: &Board) -> Result<(), AllocError> {
-    if board.is_off() {
-        text.push_str("off ")?;
-    }
-    if let Some(standing) = board.standing(1) {
-        write!(text, "{standing:?}")?;
-    }
-    if let Some(task) = board.task(1) {
-        show_task(text, &task)?;
-    }
-    text.push_str(" console ")?;
-    for byte in board.console() {
-        text.push(char::from(*byte))?;
-    }
-    Ok(())
+/// Whether a build has this fault.
+fn has_fault(alloc: Global, source: &[u8], config: &[u8], wanted: BuildFault) -> bool {
+    is_fault(fault_of(alloc, source, config), wanted)
 }
 
-/// A task's state, priority and processor, its program counter, and the registers that aren't 0.
-fn show_task(text: &mut String, task: &TaskView) -> Result<(), AllocError> {
-    let (state, priority, cpu, pc) = (task.state, task.priority, task.cpu, task.context.pc());
-    write!(text, " {state:?} pri {priority} cpu {cpu} pc {pc:08x}")?;
-    for number in 1..32u32 {
-        let word = task.context.read(Register::low(number));
-        if word != 0 {
-            write!(text, " ${number} {word:x}")?;
-        }
-    }
-    Ok(())
+/// Whether loading a file has this fault.
+fn has_load_fault(alloc: Global, elf: &[u8], config: &[u8], wanted: BuildFault) -> bool {
+    is_fault(load_fault(alloc, elf, config), wanted)
 }

@@ -2,29 +2,12 @@ mod changed;
 mod large;
 
 use brd_board::Event;
-use brd_journal::{Journal, JournalFault};
+use brd_journal::{Journal, JournalFault, Run};
 use std::alloc::{AllocError, Global};
 use std::test::Fail;
 
 /// The greatest count of a run.
 const MOST: u32 = 4_294_967_295;
-
-const FULL: Result<(), JournalFault> = Err(JournalFault::Full);
-
-/// The runs of a journal, each in front of a comma.
-fn shown(alloc: Global, journal: &Journal) -> Result<String, AllocError> {
-    let mut text = String::new(alloc);
-    for run in journal.runs() {
-        let count = run.count;
-        let line = match run.event {
-            Event::Step(cpu) => format!(in alloc; "S {cpu} {count},")?,
-            Event::Tick => format!(in alloc; "T {count},")?,
-            Event::Raise(line) => format!(in alloc; "R {line} {count},")?,
-        };
-        text.push_str(line.as_str())?;
-    }
-    Ok(text)
-}
 
 const EVENTS: &[Event] = &[
     Event::Step(1),
@@ -70,106 +53,178 @@ fn is_written(alloc: Global, journal: &Journal, text: &[u8]) -> bool {
 #[test]
 fn appended(rt: HostRuntime) -> Result<(), Fail> {
     let mut journal = Journal::new(rt.alloc(), 4);
-    assert!(rt; has_events(&journal, &[]));
-    assert!(rt; push_all(&mut journal, EVENTS) == 6);
-    assert!(rt; has_events(&journal, EVENTS));
+    let text = b"board-journal 1\nS 1 3\nT 1\nS 2 1\nR 4 1\n";
     assert!(rt;
-        is_written(
-            rt.alloc(),
-            &journal,
-            b"board-journal 1\nS 1 3\nT 1\nS 2 1\nR 4 1\n"
-        )
+        has_events(&journal, &[])
+            && push_all(&mut journal, EVENTS) == 6
+            && has_events(&journal, EVENTS)
+            && is_written(rt.alloc(), &journal, text)
     );
     Ok(())
 }
 
+/// Whether an answer is that there is no room, or else that there was.
+fn is_answer(answer: Result<(), JournalFault>, is_full: bool) -> bool {
+    match answer {
+        Ok(()) => !is_full,
+        Err(fault) => is_full && fault == JournalFault::Full,
+    }
+}
+
+/// The runs of the first four of `EVENTS`.
+const FOUR: &[Run] = &[
+    Run {
+        event: Event::Step(1),
+        count: 3,
+    },
+    Run {
+        event: Event::Tick,
+        count: 1,
+    },
+];
+
 #[test]
 fn appended_up_to_the_limit(rt: HostRuntime) -> Result<(), Fail> {
     let mut journal = Journal::new(rt.alloc(), 2);
-    assert!(rt; push_all(&mut journal, EVENTS) == 4);
-    assert!(rt; journal.push(Event::Raise(4)) == FULL);
-    assert!(rt; shown(rt.alloc(), &journal)?.as_str() == "S 1 3,T 1,");
+    assert!(rt;
+        push_all(&mut journal, EVENTS) == 4
+            && is_answer(journal.push(Event::Raise(4)), true)
+            && has_runs(&journal, FOUR)
+    );
     Ok(())
 }
 
+/// Whether a journal has these runs.
+fn has_runs(journal: &Journal, runs: &[Run]) -> bool {
+    journal.runs() == runs
+}
+
+/// A run that is appended, whether there is no room for it, and the runs of the journal then.
+type Appended = (Event, u32, bool, &'static [Run]);
+
 /// Appends runs. The first that is answered otherwise than it should, or leaves other runs.
-fn first_other(
-    alloc: Global,
-    journal: &mut Journal,
-    rows: &[(Event, u32, Result<(), JournalFault>, &str)],
-) -> Result<Option<(Event, u32)>, AllocError> {
-    for (event, count, answer, runs) in rows {
-        if journal.push_run(*event, *count) != *answer || shown(alloc, journal)?.as_str() != *runs {
-            return Ok(Some((*event, *count)));
+fn first_other(journal: &mut Journal, rows: &[Appended]) -> Option<usize> {
+    for (n, (event, count, is_full, runs)) in rows.iter().enumerate() {
+        if !is_answer(journal.push_run(*event, *count), *is_full) || !has_runs(journal, runs) {
+            return Some(n);
         }
     }
-    Ok(None)
+    None
+}
+
+const MOST_TICKS: Run = Run {
+    event: Event::Tick,
+    count: MOST,
+};
+
+const ONE_LESS: Run = Run {
+    event: Event::Tick,
+    count: MOST - 1,
+};
+
+const ONE_TICK: Run = Run {
+    event: Event::Tick,
+    count: 1,
+};
+
+const FULL_RUNS: &[Appended] = &[
+    (Event::Tick, MOST - 1, false, &[ONE_LESS]),
+    (Event::Tick, 0, false, &[ONE_LESS]),
+    (Event::Tick, 1, false, &[MOST_TICKS]),
+    (Event::Tick, 1, false, &[MOST_TICKS, ONE_TICK]),
+    (Event::Tick, MOST - 2, false, &[MOST_TICKS, ONE_LESS]),
+    (Event::Tick, 2, true, &[MOST_TICKS, ONE_LESS]),
+    (Event::Step(0), 0, false, &[MOST_TICKS, ONE_LESS]),
+    (Event::Step(0), 1, true, &[MOST_TICKS, ONE_LESS]),
+];
+
+/// Whether a journal has so many events, of which the last is a tick.
+fn ends_with_a_tick(journal: &Journal, len: u64) -> bool {
+    journal.len() == len
+        && len != 0
+        && journal.event_at(len - 1) == Some(Event::Tick)
+        && journal.event_at(len).is_none()
 }
 
 /// A run that has no room left, and what goes behind it.
 #[test]
 fn full_runs(rt: HostRuntime) -> Result<(), Fail> {
     let mut journal = Journal::new(rt.alloc(), 2);
-    let rows = [
-        (Event::Tick, MOST - 1, Ok(()), "T 4294967294,"),
-        (Event::Tick, 0, Ok(()), "T 4294967294,"),
-        (Event::Tick, 1, Ok(()), "T 4294967295,"),
-        (Event::Tick, 1, Ok(()), "T 4294967295,T 1,"),
-        (Event::Tick, MOST - 2, Ok(()), "T 4294967295,T 4294967294,"),
-        (Event::Tick, 2, FULL, "T 4294967295,T 4294967294,"),
-        (Event::Step(0), 0, Ok(()), "T 4294967295,T 4294967294,"),
-        (Event::Step(0), 1, FULL, "T 4294967295,T 4294967294,"),
-    ];
-    assert!(rt; first_other(rt.alloc(), &mut journal, &rows)?.is_none());
-    assert!(rt; journal.len() == 8_589_934_589);
-    assert!(rt; journal.event_at(8_589_934_588) == Some(Event::Tick));
-    assert!(rt; journal.event_at(8_589_934_589).is_none());
+    assert!(rt;
+        first_other(&mut journal, FULL_RUNS).is_none() && ends_with_a_tick(&journal, 8_589_934_589)
+    );
     Ok(())
 }
+
+const MOST_RAISES: Run = Run {
+    event: Event::Raise(7),
+    count: MOST,
+};
+
+const FIVE: Run = Run {
+    event: Event::Raise(7),
+    count: 5,
+};
+
+const OF_ANOTHER: Run = Run {
+    event: Event::Raise(6),
+    count: MOST,
+};
+
+const RUNS_ACROSS: &[Appended] = &[
+    (Event::Raise(7), 5, false, &[FIVE]),
+    (Event::Raise(7), MOST, false, &[MOST_RAISES, FIVE]),
+    (
+        Event::Raise(6),
+        MOST,
+        false,
+        &[MOST_RAISES, FIVE, OF_ANOTHER],
+    ),
+];
 
 /// A run that goes past the room of the last one.
 #[test]
 fn runs_across(rt: HostRuntime) -> Result<(), Fail> {
     let mut journal = Journal::new(rt.alloc(), 3);
-    let rows = [
-        (Event::Raise(7), 5, Ok(()), "R 7 5,"),
-        (Event::Raise(7), MOST, Ok(()), "R 7 4294967295,R 7 5,"),
-        (
-            Event::Raise(6),
-            MOST,
-            Ok(()),
-            "R 7 4294967295,R 7 5,R 6 4294967295,",
-        ),
-    ];
-    assert!(rt; first_other(rt.alloc(), &mut journal, &rows)?.is_none());
+    assert!(rt; first_other(&mut journal, RUNS_ACROSS).is_none());
     Ok(())
 }
+
+const NO_RUNS: &[Appended] = &[(Event::Tick, 1, true, &[]), (Event::Tick, 0, false, &[])];
 
 /// A journal that takes nothing.
 #[test]
 fn no_runs(rt: HostRuntime) -> Result<(), Fail> {
     let mut journal = Journal::new(rt.alloc(), 0);
-    let rows = [(Event::Tick, 1, FULL, ""), (Event::Tick, 0, Ok(()), "")];
-    assert!(rt; first_other(rt.alloc(), &mut journal, &rows)?.is_none());
-    assert!(rt; is_written(rt.alloc(), &journal, b"board-journal 1\n"));
+    assert!(rt;
+        first_other(&mut journal, NO_RUNS).is_none()
+            && is_written(rt.alloc(), &journal, b"board-journal 1\n")
+    );
     Ok(())
+}
+
+/// Each fault, as it reads.
+const TEXTS: &[(JournalFault, &str)] = &[
+    (JournalFault::NoMemory, "out of memory"),
+    (
+        JournalFault::Full,
+        "its events need more runs than its limit",
+    ),
+    (
+        JournalFault::Syntax { line: 3 },
+        "line 3: expected `board-journal 1` first, then lines `S CPU COUNT`, `T COUNT` and `R LINE COUNT`",
+    ),
+];
+
+fn reads(alloc: Global, fault: JournalFault, wanted: &str) -> Result<bool, AllocError> {
+    let text = format!(in alloc; "{fault}")?;
+    Ok(text.as_str() == wanted)
 }
 
 #[test]
 fn faults(rt: HostRuntime) -> Result<(), Fail> {
-    let alloc = rt.alloc();
-    for (fault, expected) in [
-        (JournalFault::NoMemory, "out of memory"),
-        (
-            JournalFault::Full,
-            "its events need more runs than its limit",
-        ),
-        (
-            JournalFault::Syntax { line: 3 },
-            "line 3: expected `board-journal 1` first, then lines `S CPU COUNT`, `T COUNT` and `R LINE COUNT`",
-        ),
-    ] {
-        assert!(rt; format!(in alloc; "{fault}")?.as_str() == expected);
+    for (fault, text) in TEXTS {
+        assert!(rt; reads(rt.alloc(), *fault, text)?);
     }
     Ok(())
 }

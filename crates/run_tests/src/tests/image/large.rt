@@ -1,6 +1,6 @@
 //! Sources of many segments.
 
-use super::fault_of;
+use super::{fault_of, has_fault};
 use brd_elf::ElfFault;
 use brd_image::BuildFault;
 use std::alloc::{AllocError, Global};
@@ -20,16 +20,14 @@ fn separate(alloc: Global, count: u32) -> Result<String, AllocError> {
 #[test]
 fn more_segments_than_a_file_holds(rt: HostRuntime) -> Result<(), Fail> {
     let source = separate(rt.alloc(), 65_535)?;
-    let fault = fault_of(rt.alloc(), source.as_bytes(), b"BOARD(1, 0x20000);");
     let wanted = BuildFault::Elf(ElfFault::Unsupported { at: 44 });
-    assert!(rt; fault == Some(wanted));
+    assert!(rt; has_fault(rt.alloc(), source.as_bytes(), b"BOARD(1, 0x20000);", wanted));
     Ok(())
 }
 
 #[test]
 fn many_segments(rt: HostRuntime) -> Result<(), Fail> {
     let source = separate(rt.alloc(), 5_000)?;
-    let config = b"BOARD(1, 0x20000);";
-    assert!(rt; fault_of(rt.alloc(), source.as_bytes(), config).is_none());
+    assert!(rt; fault_of(rt.alloc(), source.as_bytes(), b"BOARD(1, 0x20000);").is_none());
     Ok(())
 }

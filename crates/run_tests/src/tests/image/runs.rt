@@ -1,17 +1,27 @@
 //! Boards from their source to their state after events.
 
-use super::{ONE_LETTER, ONE_TASK, show_board, told};
-use brd_board::{Board, Event};
-use brd_image::build;
-use std::alloc::{AllocError, Global};
-use std::test::Fail;
+use super::{ONE_LETTER, ONE_TASK, STEPS, Shown, tells};
+use brd_board::Report;
+use brd_image::{Played, run};
+use std::alloc::Global;
 
 /// What the board of `ONE_LETTER` reports in six steps.
-const REPORTS: &str =
-    "Ran(2147483648) Ran(2147483652) Called(2147483656) Ran(2147483660) Called(2147483664) Off ";
+pub const REPORTS: &[Report] = &[
+    Report::Ran(0x8000_0000),
+    Report::Ran(0x8000_0004),
+    Report::Called(0x8000_0008),
+    Report::Ran(0x8000_000c),
+    Report::Called(0x8000_0010),
+    Report::Off,
+];
 
 /// What it shows behind them.
-const SHOWN: &str = "off Task(1) Ready pri 1 cpu 1 pc 80000014 $2 29 $4 48 $29 80010000 console H";
+pub const SHOWN: Shown = Shown {
+    is_off: true,
+    pc: 0x8000_0014,
+    words: &[(2, 0x29), (4, 0x48), (29, 0x8001_0000)],
+    console: b"H",
+};
 
 /// A greeting, and the end of the board: the files of examples/hello.
 const HELLO: &str =
@@ -37,64 +47,52 @@ CRE_TSK(1, {TA_ACT, 0, _start, 1, 256, NULL});
 ";
 
 #[test]
-fn a_letter_and_the_end(rt: HostRuntime) -> Result<(), Fail> {
-    let alloc = rt.alloc();
-    let text = told(alloc, ONE_LETTER, ONE_TASK, 6)?;
-    let wanted = format!(in alloc; "{REPORTS}{SHOWN}")?;
-    assert!(rt; text.as_str() == wanted.as_str());
-    Ok(())
+fn a_letter_and_the_end(rt: HostRuntime) {
+    assert!(rt; tells(rt.alloc(), ONE_LETTER, ONE_TASK, REPORTS, &SHOWN));
 }
 
-/// Does steps of processor 1, one by one, and tells what each reports.
-fn step_each(text: &mut String, board: &mut Board, count: usize) -> Result<(), AllocError> {
-    for _ in 0..count {
-        let report = board.event(Event::Step(1));
-        write!(text, "{report:?} ")?;
-    }
-    Ok(())
-}
-
-/// What is told of a built board, step by step.
-fn told_by_events(alloc: Global, source: &[u8], config: &[u8]) -> Result<String, AllocError> {
-    let mut text = String::new(alloc);
-    match build(alloc, source, config) {
-        Err(fault) => write!(text, "{fault:?}")?,
-        Ok(mut board) => {
-            step_each(&mut text, &mut board, 6)?;
-            show_board(&mut text, &board)?;
+/// Whether reports are those of a board that is off from this one on.
+fn are_off_from(reports: &[Report], first: usize) -> bool {
+    for (n, report) in reports.iter().enumerate() {
+        if (*report == Report::Off) != (n >= first) {
+            return false;
         }
     }
-    Ok(text)
+    first < reports.len()
 }
 
-/// The same by a board that was built, and its events one by one.
-#[test]
-fn a_letter_by_events(rt: HostRuntime) -> Result<(), Fail> {
-    let alloc = rt.alloc();
-    let text = told_by_events(alloc, ONE_LETTER.as_bytes(), ONE_TASK.as_bytes())?;
-    let wanted = format!(in alloc; "{REPORTS}{SHOWN}")?;
-    assert!(rt; text.as_str() == wanted.as_str());
-    Ok(())
+/// Whether a board has said `Hi`, and is off from its 26th report on.
+fn has_greeted(played: &Played) -> bool {
+    are_off_from(played.reports.as_slice(), 25)
+        && played.board.is_off()
+        && played.board.console() == b"Hi\n".as_slice()
+}
+
+/// Whether the board of a source and a configuration greets in 40 steps.
+fn greets(alloc: Global, source: &str, config: &str) -> bool {
+    match run(alloc, source.as_bytes(), config.as_bytes(), STEPS) {
+        Ok(played) => has_greeted(&played),
+        Err(_) => false,
+    }
 }
 
 /// Two instructions, six for each of three letters, five for the end: off from the 26th step on.
 #[test]
-fn a_greeting(rt: HostRuntime) -> Result<(), Fail> {
-    let alloc = rt.alloc();
-    let text = told(alloc, HELLO, HELLO_CONFIG, 40)?;
-    assert!(rt; text.as_str().ends_with("console Hi\n"), "{text}");
-    assert!(rt; text.as_str().contains(" Off off Task(1)"), "{text}");
-    Ok(())
+fn a_greeting(rt: HostRuntime) {
+    assert!(rt; greets(rt.alloc(), HELLO, HELLO_CONFIG));
 }
+
+const EMPTY: Shown = Shown {
+    is_off: false,
+    pc: 0x8000_0008,
+    words: &[(29, 0x8001_0000)],
+    console: b"",
+};
 
 /// A source without an instruction: the task meets zeros, each of which is `sll $0, $0, 0`.
 #[test]
-fn an_empty_source(rt: HostRuntime) -> Result<(), Fail> {
+fn an_empty_source(rt: HostRuntime) {
     let config = "BOARD(1, 0x10000); CRE_TSK(1, {TA_ACT, 0, 0x80000000, 1, 256, NULL});";
-    let text = told(rt.alloc(), "", config, 2)?;
-    assert!(rt;
-        text.as_str()
-            == "Ran(2147483648) Ran(2147483652) Task(1) Ready pri 1 cpu 1 pc 80000008 $29 80010000 console "
-    );
-    Ok(())
+    let reports = [Report::Ran(0x8000_0000), Report::Ran(0x8000_0004)];
+    assert!(rt; tells(rt.alloc(), "", config, &reports, &EMPTY));
 }
