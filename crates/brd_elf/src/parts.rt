@@ -92,20 +92,20 @@ pub fn lay_out_segments(alloc: Global, segments: &[Segment]) -> Result<(Vec<u8>,
     Ok((programs, data))
 }
 
-/// Puts a segment's program header and its bytes at the end of what those of earlier ones are; the first one's bytes lie
-/// at `start` in the file.
+/// Puts a segment's program header and its bytes behind those of earlier segments, whose bytes lie in the file from
+/// `start` on.
 fn put_segment(
     programs: &mut Vec<u8>,
-    data: &mut Vec<u8>,
+    loaded: &mut Vec<u8>,
     start: usize,
     segment: &Segment,
 ) -> Result<(), NoMemory>
-    requires { start + length data.old.items < 2 ^ 64 }
-    ensures program { OnOk result (programs.new.items ≡ programs.old.items ++ program_header (start + length data.old.items) segment.now) }
-    ensures bytes { OnOk result (data.new.items ≡ data.old.items ++ padded segment.now.bytes) }
+    requires { start + length loaded.old.items < 2 ^ 64 }
+    ensures program { OnOk result (programs.new.items ≡ programs.old.items ++ program_header (start + length loaded.old.items) segment.now) }
+    ensures bytes { OnOk result (loaded.new.items ≡ loaded.old.items ++ padded segment.now.bytes) }
 {
-    put_program_header(programs, start + data.len(), segment)?;
-    put_padded(data, segment.bytes.as_slice())
+    put_program_header(programs, start + loaded.len(), segment)?;
+    put_padded(loaded, segment.bytes.as_slice())
 }
 
 /// Puts the program header of a segment whose bytes lie at an offset at the end.
