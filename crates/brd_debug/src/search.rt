@@ -60,8 +60,8 @@ pub(crate) fn next_stop(
     stop_from(boot, journal, stops, snapshots, &mut playback)
 }
 
-/// The first stop from the position of a board on, which plays up to the snapshot behind it. It takes snapshots on its
-/// way.
+/// The first stop from the position of a board on. It lets the board play on, to wherever the search ends, and takes
+/// snapshots on its way.
 fn stop_from(
     boot: &Board,
     journal: &Journal,
