@@ -57,9 +57,13 @@ directive_from directives.Set tokens = setting_from tokens
 
 -- ---- statements
 
+-- operands of this form, none left out
+abbrev pub of_form : Kind × Kind × Kind → List Token → Option Operands
+of_form form tokens = operands_from tokens >>= taken form
+
 -- an instruction that is made of operands of this form
 unfoldable pub instruction_from : Kind × Kind × Kind → (Operands → Instruction) → List Token → Option Statement
-instruction_from form made tokens = operands_from tokens >>= taken form >>= λ operands. Some (Instruct (made operands))
+instruction_from form made tokens = of_form form tokens >>= λ operands. Some (Instruct (made operands))
 
 -- what stands behind a word
 abbrev pub said_from : Word → List Token → Option Statement

@@ -4,7 +4,7 @@ ghost use Rattle.std.specs.Prelude.{◌≡◌, option_map};
 ghost use Rattle.brd_source.specs.Forms as forms;
 ghost use Rattle.brd_source.specs.View.{instruction_value, operand_value, operands_value};
 
-use crate::statement::{Immediate, Instruction, Operand, ZERO};
+use crate::statement::{Immediate, Instruction, Operand, Operands, ZERO};
 use crate::words::Shorthand;
 use Kind::{Address, Code, Link, Nothing, Number, Register, Value};
 use brd_isa::{BranchOp, BranchRegimmOp, Mnemonic, RegisterOp, ShiftOp};
@@ -84,10 +84,7 @@ fn nought<'a>() -> Operand<'a>
 }
 
 /// The instruction that a shorthand with these operands stands for.
-pub(crate) fn stands_for<'a>(
-    shorthand: Shorthand,
-    operands: (Operand<'a>, Operand<'a>, Operand<'a>),
-) -> Instruction<'a>
+pub(crate) fn stands_for<'a>(shorthand: Shorthand, operands: Operands<'a>) -> Instruction<'a>
     ensures { instruction_value result ≡ forms.stands_for shorthand (operands_value operands.entry) }
 {
     let (a, b, _) = operands;
@@ -145,10 +142,7 @@ fn is_unlinked(kind: Kind, second: &Operand) -> bool
 
 /// The operands of a form, none left out.
 #[tactic(auto, unfolding(crate::specs::Forms::taken))]
-pub(crate) fn taken<'a>(
-    form: (Kind, Kind, Kind),
-    written: (Operand<'a>, Operand<'a>, Operand<'a>),
-) -> Option<(Operand<'a>, Operand<'a>, Operand<'a>)>
+pub(crate) fn taken<'a>(form: (Kind, Kind, Kind), written: Operands<'a>) -> Option<Operands<'a>>
     ensures { option_map operands_value result ≡ forms.taken form (operands_value written.entry) }
 {
     let (a, b, c) = linked(form.0, written);
@@ -160,10 +154,7 @@ pub(crate) fn taken<'a>(
 }
 
 /// Operands with the first one where it is left out.
-fn linked<'a>(
-    kind: Kind,
-    written: (Operand<'a>, Operand<'a>, Operand<'a>),
-) -> (Operand<'a>, Operand<'a>, Operand<'a>)
+fn linked<'a>(kind: Kind, written: Operands<'a>) -> Operands<'a>
     ensures { operands_value result ≡ forms.linked kind (operands_value written.entry) }
 {
     let (a, b, c) = written;

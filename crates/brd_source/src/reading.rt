@@ -8,7 +8,7 @@ ghost use Rattle.brd_source.specs.Tokens.{seen};
 ghost use Rattle.brd_source.specs.View.{expression_value, immediate_value, operand_value, operands_value};
 
 use crate::register::register_of;
-use crate::statement::{Expression, Immediate, Operand, ZERO};
+use crate::statement::{Expression, Immediate, Operand, Operands, ZERO};
 use crate::token::Token;
 
 /// A number, which may have a sign.
@@ -177,7 +177,7 @@ pub(crate) fn first_part<'t, 'a>(
 
 /// Up to three operands with commas between them.
 #[tactic(auto, using(crate::proofs::Parts::too_many), unfolding(crate::specs::Reading::operands_from))]
-pub(crate) fn operands<'a>(tokens: &[Token<'a>]) -> Option<(Operand<'a>, Operand<'a>, Operand<'a>)>
+pub(crate) fn operands<'a>(tokens: &[Token<'a>]) -> Option<Operands<'a>>
     ensures { option_map operands_value result ≡ reads.operands_from (map seen tokens.now) }
 {
     if tokens.is_empty() {

@@ -80,14 +80,17 @@ impl<'a> Operand<'a> {
     }
 }
 
+/// The operands of an instruction, in the order in which they are written.
+pub type Operands<'a> = (Operand<'a>, Operand<'a>, Operand<'a>);
+
 /// An instruction: which it is, and the operands that it takes, by the table of `forms`. Targets of branches and jumps
 /// are addresses.
 #[derive(Clone, Copy)]
 pub struct Instruction<'a> {
     /// Which instruction it is.
     pub mnemonic: Mnemonic,
-    /// Its operands in the order in which they are written, none left out.
-    pub operands: (Operand<'a>, Operand<'a>, Operand<'a>),
+    /// Its operands, none left out.
+    pub operands: Operands<'a>,
 }
 
 /// How many bytes each value of `.byte`, `.half` and `.word` takes.

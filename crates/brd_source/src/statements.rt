@@ -9,9 +9,9 @@ ghost use Rattle.brd_source.specs.Tokens.{seen};
 ghost use Rattle.brd_source.specs.View.{expression_value, operands_value, statement_value};
 
 use crate::fault::LineFault;
-use crate::forms::{form_of, short_form_of, stands_for, taken};
+use crate::forms::{Kind, form_of, short_form_of, stands_for, taken};
 use crate::reading::{expression, first_part, operands};
-use crate::statement::{Expression, Instruction, Statement};
+use crate::statement::{Expression, Instruction, Operands, Statement};
 use crate::text::text;
 use crate::token::Token;
 use crate::words::{Directive, Shorthand, Word, word_named};
@@ -113,12 +113,19 @@ fn behind_directive<'a>(
     }
 }
 
+/// The operands of this form, none left out.
+fn of_form<'a>(form: (Kind, Kind, Kind), tokens: &[Token<'a>]) -> Option<Operands<'a>>
+    ensures { option_map operands_value result ≡ statements.of_form form (map seen tokens.now) }
+{
+    taken(form, operands(tokens)?)
+}
+
 /// What stands behind a mnemonic.
 #[tactic(auto, unfolding(crate::specs::Statements::instruction_from))]
 fn behind_mnemonic<'a>(mnemonic: Mnemonic, tokens: &[Token<'a>]) -> Option<Statement<'a>>
     ensures { option_map statement_value result ≡ statements.instruction_from (forms.form_of mnemonic) (forms.instruction mnemonic) (map seen tokens.now) }
 {
-    let operands = taken(form_of(mnemonic), operands(tokens)?)?;
+    let operands = of_form(form_of(mnemonic), tokens)?;
     Some(Statement::Instruction(Instruction { mnemonic, operands }))
 }
 
@@ -127,7 +134,7 @@ fn behind_mnemonic<'a>(mnemonic: Mnemonic, tokens: &[Token<'a>]) -> Option<State
 fn behind_shorthand<'a>(shorthand: Shorthand, tokens: &[Token<'a>]) -> Option<Statement<'a>>
     ensures { option_map statement_value result ≡ statements.instruction_from (forms.short_form_of shorthand) (forms.stands_for shorthand) (map seen tokens.now) }
 {
-    let operands = taken(short_form_of(shorthand), operands(tokens)?)?;
+    let operands = of_form(short_form_of(shorthand), tokens)?;
     Some(Statement::Instruction(stands_for(shorthand, operands)))
 }
 
