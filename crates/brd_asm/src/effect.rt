@@ -35,30 +35,29 @@ pub fn effect_of<'a>(
 ) -> Result<Effect<'a>, AsmFault>
     ensures { Gives view.effect result (effect_of line place names.now (source.statement_value statement.entry)) }
 {
-    match statement {
-        Statement::Nothing => Ok(Effect::Stays),
-        Statement::Instruction(instruction) => Ok(Effect::Fills(Content::Code(instruction))),
+    Ok(match statement {
+        Statement::Nothing => Effect::Stays,
+        Statement::Instruction(instruction) => Effect::Fills(Content::Code(instruction)),
         Statement::Org(e) => {
             let v = known(line, value_of(names, e))?;
-            Ok(Effect::Moves(up_to(line, 4_294_967_295, v)?))
+            Effect::Moves(up_to(line, 4_294_967_295, v)?)
         }
         Statement::Align(e) => {
             let v = known(line, value_of(names, e))?;
             let n = up_to(line, 12, v)?;
-            Ok(Effect::Fills(Content::Zeros(gap(place, 1 << n))))
+            Effect::Fills(Content::Zeros(gap(place, 1 << n)))
         }
         Statement::Space(e) => {
             let v = known(line, value_of(names, e))?;
-            Ok(Effect::Fills(Content::Zeros(up_to(line, 16_777_216, v)?)))
+            Effect::Fills(Content::Zeros(up_to(line, 16_777_216, v)?))
         }
-        Statement::Data(width, values) => Ok(Effect::Fills(Content::Values(width, values))),
-        Statement::Text(bytes) => Ok(Effect::Fills(Content::Bytes(bytes))),
+        Statement::Data(width, values) => Effect::Fills(Content::Values(width, values)),
+        Statement::Text(bytes) => Effect::Fills(Content::Bytes(bytes)),
         Statement::Equal(name, e) => {
             let v = known(line, value_of(names, e))?;
-            let x = within(line, -2_147_483_648, 4_294_967_295, v)?;
-            Ok(Effect::Equates(name, x))
+            Effect::Equates(name, within(line, -2_147_483_648, 4_294_967_295, v)?)
         }
-    }
+    })
 }
 
 /// How far it is from a place to the next multiple of n.

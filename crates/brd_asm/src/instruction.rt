@@ -24,35 +24,35 @@ pub fn instruction_of(
     let at = Site { line, place, names };
     let (a, b, c) = instruction.operands;
     let (x, y, z) = (a.register(), b.register(), c.register());
-    match instruction.mnemonic {
-        Mnemonic::Shift(op) => Ok(Insn::Shift(op, x, y, at.shift_amount(c)?)),
-        Mnemonic::ShiftVariable(op) => Ok(Insn::ShiftVariable(op, x, y, z)),
-        Mnemonic::ThreeRegisters(op) => Ok(Insn::ThreeRegisters(op, x, y, z)),
-        Mnemonic::Multiply => Ok(Insn::Multiply(x, y, z)),
-        Mnemonic::JumpRegister => Ok(Insn::JumpRegister(x)),
-        Mnemonic::JumpLinkRegister => Ok(Insn::JumpLinkRegister(x, y)),
-        Mnemonic::Syscall => Ok(Insn::Syscall(at.long_code(a)?)),
-        Mnemonic::Break => Ok(Insn::Break(at.long_code(a)?)),
-        Mnemonic::Sync => Ok(Insn::Sync),
-        Mnemonic::MoveFrom(op) => Ok(Insn::MoveFrom(op, x)),
-        Mnemonic::MoveTo(op) => Ok(Insn::MoveTo(op, x)),
-        Mnemonic::Product(op) => Ok(Insn::Product(op, x, y)),
-        Mnemonic::Accumulate(op) => Ok(Insn::Accumulate(op, x, y)),
-        Mnemonic::Count(op) => Ok(Insn::Count(op, x, y)),
-        Mnemonic::Trap(op) => Ok(Insn::Trap(op, x, y, at.short_code(c)?)),
-        Mnemonic::TrapImmediate(op) => Ok(Insn::TrapImmediate(op, x, at.signed(b)?)),
-        Mnemonic::Jump(op) => Ok(Insn::Jump(op, at.index_to(a)?)),
-        Mnemonic::Branch(op) => Ok(Insn::Branch(op, x, y, at.offset_to(c)?)),
-        Mnemonic::BranchZero(op) => Ok(Insn::BranchZero(op, x, at.offset_to(b)?)),
-        Mnemonic::BranchRegimm(op) => Ok(Insn::BranchRegimm(op, x, at.offset_to(b)?)),
-        Mnemonic::WithImmediate(op) => Ok(Insn::WithImmediate(op, x, y, at.field(op, c)?)),
-        Mnemonic::LoadUpper => Ok(Insn::LoadUpper(x, at.unsigned(b)?)),
-        Mnemonic::Load(op) => Ok(Insn::Load(op, x, y, at.signed(b)?)),
-        Mnemonic::Store(op) => Ok(Insn::Store(op, x, y, at.signed(b)?)),
-        Mnemonic::Linked(op) => Ok(Insn::Linked(op, x, y, at.signed(b)?)),
+    Ok(match instruction.mnemonic {
+        Mnemonic::Shift(op) => Insn::Shift(op, x, y, at.shift_amount(c)?),
+        Mnemonic::ShiftVariable(op) => Insn::ShiftVariable(op, x, y, z),
+        Mnemonic::ThreeRegisters(op) => Insn::ThreeRegisters(op, x, y, z),
+        Mnemonic::Multiply => Insn::Multiply(x, y, z),
+        Mnemonic::JumpRegister => Insn::JumpRegister(x),
+        Mnemonic::JumpLinkRegister => Insn::JumpLinkRegister(x, y),
+        Mnemonic::Syscall => Insn::Syscall(at.long_code(a)?),
+        Mnemonic::Break => Insn::Break(at.long_code(a)?),
+        Mnemonic::Sync => Insn::Sync,
+        Mnemonic::MoveFrom(op) => Insn::MoveFrom(op, x),
+        Mnemonic::MoveTo(op) => Insn::MoveTo(op, x),
+        Mnemonic::Product(op) => Insn::Product(op, x, y),
+        Mnemonic::Accumulate(op) => Insn::Accumulate(op, x, y),
+        Mnemonic::Count(op) => Insn::Count(op, x, y),
+        Mnemonic::Trap(op) => Insn::Trap(op, x, y, at.short_code(c)?),
+        Mnemonic::TrapImmediate(op) => Insn::TrapImmediate(op, x, at.signed(b)?),
+        Mnemonic::Jump(op) => Insn::Jump(op, at.index_to(a)?),
+        Mnemonic::Branch(op) => Insn::Branch(op, x, y, at.offset_to(c)?),
+        Mnemonic::BranchZero(op) => Insn::BranchZero(op, x, at.offset_to(b)?),
+        Mnemonic::BranchRegimm(op) => Insn::BranchRegimm(op, x, at.offset_to(b)?),
+        Mnemonic::WithImmediate(op) => Insn::WithImmediate(op, x, y, at.field(op, c)?),
+        Mnemonic::LoadUpper => Insn::LoadUpper(x, at.unsigned(b)?),
+        Mnemonic::Load(op) => Insn::Load(op, x, y, at.signed(b)?),
+        Mnemonic::Store(op) => Insn::Store(op, x, y, at.signed(b)?),
+        Mnemonic::Linked(op) => Insn::Linked(op, x, y, at.signed(b)?),
         Mnemonic::Prefetch => {
             let (hint, offset) = at.prefetch(a, b)?;
-            Ok(Insn::Prefetch(hint, y, offset))
+            Insn::Prefetch(hint, y, offset)
         }
-    }
+    })
 }
