@@ -1,5 +1,6 @@
-//! How long long sources take. `asm_bench` alone says what it finds in short ones; `asm_bench time` assembles a source of
-//! 1 MiB, 16 MiB of zeros, 65,534 segments in ascending and in descending order, and 100,000 names, and prints times too.
+//! How long long sources take. `asm_bench` alone says what it finds in short ones; `asm_bench time` assembles a source
+//! of 1 MiB, 16 MiB of zeros, 65,534 segments in ascending and in descending order, and 100,000 names, and prints times
+//! too.
 #![tactic(auto)]
 
 ghost use Rattle.std.specs.Prelude.{◌≡◌, ◌<◌, ◌-◌, ◌*◌, if◌then◌else◌};

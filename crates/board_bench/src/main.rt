@@ -1,8 +1,8 @@
-//! How fast the board runs: `board_bench EVENTS` does so many events of two small loops on a board of words, of the first
-//! of them on a booted board of two processors and four tasks, on one processor and on both in turn, of tasks that call the
-//! kernel, and of ticks; it prints millions of events a second, beside a bare loop of about the same work. With a number
-//! behind EVENTS it does that work alone, counted from 0. Without EVENTS it does 16,000 events of each and prints how often
-//! the loops were gone through.
+//! How fast the board runs: `board_bench EVENTS` does so many events of two small loops on a board of words, of the
+//! first of them on a booted board of two processors and four tasks, on one processor and on both in turn, of tasks
+//! that call the kernel, and of ticks; it prints millions of events a second, beside a bare loop of about the same
+//! work. With a number behind EVENTS it does that work alone, counted from 0. Without EVENTS it does 16,000 events of
+//! each and prints how often the loops were gone through.
 #![tactic(auto)]
 
 use brd_board::{Board, BootFault, Event, Report};
@@ -268,8 +268,8 @@ fn booted(alloc: Global, words: &[u32], text: &str) -> anyhow::Result<Result<Boa
     Ok(Board::boot(alloc, &image, &config))
 }
 
-/// A configuration with 255 tasks: the first 254 start at `others`, with 2 as the argument of the last of them and 1 of the
-/// rest; task 255 comes after all of them and starts at `last`.
+/// A configuration with 255 tasks: the first 254 start at `others`, with 2 as the argument of the last of them and 1 of
+/// the rest; task 255 comes after all of them and starts at `last`.
 fn crowd(alloc: Global, others: u32, last: u32) -> Result<String, AllocError> {
     let mut text = String::from_str(alloc, CROWD)?;
     for id in 1..255u16 {
@@ -334,8 +334,8 @@ fn run(board: &mut Board, deed: Deed, events: u64) -> u64 {
     }
 }
 
-/// Does so many steps, of the processors in turn, and counts those that ran an instruction. It is the only place that does steps, so
-/// that a step is done in line.
+/// Does so many steps, of the processors in turn, and counts those that ran an instruction. It is the only place that
+/// does steps, so that a step is done in line.
 #[inline(never)]
 fn run_steps(board: &mut Board, processors: u8, events: u64) -> u64 {
     let mut ran = 0u64;

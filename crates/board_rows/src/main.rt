@@ -2,9 +2,9 @@
 //!
 //! - `= NAME` begins anew, without source and configuration;
 //! - `s LINE` is a line of assembler source, `c LINE` one of the configuration;
-//! - `e EVENTS` boots the board, if it isn't yet, and does events, a byte each: a digit is a step of that processor, T a
-//!   tick, `a` to `z` are raises of lines 0 to 25. Behind it stand the reports, a byte each (r `Ran`, c `Called`,
-//!   f `Faulted`, i `Idle`, s `Stopped`, o `Off`, n `NoSuch`, t `Ticked`, O `TimeOver`, a `Accepted`, R `Raised`), and
+//! - `e EVENTS` boots the board, if it isn't yet, and does events, a byte each: a digit is a step of that processor, T
+//!   a tick, `a` to `z` are raises of lines 0 to 25. Behind it stand the reports, a byte each (r `Ran`, c `Called`, f
+//!   `Faulted`, i `Idle`, s `Stopped`, o `Off`, n `NoSuch`, t `Ticked`, O `TimeOver`, a `Accepted`, R `Raised`), and
 //!   what the board shows;
 //! - `m ADDRESS` tells the word at an address of eight hexadecimal digits;
 //! - `f LINE` boots a board with the configuration so far and this line, and tells the fault;
@@ -207,7 +207,8 @@ fn begun(alloc: Global) -> Scene {
     }
 }
 
-/// Does events on the board of a scene, which is booted first if it isn't yet. Tells the reports and what the board shows.
+/// Does events on the board of a scene, which is booted first if it isn't yet. Tells the reports and what the board
+/// shows.
 fn played(alloc: Global, scene: &mut Scene, events: &str) -> Result<String, AllocError> {
     if scene.board.is_none() {
         match board_of(alloc, scene.source.as_str(), scene.config.as_str())? {

@@ -171,7 +171,8 @@ joined_ends [] address more below = (omega arith, tt)
 joined_ends (s ∷ []) address more below = joined_ends_one s address more below.0
 joined_ends (s ∷ t ∷ ss) address more below = (omega (arith, below.0), joined_ends (t ∷ ss) address more below.1)
 
--- With bytes at an address that memory has from there on, and nothing between, the stretches are those of memory up to their end.
+-- With bytes at an address that memory has from there on, and nothing between, the stretches are those of memory up to
+-- their end.
 pub covers_more : (memory : ℕ → Option ℕ) (high address : ℕ) (ss : List Segment) (more : List ℕ) → Covers memory high ss → high ≤ address → 0 < length more
     → ((a : ℕ) → high ≤ a → a < address → memory a ≡ None) → ((i : ℕ) → i < length more → memory (address + i) ≡ slice_get more i)
     → Covers memory (address + length more) (joined ss address more)

@@ -30,7 +30,8 @@ use std::alloc::Global;
 pub fn assemble(alloc: Global, text: &[u8]) -> Result<Image, AsmFault>
     // What the text means, or its first fault.
     ensures meaning { Meets (λ image program. IsImage program image) result (program_of text.now) }
-    // Segments have bytes, ascend, don't overlap and lie in 0x80000000 to 0x80FFFFFF; names aren't empty, have no byte 0, and are distinct.
+    // Segments have bytes, ascend, don't overlap and lie in 0x80000000 to 0x80FFFFFF; names aren't empty, have no byte
+    // 0, and are distinct.
     ensures plain { IfOk result IsPlain }
     // Every line has an address: the location counter before it.
     ensures lines { IfOk result (λ _. HasLines text.now) }

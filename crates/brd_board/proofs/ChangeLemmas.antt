@@ -1,4 +1,5 @@
--- Where another task runs than before an event, there is no link after it. Only dispatch changes who runs, and it ends these links.
+-- Where another task runs than before an event, there is no link after it. Only dispatch changes who runs, and it ends
+-- these links.
 use Rattle.std.proofs.Common.{◌≡◌, ◌≤◌, ℕ, zero, suc, List, [], ◌∷◌, refl, sym, ap, ◌∙◌, arith}
 use Rattle.std.specs.Prelude.{Bool, true, false, not, ◌==◌, nat_lt, if◌then◌else◌, filter, Option, None, Some, is_some, unwrap_or, Result, Ok, Err, slice_index_or, slice_set}
 use Rattle.std.specs.List.{list_any}

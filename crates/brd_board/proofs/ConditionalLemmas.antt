@@ -224,7 +224,8 @@ sc-ran cpu s memory links rt register offset next done =
     (sc-ended cpu s memory links rt address (is_linked links cpu address) (stored32 memory address (read s rt)) refl
     (sym (ap (λ (r : Ran). is_done r.outcome) is) ∙ ap is_done done))
 
--- Nothing can be fetched in the context that a table doesn't have, so a context that does an instruction is one of the table.
+-- Nothing can be fetched in the context that a table doesn't have, so a context that does an instruction is one of the
+-- table.
 
 nothing-fetched : (memory : Memory) → is_ok (next_instruction no_context memory) ≡ false
 unfolding next_instruction no_context

@@ -1,5 +1,5 @@
--- The laws of LL and SC say something: of a board of two processors, on which processor 1 does an LL and an SC. The SC stores; and it doesn't where
--- processor 2 has stored into the block between the two.
+-- The laws of LL and SC say something: of a board of two processors, on which processor 1 does an LL and an SC. The SC
+-- stores; and it doesn't where processor 2 has stored into the block between the two.
 use Rattle.std.proofs.Common.{◌≡◌, ℕ, ◌+◌, List, [], ◌∷◌, refl, sym, ◌∙◌}
 use Rattle.std.specs.Prelude.{true, false, None, Some, Ok, replicate}
 use Rattle.std.proofs.lemmas.Bool.{false≢true}

@@ -44,7 +44,8 @@ found p id number caller a [] each = tt
 found p id number caller a (s ∷ services) each =
     found-by (s.number == number) p id number caller a s services each.0 (found p id number caller a services each.1)
 
--- The rows, in the order of the table: `no`, it may not come from there; `any`, nothing is asked of it; `polls`, it doesn't wait.
+-- The rows, in the order of the table: `no`, it may not come from there; `any`, nothing is asked of it; `polls`, it
+-- doesn't wait.
 
 infixr 10 ◌&◌
 ◌&◌ : {A B : Type 0} → A → B → A × B

@@ -1,4 +1,5 @@
--- Each processor runs the first of its ready tasks: every event either dispatches, or changes neither who runs nor who is ready.
+-- Each processor runs the first of its ready tasks: every event either dispatches, or changes neither who runs nor who
+-- is ready.
 use Rattle.std.proofs.Common.{◌≡◌, ℕ, List, [], ◌∷◌, refl, sym, ap, subst, ◌∙◌}
 use Rattle.std.proofs.lemmas.Bool.{false≢true}
 use Rattle.std.specs.Prelude.{Bool, true, false, Option, None, Some, Result, Ok, Err, unwrap_or, is_some, nat_lt, if◌then◌else◌, slice_index_or}

@@ -34,8 +34,8 @@ pub record Happened : Type 0 where
 abbrev pub reported : BoardState → Report → Happened
 reported b told = record { board = b; report = told }
 
--- Dispatch: each processor that isn't held runs the first of its ready tasks, and the link of each processor whose running task has become
--- another ends. It comes after all that may change who is ready.
+-- Dispatch: each processor that isn't held runs the first of its ready tasks, and the link of each processor whose
+-- running task has become another ends. It comes after all that may change who is ready.
 abbrev pub dispatched_board : BoardState → BoardState
 dispatched_board b = record b {
   kernel = dispatched b.kernel;

@@ -35,8 +35,8 @@ memory_of size segments = record { bytes = map (λ at. unwrap_or (byte_in segmen
 unfoldable pub loaded : ℕ → List Segment → Result Memory BootFault
 loaded size segments = if are_inside size segments then Ok (memory_of size segments) else Err Outside
 
--- the kernel at count 0: its objects and the handlers of its lines are as configured, its tasks with TA_ACT have been started, and each processor
--- runs its first ready task
+-- the kernel at count 0: its objects and the handlers of its lines are as configured, its tasks with TA_ACT have been
+-- started, and each processor runs its first ready task
 abbrev pub booted_kernel : List TaskSetup → List LineSetup → Configuration → KernelState
 booted_kernel setups lines config =
     let made = made_kernel config.processors setups lines config.semaphores config.flags config.queues in
@@ -46,8 +46,8 @@ booted_kernel setups lines config =
 abbrev pub booted_board : KernelState → Memory → BoardState
 booted_board kernel memory = record { kernel = kernel; memory = memory; links = []; faults = replicate 9 None }
 
--- The board that an image and a configuration make, or the first fault: of the segments, of the tasks, of the handlers. Tasks start where the
--- configuration says, whatever entry the image names.
+-- The board that an image and a configuration make, or the first fault: of the segments, of the tasks, of the handlers.
+-- Tasks start where the configuration says, whatever entry the image names.
 unfoldable pub boot : Image → Configuration → Result BoardState BootFault
 boot image config = do
   memory ← loaded config.ram image.segments

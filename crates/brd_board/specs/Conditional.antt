@@ -22,8 +22,8 @@ pub record DoesConditional (b : BoardState) (cpu rt address : ℕ) : Type 0 wher
   pub names : address ≡ address_of context register offset
   pub done : (happens b (Step cpu)).report ≡ report.Ran context.pc
 
--- What an SC leaves, by whether it stores: rt's word stored and 1 in rt, or nothing stored and 0 in rt; register 0 stays 0. It is remembered as
--- what it did.
+-- What an SC leaves, by whether it stores: rt's word stored and 1 in rt, or nothing stored and 0 in rt; register 0
+-- stays 0. It is remembered as what it did.
 pub record Leaves (b : BoardState) (cpu rt address : ℕ) (context : State) (stores : Bool) : Type 0 where
   pub memory_is :
       MatchBool stores (stored32 b.memory address (read context rt) ≡ Ok (happens b (Step cpu)).board.memory)
@@ -38,8 +38,8 @@ ConditionalLaw board events =
     (HasReserved cpu address (history board events) → Leaves (after board events) cpu rt address sc.context true)
     × ((HasReserved cpu address (history board events) → ⊥) → Leaves (after board events) cpu rt address sc.context false)
 
--- Where a processor has a reservation of a word, and has itself stored nothing into the block since, the word is the one that its LL loaded. An SC
--- that comes next meets this word.
+-- Where a processor has a reservation of a word, and has itself stored nothing into the block since, the word is the
+-- one that its LL loaded. An SC that comes next meets this word.
 abbrev pub WordLaw : BoardState → List Event → Type 0
 WordLaw board events =
     (cpu address word : ℕ) (reserved : IsReserved cpu address word (history board events)) →

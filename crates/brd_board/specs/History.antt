@@ -32,8 +32,8 @@ ends_of (cpu ∷ cpus) = (record { processor = cpu; did = Ended }) ∷ ends_of c
 abbrev pub moves_dispatched : BoardState → List Move
 moves_dispatched b = ends_of (changed_processors b.kernel (dispatched b.kernel))
 
--- An instruction, by how it ended; the board is the one after it. A SYSCALL is served, which is an end. An instruction that raised an exception
--- did what it did before that: an SC that raises is still an SC.
+-- An instruction, by how it ended; the board is the one after it. A SYSCALL is served, which is an end. An instruction
+-- that raised an exception did what it did before that: an SC that raises is still an SC.
 abbrev pub moves_done : BoardState → ℕ → Did → Outcome → List Move
 moves_done b cpu what Done = (record { processor = cpu; did = what }) ∷ []
 moves_done b cpu what Syscall = (record { processor = cpu; did = Ended }) ∷ moves_dispatched (with_call b cpu)

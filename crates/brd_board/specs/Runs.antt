@@ -14,8 +14,8 @@ use Rattle.brd_board.specs.Board.{BoardState, standing_of, registers_of, fault_o
 abbrev pub without_context : TaskView → TaskView
 without_context view = record view { context = no_context }
 
--- An instruction at an address, of whoever executes on a processor. `new` is the board after it. Beside memory and links it may have changed
--- only the context in which it was executed.
+-- An instruction at an address, of whoever executes on a processor. `new` is the board after it. Beside memory and
+-- links it may have changed only the context in which it was executed.
 pub record ChangesOnlyItsOwn (b : BoardState) (event : Event) (address : ℕ) (new : BoardState) : Type 0 where
   pub cpu : ℕ
   pub context : State

@@ -1,6 +1,7 @@
--- What a configuration makes of an image: where each task starts and where its stack lies, which tasks are started, and where the handler of
--- each interrupt line starts. Where the configuration names a symbol of the image, its value is meant. The first fault in the order of the statements is
--- answered; of one statement first all its symbols are looked up, then its addresses are tested.
+-- What a configuration makes of an image: where each task starts and where its stack lies, which tasks are started, and
+-- where the handler of each interrupt line starts. Where the configuration names a symbol of the image, its value is
+-- meant. The first fault in the order of the statements is answered; of one statement first all its symbols are looked
+-- up, then its addresses are tested.
 use Rattle.std.specs.Prelude.{ℕ, ◌+◌, ◌-◌, ◌%◌, ◌==◌, Bool, true, false, ◌&&◌, if◌then◌else◌, List, [], ◌∷◌, Result, Ok, Err}
 use Rattle.std.specs.Int.RustNames.{bit_and}
 use Rattle.brd_base.specs.Space.{base}
@@ -42,9 +43,10 @@ rounded_up n = n + 15 - (n + 15) % 16
 abbrev pub rounded_down : ℕ → ℕ
 rounded_down n = n - n % 8
 
--- A stack that the configuration leaves open has its bytes, rounded up, just below `free`; the stack pointer is `free`, and the next such stack
--- ends where this one begins. Where it has more bytes than there are addresses below `free`, it begins at 0, which is outside of RAM. A stack
--- that the configuration places begins there, the stack pointer is its end, rounded down, and `free` stays.
+-- A stack that the configuration leaves open has its bytes, rounded up, just below `free`; the stack pointer is `free`,
+-- and the next such stack ends where this one begins. Where it has more bytes than there are addresses below `free`, it
+-- begins at 0, which is outside of RAM. A stack that the configuration places begins there, the stack pointer is its
+-- end, rounded down, and `free` stays.
 abbrev pub region_by : List Symbol → ℕ → ℕ → Stack → Result Region BootFault
 region_by symbols free stack_size Automatic =
     Ok (record { low = free - rounded_up stack_size; len = rounded_up stack_size; sp = free; free = free - rounded_up stack_size })

@@ -66,8 +66,9 @@ impl Model for Board {
 }
 
 impl Board {
-    /// The board that an image and a configuration make. Its tasks with TA_ACT have been started, and no interrupt is pending. A fault is
-    /// the first one: of the segments, of the tasks in the order of their statements, of the handlers in theirs.
+    /// The board that an image and a configuration make. Its tasks with TA_ACT have been started, and no interrupt is
+    /// pending. A fault is the first one: of the segments, of the tasks in the order of their statements, of the
+    /// handlers in theirs.
     #[tactic(auto, unfolding(crate::specs::Boot::boot))]
     pub fn boot(alloc: Global, image: &Image, config: &Config) -> Result<Board, BootFault>
         requires { IsLoadable image.now }
@@ -86,8 +87,8 @@ impl Board {
         })
     }
 
-    /// The board of these words: they lie from 0x80000000 on in 64 KiB of RAM, and task 1 is about to run at the first of them,
-    /// with its stack at the end of RAM. More than 16,384 words are `Outside`.
+    /// The board of these words: they lie from 0x80000000 on in 64 KiB of RAM, and task 1 is about to run at the first
+    /// of them, with its stack at the end of RAM. More than 16,384 words are `Outside`.
     pub fn from_words(alloc: Global, words: &[u32]) -> Result<Board, BootFault>
         ensures image { Boots (boot (image_of_words words.now) words_config) result }
         ensures words { Boots (boot_words words.now) result }
@@ -149,7 +150,8 @@ impl Board {
         })
     }
 
-    /// Does one event. It takes no memory. Each loop over events has its own copy, which keeps what it needs in registers.
+    /// Does one event. It takes no memory. Each loop over events has its own copy, which keeps what it needs in
+    /// registers.
     #[inline(always)]
     #[tactic(auto, unfolding(crate::specs::Board::happens))]
     pub fn event(&mut self, event: Event) -> Report
@@ -174,8 +176,8 @@ impl Board {
         }
     }
 
-    /// Does one event, as `event` does, but not in line: a program whose loops all use this and `repeat` has one copy of what a
-    /// step does, which the compiler then lays into its loop.
+    /// Does one event, as `event` does, but not in line: a program whose loops all use this and `repeat` has one copy
+    /// of what a step does, which the compiler then lays into its loop.
     pub fn event_apart(&mut self, event: Event) -> Report
         ensures { record { board = self.new; report = result } ≡ happens self.old event }
     {
@@ -261,7 +263,8 @@ impl Board {
         self.dispatch();
     }
 
-    /// An exception: it is kept as the processor's last one, and ends its task or stops the processor; then the board dispatches.
+    /// An exception: it is kept as the processor's last one, and ends its task or stops the processor; then the board
+    /// dispatches.
     #[inline(never)]
     fn end_by_fault(&mut self, cpu: u8, code: ExceptionCode, epc: u32, bd: bool)
         requires { IsProcessor cpu }
@@ -308,7 +311,8 @@ impl Board {
         self.kernel.standing(cpu)
     }
 
-    /// The context in which a processor executes: its handler's, else its running task's; None where it is idle or stopped, or isn't there.
+    /// The context in which a processor executes: its handler's, else its running task's; None where it is idle or
+    /// stopped, or isn't there.
     pub fn registers(&self, cpu: u8) -> Option<Context>
         ensures { result ≡ registers_of self.now cpu }
     {
@@ -397,8 +401,8 @@ fn words_config(alloc: Global) -> Result<Config, NoMemory>
     })
 }
 
-/// A kernel with these handlers and with the objects of a configuration, whose tasks with TA_ACT have been started, and run where they come
-/// first.
+/// A kernel with these handlers and with the objects of a configuration, whose tasks with TA_ACT have been started, and
+/// run where they come first.
 fn started(
     alloc: Global,
     setups: &[TaskSetup],

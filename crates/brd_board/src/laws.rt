@@ -18,20 +18,22 @@ ghost use Rattle.brd_board.specs.Boot.{boot};
 ghost use Rattle.brd_board.specs.Runs.{ChangesOnlyItsOwn};
 ghost use Rattle.brd_board.specs.Conditional.{ConditionalLaw, WordLaw};
 
-/// After every list of events from a boot each processor that isn't held runs the first of its ready tasks, or none where none is
-/// ready. No event ends this.
+/// After every list of events from a boot each processor that isn't held runs the first of its ready tasks, or none
+/// where none is ready. No event ends this.
 pub fn each_processor_runs_its_first()
     ensures boot { (image : ImageOf) (config : Configuration) (board : BoardState) (events : List EventOf) → boot image config ≡ Ok board → IsSettled (after board events).kernel }
     ensures event { (board : BoardState) (event : EventOf) → IsSettled board.kernel → IsSettled (happens board event).board.kernel }
 {}
 
-/// A processor on which another task runs after an event than before it, or none, or one where none ran, has no link after it.
+/// A processor on which another task runs after an event than before it, or none, or one where none ran, has no link
+/// after it.
 pub fn a_change_of_task_ends_the_link()
     ensures { (board : BoardState) (event : EventOf) (cpu : ℕ) → 1 ≤ cpu → cpu ≤ 8 → has_changed board.kernel (happens board event).board.kernel cpu ≡ true → linked_address (happens board event).board.links cpu ≡ None }
 {}
 
-/// After every list of events from a boot each task that waits for an object stands once, with its priority, in the list of that object, and in
-/// no other list; only who waits has a tick at which its wait ends, and a delay has one. No event ends this.
+/// After every list of events from a boot each task that waits for an object stands once, with its priority, in the
+/// list of that object, and in no other list; only who waits has a tick at which its wait ends, and a delay has one. No
+/// event ends this.
 pub fn who_waits_stands_in_its_list()
     ensures boot { (image : ImageOf) (config : Configuration) (board : BoardState) (events : List EventOf) → boot image config ≡ Ok board → WaitsAreKept (after board events).kernel }
     ensures event { (board : BoardState) (event : EventOf) → WaitsAreKept board.kernel → WaitsAreKept (happens board event).board.kernel }
@@ -39,18 +41,18 @@ pub fn who_waits_stands_in_its_list()
 
 /// When an SC stores, and what its word was. This is for who writes locks.
 ///
-/// A processor has a reservation of a word from an LL of it on, until there is one of these: another LL of that processor, of whatever
-/// address, that raises no exception; an SC of it, also one that raises an exception; a store of another processor into the aligned block
-/// of 16 bytes that holds the word, by SB, SH, SW, SWL, SWR or an SC that stores; a SYSCALL that is served on that processor, an interrupt
-/// that it accepts, or another running task there. Nothing else ends it: no load, no LL of another processor, and no store of the
-/// processor itself other than an SC.
+/// A processor has a reservation of a word from an LL of it on, until there is one of these: another LL of that
+/// processor, of whatever address, that raises no exception; an SC of it, also one that raises an exception; a store of
+/// another processor into the aligned block of 16 bytes that holds the word, by SB, SH, SW, SWL, SWR or an SC that
+/// stores; a SYSCALL that is served on that processor, an interrupt that it accepts, or another running task there.
+/// Nothing else ends it: no load, no LL of another processor, and no store of the processor itself other than an SC.
 pub fn conditional_stores()
-    // An SC that raises no exception stores rt, and writes 1 to rt, exactly where its processor has a reservation of the word. Else it stores
-    // nothing, and writes 0 to rt. Register 0 stays 0.
+    // An SC that raises no exception stores rt, and writes 1 to rt, exactly where its processor has a reservation of
+    // the word. Else it stores nothing, and writes 0 to rt. Register 0 stays 0.
     ensures exact { (image : ImageOf) (config : Configuration) (board : BoardState) (events : List EventOf) →
         boot image config ≡ Ok board → ConditionalLaw board events }
-    // Where a processor has a reservation, and has itself stored nothing into the block since the LL, the word is the one that the LL loaded.
-    // So that is the word that an SC which stores meets.
+    // Where a processor has a reservation, and has itself stored nothing into the block since the LL, the word is the
+    // one that the LL loaded. So that is the word that an SC which stores meets.
     ensures word { (image : ImageOf) (config : Configuration) (board : BoardState) (events : List EventOf) →
         boot image config ≡ Ok board → WordLaw board events }
 {}

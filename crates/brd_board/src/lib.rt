@@ -1,6 +1,7 @@
 //! The board: RAM, processors, tasks and the kernel, and what events do to them.
 //!
-//! `specs/Board.antt` says what one event does and what a list of events does; `Board::event` and `Board::play` do exactly that.
+//! `specs/Board.antt` says what one event does and what a list of events does; `Board::event` and `Board::play` do
+//! exactly that.
 #![tactic(auto)]
 
 mod board;

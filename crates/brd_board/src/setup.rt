@@ -1,4 +1,5 @@
-//! What a configuration makes of an image: its tasks with their stacks, which of them are started, and where handlers start.
+//! What a configuration makes of an image: its tasks with their stacks, which of them are started, and where handlers
+//! start.
 
 ghost use Rattle.std.specs.Prelude.{◌≡◌, ◌≤◌, ◌<◌, ◌+◌, All, IfOk};
 ghost use Rattle.brd_mem.specs.Image.{symbol_value};
@@ -78,7 +79,8 @@ fn rounded_up(size: u32) -> usize
     high - high % 16
 }
 
-/// The stack of a task, where the next stack that the configuration leaves open ends at `free`. Its stack pointer isn't above its end.
+/// The stack of a task, where the next stack that the configuration leaves open ends at `free`. Its stack pointer isn't
+/// above its end.
 #[tactic(auto, unfolding(crate::specs::Setup::region_of))]
 fn region_of(symbols: &[Symbol], free: u32, task: &TaskConfig) -> Result<Region, BootFault>
     ensures is { result ≡ setup.region_of symbols.now free task.now }

@@ -30,7 +30,8 @@ front_is_last b (c ∷ bs) = rw (front_is_last c bs) refl
 other_byte : (b : ℕ) (bs : List ℕ) → b ≢ 10 → command_lines (b ∷ bs) ≡ in_front b (command_lines bs)
 other_byte b bs other = rw (ne_eqb b 10 other) refl
 
--- Of a text these bytes were taken for a line, and this is left; so many bytes were taken before them, and so many are now.
+-- Of a text these bytes were taken for a line, and this is left; so many bytes were taken before them, and so many are
+-- now.
 abbrev pub IsTaken : List ℕ → List ℕ → Option (List ℕ) → ℕ → ℕ → Type 0
 IsTaken text line left before now =
     (rest : List ℕ) × (left ≡ Some rest) × (command_lines text ≡ with_front line (command_lines rest)) × (now + length rest ≡ before + length text)

@@ -71,7 +71,8 @@ abbrev pub DoesOrQuits : DebuggerState → DebugCommand → Option (List ℕ) �
 DoesOrQuits d command None next = (command ≡ Quit) × (next ≡ d)
 DoesOrQuits d command (Some answer) next = Does d command answer next
 
--- A debugger has done the first of some commands, one after the other: what it has answered, what it is then, and which commands are left.
+-- A debugger has done the first of some commands, one after the other: what it has answered, what it is then, and which
+-- commands are left.
 pub data HasDone (first : DebuggerState) (commands : List DebugCommand) : List ℕ → DebuggerState → List DebugCommand → Type 0 where
   nothing_yet : HasDone first commands [] first commands
   one_more : (bytes answer : List ℕ) (d next : DebuggerState) (command : DebugCommand) (left : List DebugCommand) →

@@ -39,8 +39,8 @@ faulty_line (asm_fault.Range line) = line
 faulty_line (asm_fault.Misaligned line) = line
 faulty_line (asm_fault.Overlap line) = line
 
--- what may keep a source from having an object file: its first fault, with the front of the faulty line and the other kind
--- of which the source looks, or an image that is too large
+-- what may keep a source from having an object file: its first fault, with the front of the faulty line and the other
+-- kind of which the source looks, or an image that is too large
 abbrev pub KeepsFromAssembling : List ℕ → CommandFault → Type 0
 KeepsFromAssembling source NoMemory = Unit {0}
 KeepsFromAssembling source (Source fault excerpt kind) =

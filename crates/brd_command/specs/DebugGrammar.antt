@@ -17,7 +17,8 @@ pub record HasAddress (front : List ℕ) (line : List ℕ) (address : ℕ) : Typ
   pub text : line ≡ front ++ digits
   pub are_of : hex_word_of digits ≡ Some address
 
--- A line says a command: a word, or a word, one space and an argument, and nothing before or behind them. No line says the unknown.
+-- A line says a command: a word, or a word, one space and an argument, and nothing before or behind them. No line says
+-- the unknown.
 abbrev pub Says : List ℕ → DebugCommand → Type 0
 Says line (Goto position) = HasNumber (codes "goto ") line position (2 ^ 64)
 Says line Next = line ≡ codes "next"

@@ -7,8 +7,8 @@ use Rattle.brd_text.specs.Numbers.{plain_decimal_of}
 use Rattle.brd_command.specs.declared.debug_line.DebugCommand.{DebugCommand}
 use Rattle.brd_command.specs.declared.debug_line.DebugCommand.TheVariants.{Goto, Next, Back, Break, Watch, Registers, Memory, Quit, Unknown}
 
--- The lines of an input. A newline ends a line, and the last one may lack it; newlines belong to no line. So an input that ends with a
--- newline has no empty line behind it.
+-- The lines of an input. A newline ends a line, and the last one may lack it; newlines belong to no line. So an input
+-- that ends with a newline has no empty line behind it.
 abbrev pub command_lines : List ℕ → List (List ℕ)
 command_lines [] = []
 command_lines (b ∷ bs) = if b == 10 then [] ∷ command_lines bs else in_front b (command_lines bs)
@@ -17,8 +17,8 @@ command_lines (b ∷ bs) = if b == 10 then [] ∷ command_lines bs else in_front
 abbrev pub if_begins : List ℕ → (List ℕ → Option DebugCommand) → List ℕ → Option DebugCommand → Option DebugCommand
 if_begins front say line other = if bytes_eq (take (length front) line) front then say (drop (length front) line) else other
 
--- `goto` and a position below 2 to the 64th, `regs` and a number below 256, both decimal without leading zeros; `break`, `watch` and `mem`
--- and an address of eight hexadecimal digits of either case
+-- `goto` and a position below 2 to the 64th, `regs` and a number below 256, both decimal without leading zeros;
+-- `break`, `watch` and `mem` and an address of eight hexadecimal digits of either case
 abbrev pub with_argument : List ℕ → Option DebugCommand
 with_argument line =
     if_begins (codes "goto ") (λ digits. option_map Goto (plain_decimal_of digits (2 ^ 64 - 1))) line

@@ -39,14 +39,14 @@ pub record AnswersCutShort (d : DebuggerState) (commands : List DebugCommand) (b
   pub whole : front ++ rest ≡ answer
   pub cut : bytes ≡ before ++ front
 
--- Nothing is left to do, where these commands and this text are left: the input has ended; or the next command is `quit`, and what stands
--- behind it isn't read.
+-- Nothing is left to do, where these commands and this text are left: the input has ended; or the next command is
+-- `quit`, and what stands behind it isn't read.
 abbrev pub IsOver : List DebugCommand → List ℕ → Type 0
 IsOver [] rest = rest ≡ []
 IsOver (command ∷ left) rest = (command ≡ Quit) × (left ≡ commands_of rest)
 
--- What a debugger answers to the commands of a text, up to `quit` or the last. Of the input that had the text so much is left; it has given
--- no more bytes than an input may have.
+-- What a debugger answers to the commands of a text, up to `quit` or the last. Of the input that had the text so much
+-- is left; it has given no more bytes than an input may have.
 pub record AnswersToAll (d : DebuggerState) (text : List ℕ) (unread : Option (List ℕ)) (bytes : List ℕ) : Type 0 where
   pub last : DebuggerState
   pub left : List DebugCommand
@@ -56,8 +56,8 @@ pub record AnswersToAll (d : DebuggerState) (text : List ℕ) (unread : Option (
   pub over : IsOver left rest
   pub within : length text ≤ most_bytes + length rest
 
--- Why a debugger ends before it has answered to all commands of a text. The answers to those before were written; where writing failed, a
--- front of the answer to the next one too.
+-- Why a debugger ends before it has answered to all commands of a text. The answers to those before were written; where
+-- writing failed, a front of the answer to the next one too.
 abbrev pub StopsAnswering : CommandFault → DebuggerState → List ℕ → Option (List ℕ) → Option (List ℕ) → Type 0
 StopsAnswering NoMemory d text old new = Writes (AnswersToFirst d (commands_of text)) old new
 StopsAnswering (Read from error) d text old new = (from ≡ StandardInput) × Writes (AnswersToFirst d (commands_of text)) old new
@@ -80,7 +80,8 @@ pub record Debugs (image config journal : List ℕ) (unread_first unread : Optio
   pub is_start : IsStart image config journal start
   pub ends : IfSome unread_first (λ text. EndsAnswering result (debugger_of start) text unread old new)
 
--- Because of the three inputs, or for want of memory, there is no debugger. Standard input wasn't read, and nothing was written.
+-- Because of the three inputs, or for want of memory, there is no debugger. Standard input wasn't read, and nothing was
+-- written.
 pub record GivesNoDebugger {C : Type 0} (image config journal : List ℕ) (input_first input : C) (result : Result Unit CommandFault)
     (old new : Option (List ℕ)) : Type 0 where
   pub fault : CommandFault

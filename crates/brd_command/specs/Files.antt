@@ -1,6 +1,6 @@
--- What the files of a command give it, and how `asm`, `run` and `debug` end on them. `opened` and `created` say what a call on files did:
--- the files before, a name, what the call gave, and the files after. `remaining` says what a file has left to read; `before` and `behind`
--- are what standard output held before and behind the command.
+-- What the files of a command give it, and how `asm`, `run` and `debug` end on them. `opened` and `created` say what a
+-- call on files did: the files before, a name, what the call gave, and the files after. `remaining` says what a file
+-- has left to read; `before` and `behind` are what standard output held before and behind the command.
 use Rattle.std.specs.Prelude.{◌≡◌, ℕ, List, Option, IfSome, Result, Ok, Err, IsErrAnd}
 use Rattle.std.specs.declared.io.Error.{Error}
 use Rattle.brd_command.specs.AsmCommand.{AsmEnds}
@@ -26,7 +26,8 @@ pub data AsmFilesEnd {F R W : Type 0}
       IfSome (remaining reader) (λ text. AsmEnds result text (contents writer) (contents last)) →
       AsmFilesEnd opened created remaining contents old source out result new
 
--- IMAGE is opened first, then CONFIG, then JOURNAL, up to the first that can't be. Its fault has that file's name, unless memory ran out.
+-- IMAGE is opened first, then CONFIG, then JOURNAL, up to the first that can't be. Its fault has that file's name,
+-- unless memory ran out.
 pub data OpensInputs {F R : Type 0} (opened : F → List ℕ → Result R Error → F → Type 0)
     (old : F) (image config journal : List ℕ) (result : Result (Inputs R) CommandFault) (new : F) : Type 0 where
   no_image : {error : Error} → opened old image (Err error) new → IsErrAnd result (IsOfOpen image error) →
@@ -54,8 +55,8 @@ pub data RunFilesEnd {F R : Type 0}
       RunEnds result file statements events before behind))) →
       RunFilesEnd opened remaining old image config journal before behind result new
 
--- Standard input, which had `input_first` in it and has `input` left, is read, and answers are written, only where all three files were
--- opened; else neither was.
+-- Standard input, which had `input_first` in it and has `input` left, is read, and answers are written, only where all
+-- three files were opened; else neither was.
 pub data DebugFilesEnd {F R C : Type 0}
     (opened : F → List ℕ → Result R Error → F → Type 0) (remaining : R → Option (List ℕ)) (unread : C → Option (List ℕ))
     (old : F) (image config journal : List ℕ) (input_first input : C) (before behind : Option (List ℕ))

@@ -33,8 +33,8 @@ abbrev pub CountsLine : Taken → Option (List ℕ) → Taken → Type 0
 CountsLine old None new = (new.bytes ≤ most_bytes) × (new.ended ≡ true)
 CountsLine old (Some line) new = (old.bytes < new.bytes) × (new.bytes ≤ most_bytes)
 
--- What may keep standard input, of which so many bytes were taken and these are left, from being read on. One that is called too long has
--- more bytes than an input may have.
+-- What may keep standard input, of which so many bytes were taken and these are left, from being read on. One that is
+-- called too long has more bytes than an input may have.
 abbrev pub KeepsFromTaking : Taken → List ℕ → CommandFault → Type 0
 KeepsFromTaking taken left NoMemory = Unit {0}
 KeepsFromTaking taken left (Read from error) = from ≡ StandardInput

@@ -9,8 +9,8 @@ use Rattle.brd_command.specs.declared.fault.CommandFault.{CommandFault}
 use Rattle.brd_command.specs.declared.fault.CommandFault.TheVariants.{NoMemory, Argument, Words, Source, ImageTooLarge, Open, Read, TooLong, TooManyReads, Build, Journal, Write}
 use Rattle.brd_command.specs.declared.start.Start.{Start}
 
--- The bytes that show what comes of an object file, a configuration and a journal: the report of the board that the first two make, after
--- the journal's events.
+-- The bytes that show what comes of an object file, a configuration and a journal: the report of the board that the
+-- first two make, after the journal's events.
 pub record ShowsRun (image config text bytes : List ℕ) : Type 0 where
   pub start : Start
   pub within : AreWithin image config text

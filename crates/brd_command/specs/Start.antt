@@ -23,8 +23,9 @@ pub record IsStart (image config text : List ℕ) (start : Start) : Type 0 where
 abbrev pub AreWithin : List ℕ → List ℕ → List ℕ → Type 0
 AreWithin image config journal = (length image ≤ most_bytes) × (length config ≤ most_bytes) × (length journal ≤ most_bytes)
 
--- Why an object file, a configuration and a journal that were read give no start: the first fault of the object file and the
--- configuration; or these make a board, and it is the first of the journal. With it stands the other kind of which the faulty one looks.
+-- Why an object file, a configuration and a journal that were read give no start: the first fault of the object file
+-- and the configuration; or these make a board, and it is the first of the journal. With it stands the other kind of
+-- which the faulty one looks.
 abbrev pub KeepsFromMaking : List ℕ → List ℕ → List ℕ → CommandFault → Type 0
 KeepsFromMaking image config journal NoMemory = Unit {0}
 KeepsFromMaking image config journal (Build fault kind) = (loaded image config ≡ Err fault) × (fault ≢ build_fault.NoMemory) × (kind ≡ build_looks_like image config fault)
@@ -49,7 +50,8 @@ IsTooLong image config journal input_name.Image = most_bytes < length image
 IsTooLong image config journal input_name.Configuration = (length image ≤ most_bytes) × (most_bytes < length config)
 IsTooLong image config journal input_name.Journal = (length image ≤ most_bytes) × (length config ≤ most_bytes) × (most_bytes < length journal)
 
--- Why three inputs give no start: the first of them that can't be read whole; or all were read, and what they say gives none.
+-- Why three inputs give no start: the first of them that can't be read whole; or all were read, and what they say gives
+-- none.
 abbrev pub KeepsFromStarting : List ℕ → List ℕ → List ℕ → CommandFault → Type 0
 KeepsFromStarting image config journal NoMemory = Unit {0}
 KeepsFromStarting image config journal Argument = ⊥

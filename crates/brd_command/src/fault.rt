@@ -106,8 +106,8 @@ impl CommandFault {
         }
     }
 
-    /// The fault of a text that is no journal: want of memory, or the fault itself, and the other kind of which the text
-    /// looks.
+    /// The fault of a text that is no journal: want of memory, or the fault itself, and the other kind of which the
+    /// text looks.
     pub fn of_journal(fault: JournalFault, text: &[u8]) -> Self
         ensures { result ≡ of_journal text.now fault }
     {

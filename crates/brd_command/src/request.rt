@@ -29,8 +29,8 @@ pub enum Request<'a> {
         config: &'a str,
         journal: &'a str,
     },
-    /// The debugger of the board of an object file and a configuration, and of a journal: the answers to the commands on
-    /// standard input, on standard output.
+    /// The debugger of the board of an object file and a configuration, and of a journal: the answers to the commands
+    /// on standard input, on standard output.
     Debug {
         image: &'a str,
         config: &'a str,

@@ -1,4 +1,5 @@
--- A debugger: a boot, the events of a journal, how many of them have happened to the board that it shows, and where it stops.
+-- A debugger: a boot, the events of a journal, how many of them have happened to the board that it shows, and where it
+-- stops.
 use Rattle.std.specs.Prelude.{◌≡◌, ◌⊎◌, ℕ, ◌<◌, ◌≤◌, List, length, Option, Some, None, Result, Ok, Err}
 use Rattle.brd_board.specs.declared.event.Event.{Event}
 use Rattle.brd_board.specs.Board.{BoardState}

@@ -52,9 +52,9 @@ first_interval = 4096
 abbrev pub most_kept : ℕ
 most_kept = 1024
 
--- A snapshot is taken at a multiple of the interval behind all others. Where there would be more than 1,024, the interval doubles instead,
--- and those that are no multiples of it any more are given up (own choice). Kept are then the first 1,024 multiples, so the one that there
--- is no room for is the next one, and no multiple of the doubled interval.
+-- A snapshot is taken at a multiple of the interval behind all others. Where there would be more than 1,024, the
+-- interval doubles instead, and those that are no multiples of it any more are given up (own choice). Kept are then the
+-- first 1,024 multiples, so the one that there is no room for is the next one, and no multiple of the doubled interval.
 abbrev pub noted : Plan → ℕ → Plan
 noted plan at =
     if nat_lt (last_of plan.positions) at && (at % plan.interval == 0)

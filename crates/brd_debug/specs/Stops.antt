@@ -7,7 +7,8 @@ use Rattle.brd_board.specs.declared.event.Report.TheVariants as report
 use Rattle.brd_board.specs.Board.{BoardState, happens, after}
 use Rattle.brd_debug.specs.declared.stops.Stops.{Stops}
 
--- An event's report names a break: the instruction there was executed, was a SYSCALL, or raised an exception, also by its fetch.
+-- An event's report names a break: the instruction there was executed, was a SYSCALL, or raised an exception, also by
+-- its fetch.
 abbrev pub IsBreak : List ℕ → Report → Type 0
 IsBreak breaks (report.Ran address) = Contains breaks address
 IsBreak breaks (report.Called address) = Contains breaks address

@@ -70,8 +70,8 @@ impl Debugger {
         &self.shown.board
     }
 
-    /// Stops from now on where an instruction at this address is executed, unless 64 others are set. Answers whether that
-    /// is set now.
+    /// Stops from now on where an instruction at this address is executed, unless 64 others are set. Answers whether
+    /// that is set now.
     pub fn add_break(&mut self, address: u32) -> bool
         ensures is { self.new ≡ record self.old { stops = record self.old.stops { breaks = marked self.old.stops.breaks address } } }
         ensures set { result ≡ is_marked self.new.stops.breaks address }

@@ -78,7 +78,8 @@ impl Snapshots {
     }
 
     /// Takes a snapshot of a board that has played up to a multiple of the interval, behind all that are kept. Where
-    /// there would be more than 1,024, the interval doubles instead, and those that are no multiples of it are given up.
+    /// there would be more than 1,024, the interval doubles instead, and those that are no multiples of it are given
+    /// up.
     pub fn note(&mut self, boot: &Board, playback: &Playback) -> Result<(), NoMemory>
         requires sizes { size_of playback.now.board.memory ≡ size_of boot.now.memory }
         requires few { playback.now.at < 2 ^ 59 }

@@ -1,5 +1,5 @@
--- The code of each operation (MD00086, appendix A, "Instruction Bit Encodings"): one line a mnemonic. A form of operands
--- that has one mnemonic alone has its code in the table.
+-- The code of each operation (MD00086, appendix A, "Instruction Bit Encodings"): one line a mnemonic. A form of
+-- operands that has one mnemonic alone has its code in the table.
 use Rattle.std.specs.Prelude.{ℕ}
 use Rattle.brd_isa.specs.declared.instruction.{ShiftOp.ShiftOp, ShiftVariableOp.ShiftVariableOp}
 use Rattle.brd_isa.specs.declared.instruction.{RegisterOp.RegisterOp, MoveFromOp.MoveFromOp, MoveToOp.MoveToOp}

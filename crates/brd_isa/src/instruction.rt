@@ -258,8 +258,8 @@ pub enum LinkedOp {
     Sc,
 }
 
-/// An instruction of MIPS32 Release 1 (MD00086, chapter 3). Offsets of branches count words from the delay slot, those of
-/// loads and stores bytes; both are signed.
+/// An instruction of MIPS32 Release 1 (MD00086, chapter 3). Offsets of branches count words from the delay slot, those
+/// of loads and stores bytes; both are signed.
 #[derive(Clone, Copy)]
 pub enum Insn {
     /// `op rd, rt, sa`

@@ -18,8 +18,8 @@ pub fn stands_for_one_instruction()
     ensures { (word : ℕ) (insn other : Insn) → StandsFor word insn → StandsFor word other → insn ≡ other }
 {}
 
-/// Two words that stand for one instruction are the same word; where the instruction ignores the field sa, if they agree
-/// in it.
+/// Two words that stand for one instruction are the same word; where the instruction ignores the field sa, if they
+/// agree in it.
 pub fn has_one_word()
     ensures { (v w : ℕ) (insn : Insn) →
         StandsFor v insn → StandsFor w insn → (IgnoresSa insn → sa_of v ≡ sa_of w) → v ≡ w }

@@ -4,7 +4,8 @@ use Rattle.std.specs.Fmt.{decimal}
 use Rattle.std.proofs.lemmas.List.{append_assoc, append-nil, length-append, length-set, length-drop, take_all, drop-set}
 use Rattle.std.proofs.lemmas.Fmt.{decimal_step, decimal_digit, decimal_nonempty, length-decimal-le}
 
--- The digits from a place on are the last ones of a number; those of what is left stand before them, and there is room for these.
+-- The digits from a place on are the last ones of a number; those of what is left stand before them, and there is room
+-- for these.
 pub record Placed (number left start : ℕ) (digits : List ℕ) : Type 0 where
   pub len : length digits ≡ 10
   pub most : start ≤ 10

@@ -74,7 +74,8 @@ starts-added limit rs ys e n j starts is made these =
     ∙ sym (starts-grown 0 rs (run_of_count e (n - j)) j some)
     ∙ ap starts_of (sym same ∙ sym (within_gives limit rs ys e n made).0)
 
--- The runs before the last one of the old is grown, and where they begin: the new run, if there is one, begins behind all events.
+-- The runs before the last one of the old is grown, and where they begin: the new run, if there is one, begins behind
+-- all events.
 pub record Extended (limit : ℕ) (rs : List Run) (e : Event) (start rest : ℕ) (items : List Run) (starts : List ℕ) : Type 0 where
   pub pushed : Pushed limit rs e rest items
   pub begun : starts ≡ starts_of rs ++ starts_from start (run_of_count e rest)

@@ -1,4 +1,5 @@
--- What a text says: a journal, or its first fault. It speaks of the lines that the text spells (Text), not of how it is read.
+-- What a text says: a journal, or its first fault. It speaks of the lines that the text spells (Text), not of how it is
+-- read.
 use Rattle.std.specs.Prelude.{◌≡◌, ◌⊎◌, ℕ, ◌+◌, ◌<◌, ◌≤◌, List, [], ◌∷◌, ◌++◌, length}
 use Rattle.std.specs.List.{AllByRecursion}
 use Rattle.brd_journal.specs.declared.fault.JournalFault.{JournalFault}
@@ -8,7 +9,8 @@ use Rattle.brd_journal.specs.Runs.{events_of, runs_of}
 use Rattle.brd_journal.specs.Journal.{JournalState}
 use Rattle.brd_journal.specs.Text.{first_line, line_text, text_of_runs, CanBeSpelled, Spells}
 
--- A text says a journal of this limit: it spells runs, whose events are the journal's and don't need more runs than the limit.
+-- A text says a journal of this limit: it spells runs, whose events are the journal's and don't need more runs than the
+-- limit.
 pub record Says (limit : ℕ) (text : List ℕ) (journal : JournalState) : Type 0 where
   pub runs : List Run
   pub spelled : Spells text runs
@@ -19,8 +21,9 @@ pub record Says (limit : ℕ) (text : List ℕ) (journal : JournalState) : Type 
 abbrev pub HasNoRun : List ℕ → Type 0
 HasNoRun rest = (run : Run) (behind : List ℕ) → CanBeSpelled run → rest ≡ line_text run ++ 10 ∷ behind → ⊥
 
--- Why what stands behind these good lines is a fault: it isn't the text's end and begins with no line of a run, and then the fault has
--- the line's number, before which stand the first line and those of the runs; or it begins with a line for which the limit doesn't suffice.
+-- Why what stands behind these good lines is a fault: it isn't the text's end and begins with no line of a run, and
+-- then the fault has the line's number, before which stand the first line and those of the runs; or it begins with a
+-- line for which the limit doesn't suffice.
 abbrev pub IsWrong : ℕ → List Run → List ℕ → JournalFault → Type 0
 IsWrong limit front rest NoMemory = ⊥
 IsWrong limit front rest (Syntax line) = (line ≡ length front + 2) × (rest ≡ [] → ⊥) × HasNoRun rest

@@ -1,6 +1,6 @@
--- How a text is read: line by line from the front. The first line that has a fault decides, and a line is read before its run is
--- appended. Meaning says what a text says without reading it; that both agree is proved as `laws::texts_follow_the_grammar` and
--- `laws::the_first_wrong_line_decides`.
+-- How a text is read: line by line from the front. The first line that has a fault decides, and a line is read before
+-- its run is appended. Meaning says what a text says without reading it; that both agree is proved as
+-- `laws::texts_follow_the_grammar` and `laws::the_first_wrong_line_decides`.
 use Rattle.std.specs.Prelude.{ℕ, zero, suc, ◌+◌, ◌==◌, Bool, not, if◌then◌else◌, List, [], ◌∷◌, length, take, drop, Option, None, Some, option_and_then, option_map, Result, Ok, Err}
 use Rattle.std.specs.List.{prefix_len}
 use Rattle.std.specs.Str.{bytes_eq}
@@ -56,7 +56,8 @@ run_of_line [] = None
 run_of_line (kind ∷ []) = None
 run_of_line (kind ∷ space ∷ fields) = if space == 32 then run_of_kind kind fields else None
 
--- The lines from the one of this number on, behind those that made this journal. What stands behind the last newline has to be empty.
+-- The lines from the one of this number on, behind those that made this journal. What stands behind the last newline
+-- has to be empty.
 abbrev pub lines_read : JournalState → ℕ → List (List ℕ) → Result JournalState JournalFault
 lines_read journal number [] = Err (Syntax number)
 lines_read journal number (line ∷ []) = if length line == 0 then Ok journal else Err (Syntax number)

@@ -1,5 +1,5 @@
--- The runs of a list of events (own choice): its longest stretches of equal events, each cut from the front into pieces of the
--- greatest count.
+-- The runs of a list of events (own choice): its longest stretches of equal events, each cut from the front into pieces
+-- of the greatest count.
 use Rattle.std.specs.Prelude.{◌≡◌, ℕ, zero, suc, ◌+◌, ◌/◌, ◌%◌, ◌<◌, ◌≤◌, ◌==◌, Bool, true, false, if◌then◌else◌, List, [], ◌∷◌, ◌++◌, length, drop, replicate, Option, None, Some}
 use Rattle.std.specs.List.{flat_map}
 use Rattle.brd_board.specs.declared.event.Event.{Event}
@@ -82,8 +82,8 @@ starts_from start (run ∷ runs) = start ∷ starts_from (start + run.count) run
 abbrev pub starts_of : List Run → List ℕ
 starts_of runs = starts_from 0 runs
 
--- What is left of one of these runs behind so many events: the run has begun there and hasn't ended, and the rest has its event and ends
--- where it ends.
+-- What is left of one of these runs behind so many events: the run has begun there and hasn't ended, and the rest has
+-- its event and ends where it ends.
 pub record IsRestOfRun (runs : List Run) (others : ℕ) (rest : Run) : Type 0 where
   pub before : List Run
   pub run : Run

@@ -61,8 +61,8 @@ impl Journal {
         self.push_run(event, 1)
     }
 
-    /// Appends an event so many times. It is `Full` exactly where the events would need more runs than the limit, unless
-    /// memory runs out. An `Err` changes nothing, and neither does a count of 0.
+    /// Appends an event so many times. It is `Full` exactly where the events would need more runs than the limit,
+    /// unless memory runs out. An `Err` changes nothing, and neither does a count of 0.
     pub fn push_run(&mut self, event: Event, count: u32) -> Result<(), JournalFault>
         ensures appended { Gives (λ _. self.new) result (appended self.old (copies event count)) }
         ensures err { OnErr result (self.new ≡ self.old) }

@@ -2,7 +2,8 @@
 //!
 //! A contract sees a journal as its limit and its list of events (`specs/Journal.antt`). `specs/Runs.antt` says which
 //! runs a list of events has, `specs/Text.antt` what the text of a journal is, and `specs/Reading.antt` how a text is
-//! read: line by line, up to the first line that has a fault. `specs/Meaning.antt` says what a text means without reading it.
+//! read: line by line, up to the first line that has a fault. `specs/Meaning.antt` says what a text means without
+//! reading it.
 #![tactic(auto)]
 
 mod fault;

@@ -1,4 +1,5 @@
--- What keeps it that who waits stands in the list of what it waits for: a wait ends or begins, or the task has another priority.
+-- What keeps it that who waits stands in the list of what it waits for: a wait ends or begins, or the task has another
+-- priority.
 use Rattle.std.proofs.Common.{◌≡◌, ◌<◌, ℕ, List, [], ◌∷◌, length, refl, sym, ap, subst, ◌∙◌, arith}
 use Rattle.std.specs.Prelude.{Bool, true, false, ◌==◌, ◌&&◌, ◌||◌, if◌then◌else◌, Option, None, Some, is_some, slice_index_or, slice_set}
 use Rattle.std.proofs.lemmas.Bool.Decides.{nat_tests}
@@ -144,7 +145,8 @@ by-ending id but t new time lists long now was = record {
 
 -- A wait begins.
 
--- a task has entered the list of what it waits for, with its priority; where that has no list, the lists are as they were
+-- a task has entered the list of what it waits for, with its priority; where that has no list, the lists are as they
+-- were
 pub record IsEntered (id : ℕ) (why : WaitReason) (priority : ℕ) (old new : WaitReason → List Plain) : Type 0 where
   pub apart : (other : WaitReason) → AreApart (new other)
   pub listed : (at : ℕ) (other : WaitReason) →

@@ -1,4 +1,5 @@
--- What comes and goes in a list of waiters: with which priority each task stands in it then, and that none stands in it twice.
+-- What comes and goes in a list of waiters: with which priority each task stands in it then, and that none stands in it
+-- twice.
 use Rattle.std.proofs.Common.{◌≡◌, ◌<◌, ℕ, zero, suc, List, [], ◌∷◌, ◌++◌, refl, sym, ap, subst, ◌∙◌, arith}
 use Rattle.std.specs.Prelude.{Bool, true, false, ◌==◌, ◌&&◌, ◌||◌, if◌then◌else◌, find, Option, None, Some, is_some, slice_index_or, slice_set}
 use Rattle.std.specs.Option.{option_map}

@@ -16,7 +16,8 @@ abbrev pub HasContext : ℕ → Executor → Type 0
 HasContext cpu executor.Handler = cpu < 9
 HasContext cpu (executor.Task id) = id < 256
 
--- how many processors, handler contexts and lines there are, how much the console holds, that there is no processor 0, and that the number of whoever runs is one that a task can have
+-- how many processors, handler contexts and lines there are, how much the console holds, that there is no processor 0,
+-- and that the number of whoever runs is one that a task can have
 pub record IsKernel (k : KernelState) : Type 0 where
   pub processors : length k.processors ≡ 9
   pub handler_contexts : length k.handler_contexts ≡ 9

@@ -1,5 +1,6 @@
--- The words that service calls answer (uITRON 4.0 specification, "Main Error Codes"): 0 for E_OK, negative numbers where a call is refused
--- or a wait ends without what was waited for. Calls that tell a count answer it in the place of E_OK.
+-- The words that service calls answer (uITRON 4.0 specification, "Main Error Codes"): 0 for E_OK, negative numbers
+-- where a call is refused or a wait ends without what was waited for. Calls that tell a count answer it in the place of
+-- E_OK.
 use Rattle.std.specs.Prelude.{ℕ, ◌-◌, ◌^◌}
 use Rattle.brd_kernel.specs.declared.call.Ercd.{Ercd}
 use Rattle.brd_kernel.specs.declared.call.Ercd.TheVariants.{Rsfn, Par, Id, Ctx, Iluse, Obj, Noexs, Qovr, Rlwai, Tmout}

@@ -29,8 +29,8 @@ is_same_task None (Some id) = false
 is_same_task (Some id) None = false
 is_same_task (Some id) (Some other) = id == other
 
--- The running task of a processor has become another one: another task, or none where one ran, or one where none ran. `old` is the kernel
--- before a dispatch, `new` after it.
+-- The running task of a processor has become another one: another task, or none where one ran, or one where none ran.
+-- `old` is the kernel before a dispatch, `new` after it.
 abbrev pub has_changed : KernelState → KernelState → ℕ → Bool
 has_changed old new cpu = not (is_same_task (running_on old cpu) (running_on new cpu))
 

@@ -42,8 +42,8 @@ processor_at k cpu = slice_index_or k.processors cpu None
 abbrev pub idle : Processor
 idle = record { running = None; handling = None; locked = false; disabled = false; stopped = false }
 
--- A processor is held while it handles an interrupt, is CPU-locked, has dispatching disabled or is stopped: its running task stays, whoever
--- else is ready.
+-- A processor is held while it handles an interrupt, is CPU-locked, has dispatching disabled or is stopped: its running
+-- task stays, whoever else is ready.
 abbrev pub is_held : Processor → Bool
 is_held p = is_some p.handling || p.locked || p.disabled || p.stopped
 
@@ -129,7 +129,8 @@ with_pending k line = record k { lines = slice_set k.lines line (record (line_at
 abbrev pub raised : KernelState → ℕ → KernelState
 raised k line = if is_some (line_at k line).handler then with_pending k line else k
 
--- the context in which the handler of a line starts: at its address, all registers 0 but the line in $a0 (at 0, where there is no handler)
+-- the context in which the handler of a line starts: at its address, all registers 0 but the line in $a0 (at 0, where
+-- there is no handler)
 abbrev pub entry_of : ℕ → Option Handler → State
 entry_of line None = opening 0 line 0
 entry_of line (Some handler) = opening handler.address line 0

@@ -12,17 +12,19 @@ abbrev pub is_ready_on : Option Task → ℕ → Bool
 is_ready_on None cpu = false
 is_ready_on (Some task) cpu = is_ready task.status && task.cpu == cpu
 
--- The running task of each processor is ready and assigned to that processor, also where the processor is held: while it handles an
--- interrupt, is CPU-locked, has dispatching disabled or is stopped.
+-- The running task of each processor is ready and assigned to that processor, also where the processor is held: while
+-- it handles an interrupt, is CPU-locked, has dispatching disabled or is stopped.
 abbrev pub RunsReady : KernelState → Type 0
 RunsReady k = (cpu id : ℕ) → running_on k cpu ≡ Some id → is_ready_on (task_at k.tasks id) cpu ≡ true
 
--- Each task is in the ready list of its processor exactly where it is ready, with its priority, and in no other; it stands there once.
+-- Each task is in the ready list of its processor exactly where it is ready, with its priority, and in no other; it
+-- stands there once.
 pub record IsOrderly (t : TaskTable) : Type 0 where
   pub consistent : IsConsistent t
   pub once : (cpu : ℕ) → AreApart (ready_on t cpu)
 
--- What holds between two events: processors have the numbers from 1 to 8, the ready lists are in order, and who runs is ready.
+-- What holds between two events: processors have the numbers from 1 to 8, the ready lists are in order, and who runs is
+-- ready.
 pub record IsRunning (k : KernelState) : Type 0 where
   pub processors : length k.processors ≡ 9
   pub nobody : processor_at k 0 ≡ None

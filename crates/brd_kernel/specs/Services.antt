@@ -1,6 +1,7 @@
--- The service table: a row a call, in the order of their numbers (uITRON 4.0 specification; mact_tsk, imact_tsk, mig_tsk and get_pid:
--- TOPPERS/FMP; put_chr, ext_ker and ret_int, the refusals and their order: own choice). A row begins with the object that the call names and refuses nothing but an ID that is none
--- (E_ID, E_NOEXS); what it fills in is what its line of the table says. T is a task's ID, T0 may be 0 for the caller.
+-- The service table: a row a call, in the order of their numbers (uITRON 4.0 specification; mact_tsk, imact_tsk,
+-- mig_tsk and get_pid: TOPPERS/FMP; put_chr, ext_ker and ret_int, the refusals and their order: own choice). A row
+-- begins with the object that the call names and refuses nothing but an ID that is none (E_ID, E_NOEXS); what it fills
+-- in is what its line of the table says. T is a task's ID, T0 may be 0 for the caller.
 use Rattle.std.specs.Prelude.{ℕ, ◌%◌, ◌^◌, ◌-◌, ◌==◌, nat_lt, nat_le, Bool, true, false, not, ◌&&◌, ◌||◌, if◌then◌else◌}
 use Rattle.std.specs.Prelude.{List, [], ◌∷◌, ◌++◌, length, slice_set, Option, None, Some, is_some, unwrap_or, Result, Err}
 use Rattle.brd_tasks.specs.declared.status.Status.{Status}
@@ -89,7 +90,8 @@ abbrev pub runs_held : Option Processor → ℕ → Bool
 runs_held None id = false
 runs_held (Some p) id = is_held p && is_same_task p.running (Some id)
 
--- a task is the running one of a processor other than the caller's, which is held: of the one that it is assigned to, as a running task is
+-- a task is the running one of a processor other than the caller's, which is held: of the one that it is assigned to,
+-- as a running task is
 unfoldable pub is_held_elsewhere : KernelState → ℕ → ℕ → Task → Bool
 is_held_elsewhere k cpu id task = not (task.cpu == cpu) && runs_held (processor_at k task.cpu) id
 
@@ -143,7 +145,8 @@ longest_delay = 2 ^ 31 - 1
 
 -- Effects that several calls share.
 
--- the caller waits, or where it polls is answered E_TMOUT; `entered` is the kernel in which it stands in the list of what it waits for
+-- the caller waits, or where it polls is answered E_TMOUT; `entered` is the kernel in which it stands in the list of
+-- what it waits for
 abbrev pub or_waits : KernelState → ℕ → WaitReason → ℕ → KernelState → Result Served Ercd
 or_waits k caller why timeout entered = if timeout == 0 then Err Tmout else silent (with_wait k caller why (due_by k timeout) entered)
 
@@ -226,7 +229,8 @@ chg_pri k id priority = record (on_task k id) {
 abbrev pub get_pri : KernelState → ℕ → Row Task
 get_pri k id = record (on_task k id) { obj = λ task. is_dormant task.status; does = λ task. ok_with k task.priority }
 
--- 7 mact_tsk T0, processor, 57 imact_tsk T, processor. Refuses: PAR no such processor; QOVR a request is queued. As act_tsk, on that processor.
+-- 7 mact_tsk T0, processor, 57 imact_tsk T, processor. Refuses: PAR no such processor; QOVR a request is queued. As
+-- act_tsk, on that processor.
 abbrev pub mact_tsk : KernelState → ℕ → ℕ → Row Task
 mact_tsk k id to = record (on_task k id) {
   bad_par = is_no_processor k to;
@@ -234,8 +238,8 @@ mact_tsk k id to = record (on_task k id) {
   does = λ task. ok (with_tasks k (activated k.tasks id (On to)));
 }
 
--- 8 mig_tsk T0, processor. Refuses: PAR no such processor; OBJ dormant, assigned to it already, or held elsewhere (and, in the gate, CTX).
--- Assigns the task to another processor.
+-- 8 mig_tsk T0, processor. Refuses: PAR no such processor; OBJ dormant, assigned to it already, or held elsewhere (and,
+-- in the gate, CTX). Assigns the task to another processor.
 abbrev pub mig_tsk : KernelState → ℕ → ℕ → ℕ → Row Task
 mig_tsk k cpu id to = record (on_task k id) {
   bad_par = is_no_processor k to;
@@ -247,7 +251,8 @@ mig_tsk k cpu id to = record (on_task k id) {
 abbrev pub get_pid : KernelState → ℕ → Row (Unit {0})
 get_pid k cpu = record (on_nothing k) { does = λ x. ok_with k cpu }
 
--- 10 rot_rdq priority. Refuses: PAR not 0 to 16. On the caller's processor, the first ready task of that priority goes behind its equals.
+-- 10 rot_rdq priority. Refuses: PAR not 0 to 16. On the caller's processor, the first ready task of that priority goes
+-- behind its equals.
 abbrev pub rot_rdq : KernelState → ℕ → ℕ → ℕ → Row Processor
 rot_rdq k cpu caller priority = record (on_own_processor k cpu) {
   bad_par = nat_lt 16 priority;
@@ -258,7 +263,8 @@ rot_rdq k cpu caller priority = record (on_own_processor k cpu) {
 abbrev pub get_tid : KernelState → ℕ → Row (Unit {0})
 get_tid k caller = record (on_nothing k) { does = λ x. ok_with k caller }
 
--- 12 dis_dsp, 13 ena_dsp. From then on the caller's processor has dispatching disabled, or not; it may have been so before.
+-- 12 dis_dsp, 13 ena_dsp. From then on the caller's processor has dispatching disabled, or not; it may have been so
+-- before.
 abbrev pub mark_dsp : KernelState → ℕ → Bool → Row Processor
 mark_dsp k cpu disabled = record (on_own_processor k cpu) { does = λ p. ok (with_processor k cpu (record p { disabled = disabled })) }
 
@@ -273,7 +279,8 @@ tslp_tsk k caller timeout = record (on_caller k caller) {
   does = λ task. if task.wakeup then ok (with_tasks k (noted (with_wakeup false) k.tasks caller)) else or_waits k caller reason.Sleep timeout k;
 }
 
--- 18 wup_tsk T0, 49 iwup_tsk T. Refuses: OBJ dormant; QOVR not asleep, and a wake-up is queued. Releases a sleeper, or queues a wake-up.
+-- 18 wup_tsk T0, 49 iwup_tsk T. Refuses: OBJ dormant; QOVR not asleep, and a wake-up is queued. Releases a sleeper, or
+-- queues a wake-up.
 abbrev pub wup_tsk : KernelState → ℕ → Row Task
 wup_tsk k id = record (on_task k id) {
   obj = λ task. is_dormant task.status;
@@ -352,8 +359,8 @@ flag_got k caller id want timeout (Some pattern) = ok_with (record k { flags = o
 flag_got k caller id want timeout None =
     or_waits k caller (reason.Flag id) timeout (record k { flags = object_changed (flag_awaited caller (callers_priority k caller) want) k.flags id })
 
--- 30 wai_flg F, bits, mode, 31 pol_flg F, bits, mode, 32 twai_flg F, bits, mode, timeout. Refuses: PAR; ILUSE under TA_WSGL another task waits.
--- Second result: the pattern. Waits for the bits.
+-- 30 wai_flg F, bits, mode, 31 pol_flg F, bits, mode, 32 twai_flg F, bits, mode, timeout. Refuses: PAR; ILUSE under
+-- TA_WSGL another task waits. Second result: the pattern. Waits for the bits.
 abbrev pub twai_flg : KernelState → ℕ → ℕ → ℕ → ℕ → ℕ → Row Flag
 twai_flg k caller id bits mode timeout = record (on_flag k id) {
   bad_par = is_bad_want bits mode || is_bad_timeout timeout;
@@ -368,14 +375,16 @@ queue_sent k caller id datum timeout Stored = ok (record k { queues = object_cha
 queue_sent k caller id datum timeout Full =
     or_waits k caller (reason.Send id) timeout (record k { queues = object_changed (awaited_by_sender caller (callers_priority k caller) datum) k.queues id })
 
--- 33 snd_dtq Q, datum, 34 psnd_dtq Q, datum, 35 tsnd_dtq Q, datum, timeout, 53 ipsnd_dtq Q, datum. Refuses: PAR. Sends a datum, or waits.
+-- 33 snd_dtq Q, datum, 34 psnd_dtq Q, datum, 35 tsnd_dtq Q, datum, timeout, 53 ipsnd_dtq Q, datum. Refuses: PAR. Sends
+-- a datum, or waits.
 abbrev pub tsnd_dtq : KernelState → ℕ → ℕ → ℕ → ℕ → Row DataQueueState
 tsnd_dtq k caller id datum timeout = record (on_queue k id) {
   bad_par = is_bad_timeout timeout;
   does = λ q. queue_sent k caller id datum timeout (outcome q);
 }
 
--- 36 fsnd_dtq Q, datum, 54 ifsnd_dtq Q, datum. Refuses: ILUSE it stores nothing. Sends a datum, for which a full queue gives its oldest one up.
+-- 36 fsnd_dtq Q, datum, 54 ifsnd_dtq Q, datum. Refuses: ILUSE it stores nothing. Sends a datum, for which a full queue
+-- gives its oldest one up.
 abbrev pub fsnd_dtq : KernelState → ℕ → ℕ → Row DataQueueState
 fsnd_dtq k id datum = record (on_queue k id) {
   iluse = λ q. q.capacity == 0;

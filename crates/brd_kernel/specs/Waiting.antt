@@ -1,5 +1,6 @@
--- What holds of waits after every event: a task that waits for a semaphore, for bits of an event flag, or for its turn at a data queue stands in
--- the list of that object, once and with its priority, and stands in no other; and only who waits has a tick at which its wait ends.
+-- What holds of waits after every event: a task that waits for a semaphore, for bits of an event flag, or for its turn
+-- at a data queue stands in the list of that object, once and with its priority, and stands in no other; and only who
+-- waits has a tick at which its wait ends.
 use Rattle.std.specs.Prelude.{◌≡◌, ℕ, Bool, true, false, List, [], map, Option, None, Some, is_some, length}
 use Rattle.brd_queue.specs.declared.entry.Entry.{Entry}
 use Rattle.brd_queue.specs.Queue.{Plain, has, priority_in, AreApart}

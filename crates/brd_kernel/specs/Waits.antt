@@ -1,5 +1,5 @@
--- Waits: how they begin, and how they end. What a task waits for stands in its status; it stands in the list of waiters of that object, and it has a
--- due tick where its wait has an end.
+-- Waits: how they begin, and how they end. What a task waits for stands in its status; it stands in the list of waiters
+-- of that object, and it has a due tick where its wait has an end.
 use Rattle.std.specs.Prelude.{ℕ, ◌+◌, ◌-◌, ◌^◌, ◌==◌, nat_le, nat_lt, Bool, true, false, not, ◌&&◌, if◌then◌else◌, List, [], ◌∷◌, Option, None, Some, is_some}
 use Rattle.std.specs.Option.{option_map}
 use Rattle.brd_tasks.specs.declared.status.Status.{Status}
@@ -19,7 +19,8 @@ use Rattle.brd_kernel.specs.declared.call.Ercd.TheVariants.{Rlwai, Tmout}
 use Rattle.brd_kernel.specs.Answer.{e_ok, code_of}
 use Rattle.brd_kernel.specs.Kernel.{KernelState, with_tasks, with_processor, processor_at, unmarked}
 
--- How long a call may wait, as its caller says it: a signed number of ticks, of which -1 (TMO_FEVR) is without an end and 0 (TMO_POL) not at all.
+-- How long a call may wait, as its caller says it: a signed number of ticks, of which -1 (TMO_FEVR) is without an end
+-- and 0 (TMO_POL) not at all.
 
 abbrev pub forever : ℕ
 forever = 2 ^ 32 - 1
@@ -84,7 +85,8 @@ broken_off k id answer = released_in (unlisted k id) id answer None
 abbrev pub ended_in : KernelState → ℕ → KernelState
 ended_in k id = let out = unlisted k id in record out { tasks = ended k.tasks id; time = with_due k.time id None }
 
--- a task has another priority: in the list of what it waits for it is placed anew where that goes by priority, else it keeps its place
+-- a task has another priority: in the list of what it waits for it is placed anew where that goes by priority, else it
+-- keeps its place
 
 abbrev pub reordered_in : KernelState → ℕ → ℕ → Option WaitReason → KernelState
 reordered_in k id priority None = k
@@ -126,8 +128,8 @@ ticked k = if nat_lt k.time.count last_count then ticked_on k (advanced k.time) 
 
 -- Exceptions.
 
--- The running task of a processor is ended by an exception: it is dormant, with nothing queued, and its processor is neither CPU-locked
--- nor has dispatching disabled.
+-- The running task of a processor is ended by an exception: it is dormant, with nothing queued, and its processor is
+-- neither CPU-locked nor has dispatching disabled.
 abbrev pub faulted_task : KernelState → ℕ → Processor → Option ℕ → KernelState
 faulted_task k cpu p None = k
 faulted_task k cpu p (Some id) = with_processor (ended_in (with_tasks k (noted without_activation k.tasks id)) id) cpu (unmarked p)

@@ -82,7 +82,8 @@ pub enum Call {
     RetInt,
 }
 
-/// Why a service call isn't done, or a wait ended without what was waited for (uITRON 4.0 specification, "Main Error Codes").
+/// Why a service call isn't done, or a wait ended without what was waited for (uITRON 4.0 specification, "Main Error
+/// Codes").
 #[derive(Clone, Copy, PartialEq, Eq)]
 pub enum Ercd {
     /// E_RSFN: there is no such call.

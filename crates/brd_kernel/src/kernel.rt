@@ -50,7 +50,8 @@ use std::marker::Model;
 /// How many bytes the console holds.
 const CONSOLE_SIZE: usize = 65_536;
 
-/// Tasks, the objects that they wait for, the time, processors, interrupt lines and the console. Only `new` takes memory.
+/// Tasks, the objects that they wait for, the time, processors, interrupt lines and the console. Only `new` takes
+/// memory.
 #[derive(Drop)]
 pub struct Kernel {
     off: bool,
@@ -110,8 +111,8 @@ impl Model for Kernel {
 }
 
 impl Kernel {
-    /// A board's kernel with this many processors, these tasks, none of them started, these interrupt handlers and these objects. A line
-    /// that isn't named has no handler, and nothing is pending.
+    /// A board's kernel with this many processors, these tasks, none of them started, these interrupt handlers and
+    /// these objects. A line that isn't named has no handler, and nothing is pending.
     pub fn new(
         alloc: Global,
         processors: u8,
@@ -312,7 +313,8 @@ impl Kernel {
         }
     }
 
-    /// Whether a processor is CPU-locked, and whether dispatching is disabled on it; None where there is no such processor.
+    /// Whether a processor is CPU-locked, and whether dispatching is disabled on it; None where there is no such
+    /// processor.
     pub fn marks(&self, cpu: u8) -> Option<Marks>
         ensures { result ≡ option_map marks_of (processor_at self.now cpu) }
     {
@@ -333,7 +335,8 @@ impl Kernel {
         }
     }
 
-    /// Ends what a processor executes by an exception: a handler, which stops the processor for good, or the running task.
+    /// Ends what a processor executes by an exception: a handler, which stops the processor for good, or the running
+    /// task.
     pub fn end_by_fault(&mut self, cpu: u8)
         ensures { self.new ≡ ended_by_fault self.old cpu }
     {
@@ -376,7 +379,8 @@ impl Kernel {
         self.put_processor(cpu, processor.unmarked());
     }
 
-    /// Chooses the running task of each processor that isn't held. Bit j of the answer: that of processor j + 1 has become another.
+    /// Chooses the running task of each processor that isn't held. Bit j of the answer: that of processor j + 1 has
+    /// become another.
     pub fn dispatch(&mut self) -> u8
         ensures is { self.new ≡ dispatched self.old }
         ensures changed { (j : ℕ) → j < 8 → bit_at result j ≡ (if has_changed self.old (dispatched self.old) (j + 1) then 1 else 0) }
@@ -427,7 +431,8 @@ impl Kernel {
         Some(Ended { address, outcome })
     }
 
-    /// A tick passes, and the waits end whose tick has come. Answers whether it was counted; at the end of time it isn't, and nothing changes.
+    /// A tick passes, and the waits end whose tick has come. Answers whether it was counted; at the end of time it
+    /// isn't, and nothing changes.
     pub fn tick(&mut self) -> bool
         ensures is { self.new ≡ ticked self.old }
         ensures counted { result ≡ nat_lt self.old.time.count last_count }

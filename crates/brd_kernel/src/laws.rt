@@ -22,8 +22,8 @@ pub fn checks_in_order<X>()
     ensures { (row : Row X) → AnswersFirst row }
 {}
 
-/// After a dispatch each processor that isn't held runs the first of its ready tasks, or none, and is else as it was; one that is held is
-/// as it was; where there is no processor there is none after it.
+/// After a dispatch each processor that isn't held runs the first of its ready tasks, or none, and is else as it was;
+/// one that is held is as it was; where there is no processor there is none after it.
 pub fn dispatch_gives_each_its_first()
     ensures settled { (k : KernelState) → IsSettled (dispatched k) }
     ensures free { (k : KernelState) (cpu : ℕ) (p : ProcessorOf) → processor_at k cpu ≡ Some p → is_held p ≡ false → processor_at (dispatched k) cpu ≡ Some (record p { running = top_of k.tasks cpu }) }
@@ -31,8 +31,9 @@ pub fn dispatch_gives_each_its_first()
     ensures none { (k : KernelState) (cpu : ℕ) → processor_at k cpu ≡ None → processor_at (dispatched k) cpu ≡ None }
 {}
 
-/// In a kernel as it is made, each task that waits for an object stands once, with its priority, in the list of that object, and in no other list;
-/// only who waits has a tick at which its wait ends, and a delay has one. Every service call, tick and exception keeps this.
+/// In a kernel as it is made, each task that waits for an object stands once, with its priority, in the list of that
+/// object, and in no other list; only who waits has a tick at which its wait ends, and a delay has one. Every service
+/// call, tick and exception keeps this.
 pub fn who_waits_stands_in_its_list()
     ensures made { (processors : ℕ) (setups : List SetupOf) (lines : List LineOf) (semaphores : List SemaphoreConfig) (flags : List FlagConfig) (queues : List QueueConfig) → WaitsAreKept (made_kernel processors setups lines semaphores flags queues) }
     ensures call { (k : KernelState) (cpu : ℕ) (asked : CallOf) → WaitsAreKept k → WaitsAreKept (serve_of k cpu asked).kernel }

@@ -1,7 +1,7 @@
 //! The kernel: service calls, dispatch, interrupts.
 //!
-//! `specs/Services.antt` has the service table, `specs/Row.antt` the order of refusals, `specs/Dispatch.antt` which task runs,
-//! `specs/Kernel.antt` everything else. No call but `Kernel::new` takes memory.
+//! `specs/Services.antt` has the service table, `specs/Row.antt` the order of refusals, `specs/Dispatch.antt` which
+//! task runs, `specs/Kernel.antt` everything else. No call but `Kernel::new` takes memory.
 #![tactic(auto)]
 
 mod call;

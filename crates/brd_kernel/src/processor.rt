@@ -51,7 +51,8 @@ pub struct Ended {
 /// A processor.
 #[derive(Clone, Copy, PartialEq, Eq)]
 pub struct Processor {
-    /// The running task. While the processor is held it stays, whoever else is ready; in a handler it is the one that was interrupted.
+    /// The running task. While the processor is held it stays, whoever else is ready; in a handler it is the one that
+    /// was interrupted.
     pub running: Option<TaskId>,
     /// The line whose interrupt is handled.
     pub handling: Option<u8>,

@@ -1,5 +1,5 @@
--- Proofs: the eight addresses and the mask come back from the set that they stand for. They stand in specs/ since `Links`
--- is `Copy` with a `Model`, whose member `inverse_ok` has to be such a proof and can import nothing of proofs/.
+-- Proofs: the eight addresses and the mask come back from the set that they stand for. They stand in specs/ since
+-- `Links` is `Copy` with a `Model`, whose member `inverse_ok` has to be such a proof and can import nothing of proofs/.
 use Rattle.std.proofs.Common.{◌≡◌, ℕ, zero, suc, ◌/◌, ◌%◌, ◌^◌, ◌<◌, ◌==◌, if◌then◌else◌, refl, sym, ap, ap₂, ◌∙◌, pow-suc, arith}
 use Rattle.std.proofs.Common.{Option, Some, None, unwrap_or, List, [], ◌∷◌, map, length, slice_index}
 use Rattle.std.proofs.lemmas.Bool.{eq-eqb, ne_eqb}

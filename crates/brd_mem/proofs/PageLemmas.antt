@@ -1,4 +1,5 @@
--- Pages below a number, put into a base one after the other: up to there the bytes are the memory's, from there on the base's.
+-- Pages below a number, put into a base one after the other: up to there the bytes are the memory's, from there on the
+-- base's.
 use Rattle.std.proofs.Common.{◌≡◌, ℕ, zero, suc, ◌+◌, ◌-◌, ◌*◌, ◌/◌, ◌%◌, ◌≤◌, ◌<◌, ◌^◌, Bool, true, false, bytes_eq, List, [], ◌∷◌, ◌++◌, length, take, drop, refl, sym, ap, ◌∙◌, arith, Decides, if◌then◌else◌}
 use Rattle.std.specs.List.{AllByRecursion}
 use Rattle.std.proofs.Math.Seq.{take-add}

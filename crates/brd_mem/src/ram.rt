@@ -237,8 +237,8 @@ impl Ram {
         self.page(number) == base.page(number)
     }
 
-    /// Becomes the base, a RAM of its size, with these pages in their places. So it becomes the RAM that they were taken
-    /// of, where that was compared with an equal base.
+    /// Becomes the base, a RAM of its size, with these pages in their places. So it becomes the RAM that they were
+    /// taken of, where that was compared with an equal base.
     pub fn put_back(&mut self, base: &Ram, pages: &Pages)
         requires sizes { size_of self.old ≡ size_of base.now }
         requires within { LieWithin (size_of base.now) pages.now }

@@ -1,5 +1,5 @@
--- How the code finds the first waiter that a pattern satisfies (the contracts of flags don't speak of it): what the waiters want stands once more in
--- columns, which are scanned eight at a time.
+-- How the code finds the first waiter that a pattern satisfies (the contracts of flags don't speak of it): what the
+-- waiters want stands once more in columns, which are scanned eight at a time.
 use Rattle.std.specs.Prelude.{◌≡◌, ℕ, List, map}
 use Rattle.brd_queue.specs.declared.entry.Entry.{Entry}
 use Rattle.brd_objects.specs.declared.want.Mode.{Mode}

@@ -1,5 +1,5 @@
--- Data queues (uITRON 4.0 specification, "Data Queues"): data in the order in which they were stored, the tasks that wait to send one, each with it,
--- and the tasks that wait to receive one.
+-- Data queues (uITRON 4.0 specification, "Data Queues"): data in the order in which they were stored, the tasks that
+-- wait to send one, each with it, and the tasks that wait to receive one.
 use Rattle.std.specs.Prelude.{ℕ, ◌<◌, nat_lt, Bool, if◌then◌else◌, List, [], ◌∷◌, ◌++◌, length, map, drop, Option, None, Some, IfSome}
 use Rattle.brd_config.specs.declared.objects.QueueConfig.{QueueConfig}
 use Rattle.brd_queue.specs.declared.entry.Entry.{Entry}
@@ -47,7 +47,8 @@ outcome_to q (first ∷ others) = Handed first.id
 abbrev pub outcome : DataQueueState → Sent
 outcome q = outcome_to q q.receivers
 
--- A datum is forced in: the first receiver leaves with it, else it is stored, and a full queue gives its oldest datum up for it.
+-- A datum is forced in: the first receiver leaves with it, else it is stored, and a full queue gives its oldest datum
+-- up for it.
 
 abbrev pub with_room_for : DataQueueState → List Plain → DataQueueState
 with_room_for q [] = if has_room q then q else record q { stored = drop 1 q.stored }
@@ -62,7 +63,8 @@ forced datum q = sent datum (with_room q)
 abbrev pub forced_outcome : DataQueueState → Sent
 forced_outcome q = outcome (with_room q)
 
--- A datum is received: the oldest one, and the datum of the first sender takes the free place; where none is stored, the first sender's.
+-- A datum is received: the oldest one, and the datum of the first sender takes the free place; where none is stored,
+-- the first sender's.
 
 abbrev pub received_by : DataQueueState → List ℕ → List (Entry ℕ) → DataQueueState
 received_by q [] [] = q

@@ -68,7 +68,8 @@ flag_left id f = record f { waiters = without id f.waiters }
 abbrev pub flag_reordered : ℕ → ℕ → Flag → Flag
 flag_reordered id priority f = record f { waiters = reordered f.order id priority f.waiters }
 
--- Who is released, one after the other: the first waiter that the pattern satisfies leaves with that pattern, and under TA_CLR clears it.
+-- Who is released, one after the other: the first waiter that the pattern satisfies leaves with that pattern, and under
+-- TA_CLR clears it.
 
 abbrev pub released_to : Flag → Option (Entry Want) → Flag
 released_to f None = f
@@ -80,8 +81,8 @@ with_next_released f = released_to f (first_satisfied f.pattern f.waiters)
 abbrev pub next_released : Flag → Option (ℕ × ℕ)
 next_released f = option_map (λ e. (e.id, f.pattern)) (first_satisfied f.pattern f.waiters)
 
--- All who are released, from the front of a waiting list: who is satisfied leaves with the pattern; under TA_CLR the first of them clears it, and
--- the rest of the list stays as it is.
+-- All who are released, from the front of a waiting list: who is satisfied leaves with the pattern; under TA_CLR the
+-- first of them clears it, and the rest of the list stays as it is.
 
 abbrev pub pattern_after : Bool → ℕ → List (Entry Want) → ℕ
 pattern_after clears pattern [] = pattern

@@ -19,7 +19,8 @@ object_changed change table id = slice_set table id (option_map change (object_a
 abbrev pub objects_changed : {X : Type 0} → (X → X) → Table X → Table X
 objects_changed change table = map (option_map change) table
 
--- The objects at the making, from their statements in the configuration; of two statements with one ID the first counts.
+-- The objects at the making, from their statements in the configuration; of two statements with one ID the first
+-- counts.
 
 abbrev pub made_at : {C X : Type 0} → (C → ℕ) → (C → X) → List C → ℕ → Option X
 made_at id_of object_of configs id = option_map object_of (find (λ config. id_of config == id) configs)

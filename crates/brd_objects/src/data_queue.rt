@@ -110,7 +110,8 @@ impl DataQueue {
         Sent::Stored
     }
 
-    /// A datum is sent: to the first receiver, which no longer waits, else it is stored, and a full queue gives its oldest datum up for it.
+    /// A datum is sent: to the first receiver, which no longer waits, else it is stored, and a full queue gives its
+    /// oldest datum up for it.
     pub fn force(&mut self, datum: u32) -> Sent
         ensures is { self.new ≡ forced datum self.old }
         ensures outcome { result ≡ forced_outcome self.old }
@@ -132,7 +133,8 @@ impl DataQueue {
         }
     }
 
-    /// The oldest datum is received, and the first sender's takes the free place; where none is stored, the first sender's is received.
+    /// The oldest datum is received, and the first sender's takes the free place; where none is stored, the first
+    /// sender's is received.
     pub fn receive(&mut self) -> Option<Received>
         ensures is { self.new ≡ received self.old }
         ensures receipt { result ≡ receipt self.old }
@@ -193,7 +195,8 @@ impl DataQueue {
         let _ = self.receivers.leave(task);
     }
 
-    /// A task, where it waits, is given a priority: by arrival it keeps its place, by priority it comes behind its equals.
+    /// A task, where it waits, is given a priority: by arrival it keeps its place, by priority it comes behind its
+    /// equals.
     pub fn reorder(&mut self, task: u16, priority: u8)
         ensures { self.new ≡ data_queue_reordered task priority self.old }
     {

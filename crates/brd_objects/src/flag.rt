@@ -90,7 +90,8 @@ impl Flag {
         self.pattern &= bits;
     }
 
-    /// The first waiter that the pattern satisfies leaves, and is answered with the pattern, which is cleared under TA_CLR.
+    /// The first waiter that the pattern satisfies leaves, and is answered with the pattern, which is cleared under
+    /// TA_CLR.
     pub fn next_satisfied(&mut self) -> Option<(u16, u32)>
         ensures is { self.new ≡ with_next_released self.old }
         ensures who { result ≡ next_released self.old }

@@ -101,7 +101,8 @@ impl Flags {
         }
     }
 
-    /// The first waiter of a flag that its pattern satisfies leaves, and is answered with the pattern, which is cleared under TA_CLR.
+    /// The first waiter of a flag that its pattern satisfies leaves, and is answered with the pattern, which is cleared
+    /// under TA_CLR.
     pub fn next_satisfied(&mut self, id: u16) -> Option<(u16, u32)>
         ensures is { self.new ≡ object_changed with_next_released self.old id }
         ensures who { result ≡ next_released_in (object_at self.old id) }
@@ -153,7 +154,8 @@ impl Flags {
         }
     }
 
-    /// A task, where it waits, is given a priority: by arrival it keeps its place, by priority it comes behind its equals.
+    /// A task, where it waits, is given a priority: by arrival it keeps its place, by priority it comes behind its
+    /// equals.
     pub fn reorder(&mut self, task: u16, priority: u8)
         ensures { self.new ≡ objects_changed (flag_reordered task priority) self.old }
     {

@@ -10,8 +10,8 @@ ghost use Rattle.brd_objects.specs.Waiters.{satisfies, first_satisfied, without_
 ghost use Rattle.brd_objects.specs.Flags.{released_of, kept_of, pattern_after, all_released, with_all_released, next_released, with_next_released};
 ghost use Rattle.brd_objects.specs.DataQueues.{DataQueueState, sent, outcome, received, receipt, contents};
 
-/// Who is released when bits have been set. Without TA_CLR all whom the pattern satisfies, in their order; the others stay in theirs, and so does
-/// the pattern. With TA_CLR the first of them alone, who clears the pattern.
+/// Who is released when bits have been set. Without TA_CLR all whom the pattern satisfies, in their order; the others
+/// stay in theirs, and so does the pattern. With TA_CLR the first of them alone, who clears the pattern.
 pub fn who_is_released()
     ensures released { (pattern : ℕ) (waiters : List (EntryOf WantOf)) →
         released_of false pattern waiters ≡ map (λ e. e.id) (filter (λ e. satisfies pattern e.wanted) waiters) }
@@ -30,9 +30,9 @@ pub fn one_after_the_other_is_all()
     ensures none { (f : FlagOf) → next_released f ≡ None → (all_released f ≡ []) × (with_all_released f ≡ f) }
 {}
 
-/// No datum is lost or doubled, and they are received in the order in which they were stored: what is received was the first of all that the queue
-/// had, and the others stay as they were. What is sent and stored comes behind all that is stored; what is handed to a receiver, or finds no room,
-/// leaves all as it was.
+/// No datum is lost or doubled, and they are received in the order in which they were stored: what is received was the
+/// first of all that the queue had, and the others stay as they were. What is sent and stored comes behind all that is
+/// stored; what is handed to a receiver, or finds no room, leaves all as it was.
 pub fn no_datum_is_lost()
     ensures received { (q : DataQueueState) (r : ReceivedOf) → receipt q ≡ Some r → contents q ≡ r.datum ∷ contents (received q) }
     ensures empty { (q : DataQueueState) → receipt q ≡ None → (contents q ≡ []) × (received q ≡ q) }

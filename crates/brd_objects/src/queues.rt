@@ -95,7 +95,8 @@ impl Queues {
         Sent::Full
     }
 
-    /// A datum is sent: to the first receiver, which no longer waits, else it is stored, and a full queue gives its oldest datum up for it.
+    /// A datum is sent: to the first receiver, which no longer waits, else it is stored, and a full queue gives its
+    /// oldest datum up for it.
     pub fn force(&mut self, id: u16, datum: u32) -> Sent
         ensures is { self.new ≡ object_changed (forced datum) self.old id }
         ensures outcome { result ≡ forced_outcome_in (object_at self.old id) }
@@ -109,7 +110,8 @@ impl Queues {
         Sent::Full
     }
 
-    /// The oldest datum is received, and the first sender's takes the free place; where none is stored, the first sender's is received.
+    /// The oldest datum is received, and the first sender's takes the free place; where none is stored, the first
+    /// sender's is received.
     pub fn receive(&mut self, id: u16) -> Option<Received>
         ensures is { self.new ≡ object_changed received self.old id }
         ensures receipt { result ≡ receipt_in (object_at self.old id) }
@@ -158,7 +160,8 @@ impl Queues {
         }
     }
 
-    /// A task, where it waits, is given a priority: by arrival it keeps its place, by priority it comes behind its equals.
+    /// A task, where it waits, is given a priority: by arrival it keeps its place, by priority it comes behind its
+    /// equals.
     pub fn reorder(&mut self, task: u16, priority: u8)
         ensures { self.new ≡ objects_changed (data_queue_reordered task priority) self.old }
     {

@@ -65,7 +65,8 @@ impl Semaphore {
         self.waiters.is_empty() && self.count >= self.maximum
     }
 
-    /// Returns one: the first waiter leaves with it, and is answered; where nobody waits it is counted, up to the maximum.
+    /// Returns one: the first waiter leaves with it, and is answered; where nobody waits it is counted, up to the
+    /// maximum.
     pub fn give(&mut self) -> Option<u16>
         ensures is { self.new ≡ returned self.old }
         ensures who { result ≡ first_waiter self.old }
@@ -112,7 +113,8 @@ impl Semaphore {
         let _ = self.waiters.leave(task);
     }
 
-    /// A task, where it waits, is given a priority: by arrival it keeps its place, by priority it comes behind its equals.
+    /// A task, where it waits, is given a priority: by arrival it keeps its place, by priority it comes behind its
+    /// equals.
     pub fn reorder(&mut self, task: u16, priority: u8)
         ensures { self.new ≡ semaphore_reordered task priority self.old }
     {

@@ -75,7 +75,8 @@ impl Semaphores {
         None
     }
 
-    /// Returns one to a semaphore: the first waiter leaves with it, and is answered; where nobody waits it is counted, up to the maximum.
+    /// Returns one to a semaphore: the first waiter leaves with it, and is answered; where nobody waits it is counted,
+    /// up to the maximum.
     pub fn signal(&mut self, id: u16) -> Option<u16>
         ensures is { self.new ≡ object_changed returned self.old id }
         ensures who { result ≡ first_waiter_in (object_at self.old id) }
@@ -125,7 +126,8 @@ impl Semaphores {
         }
     }
 
-    /// A task, where it waits, is given a priority: by arrival it keeps its place, by priority it comes behind its equals.
+    /// A task, where it waits, is given a priority: by arrival it keeps its place, by priority it comes behind its
+    /// equals.
     pub fn reorder(&mut self, task: u16, priority: u8)
         ensures { self.new ≡ objects_changed (semaphore_reordered task priority) self.old }
     {

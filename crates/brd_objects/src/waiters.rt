@@ -12,7 +12,8 @@ use brd_queue::{Entry, MOST_TASKS, Order, Queue, insert_within};
 use std::alloc::{AllocError, Global};
 use std::marker::Model;
 
-/// The tasks that wait for a flag, in their order, each with what it wants. What they want stands once more in columns, which are scanned.
+/// The tasks that wait for a flag, in their order, each with what it wants. What they want stands once more in columns,
+/// which are scanned.
 #[derive(Drop)]
 pub struct Waiters {
     queue: Queue<Want>,
@@ -130,7 +131,8 @@ impl Waiters {
         }
     }
 
-    /// A task, where it waits, is given a priority: by arrival it keeps its place, by priority it comes behind its equals.
+    /// A task, where it waits, is given a priority: by arrival it keeps its place, by priority it comes behind its
+    /// equals.
     pub fn reorder(&mut self, order: Order, id: u16, priority: u8)
         ensures { self.new ≡ reordered order id priority self.old }
     {

@@ -19,7 +19,8 @@ abbrev pub priority_in : {W : Type 0} → ℕ → List (Entry W) → Option ℕ
 priority_in id [] = None
 priority_in id (x ∷ xs) = if x.id == id then Some x.priority else priority_in id xs
 
--- before the first of lower priority, which is a higher number: in a queue in the order of priority that is behind its equals
+-- before the first of lower priority, which is a higher number: in a queue in the order of priority that is behind its
+-- equals
 abbrev pub behind_equals : {W : Type 0} → Entry W → List (Entry W) → List (Entry W)
 behind_equals e [] = e ∷ []
 behind_equals e (x ∷ xs) = if nat_lt e.priority x.priority then e ∷ x ∷ xs else x ∷ behind_equals e xs
@@ -54,8 +55,8 @@ abbrev pub renumbered : {W : Type 0} → ℕ → ℕ → List (Entry W) → List
 renumbered id priority [] = []
 renumbered id priority (x ∷ xs) = if x.id == id then with_priority priority x ∷ renumbered id priority xs else x ∷ renumbered id priority xs
 
--- A task that stands in a queue is given a priority: by arrival it keeps its place, by priority it comes behind its equals, also where it
--- has that priority already.
+-- A task that stands in a queue is given a priority: by arrival it keeps its place, by priority it comes behind its
+-- equals, also where it has that priority already.
 abbrev pub reordered : {W : Type 0} → Order → ℕ → ℕ → List (Entry W) → List (Entry W)
 reordered Arrival id priority xs = renumbered id priority xs
 reordered Priority id priority xs = moved_behind (option_map (with_priority priority) (find (λ x. x.id == id) xs)) xs

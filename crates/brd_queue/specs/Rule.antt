@@ -1,5 +1,5 @@
--- The rule by which a queue in the order of priority serves: higher priority, which is a lower number, before lower, and of equal
--- priority whoever came earlier.
+-- The rule by which a queue in the order of priority serves: higher priority, which is a lower number, before lower,
+-- and of equal priority whoever came earlier.
 use Rattle.std.specs.Prelude.{◌≡◌, ◌<◌, ◌≤◌, List, [], ◌∷◌, ◌++◌}
 use Rattle.std.specs.List.{AllByRecursion}
 use Rattle.brd_queue.specs.declared.entry.Entry.{Entry}
@@ -9,7 +9,8 @@ abbrev pub IsByPriority : {W : Type 0} → List (Entry W) → Type 0
 IsByPriority [] = Unit {0}
 IsByPriority (x ∷ xs) = AllByRecursion (λ other. x.priority ≤ other.priority) xs × IsByPriority xs
 
--- An entry came to a queue: the others stand as they stood, all that have its priority or a higher one before it, the rest behind it.
+-- An entry came to a queue: the others stand as they stood, all that have its priority or a higher one before it, the
+-- rest behind it.
 pub record Enters {W : Type 0} (e : Entry W) (old new : List (Entry W)) : Type 0 where
   pub before : List (Entry W)
   pub behind : List (Entry W)

@@ -1,6 +1,7 @@
 //! Queues of tasks: ready lists, and lists of those that wait.
 //!
-//! `specs/Queue.antt` says what each call makes of a queue, `specs/Rule.antt` by which rule a queue in the order of priority serves.
+//! `specs/Queue.antt` says what each call makes of a queue, `specs/Rule.antt` by which rule a queue in the order of
+//! priority serves.
 #![tactic(auto)]
 
 mod entry;

@@ -10,8 +10,8 @@ use brd_base::{NoMemory, Same, copy_with_room, same_slices};
 use std::alloc::{AllocError, Global};
 use std::marker::Model;
 
-/// Tasks in the order in which they are served, none of them twice, each with what it wants. It has room for every task that there can be, so
-/// only `new` takes memory.
+/// Tasks in the order in which they are served, none of them twice, each with what it wants. It has room for every task
+/// that there can be, so only `new` takes memory.
 #[derive(Drop)]
 pub struct Queue<W> {
     entries: Vec<Entry<W>>,
@@ -97,7 +97,8 @@ impl<W: Copy + Drop> Queue<W> {
         entry_of(self.entries.as_slice(), id)
     }
 
-    /// Puts a task, which doesn't stand in it yet, where the order says. Answers before how many others it was put from the front.
+    /// Puts a task, which doesn't stand in it yet, where the order says. Answers before how many others it was put from
+    /// the front.
     pub fn enter(&mut self, order: Order, entry: Entry<W>) -> usize
         requires small { entry.id < 256 }
         requires new { has entry.id self.old ≡ false }
@@ -154,7 +155,8 @@ impl<W: Copy + Drop> Queue<W> {
         let _ = self.enter(order, entry);
     }
 
-    /// Gives a task that stands in it a priority: by arrival it keeps its place, by priority it comes behind its equals.
+    /// Gives a task that stands in it a priority: by arrival it keeps its place, by priority it comes behind its
+    /// equals.
     pub fn reorder(&mut self, order: Order, id: u16, priority: u8)
         ensures { self.new ≡ reordered order id priority self.old }
     {

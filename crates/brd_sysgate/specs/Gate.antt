@@ -188,7 +188,8 @@ abbrev pub called_in : KernelState → ℕ → Caller → Option State → Kerne
 called_in k cpu caller None = k
 called_in k cpu caller (Some s) = replied cpu (served_call k cpu (read_of s caller))
 
--- A SYSCALL: the context goes on as after an ordinary instruction; then the call is read from it and served, and its reply is written.
+-- A SYSCALL: the context goes on as after an ordinary instruction; then the call is read from it and served, and its
+-- reply is written.
 unfoldable pub called : KernelState → ℕ → KernelState
 called k cpu =
     let on = with_changed_context advanced k cpu in

@@ -1,4 +1,5 @@
-//! The gate of service calls: which call the registers ask for, whether it may come from there, and how its answer is written.
+//! The gate of service calls: which call the registers ask for, whether it may come from there, and how its answer is
+//! written.
 //!
 //! `specs/Gate.antt` has the table of numbers, places and arguments.
 #![tactic(auto)]

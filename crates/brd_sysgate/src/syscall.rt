@@ -7,8 +7,8 @@ ghost use Rattle.brd_sysgate.specs.Gate.{caller_of, with_changed_context, writte
 use crate::gate::{Caller, read, write};
 use brd_kernel::{Call, Ercd, Kernel, Reply};
 
-/// A SYSCALL on a processor: its context goes on as after an ordinary instruction, the call is served, and its reply is written where the
-/// context lies.
+/// A SYSCALL on a processor: its context goes on as after an ordinary instruction, the call is served, and its reply is
+/// written where the context lies.
 #[tactic(auto, unfolding(crate::specs::Gate::called))]
 pub fn call(kernel: &mut Kernel, cpu: u8)
     ensures { kernel.new ≡ called kernel.old cpu }

@@ -40,8 +40,8 @@ abbrev pub ready_priority : Option Task → ℕ → Option ℕ
 ready_priority None cpu = None
 ready_priority (Some task) cpu = if is_ready task.status && task.cpu == cpu then Some task.priority else None
 
--- A task is in the ready list of its processor exactly where it is ready, with its priority, and in no other; that it stands there once is
--- kept by each queue. The ready lists are in the order of priority. There is no task 0.
+-- A task is in the ready list of its processor exactly where it is ready, with its priority, and in no other; that it
+-- stands there once is kept by each queue. The ready lists are in the order of priority. There is no task 0.
 pub record IsConsistent (t : TaskTable) : Type 0 where
   pub rows : length t.rows ≡ 256
   pub contexts : length t.contexts ≡ 256

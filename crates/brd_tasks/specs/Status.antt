@@ -1,5 +1,5 @@
--- The states of a task, and which one each transition leads to (uITRON 4.0 specification, "Task States"). What a task waits for
--- stands in its status; there is one level of suspension (own choice).
+-- The states of a task, and which one each transition leads to (uITRON 4.0 specification, "Task States"). What a task
+-- waits for stands in its status; there is one level of suspension (own choice).
 use Rattle.std.specs.Prelude.{Bool, true, false, Option, None, Some}
 use Rattle.brd_tasks.specs.declared.status.WaitReason.{WaitReason}
 use Rattle.brd_tasks.specs.declared.status.TaskState.{TaskState}

@@ -102,7 +102,8 @@ entered id task ready =
     if is_ready task.status then slice_set ready task.cpu (behind_equals (record { id = id; priority = task.priority; wanted = tt }) (slice_index_or ready task.cpu []))
     else ready
 
--- A task is written anew: it leaves the ready list in which it was, and where it is ready comes behind its equals on its processor.
+-- A task is written anew: it leaves the ready list in which it was, and where it is ready comes behind its equals on
+-- its processor.
 abbrev pub placed : TaskTable → ℕ → Task → TaskTable
 placed t id task = record t { rows = slice_set t.rows id (Some task); ready = entered id task (left id (task_at t id) t.ready) }
 
@@ -113,8 +114,8 @@ patched t id task = record t { rows = slice_set t.rows id (Some task) }
 abbrev pub with_context : TaskTable → ℕ → State → TaskTable
 with_context t id context = record t { contexts = slice_set t.contexts id context }
 
--- What the operations make of a table. Nothing happens where there is no task of the ID, nor by a transition that doesn't apply to the
--- task's state; `with_context` and `turned` ask for no task.
+-- What the operations make of a table. Nothing happens where there is no task of the ID, nor by a transition that
+-- doesn't apply to the task's state; `with_context` and `turned` ask for no task.
 
 -- what is made of the task of a row, if there is one
 abbrev pub where_there : TaskTable → Option Task → (Task → TaskTable) → TaskTable
@@ -160,7 +161,8 @@ released_to t id answer second task (Some status) =
 abbrev pub released_with : TaskTable → ℕ → ℕ → Option ℕ → TaskTable
 released_with t id answer second = where_there t (task_at t id) (λ task. released_to t id answer second task (released task.status))
 
--- a task is given another priority or processor; one that is ready comes behind its equals, also where nothing has changed
+-- a task is given another priority or processor; one that is ready comes behind its equals, also where nothing has
+-- changed
 abbrev pub changed : (Task → Task) → TaskTable → ℕ → TaskTable
 changed change t id = where_there t (task_at t id) (λ task. placed t id (change task))
 

@@ -1,7 +1,7 @@
 //! The kernel's tasks: their states, who is ready on each processor, and their contexts.
 //!
-//! `specs/Tasks.antt` says what each call makes of them, `specs/Status.antt` which states there are and which transitions lead from
-//! one to another, `specs/Ready.antt` what is always true.
+//! `specs/Tasks.antt` says what each call makes of them, `specs/Status.antt` which states there are and which
+//! transitions lead from one to another, `specs/Ready.antt` what is always true.
 #![tactic(auto)]
 
 mod lists;

@@ -138,7 +138,8 @@ impl Tasks {
         Some(first.id)
     }
 
-    /// Starts a dormant task by a request. Any other keeps the request until it ends, in the place of one that it kept before.
+    /// Starts a dormant task by a request. Any other keeps the request until it ends, in the place of one that it kept
+    /// before.
     pub fn activate(&mut self, id: TaskId, request: Request)
         requires { IsRequest request }
         ensures { self.new ≡ activated self.old id request }
@@ -157,7 +158,8 @@ impl Tasks {
         );
     }
 
-    /// Ends a task. It starts again where a request was queued, else it is dormant, and keeps its context, priority and processor.
+    /// Ends a task. It starts again where a request was queued, else it is dormant, and keeps its context, priority and
+    /// processor.
     pub fn end(&mut self, id: TaskId)
         ensures { self.new ≡ ended self.old id }
     {
@@ -187,7 +189,8 @@ impl Tasks {
         self.place(id, Task { status, ..task });
     }
 
-    /// Ends the wait of a task, and answers its service call: $v0 takes the answer, $v1 the second result, if there is one.
+    /// Ends the wait of a task, and answers its service call: $v0 takes the answer, $v1 the second result, if there is
+    /// one.
     pub fn release(&mut self, id: TaskId, code: u32, second: Option<u32>)
         ensures { self.new ≡ released_with self.old id code second }
     {
@@ -221,7 +224,8 @@ impl Tasks {
         self.place(id, Task { status, ..task });
     }
 
-    /// Gives a task another priority. One that is ready comes behind its equals, also where it has that priority already.
+    /// Gives a task another priority. One that is ready comes behind its equals, also where it has that priority
+    /// already.
     pub fn set_priority(&mut self, id: TaskId, priority: u8)
         ensures { self.new ≡ changed (with_priority priority) self.old id }
     {

@@ -1,5 +1,5 @@
-//! What the product's texts share: bytes by kind, lines, numbers, bytes to tokens with their lines, the shape of 'a value
-//! or the first fault', and a step that is repeated over the tokens of a text.
+//! What the product's texts share: bytes by kind, lines, numbers, bytes to tokens with their lines, the shape of 'a
+//! value or the first fault', and a step that is repeated over the tokens of a text.
 #![tactic(auto)]
 
 mod byte;

@@ -1,4 +1,5 @@
--- How the code keeps the tick at which a wait ends (its contracts speak of `Time` alone): a number stands for a wait without an end.
+-- How the code keeps the tick at which a wait ends (its contracts speak of `Time` alone): a number stands for a wait
+-- without an end.
 use Rattle.std.specs.Prelude.{◌≤◌, ◌<◌, ℕ, ◌-◌, ◌^◌, ◌==◌, if◌then◌else◌, List, length, slice_index_or, Option, None, Some}
 
 abbrev pub never : ℕ

@@ -14,7 +14,8 @@ const LAST_COUNT: u64 = 9_223_372_036_854_775_807;
 /// What stands for a wait without an end: no tick that is counted.
 const NEVER: u64 = 18_446_744_073_709_551_615;
 
-/// How many ticks have passed, and for each task, by its ID below 256, at which tick its wait ends, where it has an end.
+/// How many ticks have passed, and for each task, by its ID below 256, at which tick its wait ends, where it has an
+/// end.
 #[derive(Drop)]
 pub struct Timeouts {
     count: u64,

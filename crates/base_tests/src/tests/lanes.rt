@@ -176,8 +176,8 @@ fn agrees_with_a_plain_loop(rt: HostRuntime) {
     assert!(rt; first_wrong_length().is_none());
 }
 
-/// Whether the links of a set, to words in the block, end, but for one, and the others, to words before it and behind it,
-/// don't.
+/// Whether the links of a set, to words in the block, end, but for one, and the others, to words before it and behind
+/// it, don't.
 fn breaks_a_set(set: u8, except: u8, valid: u8) -> bool
     requires { except < 8 }
 {

@@ -130,7 +130,8 @@ impl Kernel {
         self.time.disarm(id);
     }
 
-    /// A task has another priority: in the list of what it waits for it is placed anew where that goes by priority, else it keeps its place.
+    /// A task has another priority: in the list of what it waits for it is placed anew where that goes by priority,
+    /// else it keeps its place.
     pub(super) fn reorder(&mut self, id: TaskId, priority: u8, reason: Option<WaitReason>)
         ensures { self.new ≡ reordered_in self.old id priority reason }
     {

@@ -34,8 +34,8 @@ fn debug_failing(
     )
 }
 
-/// n bytes of commands take n + 1 reads, the last of which finds the end. Where one fails, the answers to the lines before
-/// have been written.
+/// n bytes of commands take n + 1 reads, the last of which finds the end. Where one fails, the answers to the lines
+/// before have been written.
 #[test]
 fn each_read_of_commands_fails(rt: HostRuntime) -> Result<(), Fail> {
     let alloc = rt.alloc();

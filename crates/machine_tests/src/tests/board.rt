@@ -4,8 +4,8 @@ use brd_isa::Register;
 use std::alloc::Global;
 use std::test::Fail;
 
-// Each function that owns a board is short and leads to few ends, and those that look at one borrow it (docs/DECISIONS.md,
-// "Forms of code that the kit refuses"). What events do is told by the scenes of crates/board_rows.
+// Each function that owns a board is short and leads to few ends, and those that look at one borrow it
+// (docs/DECISIONS.md, "Forms of code that the kit refuses"). What events do is told by the scenes of crates/board_rows.
 
 /// What a test does with a board of words.
 #[derive(Clone, Copy)]
@@ -219,8 +219,8 @@ fn full_console(rt: HostRuntime) {
     assert!(rt; goes_well(rt.alloc(), &words, Scene::Console));
 }
 
-/// Whether two boards are the same, are so behind an event of the first alone just where that changes nothing, and are so
-/// again where the second has done it too.
+/// Whether two boards are the same, are so behind an event of the first alone just where that changes nothing, and are
+/// so again where the second has done it too.
 fn part_and_meet(board: &mut Board, copy: &mut Board, event: Event, changes: bool) -> bool {
     let was_same = board.same(copy);
     let _ = board.event(event);

@@ -233,8 +233,8 @@ const OF_EXCEPTIONS: &[Case] = &[
     (&[LINKED, (1, SYSCALL, Outcome::Syscall)], LAST),
 ];
 
-/// Another processor's stores that don't store leave the link, and so do its LLs; what a processor does itself, and what it
-/// raises, may end it.
+/// Another processor's stores that don't store leave the link, and so do its LLs; what a processor does itself, and
+/// what it raises, may end it.
 #[test]
 fn what_ends_a_link(rt: HostRuntime) -> Result<(), Fail> {
     let mut ram = Ram::new(rt.alloc(), 0x1_0000)?;

@@ -22,8 +22,8 @@ fn setup(id: u16, cpu: u8, priority: u8) -> TaskSetup {
     }
 }
 
-/// A kernel of two processors with these objects, of which these tasks have been started. Tasks 1 and 2 are of processor 1
-/// and of priorities 2 and 3, tasks 3 and 4 of processor 2 and of priorities 5 and 9.
+/// A kernel of two processors with these objects, of which these tasks have been started. Tasks 1 and 2 are of
+/// processor 1 and of priorities 2 and 3, tasks 3 and 4 of processor 2 and of priorities 5 and 9.
 fn of_four(
     alloc: Global,
     semaphores: &[SemaphoreConfig],
@@ -48,8 +48,8 @@ fn of_four(
     Ok(kernel)
 }
 
-/// A kernel without objects. Tasks 1 and 2 are ready on processor 1, and task 3 on processor 2; task 4 is dormant. Tasks 1
-/// and 3 run.
+/// A kernel without objects. Tasks 1 and 2 are ready on processor 1, and task 3 on processor 2; task 4 is dormant.
+/// Tasks 1 and 3 run.
 fn two(alloc: Global) -> Result<Kernel, NoMemory> {
     of_four(alloc, &[], &[], &[], &[2, 1, 3])
 }
@@ -79,8 +79,9 @@ fn queue(id: u16, attributes: u32, capacity: u16) -> QueueConfig {
     }
 }
 
-/// A kernel of four ready tasks, of which 1 and 3 run. Semaphore 1 is full, semaphore 2 (TA_TPRI) is empty, flag 1 has bit 0
-/// and lets one task wait, flag 2 (TA_WMUL, TA_CLR) has no bits, queue 1 stores nothing, and queue 2 (TA_TPRI) is empty.
+/// A kernel of four ready tasks, of which 1 and 3 run. Semaphore 1 is full, semaphore 2 (TA_TPRI) is empty, flag 1 has
+/// bit 0 and lets one task wait, flag 2 (TA_WMUL, TA_CLR) has no bits, queue 1 stores nothing, and queue 2 (TA_TPRI) is
+/// empty.
 fn with_objects(alloc: Global) -> Result<Kernel, NoMemory> {
     let semaphores = [semaphore(1, 0, 1), semaphore(2, 1, 0)];
     let flags = [flag(1, 0, 1), flag(2, 6, 0)];
@@ -294,8 +295,8 @@ fn refuses_of_processors(kernel: &mut Kernel) -> bool {
         && first_other_of_one(kernel, REFUSALS_OF_PROCESSORS).is_none()
 }
 
-/// Each refusal of each call that names a processor or turns a list, from processor 1; of two reasons the earlier one in the order is
-/// answered. Task 2 has a request queued.
+/// Each refusal of each call that names a processor or turns a list, from processor 1; of two reasons the earlier one
+/// in the order is answered. Task 2 has a request queued.
 #[test]
 fn refusals_of_processors(rt: HostRuntime) {
     assert!(rt; goes_well(rt.alloc(), Scene::OfProcessors));
@@ -320,8 +321,8 @@ fn holds(kernel: &mut Kernel, mark: Call, unmark: Call) -> bool {
         && serves(kernel, 2, Call::SusTsk(1), OK, 1)
 }
 
-/// Each mark of processor 1 holds task 1 there: processor 2 neither ends nor suspends nor moves it, but does so with task 2, which is
-/// ready there and doesn't run.
+/// Each mark of processor 1 holds task 1 there: processor 2 neither ends nor suspends nor moves it, but does so with
+/// task 2, which is ready there and doesn't run.
 #[test]
 fn held(rt: HostRuntime) {
     assert!(rt;
@@ -330,7 +331,8 @@ fn held(rt: HostRuntime) {
     );
 }
 
-/// A kernel of eight processors, each idle, whose 32 lines all have handlers: on processor 1, or on each processor in turn.
+/// A kernel of eight processors, each idle, whose 32 lines all have handlers: on processor 1, or on each processor in
+/// turn.
 fn with_lines(alloc: Global, in_turn: bool) -> Result<Kernel, NoMemory> {
     let handler = Handler {
         cpu: 1,
@@ -369,7 +371,8 @@ fn handles_all(kernel: &mut Kernel) -> bool {
     kernel.accept(1).is_none() && kernel.standing(1) == Some(Standing::Idle)
 }
 
-/// All 32 lines are pending on one processor: it accepts them from the lowest up, each once the handler before has ended.
+/// All 32 lines are pending on one processor: it accepts them from the lowest up, each once the handler before has
+/// ended.
 #[test]
 fn lines_of_one_processor(rt: HostRuntime) {
     assert!(rt; goes_well(rt.alloc(), Scene::OneProcessor));
@@ -455,8 +458,8 @@ fn refuses_of_objects(kernel: &mut Kernel) -> bool {
         && first_other_of_one(kernel, REFUSALS_OF_OBJECTS).is_none()
 }
 
-/// Each refusal of each call that names an object or a time; of two reasons the earlier one in the order is answered, also where the
-/// call could be done at once. Task 3 waits for a bit of flag 1.
+/// Each refusal of each call that names an object or a time; of two reasons the earlier one in the order is answered,
+/// also where the call could be done at once. Task 3 waits for a bit of flag 1.
 #[test]
 fn refusals_of_objects(rt: HostRuntime) {
     assert!(rt; goes_well(rt.alloc(), Scene::OfObjects));
@@ -495,7 +498,8 @@ const CALLS_OF_OBJECTS: &[Served] = &[
     (2, Call::TrcvDtq(2, POLL), TMOUT, 0),
 ];
 
-/// Calls of objects one after the other, each from a processor, with what they answer, and which processors' running tasks change.
+/// Calls of objects one after the other, each from a processor, with what they answer, and which processors' running
+/// tasks change.
 #[test]
 fn calls_of_objects(rt: HostRuntime) {
     assert!(rt; goes_well(rt.alloc(), Scene::Objects));

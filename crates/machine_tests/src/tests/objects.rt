@@ -194,8 +194,8 @@ fn serves(table: &mut Semaphores, tasks: &[u16]) -> bool {
     true
 }
 
-/// 255 tasks wait for semaphore 1, the even ones with priority 3, the odd ones with 7. Whether these are served first, and
-/// these behind them where 8 leaves, 255 gets priority 1 and 10 priority 3.
+/// 255 tasks wait for semaphore 1, the even ones with priority 3, the odd ones with 7. Whether these are served first,
+/// and these behind them where 8 leaves, 255 gets priority 1 and 10 priority 3.
 fn serves_in_order(table: &mut Semaphores, first: &[u16], next: &[u16]) -> bool {
     for task in 1..256u16 {
         table.wait(1, task, if task % 2 == 0 { 3 } else { 7 });

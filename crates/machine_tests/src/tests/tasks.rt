@@ -38,7 +38,8 @@ fn four(alloc: Global) -> Result<Tasks, NoMemory> {
     )
 }
 
-/// Whether a task is in this state, with this priority, on this processor, and with so many activations and wake-ups queued.
+/// Whether a task is in this state, with this priority, on this processor, and with so many activations and wake-ups
+/// queued.
 fn is_so(tasks: &Tasks, id: u16, state: TaskState, numbers: (u8, u8, u8, u8)) -> bool {
     let (priority, cpu, activations, wakeups) = numbers;
     match tasks.view(id) {
@@ -197,8 +198,8 @@ fn starts_on_3(tasks: &mut Tasks) -> bool {
     was_so && is_so(tasks, 1, TaskState::Ready, (5, 3, 0, 0)) && has_words(tasks, 1, 0, 0, 1)
 }
 
-/// Task 1 ends with a request queued, and is on another processor then; and ends once more behind a request that was taken
-/// back.
+/// Task 1 ends with a request queued, and is on another processor then; and ends once more behind a request that was
+/// taken back.
 fn starts_where_it_is(tasks: &mut Tasks) -> bool {
     tasks.activate(1, Request::Assigned);
     tasks.migrate(1, 7);
@@ -211,7 +212,8 @@ fn starts_where_it_is(tasks: &mut Tasks) -> bool {
     was_so && is_so(tasks, 1, TaskState::Dormant, (4, 7, 0, 0)) && tops(tasks) == [0; 10]
 }
 
-/// A queued request is met at the end, with the first priority and context, on the processor that it names or that is assigned then.
+/// A queued request is met at the end, with the first priority and context, on the processor that it names or that is
+/// assigned then.
 #[test]
 fn starts_again(rt: HostRuntime) {
     assert!(rt; goes_well(rt.alloc(), Scene::StartsAgain));
