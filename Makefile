@@ -1,5 +1,5 @@
-# board: an emulated MIPS32 board for real-time software, proved. `make demo` needs no toolchain; all else needs Rattle's
-# `rt`.
+# board: an emulated MIPS32 board for real-time software, proved. `make demo` needs no toolchain; all else needs
+# Rattle's `rt`.
 BOARD = build/board
 
 # The crates whose wrong bodies `make attack` tries (none: all), as in `make attack CRATES="brd_exec brd_isa"`.

@@ -197,8 +197,8 @@ as_run() {
     same "$1 as by run" "$work/wanted" "$work/out"
 }
 
-# Two tasks on two processors count under one lock, and wait for ticks; see the source. 900 runs, by a sequence of numbers
-# that look like random ones.
+# Two tasks on two processors count under one lock, and wait for ticks; see the source. 900 runs, by a sequence of
+# numbers that look like random ones.
 assembled counters tests/debugging/counters/source.s
 config=tests/debugging/counters/config.cfg
 number=1
@@ -229,16 +229,18 @@ same "positions in another order" "$work/ascending" "$work/mixed"
 as_run "two tasks" 53 80000053 80000063
 
 # The stops, by the events and what is shown at each position: a step of a processor that is at a break, and a byte that
-# is another one at the next position. (No line has a handler here, so a step of a processor that is somewhere executes.)
-# stops BREAK COLUMN: the stops of a break at an address, `-` for none, and of the byte in a column of `shown`, 0 for none.
+# is another one at the next position. (No line has a handler here, so a step of a processor that is somewhere
+# executes.)
+# stops BREAK COLUMN: the stops of a break at an address, `-` for none, and of the byte in a column of `shown`, 0 for
+# none.
 stops() {
     awk -v mark="$1" -v column="$2" '
         NR == FNR { event[NR - 1] = $1; cpu[NR - 1] = $2; next }
         FNR > 1 && (event[at] == "S" && pc[cpu[at]] "" == mark "" || column && byte "" != $column "") { print at }
         { at = $1; pc[1] = $2; pc[2] = $3; byte = $column }' "$work/events" "$work/ascending"
 }
-# stops_are NAME BREAK WATCH COLUMN: `next` goes to these from 0, and `back` from the end, one after the other. COLUMN is
-# that of the watched byte.
+# stops_are NAME BREAK WATCH COLUMN: `next` goes to these from 0, and `back` from the end, one after the other. COLUMN
+# is that of the watched byte.
 stops_are() {
     local front=() count
     [ "$2" = - ] || front+=("break $2")

@@ -1,8 +1,9 @@
 #!/bin/bash
-# The tests of `board run`: tests/run.sh PROGRAM. Each folder of tests/scenarios is one: `source.s`, which is assembled, or
-# the object file `image.elf`; `config.cfg`; `journal`; and `report`, what `run` prints, or `fault`, what it says on standard
-# error with status 1. The head of the source says what happens in it. What of that is seen in registers and memory alone
-# is no part of a report: crates/board_rows has most of these scenes too, and compares all. What no folder can say follows.
+# The tests of `board run`: tests/run.sh PROGRAM. Each folder of tests/scenarios is one: `source.s`, which is assembled,
+# or the object file `image.elf`; `config.cfg`; `journal`; and `report`, what `run` prints, or `fault`, what it says on
+# standard error with status 1. The head of the source says what happens in it. What of that is seen in registers and
+# memory alone is no part of a report: crates/board_rows has most of these scenes too, and compares all. What no folder
+# can say follows.
 . "$(dirname "$0")/check.sh"
 . tests/growths.sh
 
@@ -52,8 +53,8 @@ run "CONFIG is a folder" 4 "$work/nothing" "board: can't read the configuration:
 run "IMAGE is a folder" 4 "$work/nothing" "board: can't read the object file: $is_directory" / / /
 run "JOURNAL is a folder" 4 "$work/nothing" "board: can't read the journal: $is_directory" "$work/hello" $hello/config.cfg /
 
-# A file in the place of another. Fields: the argument, counted from 0; the file; what it looks like, where that is another
-# kind than it should be of, or that it is empty.
+# A file in the place of another. Fields: the argument, counted from 0; the file; what it looks like, where that is
+# another kind than it should be of, or that it is empty.
 faults=("the object file: no ELF file: it doesn't begin with the bytes 7F 45 4C 46"
     "the configuration: line 1: found what no statement has here, expected one in the form of its kind"
     "the journal: line 1: expected \`board-journal 1\` first, then lines \`S CPU COUNT\`, \`T COUNT\` and \`R LINE COUNT\`")

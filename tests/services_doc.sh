@@ -1,6 +1,6 @@
 #!/bin/bash
-# Compares the table of service calls of docs/KERNEL.md with the definitions: numbers, places, arguments and refusals have to be those of
-# brd_sysgate's table and of brd_kernel's rows. Run by tests/commands.
+# Compares the table of service calls of docs/KERNEL.md with the definitions: numbers, places, arguments and refusals
+# have to be those of brd_sysgate's table and of brd_kernel's rows. Run by tests/commands.
 set -u
 cd "$(dirname "$0")/.." || exit 2
 gate=crates/brd_sysgate/specs/Gate.antt
@@ -14,8 +14,8 @@ of_gate() {
         done
 }
 
-# The call of the table for which a number stands: one that may wait stands there as its form with a timeout (wai_sem, pol_sem as
-# twai_sem), and a handler's as that of tasks where both do the same (isig_sem as sig_sem).
+# The call of the table for which a number stands: one that may wait stands there as its form with a timeout (wai_sem,
+# pol_sem as twai_sem), and a handler's as that of tasks where both do the same (isig_sem as sig_sem).
 in_table() {
     sed -E 's/^i(rel_wai|sig_sem|set_flg|psnd_dtq|fsnd_dtq|get_tid)$/\1/; s/^pol_/wai_/; s/^p(snd|rcv)_/\1_/; s/^(slp|wai|snd|rcv)_/t\1_/' <<< "$1"
 }

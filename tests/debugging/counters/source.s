@@ -1,7 +1,7 @@
-# A task on each of two processors counts in one word under one lock, and then waits for ticks: the one for the next, the
-# other, which has 2 as its argument, for the third. No steps are written down here: tests/debug.sh makes the journals,
-# and compares what is shown at each position, in one order of positions and in another, and with what `board run` says
-# of the journal up to there.
+# A task on each of two processors counts in one word under one lock, and then waits for ticks: the one for the next,
+# the other, which has 2 as its argument, for the third. No steps are written down here: tests/debug.sh makes the
+# journals, and compares what is shown at each position, in one order of positions and in another, and with what `board
+# run` says of the journal up to there.
 task:   addu    $s0, $0, $a0            # how many ticks more than one it waits
         lui     $gp, %hi(lock)
 take:   ll      $t0, %lo(lock)($gp)

@@ -1,6 +1,6 @@
-# A break is where an instruction raises an exception, too, by its own address: also where the fetch does so, outside RAM
-# (3) and at an address that isn't aligned (8); where the word stands for no instruction (10); and in a delay slot (14),
-# where the exception's EPC is the address of the branch. Each exception ends a task, and the next one runs. The
+# A break is where an instruction raises an exception, too, by its own address: also where the fetch does so, outside
+# RAM (3) and at an address that isn't aligned (8); where the word stands for no instruction (10); and in a delay slot
+# (14), where the exception's EPC is the address of the branch. Each exception ends a task, and the next one runs. The
 # positions are the numbers of the instructions in the order in which they come.
 one:    lui     $t0, 0x9000     # 80000000: 0
         jr      $t0             # 80000004: 1

@@ -1,6 +1,6 @@
-# Watched bytes are stops whoever stores: a task of each processor, and a handler. 4: processor 2 stores into the block of
-# processor 1's link, so that the SC at 5 stores nothing and is no stop; the one at 8 stores. 9 raises line 5, 10 is a
-# tick, and 11 accepts the interrupt. 16: processor 2 stores again.
+# Watched bytes are stops whoever stores: a task of each processor, and a handler. 4: processor 2 stores into the block
+# of processor 1's link, so that the SC at 5 stores nothing and is no stop; the one at 8 stores. 9 raises line 5, 10 is
+# a tick, and 11 accepts the interrupt. 16: processor 2 stores again.
 one:    lui     $gp, 0x8000         # 80000000: 0
         ll      $t0, 0x1000($gp)    # 80000004: 1
         addiu   $t1, $0, 1          # 80000008: 2
