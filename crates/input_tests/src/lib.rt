@@ -1,4 +1,4 @@
-//! Tests of what reads its input: brd_source and brd_asm, brd_config, brd_elf.
+//! Tests of what reads its input: brd_asm with brd_source below it, brd_config, brd_elf.
 #![tactic(auto)]
 
 #[cfg(test)]

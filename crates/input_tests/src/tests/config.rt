@@ -1,38 +1,8 @@
-//! Texts with answers that were worked out by hand.
+//! Configurations.
 
 mod changed;
 mod many;
 mod values;
-
-use brd_config::{Config, ConfigFault};
-
-/// What a text says, as a row has it: a configuration, or a fault and its line.
-#[derive(Clone, Copy, Debug, PartialEq, Eq)]
-enum Want {
-    Fine,
-    Syntax(usize),
-    Duplicate(usize),
-    BadId(usize),
-    BadAttribute(usize),
-    BadPriority(usize),
-    BadCount(usize),
-    BadProcessor(usize),
-    NoMemory,
-}
-
-fn answered(answer: &Result<Config, ConfigFault>) -> Want {
-    match answer {
-        Ok(_) => Want::Fine,
-        Err(ConfigFault::NoMemory) => Want::NoMemory,
-        Err(ConfigFault::Syntax { line }) => Want::Syntax(*line),
-        Err(ConfigFault::Duplicate { line }) => Want::Duplicate(*line),
-        Err(ConfigFault::BadId { line }) => Want::BadId(*line),
-        Err(ConfigFault::BadAttribute { line }) => Want::BadAttribute(*line),
-        Err(ConfigFault::BadPriority { line }) => Want::BadPriority(*line),
-        Err(ConfigFault::BadCount { line }) => Want::BadCount(*line),
-        Err(ConfigFault::BadProcessor { line }) => Want::BadProcessor(*line),
-    }
-}
 
 /// A text with a statement of every kind, comments of both forms, and numbers of both.
 const EVERY: &str = "/* every kind of statement */

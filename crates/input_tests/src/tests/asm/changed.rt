@@ -1,68 +1,62 @@
-//! Every front of lines, and the lines with each byte changed: each has an answer. Single lines stand in
-//! tests/lines.table.
+//! Every front of a source and of lines, and these with each byte changed: each has an answer. What single lines say
+//! stands in tests/lines.table.
 
-use brd_source::{LineFault, parse_line};
-use std::test::Fail;
+use super::super::changed::{Answer, Language, answer_of, changes, fronts};
+use super::super::none_wrong;
+use super::every::SOURCE;
+use std::alloc::Global;
 
-const LINES: [&str; 4] = [
+/// The bytes that each byte of the source is changed to.
+const IN_SOURCE: &[u8] = &[b':', b',', b'"', b'#', b'\n', 0, 0xff];
+
+#[test]
+fn cut_and_changed_source(rt: HostRuntime) {
+    let source = SOURCE.as_bytes();
+    none_wrong(&rt, fronts(rt.alloc(), Language::Source, source).err());
+    none_wrong(
+        &rt,
+        changes(rt.alloc(), Language::Source, source, IN_SOURCE).err(),
+    );
+}
+
+/// Lines, each of which has a form.
+const LINES: &[&str] = &[
     "a: b1 :\taddiu $t0, $s8, %lo ( data+-0x1f ) // all of it",
     "loop: PREF 30 , 4 ( $31 )# all of it",
     ".word 1, -2, a+3,b-0x0,0xFFFFFFFF # values",
     "text: .asciiz \"a\\n\\t\\0\\\\\\\" # // \" // text",
 ];
 
-/// Whether a line has none of the forms.
-fn is_syntax(rt: &HostRuntime, line: &[u8]) -> bool {
-    matches!(parse_line(rt.alloc(), line), Err(LineFault::Syntax))
+/// The bytes that each byte of a line is changed to.
+const IN_LINES: &[u8] = &[b':', b',', b'"', b'#', 0, 0xFF];
+
+/// Whether a line has a form, and each of its fronts an answer.
+fn is_answered_cut(alloc: Global, line: &[u8]) -> bool {
+    matches!(answer_of(alloc, Language::Source, line), Answer::Fine)
+        && fronts(alloc, Language::Source, line).is_ok()
 }
 
-/// Whether a line has one of the forms.
-fn is_fine(rt: &HostRuntime, line: &[u8]) -> bool {
-    parse_line(rt.alloc(), line).is_ok()
+/// Whether each change of a line has an answer, and more than 20 leave it a form: changes in comments and strings do,
+/// and comments in front of what may be left out.
+fn is_answered_changed(alloc: Global, line: &[u8]) -> bool {
+    match changes(alloc, Language::Source, line, IN_LINES) {
+        Ok(fine) => fine > 20,
+        Err(_) => false,
+    }
 }
 
-#[test]
-fn fronts(rt: HostRuntime) {
-    for line in LINES {
+/// The first of `LINES` that isn't answered rightly when it is cut, or changed.
+fn first_wrong(alloc: Global) -> Option<usize> {
+    for (row, line) in LINES.iter().enumerate() {
         let text = line.as_bytes();
-        assert!(rt; is_fine(&rt, text), "{line}");
-        for end in 0..text.len() {
-            let front = &text[..end];
-            assert!(rt;
-                is_fine(&rt, front) || is_syntax(&rt, front),
-                "{end} of {line}"
-            );
+        if !is_answered_cut(alloc, text) || !is_answered_changed(alloc, text) {
+            return Some(row);
         }
     }
-}
-
-/// How many changes of a byte leave a line fine, where each has an answer.
-fn fine_changes(rt: &HostRuntime, line: &str) -> Result<u32, Fail> {
-    let mut copy = Vec::from_slice(rt.alloc(), line.as_bytes())?;
-    let text = copy.as_mut_slice();
-    let mut fine = 0u32;
-    for place in 0..text.len() {
-        let byte = text[place];
-        for change in [b':', b',', b'"', b'#', 0, 0xFF] {
-            text[place] = change;
-            let is_fine = is_fine(rt, text);
-            if !is_fine && !is_syntax(rt, text) {
-                return Err("a line without an answer")?;
-            }
-            if is_fine && fine < 100_000 {
-                fine += 1;
-            }
-        }
-        text[place] = byte;
-    }
-    Ok(fine)
+    None
 }
 
 #[test]
-fn changed_bytes(rt: HostRuntime) -> Result<(), Fail> {
-    // changes in comments and strings, and comments in front of what may be left out
-    for line in LINES {
-        assert!(rt; fine_changes(&rt, line)? > 20, "{line}");
-    }
-    Ok(())
+fn cut_and_changed_lines(rt: HostRuntime) {
+    none_wrong(&rt, first_wrong(rt.alloc()));
 }

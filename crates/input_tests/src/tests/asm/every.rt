@@ -1,5 +1,6 @@
-//! A source of every mnemonic, one-word form and directive, with its words and names. The words were worked out from MD00086's
-//! tables of codes; tests/asm_binutils.sh compares the same source, which it takes from here, with what GNU as makes of it.
+//! A source of every mnemonic, one-word form and directive, with its words and names. The words were worked out from
+//! MD00086's tables of codes; tests/asm_binutils.sh compares the same source, which it takes from here, with what GNU
+//! as makes of it.
 
 pub const SOURCE: &str = "\
 # Every mnemonic, shorthand and directive.\n\

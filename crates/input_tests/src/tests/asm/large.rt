@@ -1,54 +1,113 @@
 //! Sources that are larger than what any list, map or tree begins with.
 
+use super::super::numbered::put_all;
 use brd_asm::assemble;
-use std::test::Fail;
+use brd_mem::{Image, Segment, Symbol};
+use std::alloc::{AllocError, Global};
 
 /// How many names, and how many stretches of bytes.
 const MANY: u32 = 100_000;
 
+/// The address of a stretch by its number: each is of a byte, with a gap behind it.
+fn place_of(number: u32) -> u32 {
+    0x8000_0000u32.wrapping_add(number.wrapping_mul(2))
+}
+
+/// Whether each segment is one byte in its place.
+fn are_single_bytes(segments: &[Segment]) -> bool {
+    let mut number = 0u32;
+    for segment in segments {
+        if segment.address != place_of(number) || segment.bytes.as_slice() != [1].as_slice() {
+            return false;
+        }
+        number = number.wrapping_add(1);
+    }
+    true
+}
+
+/// Whether a symbol is called `n` and this number.
+fn has_number(alloc: Global, symbol: &Symbol, number: u32) -> bool {
+    match format!(in alloc; "n{number}") {
+        Ok(name) => symbol.name.as_slice() == name.as_bytes(),
+        Err(_) => false,
+    }
+}
+
+/// Whether each symbol is called by its number, and its place is its value.
+fn are_places(alloc: Global, symbols: &[Symbol]) -> bool {
+    let mut number = 0u32;
+    for symbol in symbols {
+        if symbol.value != place_of(number) || !has_number(alloc, symbol, number) {
+            return false;
+        }
+        number = number.wrapping_add(1);
+    }
+    true
+}
+
+/// Whether an image has `MANY` segments and symbols, each as it should be.
+fn has_many(alloc: Global, image: &Image) -> bool {
+    image.segments.len() == MANY as usize
+        && image.symbols.len() == MANY as usize
+        && are_single_bytes(image.segments.as_slice())
+        && are_places(alloc, image.symbols.as_slice())
+}
+
+/// Whether a source is that of `MANY` names.
+fn is_of_many(alloc: Global, source: &str) -> bool {
+    match assemble(alloc, source.as_bytes()) {
+        Ok(image) => has_many(alloc, &image),
+        Err(_) => false,
+    }
+}
+
 /// 100,000 names, each of a byte with a gap behind it.
 #[test]
-fn many_names(rt: HostRuntime) -> Result<(), Fail> {
-    let alloc = rt.alloc();
-    let mut source = String::new(alloc);
-    for i in 0..MANY {
-        write!(source, "n{i}: .byte 1\n.org n{i}+2\n")?;
+fn many_names(rt: HostRuntime) {
+    let mut source = String::new(rt.alloc());
+    let is_put = put_all(&mut source, "n#: .byte 1\n.org n#+2\n", 0, MANY - 1).is_ok();
+    assert!(rt; is_put && is_of_many(rt.alloc(), source.as_str()));
+}
+
+/// Puts a word at the end, and one behind 1,000 labels of its line.
+fn put_line(source: &mut String) -> Result<(), AllocError> {
+    source.push_str("nop\n")?;
+    put_all(source, "l#:", 0, 999)?;
+    source.push_str(" .word l999\n")
+}
+
+/// Whether each symbol has this value.
+fn have_value(symbols: &[Symbol], value: u32) -> bool {
+    for symbol in symbols {
+        if symbol.value != value {
+            return false;
+        }
     }
-    let image = assemble(alloc, source.as_bytes())?;
-    assert!(rt; image.segments.len() == MANY as usize);
-    assert!(rt; image.symbols.len() == MANY as usize);
-    let mut address = 0x8000_0000u32;
-    for segment in image.segments.as_slice() {
-        assert!(rt; segment.address == address);
-        assert!(rt; segment.bytes.as_slice() == [1].as_slice());
-        address = address.wrapping_add(2);
+    true
+}
+
+/// Whether an image has two words and 1,000 names of the second one.
+fn has_labels(image: &Image) -> bool {
+    let [segment] = image.segments.as_slice() else {
+        return false;
+    };
+    image.symbols.len() == 1_000
+        && have_value(image.symbols.as_slice(), 0x8000_0004)
+        && segment.bytes.as_slice() == [0, 0, 0, 0, 0x80, 0, 0, 4].as_slice()
+}
+
+/// Whether a source is that of two words and 1,000 names.
+fn is_of_labels(alloc: Global, source: &str) -> bool {
+    match assemble(alloc, source.as_bytes()) {
+        Ok(image) => has_labels(&image),
+        Err(_) => false,
     }
-    let mut i = 0u32;
-    for symbol in image.symbols.as_slice() {
-        let name = format!(in alloc; "n{i}")?;
-        assert!(rt; symbol.name.as_slice() == name.as_bytes());
-        assert!(rt; symbol.value == 0x8000_0000u32.wrapping_add(i.wrapping_mul(2)));
-        i = i.wrapping_add(1);
-    }
-    Ok(())
 }
 
 /// 1,000 labels on one line.
 #[test]
-fn many_labels_on_a_line(rt: HostRuntime) -> Result<(), Fail> {
-    let alloc = rt.alloc();
-    let mut source = String::from_str(alloc, "nop\n")?;
-    for i in 0..1_000u32 {
-        write!(source, "l{i}:")?;
-    }
-    source.push_str(" .word l999\n")?;
-    let image = assemble(alloc, source.as_bytes())?;
-    assert!(rt; image.symbols.len() == 1_000);
-    for symbol in image.symbols.as_slice() {
-        assert!(rt; symbol.value == 0x8000_0004);
-    }
-    for segment in image.segments.as_slice() {
-        assert!(rt; segment.bytes.as_slice() == [0, 0, 0, 0, 0x80, 0, 0, 4].as_slice());
-    }
-    Ok(())
+fn many_labels_on_a_line(rt: HostRuntime) {
+    let mut source = String::new(rt.alloc());
+    let is_put = put_line(&mut source).is_ok();
+    assert!(rt; is_put && is_of_labels(rt.alloc(), source.as_str()));
 }

@@ -1,25 +1,34 @@
 //! As many objects as IDs and lines.
 
-use brd_config::{Config, parse};
+use super::super::numbered::put_all;
+use brd_config::{Config, TaskConfig, parse};
 use std::alloc::{AllocError, Global};
-use std::test::Fail;
 
-/// A text with a task, a semaphore, a flag and a queue of each ID, and a handler of each line.
-fn text_of_all(alloc: Global) -> Result<String, AllocError> {
-    let mut text = String::from_str(alloc, "BOARD(8, 0x1000000);\n")?;
-    for id in 1..=255u32 {
-        write!(
-            text,
-            "CRE_TSK({id}, {{TA_ACT, {id}, task, 16, 256, NULL}});\n"
-        )?;
-        write!(text, "CRE_SEM({id}, {{TA_TPRI, {id}, 255}});\n")?;
-        write!(text, "CRE_FLG({id}, {{TA_WMUL, {id}}});\n")?;
-        write!(text, "CRE_DTQ({id}, {{TA_TFIFO, {id}, NULL}});\n")?;
+/// A task, a semaphore, a flag and a queue of an ID.
+const OBJECTS: &str = "CRE_TSK(#, {TA_ACT, #, task, 16, 256, NULL});
+CRE_SEM(#, {TA_TPRI, #, 255});
+CRE_FLG(#, {TA_WMUL, #});
+CRE_DTQ(#, {TA_TFIFO, #, NULL});
+";
+
+/// A handler of a line.
+const HANDLER: &str = "DEF_INH(#, {TA_HLNG, #});\n";
+
+/// Puts a text with the objects of each ID and a handler of each line at the end.
+fn put_text(text: &mut String) -> Result<(), AllocError> {
+    text.push_str("BOARD(8, 0x1000000);\n")?;
+    put_all(text, OBJECTS, 1, 255)?;
+    put_all(text, HANDLER, 0, 31)
+}
+
+/// Whether each task has the ID of its place.
+fn are_in_order(tasks: &[TaskConfig]) -> bool {
+    for (place, task) in tasks.iter().enumerate() {
+        if usize::from(task.id) != place + 1 {
+            return false;
+        }
     }
-    for line in 0..32u32 {
-        write!(text, "DEF_INH({line}, {{TA_HLNG, {line}}});\n")?;
-    }
-    Ok(text)
+    true
 }
 
 /// Whether there are as many objects of each kind as IDs, the tasks by their IDs.
@@ -29,31 +38,45 @@ fn has_all(config: &Config) -> bool {
         && config.flags.len() == 255
         && config.queues.len() == 255
         && config.handlers.len() == 32
-        && config
-            .tasks
-            .as_slice()
-            .iter()
-            .enumerate()
-            .all(|(place, task)| usize::from(task.id) == place + 1)
+        && are_in_order(config.tasks.as_slice())
 }
 
 /// Whether the last object of each kind is that of the text.
 fn has_last_ones(config: &Config) -> bool {
-    let semaphore = config.semaphores.as_slice().last();
-    let flag = config.flags.as_slice().last();
-    let queue = config.queues.as_slice().last();
-    let handler = config.handlers.as_slice().last();
-    semaphore.is_some_and(|it| (it.id, it.initial, it.maximum) == (255, 255, 255))
-        && flag.is_some_and(|it| (it.id, it.pattern) == (255, 255))
-        && queue.is_some_and(|it| (it.id, it.capacity) == (255, 255))
-        && handler.is_some_and(|it| (it.line, it.processor) == (31, 1))
+    let [.., semaphore] = config.semaphores.as_slice() else {
+        return false;
+    };
+    let [.., flag] = config.flags.as_slice() else {
+        return false;
+    };
+    let [.., queue] = config.queues.as_slice() else {
+        return false;
+    };
+    let [.., handler] = config.handlers.as_slice() else {
+        return false;
+    };
+    semaphore.id == 255
+        && semaphore.initial == 255
+        && semaphore.maximum == 255
+        && flag.id == 255
+        && flag.pattern == 255
+        && queue.id == 255
+        && queue.capacity == 255
+        && handler.line == 31
+        && handler.processor == 1
+}
+
+/// Whether a text says all that.
+fn says_all(alloc: Global, text: &str) -> bool {
+    match parse(alloc, text.as_bytes()) {
+        Ok(config) => has_all(&config) && has_last_ones(&config),
+        Err(_) => false,
+    }
 }
 
 #[test]
-fn as_many_objects_as_ids(rt: HostRuntime) -> Result<(), Fail> {
-    let alloc = rt.alloc();
-    let text = text_of_all(alloc)?;
-    let config = parse(alloc, text.as_bytes())?;
-    assert!(rt; has_all(&config) && has_last_ones(&config));
-    Ok(())
+fn as_many_objects_as_ids(rt: HostRuntime) {
+    let mut text = String::new(rt.alloc());
+    let is_put = put_text(&mut text).is_ok();
+    assert!(rt; is_put && says_all(rt.alloc(), text.as_str()));
 }

@@ -1,0 +1,83 @@
+//! What an image holds, as a line of text, and how faults read.
+
+use brd_mem::{Image, Segment, Symbol};
+use std::alloc::{AllocError, Global};
+use std::fmt::{Debug, Display};
+
+/// Puts each byte at the end, as two digits.
+fn put_bytes(text: &mut String, bytes: &[u8]) -> Result<(), AllocError> {
+    for byte in bytes {
+        write!(text, "{byte:02x}")?;
+    }
+    Ok(())
+}
+
+/// Puts a name at the end.
+fn put_name(text: &mut String, name: &[u8]) -> Result<(), AllocError> {
+    for byte in name {
+        text.push(char::from(*byte))?;
+    }
+    Ok(())
+}
+
+/// Puts each segment's address and bytes at the end.
+fn put_segments(text: &mut String, segments: &[Segment]) -> Result<(), AllocError> {
+    for segment in segments {
+        let address = segment.address;
+        write!(text, " {address:08x}:")?;
+        put_bytes(text, segment.bytes.as_slice())?;
+    }
+    Ok(())
+}
+
+/// Puts each symbol's name and value at the end.
+fn put_symbols(text: &mut String, symbols: &[Symbol]) -> Result<(), AllocError> {
+    for symbol in symbols {
+        let value = symbol.value;
+        text.push(' ')?;
+        put_name(text, symbol.name.as_slice())?;
+        write!(text, "={value:08x}")?;
+    }
+    Ok(())
+}
+
+/// Puts what an image holds at the end.
+fn put_image(text: &mut String, image: &Image) -> Result<(), AllocError> {
+    let entry = image.entry;
+    write!(text, "{entry:08x}")?;
+    put_segments(text, image.segments.as_slice())?;
+    put_symbols(text, image.symbols.as_slice())
+}
+
+/// Whether an image holds what this says: the entry, each segment's address and bytes, and each symbol with its value;
+/// numbers are hexadecimal.
+pub fn shows(alloc: Global, image: &Image, wanted: &str) -> bool {
+    let mut text = String::new(alloc);
+    put_image(&mut text, image).is_ok() && text.as_str() == wanted
+}
+
+/// Whether a fault is called so, as `Range { line: 2 }`.
+pub fn is_called<F: Debug>(alloc: Global, fault: &F, wanted: &str) -> bool {
+    match format!(in alloc; "{fault:?}") {
+        Ok(text) => text.as_str() == wanted,
+        Err(_) => false,
+    }
+}
+
+/// Whether a fault reads so.
+fn reads<F: Display>(alloc: Global, fault: &F, wanted: &str) -> bool {
+    match format!(in alloc; "{fault}") {
+        Ok(text) => text.as_str() == wanted,
+        Err(_) => false,
+    }
+}
+
+/// The first of these faults that reads otherwise.
+pub fn first_wrong_text<F: Display>(alloc: Global, rows: &[(F, &str)]) -> Option<usize> {
+    for (row, (fault, text)) in rows.iter().enumerate() {
+        if !reads(alloc, fault, *text) {
+            return Some(row);
+        }
+    }
+    None
+}
