@@ -1,6 +1,7 @@
 //! Worked examples, and each scan against a plain loop.
 ghost use Rattle.std.specs.Prelude.{◌<◌, ◌≤◌, length};
 
+use super::none_wrong;
 use brd_lanes::{break_links, first_match, hits, next_due, same_words};
 
 /// Patterns, their modes, the bits that are set, where the scan begins, and the first wait that is satisfied.
@@ -30,7 +31,7 @@ fn first_wrong_wait() -> Option<usize> {
 
 #[test]
 fn finds_the_first_satisfied_wait(rt: HostRuntime) {
-    assert!(rt; first_wrong_wait().is_none());
+    none_wrong(&rt, first_wrong_wait());
 }
 
 /// Ticks, the present one, and the first place whose tick has come.
@@ -53,7 +54,7 @@ fn first_wrong_due() -> Option<usize> {
 
 #[test]
 fn finds_the_first_due_tick(rt: HostRuntime) {
-    assert!(rt; first_wrong_due().is_none());
+    none_wrong(&rt, first_wrong_due());
 }
 
 const LINKED: [u32; 8] = [0x8000_1000, 0x8000_100c, 0x8000_1010, 0, 0, 0, 0, 0];
@@ -173,7 +174,7 @@ fn first_wrong_length() -> Option<usize> {
 /// Each length, each single mark and none, and the same with a second mark at the end.
 #[test]
 fn agrees_with_a_plain_loop(rt: HostRuntime) {
-    assert!(rt; first_wrong_length().is_none());
+    none_wrong(&rt, first_wrong_length());
 }
 
 /// Whether the links of a set, to words in the block, end, but for one, and the others, to words before it and behind
@@ -217,5 +218,5 @@ fn first_wrong_set() -> Option<u8> {
 /// Each set, and each exception.
 #[test]
 fn breaks_each_set_of_links(rt: HostRuntime) {
-    assert!(rt; first_wrong_set().is_none());
+    none_wrong(&rt, first_wrong_set());
 }

@@ -1,4 +1,6 @@
 //! Worked examples: which links a change leaves.
+
+use super::none_wrong;
 use brd_link::Links;
 
 const WORD: u32 = 0x8000_1000;
@@ -47,7 +49,7 @@ fn first_wrong_store() -> Option<usize> {
 
 #[test]
 fn ends_by_a_store_of_another_into_the_block(rt: HostRuntime) {
-    assert!(rt; first_wrong_store().is_none());
+    none_wrong(&rt, first_wrong_store());
 }
 
 /// What processor 1 links in turn, where its SC stores then, and whether it may.
@@ -83,7 +85,7 @@ fn first_wrong_take() -> Option<usize> {
 
 #[test]
 fn takes_a_link_once(rt: HostRuntime) {
-    assert!(rt; first_wrong_take().is_none());
+    none_wrong(&rt, first_wrong_take());
 }
 
 fn address_of(cpu: u8) -> u32 {

@@ -1,5 +1,6 @@
 //! RAM, images and pages.
 
+use super::none_wrong;
 use brd_base::{NoMemory, is_ram_size};
 use brd_mem::*;
 use std::alloc::Global;
@@ -29,7 +30,7 @@ fn first_wrong_size(alloc: Global) -> Option<u32> {
 
 #[test]
 fn sizes(rt: HostRuntime) {
-    assert!(rt; first_wrong_size(rt.alloc()).is_none());
+    none_wrong(&rt, first_wrong_size(rt.alloc()));
 }
 
 /// The bytes about the word 0x12345678 at 0x80000100, and at the borders of a RAM of 65,536 bytes.
@@ -247,6 +248,6 @@ fn first_wrong_image(alloc: Global) -> Result<Option<usize>, NoMemory> {
 
 #[test]
 fn plain_images(rt: HostRuntime) -> Result<(), Fail> {
-    assert!(rt; first_wrong_image(rt.alloc())?.is_none());
+    none_wrong(&rt, first_wrong_image(rt.alloc())?);
     Ok(())
 }

@@ -1,5 +1,6 @@
 //! Bytes, lines, tokens and numbers with values that were worked out by hand.
 
+use super::none_wrong;
 use brd_text::{
     Scanner, Token, decimal, hex_digits, hex_word, is_blank, is_digit, is_letter, is_name,
     is_run_byte, is_space, line_after, line_at, number, plain_decimal, split_line,
@@ -37,7 +38,7 @@ fn first_wrong_token() -> Option<usize> {
 
 #[test]
 fn tokens(rt: HostRuntime) {
-    assert!(rt; first_wrong_token().is_none());
+    none_wrong(&rt, first_wrong_token());
 }
 
 const NUMBERS: &[(&[u8], Option<u32>)] = &[
@@ -70,7 +71,7 @@ fn first_wrong_number() -> Option<usize> {
 
 #[test]
 fn numbers(rt: HostRuntime) {
-    assert!(rt; first_wrong_number().is_none());
+    none_wrong(&rt, first_wrong_number());
 }
 
 /// A text, the largest number that it may be, what it is as decimal digits, and what as those of a plain number.
@@ -107,7 +108,7 @@ fn first_wrong_decimal() -> Option<usize> {
 
 #[test]
 fn decimals(rt: HostRuntime) {
-    assert!(rt; first_wrong_decimal().is_none());
+    none_wrong(&rt, first_wrong_decimal());
 }
 
 const HEX_WORDS: &[(&[u8], Option<u32>)] = &[
@@ -140,7 +141,7 @@ fn first_wrong_word() -> Option<usize> {
 
 #[test]
 fn hexadecimals(rt: HostRuntime) {
-    assert!(rt; first_wrong_word().is_none());
+    none_wrong(&rt, first_wrong_word());
     assert!(rt; hex_digits(0x0123_abcd) == *b"0123abcd");
 }
 
@@ -187,7 +188,8 @@ fn first_wrong_line() -> Option<usize> {
 
 #[test]
 fn lines(rt: HostRuntime) {
-    assert!(rt; first_wrong_split().is_none() && first_wrong_line().is_none());
+    none_wrong(&rt, first_wrong_split());
+    none_wrong(&rt, first_wrong_line());
     assert!(rt; line_after(4, b'\n') == 5 && line_after(4, b'\r') == 4);
 }
 
@@ -249,5 +251,6 @@ fn first_wrong_name() -> Option<usize> {
 
 #[test]
 fn bytes(rt: HostRuntime) {
-    assert!(rt; first_wrong_byte().is_none() && first_wrong_name().is_none());
+    none_wrong(&rt, first_wrong_byte());
+    none_wrong(&rt, first_wrong_name());
 }
