@@ -1,0 +1,564 @@
+"""The kernel and the board of the model: tasks, objects, time, the table of service calls, events, the report.
+
+The uITRON 4.0 specification says what the calls do; TOPPERS/FMP what mact_tsk, imact_tsk, mig_tsk and get_pid do. From
+where a call may come, the order of its refusals, put_chr, ext_ker, ret_int and the events are own choices.
+"""
+import collections
+
+from machine import Context, Fault, Memory, RAM_START, execute, signed
+
+E_OK, E_RSFN, E_PAR, E_ID, E_CTX, E_ILUSE = 0, -10, -17, -18, -25, -28
+E_OBJ, E_NOEXS, E_QOVR, E_RLWAI, E_TMOUT = -41, -42, -43, -49, -50
+ANSWERS = {value: name for name, value in list(globals().items()) if name.startswith("E_")}
+CONSOLE_BYTES = 65536
+# What a call writes to $v0 and $v1 where it waits or doesn't come back, and where it is just done.
+SILENT, DONE = (), (E_OK,)
+
+# What a board is made of. Objects stand by their IDs, lines by their numbers, tasks in the order of their statements.
+Setup = collections.namedtuple("Setup", "processors ram segments tasks semaphores flags queues lines")
+TaskSetup = collections.namedtuple("TaskSetup", "id processor starts argument address priority size stack")
+
+
+class TaskList(list):
+    """Tasks in the order of their coming, or by priority, and among equals in the order of their coming."""
+
+    def __init__(self, name, by_priority):
+        super().__init__()
+        self.name, self.by_priority = name, by_priority
+
+    def enter(self, task):
+        lower = (at for at, other in enumerate(self) if self.by_priority and other.priority > task.priority)
+        self.insert(next(lower, len(self)), task)
+
+
+class Task:
+    """A task; `request` is a queued activation: None, 0 from act_tsk, or the processor that mact_tsk named."""
+
+    def __init__(self, setup, stack):
+        self.id, self.processor, self.initial_priority = setup.id, setup.processor, setup.priority
+        self.argument, self.address, self.stack = setup.argument, setup.address, stack
+        self.state, self.priority, self.request, self.wakeup = "dormant", setup.priority, None, False
+        # The list that it waits in (of a semaphore, say, or of the sleepers), what it wants there, and until when.
+        self.waits_in = self.wanted = self.due = None
+        self.context = Context(self.address, self.argument, self.stack)
+
+
+class Semaphore:
+    def __init__(self, by_priority, count, maximum):
+        self.count, self.maximum, self.waiters = count, maximum, TaskList("semaphore", by_priority)
+
+
+class Flag:
+    def __init__(self, by_priority, many, clears, pattern):
+        self.many, self.clears, self.pattern, self.waiters = many, clears, pattern, TaskList("flag", by_priority)
+
+
+class Queue:
+    """A data queue; its receivers wait in the order of their coming, whatever its attribute."""
+
+    def __init__(self, by_priority, capacity):
+        self.capacity, self.data = capacity, collections.deque()
+        self.senders, self.receivers = TaskList("sender", by_priority), TaskList("receiver", False)
+
+
+class Processor:
+    """`line` and `handler` are those of the interrupt that it handles."""
+
+    def __init__(self, number):
+        self.number, self.ready, self.running = number, TaskList("ready", True), None
+        self.line = self.handler = None
+        self.locked = self.disabled = self.stopped = False
+
+    def is_held(self):
+        return self.line is not None or self.locked or self.disabled or self.stopped
+
+    def context(self):
+        """What its next instruction works on, if it has one."""
+        if self.stopped:
+            return None
+        return self.handler or (self.running.context if self.running else None)
+
+
+class Board:
+    def __init__(self, setup):
+        self.counts = collections.Counter()
+        self.memory = Memory(setup.ram, self.counts)
+        for address, data in setup.segments:
+            self.memory.bytes[address - RAM_START:address - RAM_START + len(data)] = data
+        self.processors = {number: Processor(number) for number in range(1, setup.processors + 1)}
+        self.sleepers, self.delayed = TaskList("sleep", False), TaskList("delay", False)
+        self.semaphores = {key: Semaphore(*it) for key, it in setup.semaphores.items()}
+        self.flags = {key: Flag(*it) for key, it in setup.flags.items()}
+        self.queues = {key: Queue(*it) for key, it in setup.queues.items()}
+        self.lines, self.pending = setup.lines, set()
+        self.now, self.off, self.console = 0, False, bytearray()
+        tasks = {it.id: Task(it, stack) for it, stack in zip(setup.tasks, stacks(setup))}
+        self.tasks = dict(sorted(tasks.items()))
+        for it in setup.tasks:
+            if it.starts:
+                self.start(self.tasks[it.id], it.processor)
+        self.dispatch()
+
+    # Tasks
+
+    def make_ready(self, task):
+        task.state = "ready"
+        self.processors[task.processor].ready.enter(task)
+
+    def leave_ready(self, task):
+        self.processors[task.processor].ready.remove(task)
+
+    def start(self, task, processor):
+        """Starts a dormant task, on a processor that stays its own."""
+        task.processor, task.priority = processor, task.initial_priority
+        task.context = Context(task.address, task.argument, task.stack)
+        self.make_ready(task)
+
+    def end(self, task):
+        """Makes a task dormant, and starts it again where a request is queued."""
+        if task.state == "ready":
+            self.leave_ready(task)
+        self.leave_wait(task)
+        task.state, task.wakeup, request, task.request = "dormant", False, task.request, None
+        if request is not None:
+            self.counts[f"restart: by {'mact_tsk' if request else 'act_tsk'}"] += 1
+            self.start(task, request or task.processor)
+
+    def block(self, task, waits_in, wanted, ticks):
+        """A task begins to wait, for -1 without an end. n ticks have passed in the one that is n + 1 later."""
+        self.leave_ready(task)
+        task.state, task.waits_in, task.wanted = "waiting", waits_in, wanted
+        task.due = None if ticks == -1 else self.now + ticks + 1
+        waits_in.enter(task)
+        self.counts[f"wait: {waits_in.name}, begins" + ("" if waits_in[-1] is task else " before others")] += 1
+        return SILENT
+
+    def leave_wait(self, task):
+        if task.waits_in is not None:
+            task.waits_in.remove(task)
+        task.waits_in = task.wanted = task.due = None
+
+    def release(self, task, *answer):
+        """Ends a wait. A task that was suspended meanwhile stays suspended."""
+        self.counts[f"wait: {task.waits_in.name}, ends by {ANSWERS[answer[0]]}, was {task.state}"] += 1
+        self.leave_wait(task)
+        write(task.context, answer)
+        if task.state == "waiting":
+            self.make_ready(task)
+        else:
+            task.state = "suspended"
+
+    def move(self, task, priority):
+        """Gives a priority: behind its equals where it is ready or waits by priority, also if it has that already."""
+        task.priority = priority
+        if task.state == "ready":
+            self.leave_ready(task)
+            self.make_ready(task)
+        elif task.waits_in is not None and task.waits_in.by_priority:
+            task.waits_in.remove(task)
+            task.waits_in.enter(task)
+
+    def dispatch(self):
+        """Each processor that isn't held runs the first of its ready tasks. Where that is another, its link ends."""
+        for processor in self.processors.values():
+            first = processor.ready[0] if processor.ready else None
+            old = processor.running
+            if not processor.is_held() and first is not old:
+                processor.running = first
+                self.memory.links.pop(processor.number, None)
+                if old and old in processor.ready:
+                    self.counts["dispatch: preempted" + (" before a slot" if old.context.slot else "")] += 1
+
+    # Events
+
+    def event(self, kind, number=0):
+        """One event of a journal, by its letter: what it is, and the address of the instruction that it executed."""
+        if self.off:
+            report = "Off", None
+        elif kind == "S":
+            report = self.step(self.processors[number]) if number in self.processors else ("NoSuch", None)
+        elif kind == "T":
+            report = self.tick()
+        else:
+            report = ("Raised" if number in self.lines else "NoSuch"), None
+            self.pending |= {number} & self.lines.keys()
+        self.counts[f"event: {report[0]}"] += 1
+        return report
+
+    def step(self, processor):
+        if processor.stopped:
+            return "Stopped", None
+        lines = [line for line in self.pending if self.lines[line][0] == processor.number]
+        if lines and processor.line is None and not processor.locked:
+            return self.accept(processor, min(lines))
+        context = processor.context()
+        if context is None:
+            return "Idle", None
+        address = context.pc
+        try:
+            called = execute(context, self.memory, processor.number)
+        except Fault as fault:
+            self.fault(processor, fault.code)
+            return "Faulted", address
+        if called:
+            self.call(processor, context)
+        return "Called" if called else "Ran", address
+
+    def accept(self, processor, line):
+        """An interrupt: the handler begins in the place of an instruction."""
+        state = "held" if processor.is_held() else "busy" if processor.running else "idle"
+        self.counts[f"interrupt: {state} processor"] += 1
+        self.pending.remove(line)
+        self.memory.links.pop(processor.number, None)
+        processor.line, processor.handler = line, Context(self.lines[line][1], line)
+        return "Accepted", None
+
+    def call(self, processor, context):
+        """A SYSCALL, whose context has gone on: the link ends, the call is served, and the tasks to run are chosen."""
+        self.memory.links.pop(processor.number, None)
+        write(context, Request(self, processor, context).serve())
+        self.dispatch()
+
+    def fault(self, processor, code):
+        """An exception stops a handler's processor for good, and ends a task without its queued requests."""
+        self.counts[f"exception: {code} in a " + ("task" if processor.line is None else "handler")] += 1
+        if processor.line is not None:
+            processor.stopped = True
+            return
+        processor.running.request = None
+        processor.locked = processor.disabled = False
+        self.end(processor.running)
+        self.dispatch()
+
+    def tick(self):
+        """Ends the waits whose time has come, by ascending ID, before any other task is chosen to run."""
+        self.now += 1
+        for task in self.tasks.values():
+            if task.due is not None and task.due <= self.now:
+                self.release(task, E_OK if task.waits_in is self.delayed else E_TMOUT)
+        self.dispatch()
+        return "Ticked", None
+
+    def report(self, events):
+        """What `board run` prints, as bytes."""
+        lines = [f"events {events}", f"tick {self.now}", f"off {int(self.off)}"]
+        for it in self.processors.values():
+            task = f"task {it.running.id}" if it.running else "idle"
+            what = "stopped" if it.stopped else task if it.line is None else f"handler {it.line}"
+            lines.append(f"cpu {it.number} {what}" + (f" pc {it.context().pc:08x}" if it.context() else ""))
+        lines += [f"task {it.id} {it.state} pri {it.priority} cpu {it.processor}" for it in self.tasks.values()]
+        return "\n".join(lines + [f"console {len(self.console)}", ""]).encode() + bytes(self.console) + b"\n"
+
+
+def stacks(setup):
+    """The first $sp of each task: stacks that the configuration leaves open lie from the RAM's end down."""
+    end = RAM_START + setup.ram
+    for it in setup.tasks:
+        yield end if it.stack is None else it.stack + it.size & ~7
+        if it.stack is None:
+            end -= it.size + 15 & ~15
+
+
+def write(context, answer):
+    """$v0 takes a call's answer, $v1 its second result; there may be neither."""
+    for register, value in zip((2, 3), answer):
+        context.set(register, value)
+
+
+class Request:
+    """A service call under way: from where it comes, its arguments, its timeout, and the object that it names.
+
+    The methods below `wait` are the effects of the calls. They give what is to be written, DONE in the place of None.
+    """
+
+    def __init__(self, board, processor, context):
+        self.board, self.processor = board, processor
+        self.caller = processor.running if processor.line is None else None
+        self.arguments, self.call = context.registers[4:8], CALLS.get(context.registers[2])
+        self.object = self.timeout = None
+
+    def serve(self):
+        """The first reason to refuse it, else what its effect gives."""
+        refusal, of = self.refusal(), ""
+        if refusal is None and isinstance(self.object, Task):
+            of = f", of a task {self.whereabouts()}"
+        answer = (refusal,) if refusal is not None else self.call.effect(self)
+        answer = DONE if answer is None else answer
+        word = ANSWERS.get(answer[0], "a count") if answer else "no answer"
+        self.board.counts[f"call: {self.call.name if self.call else 'unknown'}, {word}{of}"] += 1
+        return answer
+
+    def refusal(self):
+        """Why the call is refused, if it is. The order of the reasons is an own choice."""
+        call = self.call
+        if call is None:
+            return E_RSFN
+        if not self.may_come(call.place):
+            return E_CTX
+        if call.names:
+            key = self.caller.id if call.names == "T0" and self.arguments[0] == 0 else self.arguments[0]
+            if not 1 <= key <= 255:
+                return E_ID
+            objects = {"S": self.board.semaphores, "F": self.board.flags, "Q": self.board.queues}
+            self.object = objects.get(call.names, self.board.tasks).get(key)
+        # (a call's timeout is -1, forever, or 0, a poll, or the argument that is named by A and its number)
+        self.timeout = signed(self.arguments[int(call.timeout[1])]) if isinstance(call.timeout, str) else call.timeout
+        if any(fails(self) for fails in call.limits):
+            return E_PAR
+        if call.names and self.object is None:
+            return E_NOEXS
+        return next((error for error, fails in call.refusals if fails(self)), None)
+
+    def may_come(self, place):
+        """Whether a call may come from here."""
+        if self.caller is None or place == HANDLER:
+            return self.caller is None and place == HANDLER
+        if self.processor.locked:
+            return place == LOCKED_TASK
+        names_caller = self.arguments[0] in (0, self.caller.id)
+        return not (self.processor.disabled and (place == WAITING or place == ON_TASK and names_caller))
+
+    def runs_elsewhere(self):
+        """The other processor that the named task runs on, if it does."""
+        its = self.board.processors[self.object.processor]
+        return its if its is not self.processor and its.running is self.object else None
+
+    def is_held_elsewhere(self):
+        return self.runs_elsewhere() is not None and self.runs_elsewhere().is_held()
+
+    def whereabouts(self):
+        what = "calling" if self.object is self.caller else "running" if self.runs_elsewhere() else self.object.state
+        return what + (" with a request" if self.object.request is not None else "")
+
+    def wait(self, waits_in, wanted=None):
+        """The caller waits, or is told at once that it would have to."""
+        return (E_TMOUT,) if self.timeout == 0 else self.board.block(self.caller, waits_in, wanted, self.timeout)
+
+    def activate(self, processor=0):
+        """Processor 0 is the one that the task is assigned to when it starts."""
+        if self.object.state == "dormant":
+            self.board.start(self.object, processor or self.object.processor)
+        else:
+            self.object.request = processor
+
+    def activate_there(self):
+        self.activate(self.arguments[1])
+
+    def can_act(self):
+        count, self.object.request = int(self.object.request is not None), None
+        return (count,)
+
+    def can_wup(self):
+        count, self.object.wakeup = int(self.object.wakeup), False
+        return (count,)
+
+    def ext_tsk(self):
+        self.processor.locked = self.processor.disabled = False
+        self.board.end(self.caller)
+        return SILENT
+
+    def chg_pri(self):
+        self.board.move(self.object, self.arguments[1] or self.object.initial_priority)
+
+    def mig_tsk(self):
+        """Own choice in part: the task may be in any state but dormant, and keeps it."""
+        if self.object.state == "ready":
+            self.board.leave_ready(self.object)
+        self.object.processor = self.arguments[1]
+        if self.object.state == "ready":
+            self.board.make_ready(self.object)
+
+    def rot_rdq(self):
+        """Puts the first ready task of a priority behind its equals, on the caller's or the handler's processor."""
+        priority = self.arguments[0] or self.caller.priority
+        for task in [task for task in self.processor.ready if task.priority == priority][:1]:
+            self.board.move(task, priority)
+
+    def mark(self, name, value):
+        setattr(self.processor, name, value)
+
+    def slp_tsk(self):
+        if not self.caller.wakeup:
+            return self.wait(self.board.sleepers)
+        self.caller.wakeup = False
+
+    def wup_tsk(self):
+        if self.object.waits_in is self.board.sleepers:
+            self.board.release(self.object, E_OK)
+        else:
+            self.object.wakeup = True
+
+    def sus_tsk(self):
+        if self.object.state == "ready":
+            self.board.leave_ready(self.object)
+            self.object.state = "suspended"
+        else:
+            self.object.state = "waiting-suspended"
+
+    def rsm_tsk(self):
+        if self.object.state == "suspended":
+            self.board.make_ready(self.object)
+        else:
+            self.object.state = "waiting"
+
+    def dly_tsk(self):
+        return self.board.block(self.caller, self.board.delayed, None, self.arguments[0])
+
+    def sig_sem(self):
+        if self.object.waiters:
+            self.board.release(self.object.waiters[0], E_OK)
+        else:
+            self.object.count += 1
+
+    def wai_sem(self):
+        if self.object.count == 0:
+            return self.wait(self.object.waiters)
+        self.object.count -= 1
+
+    def set_flg(self):
+        """One pass through the waiters. Where the flag clears itself, the first that is satisfied ends it."""
+        self.object.pattern |= self.arguments[1]
+        for task in list(self.object.waiters):
+            if satisfied(self.object.pattern, *task.wanted):
+                self.board.release(task, E_OK, self.object.pattern)
+                if self.object.clears:
+                    self.object.pattern = 0
+                    break
+
+    def clr_flg(self):
+        self.object.pattern &= self.arguments[1]
+
+    def wai_flg(self):
+        wanted, pattern = self.arguments[1:3], self.object.pattern
+        if not satisfied(pattern, *wanted):
+            return self.wait(self.object.waiters, wanted)
+        self.object.pattern = 0 if self.object.clears else pattern
+        return E_OK, pattern
+
+    def snd_dtq(self):
+        """To the first receiver, else stored, else the sender waits with it."""
+        queue, datum = self.object, self.arguments[1]
+        if queue.receivers:
+            self.board.release(queue.receivers[0], E_OK, datum)
+        elif len(queue.data) < queue.capacity:
+            queue.data.append(datum)
+        else:
+            return self.wait(queue.senders, datum)
+
+    def fsnd_dtq(self):
+        """A full queue gives its oldest datum up. Senders that wait stay behind the new one."""
+        if len(self.object.data) == self.object.capacity:
+            self.board.counts["fsnd_dtq: drops" + (" before senders" if self.object.senders else "")] += 1
+            self.object.data.popleft()
+        return self.snd_dtq()
+
+    def rcv_dtq(self):
+        """The oldest datum, and the first sender's takes its place; where none is stored, the first sender's."""
+        queue = self.object
+        if queue.senders:
+            queue.data.append(queue.senders[0].wanted)
+            self.board.release(queue.senders[0], E_OK)
+        return (E_OK, queue.data.popleft()) if queue.data else self.wait(queue.receivers)
+
+    def put_chr(self):
+        self.board.console.append(self.arguments[0] & 255)
+
+    def ext_ker(self):
+        self.board.off = True
+        return SILENT
+
+    def iget_tid(self):
+        return E_OK, self.processor.running.id if self.processor.running else 0
+
+    def ret_int(self):
+        self.processor.line = self.processor.handler = None
+        return SILENT
+
+
+def satisfied(pattern, bits, mode):
+    """Whether a pattern has all bits (mode 0, TWF_ANDW) or any (mode 1, TWF_ORW)."""
+    return pattern & bits == bits if mode == 0 else pattern & bits != 0
+
+
+# From where a call may come: a task that isn't CPU-locked, any task, as the first but not while dispatching is
+# disabled, as the first but then not for itself, a handler. Which are which is an own choice.
+TASK, LOCKED_TASK, WAITING, ON_TASK, HANDLER = "task", "locked task", "waiting", "on task", "handler"
+FOREVER, POLL = -1, 0
+# Which arguments are E_PAR.
+BAD_PRIORITY = lambda it: it.arguments[1] > 16
+BAD_PROCESSOR = lambda it: it.arguments[1] not in it.board.processors
+BAD_ROTATION = lambda it: it.arguments[0] > 16 or it.arguments[0] == 0 and it.caller is None
+BAD_TIMEOUT = lambda it: it.timeout < -1
+BAD_TIME = lambda it: it.arguments[0] > 0x7FFFFFFF
+BAD_WISH = lambda it: it.arguments[1] == 0 or it.arguments[2] > 1
+# Why an object refuses, in the order of a row.
+ITSELF = E_ILUSE, lambda it: it.object is it.caller
+TAKEN = E_ILUSE, lambda it: not it.object.many and it.object.waiters
+STORES_NONE = E_ILUSE, lambda it: it.object.capacity == 0
+DORMANT = E_OBJ, lambda it: it.object.state == "dormant"
+HELD = E_OBJ, Request.is_held_elsewhere
+THERE = E_OBJ, lambda it: it.object.processor == it.arguments[1]
+NOT_WAITING = E_OBJ, lambda it: it.object.waits_in is None
+NOT_SUSPENDED = E_OBJ, lambda it: it.object.state not in ("suspended", "waiting-suspended")
+SUSPENDED = E_QOVR, lambda it: it.object.state in ("suspended", "waiting-suspended")
+REQUESTED = E_QOVR, lambda it: it.object.request is not None
+WOKEN = E_QOVR, lambda it: it.object.wakeup
+AT_MAXIMUM = E_QOVR, lambda it: not it.object.waiters and it.object.count == it.object.maximum
+CONSOLE_FULL = E_QOVR, lambda it: len(it.board.console) == CONSOLE_BYTES
+
+# `names`: what $a0 is the ID of: a task, the caller too by 0 (T0), a semaphore, a flag, a queue, or of nothing.
+Call = collections.namedtuple("Call", "name place names timeout limits refusals effect")
+CALLS = {
+    1: Call("act_tsk", TASK, "T0", None, [], [REQUESTED], Request.activate),
+    2: Call("can_act", TASK, "T0", None, [], [], Request.can_act),
+    3: Call("ext_tsk", LOCKED_TASK, "", None, [], [], Request.ext_tsk),
+    4: Call("ter_tsk", TASK, "T", None, [], [ITSELF, DORMANT, HELD], lambda it: it.board.end(it.object)),
+    5: Call("chg_pri", TASK, "T0", None, [BAD_PRIORITY], [DORMANT], Request.chg_pri),
+    6: Call("get_pri", TASK, "T0", None, [], [DORMANT], lambda it: (E_OK, it.object.priority)),
+    7: Call("mact_tsk", TASK, "T0", None, [BAD_PROCESSOR], [REQUESTED], Request.activate_there),
+    8: Call("mig_tsk", ON_TASK, "T0", None, [BAD_PROCESSOR], [DORMANT, HELD, THERE], Request.mig_tsk),
+    9: Call("get_pid", TASK, "", None, [], [], lambda it: (E_OK, it.processor.number)),
+    10: Call("rot_rdq", TASK, "", None, [BAD_ROTATION], [], Request.rot_rdq),
+    11: Call("get_tid", TASK, "", None, [], [], lambda it: (E_OK, it.caller.id)),
+    12: Call("dis_dsp", TASK, "", None, [], [], lambda it: it.mark("disabled", True)),
+    13: Call("ena_dsp", TASK, "", None, [], [], lambda it: it.mark("disabled", False)),
+    14: Call("loc_cpu", LOCKED_TASK, "", None, [], [], lambda it: it.mark("locked", True)),
+    15: Call("unl_cpu", LOCKED_TASK, "", None, [], [], lambda it: it.mark("locked", False)),
+    16: Call("slp_tsk", WAITING, "", FOREVER, [], [], Request.slp_tsk),
+    17: Call("tslp_tsk", WAITING, "", "A0", [BAD_TIMEOUT], [], Request.slp_tsk),
+    18: Call("wup_tsk", TASK, "T0", None, [], [DORMANT, WOKEN], Request.wup_tsk),
+    19: Call("can_wup", TASK, "T0", None, [], [DORMANT], Request.can_wup),
+    20: Call("rel_wai", TASK, "T", None, [], [NOT_WAITING], lambda it: it.board.release(it.object, E_RLWAI)),
+    21: Call("sus_tsk", ON_TASK, "T0", None, [], [DORMANT, HELD, SUSPENDED], Request.sus_tsk),
+    22: Call("rsm_tsk", TASK, "T", None, [], [NOT_SUSPENDED], Request.rsm_tsk),
+    23: Call("dly_tsk", WAITING, "", None, [BAD_TIME], [], Request.dly_tsk),
+    24: Call("sig_sem", TASK, "S", None, [], [AT_MAXIMUM], Request.sig_sem),
+    25: Call("wai_sem", WAITING, "S", FOREVER, [], [], Request.wai_sem),
+    26: Call("pol_sem", TASK, "S", POLL, [], [], Request.wai_sem),
+    27: Call("twai_sem", WAITING, "S", "A1", [BAD_TIMEOUT], [], Request.wai_sem),
+    28: Call("set_flg", TASK, "F", None, [], [], Request.set_flg),
+    29: Call("clr_flg", TASK, "F", None, [], [], Request.clr_flg),
+    30: Call("wai_flg", WAITING, "F", FOREVER, [BAD_WISH], [TAKEN], Request.wai_flg),
+    31: Call("pol_flg", TASK, "F", POLL, [BAD_WISH], [TAKEN], Request.wai_flg),
+    32: Call("twai_flg", WAITING, "F", "A3", [BAD_WISH, BAD_TIMEOUT], [TAKEN], Request.wai_flg),
+    33: Call("snd_dtq", WAITING, "Q", FOREVER, [], [], Request.snd_dtq),
+    34: Call("psnd_dtq", TASK, "Q", POLL, [], [], Request.snd_dtq),
+    35: Call("tsnd_dtq", WAITING, "Q", "A2", [BAD_TIMEOUT], [], Request.snd_dtq),
+    36: Call("fsnd_dtq", TASK, "Q", None, [], [STORES_NONE], Request.fsnd_dtq),
+    37: Call("rcv_dtq", WAITING, "Q", FOREVER, [], [], Request.rcv_dtq),
+    38: Call("prcv_dtq", TASK, "Q", POLL, [], [], Request.rcv_dtq),
+    39: Call("trcv_dtq", WAITING, "Q", "A1", [BAD_TIMEOUT], [], Request.rcv_dtq),
+    40: Call("put_chr", TASK, "", None, [], [CONSOLE_FULL], Request.put_chr),
+    41: Call("ext_ker", LOCKED_TASK, "", None, [], [], Request.ext_ker),
+    48: Call("iact_tsk", HANDLER, "T", None, [], [REQUESTED], Request.activate),
+    49: Call("iwup_tsk", HANDLER, "T", None, [], [DORMANT, WOKEN], Request.wup_tsk),
+    50: Call("irel_wai", HANDLER, "T", None, [], [NOT_WAITING], lambda it: it.board.release(it.object, E_RLWAI)),
+    51: Call("isig_sem", HANDLER, "S", None, [], [AT_MAXIMUM], Request.sig_sem),
+    52: Call("iset_flg", HANDLER, "F", None, [], [], Request.set_flg),
+    53: Call("ipsnd_dtq", HANDLER, "Q", POLL, [], [], Request.snd_dtq),
+    54: Call("ifsnd_dtq", HANDLER, "Q", None, [], [STORES_NONE], Request.fsnd_dtq),
+    55: Call("irot_rdq", HANDLER, "", None, [BAD_ROTATION], [], Request.rot_rdq),
+    56: Call("iget_tid", HANDLER, "", None, [], [], Request.iget_tid),
+    57: Call("imact_tsk", HANDLER, "T", None, [BAD_PROCESSOR], [REQUESTED], Request.activate_there),
+    58: Call("ret_int", HANDLER, "", None, [], [], Request.ret_int),
+}
