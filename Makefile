@@ -5,7 +5,11 @@ BOARD = build/board
 # The crates whose wrong bodies `make attack` tries (none: all), as in `make attack CRATES="brd_exec brd_isa"`.
 CRATES =
 
-.PHONY: demo board dist test attack gate-times bench clean
+# How many random boards `make compare` tries, and the first one's seed.
+BOARDS = 2000
+SEED = 1
+
+.PHONY: demo board dist test attack compare gate-times bench clean
 
 # Unpacks the program of dist/ to build/board, and runs the examples.
 demo:
@@ -35,6 +39,13 @@ test:
 # Every wrong body, those of wrong/ too, on a scratch copy; ends in 'N refused, M let through'.
 attack:
 	tests/attack $(CRATES)
+
+# Random boards beside a model in Python, which shares nothing with the program: BOARDS of them, from the seed SEED on.
+compare: $(BOARD)
+	tests/model/compare $(BOARD) --boards $(BOARDS) --seed $(SEED) --counts
+
+$(BOARD):
+	$(MAKE) demo
 
 # The whole gate, and behind it the processor minutes of each part, which docs/GATE.md gets too if all passed.
 gate-times:
