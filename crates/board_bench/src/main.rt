@@ -215,21 +215,30 @@ const WORKS: [Work; 9] = [
 fn main(rt: HostRuntime) -> anyhow::Result<()> {
     let mut arguments = std::env::args(&rt)?;
     let _ = arguments.next();
-    let Some(text) = arguments.next() else {
-        for work in WORKS {
-            count_turns(&rt, work)?;
-        }
-        return Ok(());
+    let Some(events) = arguments.next() else {
+        return count_all(&rt);
     };
-    let events = text.as_str().parse::<u64>()?;
-    if let Some(number) = arguments.next() {
-        let number = number.as_str().parse::<usize>()?;
-        return measure_one(&rt, number, events);
+    let events = events.as_str().parse::<u64>()?;
+    match arguments.next() {
+        Some(number) => measure_one(&rt, number.as_str().parse::<usize>()?, events),
+        None => measure_all(&rt, events),
     }
+}
+
+/// Does 16,000 events of each work, and prints how often its loop was gone through.
+fn count_all(rt: &HostRuntime) -> anyhow::Result<()> {
     for work in WORKS {
-        measure(&rt, work, events)?;
+        count_turns(rt, work)?;
     }
-    measure_bare(&rt, events)
+    Ok(())
+}
+
+/// Does so many events of each work, and of none, and prints how fast.
+fn measure_all(rt: &HostRuntime, events: u64) -> anyhow::Result<()> {
+    for work in WORKS {
+        measure(rt, work, events)?;
+    }
+    measure_bare(rt, events)
 }
 
 /// Does so many events of the work of a number, counted from 0, alone.
@@ -285,11 +294,16 @@ fn crowd(alloc: Global, others: u32, last: u32) -> Result<String, AllocError> {
 
 /// Does 16,000 events of a work, and prints how often its loop was gone through.
 fn count_turns(rt: &HostRuntime, work: Work) -> anyhow::Result<()> {
-    let name = work.name;
     let mut board = board_of(rt, work)?;
-    prepare(&mut board, work.deed);
-    let ran = run(&mut board, work.deed, 16_000);
-    let (count, now) = (count_of(&board), board.now());
+    count_turns_on(rt, &mut board, work)
+}
+
+/// Does this on the board of the work.
+fn count_turns_on(rt: &HostRuntime, board: &mut Board, work: Work) -> anyhow::Result<()> {
+    prepare(board, work.deed);
+    let name = work.name;
+    let ran = run(board, work.deed, 16_000);
+    let (count, now) = (count_of(board), board.now());
     println!(rt; "{name}: {ran} of 16000 events ran an instruction, {count} turns, {now} ticks")?;
     Ok(())
 }
@@ -297,9 +311,14 @@ fn count_turns(rt: &HostRuntime, work: Work) -> anyhow::Result<()> {
 /// Does so many events of a work, and prints how fast.
 fn measure(rt: &HostRuntime, work: Work, events: u64) -> anyhow::Result<()> {
     let mut board = board_of(rt, work)?;
-    prepare(&mut board, work.deed);
+    measure_on(rt, &mut board, work, events)
+}
+
+/// Does this on the board of the work.
+fn measure_on(rt: &HostRuntime, board: &mut Board, work: Work, events: u64) -> anyhow::Result<()> {
+    prepare(board, work.deed);
     let start = Instant::now(rt)?;
-    let _ = run(&mut board, work.deed, events);
+    let _ = run(board, work.deed, events);
     let time = start.elapsed(rt)?.as_millis();
     report(rt, work.name, events, time)
 }
