@@ -1,8 +1,7 @@
 //! Builds the board of a source and a configuration, loads it once more from the source's object file, and copies it:
 //! for the test that refuses each growth of all three. Standard input is the source, a line `---`, and the
 //! configuration. For each of the two boards it prints the reports of 100 steps of processor 1, a letter each (r `Ran`,
-//! c `Called`, o `Off`,
-//! - any other), and the console.
+//! c `Called`, o `Off`, - any other), and the console.
 #![tactic(auto)]
 
 use anyhow::{Result, bail};
