@@ -15,7 +15,6 @@ use std::alloc::Global;
 use std::marker::Model;
 
 /// Names in order of definition, each with its value.
-#[derive(Drop)]
 pub struct Names<'a> {
     values: IndexMap<&'a [u8], i64>,
 }
@@ -28,6 +27,13 @@ impl<'a> Model for Names<'a> {
     ghost Value = { List Name };
 
     ghost view = { λ names. map seen.name names.values.entries };
+}
+
+/// Written out, so that a function that lets one go is proved with a call, and not with the end of each part.
+impl Drop for Names<'_> {
+    fn drop(self) {
+        let Names { values: _ } = self;
+    }
 }
 
 impl<'a> Names<'a> {

@@ -12,7 +12,6 @@ use std::alloc::Global;
 use std::marker::Model;
 
 /// Pieces in the order of the source, none over another.
-#[derive(Drop)]
 pub struct Pieces<'a> {
     pieces: Vec<Piece<'a>>,
     /// The addresses of each, with how many bytes of other pieces lie before its own in the output.
@@ -30,6 +29,16 @@ impl<'a> Model for Pieces<'a> {
     ghost view = { λ all. map seen_here.piece all.pieces.items };
 
     ghost invariant = { λ all. AreRangesOf all.ranges (map seen_here.piece all.pieces.items) };
+}
+
+/// Written out, so that a function that lets one go is proved with a call, and not with the end of each part.
+impl Drop for Pieces<'_> {
+    fn drop(self) {
+        let Pieces {
+            pieces: _,
+            ranges: _,
+        } = self;
+    }
 }
 
 impl<'a> Pieces<'a> {

@@ -7,7 +7,6 @@ use std::alloc::Global;
 use std::marker::Model;
 
 /// A list of values, which contracts see as the list of its elements.
-#[derive(Drop)]
 pub struct List<T> {
     items: Vec<T>,
 }
@@ -18,6 +17,13 @@ impl<T> Model for List<T> {
     ghost Value = { Items T };
 
     ghost view = { λ list. list.items.items };
+}
+
+/// Written out, so that a function that lets one go is proved with a call, and not with the end of each part.
+impl<T: Drop> Drop for List<T> {
+    fn drop(self) {
+        let List { items: _ } = self;
+    }
 }
 
 impl<T> List<T> {

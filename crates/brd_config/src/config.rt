@@ -6,7 +6,6 @@ use crate::objects::{FlagConfig, HandlerConfig, QueueConfig, SemaphoreConfig, Ta
 use brd_base::List;
 
 /// What a configuration text says. Each value is within its limits, and IDs of one kind are distinct, as `valid` says.
-#[derive(Drop)]
 pub struct Config {
     /// How many processors the board has: 1 to 8.
     pub processors: u8,
@@ -19,4 +18,19 @@ pub struct Config {
     pub queues: List<QueueConfig>,
     pub handlers: List<HandlerConfig>,
     ghost valid: { IsConfiguration (record { processors = processors; ram = ram; tasks = tasks; semaphores = semaphores; flags = flags; queues = queues; handlers = handlers }) },
+}
+
+/// Written out, so that a function that lets one go is proved with a call, and not with the end of each part.
+impl Drop for Config {
+    fn drop(self) {
+        let Config {
+            processors: _,
+            ram: _,
+            tasks: _,
+            semaphores: _,
+            flags: _,
+            queues: _,
+            handlers: _,
+        } = self;
+    }
 }

@@ -19,7 +19,6 @@ use std::alloc::Global;
 use std::marker::Model;
 
 /// A debugger: shows the board after so many events of a journal, and finds the events at which it stops.
-#[derive(Drop)]
 pub struct Debugger {
     boot: Board,
     journal: Journal,
@@ -37,6 +36,19 @@ impl Model for Debugger {
     ghost view = { λ d. record { boot = d.boot; events = d.journal.events; position = d.shown.at; stops = d.stops } };
 
     ghost invariant = { λ d. IsPlayed d.boot d.journal.events d.shown × AreKept d.boot d.journal.events d.snapshots.kept };
+}
+
+/// Written out, so that a function that lets one go is proved with a call, and not with the end of each part.
+impl Drop for Debugger {
+    fn drop(self) {
+        let Debugger {
+            boot: _,
+            journal: _,
+            stops: _,
+            shown: _,
+            snapshots: _,
+        } = self;
+    }
 }
 
 impl Debugger {

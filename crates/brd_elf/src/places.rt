@@ -14,7 +14,6 @@ use std::marker::Model;
 const EMPTY: u32 = 0;
 
 /// A string table, and numbers for those of its strings that were asked for.
-#[derive(Drop)]
 pub struct Places<'a> {
     strings: &'a [u8],
     /// The number of the string at each place, where it has one. A string gets its number from its end to its front, so
@@ -32,6 +31,17 @@ impl<'a> Model for Places<'a> {
 
     ghost invariant = { λ places. IsNumbering
         (record { strings = places.strings.now; numbers = places.numbers.items; paths = places.trie }) };
+}
+
+/// Written out, so that a function that lets one go is proved with a call, and not with the end of each part.
+impl Drop for Places<'_> {
+    fn drop(self) {
+        let Places {
+            strings: _,
+            numbers: _,
+            trie: _,
+        } = self;
+    }
 }
 
 impl<'a> Places<'a> {

@@ -52,7 +52,6 @@ const CONSOLE_SIZE: usize = 65_536;
 
 /// Tasks, the objects that they wait for, the time, processors, interrupt lines and the console. Only `new` takes
 /// memory.
-#[derive(Drop)]
 pub struct Kernel {
     off: bool,
     time: Timeouts,
@@ -108,6 +107,26 @@ impl Model for Kernel {
         × (console_size ≤ vec_capacity k.console)
         × (k.pending ≡ false → AreQuiet k.lines.items)
         × (k.executing ≡ map task_executing k.processors) };
+}
+
+/// Written out, so that a function that lets a kernel go is proved with a call, and not with the end of each part.
+impl Drop for Kernel {
+    fn drop(self) {
+        let Kernel {
+            off: _,
+            time: _,
+            tasks: _,
+            semaphores: _,
+            flags: _,
+            queues: _,
+            processors: _,
+            executing: _,
+            handler_contexts: _,
+            lines: _,
+            console: _,
+            pending: _,
+        } = self;
+    }
 }
 
 impl Kernel {

@@ -34,7 +34,6 @@ pub type Segments = List<Segment>;
 pub type Symbols = List<Symbol>;
 
 /// What is loaded into memory, where it starts, and what its addresses are called.
-#[derive(Drop)]
 pub struct Image {
     /// The address at which it starts.
     pub entry: u32,
@@ -42,6 +41,17 @@ pub struct Image {
     pub segments: Segments,
     /// The names.
     pub symbols: Symbols,
+}
+
+/// Written out, so that a function that lets one go is proved with a call, and not with the end of each part.
+impl Drop for Image {
+    fn drop(self) {
+        let Image {
+            entry: _,
+            segments: _,
+            symbols: _,
+        } = self;
+    }
 }
 
 impl Image {

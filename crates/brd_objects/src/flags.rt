@@ -25,7 +25,6 @@ use std::alloc::Global;
 use std::marker::Model;
 
 /// The event flags of a board by their IDs. Only `new` takes memory.
-#[derive(Drop)]
 pub struct Flags {
     rows: Vec<Option<Flag>>,
 }
@@ -40,6 +39,13 @@ impl Model for Flags {
     ghost view = { λ f. f.rows.items };
 
     ghost invariant = { λ f. length f.rows.items ≡ 256 };
+}
+
+/// Written out, so that a function that lets one go is proved with a call, and not with the end of each part.
+impl Drop for Flags {
+    fn drop(self) {
+        let Flags { rows: _ } = self;
+    }
 }
 
 impl Flags {

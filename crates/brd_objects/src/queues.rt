@@ -27,7 +27,6 @@ use std::alloc::Global;
 use std::marker::Model;
 
 /// The data queues of a board by their IDs. Only `new` takes memory.
-#[derive(Drop)]
 pub struct Queues {
     rows: Vec<Option<DataQueue>>,
 }
@@ -42,6 +41,13 @@ impl Model for Queues {
     ghost view = { λ q. q.rows.items };
 
     ghost invariant = { λ q. length q.rows.items ≡ 256 };
+}
+
+/// Written out, so that a function that lets one go is proved with a call, and not with the end of each part.
+impl Drop for Queues {
+    fn drop(self) {
+        let Queues { rows: _ } = self;
+    }
 }
 
 impl Queues {

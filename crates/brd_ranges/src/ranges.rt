@@ -10,7 +10,6 @@ use std::collections::BTreeMap;
 use std::marker::Model;
 
 /// Ranges of at least one address each, none over another. Contracts see the list of them by ascending address.
-#[derive(Drop)]
 pub struct Ranges<T> {
     /// By its first address, where each ends and its item.
     ends: BTreeMap<u32, (u32, T)>,
@@ -28,6 +27,13 @@ impl<T> Model for Ranges<T> {
     ghost view = { λ all. ranges_of all.ends.entries };
 
     ghost invariant = { λ all. AreEntries all.size all.ends.entries };
+}
+
+/// Written out, so that a function that lets one go is proved with a call, and not with the end of each part.
+impl<T: Drop> Drop for Ranges<T> {
+    fn drop(self) {
+        let Ranges { ends: _, size: _ } = self;
+    }
 }
 
 impl<T> Ranges<T> {

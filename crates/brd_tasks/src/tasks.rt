@@ -40,7 +40,6 @@ use std::alloc::Global;
 use std::marker::Model;
 
 /// The tasks by their numbers, their contexts, and which are ready on each processor. Only `new` takes memory.
-#[derive(Drop)]
 pub struct Tasks {
     rows: Vec<Option<Task>>,
     contexts: Vec<Context>,
@@ -56,6 +55,17 @@ impl Model for Tasks {
     ghost view = { λ t. record { rows = t.rows.items; contexts = t.contexts.items; ready = t.ready.items } };
 
     ghost invariant = { λ t. IsConsistent (record { rows = t.rows.items; contexts = t.contexts.items; ready = t.ready.items }) };
+}
+
+/// Written out, so that a function that lets one go is proved with a call, and not with the end of each part.
+impl Drop for Tasks {
+    fn drop(self) {
+        let Tasks {
+            rows: _,
+            contexts: _,
+            ready: _,
+        } = self;
+    }
 }
 
 impl Tasks {

@@ -16,7 +16,6 @@ const NEVER: u64 = 18_446_744_073_709_551_615;
 
 /// How many ticks have passed, and for each task, by its ID below 256, at which tick its wait ends, where it has an
 /// end.
-#[derive(Drop)]
 pub struct Timeouts {
     count: u64,
     dues: Vec<u64>,
@@ -35,6 +34,17 @@ impl Model for Timeouts {
     ghost view = { λ t. record { count = t.count; dues = map due_in t.dues.items } };
 
     ghost invariant = { λ t. (length t.dues.items ≡ 256) × (t.count ≤ last_count) × AreNotBefore t.earliest t.dues.items };
+}
+
+/// Written out, so that a function that lets one go is proved with a call, and not with the end of each part.
+impl Drop for Timeouts {
+    fn drop(self) {
+        let Timeouts {
+            count: _,
+            dues: _,
+            earliest: _,
+        } = self;
+    }
 }
 
 impl Timeouts {
