@@ -1,6 +1,6 @@
 -- That nobody waits for no bits, kept by whoever comes, leaves or is given a priority.
 use Rattle.std.proofs.Common.{◌≡◌, ◌≢◌, ℕ, zero, suc, List, [], ◌∷◌, ◌++◌, sym, subst}
-use Rattle.std.specs.Prelude.{Bool, true, false, ◌==◌, nat_lt, if◌then◌else◌, remove, find, Option, None, Some}
+use Rattle.std.specs.Prelude.{Bool, true, false, ◌==◌, nat_lt, if◌then◌else◌, remove, find, Option, Some}
 use Rattle.brd_queue.specs.declared.entry.Entry.{Entry}
 use Rattle.brd_queue.specs.declared.entry.Order.{Order}
 use Rattle.brd_queue.specs.declared.entry.Order.TheVariants.{Arrival, Priority}

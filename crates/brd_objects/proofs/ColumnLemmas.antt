@@ -1,9 +1,8 @@
 -- What waiters want, in columns: when one comes or leaves, and the first whose wait a pattern satisfies.
-use Rattle.std.proofs.Common.{◌≡◌, ◌<◌, ◌≤◌, ℕ, zero, suc, ◌+◌, List, [], ◌∷◌, ◌++◌, length, take, drop, map, get_or, refl, sym, ap, subst, ◌∙◌, arith}
-use Rattle.std.specs.Prelude.{Bool, true, false, ◌==◌, if◌then◌else◌, insert, remove, slice_get, find, Option, None, Some, IfNone, IfSome}
-use Rattle.std.proofs.lemmas.Bool.Decides.{nat_tests}
+use Rattle.std.proofs.Common.{◌≡◌, ◌<◌, ℕ, zero, suc, List, [], ◌∷◌, length, map, get_or, refl, sym, ap, subst, ◌∙◌, arith}
+use Rattle.std.specs.Prelude.{Bool, true, false, ◌==◌, if◌then◌else◌, insert, remove, slice_get, find, None, Some}
 use Rattle.std.proofs.lemmas.List.{length-map, get_or-map}
-use Rattle.brd_lanes.specs.Scan.{IsLeast, IsLeastAt, NoneBetween, is_satisfied, is_satisfied_at}
+use Rattle.brd_lanes.specs.Scan.{IsLeastAt, NoneBetween, is_satisfied, is_satisfied_at}
 use Rattle.brd_queue.specs.declared.entry.Entry.{Entry}
 use Rattle.brd_queue.specs.Queue.{with_priority, renumbered}
 use Rattle.brd_objects.specs.declared.want.Mode.{Mode}

@@ -1,7 +1,6 @@
 -- Who is released by a pattern, and what data queues keep.
 use Rattle.std.proofs.Common.{◌≡◌, ◌≢◌, ◌<◌, ℕ, List, [], ◌∷◌, ◌++◌, map, refl, sym, ap, subst, ◌∙◌, arith}
-use Rattle.std.specs.Prelude.{Bool, true, false, not, ◌==◌, ◌&&◌, if◌then◌else◌, filter, find, Option, None, Some, nat_lt, length}
-use Rattle.std.specs.Int.RustNames.{bit_and}
+use Rattle.std.specs.Prelude.{Bool, true, false, not, if◌then◌else◌, filter, Option, None, Some, nat_lt, length}
 use Rattle.std.specs.Option.{option_map}
 use Rattle.std.proofs.lemmas.Bool.Decides.{nat_tests}
 use Rattle.brd_queue.specs.declared.entry.Entry.{Entry}
@@ -11,9 +10,8 @@ use Rattle.brd_objects.specs.declared.want.Mode.TheVariants as modes
 use Rattle.brd_objects.specs.declared.want.Want.{Want}
 use Rattle.brd_objects.specs.declared.flag.Flag.{Flag}
 use Rattle.brd_objects.specs.declared.sent.Received.{Received}
-use Rattle.brd_objects.specs.declared.sent.Sent.{Sent}
 use Rattle.brd_objects.specs.declared.sent.Sent.TheVariants.{Handed, Stored, Full}
-use Rattle.brd_objects.specs.Waiters.{has_bits, satisfies, first_satisfied, without_satisfied, WantBits}
+use Rattle.brd_objects.specs.Waiters.{satisfies, first_satisfied, without_satisfied, WantBits}
 use Rattle.brd_objects.specs.Flags.{released_of, kept_of, pattern_after, all_released, with_all_released, released_to, next_released, with_next_released}
 use Rattle.brd_objects.specs.DataQueues.{DataQueueState, sent_to, sent, outcome_to, outcome, received_by, received, receipt_by, receipt, contents}
 

@@ -2,3 +2,4 @@ pub mod TableLemmas
 pub mod ColumnLemmas
 pub mod BitLemmas
 pub mod LawLemmas
+pub mod ChangeLemmas

@@ -1,3 +1,5 @@
 pub mod QueueLemmas
 pub mod RuleLemmas
 pub mod PriorityLemmas
+pub mod FindLemmas
+pub mod StepLemmas

@@ -1,5 +1,5 @@
-use Rattle.std.proofs.Common.{◌≡◌, ◌<◌, length, arith, sym, ap, subst}
-use Rattle.std.specs.Prelude.{remove, slice_get, Some}
+use Rattle.std.proofs.Common.{◌≡◌, ◌<◌, length, arith, sym, subst}
+use Rattle.std.specs.Prelude.{slice_get, Some}
 use Rattle.brd_queue.specs.Queue.{AreApart}
 use Rattle.brd_queue.proofs.QueueLemmas.{apart-remove, at-place, small-at}
 use Rattle.brd_queue.proofs.queue.Queue.take.Goals as goal
