@@ -16,3 +16,4 @@ pub mod SymbolsAgain
 pub mod FileAgain
 pub mod WriteLemmas
 pub mod SizeLemmas
+pub mod PartLemmas

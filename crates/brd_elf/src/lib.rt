@@ -7,7 +7,7 @@
 mod fault;
 mod fields;
 mod header;
-mod laws;
+pub mod laws;
 mod loaded;
 mod named;
 mod parts;
@@ -21,7 +21,6 @@ mod trie;
 mod writing;
 
 pub use fault::ElfFault;
-pub use laws::{files_are_read_again, read_images_are_loadable};
 pub use reading::read;
 pub use size::fits;
 pub use writing::write;

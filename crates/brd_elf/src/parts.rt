@@ -1,8 +1,8 @@
 //! The parts of the file of an image.
 
-ghost use Rattle.std.specs.Prelude.{◌∷◌, [], ◌≡◌, ℕ, ◌+◌, ◌*◌, ◌^◌, ◌<◌, ◌≤◌, ◌++◌, length, replicate, OnOk, IfOk};
+ghost use Rattle.std.specs.Prelude.{◌∷◌, [], ◌≡◌, ℕ, ◌+◌, ◌*◌, ◌^◌, ◌<◌, ◌≤◌, ◌++◌, length, replicate, flat_map, OnOk, IfOk};
 ghost use Rattle.std.specs.List.{AllByRecursion};
-ghost use Rattle.brd_elf.specs.File.{halves, words, padding, padded, program_header, program_headers_from, data_of, symbol_entry, symbol_table, strings, section_headers, header_bytes};
+ghost use Rattle.brd_elf.specs.File.{halves, words, padding, padded, program_header, program_headers_from, data_of, symbol_entry, symbol_entries_from, symbol_table, strings, section_names, section_headers, header_bytes};
 
 use crate::fields::{put_half, put_word};
 use brd_base::NoMemory;
@@ -42,7 +42,7 @@ fn put_words(out: &mut Vec<u8>, numbers: &[usize]) -> Result<(), NoMemory>
 }
 
 /// Puts a few bytes 0 at the end.
-pub fn put_zeros(out: &mut Vec<u8>, count: usize) -> Result<(), NoMemory>
+fn put_zeros(out: &mut Vec<u8>, count: usize) -> Result<(), NoMemory>
     requires { count < 2 ^ 16 }
     ensures { OnOk result (out.new.items ≡ out.old.items ++ replicate count 0) }
 {
@@ -77,7 +77,6 @@ pub fn put_header(
 }
 
 /// The program headers of segments, and the bytes of the segments, which lie behind them in the file.
-#[tactic(auto, unfolding(crate::specs::File::program_headers_from))]
 pub fn lay_out_segments(alloc: Global, segments: &[Segment]) -> Result<(Vec<u8>, Vec<u8>), NoMemory>
     requires { length segments.now ≤ 2 ^ 24 }
     ensures programs { IfOk result (λ parts. parts.0.items ≡ program_headers_from (52 + 32 * length segments.now) segments.now) }
@@ -86,10 +85,27 @@ pub fn lay_out_segments(alloc: Global, segments: &[Segment]) -> Result<(Vec<u8>,
     let start = HEADER_LEN + PROGRAM_LEN * segments.len();
     let mut programs = Vec::new(alloc);
     let mut data = Vec::new(alloc);
-    for segment in segments {
-        put_segment(&mut programs, &mut data, start, segment)?;
-    }
+    put_all_segments(&mut programs, &mut data, start, segments)?;
     Ok((programs, data))
+}
+
+/// Puts the program headers of segments at the end, and their bytes at the end of those that lie in the file from
+/// `start` on.
+#[tactic(auto, unfolding(crate::specs::File::program_headers_from))]
+fn put_all_segments(
+    programs: &mut Vec<u8>,
+    loaded: &mut Vec<u8>,
+    start: usize,
+    segments: &[Segment],
+) -> Result<(), NoMemory>
+    requires { start < 2 ^ 32 }
+    ensures programs { OnOk result (programs.new.items ≡ programs.old.items ++ program_headers_from (start + length loaded.old.items) segments.now) }
+    ensures bytes { OnOk result (loaded.new.items ≡ loaded.old.items ++ data_of segments.now) }
+{
+    for segment in segments {
+        put_segment(programs, loaded, start, segment)?;
+    }
+    Ok(())
 }
 
 /// Puts a segment's program header and its bytes behind those of earlier segments, whose bytes lie in the file from
@@ -125,8 +141,16 @@ fn put_padded(out: &mut Vec<u8>, bytes: &[u8]) -> Result<(), NoMemory>
     put_zeros(out, padding(bytes.len()))
 }
 
+/// Puts the sections' names at the end, and zero up to the next multiple of 4 of these strings and the names together.
+pub fn put_section_names(out: &mut Vec<u8>, strings: &[u8]) -> Result<(), NoMemory>
+    ensures { OnOk result (out.new.items
+        ≡ out.old.items ++ section_names ++ replicate (padding (length strings.now + length section_names)) 0) }
+{
+    out.extend_from_slice(SECTION_NAMES)?;
+    put_zeros(out, padding(strings.len() + SECTION_NAMES.len()))
+}
+
 /// The symbol table and its strings.
-#[tactic(auto, unfolding(crate::specs::File::symbol_entries_from))]
 pub fn lay_out_symbols(alloc: Global, symbols: &[Symbol]) -> Result<(Vec<u8>, Vec<u8>), NoMemory>
     ensures table { IfOk result (λ parts. parts.0.items ≡ symbol_table symbols.now) }
     ensures strings { IfOk result (λ parts. parts.1.items ≡ strings symbols.now) }
@@ -136,10 +160,25 @@ pub fn lay_out_symbols(alloc: Global, symbols: &[Symbol]) -> Result<(Vec<u8>, Ve
     put_zeros(&mut table, 16)?;
     let mut strings = Vec::new(alloc);
     strings.push(0)?;
-    for symbol in symbols {
-        put_named(&mut table, &mut strings, symbol)?;
-    }
+    put_all_named(&mut table, &mut strings, symbols)?;
     Ok((table, strings))
+}
+
+/// Puts symbols at the end of the table, and their names at the end of the strings.
+#[tactic(auto, unfolding(crate::specs::File::symbol_entries_from))]
+fn put_all_named(
+    table: &mut Vec<u8>,
+    strings: &mut Vec<u8>,
+    symbols: &[Symbol],
+) -> Result<(), NoMemory>
+    ensures entries { OnOk result (table.new.items ≡ table.old.items ++ symbol_entries_from (length strings.old.items) symbols.now) }
+    ensures strings { OnOk result (strings.new.items ≡ strings.old.items ++ flat_map (λ symbol. symbol.name ++ 0 ∷ []) symbols.now) }
+    ensures words { OnOk result (AllByRecursion (λ symbol. symbol.value < 2 ^ 32) symbols.now) }
+{
+    for symbol in symbols {
+        put_named(table, strings, symbol)?;
+    }
+    Ok(())
 }
 
 /// Puts a symbol at the end of the table, and its name at the end of the strings.

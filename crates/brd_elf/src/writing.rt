@@ -1,17 +1,17 @@
 //! The writer.
 
-ghost use Rattle.std.specs.Prelude.{◌≡◌, ℕ, ◌+◌, ◌^◌, ◌<◌, length, IfOk, Ok};
+ghost use Rattle.std.specs.Prelude.{◌≡◌, ℕ, ◌+◌, ◌*◌, ◌^◌, ◌<◌, ◌≤◌, ◌++◌, length, IfOk, Ok};
 ghost use Rattle.std.specs.List.{AllByRecursion};
 ghost use Rattle.brd_mem.specs.Image.{IsPlain};
-ghost use Rattle.brd_elf.specs.File.{body_of, symbols_at, strings_at, names_at, sections_at, symbol_table, strings, file, Fits, HasWords};
+ghost use Rattle.brd_elf.specs.File.{program_headers_from, data_of, body_of, symbols_at, strings_at, names_at, sections_at, symbol_table, strings, file, Fits, HasWords};
 ghost use Rattle.brd_elf.specs.Meaning.{meaning};
 
 use crate::parts::{
-    HEADER_LEN, SECTION_NAMES, lay_out_segments, lay_out_symbols, padding, put_header,
-    put_section_headers, put_zeros,
+    HEADER_LEN, lay_out_segments, lay_out_symbols, put_header, put_section_headers,
+    put_section_names,
 };
 use brd_base::NoMemory;
-use brd_mem::Image;
+use brd_mem::{Image, Segment};
 use std::alloc::Global;
 
 /// What lies between the header and the section headers of a file, and where its parts lie in the file.
@@ -65,6 +65,17 @@ fn file_of(alloc: Global, image: &Image) -> Result<Vec<u8>, NoMemory>
     Ok(out)
 }
 
+/// The program headers of segments, and behind them the bytes of the segments.
+fn with_data(alloc: Global, segments: &[Segment]) -> Result<Vec<u8>, NoMemory>
+    requires { length segments.now ≤ 2 ^ 24 }
+    ensures { IfOk result (λ bytes. bytes.items
+        ≡ program_headers_from (52 + 32 * length segments.now) segments.now ++ data_of segments.now) }
+{
+    let (mut bytes, data) = lay_out_segments(alloc, segments)?;
+    bytes.extend_from_slice(&data)?;
+    Ok(bytes)
+}
+
 /// What lies between the header and the section headers.
 fn body_of(alloc: Global, image: &Image) -> Result<Body, NoMemory>
     requires { IsPlain image.now }
@@ -77,16 +88,14 @@ fn body_of(alloc: Global, image: &Image) -> Result<Body, NoMemory>
     ensures sections_at { IfOk result (λ body. 52 + length body.bytes.items ≡ sections_at image.now) }
     ensures words { IfOk result (λ _. AllByRecursion (λ symbol. symbol.value < 2 ^ 32) image.now.symbols) }
 {
-    let (mut bytes, data) = lay_out_segments(alloc, image.segments.as_slice())?;
+    let mut bytes = with_data(alloc, image.segments.as_slice())?;
     let (table, strings) = lay_out_symbols(alloc, image.symbols.as_slice())?;
-    bytes.extend_from_slice(&data)?;
     let symbols_at = HEADER_LEN + bytes.len();
     bytes.extend_from_slice(&table)?;
     let strings_at = HEADER_LEN + bytes.len();
     bytes.extend_from_slice(&strings)?;
     let names_at = HEADER_LEN + bytes.len();
-    bytes.extend_from_slice(SECTION_NAMES)?;
-    put_zeros(&mut bytes, padding(strings.len() + SECTION_NAMES.len()))?;
+    put_section_names(&mut bytes, &strings)?;
     Ok(Body {
         bytes,
         symbols_at,
