@@ -55,6 +55,17 @@ pub record State : Type 0 where
 abbrev pub processor_of : Option ℕ → ℕ
 processor_of class = unwrap_or class 1
 
+-- The first steps of `task_of`: the ID, the attributes and the priority of a task, next to tasks that are defined. A
+-- stack of no bytes is refused.
+unfoldable pub task_numbers : ℕ → List TaskConfig → TaskStatement → Result (ℕ × ℕ × ℕ) ConfigFault
+task_numbers line tasks t = do
+  id ← within 1 255 (BadId line) t.id
+  new ← refused (list_any (λ other. other.id == t.id) tasks) (Duplicate line)
+  attributes ← only_bits 3 (BadAttribute line) t.attributes
+  priority ← within 1 16 (BadPriority line) t.priority
+  stacked ← refused (t.stack_size == 0) (BadCount line)
+  Ok (id, attributes, priority)
+
 -- A task on this processor, next to tasks that are defined.
 unfoldable pub task_of : ℕ → List TaskConfig → ℕ → TaskStatement → Result TaskConfig ConfigFault
 task_of line tasks processor t = do

@@ -145,6 +145,20 @@ class_number_at t = do
 
 -- ---- the parts that statements share
 
+-- a number and the comma behind it
+unfoldable pub listed_number_at : Text → Result (ℕ × Text) ConfigFault
+listed_number_at t = do
+  n ← number_at t
+  listed ← mark_at 44 n.1
+  Ok (n.0, listed)
+
+-- an operand and the comma behind it
+unfoldable pub listed_operand_at : Text → Result (Operand × Text) ConfigFault
+listed_operand_at t = do
+  operand ← operand_at t
+  listed ← mark_at 44 operand.1
+  Ok (operand.0, listed)
+
 -- `( id , { attributes ,`: the ID and the attributes
 unfoldable pub head_at : Text → Result (ℕ × ℕ × Text) ConfigFault
 head_at t = do

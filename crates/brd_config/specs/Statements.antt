@@ -10,7 +10,8 @@ use Rattle.brd_config.specs.declared.statement.Keyword.{Keyword}
 use Rattle.brd_config.specs.declared.statement.Keyword.TheVariants as keywords
 use Rattle.brd_config.specs.declared.statement.Statement.{Statement}
 use Rattle.brd_config.specs.declared.statement.Statement.TheVariants.{Board, Class, ClassEnd, Task, Semaphore, Flag, Queue, Handler}
-use Rattle.brd_config.specs.Reading.{named_in, number_at, mark_at, operand_at, stack_at, area_at, class_number_at, head_at, tail_at}
+use Rattle.brd_config.specs.declared.objects.Stack.{Stack}
+use Rattle.brd_config.specs.Reading.{named_in, number_at, listed_number_at, mark_at, operand_at, stack_at, area_at, class_number_at, head_at, tail_at}
 
 abbrev pub keyword_names : List (List ℕ × Keyword)
 keyword_names =
@@ -44,6 +45,15 @@ class_at t = do
   closed ← mark_at 41 n.1
   inner ← mark_at 123 closed
   Ok (Class n.0, inner)
+
+-- What follows the comma behind a task's address, the end of `task_at`: itskpri, stksz, stk});
+unfoldable pub task_tail_at : Text → Result (ℕ × ℕ × Stack × Text) ConfigFault
+task_tail_at t = do
+  priority ← listed_number_at t
+  size ← listed_number_at priority.1
+  stack ← stack_at size.1
+  ended ← tail_at stack.1
+  Ok (priority.0, size.0, stack.0, ended)
 
 -- CRE_TSK(tskid, {tskatr, exinf, task, itskpri, stksz, stk});
 unfoldable pub task_at : Text → Result (Statement × Text) ConfigFault

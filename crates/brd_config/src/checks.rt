@@ -77,15 +77,15 @@ fn has_handler(handlers: &[HandlerConfig], line: u32) -> bool
     handlers.iter().any(|other| other.line as u32 == line)
 }
 
-/// The task of a statement that begins on this line, on this processor, next to the tasks that are defined.
-#[tactic(auto, unfolding(crate::specs::Meaning::task_of))]
-pub(crate) fn task(
+/// The ID, the attributes and the priority of the task of a statement that begins on this line, next to the tasks that
+/// are defined. A stack of no bytes is refused.
+#[tactic(auto, unfolding(crate::specs::Meaning::task_numbers))]
+fn task_numbers(
     line: usize,
     tasks: &[TaskConfig],
-    processor: u8,
-    statement: TaskStatement,
-) -> Result<TaskConfig, ConfigFault>
-    ensures { Gives (λ t. t) result (meaning.task_of line tasks.now processor statement) }
+    statement: &TaskStatement,
+) -> Result<(u16, u32, u8), ConfigFault>
+    ensures { Gives (λ x. x) result (meaning.task_numbers line tasks.now statement.now) }
 {
     let id = within(statement.id, 1, 255, ConfigFault::BadId { line })?;
     if has_task(tasks, statement.id) {
@@ -96,13 +96,27 @@ pub(crate) fn task(
     if statement.stack_size == 0 {
         return Err(ConfigFault::BadCount { line });
     }
+    Ok((id as u16, attributes, priority as u8))
+}
+
+/// The task of a statement that begins on this line, on this processor, next to the tasks that are defined.
+#[tactic(auto, unfolding(crate::specs::Meaning::task_of, crate::specs::Meaning::task_numbers))]
+pub(crate) fn task(
+    line: usize,
+    tasks: &[TaskConfig],
+    processor: u8,
+    statement: TaskStatement,
+) -> Result<TaskConfig, ConfigFault>
+    ensures { Gives (λ t. t) result (meaning.task_of line tasks.now processor statement) }
+{
+    let (id, attributes, priority) = task_numbers(line, tasks, &statement)?;
     Ok(TaskConfig {
-        id: id as u16,
+        id,
         processor,
         attributes: TaskAttributes::from_bits_retain(attributes),
         exinf: statement.exinf,
         address: statement.address,
-        priority: priority as u8,
+        priority,
         stack_size: statement.stack_size,
         stack: statement.stack,
     })

@@ -246,6 +246,28 @@ pub(crate) fn class_number(tokens: &mut Scanner) -> Result<u32, ConfigFault>
     }
 }
 
+/// Takes a number and the comma behind it.
+#[tactic(auto, unfolding(crate::specs::Reading::listed_number_at))]
+pub(crate) fn listed_number(tokens: &mut Scanner) -> Result<u32, ConfigFault>
+    ensures read { Gives (λ n. (n, tokens.new)) result (reads.listed_number_at tokens.old) }
+    ensures shorter { OnOk result (length tokens.new.tokens < length tokens.old.tokens) }
+{
+    let number = number(tokens)?;
+    mark(tokens, b',')?;
+    Ok(number)
+}
+
+/// Takes an operand and the comma behind it.
+#[tactic(auto, unfolding(crate::specs::Reading::listed_operand_at))]
+pub(crate) fn listed_operand(alloc: Global, tokens: &mut Scanner) -> Result<Operand, ConfigFault>
+    ensures read { Gives (λ o. (o, tokens.new)) result (reads.listed_operand_at tokens.old) }
+    ensures shorter { OnOk result (length tokens.new.tokens < length tokens.old.tokens) }
+{
+    let operand = operand(alloc, tokens)?;
+    mark(tokens, b',')?;
+    Ok(operand)
+}
+
 /// Takes `( id , { attributes ,`: the ID and the attributes.
 #[tactic(auto, unfolding(crate::specs::Reading::head_at))]
 pub(crate) fn head(tokens: &mut Scanner) -> Result<(u32, u32), ConfigFault>

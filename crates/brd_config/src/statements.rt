@@ -6,7 +6,11 @@ ghost use Rattle.brd_config.specs.Faults.{Gives};
 ghost use Rattle.brd_config.specs.Statements as statements;
 
 use crate::fault::ConfigFault;
-use crate::reading::{area, class_number, find, head, mark, number, operand, stack, tail};
+use crate::objects::Stack;
+use crate::reading::{
+    area, class_number, find, head, listed_number, listed_operand, mark, number, operand, stack,
+    tail,
+};
 use crate::statement::{
     FlagStatement, HandlerStatement, Keyword, QueueStatement, SemaphoreStatement, Statement,
     TaskStatement,
@@ -61,23 +65,30 @@ fn class(tokens: &mut Scanner) -> Result<Statement, ConfigFault>
     Ok(Statement::Class(processor))
 }
 
+/// Takes what follows the comma behind a task's address, to the statement's end: its priority, and its stack with its
+/// size.
+#[tactic(auto, unfolding(crate::specs::Statements::task_tail_at))]
+fn task_tail(alloc: Global, tokens: &mut Scanner) -> Result<(u32, u32, Stack), ConfigFault>
+    ensures read { Gives (λ x. (x.0, x.1, x.2, tokens.new)) result (statements.task_tail_at tokens.old) }
+    ensures shorter { OnOk result (length tokens.new.tokens < length tokens.old.tokens) }
+{
+    let priority = listed_number(tokens)?;
+    let stack_size = listed_number(tokens)?;
+    let stack = stack(alloc, tokens)?;
+    tail(tokens)?;
+    Ok((priority, stack_size, stack))
+}
+
 /// Takes what follows `CRE_TSK`.
-#[tactic(auto, unfolding(crate::specs::Statements::task_at))]
+#[tactic(auto, unfolding(crate::specs::Statements::task_at, crate::specs::Statements::task_tail_at, crate::specs::Reading::listed_number_at, crate::specs::Reading::listed_operand_at))]
 fn task(alloc: Global, tokens: &mut Scanner) -> Result<Statement, ConfigFault>
     ensures read { Gives (λ s. (s, tokens.new)) result (statements.task_at tokens.old) }
     ensures shorter { OnOk result (length tokens.new.tokens < length tokens.old.tokens) }
 {
     let (id, attributes) = head(tokens)?;
-    let exinf = operand(alloc, tokens)?;
-    mark(tokens, b',')?;
-    let address = operand(alloc, tokens)?;
-    mark(tokens, b',')?;
-    let priority = number(tokens)?;
-    mark(tokens, b',')?;
-    let stack_size = number(tokens)?;
-    mark(tokens, b',')?;
-    let stack = stack(alloc, tokens)?;
-    tail(tokens)?;
+    let exinf = listed_operand(alloc, tokens)?;
+    let address = listed_operand(alloc, tokens)?;
+    let (priority, stack_size, stack) = task_tail(alloc, tokens)?;
     Ok(Statement::Task(TaskStatement {
         id,
         attributes,
