@@ -8,7 +8,7 @@ use Rattle.std.proofs.lemmas.List.{take_at, drop_at}
 use Rattle.brd_text.specs.Bytes.{is_name, is_run_byte, begins_name, is_letter}
 use Rattle.brd_text.specs.Numbers.{hex_digit_value, digit_of, value_of, most_word, number_of}
 use Rattle.brd_text.proofs.Numerals.{value_behind-none}
-use Rattle.brd_source.specs.declared.words.Word.{Word}
+use Rattle.brd_source.specs.declared.operations.Operation.{Operation}
 use Rattle.brd_source.specs.Grammar.{comma, opened, closed, ExpressionIs, ImmediateIs, OperandIs, OperandsAre, ValuesAre, IsSetting, Says, StatementIs, LineIs}
 use Rattle.brd_source.specs.Grammar.NumberIs.{unsigned, negative}
 use Rattle.brd_source.specs.Grammar.ExpressionIs.{number, name, sum, difference}
@@ -248,7 +248,7 @@ set_read _ noreorder = refl
 set_read _ noat = refl
 set_read _ nomacro = refl
 
-said_read : (word : Word) (tokens : List Token) (s : Statement) → Says word tokens s → said_from word tokens ≡ Some s
+said_read : (operation : Operation) (tokens : List Token) (s : Statement) → Says operation tokens s → said_from operation tokens ≡ Some s
 unfolding instruction_from text_from equal_from global_from
 said_read _ _ _ (instructs m tokens written operands are takes) = rw (operands_read tokens written are, takes) refl
 said_read _ _ _ (shortens s tokens written operands are takes) = rw (operands_read tokens written are, takes) refl
@@ -265,7 +265,7 @@ said_read _ _ _ (set setting is) = set_read setting is
 statement_read : (tokens : List Token) (s : Statement) → StatementIs tokens s → statement_from tokens ≡ Some s
 unfolding statement_from
 statement_read _ _ left_out = refl
-statement_read _ _ (begins run word tokens s word_is says) = rw word_is (said_read word tokens s says)
+statement_read _ _ (begins run operation tokens s operation_is says) = rw operation_is (said_read operation tokens s says)
 
 -- ---- lines
 
@@ -295,7 +295,7 @@ operands_no_colon _ _ (one xs a is) = inside_alone xs (operand_inside xs a is)
 operands_no_colon _ _ (two xs ys a b is_a is_b) = before_comma xs ys (operand_inside xs a is_a)
 operands_no_colon _ _ (three xs ys zs a b c is_a is_b is_c) = before_comma xs (ys ++ comma ∷ zs) (operand_inside xs a is_a)
 
-said_no_colon : (word : Word) (tokens : List Token) (s : Statement) → Says word tokens s → no_colon tokens ≡ true
+said_no_colon : (operation : Operation) (tokens : List Token) (s : Statement) → Says operation tokens s → no_colon tokens ≡ true
 unfolding no_colon
 said_no_colon _ _ _ (instructs m tokens written operands are takes) = operands_no_colon tokens written are
 said_no_colon _ _ _ (shortens s tokens written operands are takes) = operands_no_colon tokens written are
@@ -320,9 +320,9 @@ no_label run (_ ∷ tokens) h = (refl, refl)
 
 pub line_read : (tokens : List Token) (line : Line) → LineIs tokens line → line_from tokens ≡ Some line
 line_read _ _ (statement _ _ left_out) = rw (statement_read [] Nothing left_out) refl
-line_read _ _ (statement _ _ (begins run word tokens s word_is says)) =
-    let none = no_label run tokens (said_no_colon word tokens s says) in
-    rw (none.0, none.1, statement_read (Run run ∷ tokens) s (begins run word tokens s word_is says)) refl
+line_read _ _ (statement _ _ (begins run operation tokens s operation_is says)) =
+    let none = no_label run tokens (said_no_colon operation tokens s says) in
+    rw (none.0, none.1, statement_read (Run run ∷ tokens) s (begins run operation tokens s operation_is says)) refl
 line_read _ _ (label run tokens labels s h is) =
     let line : Line = with_labels labels s in
     let read = mapped (with_labels (labels_of tokens)) (statement_from (behind_labels tokens)) line (line_read tokens line is) in

@@ -10,10 +10,10 @@ use Rattle.brd_isa.specs.Names.{lowered}
 use Rattle.brd_text.specs.Bytes.{is_name}
 use Rattle.brd_text.specs.Numbers.{number_of}
 use Rattle.brd_source.specs.declared.forms.Kind.{Kind}
-use Rattle.brd_source.specs.declared.words.Directive.{Directive}
-use Rattle.brd_source.specs.declared.words.Directive.TheVariants as directives
-use Rattle.brd_source.specs.declared.words.Word.{Word}
-use Rattle.brd_source.specs.declared.words.Word.TheVariants.{Mnemonic, Shorthand, Directive as Directs}
+use Rattle.brd_source.specs.declared.operations.Directive.{Directive}
+use Rattle.brd_source.specs.declared.operations.Directive.TheVariants as directives
+use Rattle.brd_source.specs.declared.operations.Operation.{Operation}
+use Rattle.brd_source.specs.declared.operations.Operation.TheVariants.{Mnemonic, Shorthand, Directive as Directs}
 use Rattle.brd_source.specs.Faults.{◌>>=◌}
 use Rattle.brd_source.specs.Forms.{form_of, short_form_of, taken, instruction, stands_for}
 use Rattle.brd_source.specs.Grammar.{comma, minus, opened, closed, NumberIs, ExpressionIs, ImmediateIs, OperandIs, OperandsAre, ValuesAre, IsSetting, Says, StatementIs, LineIs}
@@ -38,7 +38,7 @@ use Rattle.brd_source.specs.Statements.{text_from, equal_from, global_from, is_s
 use Rattle.brd_source.specs.Texts.{text_of}
 use Rattle.brd_source.specs.Tokens.{Token}
 use Rattle.brd_source.specs.Tokens.Token.{Run, Percent, Quoted, Mark}
-use Rattle.brd_source.specs.Words.{word_named}
+use Rattle.brd_source.specs.Operations.{operation_named}
 use Rattle.brd_source.proofs.OptionLemmas.{some_is, mapped, bound, tested}
 
 -- a mark by its code
@@ -228,17 +228,17 @@ values_are _ _ es (part x ys others cut) h =
 
 -- ---- directives
 
-with_expression : (word : Word) (tokens : List Token) (s : Statement) (made : Expression → Statement) → ((e : Expression) → ExpressionIs tokens e → Says word tokens (made e)) → option_map made (expression_from tokens) ≡ Some s → Says word tokens s
-with_expression word tokens s made is h =
+with_expression : (operation : Operation) (tokens : List Token) (s : Statement) (made : Expression → Statement) → ((e : Expression) → ExpressionIs tokens e → Says operation tokens (made e)) → option_map made (expression_from tokens) ≡ Some s → Says operation tokens s
+with_expression operation tokens s made is h =
     let e = mapped made (expression_from tokens) s h in
-    subst (λ (t : Statement). Says word tokens t) e.2 (is e.0 (expression_is tokens e.0 e.1))
+    subst (λ (t : Statement). Says operation tokens t) e.2 (is e.0 (expression_is tokens e.0 e.1))
 
-text_is : (word : Word) (tokens : List Token) (s : Statement) (made : List ℕ → Statement) → ((text bytes : List ℕ) → text_of text ≡ Some bytes → Says word (Quoted text ∷ []) (made bytes)) → option_map made (text_from tokens) ≡ Some s → Says word tokens s
+text_is : (operation : Operation) (tokens : List Token) (s : Statement) (made : List ℕ → Statement) → ((text bytes : List ℕ) → text_of text ≡ Some bytes → Says operation (Quoted text ∷ []) (made bytes)) → option_map made (text_from tokens) ≡ Some s → Says operation tokens s
 unfolding text_from
-text_is word (Quoted text ∷ []) s made is h =
+text_is operation (Quoted text ∷ []) s made is h =
     let t = mapped made (text_of text) s h in
-    subst (λ (p : Statement). Says word (Quoted text ∷ []) p) t.2 (is text t.0 t.1)
-text_is word _ s made is h = absurd (cc)
+    subst (λ (p : Statement). Says operation (Quoted text ∷ []) p) t.2 (is text t.0 t.1)
+text_is operation _ s made is h = absurd (cc)
 
 equal_is : (tokens : List Token) (s : Statement) → equal_from tokens ≡ Some s → Says (Directs directives.Equ) tokens s
 unfolding equal_from
@@ -289,16 +289,16 @@ directive_is directives.Set tokens s h = set_is tokens s h
 
 -- ---- statements and lines
 
-instruction_is : (word : Word) (form : Kind × Kind × Kind) (made : Operands → Instruction) (tokens : List Token) (s : Statement)
-    → ((written operands : Operands) → OperandsAre tokens written → taken form written ≡ Some operands → Says word tokens (Instruct (made operands)))
-    → instruction_from form made tokens ≡ Some s → Says word tokens s
+instruction_is : (operation : Operation) (form : Kind × Kind × Kind) (made : Operands → Instruction) (tokens : List Token) (s : Statement)
+    → ((written operands : Operands) → OperandsAre tokens written → taken form written ≡ Some operands → Says operation tokens (Instruct (made operands)))
+    → instruction_from form made tokens ≡ Some s → Says operation tokens s
 unfolding instruction_from
-instruction_is word form made tokens s is h =
+instruction_is operation form made tokens s is h =
     let o = bound (operands_from tokens >>= taken form) (λ operands. Some (Instruct (made operands))) s h in
     let w = bound (operands_from tokens) (taken form) o.0 o.1 in
-    subst (λ (p : Statement). Says word tokens p) (some_is (Instruct (made o.0)) s o.2) (is w.0 o.0 (all_operands tokens w.0 w.1) w.2)
+    subst (λ (p : Statement). Says operation tokens p) (some_is (Instruct (made o.0)) s o.2) (is w.0 o.0 (all_operands tokens w.0 w.1) w.2)
 
-said_is : (word : Word) (tokens : List Token) (s : Statement) → said_from word tokens ≡ Some s → Says word tokens s
+said_is : (operation : Operation) (tokens : List Token) (s : Statement) → said_from operation tokens ≡ Some s → Says operation tokens s
 said_is (Mnemonic m) tokens s h = instruction_is (Mnemonic m) (form_of m) (instruction m) tokens s (λ written operands are takes. instructs m tokens written operands are takes) h
 said_is (Shorthand short) tokens s h = instruction_is (Shorthand short) (short_form_of short) (stands_for short) tokens s (λ written operands are takes. shortens short tokens written operands are takes) h
 said_is (Directs d) tokens s h = directive_is d tokens s h
@@ -307,7 +307,7 @@ statement_is : (tokens : List Token) (s : Statement) → statement_from tokens �
 unfolding statement_from
 statement_is [] s h = subst (λ (p : Statement). StatementIs [] p) (some_is Nothing s h) left_out
 statement_is (Run run ∷ tokens) s h =
-    let w = bound (word_named (lowered run)) (λ word. said_from word tokens) s h in
+    let w = bound (operation_named (lowered run)) (λ operation. said_from operation tokens) s h in
     begins run w.0 tokens s w.1 (said_is w.0 tokens s w.2)
 statement_is _ s h = absurd (cc)
 

@@ -4,9 +4,9 @@ use Rattle.std.specs.Prelude.{◌&&◌}
 use Rattle.std.proofs.lemmas.Bool.{and_parts}
 use Rattle.brd_source.specs.declared.forms.Kind.{Kind}
 use Rattle.brd_source.specs.declared.forms.Kind.TheVariants.{Nothing, Register, Number}
-use Rattle.brd_source.specs.declared.words.Shorthand.{Shorthand}
-use Rattle.brd_source.specs.declared.words.Shorthand.TheVariants as shorthand
-use Rattle.brd_source.specs.declared.words.Word.{Word}
+use Rattle.brd_source.specs.declared.operations.Shorthand.{Shorthand}
+use Rattle.brd_source.specs.declared.operations.Shorthand.TheVariants as shorthand
+use Rattle.brd_source.specs.declared.operations.Operation.{Operation}
 use Rattle.brd_source.specs.Forms.{form_of, short_form_of, register, stands_for, linked, is_of, are_of, completed, taken}
 use Rattle.brd_source.specs.Grammar.{Says, StatementIs, LineIs}
 use Rattle.brd_source.specs.Grammar.Says.{instructs, shortens}
@@ -51,7 +51,7 @@ same i j e h = subst HaveForm (inside i j e) h
     inside : (i j : Instruction) → Instruct i ≡ Instruct j → i ≡ j
     inside i j e = cc
 
-said : (word : Word) (tokens : List Token) (s : Statement) → Says word tokens s → (i : Instruction) → s ≡ Instruct i → HaveForm i
+said : (operation : Operation) (tokens : List Token) (s : Statement) → Says operation tokens s → (i : Instruction) → s ≡ Instruct i → HaveForm i
 unfolding HaveForm
 said _ _ _ (instructs m tokens written operands are takes) i e = same (record { mnemonic = m; operands = operands }) i e (taken_are (form_of m) written operands takes)
 said _ _ _ (shortens s tokens written operands are takes) i e = same (stands_for s operands) i e (stand_so s operands (taken_are (short_form_of s) written operands takes))
@@ -59,7 +59,7 @@ said _ _ _ _ i e = absurd (cc)
 
 by_statement : (tokens : List Token) (s : Statement) → StatementIs tokens s → (i : Instruction) → s ≡ Instruct i → HaveForm i
 by_statement _ _ left_out i e = absurd (cc)
-by_statement _ _ (begins run word tokens s named says) i e = said word tokens s says i e
+by_statement _ _ (begins run operation tokens s named says) i e = said operation tokens s says i e
 
 pub have_operands : (tokens : List Token) (line : Line) (i : Instruction) → LineIs tokens line → line.statement ≡ Instruct i → are_of (form_of i.mnemonic) i.operands ≡ true
 unfolding HaveForm

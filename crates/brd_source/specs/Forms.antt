@@ -8,8 +8,8 @@ use Rattle.brd_isa.specs.declared.mnemonic.Mnemonic.{Mnemonic}
 use Rattle.brd_isa.specs.declared.mnemonic.Mnemonic.TheVariants as mnemonic
 use Rattle.brd_source.specs.declared.forms.Kind.{Kind}
 use Rattle.brd_source.specs.declared.forms.Kind.TheVariants.{Nothing, Register, Link, Number, Code, Value, Address}
-use Rattle.brd_source.specs.declared.words.Shorthand.{Shorthand}
-use Rattle.brd_source.specs.declared.words.Shorthand.TheVariants as shorthand
+use Rattle.brd_source.specs.declared.operations.Shorthand.{Shorthand}
+use Rattle.brd_source.specs.declared.operations.Shorthand.TheVariants as shorthand
 use Rattle.brd_source.specs.Statement.{Operand, Operands, Instruction, zero_expression}
 use Rattle.brd_source.specs.Statement.Immediate.{Whole}
 use Rattle.brd_source.specs.Statement.Operand.{Absent, Register as ARegister, Value as AValue, Address as AnAddress}

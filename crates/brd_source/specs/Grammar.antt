@@ -1,6 +1,7 @@
 -- The grammar of lines: which tokens, of those that bytes spell (Spelling), say what. What a single token stands for (a
 -- register, a number, a string) is shared with the reading: Registers, brd_text's Numbers, Texts; so are the tables of
--- names (Words) and of the operands that each word takes (Forms). What is read as a line is just what has this form.
+-- names (Operations) and of the operands that each operation takes (Forms). What is read as a line is just what has this
+-- form.
 use Rattle.std.specs.Prelude.{◌≡◌, ℕ, ℤ, pos, true, List, [], ◌∷◌, ◌++◌, Some, None, codes}
 use lib.IntN.{neg_ℤ}
 use Rattle.brd_isa.specs.declared.mnemonic.Mnemonic as mnemonics
@@ -8,10 +9,10 @@ use Rattle.brd_isa.specs.Names.{lowered}
 use Rattle.brd_text.specs.Bytes.{is_name}
 use Rattle.brd_text.specs.Numbers.{number_of}
 use Rattle.brd_source.specs.declared.statement.Width.{Width}
-use Rattle.brd_source.specs.declared.words.Shorthand as shorthands
-use Rattle.brd_source.specs.declared.words.Directive.TheVariants as directive
-use Rattle.brd_source.specs.declared.words.Word.{Word}
-use Rattle.brd_source.specs.declared.words.Word.TheVariants.{Mnemonic, Shorthand, Directive}
+use Rattle.brd_source.specs.declared.operations.Shorthand as shorthands
+use Rattle.brd_source.specs.declared.operations.Directive.TheVariants as directive
+use Rattle.brd_source.specs.declared.operations.Operation.{Operation}
+use Rattle.brd_source.specs.declared.operations.Operation.TheVariants.{Mnemonic, Shorthand, Directive}
 use Rattle.brd_source.specs.Forms.{form_of, short_form_of, taken, instruction, stands_for}
 use Rattle.brd_source.specs.Registers.{register_of}
 use Rattle.brd_source.specs.Statement.{Expression, Immediate, Operand, Operands, Statement, Line, zero_expression}
@@ -21,7 +22,7 @@ use Rattle.brd_source.specs.Statement.Statement.{Nothing, Instruct, Org, Align, 
 use Rattle.brd_source.specs.Texts.{text_of}
 use Rattle.brd_source.specs.Tokens.{Token, closing_byte, colon_byte, comma_byte, minus_byte, opening_byte, plus_byte}
 use Rattle.brd_source.specs.Tokens.Token.{Run, Percent, Quoted, Mark}
-use Rattle.brd_source.specs.Words.{word_named}
+use Rattle.brd_source.specs.Operations.{operation_named}
 
 -- the marks , : + - ( )
 abbrev pub comma : Token
@@ -94,9 +95,9 @@ pub data IsSetting : List ℕ → Type 0 where
   noat : IsSetting (codes "noat")
   nomacro : IsSetting (codes "nomacro")
 
--- What stands behind a word, and the statement that it says: operands of the word's form, or those of a directive.
--- .globl and .set say nothing.
-pub data Says : Word → List Token → Statement → Type 0 where
+-- What stands behind an operation, and the statement that it says: operands of the operation's form, or those of a
+-- directive. .globl and .set say nothing.
+pub data Says : Operation → List Token → Statement → Type 0 where
   instructs : (m : mnemonics.Mnemonic) (tokens : List Token) (written operands : Operands) → OperandsAre tokens written
       → taken (form_of m) written ≡ Some operands → Says (Mnemonic m) tokens (Instruct (instruction m operands))
   shortens : (s : shorthands.Shorthand) (tokens : List Token) (written operands : Operands) → OperandsAre tokens written
@@ -115,7 +116,7 @@ pub data Says : Word → List Token → Statement → Type 0 where
 -- a mnemonic, a shorthand or a directive, in whatever case, and what stands behind it; or nothing
 pub data StatementIs : List Token → Statement → Type 0 where
   left_out : StatementIs [] Nothing
-  begins : (run : List ℕ) (word : Word) (tokens : List Token) (s : Statement) → word_named (lowered run) ≡ Some word → Says word tokens s
+  begins : (run : List ℕ) (operation : Operation) (tokens : List Token) (s : Statement) → operation_named (lowered run) ≡ Some operation → Says operation tokens s
       → StatementIs (Run run ∷ tokens) s
 
 -- any number of labels, each with a colon, and then a statement

@@ -5,7 +5,7 @@ pub mod Tokens
 pub mod Registers
 pub mod Reading
 pub mod Forms
-pub mod Words
+pub mod Operations
 pub mod Texts
 pub mod Statements
 pub mod Lines

@@ -12,17 +12,17 @@ abbrev pub stays_open : Bool → List ℕ → Bool
 stays_open escaped [] = not escaped
 stays_open escaped (b ∷ bs) = not (ends_string escaped b) && stays_open (escapes escaped b) bs
 
-pub data Spells : List ℕ → List Token → Type 0 where
-  nothing : Spells [] []
-  blank : (b : ℕ) (bytes : List ℕ) (tokens : List Token) → is_space b ≡ true → Spells bytes tokens → Spells (b ∷ bytes) tokens
-  sharp_comment : (comment : List ℕ) → Spells (35 ∷ comment) []
-  slash_comment : (comment : List ℕ) → Spells (47 ∷ 47 ∷ comment) []
+pub data SpellsLine : List ℕ → List Token → Type 0 where
+  nothing : SpellsLine [] []
+  blank : (b : ℕ) (bytes : List ℕ) (tokens : List Token) → is_space b ≡ true → SpellsLine bytes tokens → SpellsLine (b ∷ bytes) tokens
+  sharp_comment : (comment : List ℕ) → SpellsLine (35 ∷ comment) []
+  slash_comment : (comment : List ℕ) → SpellsLine (47 ∷ 47 ∷ comment) []
   run : (b : ℕ) (bs bytes : List ℕ) (tokens : List Token) → list_all is_run_byte (b ∷ bs) ≡ true → begins_with_run_byte bytes ≡ false
-      → Spells bytes tokens → Spells (b ∷ (bs ++ bytes)) (Run (b ∷ bs) ∷ tokens)
+      → SpellsLine bytes tokens → SpellsLine (b ∷ (bs ++ bytes)) (Run (b ∷ bs) ∷ tokens)
   percent_run : (bs bytes : List ℕ) (tokens : List Token) → list_all is_run_byte bs ≡ true → begins_with_run_byte bytes ≡ false
-      → Spells bytes tokens → Spells (37 ∷ (bs ++ bytes)) (Percent bs ∷ tokens)
-  in_quotes : (text bytes : List ℕ) (tokens : List Token) → stays_open false text ≡ true → Spells bytes tokens
-      → Spells (34 ∷ (text ++ 34 ∷ bytes)) (Quoted text ∷ tokens)
-  unended : (bytes : List ℕ) → ((text behind : List ℕ) → bytes ≡ text ++ 34 ∷ behind → stays_open false text ≡ false) → Spells (34 ∷ bytes) (Wrong ∷ [])
+      → SpellsLine bytes tokens → SpellsLine (37 ∷ (bs ++ bytes)) (Percent bs ∷ tokens)
+  in_quotes : (text bytes : List ℕ) (tokens : List Token) → stays_open false text ≡ true → SpellsLine bytes tokens
+      → SpellsLine (34 ∷ (text ++ 34 ∷ bytes)) (Quoted text ∷ tokens)
+  unended : (bytes : List ℕ) → ((text behind : List ℕ) → bytes ≡ text ++ 34 ∷ behind → stays_open false text ≡ false) → SpellsLine (34 ∷ bytes) (Wrong ∷ [])
   mark : (b : ℕ) (bytes : List ℕ) (tokens : List Token) → is_run_byte b ≡ false → is_space b ≡ false → opens_comment b bytes ≡ false
-      → (b ≡ 37 → ⊥) → (b ≡ 34 → ⊥) → Spells bytes tokens → Spells (b ∷ bytes) (Mark b ∷ tokens)
+      → (b ≡ 37 → ⊥) → (b ≡ 34 → ⊥) → SpellsLine bytes tokens → SpellsLine (b ∷ bytes) (Mark b ∷ tokens)

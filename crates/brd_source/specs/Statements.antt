@@ -4,10 +4,10 @@ use Rattle.std.specs.Str.{bytes_eq}
 use Rattle.brd_isa.specs.Names.{lowered}
 use Rattle.brd_text.specs.Bytes.{is_name}
 use Rattle.brd_source.specs.declared.forms.Kind.{Kind}
-use Rattle.brd_source.specs.declared.words.Directive.{Directive}
-use Rattle.brd_source.specs.declared.words.Directive.TheVariants as directives
-use Rattle.brd_source.specs.declared.words.Word.{Word}
-use Rattle.brd_source.specs.declared.words.Word.TheVariants as word
+use Rattle.brd_source.specs.declared.operations.Directive.{Directive}
+use Rattle.brd_source.specs.declared.operations.Directive.TheVariants as directives
+use Rattle.brd_source.specs.declared.operations.Operation.{Operation}
+use Rattle.brd_source.specs.declared.operations.Operation.TheVariants as operation
 use Rattle.brd_source.specs.Faults.{◌>>=◌}
 use Rattle.brd_source.specs.Forms.{form_of, short_form_of, taken, instruction, stands_for}
 use Rattle.brd_source.specs.Reading.{expression_from, operands_from, parts, values_of}
@@ -16,7 +16,7 @@ use Rattle.brd_source.specs.Statement.Statement.{Nothing, Instruct, Org, Align, 
 use Rattle.brd_source.specs.Texts.{text_of}
 use Rattle.brd_source.specs.Tokens.{Token, comma_byte}
 use Rattle.brd_source.specs.Tokens.Token.{Run, Quoted, Mark}
-use Rattle.brd_source.specs.Words.{word_named}
+use Rattle.brd_source.specs.Operations.{operation_named}
 
 -- ---- directives
 
@@ -65,14 +65,14 @@ of_form form tokens = operands_from tokens >>= taken form
 unfoldable pub instruction_from : Kind × Kind × Kind → (Operands → Instruction) → List Token → Option Statement
 instruction_from form made tokens = of_form form tokens >>= λ operands. Some (Instruct (made operands))
 
--- what stands behind a word
-abbrev pub said_from : Word → List Token → Option Statement
-said_from (word.Mnemonic m) tokens = instruction_from (form_of m) (instruction m) tokens
-said_from (word.Shorthand s) tokens = instruction_from (short_form_of s) (stands_for s) tokens
-said_from (word.Directive d) tokens = directive_from d tokens
+-- what stands behind an operation
+abbrev pub said_from : Operation → List Token → Option Statement
+said_from (operation.Mnemonic m) tokens = instruction_from (form_of m) (instruction m) tokens
+said_from (operation.Shorthand s) tokens = instruction_from (short_form_of s) (stands_for s) tokens
+said_from (operation.Directive d) tokens = directive_from d tokens
 
--- a word and what stands behind it, or nothing
+-- an operation and what stands behind it, or nothing
 unfoldable pub statement_from : List Token → Option Statement
 statement_from [] = Some Nothing
-statement_from (Run run ∷ tokens) = word_named (lowered run) >>= λ word. said_from word tokens
+statement_from (Run run ∷ tokens) = operation_named (lowered run) >>= λ operation. said_from operation tokens
 statement_from _ = None

@@ -4,8 +4,8 @@ ghost use Rattle.std.specs.Prelude.{◌≡◌, option_map};
 ghost use Rattle.brd_source.specs.Forms as forms;
 ghost use Rattle.brd_source.specs.View.{instruction_value, operand_value, operands_value};
 
+use crate::operations::Shorthand;
 use crate::statement::{Immediate, Instruction, Operand, Operands, ZERO};
-use crate::words::Shorthand;
 use Kind::{Address, Code, Link, Nothing, Number, Register, Value};
 use brd_isa::{BranchOp, BranchRegimmOp, Mnemonic, RegisterOp, ShiftOp};
 

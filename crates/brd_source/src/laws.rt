@@ -5,19 +5,19 @@ ghost use Rattle.brd_source.specs.Forms.{form_of, are_of};
 ghost use Rattle.brd_source.specs.Grammar.{LineIs};
 ghost use Rattle.brd_source.specs.Lines.{line_of};
 ghost use Rattle.brd_source.specs.Names.{HasNames};
-ghost use Rattle.brd_source.specs.Spelling.{Spells};
+ghost use Rattle.brd_source.specs.Spelling.{SpellsLine};
 ghost use Rattle.brd_source.specs.Statement.{Instruction, Line};
 ghost use Rattle.brd_source.specs.Statement.Statement.{Instruct};
 ghost use Rattle.brd_source.specs.Tokens.{Token, tokens_of};
 
 /// What spells tokens, with any blanks between them and a comment behind them, is scanned as these tokens.
 pub fn spelled_tokens_are_scanned()
-    ensures { (bytes : List ℕ) (tokens : List Token) → Spells bytes tokens → tokens_of bytes ≡ tokens }
+    ensures { (bytes : List ℕ) (tokens : List Token) → SpellsLine bytes tokens → tokens_of bytes ≡ tokens }
 {}
 
 /// The tokens of a line are spelled by its bytes.
 pub fn scanned_tokens_are_spelled()
-    ensures { (bytes : List ℕ) → Spells bytes (tokens_of bytes) }
+    ensures { (bytes : List ℕ) → SpellsLine bytes (tokens_of bytes) }
 {}
 
 /// The labels of a line are names, and so is what its statement gives a value to.
@@ -34,5 +34,5 @@ pub fn instructions_have_their_operands()
 /// that its bytes spell; and it is read as what these say.
 pub fn lines_follow_the_grammar()
     ensures exact { (bytes : List ℕ) (line : Line) → (line_of bytes ≡ Some line) ↔ LineIs (tokens_of bytes) line }
-    ensures spelled { (bytes : List ℕ) (line : Line) → (line_of bytes ≡ Some line) ↔ ((tokens : List Token) × Spells bytes tokens × LineIs tokens line) }
+    ensures spelled { (bytes : List ℕ) (line : Line) → (line_of bytes ≡ Some line) ↔ ((tokens : List Token) × SpellsLine bytes tokens × LineIs tokens line) }
 {}

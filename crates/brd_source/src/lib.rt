@@ -5,6 +5,7 @@ mod fault;
 mod forms;
 pub mod laws;
 mod line;
+mod operations;
 mod reading;
 mod register;
 mod scanner;
@@ -12,7 +13,6 @@ mod statement;
 mod statements;
 mod text;
 mod token;
-mod words;
 
 pub use fault::LineFault;
 pub use line::parse_line;

@@ -10,11 +10,11 @@ ghost use Rattle.brd_source.specs.View.{expression_value, operands_value, statem
 
 use crate::fault::LineFault;
 use crate::forms::{Kind, form_of, short_form_of, stands_for, taken};
+use crate::operations::{Directive, Operation, Shorthand, operation_named};
 use crate::reading::{expression, first_part, operands};
 use crate::statement::{Expression, Instruction, Operands, Statement};
 use crate::text::text;
 use crate::token::Token;
-use crate::words::{Directive, Shorthand, Word, word_named};
 use brd_base::List;
 use brd_isa::Mnemonic;
 use std::alloc::Global;
@@ -138,18 +138,20 @@ fn behind_shorthand<'a>(shorthand: Shorthand, tokens: &[Token<'a>]) -> Option<St
     Some(Statement::Instruction(stands_for(shorthand, operands)))
 }
 
-/// What stands behind a word.
-fn behind_word<'a>(
+/// What stands behind an operation.
+fn behind_operation<'a>(
     alloc: Global,
-    word: Word,
+    operation: Operation,
     tokens: &[Token<'a>],
 ) -> Result<Statement<'a>, LineFault>
-    ensures { Gives statement_value result (statements.said_from word (map seen tokens.now)) }
+    ensures { Gives statement_value result (statements.said_from operation (map seen tokens.now)) }
 {
-    match word {
-        Word::Mnemonic(mnemonic) => behind_mnemonic(mnemonic, tokens).ok_or(LineFault::Syntax),
-        Word::Shorthand(shorthand) => behind_shorthand(shorthand, tokens).ok_or(LineFault::Syntax),
-        Word::Directive(directive) => behind_directive(alloc, directive, tokens),
+    match operation {
+        Operation::Mnemonic(mnemonic) => behind_mnemonic(mnemonic, tokens).ok_or(LineFault::Syntax),
+        Operation::Shorthand(shorthand) => behind_shorthand(shorthand, tokens).ok_or(
+            LineFault::Syntax,
+        ),
+        Operation::Directive(directive) => behind_directive(alloc, directive, tokens),
     }
 }
 
@@ -161,8 +163,8 @@ pub(crate) fn statement<'a>(alloc: Global, tokens: &[Token<'a>]) -> Result<State
     match tokens {
         [] => Ok(Statement::Nothing),
         [Token::Run(run), behind @ ..] => {
-            let word = word_named(run).ok_or(LineFault::Syntax)?;
-            behind_word(alloc, word, behind)
+            let operation = operation_named(run).ok_or(LineFault::Syntax)?;
+            behind_operation(alloc, operation, behind)
         }
         _ => Err(LineFault::Syntax),
     }

@@ -2,12 +2,12 @@
 use Rattle.std.specs.Prelude.{ℕ, List, [], ◌∷◌, Option, option_map, codes}
 use Rattle.brd_isa.specs.Names.{named_in, mnemonic_named, ◌or_else◌}
 use Rattle.brd_source.specs.declared.statement.Width.TheVariants.{Byte, Half, Word as FourBytes}
-use Rattle.brd_source.specs.declared.words.Shorthand.TheVariants.{Nop, Move, Branch, BranchIfZero, BranchUnlessZero, BranchAndLink}
-use Rattle.brd_source.specs.declared.words.Directive.TheVariants.{Org, Align, Space, Values, Ascii, Asciiz, Equ, Globl, Set}
-use Rattle.brd_source.specs.declared.words.Word.{Word}
-use Rattle.brd_source.specs.declared.words.Word.TheVariants.{Mnemonic, Shorthand, Directive}
+use Rattle.brd_source.specs.declared.operations.Shorthand.TheVariants.{Nop, Move, Branch, BranchIfZero, BranchUnlessZero, BranchAndLink}
+use Rattle.brd_source.specs.declared.operations.Directive.TheVariants.{Org, Align, Space, Values, Ascii, Asciiz, Equ, Globl, Set}
+use Rattle.brd_source.specs.declared.operations.Operation.{Operation}
+use Rattle.brd_source.specs.declared.operations.Operation.TheVariants.{Mnemonic, Shorthand, Directive}
 
-abbrev pub other_names : List (List ℕ × Word)
+abbrev pub other_names : List (List ℕ × Operation)
 other_names =
     (codes "nop", Shorthand Nop) ∷
     (codes "move", Shorthand Move) ∷
@@ -28,5 +28,5 @@ other_names =
     (codes ".set", Directive Set) ∷ []
 
 -- a mnemonic, a shorthand or a directive
-abbrev pub word_named : List ℕ → Option Word
-word_named name = option_map (λ m. Mnemonic m) (mnemonic_named name) or_else named_in other_names name
+abbrev pub operation_named : List ℕ → Option Operation
+operation_named name = option_map (λ m. Mnemonic m) (mnemonic_named name) or_else named_in other_names name
