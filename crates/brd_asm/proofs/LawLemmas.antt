@@ -26,7 +26,7 @@ use Rattle.brd_asm.specs.Layout.Content.{Code}
 use Rattle.brd_asm.specs.Layout.Effect.{Fills}
 use Rattle.brd_asm.specs.Meaning.{Meaning, Placed, instruction_of, content_meaning, meanings}
 use Rattle.brd_asm.specs.Meaning.Meaning.{Means}
-use Rattle.brd_asm.specs.Image.{Program, program_of, IsImage, Spells, AreSpelled, symbol_of}
+use Rattle.brd_asm.specs.Image.{Program, program_of, IsImage, HasBytes, AreSpelled, symbol_of}
 use Rattle.brd_asm.specs.Output.{all_bytes}
 use Rattle.brd_asm.specs.Index.{covers, offset_at}
 use Rattle.brd_asm.specs.Laws.{HasLines, HasLabels, Lies, HasInstructions}
@@ -206,7 +206,7 @@ record LiesAt (names : List Name) (p : Piece) (spelled : List Segment) : Type 0 
   meaning : Meaning
   means : content_meaning p.line p.place names p.content ≡ Ok meaning
   bytes : List ℕ
-  spells : Spells meaning bytes
+  spells : HasBytes meaning bytes
   lies : Lies spelled p.place bytes
 
 first_lies : (names : List Name) (p : Piece) (one : Meaning) (others : List Placed) (spelled : List Segment) → content_meaning p.line p.place names p.content ≡ Ok one → AreSpelled (record { place = p.place; meaning = one } ∷ others) spelled → LiesAt names p spelled
@@ -246,11 +246,11 @@ code_filled line instruction bytes s t one says =
     ]
 
 word_lies : (line place : ℕ) (names : List Name) (instruction : Instruction) (spelled segments : List Segment) → LiesAt names (record { place = place; line = line; content = Code instruction }) spelled → ((a : ℕ) → byte_in segments a ≡ byte_in spelled a)
-    → (insn : Insn) × (instruction_of line place names instruction ≡ Ok insn) × (bytes : List ℕ) × Spells (Means insn) bytes × Lies segments place bytes
+    → (insn : Insn) × (instruction_of line place names instruction ≡ Ok insn) × (bytes : List ℕ) × HasBytes (Means insn) bytes × Lies segments place bytes
 unfolding content_meaning
 word_lies line place names instruction spelled segments l same =
     let i = bind_ok (instruction_of line place names instruction) (λ i. Ok (Means i)) l.meaning l.means in
-    (i.0, i.1, l.bytes, subst (λ (m : Meaning). Spells m l.bytes) (sym (inside (Means i.0) l.meaning i.2)) l.spells, λ n lt. same (place + n) ∙ l.lies n lt)
+    (i.0, i.1, l.bytes, subst (λ (m : Meaning). HasBytes m l.bytes) (sym (inside (Means i.0) l.meaning i.2)) l.spells, λ n lt. same (place + n) ∙ l.lies n lt)
 
 pub instructions : (text : List ℕ) (program : Program) (image : Image) → program_of text ≡ Ok program → IsImage program image → HasInstructions text image
 instructions text program image e is = λ other number place said instruction other_is line says.

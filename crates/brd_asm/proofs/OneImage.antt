@@ -12,7 +12,7 @@ use Rattle.brd_mem.specs.declared.image.Symbol.{Symbol}
 use Rattle.brd_asm.specs.Meaning.{Meaning, Placed}
 use Rattle.brd_asm.specs.Meaning.Meaning.{Means, Is}
 use Rattle.brd_mem.specs.Image.{byte_in}
-use Rattle.brd_asm.specs.Image.{Program, IsImage, Spells, AreSpelled, AreSeparate, AreStretches}
+use Rattle.brd_asm.specs.Image.{Program, IsImage, HasBytes, AreSpelled, AreSeparate, AreStretches}
 use Rattle.brd_asm.proofs.AscendingLemmas.{from_low, head_there}
 use Rattle.brd_asm.proofs.StretchLemmas.{stretch, skipped, leb_above}
 
@@ -102,7 +102,7 @@ one_list_of_stretches memory ss ts one other = one_list ss ts 0 0 one.separate o
 
 -- ---- one spelling
 
-spelled_so : (m : Meaning) (xs ys : List ℕ) → Spells m xs → Spells m ys → xs ≡ ys
+spelled_so : (m : Meaning) (xs ys : List ℕ) → HasBytes m xs → HasBytes m ys → xs ≡ ys
 spelled_so (Means insn) xs ys v w = v.3 ∙ ap bytes_of_word (one_word v.0 w.0 insn v.1 w.1 (λ ignores. v.2 ignores ∙ sym (w.2 ignores))) ∙ sym w.3
 spelled_so (Is numbers) xs ys v w = v ∙ sym w
 

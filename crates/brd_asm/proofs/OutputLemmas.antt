@@ -14,7 +14,7 @@ use Rattle.brd_text.proofs.FaultLemmas.{passed_on}
 use Rattle.brd_asm.specs.Values.{Name}
 use Rattle.brd_asm.specs.Layout.{Piece}
 use Rattle.brd_asm.specs.Meaning.{Meaning, Placed, content_meaning, meanings}
-use Rattle.brd_asm.specs.Image.{Spells, AreSpelled}
+use Rattle.brd_asm.specs.Image.{HasBytes, AreSpelled}
 use Rattle.brd_asm.specs.Output.{Adds, behind, all_bytes}
 
 -- these, in front of what a result has
@@ -41,7 +41,7 @@ pub meets_ok : {X Y : Type 0} (related : X → Y → Type 0) (x : X) (r : Result
 meets_ok related x (Ok y) h = (y, refl, h)
 meets_ok related x (Err e) h = absurd h
 
-spelled_push : (ps : List Placed) (ss : List Segment) (p : Placed) (s : Segment) → AreSpelled ps ss → s.address ≡ p.place → Spells p.meaning s.bytes → AreSpelled (ps ++ p ∷ []) (ss ++ s ∷ [])
+spelled_push : (ps : List Placed) (ss : List Segment) (p : Placed) (s : Segment) → AreSpelled ps ss → s.address ≡ p.place → HasBytes p.meaning s.bytes → AreSpelled (ps ++ p ∷ []) (ss ++ s ∷ [])
 spelled_push [] [] p s are at is = (at, is, tt)
 spelled_push [] (t ∷ ss) p s are at is = absurd are
 spelled_push (q ∷ ps) [] p s are at is = absurd are

@@ -16,7 +16,7 @@ use Rattle.brd_asm.specs.Layout.Content.{Code, Values, Bytes, Zeros}
 use Rattle.brd_asm.specs.Meaning.{Meaning, Placed, instruction_of, values_of, data_of, bytes_of, least_of, greatest_of, content_meaning, meanings}
 use Rattle.brd_asm.specs.Meaning.Meaning.{Means, Is}
 use Rattle.brd_mem.specs.Image.{byte_in}
-use Rattle.brd_asm.specs.Image.{Spells, AreSpelled}
+use Rattle.brd_asm.specs.Image.{HasBytes, AreSpelled}
 use Rattle.brd_asm.specs.Output.{all_bytes}
 use Rattle.brd_asm.specs.Index.{total_size, covers, offset_at, byte_at}
 use Rattle.brd_asm.proofs.IndexLemmas.{offset_below}
@@ -52,14 +52,14 @@ data_length line width (v ∷ vs) bytes e =
     ap (λ (xs : List ℕ). length xs) (sym (inside (bytes_of width x.0 ++ w.0) bytes w.2))
     ∙ omega (arith, ih, one_length width x.0, length-append (bytes_of width x.0) w.0)
 
-spelled_is : (numbers bytes : List ℕ) (m : Meaning) → ok (Is numbers) ≡ Ok m → Spells m bytes → bytes ≡ numbers
-spelled_is numbers bytes m e spells = subst (λ (m : Meaning). Spells m bytes) (sym (inside (Is numbers) m e)) spells
+spelled_is : (numbers bytes : List ℕ) (m : Meaning) → ok (Is numbers) ≡ Ok m → HasBytes m bytes → bytes ≡ numbers
+spelled_is numbers bytes m e spells = subst (λ (m : Meaning). HasBytes m bytes) (sym (inside (Is numbers) m e)) spells
 
-pub size_is : (line place : ℕ) (names : List Name) (c : Content) (m : Meaning) (bytes : List ℕ) → content_meaning line place names c ≡ Ok m → Spells m bytes → length bytes ≡ size_of c
+pub size_is : (line place : ℕ) (names : List Name) (c : Content) (m : Meaning) (bytes : List ℕ) → content_meaning line place names c ≡ Ok m → HasBytes m bytes → length bytes ≡ size_of c
 unfolding content_meaning
 size_is line place names (Code instruction) m bytes e spells =
     let i = bind_ok (instruction_of line place names instruction) (λ i. Ok (Means i)) m e in
-    let word = subst (λ (m : Meaning). Spells m bytes) (sym (inside (Means i.0) m i.2)) spells in
+    let word = subst (λ (m : Meaning). HasBytes m bytes) (sym (inside (Means i.0) m i.2)) spells in
     ap (λ (xs : List ℕ). length xs) word.3
 size_is line place names (Values width es) m bytes e spells =
     let v = bind_ok (values_of line names es) (λ vs. data_of line width vs >>= λ bytes. Ok (Is bytes)) m e in

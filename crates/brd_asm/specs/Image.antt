@@ -29,17 +29,17 @@ program_of text = do
   Ok (record { names = s.names; contents = contents })
 
 -- An instruction is spelled by the bytes of a word that stands for it, with 0 in a field that it ignores.
-abbrev pub Spells : Meaning → List ℕ → Type 0
-Spells (Means insn) bytes =
+abbrev pub HasBytes : Meaning → List ℕ → Type 0
+HasBytes (Means insn) bytes =
     (word : ℕ) × StandsFor word insn × (IgnoresSa insn → sa_of word ≡ 0) × (bytes ≡ bytes_of_word word)
-Spells (Is numbers) bytes = bytes ≡ numbers
+HasBytes (Is numbers) bytes = bytes ≡ numbers
 
 -- the bytes of each content, at its place
 abbrev pub AreSpelled : List Placed → List Segment → Type 0
 AreSpelled [] [] = Unit {0}
 AreSpelled [] (s ∷ ss) = ⊥
 AreSpelled (p ∷ ps) [] = ⊥
-AreSpelled (p ∷ ps) (s ∷ ss) = (s.address ≡ p.place) × Spells p.meaning s.bytes × AreSpelled ps ss
+AreSpelled (p ∷ ps) (s ∷ ss) = (s.address ≡ p.place) × HasBytes p.meaning s.bytes × AreSpelled ps ss
 
 -- From an address on, stretches that have bytes ascend, with a gap between one and the next.
 abbrev pub AreSeparate : ℕ → List Segment → Type 0

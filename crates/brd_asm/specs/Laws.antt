@@ -12,7 +12,7 @@ use Rattle.brd_source.specs.Lines.{line_of}
 use Rattle.brd_asm.specs.Layout.{Layout, all_placed, nothing}
 use Rattle.brd_asm.specs.Meaning.{instruction_of}
 use Rattle.brd_asm.specs.Meaning.Meaning.{Means}
-use Rattle.brd_asm.specs.Image.{Program, program_of, Spells}
+use Rattle.brd_asm.specs.Image.{Program, program_of, HasBytes}
 
 -- A line of a text: its number, its address, and what it says. The address is the location counter before the line, so
 -- before an `.org` or `.align` on it takes effect.
@@ -46,4 +46,4 @@ Lies segments address bytes = (i : ℕ) → i < length bytes → byte_in segment
 abbrev pub HasInstructions : List ℕ → Image → Type 0
 HasInstructions text image =
     (program : Program) (number address : ℕ) (said : Line) (instruction : Instruction) → program_of text ≡ Ok program → IsLine text number address said → said.statement ≡ Instruct instruction
-    → (insn : Insn) × (instruction_of number address program.names instruction ≡ Ok insn) × (bytes : List ℕ) × Spells (Means insn) bytes × Lies image.segments address bytes
+    → (insn : Insn) × (instruction_of number address program.names instruction ≡ Ok insn) × (bytes : List ℕ) × HasBytes (Means insn) bytes × Lies image.segments address bytes

@@ -1,9 +1,9 @@
 -- What the pieces of a source mean, with all names known. Of one line first the names count, then the ranges of its
 -- operands, then the alignment of a target.
-use Rattle.std.specs.Prelude.{ℕ, ◌+◌, ◌-◌, ◌*◌, ◌/◌, ◌%◌, ◌^◌, ℤ, pos, negsuc, ◌-ℤ◌, ◌==◌, if◌then◌else◌, List, [], ◌∷◌, ◌++◌, replicate, Result, Ok, Err}
+use Rattle.std.specs.Prelude.{ℕ, ◌+◌, ◌-◌, ◌*◌, ◌/◌, ◌^◌, ℤ, pos, negsuc, ◌-ℤ◌, ◌==◌, if◌then◌else◌, List, [], ◌∷◌, ◌++◌, replicate, Result, Ok, Err}
 use Rattle.std.specs.Int.{int_div_euclid}
 use Rattle.brd_text.specs.Faults.{◌>>=◌}
-use Rattle.brd_word.specs.Words.{bytes_of_word}
+use Rattle.brd_word.specs.Words.{bytes_of_half, bytes_of_word}
 use Rattle.brd_isa.specs.declared.instruction.Insn.{Insn}
 use Rattle.brd_isa.specs.declared.instruction.Insn.TheVariants as insn
 use Rattle.brd_isa.specs.declared.instruction.ImmediateOp.{ImmediateOp}
@@ -130,7 +130,7 @@ greatest_of Word = pos 4294967295
 -- the bytes of a value, the most significant first
 abbrev pub bytes_of : Width → ℤ → List ℕ
 bytes_of Byte v = modulo v (2 ^ 8) ∷ []
-bytes_of Half v = modulo v (2 ^ 16) / 2 ^ 8 ∷ modulo v (2 ^ 16) % 2 ^ 8 ∷ []
+bytes_of Half v = bytes_of_half (modulo v (2 ^ 16))
 bytes_of Word v = bytes_of_word (modulo v (2 ^ 32))
 
 -- the values of some expressions, unless a name in one of them has none

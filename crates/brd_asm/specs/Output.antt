@@ -5,11 +5,11 @@ use Rattle.brd_text.specs.Faults.{◌>>=◌}
 use Rattle.brd_asm.specs.declared.fault.AsmFault.{AsmFault}
 use Rattle.brd_mem.specs.declared.image.Segment.{Segment}
 use Rattle.brd_asm.specs.Meaning.{Meaning, Placed}
-use Rattle.brd_asm.specs.Image.{Spells, AreSpelled}
+use Rattle.brd_asm.specs.Image.{HasBytes, AreSpelled}
 
 -- the bytes that spell a meaning stand behind these
 abbrev pub Adds : Meaning → List ℕ → List ℕ → Type 0
-Adds meaning before after = (bytes : List ℕ) × Spells meaning bytes × (after ≡ before ++ bytes)
+Adds meaning before after = (bytes : List ℕ) × HasBytes meaning bytes × (after ≡ before ++ bytes)
 
 -- bytes, if there are some, behind these
 abbrev pub behind : List ℕ → Result (List ℕ) AsmFault → Result (List ℕ) AsmFault

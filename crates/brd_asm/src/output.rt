@@ -16,7 +16,7 @@ use crate::value::{known, modulo, value_of, within};
 use brd_base::{List, NoMemory};
 use brd_isa::encode;
 use brd_source::{Expression, Width};
-use brd_word::bytes_of;
+use brd_word::{bytes_of, half_bytes_of};
 use std::alloc::Global;
 
 /// The bytes of all pieces.
@@ -112,7 +112,7 @@ fn put_value(output: &mut List<u8>, width: Width, value: i64) -> Result<(), NoMe
         Width::Byte => output.push(modulo(value, 0x100) as u8)?,
         Width::Half => {
             let half = modulo(value, 0x1_0000) as u16;
-            output.append(&half.to_be_bytes())?;
+            output.append(&half_bytes_of(half))?;
         }
         Width::Word => {
             let word = modulo(value, 0x1_0000_0000) as u32;
