@@ -4,9 +4,9 @@ ghost use Rattle.std.specs.Prelude.{◌≡◌};
 ghost use Rattle.std.specs.Process.{exit_status};
 ghost use Rattle.brd_cli.specs.End.{status_of_usage, status_of_end, IsStopOf, IsWantOfMemory};
 
+use brd_base::NoMemory;
 use brd_command::CommandFault;
 use clap::error::ErrorKind;
-use std::alloc::{AllocError, AllocFailed};
 use std::process::ExitCode;
 
 /// Why the program ends before its command is done.
@@ -39,18 +39,10 @@ impl From<clap::Error> for Stop {
     }
 }
 
-impl From<AllocError> for Stop {
+impl From<NoMemory> for Stop {
     ghost from_gives = { λ _ stop. IsWantOfMemory stop };
 
-    fn from(_e: AllocError) -> Self {
-        Stop::Fault(CommandFault::NoMemory)
-    }
-}
-
-impl<T: Drop> From<AllocFailed<T>> for Stop {
-    ghost from_gives = { λ _ stop. IsWantOfMemory stop };
-
-    fn from(_e: AllocFailed<T>) -> Self {
+    fn from(_e: NoMemory) -> Self {
         Stop::Fault(CommandFault::NoMemory)
     }
 }

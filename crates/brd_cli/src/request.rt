@@ -1,13 +1,15 @@
 //! What a command line asks for.
 
-ghost use Rattle.std.specs.Prelude.{◌≡◌, ◌∷◌, [], codes, map, option_map};
-ghost use Rattle.clap.specs.Words.{app_of, first_of, found_of, one_of, rows_of, subcommand_rows_of};
+ghost use Rattle.std.specs.Prelude.{◌≡◌, ◌∷◌, [], IfOk, codes, map, option_map};
+ghost use Rattle.clap.specs.Words.{app_of, first_of, found_of, kind_of, one_of, rows_of, subcommand_rows_of};
+ghost use Rattle.clap.specs.declared.error.kind.ErrorKind.TheVariants.{MissingSubcommand};
 ghost use Rattle.brd_cli.specs.Requests.{AreSteps, IsAnswer, IsAsked, IsRequestOf, given};
 ghost use Rattle.brd_cli.specs.Usage as usage;
 ghost use Rattle.brd_cli.specs.Usage.{inputs};
 
 use crate::end::Stop;
 use crate::usage::board_command;
+use brd_base::NoMemory;
 use brd_command::Request;
 use clap::error::ErrorKind;
 use clap::{ArgMatches, Command};
@@ -30,8 +32,15 @@ fn asked_of<'a, S: AsStr>(board: &mut Command<'a>, words: &'a [S]) -> Result<Req
     if let Some(request) = request_of(&matches) {
         return Ok(request);
     }
-    let missing = board.error(ErrorKind::MissingSubcommand, "a command is missing")?;
-    Err(Stop::from(missing))
+    Err(Stop::from(missing(board)?))
+}
+
+/// What is wrong with a command line that has no command.
+fn missing(board: &mut Command) -> Result<clap::Error, NoMemory>
+    ensures { IfOk result (λ error. kind_of error ≡ MissingSubcommand) }
+{
+    let error = board.error(ErrorKind::MissingSubcommand, "a command is missing")?;
+    Ok(error)
 }
 
 /// What the matches of a command line ask for. `None` where a command or an argument is missing, which `clap` doesn't

@@ -5,8 +5,9 @@ ghost use Rattle.clap.specs.Words.{app_of, rule_of};
 ghost use Rattle.brd_cli.specs.Usage as usage;
 ghost use Rattle.brd_cli.specs.Usage.{AddsForm, board, command_with, inputs, source_and_out, steps};
 
+use brd_base::NoMemory;
 use clap::{Arg, ArgAction, Command};
-use std::alloc::{AllocError, Global};
+use std::alloc::Global;
 
 /// What help says of the files.
 const FILES: &str = "\
@@ -60,7 +61,7 @@ Example:
   board debug hello.elf hello.cfg hello.journal";
 
 /// What the program takes: a command and its arguments.
-pub fn board_command<'a>(alloc: Global) -> Result<Command<'a>, AllocError>
+pub fn board_command<'a>(alloc: Global) -> Result<Command<'a>, NoMemory>
     ensures { IfOk result (λ command. app_of command ≡ board) }
 {
     let board = Command::new(alloc, "board")
@@ -75,7 +76,7 @@ pub fn board_command<'a>(alloc: Global) -> Result<Command<'a>, AllocError>
 }
 
 /// What `words` takes.
-fn words_command<'a>(alloc: Global) -> Result<Command<'a>, AllocError>
+fn words_command<'a>(alloc: Global) -> Result<Command<'a>, NoMemory>
     ensures { IfOk result (AddsForm usage.words) }
 {
     let steps = needed(
@@ -92,7 +93,7 @@ fn words_command<'a>(alloc: Global) -> Result<Command<'a>, AllocError>
 }
 
 /// What `asm` takes.
-fn asm_command<'a>(alloc: Global) -> Result<Command<'a>, AllocError>
+fn asm_command<'a>(alloc: Global) -> Result<Command<'a>, NoMemory>
     ensures { IfOk result (AddsForm usage.asm) }
 {
     let command = Command::new(alloc, "asm")
@@ -108,7 +109,7 @@ fn asm_command<'a>(alloc: Global) -> Result<Command<'a>, AllocError>
 }
 
 /// What `run` takes.
-fn run_command<'a>(alloc: Global) -> Result<Command<'a>, AllocError>
+fn run_command<'a>(alloc: Global) -> Result<Command<'a>, NoMemory>
     ensures { IfOk result (AddsForm usage.run) }
 {
     with_inputs(
@@ -120,7 +121,7 @@ fn run_command<'a>(alloc: Global) -> Result<Command<'a>, AllocError>
 }
 
 /// What `debug` takes.
-fn debug_command<'a>(alloc: Global) -> Result<Command<'a>, AllocError>
+fn debug_command<'a>(alloc: Global) -> Result<Command<'a>, NoMemory>
     ensures { IfOk result (AddsForm usage.debug) }
 {
     with_inputs(
@@ -137,7 +138,7 @@ fn with_inputs<'a>(
     name: &'a str,
     about: &'a str,
     after_help: &'a str,
-) -> Result<Command<'a>, AllocError>
+) -> Result<Command<'a>, NoMemory>
     ensures { IfOk result (AddsForm (command_with name.entry.now (map usage.needed inputs))) }
 {
     let command = Command::new(alloc, name)

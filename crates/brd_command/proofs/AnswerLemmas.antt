@@ -1,8 +1,7 @@
 -- Commands that are done one after the other.
-use Rattle.std.proofs.Common.{◌≡◌, ◌+◌, ◌≤◌, ℕ, List, [], ◌∷◌, ◌++◌, length, map, refl, sym, ap, subst, ◌∙◌, inl, arith}
-use Rattle.std.specs.Prelude.{◌⊎◌, Option, Some, None, IfSome, Result, Ok, Err}
+use Rattle.std.proofs.Common.{◌≡◌, ◌+◌, ◌≤◌, ℕ, List, [], ◌∷◌, ◌++◌, length, map, refl, ap, subst, inl, arith}
+use Rattle.std.specs.Prelude.{◌⊎◌, Option, Some, None, IfSome, Result}
 use Rattle.std.specs.Io.KnownBytes.{Appends}
-use Rattle.std.specs.declared.io.Error.{Error}
 use Rattle.brd_debug.specs.Debugger.{DebuggerState}
 use Rattle.brd_command.specs.Answers.{Does, HasDone}
 use Rattle.brd_command.specs.Answers.HasDone.{one_more as one_more_done}

@@ -1,6 +1,6 @@
 -- The command `debug`: what it writes for what it reads, and how it ends where it doesn't.
 use Rattle.std.specs.Prelude.{◌≡◌, ◌⊎◌, ℕ, ◌+◌, ◌<◌, ◌≤◌, List, [], ◌∷◌, ◌++◌, length, Option, Some, IfSome, Result, Ok, Err}
-use Rattle.std.specs.Io.KnownBytes.{Appends, Keeps}
+use Rattle.std.specs.Io.KnownBytes.{Keeps}
 use Rattle.brd_debug.specs.Debugger.{DebuggerState}
 use Rattle.brd_command.specs.Answers.{Does, HasDone}
 use Rattle.brd_command.specs.DebugLine.{commands_of}
@@ -10,7 +10,7 @@ use Rattle.brd_command.specs.Start.{AreWithin, IsStart, KeepsFromStarting}
 use Rattle.brd_command.specs.declared.debug_line.DebugCommand.{DebugCommand}
 use Rattle.brd_command.specs.declared.debug_line.DebugCommand.TheVariants.{Quit}
 use Rattle.brd_command.specs.declared.fault.CommandFault.{CommandFault}
-use Rattle.brd_command.specs.declared.fault.CommandFault.TheVariants.{NoMemory, Argument, Words, Source, ImageTooLarge, Open, Read, TooLong, TooManyReads, Build, Journal, Write}
+use Rattle.brd_command.specs.declared.fault.CommandFault.TheVariants.{NoMemory, Read, TooLong, TooManyReads, Write}
 use Rattle.brd_command.specs.declared.input_name.InputName.TheVariants.{StandardInput}
 use Rattle.brd_command.specs.declared.start.Start.{Start}
 

@@ -1,5 +1,5 @@
 -- What a file looks like by its front, and which faults of its form say so (own choice).
-use Rattle.std.specs.Prelude.{ℕ, Bool, true, false, nat_eq, nat_le, ◌&&◌, ◌||◌, ◌==◌, if◌then◌else◌, List, length, take, codes, Option, Some, None, option_and_then}
+use Rattle.std.specs.Prelude.{ℕ, Bool, nat_eq, nat_le, ◌&&◌, ◌||◌, ◌==◌, if◌then◌else◌, List, length, take, codes, Option, Some, None, option_and_then}
 use Rattle.std.specs.List.{starts_with, list_all}
 use Rattle.brd_text.specs.Bytes.{is_blank}
 use Rattle.brd_text.specs.Tokens.{first, tokens_of}

@@ -3,7 +3,7 @@ use Rattle.std.specs.Prelude.{◌≡◌, ℕ, ◌+◌, ◌<◌, ◌≤◌, true,
 use Rattle.brd_command.specs.DebugLine.{command_lines}
 use Rattle.brd_command.specs.Input.{most_bytes}
 use Rattle.brd_command.specs.declared.fault.CommandFault.{CommandFault}
-use Rattle.brd_command.specs.declared.fault.CommandFault.TheVariants.{NoMemory, Argument, Words, Source, ImageTooLarge, Open, Read, TooLong, TooManyReads, Build, Journal, Write}
+use Rattle.brd_command.specs.declared.fault.CommandFault.TheVariants.{NoMemory, Read, TooLong, TooManyReads}
 use Rattle.brd_command.specs.declared.input_name.InputName.TheVariants.{StandardInput}
 use Rattle.brd_command.specs.declared.lines.Taken.{Taken}
 

@@ -6,7 +6,7 @@ use Rattle.brd_command.specs.Output.{Writes, WritesFront}
 use Rattle.brd_command.specs.Report.{report_of}
 use Rattle.brd_command.specs.Start.{AreWithin, IsStart, KeepsFromStarting}
 use Rattle.brd_command.specs.declared.fault.CommandFault.{CommandFault}
-use Rattle.brd_command.specs.declared.fault.CommandFault.TheVariants.{NoMemory, Argument, Words, Source, ImageTooLarge, Open, Read, TooLong, TooManyReads, Build, Journal, Write}
+use Rattle.brd_command.specs.declared.fault.CommandFault.TheVariants.{NoMemory, Write}
 use Rattle.brd_command.specs.declared.start.Start.{Start}
 
 -- The bytes that show what comes of an object file, a configuration and a journal: the report of the board that the

@@ -1,9 +1,9 @@
 -- What the commands over a journal start with: an object file and a configuration, which make a board, and the journal.
-use Rattle.std.specs.Prelude.{◌≡◌, ◌≢◌, ℕ, ◌<◌, ◌≤◌, List, length, Result, Ok, Err}
+use Rattle.std.specs.Prelude.{◌≡◌, ◌≢◌, ℕ, ◌<◌, ◌≤◌, List, length, Ok, Err}
 use Rattle.brd_board.specs.Board.{BoardState}
 use Rattle.brd_image.specs.Building.{loaded}
 use Rattle.brd_image.specs.declared.fault.BuildFault.TheVariants as build_fault
-use Rattle.brd_journal.specs.Journal.{JournalState, most_runs}
+use Rattle.brd_journal.specs.Journal.{most_runs}
 use Rattle.brd_journal.specs.Reading.{journal_of}
 use Rattle.brd_journal.specs.declared.fault.JournalFault.TheVariants as journal_fault
 use Rattle.brd_command.specs.FileKinds.{build_looks_like, journal_looks_like}

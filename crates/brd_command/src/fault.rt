@@ -14,7 +14,7 @@ use brd_config::ConfigFault;
 use brd_elf::ElfFault;
 use brd_image::BuildFault;
 use brd_journal::JournalFault;
-use std::alloc::{AllocError, AllocFailed, Global};
+use std::alloc::Global;
 use std::io::{self, ErrorKind};
 use thiserror::Error;
 
@@ -143,22 +143,6 @@ impl From<NoMemory> for CommandFault {
     ghost from_gives = { λ _ fault. fault ≡ no_memory };
 
     fn from(_e: NoMemory) -> Self {
-        CommandFault::NoMemory
-    }
-}
-
-impl From<AllocError> for CommandFault {
-    ghost from_gives = { λ _ fault. fault ≡ no_memory };
-
-    fn from(_e: AllocError) -> Self {
-        CommandFault::NoMemory
-    }
-}
-
-impl<T: Drop> From<AllocFailed<T>> for CommandFault {
-    ghost from_gives = { λ _ fault. fault ≡ no_memory };
-
-    fn from(_e: AllocFailed<T>) -> Self {
         CommandFault::NoMemory
     }
 }

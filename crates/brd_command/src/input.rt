@@ -4,6 +4,7 @@ ghost use Rattle.std.specs.Prelude.{MatchResult};
 ghost use Rattle.brd_command.specs.Input.{IsWhole, KeepsFromReading};
 
 use crate::fault::CommandFault;
+use crate::growing::put_all;
 use crate::input_name::InputName;
 use std::alloc::Global;
 use std::io::{ErrorKind, Read};
@@ -45,7 +46,7 @@ fn read_within<R: Read>(
                 if n > MOST_BYTES - bytes.len() {
                     return Err(CommandFault::TooLong(input));
                 }
-                bytes.extend_from_slice(&piece[..n])?;
+                put_all(&mut bytes, &piece[..n])?;
             }
             Err(error) => {
                 if error.kind() != ErrorKind::Interrupted {

@@ -13,6 +13,7 @@ mod excerpt;
 mod fault;
 mod file_kind;
 mod files;
+mod growing;
 mod input;
 mod input_name;
 pub mod laws;

@@ -5,6 +5,7 @@ ghost use Rattle.brd_command.specs.Input.{most_bytes};
 ghost use Rattle.brd_command.specs.Lines.{KnowsEnd, TakesByte, CountsByte, TakesLine, CountsLine, KeepsFromTaking};
 
 use crate::fault::CommandFault;
+use crate::growing::put;
 use crate::input::{MOST_BYTES, MOST_READS};
 use crate::input_name::InputName;
 use std::alloc::Global;
@@ -48,7 +49,7 @@ pub fn next_line<R: Read>(
         if byte == b'\n' {
             return Ok(Some(line));
         }
-        line.push(byte)?;
+        put(&mut line, byte)?;
     }
     if line.is_empty() {
         return Ok(None);

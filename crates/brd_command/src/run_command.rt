@@ -44,6 +44,5 @@ fn report_behind(alloc: Global, start: Start) -> Result<Vec<u8>, NoMemory>
 {
     let Start { mut board, journal } = start;
     journal.replay(&mut board);
-    let output = report(alloc, &board, journal.len())?;
-    Ok(output)
+    report(alloc, &board, journal.len())
 }

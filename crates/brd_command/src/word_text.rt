@@ -6,8 +6,10 @@ ghost use Rattle.brd_text.specs.Hex.{hex_word_of};
 ghost use Rattle.brd_command.specs.Input.{most_bytes};
 ghost use Rattle.brd_command.specs.WordText.{in_run, word_or_fault, words_of_text, IsFaultOf};
 
+use crate::growing::put;
+use brd_base::NoMemory;
 use brd_text::{hex_word, is_blank, line_after};
-use std::alloc::{AllocFailed, Global};
+use std::alloc::Global;
 use thiserror::Error;
 
 /// How many words there may be.
@@ -27,12 +29,12 @@ pub enum WordsFault {
     TooMany,
 }
 
-impl<T: Drop> From<AllocFailed<T>> for WordsFault {
-    ghost use Rattle.brd_command.specs.declared.word_text.WordsFault.TheVariants.{NoMemory};
+impl From<NoMemory> for WordsFault {
+    ghost use Rattle.brd_command.specs.declared.word_text.WordsFault.TheVariants.{NoMemory as no_memory};
 
-    ghost from_gives = { λ _ fault. fault ≡ NoMemory };
+    ghost from_gives = { λ _ fault. fault ≡ no_memory };
 
-    fn from(_e: AllocFailed<T>) -> Self {
+    fn from(_e: NoMemory) -> Self {
         WordsFault::NoMemory
     }
 }
@@ -53,7 +55,8 @@ pub fn parse_words(alloc: Global, text: &[u8]) -> Result<Vec<u32>, WordsFault>
             left = rest;
         } else {
             let (run, behind) = left.split_at(run_len(left));
-            words.push(checked_word(words.len(), line, run)?)?;
+            let word = checked_word(words.len(), line, run)?;
+            put(&mut words, word)?;
             left = behind;
         }
     }

@@ -20,7 +20,7 @@ use Rattle.brd_journal.specs.declared.run.Run.{Run}
 use Rattle.brd_journal.specs.Runs.{copies, events_of, runs_of, AreCut}
 use Rattle.brd_journal.specs.Adding.{added}
 use Rattle.brd_journal.specs.Journal.{JournalState, appended}
-use Rattle.brd_journal.specs.Text.{first_line, event_text, line_text, lines_of_runs, text_of_runs, text_of, IsNumbered, AreNumbered, CanBeSpelled, Spells}
+use Rattle.brd_journal.specs.Text.{first_line, event_text, line_text, lines_of_runs, text_of_runs, text_of, IsNumbered, AreNumbered, CanBeSpelled, SpellsRuns}
 use Rattle.brd_journal.specs.Reading.{run_of_line, lines_read, journal_by_lines, journal_of}
 use Rattle.brd_journal.specs.Meaning.{Says}
 use Rattle.brd_journal.proofs.EventLemmas.{copies-suc, copies-one}
@@ -173,7 +173,7 @@ lines_are (line ∷ next ∷ lines) j k n h =
 
 -- ---- whole texts
 
-pub text_again : (limit : ℕ) (text : List ℕ) (runs : List Run) → Spells text runs → length (runs_of (events_of runs)) ≤ limit → journal_of limit text ≡ Ok (record { limit = limit; events = events_of runs })
+pub text_again : (limit : ℕ) (text : List ℕ) (runs : List Run) → SpellsRuns text runs → length (runs_of (events_of runs)) ≤ limit → journal_of limit text ≡ Ok (record { limit = limit; events = events_of runs })
 text_again limit text runs spelled le =
     let lines : lines_of text ≡ first_line ∷ lines_of (lines_of_runs runs) = ap lines_of spelled.lines ∙ lines_front first_line (lines_of_runs runs) first_stays in
     behind_first limit text first_line (lines_of_runs runs) (Some (lines_of_runs runs)) lines refl refl

@@ -7,13 +7,13 @@ use Rattle.brd_journal.specs.declared.fault.JournalFault.TheVariants.{NoMemory, 
 use Rattle.brd_journal.specs.declared.run.Run.{Run}
 use Rattle.brd_journal.specs.Runs.{events_of, runs_of}
 use Rattle.brd_journal.specs.Journal.{JournalState}
-use Rattle.brd_journal.specs.Text.{first_line, line_text, text_of_runs, CanBeSpelled, Spells}
+use Rattle.brd_journal.specs.Text.{first_line, line_text, text_of_runs, CanBeSpelled, SpellsRuns}
 
 -- A text says a journal of this limit: it spells runs, whose events are the journal's and don't need more runs than the
 -- limit.
 pub record Says (limit : ℕ) (text : List ℕ) (journal : JournalState) : Type 0 where
   pub runs : List Run
-  pub spelled : Spells text runs
+  pub spelled : SpellsRuns text runs
   pub within : length (runs_of (events_of runs)) ≤ limit
   pub same : journal ≡ record { limit = limit; events = events_of runs }
 

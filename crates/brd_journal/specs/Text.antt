@@ -54,6 +54,6 @@ pub record SpellsRun (line : List ℕ) (run : Run) : Type 0 where
   pub can : CanBeSpelled run
 
 -- a text spells runs, line by line; neighbours may have the same event
-pub record Spells (text : List ℕ) (runs : List Run) : Type 0 where
+pub record SpellsRuns (text : List ℕ) (runs : List Run) : Type 0 where
   pub lines : text ≡ text_of_runs runs
   pub each : AllByRecursion CanBeSpelled runs

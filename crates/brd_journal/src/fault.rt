@@ -3,7 +3,7 @@
 ghost use Rattle.std.specs.Prelude.{◌≡◌};
 ghost use Rattle.brd_journal.specs.declared.fault.JournalFault.TheVariants.{NoMemory as no_memory};
 
-use std::alloc::{AllocError, AllocFailed};
+use brd_base::NoMemory;
 use thiserror::Error;
 
 /// Why an event isn't appended to a journal, or a text isn't read as one.
@@ -20,18 +20,10 @@ pub enum JournalFault {
     Syntax { line: usize },
 }
 
-impl From<AllocError> for JournalFault {
+impl From<NoMemory> for JournalFault {
     ghost from_gives = { λ _ fault. fault ≡ no_memory };
 
-    fn from(_e: AllocError) -> JournalFault {
-        JournalFault::NoMemory
-    }
-}
-
-impl<T: Drop> From<AllocFailed<T>> for JournalFault {
-    ghost from_gives = { λ _ fault. fault ≡ no_memory };
-
-    fn from(_e: AllocFailed<T>) -> JournalFault {
+    fn from(_e: NoMemory) -> JournalFault {
         JournalFault::NoMemory
     }
 }

@@ -1,12 +1,13 @@
 //! Lists of runs.
 
-ghost use Rattle.std.specs.Prelude.{◌≡◌, ◌+◌, ◌≤◌, ◌<◌, ◌^◌, [], length, OnErr};
+ghost use Rattle.std.specs.Prelude.{◌≡◌, ◌+◌, ◌≤◌, ◌<◌, ◌^◌, ◌++◌, ◌∷◌, [], length, OnOk, OnErr};
 ghost use Rattle.brd_journal.specs.Adding.{room_in, added_within};
 ghost use Rattle.brd_journal.specs.Faults.{Gives};
 ghost use Rattle.brd_journal.specs.Runs.{AreCut, IsRest, events_of, same_event};
 
 use crate::fault::JournalFault;
 use crate::run::Run;
+use brd_base::NoMemory;
 use brd_board::Event;
 use std::alloc::Global;
 use std::marker::Model;
@@ -30,6 +31,19 @@ fn room_for(runs: &[Run], event: Event) -> u32
     } else {
         0
     }
+}
+
+/// Puts a run at the end of the runs, and where it starts at the end of the starts. A refusal changes nothing.
+fn put_run(runs: &mut Vec<Run>, starts: &mut Vec<u64>, run: Run, start: u64) -> Result<(), NoMemory>
+    ensures runs { OnOk result (runs.new.items ≡ runs.old.items ++ run ∷ []) }
+    ensures starts { OnOk result (starts.new.items ≡ starts.old.items ++ start ∷ []) }
+    ensures err { OnErr result ((runs.new.items ≡ runs.old.items) × (starts.new.items ≡ starts.old.items)) }
+{
+    // Room for its start comes first, so that a run that is refused changes nothing.
+    starts.reserve(1)?;
+    runs.push(run)?;
+    starts.push(start)?;
+    Ok(())
 }
 
 /// Runs, and beside each the position of its first event.
@@ -92,10 +106,9 @@ impl RunTable {
             if end >= limit {
                 return Err(JournalFault::Full);
             }
-            // Room for its start comes first, so that a run that is refused changes nothing.
-            self.starts.reserve(1)?;
-            self.runs.push(Run { event, count: rest })?;
-            self.starts.push(others + joined as u64)?;
+            let run = Run { event, count: rest };
+            let start = others + joined as u64;
+            put_run(&mut self.runs, &mut self.starts, run, start)?;
         }
         if joined > 0 {
             self.runs[end - 1].count += joined;

@@ -1,8 +1,6 @@
-use Rattle.std.proofs.Common.{◌≡◌, ◌∙◌, ℕ, List, Vec, Global, [], refl, sym, ap, subst, true≢false, arith}
-use Rattle.std.specs.Prelude.{Option, Some, None, option_map}
-use Rattle.brd_command.specs.Answers.{DoesOrQuits}
+use Rattle.std.proofs.Common.{ℕ, List, Vec, Global, [], sym, ap, subst, true≢false, arith}
+use Rattle.std.specs.Prelude.{Option, option_map}
 use Rattle.brd_command.specs.Answers.HasDone.{nothing_yet}
-use Rattle.brd_command.specs.DebugLine.{command_of}
 use Rattle.brd_command.specs.Lines.{CountsLine}
 use Rattle.brd_command.proofs.AnswerLemmas.{all_answered, quit_answered, more_answered, front_answered}
 use Rattle.brd_command.proofs.OutputLemmas as output

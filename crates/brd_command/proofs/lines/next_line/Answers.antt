@@ -15,10 +15,10 @@ loop-byte-preserved g c =
     let counts = subst (λ (f : Option ℕ). CountsByte c.loop-byte.taken f c.next_byte.new.taken) c.in-Ok-Some.field-0-is c.in-Ok-Some.ensures.counts in
     record {
       few = counts.1;
-      counted = rw c.in_ok-push.ensures.items (omega (arith, length-append c.loop-byte.line.items (c.in-Ok-Some.byte ∷ []), c.loop-byte.invariant.counted, counts.0));
+      counted = rw c.in_ok-put.ensures (omega (arith, length-append c.loop-byte.line.items (c.in-Ok-Some.byte ∷ []), c.loop-byte.invariant.counted, counts.0));
       reads = omega (arith, c.loop-byte.invariant.reads, c.next_byte.ensures.reads);
       ended = c.next_byte.ensures.ended;
-      left = λ text is. rw c.in_ok-push.ensures.items (line_grows text _ _ c.args.taken.now.bytes c.loop-byte.taken c.next_byte.new.taken
+      left = λ text is. rw c.in_ok-put.ensures (line_grows text _ _ c.args.taken.now.bytes c.loop-byte.taken c.next_byte.new.taken
           c.in-Ok-Some.field-0 c.in-Ok-Some.ensures.takes c.in-Ok-Some.ensures.counts c.loop-byte.line.items c.in-Ok-Some.byte
           (c.loop-byte.invariant.left text is) c.in-Ok-Some.field-0-is c.if-byte-eq10.false);
     }

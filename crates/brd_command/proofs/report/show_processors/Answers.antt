@@ -1,4 +1,4 @@
-use Rattle.std.proofs.Common.{◌≡◌, ◌++◌, ◌∙◌, arith}
+use Rattle.std.proofs.Common.{◌++◌, ◌∙◌, arith}
 use Rattle.brd_board.specs.Board.{standing_of, registers_of}
 use Rattle.brd_command.specs.Report.{processor_line}
 use Rattle.brd_command.proofs.ReportLemmas.{next_line}

@@ -8,7 +8,7 @@ use Rattle.brd_journal.proofs.EventLemmas.{run_of}
 use Rattle.brd_journal.proofs.AddLemmas.{added_full, added_apart, added_joined, grown_fits, room_some}
 use Rattle.brd_journal.proofs.StartLemmas.{Extended, extended_some, extended_none, starts-added}
 use Rattle.brd_journal.proofs.runs.RunTable.add.Goals as goal
-use Rattle.brd_journal.proofs.runs.RunTable.add.Goals.{After-min-joined, After-index_mut, then-rest-gt0+else-end-limit+in_ok-reserve+in_ok-push+in_ok-push-2, else-rest-gt0}
+use Rattle.brd_journal.proofs.runs.RunTable.add.Goals.{After-min-joined, After-index_mut, then-rest-gt0+else-end-limit+in_ok-put_run, else-rest-gt0}
 
 -- how many the last run takes
 joined_is : (c : After-min-joined) → c.min-joined.result ≡ min (room_in c.args.self.now c.args.event) c.args.count
@@ -27,11 +27,11 @@ extended : (c : After-index_mut) → Extended c.args.limit c.args.self.now c.arg
 extended c =
     let starts_are : c.self.inside.starts.items ≡ starts_of c.args.self.now = c.self.invariant ∙ ap starts_of c.self.view_is in
     elim c.if-rest-gt0.branch [
-      | then-rest-gt0+else-end-limit+in_ok-reserve+in_ok-push+in_ok-push-2 w ↦ extended_some c.args.limit c.args.self.now c.if-rest-gt0.self-inside.runs.items c.args.event (c.args.others + c.min-joined.result) (c.args.count - c.min-joined.result)
-          w.reserve.new.self.items c.if-rest-gt0.self-inside.starts.items w.if-rest-gt0.true (omega (arith, ap length c.self.view_is))
-          (ap (λ (inside : Inside). inside.runs.items) w.self-inside-is ∙ w.in_ok-push.ensures.items ∙ ap (λ (rs : List Run). rs ++ run_of c.args.event (c.args.count - c.min-joined.result) ∷ []) c.self.view_is)
-          (w.in_ok-reserve.ensures.items ∙ starts_are)
-          (ap (λ (inside : Inside). inside.starts.items) w.self-inside-is ∙ w.in_ok-push-2.ensures.items)
+      | then-rest-gt0+else-end-limit+in_ok-put_run w ↦ extended_some c.args.limit c.args.self.now c.if-rest-gt0.self-inside.runs.items c.args.event (c.args.others + c.min-joined.result) (c.args.count - c.min-joined.result)
+          c.self.inside.starts.items c.if-rest-gt0.self-inside.starts.items w.if-rest-gt0.true (omega (arith, ap length c.self.view_is))
+          (ap (λ (inside : Inside). inside.runs.items) w.self-inside-is ∙ w.in_ok-put_run.ensures.runs ∙ ap (λ (rs : List Run). rs ++ run_of c.args.event (c.args.count - c.min-joined.result) ∷ []) c.self.view_is)
+          starts_are
+          (ap (λ (inside : Inside). inside.starts.items) w.self-inside-is ∙ w.in_ok-put_run.ensures.starts)
       | else-rest-gt0 w ↦ extended_none c.args.limit c.args.self.now c.if-rest-gt0.self-inside.runs.items c.args.event (c.args.others + c.min-joined.result) (c.args.count - c.min-joined.result)
           c.if-rest-gt0.self-inside.starts.items w.if-rest-gt0.false c.requires.within
           (ap (λ (inside : Inside). inside.runs.items) w.self-inside-is ∙ c.self.view_is)
@@ -71,11 +71,11 @@ invariant_of-self-else-joined-gt0 c =
     let starts_are : c.self.inside.starts.items ≡ starts_of c.args.self.now = c.self.invariant ∙ ap starts_of c.self.view_is in
     let held : Extended c.args.limit c.args.self.now c.args.event (c.args.others + c.min-joined.result) (c.args.count - c.min-joined.result) c.if-rest-gt0.self-inside.runs.items c.if-rest-gt0.self-inside.starts.items =
     elim c.if-rest-gt0.branch [
-      | then-rest-gt0+else-end-limit+in_ok-reserve+in_ok-push+in_ok-push-2 w ↦ extended_some c.args.limit c.args.self.now c.if-rest-gt0.self-inside.runs.items c.args.event (c.args.others + c.min-joined.result) (c.args.count - c.min-joined.result)
-          w.reserve.new.self.items c.if-rest-gt0.self-inside.starts.items w.if-rest-gt0.true (omega (arith, ap length c.self.view_is))
-          (ap (λ (inside : Inside). inside.runs.items) w.self-inside-is ∙ w.in_ok-push.ensures.items ∙ ap (λ (rs : List Run). rs ++ run_of c.args.event (c.args.count - c.min-joined.result) ∷ []) c.self.view_is)
-          (w.in_ok-reserve.ensures.items ∙ starts_are)
-          (ap (λ (inside : Inside). inside.starts.items) w.self-inside-is ∙ w.in_ok-push-2.ensures.items)
+      | then-rest-gt0+else-end-limit+in_ok-put_run w ↦ extended_some c.args.limit c.args.self.now c.if-rest-gt0.self-inside.runs.items c.args.event (c.args.others + c.min-joined.result) (c.args.count - c.min-joined.result)
+          c.self.inside.starts.items c.if-rest-gt0.self-inside.starts.items w.if-rest-gt0.true (omega (arith, ap length c.self.view_is))
+          (ap (λ (inside : Inside). inside.runs.items) w.self-inside-is ∙ w.in_ok-put_run.ensures.runs ∙ ap (λ (rs : List Run). rs ++ run_of c.args.event (c.args.count - c.min-joined.result) ∷ []) c.self.view_is)
+          starts_are
+          (ap (λ (inside : Inside). inside.starts.items) w.self-inside-is ∙ w.in_ok-put_run.ensures.starts)
       | else-rest-gt0 w ↦ extended_none c.args.limit c.args.self.now c.if-rest-gt0.self-inside.runs.items c.args.event (c.args.others + c.min-joined.result) (c.args.count - c.min-joined.result)
           c.if-rest-gt0.self-inside.starts.items w.if-rest-gt0.false c.requires.within
           (ap (λ (inside : Inside). inside.runs.items) w.self-inside-is ∙ c.self.view_is)
@@ -95,11 +95,11 @@ returns-else-joined-gt0-clause-added c =
     let starts_are : c.self.inside.starts.items ≡ starts_of c.args.self.now = c.self.invariant ∙ ap starts_of c.self.view_is in
     let held : Extended c.args.limit c.args.self.now c.args.event (c.args.others + c.min-joined.result) (c.args.count - c.min-joined.result) c.if-rest-gt0.self-inside.runs.items c.if-rest-gt0.self-inside.starts.items =
     elim c.if-rest-gt0.branch [
-      | then-rest-gt0+else-end-limit+in_ok-reserve+in_ok-push+in_ok-push-2 w ↦ extended_some c.args.limit c.args.self.now c.if-rest-gt0.self-inside.runs.items c.args.event (c.args.others + c.min-joined.result) (c.args.count - c.min-joined.result)
-          w.reserve.new.self.items c.if-rest-gt0.self-inside.starts.items w.if-rest-gt0.true (omega (arith, ap length c.self.view_is))
-          (ap (λ (inside : Inside). inside.runs.items) w.self-inside-is ∙ w.in_ok-push.ensures.items ∙ ap (λ (rs : List Run). rs ++ run_of c.args.event (c.args.count - c.min-joined.result) ∷ []) c.self.view_is)
-          (w.in_ok-reserve.ensures.items ∙ starts_are)
-          (ap (λ (inside : Inside). inside.starts.items) w.self-inside-is ∙ w.in_ok-push-2.ensures.items)
+      | then-rest-gt0+else-end-limit+in_ok-put_run w ↦ extended_some c.args.limit c.args.self.now c.if-rest-gt0.self-inside.runs.items c.args.event (c.args.others + c.min-joined.result) (c.args.count - c.min-joined.result)
+          c.self.inside.starts.items c.if-rest-gt0.self-inside.starts.items w.if-rest-gt0.true (omega (arith, ap length c.self.view_is))
+          (ap (λ (inside : Inside). inside.runs.items) w.self-inside-is ∙ w.in_ok-put_run.ensures.runs ∙ ap (λ (rs : List Run). rs ++ run_of c.args.event (c.args.count - c.min-joined.result) ∷ []) c.self.view_is)
+          starts_are
+          (ap (λ (inside : Inside). inside.starts.items) w.self-inside-is ∙ w.in_ok-put_run.ensures.starts)
       | else-rest-gt0 w ↦ extended_none c.args.limit c.args.self.now c.if-rest-gt0.self-inside.runs.items c.args.event (c.args.others + c.min-joined.result) (c.args.count - c.min-joined.result)
           c.if-rest-gt0.self-inside.starts.items w.if-rest-gt0.false c.requires.within
           (ap (λ (inside : Inside). inside.runs.items) w.self-inside-is ∙ c.self.view_is)
