@@ -3,8 +3,6 @@
 //! too.
 #![tactic(auto)]
 
-ghost use Rattle.std.specs.Prelude.{◌≡◌, ◌<◌, ◌-◌, ◌*◌, if◌then◌else◌};
-
 use brd_asm::{AsmFault, assemble};
 use brd_mem::Image;
 use std::alloc::{AllocError, Global};
@@ -29,19 +27,12 @@ fn instructions(alloc: Global, size: usize) -> Result<String, AllocError> {
 /// How many words there are at most: as many as an object file can have segments.
 const MOST_WORDS: u32 = 65_534;
 
-/// How far behind the start of RAM a word lies: eight bytes apart, upward, or from the last one down.
-fn offset_of(word: u32, downward: bool) -> u32
-    requires { word < 65534 }
-    ensures { result ≡ 8 * (if downward then 65534 - word else word) }
-{
-    8 * if downward { MOST_WORDS - word } else { word }
-}
-
-/// As many words, each apart from the others.
+/// As many words, each apart from the others: eight bytes apart, upward, or from the last one down.
 fn islands(alloc: Global, count: u32, downward: bool) -> Result<String, AllocError> {
     let mut text = String::from_str(alloc, ".equ ram, 0x80000000\n")?;
     for i in 0..count.min(MOST_WORDS) {
-        let line = format!(in alloc; ".org ram+{}\n.word {i}\n", offset_of(i, downward))?;
+        let place = if downward { MOST_WORDS - i } else { i };
+        let line = format!(in alloc; ".org ram+{}\n.word {i}\n", 8 * place)?;
         text.push_str(line.as_str())?;
     }
     Ok(text)

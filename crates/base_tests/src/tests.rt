@@ -1,5 +1,5 @@
 //! What no clause says: large values, worked examples, texts. Where rows stand in a table, a function answers the first
-//! one that isn't right, and a test asserts by `none_wrong` that there is none.
+//! one that isn't right, and a test fails by `none_wrong`, which says it.
 
 mod base;
 mod lanes;
@@ -9,11 +9,3 @@ mod queue;
 mod ranges;
 mod text;
 mod time;
-
-use std::fmt::Debug;
-use std::process::Abort;
-
-/// Ends the test where something is wrong, and says what: a row by its number from 0 on, or a value.
-fn none_wrong<T: Debug + Drop>(rt: &impl Abort, wrong: Option<T>) {
-    assert!(rt; wrong.is_none(), "wrong is {wrong:?}");
-}

@@ -3,7 +3,8 @@
 //! before each text behind it.
 #![tactic(auto)]
 
-use brd_config::{Config, ConfigFault, parse};
+use brd_config::{ConfigFault, parse};
+use brd_text::hex_value;
 use std::alloc::{AllocError, Global};
 use std::io;
 use std::io::{BufRead, BufReader};
@@ -17,81 +18,114 @@ enum Escape {
     HexadecimalDigit(u8),
 }
 
-/// The value of a hexadecimal digit in lower case.
-fn digit(byte: u8) -> u8 {
-    match byte {
-        b'0'..=b'9' => byte - b'0',
-        b'a'..=b'f' => byte - b'a' + 10,
+/// The byte of two hexadecimal digits, or 0.
+fn byte_of(high: u8, low: u8) -> u8 {
+    match (hex_value(high), hex_value(low)) {
+        (Some(high), Some(low)) => (16 * high + low) as u8,
         _ => 0,
     }
 }
 
-/// The bytes that a text with escapes stands for, behind these in front.
-fn unescaped(alloc: Global, front: &[u8], text: &[u8]) -> Result<Vec<u8>, AllocError> {
-    let mut bytes = Vec::from_slice(alloc, front)?;
-    let mut escape = Escape::Nothing;
-    for byte in text {
-        let byte = *byte;
-        match escape {
-            Escape::Nothing => {
-                if byte == b'\\' {
-                    escape = Escape::Backslash;
-                } else {
-                    bytes.push(byte)?;
-                }
-            }
-            Escape::Backslash => {
-                escape = Escape::Nothing;
-                match byte {
-                    b'n' => bytes.push(b'\n')?,
-                    b'r' => bytes.push(b'\r')?,
-                    b't' => bytes.push(b'\t')?,
-                    b'0' => bytes.push(0)?,
-                    b'x' => escape = Escape::Hexadecimal,
-                    _ => bytes.push(byte)?,
-                }
-            }
-            Escape::Hexadecimal => escape = Escape::HexadecimalDigit(byte),
-            Escape::HexadecimalDigit(high) => {
-                bytes.push(digit(high).wrapping_mul(16).wrapping_add(digit(byte)))?;
-                escape = Escape::Nothing;
-            }
-        }
+/// What a byte behind a backslash begins, and the byte that both stand for, if they do.
+fn escaped(byte: u8) -> (Escape, Option<u8>) {
+    match byte {
+        b'n' => (Escape::Nothing, Some(b'\n')),
+        b'r' => (Escape::Nothing, Some(b'\r')),
+        b't' => (Escape::Nothing, Some(b'\t')),
+        b'0' => (Escape::Nothing, Some(0)),
+        b'x' => (Escape::Hexadecimal, None),
+        _ => (Escape::Nothing, Some(byte)),
     }
-    Ok(bytes)
 }
 
-/// An answer as the table has it. That the program ran out of memory is no answer.
-fn shown(alloc: Global, answer: &Result<Config, ConfigFault>) -> Result<String, AllocError> {
-    match answer {
-        Ok(_) => String::from_str(alloc, "ok"),
-        Err(ConfigFault::NoMemory) => Err(AllocError),
-        Err(ConfigFault::Syntax { line }) => format!(in alloc; "Syntax {line}"),
-        Err(ConfigFault::Duplicate { line }) => format!(in alloc; "Duplicate {line}"),
-        Err(ConfigFault::BadId { line }) => format!(in alloc; "BadId {line}"),
-        Err(ConfigFault::BadAttribute { line }) => format!(in alloc; "BadAttribute {line}"),
-        Err(ConfigFault::BadPriority { line }) => format!(in alloc; "BadPriority {line}"),
-        Err(ConfigFault::BadCount { line }) => format!(in alloc; "BadCount {line}"),
-        Err(ConfigFault::BadProcessor { line }) => format!(in alloc; "BadProcessor {line}"),
+/// The same of a byte behind what the one before has begun.
+fn read_byte(escape: Escape, byte: u8) -> (Escape, Option<u8>) {
+    match escape {
+        Escape::Nothing if byte == b'\\' => (Escape::Backslash, None),
+        Escape::Nothing => (Escape::Nothing, Some(byte)),
+        Escape::Backslash => escaped(byte),
+        Escape::Hexadecimal => (Escape::HexadecimalDigit(byte), None),
+        Escape::HexadecimalDigit(high) => (Escape::Nothing, Some(byte_of(high, byte))),
     }
+}
+
+/// Puts the bytes that a text with escapes stands for at the end.
+fn put_unescaped(bytes: &mut Vec<u8>, text: &str) -> Result<(), AllocError> {
+    let mut escape = Escape::Nothing;
+    for byte in text.as_bytes() {
+        let (begun, stands_for) = read_byte(escape, *byte);
+        escape = begun;
+        if let Some(byte) = stands_for {
+            bytes.push(byte)?;
+        }
+    }
+    Ok(())
+}
+
+/// The name and the line of a fault. That the program ran out of memory has none.
+fn name_of(fault: ConfigFault) -> Option<(&'static str, usize)> {
+    match fault {
+        ConfigFault::NoMemory => None,
+        ConfigFault::Syntax { line } => Some(("Syntax", line)),
+        ConfigFault::Duplicate { line } => Some(("Duplicate", line)),
+        ConfigFault::BadId { line } => Some(("BadId", line)),
+        ConfigFault::BadAttribute { line } => Some(("BadAttribute", line)),
+        ConfigFault::BadPriority { line } => Some(("BadPriority", line)),
+        ConfigFault::BadCount { line } => Some(("BadCount", line)),
+        ConfigFault::BadProcessor { line } => Some(("BadProcessor", line)),
+    }
+}
+
+/// A fault as the table has it. That the program ran out of memory is no answer.
+fn shown(alloc: Global, fault: ConfigFault) -> Result<String, AllocError> {
+    match name_of(fault) {
+        Some((name, line)) => format!(in alloc; "{name} {line}"),
+        None => Err(AllocError),
+    }
+}
+
+/// The answer to a text as the table has it.
+fn answer(alloc: Global, text: &[u8]) -> Result<String, AllocError> {
+    match parse(alloc, text) {
+        Ok(_) => String::from_str(alloc, "ok"),
+        Err(fault) => shown(alloc, fault),
+    }
+}
+
+/// The answer to the text of a row, behind these bytes in front.
+fn answer_to(alloc: Global, front: &[u8], row: &str) -> Result<String, AllocError> {
+    let mut text = Vec::from_slice(alloc, front)?;
+    match put_unescaped(&mut text, row) {
+        Ok(()) => answer(alloc, text.as_slice()),
+        Err(error) => Err(error),
+    }
+}
+
+/// Prints a line, where it is a row behind its answer. `front` is what stands before each text.
+fn heed(rt: &(impl Print + AllocGlobal), front: &mut Vec<u8>, line: &str) -> io::Result<()> {
+    if let Some(row) = line.strip_prefix("| ") {
+        let answer = answer_to(rt.alloc(), front.as_slice(), row)?;
+        return println!(rt; "{answer} {line}");
+    }
+    if let Some(text) = line.strip_prefix("= ") {
+        front.clear();
+        put_unescaped(front, text)?;
+    }
+    println!(rt; "{line}")
+}
+
+/// Heeds each line of standard input.
+fn heed_all(rt: &(impl Input + Print + AllocGlobal), front: &mut Vec<u8>) -> io::Result<()> {
+    for line in BufReader::new(rt.alloc(), rt.reader())?.lines(rt.alloc()) {
+        let line = line?;
+        heed(rt, front, line.as_str())?;
+    }
+    Ok(())
 }
 
 fn run(rt: &(impl Input + Print + AllocGlobal)) -> io::Result<()> {
     let mut front = Vec::new(rt.alloc());
-    for line in BufReader::new(rt.alloc(), rt.reader())?.lines(rt.alloc()) {
-        let line = line?;
-        if let Some(text) = line.as_str().strip_prefix("| ") {
-            let text = unescaped(rt.alloc(), front.as_slice(), text.as_bytes())?;
-            let answer = shown(rt.alloc(), &parse(rt.alloc(), text.as_slice()))?;
-            println!(rt; "{answer} {line}")?;
-            continue;
-        }
-        if let Some(text) = line.as_str().strip_prefix("= ") {
-            front = unescaped(rt.alloc(), b"", text.as_bytes())?;
-        }
-        println!(rt; "{line}")?;
-    }
-    Ok(())
+    heed_all(rt, &mut front)
 }
 
 fn main(rt: HostRuntime) -> io::Result<()> {

@@ -3,6 +3,7 @@
 ghost use Rattle.std.specs.Prelude.{◌≡◌, ◌/◌};
 
 use std::alloc::{AllocError, Global};
+use test_help::put_words;
 
 /// What a file is full of.
 #[derive(Clone, Copy, PartialEq, Eq)]
@@ -97,19 +98,11 @@ pub fn file(alloc: Global, kind: Kind, size: Size) -> Result<Vec<u8>, AllocError
     }
 }
 
-/// Puts numbers of four bytes at the end.
-fn put(out: &mut Vec<u8>, words: &[u32]) -> Result<(), AllocError> {
-    for word in words {
-        out.extend_from_slice(&word.to_be_bytes())?;
-    }
-    Ok(())
-}
-
 /// The ELF header, with `programs` program headers behind it or `sections` section headers there.
 fn header(alloc: Global, programs: u16, sections: u16) -> Result<Vec<u8>, AllocError> {
     let mut out = Vec::new(alloc);
     out.extend_from_slice(b"\x7fELF\x01\x02\x01\0\0\0\0\0\0\0\0\0\0\x02\0\x08\0\0\0\x01")?;
-    put(&mut out, &[0x8000_0000, 52, 52, 0])?;
+    put_words(&mut out, &[0x8000_0000, 52, 52, 0])?;
     out.extend_from_slice(b"\0\x34\0\x20")?;
     out.extend_from_slice(&programs.to_be_bytes())?;
     out.extend_from_slice(b"\0\x28")?;
@@ -122,7 +115,7 @@ fn header(alloc: Global, programs: u16, sections: u16) -> Result<Vec<u8>, AllocE
 fn programs(alloc: Global, kind: Kind, size: Size) -> Result<Vec<u8>, AllocError> {
     if kind == Kind::Zeros {
         let mut out = header(alloc, 1, 0)?;
-        put(&mut out, &[1, 0, 0x8000_0000, 0, 0, 0x100_0000, 0, 0])?;
+        put_words(&mut out, &[1, 0, 0x8000_0000, 0, 0, 0x100_0000, 0, 0])?;
         return Ok(out);
     }
     let mut out = header(alloc, size.count, 0)?;
@@ -139,7 +132,7 @@ fn programs(alloc: Global, kind: Kind, size: Size) -> Result<Vec<u8>, AllocError
             u32::from(i)
         };
         let address = 0x80ff_ff00 - 256 * place;
-        put(&mut out, &[program, 0, address, 0, 1, 1, 0, 0])?;
+        put_words(&mut out, &[program, 0, address, 0, 1, 1, 0, 0])?;
     }
     Ok(out)
 }
@@ -148,7 +141,7 @@ fn programs(alloc: Global, kind: Kind, size: Size) -> Result<Vec<u8>, AllocError
 fn sections(alloc: Global, size: Size) -> Result<Vec<u8>, AllocError> {
     let mut out = header(alloc, 0, size.count)?;
     for _ in 0..size.count {
-        put(&mut out, &[0, 1, 0, 0, 0, 0, 0, 0, 0, 0])?;
+        put_words(&mut out, &[0, 1, 0, 0, 0, 0, 0, 0, 0, 0])?;
     }
     Ok(out)
 }
@@ -162,13 +155,13 @@ fn symbols(alloc: Global, kind: Kind, size: Size) -> Result<Vec<u8>, AllocError>
         size.count
     };
     let table = 16 * u32::from(count);
-    put(&mut out, &[0, 2, 0, 0, 132, table, 1, 0, 4, 16])?;
-    put(
+    put_words(&mut out, &[0, 2, 0, 0, 132, table, 1, 0, 4, 16])?;
+    put_words(
         &mut out,
         &[0, 3, 0, 0, 132 + table, size.strings, 0, 0, 1, 0],
     )?;
     for i in 0..count {
-        put(
+        put_words(
             &mut out,
             &[name_at(kind, size, u32::from(i)), 0, 0, 0x1000_0001],
         )?;

@@ -1,6 +1,7 @@
 //! What no clause says: worked examples, large values, growths that are refused.
 
 mod board;
+mod configs;
 mod exec;
 mod kernel;
 mod objects;

@@ -1,8 +1,9 @@
 //! Worked examples, and each scan against a plain loop.
 ghost use Rattle.std.specs.Prelude.{◌<◌, ◌≤◌, length};
 
-use super::none_wrong;
 use brd_lanes::{break_links, first_match, hits, next_due, same_words};
+use std::test::Fail;
+use test_help::none_wrong;
 
 /// Patterns, their modes, the bits that are set, where the scan begins, and the first wait that is satisfied.
 const WAITS: &[(&[u32], &[u32], u32, usize, Option<usize>)] = &[
@@ -30,8 +31,8 @@ fn first_wrong_wait() -> Option<usize> {
 }
 
 #[test]
-fn finds_the_first_satisfied_wait(rt: HostRuntime) {
-    none_wrong(&rt, first_wrong_wait());
+fn finds_the_first_satisfied_wait(_rt: HostRuntime) -> Result<(), Fail> {
+    none_wrong(first_wrong_wait())
 }
 
 /// Ticks, the present one, and the first place whose tick has come.
@@ -53,8 +54,8 @@ fn first_wrong_due() -> Option<usize> {
 }
 
 #[test]
-fn finds_the_first_due_tick(rt: HostRuntime) {
-    none_wrong(&rt, first_wrong_due());
+fn finds_the_first_due_tick(_rt: HostRuntime) -> Result<(), Fail> {
+    none_wrong(first_wrong_due())
 }
 
 const LINKED: [u32; 8] = [0x8000_1000, 0x8000_100c, 0x8000_1010, 0, 0, 0, 0, 0];
@@ -173,8 +174,8 @@ fn first_wrong_length() -> Option<usize> {
 
 /// Each length, each single mark and none, and the same with a second mark at the end.
 #[test]
-fn agrees_with_a_plain_loop(rt: HostRuntime) {
-    none_wrong(&rt, first_wrong_length());
+fn agrees_with_a_plain_loop(_rt: HostRuntime) -> Result<(), Fail> {
+    none_wrong(first_wrong_length())
 }
 
 /// Whether the links of a set, to words in the block, end, but for one, and the others, to words before it and behind
@@ -217,6 +218,6 @@ fn first_wrong_set() -> Option<u8> {
 
 /// Each set, and each exception.
 #[test]
-fn breaks_each_set_of_links(rt: HostRuntime) {
-    none_wrong(&rt, first_wrong_set());
+fn breaks_each_set_of_links(_rt: HostRuntime) -> Result<(), Fail> {
+    none_wrong(first_wrong_set())
 }

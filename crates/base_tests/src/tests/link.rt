@@ -1,7 +1,8 @@
 //! Worked examples: which links a change leaves.
 
-use super::none_wrong;
 use brd_link::Links;
+use std::test::Fail;
+use test_help::none_wrong;
 
 const WORD: u32 = 0x8000_1000;
 
@@ -48,8 +49,8 @@ fn first_wrong_store() -> Option<usize> {
 }
 
 #[test]
-fn ends_by_a_store_of_another_into_the_block(rt: HostRuntime) {
-    none_wrong(&rt, first_wrong_store());
+fn ends_by_a_store_of_another_into_the_block(_rt: HostRuntime) -> Result<(), Fail> {
+    none_wrong(first_wrong_store())
 }
 
 /// What processor 1 links in turn, where its SC stores then, and whether it may.
@@ -84,8 +85,8 @@ fn first_wrong_take() -> Option<usize> {
 }
 
 #[test]
-fn takes_a_link_once(rt: HostRuntime) {
-    none_wrong(&rt, first_wrong_take());
+fn takes_a_link_once(_rt: HostRuntime) -> Result<(), Fail> {
+    none_wrong(first_wrong_take())
 }
 
 fn address_of(cpu: u8) -> u32 {

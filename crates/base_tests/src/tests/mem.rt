@@ -1,10 +1,10 @@
 //! RAM, images and pages.
 
-use super::none_wrong;
 use brd_base::{NoMemory, is_ram_size};
 use brd_mem::*;
 use std::alloc::Global;
 use std::test::Fail;
+use test_help::none_wrong;
 
 /// How many bytes, and whether RAM can have so many.
 const SIZES: &[(u32, bool)] = &[
@@ -29,8 +29,8 @@ fn first_wrong_size(alloc: Global) -> Option<u32> {
 }
 
 #[test]
-fn sizes(rt: HostRuntime) {
-    none_wrong(&rt, first_wrong_size(rt.alloc()));
+fn sizes(rt: HostRuntime) -> Result<(), Fail> {
+    none_wrong(first_wrong_size(rt.alloc()))
 }
 
 /// The bytes about the word 0x12345678 at 0x80000100, and at the borders of a RAM of 65,536 bytes.
@@ -248,6 +248,5 @@ fn first_wrong_image(alloc: Global) -> Result<Option<usize>, NoMemory> {
 
 #[test]
 fn plain_images(rt: HostRuntime) -> Result<(), Fail> {
-    none_wrong(&rt, first_wrong_image(rt.alloc())?);
-    Ok(())
+    none_wrong(first_wrong_image(rt.alloc())?)
 }

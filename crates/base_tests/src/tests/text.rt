@@ -1,10 +1,11 @@
 //! Bytes, lines, tokens and numbers with values that were worked out by hand.
 
-use super::none_wrong;
 use brd_text::{
     Scanner, Token, decimal, hex_digits, hex_word, is_blank, is_digit, is_letter, is_name,
     is_run_byte, is_space, line_after, line_at, number, plain_decimal, split_line,
 };
+use std::test::Fail;
+use test_help::none_wrong;
 
 const TEXT: &[u8] = b" a_1.$b(0x1f)/* \n */ / //c\n\n;*/\r\t\xff/*/\n";
 
@@ -37,8 +38,8 @@ fn first_wrong_token() -> Option<usize> {
 }
 
 #[test]
-fn tokens(rt: HostRuntime) {
-    none_wrong(&rt, first_wrong_token());
+fn tokens(_rt: HostRuntime) -> Result<(), Fail> {
+    none_wrong(first_wrong_token())
 }
 
 const NUMBERS: &[(&[u8], Option<u32>)] = &[
@@ -70,8 +71,8 @@ fn first_wrong_number() -> Option<usize> {
 }
 
 #[test]
-fn numbers(rt: HostRuntime) {
-    none_wrong(&rt, first_wrong_number());
+fn numbers(_rt: HostRuntime) -> Result<(), Fail> {
+    none_wrong(first_wrong_number())
 }
 
 /// A text, the largest number that it may be, what it is as decimal digits, and what as those of a plain number.
@@ -107,8 +108,8 @@ fn first_wrong_decimal() -> Option<usize> {
 }
 
 #[test]
-fn decimals(rt: HostRuntime) {
-    none_wrong(&rt, first_wrong_decimal());
+fn decimals(_rt: HostRuntime) -> Result<(), Fail> {
+    none_wrong(first_wrong_decimal())
 }
 
 const HEX_WORDS: &[(&[u8], Option<u32>)] = &[
@@ -140,9 +141,9 @@ fn first_wrong_word() -> Option<usize> {
 }
 
 #[test]
-fn hexadecimals(rt: HostRuntime) {
-    none_wrong(&rt, first_wrong_word());
+fn hexadecimals(rt: HostRuntime) -> Result<(), Fail> {
     assert!(rt; hex_digits(0x0123_abcd) == *b"0123abcd");
+    none_wrong(first_wrong_word())
 }
 
 /// A text, its first line, and what is behind that line's end, if it has one.
@@ -187,10 +188,10 @@ fn first_wrong_line() -> Option<usize> {
 }
 
 #[test]
-fn lines(rt: HostRuntime) {
-    none_wrong(&rt, first_wrong_split());
-    none_wrong(&rt, first_wrong_line());
+fn lines(rt: HostRuntime) -> Result<(), Fail> {
     assert!(rt; line_after(4, b'\n') == 5 && line_after(4, b'\r') == 4);
+    none_wrong(first_wrong_split())?;
+    none_wrong(first_wrong_line())
 }
 
 /// A byte, and whether it is a letter, a digit, a space, a blank, and one of those that runs are made of.
@@ -250,7 +251,7 @@ fn first_wrong_name() -> Option<usize> {
 }
 
 #[test]
-fn bytes(rt: HostRuntime) {
-    none_wrong(&rt, first_wrong_byte());
-    none_wrong(&rt, first_wrong_name());
+fn bytes(_rt: HostRuntime) -> Result<(), Fail> {
+    none_wrong(first_wrong_byte())?;
+    none_wrong(first_wrong_name())
 }

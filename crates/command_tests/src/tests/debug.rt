@@ -1,149 +1,190 @@
 //! The command `debug` over readers and writers that fail, and the lines that it reads.
 
-use super::assert_fault;
 use super::fakes::{Bytewise, Taking};
 use super::run::{CONFIG, JOURNAL, image};
+use super::{UNWRITTEN, is_fault};
 use brd_command::{CommandFault, debug};
 use std::alloc::Global;
 use std::test::Fail;
+use test_help::none_wrong;
 
 const COMMANDS: &[u8] = b"goto 2\nback\nregs 1";
 
 const ANSWERS: &[u8] = b"at 2\nnone\npc 80000008\n$2 00000028\n$4 00000048\n$29 80010000\n";
 
-/// Debugs the firmware of `run`'s tests, by commands of which the read of this number fails, where that isn't 0.
-fn debug_failing(
+/// Debugs the firmware of `run`'s tests by these commands.
+fn debug_by(
     alloc: Global,
     image: &[u8],
-    commands: &[u8],
-    fails_at: usize,
+    commands: &mut Bytewise<'_>,
     writer: &mut Taking,
 ) -> Result<(), CommandFault> {
     let mut image = image;
     let mut config = CONFIG;
     let mut journal = JOURNAL;
-    let mut commands = Bytewise::new(commands);
-    commands.fails_at = fails_at;
     debug(
         alloc,
         &mut image,
         &mut config,
         &mut journal,
-        &mut commands,
+        commands,
         writer,
     )
+}
+
+/// What is answered before the read of this number of `COMMANDS`.
+fn answers_before(number: usize) -> &'static [u8] {
+    match number {
+        0..8 => b"",
+        8..13 => b"at 2\n",
+        _ => b"at 2\nnone\n",
+    }
+}
+
+/// Whether the read of this number fails, and the answers to the lines before have been written.
+fn ends_by_a_read(alloc: Global, image: &[u8], number: usize) -> bool {
+    let mut commands = Bytewise::new(COMMANDS);
+    commands.fails_at = number;
+    let mut writer = Taking::new(alloc);
+    let ended = debug_by(alloc, image, &mut commands, &mut writer);
+    let text = "can't read standard input: the reader's own words";
+    is_fault(alloc, &ended, text, 4) && writer.taken.as_slice() == answers_before(number)
+}
+
+/// The first read that fails in another way.
+fn first_wrong_read(alloc: Global, image: &[u8]) -> Option<usize> {
+    for number in 1..=COMMANDS.len().saturating_add(1) {
+        if !ends_by_a_read(alloc, image, number) {
+            return Some(number);
+        }
+    }
+    None
 }
 
 /// n bytes of commands take n + 1 reads, the last of which finds the end. Where one fails, the answers to the lines
 /// before have been written.
 #[test]
 fn each_read_of_commands_fails(rt: HostRuntime) -> Result<(), Fail> {
-    let alloc = rt.alloc();
-    let image = image(alloc)?;
-    for fails_at in 1..=COMMANDS.len().saturating_add(1) {
-        let mut writer = Taking::new(alloc);
-        let result = debug_failing(alloc, image.as_slice(), COMMANDS, fails_at, &mut writer);
-        let text = "can't read standard input: the reader's own words";
-        assert_fault(&rt, alloc, result, text, 4)?;
-        let lines = match fails_at {
-            0..8 => b"".as_slice(),
-            8..13 => b"at 2\n",
-            _ => b"at 2\nnone\n",
-        };
-        assert!(rt; writer.taken.as_slice() == lines);
+    let image = image(rt.alloc())?;
+    none_wrong(first_wrong_read(rt.alloc(), image.as_slice()))
+}
+
+/// Commands, and by how many reads they are read.
+const READS: &[(&[u8], usize)] = &[
+    (COMMANDS, COMMANDS.len() + 1),
+    (b"goto 2\n", 8),
+    (b"goto 2", 7),
+    (b"", 1),
+    (b"\n", 2),
+    (b"quit\n", 5),
+    (b"quit", 5),
+    (b"goto 1\nquit\ngoto 2\n", 12),
+];
+
+/// Whether commands are read by so many reads.
+fn are_read_by(alloc: Global, image: &[u8], commands: &[u8], number: usize) -> bool {
+    let mut commands = Bytewise::new(commands);
+    let mut writer = Taking::new(alloc);
+    let ended = debug_by(alloc, image, &mut commands, &mut writer);
+    ended.is_ok() && commands.reads == number
+}
+
+/// The first of `READS` that takes more or fewer.
+fn first_wrong_reads(alloc: Global, image: &[u8]) -> Option<usize> {
+    for (row, (commands, number)) in READS.iter().enumerate() {
+        if !are_read_by(alloc, image, *commands, *number) {
+            return Some(row);
+        }
     }
-    Ok(())
+    None
 }
 
 /// The end of the commands is found by one read, also behind a last line without a newline. Behind `quit` none is done.
 #[test]
 fn the_end_of_commands_is_read_once(rt: HostRuntime) -> Result<(), Fail> {
-    let alloc = rt.alloc();
-    let image = image(alloc)?;
-    for (commands, reads) in [
-        (COMMANDS, COMMANDS.len().saturating_add(1)),
-        (b"goto 2\n", 8),
-        (b"goto 2", 7),
-        (b"", 1),
-        (b"\n", 2),
-        (b"quit\n", 5),
-        (b"quit", 5),
-        (b"goto 1\nquit\ngoto 2\n", 12),
-    ] {
-        let mut file = image.as_slice();
-        let mut config = CONFIG;
-        let mut journal = JOURNAL;
-        let mut reader = Bytewise::new(commands);
-        let mut writer = Taking::new(alloc);
-        debug(
-            alloc,
-            &mut file,
-            &mut config,
-            &mut journal,
-            &mut reader,
-            &mut writer,
-        )?;
-        assert!(rt; reader.reads == reads);
+    let image = image(rt.alloc())?;
+    none_wrong(first_wrong_reads(rt.alloc(), image.as_slice()))
+}
+
+/// Whether the write of this number fails, and a front of the answers has been written.
+fn ends_by_a_write(alloc: Global, image: &[u8], number: usize) -> bool {
+    let mut commands = Bytewise::new(COMMANDS);
+    let mut writer = Taking::new(alloc);
+    writer.fails_at = number;
+    let ended = debug_by(alloc, image, &mut commands, &mut writer);
+    is_fault(alloc, &ended, UNWRITTEN, 4) && ANSWERS.starts_with(writer.taken.as_slice())
+}
+
+/// The first write that fails in another way: of the answers, and three flushes.
+fn first_wrong_write(alloc: Global, image: &[u8]) -> Option<usize> {
+    for number in 1..=ANSWERS.len().saturating_add(3) {
+        if !ends_by_a_write(alloc, image, number) {
+            return Some(number);
+        }
     }
-    Ok(())
+    None
 }
 
 /// Each answer is written and flushed. Where a write fails, a front of the answers has been written.
 #[test]
 fn each_write_of_answers_fails(rt: HostRuntime) -> Result<(), Fail> {
-    let alloc = rt.alloc();
-    let image = image(alloc)?;
-    for fails_at in 1..=ANSWERS.len().saturating_add(3) {
-        let mut writer = Taking::new(alloc);
-        writer.fails_at = fails_at;
-        let result = debug_failing(alloc, image.as_slice(), COMMANDS, 0, &mut writer);
-        let text = "can't write the output: the writer's own words";
-        assert_fault(&rt, alloc, result, text, 4)?;
-        assert!(rt; ANSWERS.starts_with(writer.taken.as_slice()));
-    }
+    let image = image(rt.alloc())?;
+    none_wrong(first_wrong_write(rt.alloc(), image.as_slice()))
+}
+
+/// Lines, and their answers.
+const LINES: &[(&[u8], &[u8])] = &[
+    (COMMANDS, ANSWERS),
+    (b"", b""),
+    (b"\n", b"unknown\n"),
+    (b"quit", b""),
+    (b"quit\ngoto 1\n", b""),
+    (b"quit \nquit", b"unknown\n"),
+    (b"goto 3\ngoto 4\ngoto 0", b"at 3\npast 3\nat 0\n"),
+    (b"goto 18446744073709551615\n", b"past 3\n"),
+    (b"goto 18446744073709551616\n", b"unknown\n"),
+    (
+        b"goto 01\ngoto  1\n goto 1\ngoto\n",
+        b"unknown\nunknown\nunknown\nunknown\n",
+    ),
+    (b"regs 0\nregs 9\nregs 255\n", b"none\nnone\nnone\n"),
+    (
+        b"regs 256\nregs 01\nregs\r\n",
+        b"unknown\nunknown\nunknown\n",
+    ),
+    (
+        b"mem 7fffffff\nmem 80000003\nmem 8000FFFF\n",
+        b"outside\n28\n00\n",
+    ),
+    (b"mem 0000000\nmem 000000000\n", b"unknown\nunknown\n"),
+    (
+        b"break 80000008\nnext\nnext\nback\n",
+        b"ok\nat 2\nnone\nnone\n",
+    ),
+    (b"watch 80000000\nnext\n", b"ok\nnone\n"),
+];
+
+/// Whether commands are answered so.
+fn are_answered(alloc: Global, image: &[u8], commands: &[u8], answers: &[u8]) -> bool {
+    let mut commands = Bytewise::new(commands);
     let mut writer = Taking::new(alloc);
-    debug_failing(alloc, image.as_slice(), COMMANDS, 0, &mut writer)?;
-    assert!(rt; writer.taken.as_slice() == ANSWERS);
-    Ok(())
+    let ended = debug_by(alloc, image, &mut commands, &mut writer);
+    ended.is_ok() && writer.taken.as_slice() == answers
+}
+
+/// The first of `LINES` that are answered otherwise.
+fn first_wrong_answer(alloc: Global, image: &[u8]) -> Option<usize> {
+    for (row, (commands, answers)) in LINES.iter().enumerate() {
+        if !are_answered(alloc, image, *commands, *answers) {
+            return Some(row);
+        }
+    }
+    None
 }
 
 /// What lines answer that say something, nearly something, and nothing.
 #[test]
 fn lines_of_debug(rt: HostRuntime) -> Result<(), Fail> {
-    let alloc = rt.alloc();
-    let image = image(alloc)?;
-    for (commands, answers) in [
-        (b"".as_slice(), b"".as_slice()),
-        (b"\n", b"unknown\n"),
-        (b"quit", b""),
-        (b"quit\ngoto 1\n", b""),
-        (b"quit \nquit", b"unknown\n"),
-        (b"goto 3\ngoto 4\ngoto 0", b"at 3\npast 3\nat 0\n"),
-        (b"goto 18446744073709551615\n", b"past 3\n"),
-        (b"goto 18446744073709551616\n", b"unknown\n"),
-        (
-            b"goto 01\ngoto  1\n goto 1\ngoto\n",
-            b"unknown\nunknown\nunknown\nunknown\n",
-        ),
-        (b"regs 0\nregs 9\nregs 255\n", b"none\nnone\nnone\n"),
-        (
-            b"regs 256\nregs 01\nregs\r\n",
-            b"unknown\nunknown\nunknown\n",
-        ),
-        (
-            b"mem 7fffffff\nmem 80000003\nmem 8000FFFF\n",
-            b"outside\n28\n00\n",
-        ),
-        (b"mem 0000000\nmem 000000000\n", b"unknown\nunknown\n"),
-        (
-            b"break 80000008\nnext\nnext\nback\n",
-            b"ok\nat 2\nnone\nnone\n",
-        ),
-        (b"watch 80000000\nnext\n", b"ok\nnone\n"),
-    ] {
-        let mut writer = Taking::new(alloc);
-        debug_failing(alloc, image.as_slice(), commands, 0, &mut writer)?;
-        assert!(rt; writer.taken.as_slice() == answers);
-    }
-    Ok(())
+    let image = image(rt.alloc())?;
+    none_wrong(first_wrong_answer(rt.alloc(), image.as_slice()))
 }

@@ -83,6 +83,18 @@ impl Taking {
         }
     }
 
+    /// Whether a write failed behind so many bytes of an output, and was the last one.
+    pub fn has_failed_behind(&self, output: &[u8], count: usize) -> bool {
+        self.writes == self.fails_at
+            && self.taken.len() == count
+            && output.starts_with(self.taken.as_slice())
+    }
+
+    /// Whether an output was taken a byte a write, and flushed.
+    pub fn has_flushed(&self, output: &[u8]) -> bool {
+        self.writes == output.len().saturating_add(1) && self.taken.as_slice() == output
+    }
+
     /// One more write, or flush.
     fn count(&mut self) -> io::Result<()> {
         self.writes = self.writes.wrapping_add(1);

@@ -1,10 +1,12 @@
 //! Which files are opened, and in which order.
 
-use super::assert_fault;
-use brd_command::{CommandFault, Files, Request, asm_files, perform};
+use super::is_fault;
+use brd_command::{Files, Request, asm_files, perform};
+use std::alloc::{AllocError, Global};
 use std::cell::RefCell;
 use std::io::{self, ErrorKind, Read, Write};
 use std::test::Fail;
+use test_help::none_wrong;
 
 /// Files that note what is done with them, one thing behind the other. All that are read hold the same; of a name that
 /// begins with `no `, none can be opened or created.
@@ -84,74 +86,111 @@ impl<'a> Write for NotedOutput<'a> {
     }
 }
 
+/// Whether no file of this name can be opened, and the fault says so.
+fn cannot_be_opened(alloc: Global, name: &str, text: &str) -> bool {
+    let notes = RefCell::new(String::new(alloc));
+    let mut files = Noted {
+        notes: &notes,
+        text: b"",
+        kind: ErrorKind::NotFound,
+    };
+    let ended = asm_files(alloc, &mut files, name, "out");
+    is_fault(alloc, &ended, text, 4)
+}
+
+/// Puts a front, so many times ten digits, and an end at the end.
+fn put_digits(text: &mut String, front: &str, tens: u8, end: &str) -> Result<(), AllocError> {
+    text.push_str(front)?;
+    for _ in 0..tens {
+        text.push_str("0123456789")?;
+    }
+    text.push_str(end)
+}
+
+/// Whether a name of 303 bytes is shown by its front.
+fn is_cut_off(alloc: Global) -> bool {
+    let mut name = String::new(alloc);
+    let mut text = String::new(alloc);
+    put_digits(&mut name, "no ", 30, "").is_ok()
+        && put_digits(&mut text, "can't open no ", 25, "01: the files' own words").is_ok()
+        && cannot_be_opened(alloc, name.as_str(), text.as_str())
+}
+
 /// Whatever a file's name holds, its fault is one line.
 #[test]
-fn names_of_files(rt: HostRuntime) -> Result<(), Fail> {
-    let alloc = rt.alloc();
-    let mut long = String::from_str(alloc, "no ")?;
-    for _ in 0..30 {
-        long.push_str("0123456789")?;
+fn names_of_files(rt: HostRuntime) {
+    let name = "no \n\tname\u{1b}[31m\u{e4}\r\u{7f}~ #";
+    let text = "can't open no ? name?[31m????~ #: the files' own words";
+    assert!(rt; cannot_be_opened(rt.alloc(), name, text) && is_cut_off(rt.alloc()));
+}
+
+/// What a request does with files that hold `nop`, how much it leaves of a standard input of eight bytes, and what it
+/// writes to standard output.
+struct Done {
+    request: Request<'static>,
+    notes: &'static str,
+    left: usize,
+    written: &'static [u8],
+}
+
+const REQUESTS: &[Done] = &[
+    Done {
+        request: Request::Words { steps: 1 },
+        notes: "",
+        left: 0,
+        written: b"pc 80000004\n$8 00000005\n$29 80010000\n",
+    },
+    Done {
+        request: Request::Asm {
+            source: "a",
+            out: "b",
+        },
+        notes: "open a; create b; read; read; write; flush; ",
+        left: 8,
+        written: b"",
+    },
+];
+
+/// Whether these are the notes.
+fn are_noted(notes: &RefCell<String>, wanted: &str) -> bool {
+    match notes.try_borrow() {
+        Ok(notes) => notes.as_str() == wanted,
+        Err(_) => false,
     }
-    let mut front = String::from_str(alloc, "can't open no ")?;
-    for _ in 0..25 {
-        front.push_str("0123456789")?;
+}
+
+/// Whether a request uses standard input and output as it should, over files that make these notes.
+fn is_performed(alloc: Global, notes: &RefCell<String>, row: &Done) -> bool {
+    let mut files = Noted {
+        notes,
+        text: b"nop",
+        kind: ErrorKind::NotFound,
+    };
+    let mut input = b"24080005".as_slice();
+    let mut output = Vec::new(alloc);
+    perform(alloc, &mut files, &mut input, &mut output, row.request).is_ok()
+        && input.len() == row.left
+        && output.as_slice() == row.written
+}
+
+/// Whether a request does what it should.
+fn is_done(alloc: Global, row: &Done) -> bool {
+    let notes = RefCell::new(String::new(alloc));
+    is_performed(alloc, &notes, row) && are_noted(&notes, row.notes)
+}
+
+/// The first of `REQUESTS` that does something else.
+fn first_wrong_request(alloc: Global) -> Option<usize> {
+    for (number, row) in REQUESTS.iter().enumerate() {
+        if !is_done(alloc, row) {
+            return Some(number);
+        }
     }
-    front.push_str("01: the files' own words")?;
-    for (name, text) in [
-        (
-            "no \n\tname\u{1b}[31m\u{e4}\r\u{7f}~ #",
-            "can't open no ? name?[31m????~ #: the files' own words",
-        ),
-        (long.as_str(), front.as_str()),
-    ] {
-        let notes = RefCell::new(String::new(alloc));
-        let mut files = Noted {
-            notes: &notes,
-            text: b"",
-            kind: ErrorKind::NotFound,
-        };
-        let result = asm_files(alloc, &mut files, name, "out");
-        assert_fault(&rt, alloc, result, text, 4)?;
-    }
-    Ok(())
+    None
 }
 
 /// `words` touches no file, `asm` neither standard input nor output.
 #[test]
 fn requests(rt: HostRuntime) -> Result<(), Fail> {
-    let alloc = rt.alloc();
-    for (request, done, left, written) in [
-        (
-            Request::Words { steps: 1 },
-            "",
-            0,
-            "pc 80000004\n$8 00000005\n$29 80010000\n",
-        ),
-        (
-            Request::Asm {
-                source: "a",
-                out: "b",
-            },
-            "open a; create b; read; read; write; flush; ",
-            8,
-            "",
-        ),
-    ] {
-        let notes = RefCell::new(String::new(alloc));
-        let mut files = Noted {
-            notes: &notes,
-            text: b"nop",
-            kind: ErrorKind::NotFound,
-        };
-        let mut input = b"24080005".as_slice();
-        let mut output = Vec::new(alloc);
-        perform(alloc, &mut files, &mut input, &mut output, request)?;
-        assert!(rt; input.len() == left);
-        assert!(rt; output.as_slice() == written.as_bytes());
-        match notes.try_borrow() {
-            Ok(notes) => assert!(rt; notes.as_str() == done),
-            Err(_) => assert!(rt; false, "the notes are in use"),
-        }
-    }
-    Ok(())
+    none_wrong(first_wrong_request(rt.alloc()))
 }

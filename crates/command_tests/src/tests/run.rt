@@ -1,11 +1,12 @@
 //! The command `run` over readers and writers that fail, and the order of its faults.
 
-use super::assert_fault;
 use super::fakes::{Bytewise, Taking};
+use super::{UNWRITTEN, is_fault};
 use brd_asm::assemble;
 use brd_command::{CommandFault, run};
 use std::alloc::Global;
 use std::test::Fail;
+use test_help::none_wrong;
 
 const SOURCE: &[u8] = b"_start: addiu $v0, $0, 40\naddiu $a0, $0, 72\nsyscall\n";
 
@@ -15,9 +16,6 @@ pub const JOURNAL: &[u8] = b"board-journal 1\nS 1 3\n";
 
 const REPORT: &[u8] =
     b"events 3\ntick 0\noff 0\ncpu 1 task 1 pc 8000000c\ntask 1 ready pri 1 cpu 1\nconsole 1\nH\n";
-
-/// What the inputs are called.
-const NAMES: [&str; 3] = ["the object file", "the configuration", "the journal"];
 
 /// The object file of `SOURCE`.
 pub fn image(alloc: Global) -> Result<Vec<u8>, Fail> {
@@ -33,9 +31,10 @@ fn run_failing(
     fails_at: usize,
     writer: &mut Taking,
 ) -> Result<(), CommandFault> {
-    let mut image = Bytewise::new(inputs[0]);
-    let mut config = Bytewise::new(inputs[1]);
-    let mut journal = Bytewise::new(inputs[2]);
+    let [image, config, journal] = inputs;
+    let mut image = Bytewise::new(image);
+    let mut config = Bytewise::new(config);
+    let mut journal = Bytewise::new(journal);
     match place {
         0 => image.fails_at = fails_at,
         1 => config.fails_at = fails_at,
@@ -44,127 +43,212 @@ fn run_failing(
     run(alloc, &mut image, &mut config, &mut journal, writer)
 }
 
+/// The fault of an input that can't be read, by its place.
+const UNREAD: [&str; 3] = [
+    "can't read the object file: the reader's own words",
+    "can't read the configuration: the reader's own words",
+    "can't read the journal: the reader's own words",
+];
+
+/// Whether the read of this number of an input fails with this fault, and nothing is written.
+fn ends_by_a_read(
+    alloc: Global,
+    inputs: [&[u8]; 3],
+    place: usize,
+    number: usize,
+    text: &str,
+) -> bool {
+    let mut writer = Taking::new(alloc);
+    let ended = run_failing(alloc, inputs, place, number, &mut writer);
+    is_fault(alloc, &ended, text, 4) && writer.writes == 0
+}
+
+/// The first read of an input of so many bytes that fails in another way.
+fn first_wrong_read(
+    alloc: Global,
+    inputs: [&[u8]; 3],
+    place: usize,
+    len: usize,
+    text: &str,
+) -> Option<usize> {
+    for number in 1..=len.saturating_add(1) {
+        if !ends_by_a_read(alloc, inputs, place, number, text) {
+            return Some(number);
+        }
+    }
+    None
+}
+
+/// The first input, by its place, and read of it that fails in another way.
+fn first_wrong_input(alloc: Global, image: &[u8]) -> Option<(usize, usize)> {
+    let inputs = [image, CONFIG, JOURNAL];
+    for (place, text) in UNREAD.iter().enumerate() {
+        let len = inputs[place].len();
+        if let Some(number) = first_wrong_read(alloc, inputs, place, len, *text) {
+            return Some((place, number));
+        }
+    }
+    None
+}
+
 /// An input of n bytes takes n + 1 reads, the last of which finds the end. Where one fails, its input is named, and
 /// nothing is written.
 #[test]
 fn each_read_of_run_fails(rt: HostRuntime) -> Result<(), Fail> {
-    let alloc = rt.alloc();
-    let image = image(alloc)?;
-    let inputs = [image.as_slice(), CONFIG, JOURNAL];
-    for (place, name) in NAMES.iter().enumerate() {
-        let text = format!(in alloc; "can't read {name}: the reader's own words")?;
-        let Some(input) = inputs.get(place) else {
-            continue;
-        };
-        for fails_at in 1..=input.len().saturating_add(1) {
-            let mut writer = Taking::new(alloc);
-            let result = run_failing(alloc, inputs, place, fails_at, &mut writer);
-            assert_fault(&rt, alloc, result, text.as_str(), 4)?;
-            assert!(rt; writer.writes == 0);
+    let image = image(rt.alloc())?;
+    none_wrong(first_wrong_input(rt.alloc(), image.as_slice()))
+}
+
+/// Whether the write behind so many bytes of the report fails, and is the last one.
+fn ends_by_a_write(alloc: Global, image: &[u8], taken: usize) -> bool {
+    let mut writer = Taking::new(alloc);
+    writer.fails_at = taken.saturating_add(1);
+    let ended = run_failing(alloc, [image, CONFIG, JOURNAL], 0, 0, &mut writer);
+    is_fault(alloc, &ended, UNWRITTEN, 4) && writer.has_failed_behind(REPORT, taken)
+}
+
+/// Whether the report is written a byte a write, and flushed.
+fn writes_the_report(alloc: Global, image: &[u8]) -> bool {
+    let mut writer = Taking::new(alloc);
+    let ended = run_failing(alloc, [image, CONFIG, JOURNAL], 0, 0, &mut writer);
+    ended.is_ok() && writer.has_flushed(REPORT)
+}
+
+/// Behind how many bytes the first write fails in another way, or one more than all where too few or too many are
+/// written.
+fn first_wrong_write(alloc: Global, image: &[u8]) -> Option<usize> {
+    for taken in 0..=REPORT.len() {
+        if !ends_by_a_write(alloc, image, taken) {
+            return Some(taken);
         }
     }
-    Ok(())
+    (!writes_the_report(alloc, image)).then_some(REPORT.len().saturating_add(1))
 }
 
 /// A report of n bytes takes n writes and a flush.
 #[test]
 fn each_write_of_run_fails(rt: HostRuntime) -> Result<(), Fail> {
-    let alloc = rt.alloc();
-    let image = image(alloc)?;
-    let inputs = [image.as_slice(), CONFIG, JOURNAL];
-    for fails_at in 1..=REPORT.len().saturating_add(1) {
-        let mut writer = Taking::new(alloc);
-        writer.fails_at = fails_at;
-        let result = run_failing(alloc, inputs, 0, 0, &mut writer);
-        let text = "can't write the output: the writer's own words";
-        assert_fault(&rt, alloc, result, text, 4)?;
-        assert!(rt; REPORT.starts_with(writer.taken.as_slice()));
-        assert!(rt; writer.taken.len() == fails_at.saturating_sub(1));
-    }
+    let image = image(rt.alloc())?;
+    none_wrong(first_wrong_write(rt.alloc(), image.as_slice()))
+}
+
+/// Whether inputs have this fault, and nothing is written.
+fn are_refused(alloc: Global, inputs: [&[u8]; 3], text: &str) -> bool {
     let mut writer = Taking::new(alloc);
-    run_failing(alloc, inputs, 0, 0, &mut writer)?;
-    assert!(rt; writer.taken.as_slice() == REPORT);
-    Ok(())
+    let ended = run_failing(alloc, inputs, 0, 0, &mut writer);
+    is_fault(alloc, &ended, text, 1) && writer.writes == 0
+}
+
+const OBJECT_FILE_FAULT: &str =
+    "the object file: no ELF file: it doesn't begin with the bytes 7F 45 4C 46";
+
+/// A configuration and a journal for the object file of `SOURCE`, and the fault.
+const FAULTS: &[(&[u8], &[u8], &str)] = &[
+    (
+        b"BOARD(9, 0x10000);",
+        b"",
+        "the configuration: line 1: found a processor out of range, expected 1 to 8 of BOARD, 1 to its number of CLASS",
+    ),
+    (
+        b"BOARD(1, 0x10000); CRE_TSK(1, {0, 0, x, 1, 256, NULL});",
+        b"",
+        "the boot: the configuration names a symbol that the image doesn't have",
+    ),
+    (
+        CONFIG,
+        b"board-journal 1\nS 1 3\nS 1 03\n",
+        "the journal: line 3: expected `board-journal 1` first, then lines `S CPU COUNT`, `T COUNT` and `R LINE COUNT`",
+    ),
+];
+
+/// The first of `FAULTS` that is another one.
+fn first_wrong_fault(alloc: Global, image: &[u8]) -> Option<usize> {
+    for (row, (config, journal, text)) in FAULTS.iter().enumerate() {
+        if !are_refused(alloc, [image, *config, *journal], *text) {
+            return Some(row);
+        }
+    }
+    None
 }
 
 /// Of several faults that of the object file comes first, then those of the configuration, the boot and the journal.
 #[test]
 fn faults_of_run(rt: HostRuntime) -> Result<(), Fail> {
-    let alloc = rt.alloc();
-    let image = image(alloc)?;
-    let elsewhere = b"BOARD(1, 0x10000); CRE_TSK(1, {0, 0, x, 1, 256, NULL});".as_slice();
-    for (inputs, text) in [
-        (
-            [b"\x7fEL".as_slice(), b"".as_slice(), b"".as_slice()],
-            "the object file: no ELF file: it doesn't begin with the bytes 7F 45 4C 46",
-        ),
-        (
-            [image.as_slice(), b"BOARD(9, 0x10000);", b""],
-            "the configuration: line 1: found a processor out of range, expected 1 to 8 of BOARD, 1 to its number of CLASS",
-        ),
-        (
-            [image.as_slice(), elsewhere, b""],
-            "the boot: the configuration names a symbol that the image doesn't have",
-        ),
-        (
-            [
-                image.as_slice(),
-                CONFIG,
-                b"board-journal 1\nS 1 3\nS 1 03\n",
-            ],
-            "the journal: line 3: expected `board-journal 1` first, then lines `S CPU COUNT`, `T COUNT` and `R LINE COUNT`",
-        ),
-    ] {
-        let mut writer = Taking::new(alloc);
-        let result = run_failing(alloc, inputs, 0, 0, &mut writer);
-        assert_fault(&rt, alloc, result, text, 1)?;
-        assert!(rt; writer.writes == 0);
+    assert!(rt; are_refused(rt.alloc(), [b"\x7fEL", b"", b""], OBJECT_FILE_FAULT));
+    let image = image(rt.alloc())?;
+    none_wrong(first_wrong_fault(rt.alloc(), image.as_slice()))
+}
+
+/// A file in the place of another: the place, the file, which is the object file of `SOURCE` where it isn't said, and
+/// what the fault says of its kind.
+type Misplaced = (usize, Option<&'static [u8]>, &'static str);
+
+const MISPLACED: &[Misplaced] = &[
+    (0, Some(CONFIG), "; it looks like a configuration"),
+    (0, Some(JOURNAL), "; it looks like a journal"),
+    (
+        0,
+        Some(SOURCE),
+        "; it looks like assembler source, which \"board asm\" makes an object file of",
+    ),
+    (0, Some(b"\x7fEL"), ""),
+    (0, Some(b""), "; it is empty"),
+    (1, None, "; it looks like an object file"),
+    (1, Some(JOURNAL), "; it looks like a journal"),
+    (1, Some(SOURCE), ""),
+    (1, Some(b"BOARD"), ""),
+    (1, Some(b""), "; it is empty"),
+    (2, None, "; it looks like an object file"),
+    (2, Some(CONFIG), "; it looks like a configuration"),
+    (2, Some(SOURCE), ""),
+    (2, Some(b"board-journal"), ""),
+    (2, Some(b""), "; it is empty"),
+];
+
+/// The fault of a file in this place that hasn't its form.
+fn fault_in(place: usize) -> &'static str {
+    match place {
+        0 => OBJECT_FILE_FAULT,
+        1 => {
+            "the configuration: line 1: found what no statement has here, expected one in the form of its kind"
+        }
+        _ => {
+            "the journal: line 1: expected `board-journal 1` first, then lines `S CPU COUNT`, `T COUNT` and `R LINE COUNT`"
+        }
     }
-    Ok(())
+}
+
+/// Whether a file in this place has its fault, with this behind it.
+fn is_misplaced<'a>(
+    alloc: Global,
+    image: &'a [u8],
+    place: usize,
+    file: &'a [u8],
+    hint: &str,
+) -> bool {
+    let image = if place == 0 { file } else { image };
+    let config = if place == 1 { file } else { CONFIG };
+    let journal = if place == 2 { file } else { JOURNAL };
+    match format!(in alloc; "{}{hint}", fault_in(place)) {
+        Ok(text) => are_refused(alloc, [image, config, journal], text.as_str()),
+        Err(_) => false,
+    }
+}
+
+/// The first of `MISPLACED` that has another fault.
+fn first_wrong_place(alloc: Global, image: &[u8]) -> Option<usize> {
+    for (row, (place, file, hint)) in MISPLACED.iter().enumerate() {
+        if !is_misplaced(alloc, image, *place, file.unwrap_or(image), *hint) {
+            return Some(row);
+        }
+    }
+    None
 }
 
 /// A file in the place of another: its fault says of which kind it looks, where that is another than it should be of,
 /// or that it is empty.
 #[test]
 fn files_in_each_others_places(rt: HostRuntime) -> Result<(), Fail> {
-    let alloc = rt.alloc();
-    let image = image(alloc)?;
-    let elf = "the object file: no ELF file: it doesn't begin with the bytes 7F 45 4C 46";
-    let config =
-        "the configuration: line 1: found what no statement has here, expected one in the form of its kind";
-    let journal =
-        "the journal: line 1: expected `board-journal 1` first, then lines `S CPU COUNT`, `T COUNT` and `R LINE COUNT`";
-    for (place, file, looks_like) in [
-        (0, CONFIG, "; it looks like a configuration"),
-        (0, JOURNAL, "; it looks like a journal"),
-        (
-            0,
-            SOURCE,
-            "; it looks like assembler source, which \"board asm\" makes an object file of",
-        ),
-        (0, b"\x7fEL", ""),
-        (0, b"", "; it is empty"),
-        (1, image.as_slice(), "; it looks like an object file"),
-        (1, JOURNAL, "; it looks like a journal"),
-        (1, SOURCE, ""),
-        (1, b"BOARD", ""),
-        (1, b"", "; it is empty"),
-        (2, image.as_slice(), "; it looks like an object file"),
-        (2, CONFIG, "; it looks like a configuration"),
-        (2, SOURCE, ""),
-        (2, b"board-journal", ""),
-        (2, b"", "; it is empty"),
-    ] {
-        let (inputs, fault) = match place {
-            0 => ([file, CONFIG, JOURNAL], elf),
-            1 => ([image.as_slice(), file, JOURNAL], config),
-            _ => ([image.as_slice(), CONFIG, file], journal),
-        };
-        let mut writer = Taking::new(alloc);
-        let result = run_failing(alloc, inputs, 0, 0, &mut writer);
-        let text = format!(in alloc; "{fault}{looks_like}")?;
-        assert_fault(&rt, alloc, result, text.as_str(), 1)?;
-        assert!(rt; writer.writes == 0);
-    }
-    Ok(())
+    let image = image(rt.alloc())?;
+    none_wrong(first_wrong_place(rt.alloc(), image.as_slice()))
 }

@@ -1,9 +1,10 @@
 //! Sources.
 
-use super::none_wrong;
 use super::shown::{is_called, shows};
 use brd_asm::assemble;
 use std::alloc::{AllocError, Global};
+use std::test::Fail;
+use test_help::none_wrong;
 
 mod changed;
 mod every;
@@ -38,8 +39,8 @@ const HIGH_AND_LOW: &[Row] = &[(
 )];
 
 #[test]
-fn high_and_low(rt: HostRuntime) {
-    none_wrong(&rt, first_wrong(rt.alloc(), HIGH_AND_LOW));
+fn high_and_low(rt: HostRuntime) -> Result<(), Fail> {
+    none_wrong(first_wrong(rt.alloc(), HIGH_AND_LOW))
 }
 
 /// The farthest targets of branches, and those past them.
@@ -62,8 +63,8 @@ const BRANCHES: &[Row] = &[
 ];
 
 #[test]
-fn branches(rt: HostRuntime) {
-    none_wrong(&rt, first_wrong(rt.alloc(), BRANCHES));
+fn branches(rt: HostRuntime) -> Result<(), Fail> {
+    none_wrong(first_wrong(rt.alloc(), BRANCHES))
 }
 
 /// Puts each word at the end, as eight digits.

@@ -1,10 +1,10 @@
 //! Texts that are cut off, and texts with a byte changed.
 
-use super::put_byte;
 use brd_asm::{AsmFault, assemble};
 use brd_config::{ConfigFault, parse};
 use brd_mem::is_plain;
 use std::alloc::Global;
+use test_help::{has_line, put_byte};
 
 /// What a text is read as.
 #[derive(Clone, Copy)]
@@ -24,52 +24,26 @@ pub enum Answer {
     Wrong,
 }
 
-/// The line of a fault of a source. Want of memory has none, which is 0.
-fn source_line(fault: AsmFault) -> usize {
-    match fault {
-        AsmFault::NoMemory => 0,
-        AsmFault::Syntax { line }
-        | AsmFault::UnknownName { line }
-        | AsmFault::Twice { line }
-        | AsmFault::Range { line }
-        | AsmFault::Misaligned { line }
-        | AsmFault::Overlap { line } => line,
-    }
-}
-
-/// The same of a fault of a configuration.
-fn configuration_line(fault: ConfigFault) -> usize {
-    match fault {
-        ConfigFault::NoMemory => 0,
-        ConfigFault::Syntax { line }
-        | ConfigFault::Duplicate { line }
-        | ConfigFault::BadId { line }
-        | ConfigFault::BadAttribute { line }
-        | ConfigFault::BadPriority { line }
-        | ConfigFault::BadCount { line }
-        | ConfigFault::BadProcessor { line } => line,
-    }
-}
-
-/// Whether a text has a line of this number.
-fn has_line(text: &[u8], line: usize) -> bool {
-    let mut lines = 1usize;
-    for byte in text {
-        if *byte == b'\n' {
-            lines = lines.saturating_add(1);
-        }
-    }
-    1 <= line && line <= lines
-}
-
-/// How a fault on this line answers a text, which may be one that leaves a text fine.
-fn of_fault(text: &[u8], line: usize, is_fine: bool) -> Answer {
-    if !has_line(text, line) {
-        Answer::Wrong
-    } else if is_fine {
-        Answer::Fine
+/// This answer where the text has a line of this number.
+fn on_line(text: &[u8], line: usize, answer: Answer) -> Answer {
+    if has_line(text, line) {
+        answer
     } else {
-        Answer::Faulty
+        Answer::Wrong
+    }
+}
+
+/// How a fault answers a source. Only `Syntax` says that a line has none of the forms.
+fn of_source_fault(text: &[u8], fault: AsmFault) -> Answer {
+    match fault {
+        AsmFault::NoMemory => Answer::Wrong,
+        AsmFault::Syntax { line } => on_line(text, line, Answer::Faulty),
+        AsmFault::Twice { line } | AsmFault::UnknownName { line } => {
+            on_line(text, line, Answer::Fine)
+        }
+        AsmFault::Range { line } | AsmFault::Misaligned { line } | AsmFault::Overlap { line } => {
+            on_line(text, line, Answer::Fine)
+        }
     }
 }
 
@@ -83,10 +57,21 @@ fn of_source(alloc: Global, text: &[u8]) -> Answer {
                 Answer::Wrong
             }
         }
-        Err(fault) => {
-            let is_fine = !matches!(fault, AsmFault::Syntax { .. });
-            of_fault(text, source_line(fault), is_fine)
-        }
+        Err(fault) => of_source_fault(text, fault),
+    }
+}
+
+/// How a fault answers a configuration.
+fn of_configuration_fault(text: &[u8], fault: ConfigFault) -> Answer {
+    match fault {
+        ConfigFault::NoMemory => Answer::Wrong,
+        ConfigFault::Syntax { line }
+        | ConfigFault::Duplicate { line }
+        | ConfigFault::BadId { line }
+        | ConfigFault::BadAttribute { line }
+        | ConfigFault::BadPriority { line }
+        | ConfigFault::BadCount { line }
+        | ConfigFault::BadProcessor { line } => on_line(text, line, Answer::Faulty),
     }
 }
 
@@ -94,7 +79,7 @@ fn of_source(alloc: Global, text: &[u8]) -> Answer {
 fn of_configuration(alloc: Global, text: &[u8]) -> Answer {
     match parse(alloc, text) {
         Ok(_) => Answer::Fine,
-        Err(fault) => of_fault(text, configuration_line(fault), false),
+        Err(fault) => of_configuration_fault(text, fault),
     }
 }
 

@@ -1,10 +1,11 @@
 //! Object files.
 
 use super::shown::{is_called, shows};
-use super::{none_wrong, put_byte};
 use brd_elf::read;
 use brd_mem::{Bytes, Segment, Segments};
 use std::alloc::Global;
+use std::test::Fail;
+use test_help::{none_wrong, put_byte};
 
 mod accepted;
 mod changed;
@@ -129,6 +130,6 @@ fn first_wrong_file(alloc: Global) -> Option<usize> {
 }
 
 #[test]
-fn whole_files(rt: HostRuntime) {
-    none_wrong(&rt, first_wrong_file(rt.alloc()));
+fn whole_files(rt: HostRuntime) -> Result<(), Fail> {
+    none_wrong(first_wrong_file(rt.alloc()))
 }

@@ -1,8 +1,8 @@
-//! What an image holds, as a line of text, and how faults read.
+//! What an image holds, as a line of text, and what faults are called.
 
 use brd_mem::{Image, Segment, Symbol};
 use std::alloc::{AllocError, Global};
-use std::fmt::{Debug, Display};
+use std::fmt::Debug;
 
 /// Puts each byte at the end, as two digits.
 fn put_bytes(text: &mut String, bytes: &[u8]) -> Result<(), AllocError> {
@@ -62,22 +62,4 @@ pub fn is_called<F: Debug>(alloc: Global, fault: &F, wanted: &str) -> bool {
         Ok(text) => text.as_str() == wanted,
         Err(_) => false,
     }
-}
-
-/// Whether a fault reads so.
-fn reads<F: Display>(alloc: Global, fault: &F, wanted: &str) -> bool {
-    match format!(in alloc; "{fault}") {
-        Ok(text) => text.as_str() == wanted,
-        Err(_) => false,
-    }
-}
-
-/// The first of these faults that reads otherwise.
-pub fn first_wrong_text<F: Display>(alloc: Global, rows: &[(F, &str)]) -> Option<usize> {
-    for (row, (fault, text)) in rows.iter().enumerate() {
-        if !reads(alloc, fault, *text) {
-            return Some(row);
-        }
-    }
-    None
 }

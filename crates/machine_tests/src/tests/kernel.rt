@@ -1,26 +1,12 @@
-use bitflags::Flags as Bits;
+use super::configs::{START, flag, queue, semaphore, setup};
 use brd_base::NoMemory;
-use brd_config::{
-    FlagAttributes, FlagConfig, QueueAttributes, QueueConfig, SemaphoreAttributes, SemaphoreConfig,
-};
+use brd_config::{FlagConfig, QueueConfig, SemaphoreConfig};
 use brd_exec::Outcome;
-use brd_kernel::{Call, Handler, Kernel, LineSetup, Reply, Standing, TaskSetup, TaskState};
+use brd_kernel::{Call, Handler, Kernel, LineSetup, Reply, Standing, TaskState};
 use brd_link::Links;
 use brd_mem::Ram;
 use brd_tasks::are_setups;
 use std::alloc::Global;
-
-/// A task of this number, processor and priority.
-fn setup(id: u16, cpu: u8, priority: u8) -> TaskSetup {
-    TaskSetup {
-        id,
-        cpu,
-        priority,
-        exinf: 0,
-        address: 0x8000_0000,
-        sp: 0,
-    }
-}
 
 /// A kernel of two processors with these objects, of which these tasks have been started. Tasks 1 and 2 are of
 /// processor 1 and of priorities 2 and 3, tasks 3 and 4 of processor 2 and of priorities 5 and 9.
@@ -54,36 +40,11 @@ fn two(alloc: Global) -> Result<Kernel, NoMemory> {
     of_four(alloc, &[], &[], &[], &[2, 1, 3])
 }
 
-fn semaphore(id: u16, attributes: u32, initial: u16) -> SemaphoreConfig {
-    SemaphoreConfig {
-        id,
-        attributes: SemaphoreAttributes::from_bits_retain(attributes),
-        initial,
-        maximum: 1,
-    }
-}
-
-fn flag(id: u16, attributes: u32, pattern: u32) -> FlagConfig {
-    FlagConfig {
-        id,
-        attributes: FlagAttributes::from_bits_retain(attributes),
-        pattern,
-    }
-}
-
-fn queue(id: u16, attributes: u32, capacity: u16) -> QueueConfig {
-    QueueConfig {
-        id,
-        attributes: QueueAttributes::from_bits_retain(attributes),
-        capacity,
-    }
-}
-
 /// A kernel of four ready tasks, of which 1 and 3 run. Semaphore 1 is full, semaphore 2 (TA_TPRI) is empty, flag 1 has
 /// bit 0 and lets one task wait, flag 2 (TA_WMUL, TA_CLR) has no bits, queue 1 stores nothing, and queue 2 (TA_TPRI) is
 /// empty.
 fn with_objects(alloc: Global) -> Result<Kernel, NoMemory> {
-    let semaphores = [semaphore(1, 0, 1), semaphore(2, 1, 0)];
+    let semaphores = [semaphore(1, 0, 1, 1), semaphore(2, 1, 0, 1)];
     let flags = [flag(1, 0, 1), flag(2, 6, 0)];
     let queues = [queue(1, 0, 0), queue(2, 1, 2)];
     of_four(alloc, &semaphores, &flags, &queues, &[1, 2, 3, 4])
@@ -590,20 +551,20 @@ fn lines(rt: HostRuntime) {
     assert!(rt; goes_well(rt.alloc(), Scene::NoLines));
 }
 
-/// Whether a processor does an instruction at RAM's first address.
+/// Whether a processor does an instruction where its task begins.
 fn runs_the_first(kernel: &mut Kernel, cpu: u8, ram: &mut Ram) -> bool {
     let mut links = Links::new();
     match kernel.run(cpu, ram, &mut links) {
-        Some(ended) => ended.address == 0x8000_0000 && ended.outcome == Outcome::Done,
+        Some(ended) => ended.address == START && ended.outcome == Outcome::Done,
         None => false,
     }
 }
 
-/// Whether processor 1 and task 1 go on at the second word.
+/// Whether processor 1 and task 1 go on behind the first instruction.
 fn goes_on(kernel: &Kernel) -> bool {
     match (kernel.context(1), kernel.task(1)) {
         (Some(context), Some(task)) => {
-            context.pc() == 0x8000_0004 && task.context.pc() == 0x8000_0004
+            context.pc() == START + 4 && task.context.pc() == START + 4
         }
         _ => false,
     }

@@ -1,8 +1,5 @@
-use bitflags::Flags as Bits;
+use super::configs::{flag, queue, semaphore};
 use brd_base::NoMemory;
-use brd_config::{
-    FlagAttributes, FlagConfig, QueueAttributes, QueueConfig, SemaphoreAttributes, SemaphoreConfig,
-};
 use brd_objects::*;
 use std::alloc::Global;
 
@@ -14,46 +11,21 @@ fn semaphores(
     maximum: u16,
 ) -> Result<Semaphores, NoMemory> {
     let configs = [
-        SemaphoreConfig {
-            id: 1,
-            attributes: SemaphoreAttributes::from_bits_retain(attributes),
-            initial,
-            maximum,
-        },
-        SemaphoreConfig {
-            id: 3,
-            attributes: SemaphoreAttributes::from_bits_retain(0),
-            initial: 0,
-            maximum: 1,
-        },
-        SemaphoreConfig {
-            id: 1,
-            attributes: SemaphoreAttributes::from_bits_retain(0),
-            initial: 9,
-            maximum: 9,
-        },
+        semaphore(1, attributes, initial, maximum),
+        semaphore(3, 0, 0, 1),
+        semaphore(1, 0, 9, 9),
     ];
     Semaphores::new(alloc, &configs)
 }
 
 /// Flag 1 with these attributes and pattern 0.
 fn flags(alloc: Global, attributes: u32) -> Result<Flags, NoMemory> {
-    let configs = [FlagConfig {
-        id: 1,
-        attributes: FlagAttributes::from_bits_retain(attributes),
-        pattern: 0,
-    }];
-    Flags::new(alloc, &configs)
+    Flags::new(alloc, &[flag(1, attributes, 0)])
 }
 
 /// Queue 1 with these attributes and this capacity.
 fn queues(alloc: Global, attributes: u32, capacity: u16) -> Result<Queues, NoMemory> {
-    let configs = [QueueConfig {
-        id: 1,
-        attributes: QueueAttributes::from_bits_retain(attributes),
-        capacity,
-    }];
-    Queues::new(alloc, &configs)
+    Queues::new(alloc, &[queue(1, attributes, capacity)])
 }
 
 fn want(bits: u32, mode: Mode) -> Want {

@@ -43,137 +43,162 @@ const WAITS: Places = (true, false, false, false);
 
 const HANDLERS: Places = (false, false, false, true);
 
-/// Each number, and from where its call may come.
-const NUMBERS: &[(u32, Places)] = &[
-    (1, TASKS),
-    (2, TASKS),
-    (3, ALSO_LOCKED),
-    (4, TASKS),
-    (5, TASKS),
-    (6, TASKS),
-    (7, TASKS),
-    (8, TASKS),
-    (9, TASKS),
-    (10, TASKS),
-    (11, TASKS),
-    (12, TASKS),
-    (13, TASKS),
-    (14, ALSO_LOCKED),
-    (15, ALSO_LOCKED),
-    (16, WAITS),
-    (17, WAITS),
-    (18, TASKS),
-    (19, TASKS),
-    (20, TASKS),
-    (21, TASKS),
-    (22, TASKS),
-    (23, WAITS),
-    (24, TASKS),
-    (25, WAITS),
-    (26, TASKS),
-    (27, WAITS),
-    (28, TASKS),
-    (29, TASKS),
-    (30, WAITS),
-    (31, TASKS),
-    (32, WAITS),
-    (33, WAITS),
-    (34, TASKS),
-    (35, WAITS),
-    (36, TASKS),
-    (37, WAITS),
-    (38, TASKS),
-    (39, WAITS),
-    (40, TASKS),
-    (41, ALSO_LOCKED),
-    (48, HANDLERS),
-    (49, HANDLERS),
-    (50, HANDLERS),
-    (51, HANDLERS),
-    (52, HANDLERS),
-    (53, HANDLERS),
-    (54, HANDLERS),
-    (55, HANDLERS),
-    (56, HANDLERS),
-    (57, HANDLERS),
-    (58, HANDLERS),
+/// A call by its name and its arguments, with zeros behind them.
+type Named = (&'static str, [u32; 4]);
+
+/// What an argument is that stands for no end.
+const FOREVER: u32 = 0xffff_ffff;
+
+/// Each number, from where its call may come, and which that is by the arguments 11, 22, 33, 44.
+const NUMBERS: &[(u32, Places, Named)] = &[
+    (1, TASKS, ("act_tsk", [11, 0, 0, 0])),
+    (2, TASKS, ("can_act", [11, 0, 0, 0])),
+    (3, ALSO_LOCKED, ("ext_tsk", [0, 0, 0, 0])),
+    (4, TASKS, ("ter_tsk", [11, 0, 0, 0])),
+    (5, TASKS, ("chg_pri", [11, 22, 0, 0])),
+    (6, TASKS, ("get_pri", [11, 0, 0, 0])),
+    (7, TASKS, ("mact_tsk", [11, 22, 0, 0])),
+    (8, TASKS, ("mig_tsk", [11, 22, 0, 0])),
+    (9, TASKS, ("get_pid", [0, 0, 0, 0])),
+    (10, TASKS, ("rot_rdq", [11, 0, 0, 0])),
+    (11, TASKS, ("get_tid", [0, 0, 0, 0])),
+    (12, TASKS, ("dis_dsp", [0, 0, 0, 0])),
+    (13, TASKS, ("ena_dsp", [0, 0, 0, 0])),
+    (14, ALSO_LOCKED, ("loc_cpu", [0, 0, 0, 0])),
+    (15, ALSO_LOCKED, ("unl_cpu", [0, 0, 0, 0])),
+    (16, WAITS, ("tslp_tsk", [FOREVER, 0, 0, 0])),
+    (17, WAITS, ("tslp_tsk", [11, 0, 0, 0])),
+    (18, TASKS, ("wup_tsk", [11, 0, 0, 0])),
+    (19, TASKS, ("can_wup", [11, 0, 0, 0])),
+    (20, TASKS, ("rel_wai", [11, 0, 0, 0])),
+    (21, TASKS, ("sus_tsk", [11, 0, 0, 0])),
+    (22, TASKS, ("rsm_tsk", [11, 0, 0, 0])),
+    (23, WAITS, ("dly_tsk", [11, 0, 0, 0])),
+    (24, TASKS, ("sig_sem", [11, 0, 0, 0])),
+    (25, WAITS, ("twai_sem", [11, FOREVER, 0, 0])),
+    (26, TASKS, ("twai_sem", [11, 0, 0, 0])),
+    (27, WAITS, ("twai_sem", [11, 22, 0, 0])),
+    (28, TASKS, ("set_flg", [11, 22, 0, 0])),
+    (29, TASKS, ("clr_flg", [11, 22, 0, 0])),
+    (30, WAITS, ("twai_flg", [11, 22, 33, FOREVER])),
+    (31, TASKS, ("twai_flg", [11, 22, 33, 0])),
+    (32, WAITS, ("twai_flg", [11, 22, 33, 44])),
+    (33, WAITS, ("tsnd_dtq", [11, 22, FOREVER, 0])),
+    (34, TASKS, ("tsnd_dtq", [11, 22, 0, 0])),
+    (35, WAITS, ("tsnd_dtq", [11, 22, 33, 0])),
+    (36, TASKS, ("fsnd_dtq", [11, 22, 0, 0])),
+    (37, WAITS, ("trcv_dtq", [11, FOREVER, 0, 0])),
+    (38, TASKS, ("trcv_dtq", [11, 0, 0, 0])),
+    (39, WAITS, ("trcv_dtq", [11, 22, 0, 0])),
+    (40, TASKS, ("put_chr", [11, 0, 0, 0])),
+    (41, ALSO_LOCKED, ("ext_ker", [0, 0, 0, 0])),
+    (48, HANDLERS, ("iact_tsk", [11, 0, 0, 0])),
+    (49, HANDLERS, ("iwup_tsk", [11, 0, 0, 0])),
+    (50, HANDLERS, ("rel_wai", [11, 0, 0, 0])),
+    (51, HANDLERS, ("sig_sem", [11, 0, 0, 0])),
+    (52, HANDLERS, ("set_flg", [11, 22, 0, 0])),
+    (53, HANDLERS, ("tsnd_dtq", [11, 22, 0, 0])),
+    (54, HANDLERS, ("fsnd_dtq", [11, 22, 0, 0])),
+    (55, HANDLERS, ("irot_rdq", [11, 0, 0, 0])),
+    (56, HANDLERS, ("get_tid", [0, 0, 0, 0])),
+    (57, HANDLERS, ("imact_tsk", [11, 22, 0, 0])),
+    (58, HANDLERS, ("ret_int", [0, 0, 0, 0])),
 ];
 
-/// Whether a number's call by the arguments 11, 22, 33, 44 is this one.
-fn is_the_call(number: u32, call: Call) -> bool {
-    match (number, call) {
-        (1, Call::ActTsk(11))
-        | (2, Call::CanAct(11))
-        | (3, Call::ExtTsk)
-        | (4, Call::TerTsk(11))
-        | (5, Call::ChgPri(11, 22))
-        | (6, Call::GetPri(11))
-        | (7, Call::MactTsk(11, 22))
-        | (8, Call::MigTsk(11, 22))
-        | (9, Call::GetPid)
-        | (10, Call::RotRdq(11))
-        | (11, Call::GetTid)
-        | (12, Call::DisDsp)
-        | (13, Call::EnaDsp)
-        | (14, Call::LocCpu)
-        | (15, Call::UnlCpu)
-        | (16, Call::TslpTsk(0xffff_ffff))
-        | (17, Call::TslpTsk(11))
-        | (18, Call::WupTsk(11))
-        | (19, Call::CanWup(11))
-        | (20, Call::RelWai(11))
-        | (21, Call::SusTsk(11))
-        | (22, Call::RsmTsk(11))
-        | (23, Call::DlyTsk(11))
-        | (24, Call::SigSem(11))
-        | (25, Call::TwaiSem(11, 0xffff_ffff))
-        | (26, Call::TwaiSem(11, 0))
-        | (27, Call::TwaiSem(11, 22))
-        | (28, Call::SetFlg(11, 22))
-        | (29, Call::ClrFlg(11, 22))
-        | (30, Call::TwaiFlg(11, 22, 33, 0xffff_ffff))
-        | (31, Call::TwaiFlg(11, 22, 33, 0))
-        | (32, Call::TwaiFlg(11, 22, 33, 44))
-        | (33, Call::TsndDtq(11, 22, 0xffff_ffff))
-        | (34, Call::TsndDtq(11, 22, 0))
-        | (35, Call::TsndDtq(11, 22, 33))
-        | (36, Call::FsndDtq(11, 22))
-        | (37, Call::TrcvDtq(11, 0xffff_ffff))
-        | (38, Call::TrcvDtq(11, 0))
-        | (39, Call::TrcvDtq(11, 22))
-        | (40, Call::PutChr(11))
-        | (41, Call::ExtKer)
-        | (48, Call::IactTsk(11))
-        | (49, Call::IwupTsk(11))
-        | (50, Call::RelWai(11))
-        | (51, Call::SigSem(11))
-        | (52, Call::SetFlg(11, 22))
-        | (53, Call::TsndDtq(11, 22, 0))
-        | (54, Call::FsndDtq(11, 22))
-        | (55, Call::IrotRdq(11))
-        | (56, Call::GetTid)
-        | (57, Call::ImactTsk(11, 22))
-        | (58, Call::RetInt) => true,
-        _ => false,
+/// The name of a call.
+fn name_of(call: Call) -> &'static str {
+    match call {
+        Call::ActTsk(_) => "act_tsk",
+        Call::IactTsk(_) => "iact_tsk",
+        Call::CanAct(_) => "can_act",
+        Call::ExtTsk => "ext_tsk",
+        Call::TerTsk(_) => "ter_tsk",
+        Call::ChgPri(_, _) => "chg_pri",
+        Call::GetPri(_) => "get_pri",
+        Call::MactTsk(_, _) => "mact_tsk",
+        Call::ImactTsk(_, _) => "imact_tsk",
+        Call::MigTsk(_, _) => "mig_tsk",
+        Call::GetPid => "get_pid",
+        Call::RotRdq(_) => "rot_rdq",
+        Call::IrotRdq(_) => "irot_rdq",
+        Call::GetTid => "get_tid",
+        Call::DisDsp => "dis_dsp",
+        Call::EnaDsp => "ena_dsp",
+        Call::LocCpu => "loc_cpu",
+        Call::UnlCpu => "unl_cpu",
+        Call::TslpTsk(_) => "tslp_tsk",
+        Call::WupTsk(_) => "wup_tsk",
+        Call::IwupTsk(_) => "iwup_tsk",
+        Call::CanWup(_) => "can_wup",
+        Call::RelWai(_) => "rel_wai",
+        Call::SusTsk(_) => "sus_tsk",
+        Call::RsmTsk(_) => "rsm_tsk",
+        Call::DlyTsk(_) => "dly_tsk",
+        Call::SigSem(_) => "sig_sem",
+        Call::TwaiSem(_, _) => "twai_sem",
+        Call::SetFlg(_, _) => "set_flg",
+        Call::ClrFlg(_, _) => "clr_flg",
+        Call::TwaiFlg(_, _, _, _) => "twai_flg",
+        Call::TsndDtq(_, _, _) => "tsnd_dtq",
+        Call::FsndDtq(_, _) => "fsnd_dtq",
+        Call::TrcvDtq(_, _) => "trcv_dtq",
+        Call::PutChr(_) => "put_chr",
+        Call::ExtKer => "ext_ker",
+        Call::RetInt => "ret_int",
     }
 }
 
-/// Whether a number is read from a caller as its call, where it may come from there, and else as E_CTX.
-fn is_read(number: u32, caller: Caller, may: bool) -> bool {
+/// The arguments of a call, with zeros behind them.
+fn arguments_of(call: Call) -> [u32; 4] {
+    match call {
+        Call::ActTsk(first)
+        | Call::IactTsk(first)
+        | Call::CanAct(first)
+        | Call::TerTsk(first)
+        | Call::GetPri(first)
+        | Call::RotRdq(first)
+        | Call::IrotRdq(first)
+        | Call::TslpTsk(first)
+        | Call::WupTsk(first)
+        | Call::IwupTsk(first)
+        | Call::CanWup(first)
+        | Call::RelWai(first)
+        | Call::SusTsk(first)
+        | Call::RsmTsk(first)
+        | Call::DlyTsk(first)
+        | Call::SigSem(first)
+        | Call::PutChr(first) => [first, 0, 0, 0],
+        Call::ChgPri(first, second)
+        | Call::MactTsk(first, second)
+        | Call::ImactTsk(first, second)
+        | Call::MigTsk(first, second)
+        | Call::TwaiSem(first, second)
+        | Call::SetFlg(first, second)
+        | Call::ClrFlg(first, second)
+        | Call::FsndDtq(first, second)
+        | Call::TrcvDtq(first, second) => [first, second, 0, 0],
+        Call::TsndDtq(first, second, third) => [first, second, third, 0],
+        Call::TwaiFlg(first, second, third, fourth) => [first, second, third, fourth],
+        _ => [0; 4],
+    }
+}
+
+/// Whether a number is read from a caller as this call, where it may come from there, and else as E_CTX.
+fn is_read(number: u32, caller: Caller, may: bool, wanted: Named) -> bool {
     match read(&asks(number, 11, 22), caller) {
-        Ok(call) => may && is_the_call(number, call),
+        Ok(call) => may && (name_of(call), arguments_of(call)) == wanted,
         Err(fault) => !may && fault == Ercd::Ctx,
     }
 }
 
 /// The first number that isn't read as it should be from somewhere.
 fn first_wrong() -> Option<u32> {
-    for (number, (task, locked, disabled, handler)) in NUMBERS {
+    for (number, (task, locked, disabled, handler), call) in NUMBERS {
         let number = *number;
-        if !is_read(number, TASK, *task)
-            || !is_read(number, LOCKED, *locked)
-            || !is_read(number, DISABLED, *disabled)
-            || !is_read(number, Caller::Handler, *handler)
+        if !is_read(number, TASK, *task, *call)
+            || !is_read(number, LOCKED, *locked, *call)
+            || !is_read(number, DISABLED, *disabled, *call)
+            || !is_read(number, Caller::Handler, *handler, *call)
         {
             return Some(number);
         }

@@ -1,21 +1,10 @@
+use super::configs::{START, setup};
 use brd_base::NoMemory;
 use brd_exec::Context;
 use brd_isa::Register;
 use brd_tasks::*;
 use std::alloc::{AllocError, Global};
 use std::test::Fail;
-
-/// A task of this number, processor and priority. Its argument is its number.
-fn setup(id: u16, cpu: u8, priority: u8) -> TaskSetup {
-    TaskSetup {
-        id,
-        cpu,
-        priority,
-        exinf: id as u32,
-        address: 0x8000_1000,
-        sp: 0x8000_8000,
-    }
-}
 
 /// The tasks of these setups.
 fn tasks_of(alloc: Global, setups: &[TaskSetup]) -> Result<Tasks, NoMemory> {
@@ -54,14 +43,14 @@ fn is_so(tasks: &Tasks, id: u16, state: TaskState, numbers: (u8, u8, u8, u8)) ->
     }
 }
 
-/// Whether these words are in $v0, $v1 and $a0 of a task, and it goes on at 0x80001000.
+/// Whether these words are in $v0, $v1 and $a0 of a task, and it is about to begin.
 fn has_words(tasks: &Tasks, id: u16, v0: u32, v1: u32, a0: u32) -> bool {
     match tasks.view(id) {
         Some(view) => {
             view.context.read(Register::low(2)) == v0
                 && view.context.read(Register::low(3)) == v1
                 && view.context.read(Register::low(4)) == a0
-                && view.context.pc() == 0x8000_1000
+                && view.context.pc() == START
         }
         None => false,
     }

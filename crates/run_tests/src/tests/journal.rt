@@ -3,8 +3,9 @@ mod large;
 
 use brd_board::Event;
 use brd_journal::{Journal, JournalFault, Run};
-use std::alloc::{AllocError, Global};
+use std::alloc::Global;
 use std::test::Fail;
+use test_help::{first_wrong_text, none_wrong};
 
 /// The greatest count of a run.
 const MOST: u32 = 4_294_967_295;
@@ -51,7 +52,7 @@ fn is_written(alloc: Global, journal: &Journal, text: &[u8]) -> bool {
 }
 
 #[test]
-fn appended(rt: HostRuntime) -> Result<(), Fail> {
+fn appended(rt: HostRuntime) {
     let mut journal = Journal::new(rt.alloc(), 4);
     let text = b"board-journal 1\nS 1 3\nT 1\nS 2 1\nR 4 1\n";
     assert!(rt;
@@ -60,7 +61,6 @@ fn appended(rt: HostRuntime) -> Result<(), Fail> {
             && has_events(&journal, EVENTS)
             && is_written(rt.alloc(), &journal, text)
     );
-    Ok(())
 }
 
 /// Whether an answer is that there is no room, or else that there was.
@@ -84,14 +84,13 @@ const FOUR: &[Run] = &[
 ];
 
 #[test]
-fn appended_up_to_the_limit(rt: HostRuntime) -> Result<(), Fail> {
+fn appended_up_to_the_limit(rt: HostRuntime) {
     let mut journal = Journal::new(rt.alloc(), 2);
     assert!(rt;
         push_all(&mut journal, EVENTS) == 4
             && is_answer(journal.push(Event::Raise(4)), true)
             && has_runs(&journal, FOUR)
     );
-    Ok(())
 }
 
 /// Whether a journal has these runs.
@@ -148,12 +147,11 @@ fn ends_with_a_tick(journal: &Journal, len: u64) -> bool {
 
 /// A run that has no room left, and what goes behind it.
 #[test]
-fn full_runs(rt: HostRuntime) -> Result<(), Fail> {
+fn full_runs(rt: HostRuntime) {
     let mut journal = Journal::new(rt.alloc(), 2);
     assert!(rt;
         first_other(&mut journal, FULL_RUNS).is_none() && ends_with_a_tick(&journal, 8_589_934_589)
     );
-    Ok(())
 }
 
 const MOST_RAISES: Run = Run {
@@ -186,21 +184,19 @@ const RUNS_ACROSS: &[Appended] = &[
 #[test]
 fn runs_across(rt: HostRuntime) -> Result<(), Fail> {
     let mut journal = Journal::new(rt.alloc(), 3);
-    assert!(rt; first_other(&mut journal, RUNS_ACROSS).is_none());
-    Ok(())
+    none_wrong(first_other(&mut journal, RUNS_ACROSS))
 }
 
 const NO_RUNS: &[Appended] = &[(Event::Tick, 1, true, &[]), (Event::Tick, 0, false, &[])];
 
 /// A journal that takes nothing.
 #[test]
-fn no_runs(rt: HostRuntime) -> Result<(), Fail> {
+fn no_runs(rt: HostRuntime) {
     let mut journal = Journal::new(rt.alloc(), 0);
     assert!(rt;
         first_other(&mut journal, NO_RUNS).is_none()
             && is_written(rt.alloc(), &journal, b"board-journal 1\n")
     );
-    Ok(())
 }
 
 /// Each fault, as it reads.
@@ -216,15 +212,7 @@ const TEXTS: &[(JournalFault, &str)] = &[
     ),
 ];
 
-fn reads(alloc: Global, fault: JournalFault, wanted: &str) -> Result<bool, AllocError> {
-    let text = format!(in alloc; "{fault}")?;
-    Ok(text.as_str() == wanted)
-}
-
 #[test]
 fn faults(rt: HostRuntime) -> Result<(), Fail> {
-    for (fault, text) in TEXTS {
-        assert!(rt; reads(rt.alloc(), *fault, text)?);
-    }
-    Ok(())
+    none_wrong(first_wrong_text(rt.alloc(), TEXTS))
 }

@@ -2,21 +2,19 @@
 //! stands in tests/lines.table.
 
 use super::super::changed::{Answer, Language, answer_of, changes, fronts};
-use super::super::none_wrong;
 use super::every::SOURCE;
 use std::alloc::Global;
+use std::test::Fail;
+use test_help::none_wrong;
 
 /// The bytes that each byte of the source is changed to.
 const IN_SOURCE: &[u8] = &[b':', b',', b'"', b'#', b'\n', 0, 0xff];
 
 #[test]
-fn cut_and_changed_source(rt: HostRuntime) {
+fn cut_and_changed_source(rt: HostRuntime) -> Result<(), Fail> {
     let source = SOURCE.as_bytes();
-    none_wrong(&rt, fronts(rt.alloc(), Language::Source, source).err());
-    none_wrong(
-        &rt,
-        changes(rt.alloc(), Language::Source, source, IN_SOURCE).err(),
-    );
+    none_wrong(fronts(rt.alloc(), Language::Source, source).err())?;
+    none_wrong(changes(rt.alloc(), Language::Source, source, IN_SOURCE).err())
 }
 
 /// Lines, each of which has a form.
@@ -57,6 +55,6 @@ fn first_wrong(alloc: Global) -> Option<usize> {
 }
 
 #[test]
-fn cut_and_changed_lines(rt: HostRuntime) {
-    none_wrong(&rt, first_wrong(rt.alloc()));
+fn cut_and_changed_lines(rt: HostRuntime) -> Result<(), Fail> {
+    none_wrong(first_wrong(rt.alloc()))
 }

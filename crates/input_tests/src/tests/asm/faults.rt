@@ -1,9 +1,9 @@
 //! Which fault a source has, which one comes first, and sources that have none.
 
-use super::super::none_wrong;
-use super::super::shown::first_wrong_text;
 use super::{Row, first_wrong};
 use brd_asm::AsmFault;
+use std::test::Fail;
+use test_help::{first_wrong_text, none_wrong};
 
 /// One fault of each kind, each with a line.
 const ONE_OF_EACH_KIND: &[Row] = &[
@@ -18,8 +18,8 @@ const ONE_OF_EACH_KIND: &[Row] = &[
 ];
 
 #[test]
-fn one_of_each_kind(rt: HostRuntime) {
-    none_wrong(&rt, first_wrong(rt.alloc(), ONE_OF_EACH_KIND));
+fn one_of_each_kind(rt: HostRuntime) -> Result<(), Fail> {
+    none_wrong(first_wrong(rt.alloc(), ONE_OF_EACH_KIND))
 }
 
 /// Nothing at all, and what has no bytes.
@@ -37,8 +37,8 @@ const NOTHING_AT_ALL: &[Row] = &[
 ];
 
 #[test]
-fn nothing_at_all(rt: HostRuntime) {
-    none_wrong(&rt, first_wrong(rt.alloc(), NOTHING_AT_ALL));
+fn nothing_at_all(rt: HostRuntime) -> Result<(), Fail> {
+    none_wrong(first_wrong(rt.alloc(), NOTHING_AT_ALL))
 }
 
 /// The order of faults on one line.
@@ -61,8 +61,8 @@ const ORDER_ON_ONE_LINE: &[Row] = &[
 ];
 
 #[test]
-fn order_on_one_line(rt: HostRuntime) {
-    none_wrong(&rt, first_wrong(rt.alloc(), ORDER_ON_ONE_LINE));
+fn order_on_one_line(rt: HostRuntime) -> Result<(), Fail> {
+    none_wrong(first_wrong(rt.alloc(), ORDER_ON_ONE_LINE))
 }
 
 /// Two groups: places before meanings.
@@ -81,8 +81,8 @@ const TWO_GROUPS: &[Row] = &[
 ];
 
 #[test]
-fn two_groups(rt: HostRuntime) {
-    none_wrong(&rt, first_wrong(rt.alloc(), TWO_GROUPS));
+fn two_groups(rt: HostRuntime) -> Result<(), Fail> {
+    none_wrong(first_wrong(rt.alloc(), TWO_GROUPS))
 }
 
 /// Ranges.
@@ -136,8 +136,8 @@ const RANGES: &[Row] = &[
 ];
 
 #[test]
-fn ranges(rt: HostRuntime) {
-    none_wrong(&rt, first_wrong(rt.alloc(), RANGES));
+fn ranges(rt: HostRuntime) -> Result<(), Fail> {
+    none_wrong(first_wrong(rt.alloc(), RANGES))
 }
 
 /// Places, segments, names and the entry.
@@ -166,8 +166,8 @@ const PLACES_AND_SEGMENTS: &[Row] = &[
 ];
 
 #[test]
-fn places_and_segments(rt: HostRuntime) {
-    none_wrong(&rt, first_wrong(rt.alloc(), PLACES_AND_SEGMENTS));
+fn places_and_segments(rt: HostRuntime) -> Result<(), Fail> {
+    none_wrong(first_wrong(rt.alloc(), PLACES_AND_SEGMENTS))
 }
 
 /// Each fault, as it reads.
@@ -200,6 +200,6 @@ const TEXTS: &[(AsmFault, &str)] = &[
 ];
 
 #[test]
-fn texts(rt: HostRuntime) {
-    none_wrong(&rt, first_wrong_text(rt.alloc(), TEXTS));
+fn texts(rt: HostRuntime) -> Result<(), Fail> {
+    none_wrong(first_wrong_text(rt.alloc(), TEXTS))
 }

@@ -1,13 +1,13 @@
 //! What the text with every kind of statement says, value by value.
 
-use super::super::none_wrong;
-use super::super::shown::first_wrong_text;
 use super::EVERY;
 use bitflags::Flags;
 use brd_config::{
     Config, ConfigFault, Operand, QueueConfig, Stack, TaskAttributes, TaskConfig, parse,
 };
 use std::alloc::Global;
+use std::test::Fail;
+use test_help::{first_wrong_text, none_wrong};
 
 /// Whether an operand is this name.
 fn has_name(operand: &Operand, name: &str) -> bool {
@@ -129,8 +129,8 @@ fn wrong_part_of_every(alloc: Global) -> Option<&'static str> {
 }
 
 #[test]
-fn every_value(rt: HostRuntime) {
-    none_wrong(&rt, wrong_part_of_every(rt.alloc()));
+fn every_value(rt: HostRuntime) -> Result<(), Fail> {
+    none_wrong(wrong_part_of_every(rt.alloc()))
 }
 
 #[test]
@@ -174,6 +174,6 @@ const TEXTS: &[(ConfigFault, &str)] = &[
 ];
 
 #[test]
-fn texts_of_faults(rt: HostRuntime) {
-    none_wrong(&rt, first_wrong_text(rt.alloc(), TEXTS));
+fn texts_of_faults(rt: HostRuntime) -> Result<(), Fail> {
+    none_wrong(first_wrong_text(rt.alloc(), TEXTS))
 }

@@ -2,9 +2,11 @@
 
 use super::{
     ASSEMBLED, ASSEMBLED_SHOWN, Row, SHORT, SHORT_SHOWN, UNNAMED_SHOWN, first_wrong, is_read_as,
-    none_wrong, put_changes,
+    put_changes,
 };
 use std::alloc::{AllocError, Global};
+use std::test::Fail;
+use test_help::none_wrong;
 
 /// A change of `SHORT` that looks odd and is accepted, and what is read then.
 const SHORT_ACCEPTED: &[Row] = &[
@@ -20,8 +22,8 @@ const SHORT_ACCEPTED: &[Row] = &[
 ];
 
 #[test]
-fn changes_of_the_short_file(rt: HostRuntime) {
-    none_wrong(&rt, first_wrong(rt.alloc(), &SHORT, SHORT_ACCEPTED));
+fn changes_of_the_short_file(rt: HostRuntime) -> Result<(), Fail> {
+    none_wrong(first_wrong(rt.alloc(), &SHORT, SHORT_ACCEPTED))
 }
 
 /// What is read from `ASSEMBLED` where its second symbol is none.
@@ -74,8 +76,8 @@ const ASSEMBLED_ACCEPTED: &[Row] = &[
 ];
 
 #[test]
-fn changes_of_the_assembled_file(rt: HostRuntime) {
-    none_wrong(&rt, first_wrong(rt.alloc(), &ASSEMBLED, ASSEMBLED_ACCEPTED));
+fn changes_of_the_assembled_file(rt: HostRuntime) -> Result<(), Fail> {
+    none_wrong(first_wrong(rt.alloc(), &ASSEMBLED, ASSEMBLED_ACCEPTED))
 }
 
 /// The strings `ab`, `xab` and again `ab` in the place of those of `ASSEMBLED`.
@@ -135,10 +137,10 @@ const NAMES: &[Row] = &[
 ];
 
 #[test]
-fn equal_names_at_other_places(rt: HostRuntime) {
+fn equal_names_at_other_places(rt: HostRuntime) -> Result<(), Fail> {
     let mut file = ASSEMBLED;
     put_changes(&mut file, STRINGS);
-    none_wrong(&rt, first_wrong(rt.alloc(), &file, NAMES));
+    none_wrong(first_wrong(rt.alloc(), &file, NAMES))
 }
 
 /// `ASSEMBLED` with as many section headers as there can be, all but the first four of zeros.

@@ -1,11 +1,11 @@
 //! The files cut off anywhere, and with any byte changed.
 
-use super::{
-    ASSEMBLED, ASSEMBLED_SHOWN, SHORT, SHORT_SHOWN, is_read_as, none_wrong, put_byte, shows,
-};
+use super::{ASSEMBLED, ASSEMBLED_SHOWN, SHORT, SHORT_SHOWN, is_read_as, shows};
 use brd_elf::{ElfFault, read};
 use brd_mem::Image;
 use std::alloc::Global;
+use std::test::Fail;
+use test_help::{none_wrong, put_byte};
 
 /// What is answered where one byte of `SHORT` is set to 0, 1, 0x7F, 0x80 or 0xFF: 0 the same image, 9 another, else the
 /// fault by its place in `ElfFault`. Worked out by a reader in another language.
@@ -129,21 +129,15 @@ fn first_wrong(
 }
 
 #[test]
-fn each_byte_of_the_short_file(rt: HostRuntime) {
+fn each_byte_of_the_short_file(rt: HostRuntime) -> Result<(), Fail> {
     let mut file = SHORT;
-    none_wrong(
-        &rt,
-        first_wrong(rt.alloc(), &mut file, SHORT_CHANGED, SHORT_SHOWN),
-    );
+    none_wrong(first_wrong(rt.alloc(), &mut file, SHORT_CHANGED, SHORT_SHOWN))
 }
 
 #[test]
-fn each_byte_of_the_assembled_file(rt: HostRuntime) {
+fn each_byte_of_the_assembled_file(rt: HostRuntime) -> Result<(), Fail> {
     let mut file = ASSEMBLED;
-    none_wrong(
-        &rt,
-        first_wrong(rt.alloc(), &mut file, ASSEMBLED_CHANGED, ASSEMBLED_SHOWN),
-    );
+    none_wrong(first_wrong(rt.alloc(), &mut file, ASSEMBLED_CHANGED, ASSEMBLED_SHOWN))
 }
 
 /// What is missing from a file of so many bytes, by the header that describes it. `table` and `segment` are where the
@@ -174,7 +168,7 @@ fn first_wrong_cut(alloc: Global, file: &[u8], table: usize, segment: usize) -> 
 
 /// Each file cut to each length: which header describes what is missing.
 #[test]
-fn cut_files(rt: HostRuntime) {
-    none_wrong(&rt, first_wrong_cut(rt.alloc(), &SHORT, 116, 119));
-    none_wrong(&rt, first_wrong_cut(rt.alloc(), &ASSEMBLED, 84, 100));
+fn cut_files(rt: HostRuntime) -> Result<(), Fail> {
+    none_wrong(first_wrong_cut(rt.alloc(), &SHORT, 116, 119))?;
+    none_wrong(first_wrong_cut(rt.alloc(), &ASSEMBLED, 84, 100))
 }

@@ -1,8 +1,9 @@
 //! Which fault a file has, and which one comes first.
 
-use super::super::shown::first_wrong_text;
-use super::{ASSEMBLED, Row, SHORT, first_wrong, none_wrong, put_byte};
+use super::{ASSEMBLED, Row, SHORT, first_wrong};
 use brd_elf::ElfFault;
+use std::test::Fail;
+use test_help::{first_wrong_text, none_wrong, put_byte};
 
 /// A change of `SHORT`, and what is read then.
 const SHORT_FAULTS: &[Row] = &[
@@ -70,8 +71,8 @@ const SHORT_FAULTS: &[Row] = &[
 ];
 
 #[test]
-fn of_the_short_file(rt: HostRuntime) {
-    none_wrong(&rt, first_wrong(rt.alloc(), &SHORT, SHORT_FAULTS));
+fn of_the_short_file(rt: HostRuntime) -> Result<(), Fail> {
+    none_wrong(first_wrong(rt.alloc(), &SHORT, SHORT_FAULTS))
 }
 
 /// The same of `ASSEMBLED`.
@@ -109,8 +110,8 @@ const ASSEMBLED_FAULTS: &[Row] = &[
 ];
 
 #[test]
-fn of_the_assembled_file(rt: HostRuntime) {
-    none_wrong(&rt, first_wrong(rt.alloc(), &ASSEMBLED, ASSEMBLED_FAULTS));
+fn of_the_assembled_file(rt: HostRuntime) -> Result<(), Fail> {
+    none_wrong(first_wrong(rt.alloc(), &ASSEMBLED, ASSEMBLED_FAULTS))
 }
 
 /// Where the second header's segment begins, and what is read then.
@@ -137,10 +138,10 @@ fn double(file: &mut [u8]) {
 
 /// A second header that loads what the first one does, or next to it: below, and above by one byte too little.
 #[test]
-fn overlaps(rt: HostRuntime) {
+fn overlaps(rt: HostRuntime) -> Result<(), Fail> {
     let mut file = SHORT;
     double(&mut file);
-    none_wrong(&rt, first_wrong(rt.alloc(), &file, OVERLAPS));
+    none_wrong(first_wrong(rt.alloc(), &file, OVERLAPS))
 }
 
 /// Each fault, as it reads.
@@ -177,6 +178,6 @@ const TEXTS: &[(ElfFault, &str)] = &[
 ];
 
 #[test]
-fn texts(rt: HostRuntime) {
-    none_wrong(&rt, first_wrong_text(rt.alloc(), TEXTS));
+fn texts(rt: HostRuntime) -> Result<(), Fail> {
+    none_wrong(first_wrong_text(rt.alloc(), TEXTS))
 }

@@ -1,36 +1,27 @@
 //! Large files, which a reader that gives up too early would refuse.
 
-use super::{none_wrong, put_segment};
+use super::put_segment;
 use brd_elf::{fits, read};
 use brd_mem::{Image, Segments, Symbol};
 use std::alloc::{AllocError, Global};
+use std::test::Fail;
+use test_help::{none_wrong, put_words};
 
 /// How many symbols there are, each with a name of its own of five digits.
 const COUNT: u32 = 100_000;
 
-/// Puts numbers of four bytes at the end.
-fn put(out: &mut Vec<u8>, numbers: &[u32]) -> Result<(), AllocError> {
-    for number in numbers {
-        out.extend_from_slice(&number.to_be_bytes())?;
-    }
-    Ok(())
-}
-
 /// Puts the header of a file of no segments and three sections at the end.
 fn put_header(out: &mut Vec<u8>) -> Result<(), AllocError> {
-    put(out, &[0x7f45_4c46, 0x0102_0100, 0, 0])?;
-    put(out, &[0x0002_0008, 1, 0x8000_0000, 52])?;
-    put(
-        out,
-        &[69 + 22 * COUNT, 0, 0x0034_0020, 0x0000_0028, 0x0003_0003],
-    )
+    put_words(out, &[0x7f45_4c46, 0x0102_0100, 0, 0, 0x0002_0008, 1])?;
+    put_words(out, &[0x8000_0000, 52, 69 + 22 * COUNT, 0])?;
+    put_words(out, &[0x0034_0020, 0x0000_0028, 0x0003_0003])
 }
 
 /// Puts the symbols at the end, that of zeros first.
 fn put_symbols(out: &mut Vec<u8>) -> Result<(), AllocError> {
-    put(out, &[0, 0, 0, 0])?;
+    put_words(out, &[0, 0, 0, 0])?;
     for i in 0..COUNT {
-        put(out, &[1 + 6 * i, i, 0, 0x1000_fff1])?;
+        put_words(out, &[1 + 6 * i, i, 0, 0x1000_fff1])?;
     }
     Ok(())
 }
@@ -63,9 +54,9 @@ fn put_strings(out: &mut Vec<u8>) -> Result<(), AllocError> {
 
 /// Puts the headers of three sections at the end.
 fn put_sections(out: &mut Vec<u8>) -> Result<(), AllocError> {
-    put(out, &[0; 10])?;
-    put(out, &[0, 2, 0, 0, 52, 16 + 16 * COUNT, 2, 1, 4, 16])?;
-    put(
+    put_words(out, &[0; 10])?;
+    put_words(out, &[0, 2, 0, 0, 52, 16 + 16 * COUNT, 2, 1, 4, 16])?;
+    put_words(
         out,
         &[0, 3, 0, 0, 68 + 16 * COUNT, 1 + 6 * COUNT, 0, 0, 1, 0],
     )
@@ -147,6 +138,6 @@ fn first_wrong_count(alloc: Global) -> Option<u32> {
 }
 
 #[test]
-fn as_many_segments_as_fit(rt: HostRuntime) {
-    none_wrong(&rt, first_wrong_count(rt.alloc()));
+fn as_many_segments_as_fit(rt: HostRuntime) -> Result<(), Fail> {
+    none_wrong(first_wrong_count(rt.alloc()))
 }

@@ -1,9 +1,11 @@
 //! Files that are written.
 
-use super::{ASSEMBLED, ASSEMBLED_SHOWN, is_read_as, none_wrong, put_segment};
+use super::{ASSEMBLED, ASSEMBLED_SHOWN, is_read_as, put_segment};
 use brd_elf::{ElfFault, read, write};
 use brd_mem::{Bytes, Image, Segments, Symbol, Symbols, is_plain};
 use std::alloc::Global;
+use std::test::Fail;
+use test_help::none_wrong;
 
 /// An image of words, of further segments and of symbols, and what its file has: so many bytes, these among them from a
 /// place on, and that is read from it.
@@ -127,8 +129,8 @@ fn first_wrong(alloc: Global) -> Option<usize> {
 }
 
 #[test]
-fn images_are_written(rt: HostRuntime) {
-    none_wrong(&rt, first_wrong(rt.alloc()));
+fn images_are_written(rt: HostRuntime) -> Result<(), Fail> {
+    none_wrong(first_wrong(rt.alloc()))
 }
 
 /// Whether an image is that of `ASSEMBLED`, which takes no memory to see. `words` are the bytes of its words.

@@ -6,8 +6,9 @@ use brd_board::BootFault;
 use brd_config::ConfigFault;
 use brd_elf::ElfFault;
 use brd_image::BuildFault;
-use std::alloc::{AllocError, Global};
+use std::alloc::Global;
 use std::test::Fail;
+use test_help::{first_wrong_text, none_wrong};
 
 const UNKNOWN: &str = "BOARD(1, 0x10000); CRE_TSK(1, {TA_ACT, 0, nowhere, 1, 256, NULL});";
 
@@ -80,17 +81,18 @@ fn first_wrong_source(alloc: Global, config: &str) -> Option<usize> {
 }
 
 #[test]
-fn of_the_configuration_or_the_boot(rt: HostRuntime) {
-    assert!(rt; first_wrong(rt.alloc(), ONE_LETTER, OF_CONFIGURATIONS).is_none());
-    assert!(rt; first_wrong(rt.alloc(), OUTSIDE, OF_OUTSIDE).is_none());
+fn of_the_configuration_or_the_boot(rt: HostRuntime) -> Result<(), Fail> {
+    none_wrong(first_wrong(rt.alloc(), ONE_LETTER, OF_CONFIGURATIONS))?;
+    none_wrong(first_wrong(rt.alloc(), OUTSIDE, OF_OUTSIDE))
 }
 
 /// A source with a fault comes before a configuration with one, whichever.
 #[test]
-fn of_the_source_first(rt: HostRuntime) {
+fn of_the_source_first(rt: HostRuntime) -> Result<(), Fail> {
     for config in ["", "BOARD(9, 0x10000);", UNKNOWN, ONE_TASK] {
-        assert!(rt; first_wrong_source(rt.alloc(), config).is_none());
+        none_wrong(first_wrong_source(rt.alloc(), config))?;
     }
+    Ok(())
 }
 
 /// Each fault is one line, which says in which text it is, and where.
@@ -114,15 +116,7 @@ const TEXTS: &[(BuildFault, &str)] = &[
     ),
 ];
 
-fn reads(alloc: Global, fault: BuildFault, wanted: &str) -> Result<bool, AllocError> {
-    let text = format!(in alloc; "{fault}")?;
-    Ok(text.as_str() == wanted)
-}
-
 #[test]
 fn texts(rt: HostRuntime) -> Result<(), Fail> {
-    for (fault, text) in TEXTS {
-        assert!(rt; reads(rt.alloc(), *fault, text)?);
-    }
-    Ok(())
+    none_wrong(first_wrong_text(rt.alloc(), TEXTS))
 }

@@ -1,19 +1,9 @@
 use brd_journal::{JournalFault, read_text};
-use std::alloc::{AllocError, Global};
+use std::alloc::Global;
 use std::test::Fail;
+use test_help::{has_line, none_wrong, put_byte};
 
 const TEXT: &[u8] = b"board-journal 1\nS 1 10\nT 1\nT 4294967295\nR 255 7\nS 0 9\n";
-
-/// Whether a text has a line of this number.
-fn has_line(text: &[u8], line: usize) -> bool {
-    let mut lines = 1usize;
-    for byte in text {
-        if *byte == b'\n' {
-            lines = lines.saturating_add(1);
-        }
-    }
-    1 <= line && line <= lines
-}
 
 /// Whether a text is read as a journal.
 fn is_journal(alloc: Global, text: &[u8]) -> bool {
@@ -42,16 +32,14 @@ fn first_wrong_front(alloc: Global) -> Option<usize> {
 }
 
 #[test]
-fn cut(rt: HostRuntime) {
-    assert!(rt; first_wrong_front(rt.alloc()).is_none());
+fn cut(rt: HostRuntime) -> Result<(), Fail> {
+    none_wrong(first_wrong_front(rt.alloc()))
 }
 
-/// Whether a text is answered rightly with any byte in this place.
+/// Whether a text is answered rightly with any byte in this place. The last one stays there.
 fn is_right_at(alloc: Global, text: &mut [u8], place: usize) -> bool {
     for byte in 0..=255u8 {
-        if place < text.len() {
-            text[place] = byte;
-        }
+        put_byte(text, place, byte);
         if !is_right(alloc, text) {
             return false;
         }
@@ -59,20 +47,20 @@ fn is_right_at(alloc: Global, text: &mut [u8], place: usize) -> bool {
     true
 }
 
-/// The first place of `TEXT` where some byte is answered wrongly.
-fn first_wrong_place(alloc: Global) -> Result<Option<usize>, AllocError> {
-    for place in 0..TEXT.len() {
-        let mut copy = Vec::from_slice(alloc, TEXT)?;
-        if !is_right_at(alloc, copy.as_mut_slice(), place) {
-            return Ok(Some(place));
+/// The first place of `TEXT`, of which this is a copy, where some byte is answered wrongly.
+fn first_wrong_place(alloc: Global, copy: &mut [u8]) -> Option<usize> {
+    for (place, byte) in TEXT.iter().enumerate() {
+        if !is_right_at(alloc, copy, place) {
+            return Some(place);
         }
+        put_byte(copy, place, *byte);
     }
-    Ok(None)
+    None
 }
 
 /// Each byte as each other byte.
 #[test]
 fn replaced(rt: HostRuntime) -> Result<(), Fail> {
-    assert!(rt; first_wrong_place(rt.alloc())?.is_none());
-    Ok(())
+    let mut copy = Vec::from_slice(rt.alloc(), TEXT)?;
+    none_wrong(first_wrong_place(rt.alloc(), copy.as_mut_slice()))
 }
