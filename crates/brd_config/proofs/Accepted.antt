@@ -32,7 +32,7 @@ use Rattle.brd_config.specs.declared.statement.QueueStatement.{QueueStatement}
 use Rattle.brd_config.specs.declared.statement.HandlerStatement.{HandlerStatement}
 use Rattle.brd_config.specs.Configuration.{Configuration, IsWithin, IsTask, IsSemaphore, IsFlag, IsQueue, IsHandler, IsConfiguration}
 use Rattle.brd_config.specs.Statements.{statement_at}
-use Rattle.brd_config.specs.Meaning.{State, within, only_bits, task_of, semaphore_of, flag_of, queue_of, handler_of, added, processor_of, is_end, one_more, statement_step, statements_from, board_of, first_board, first_statement, config_of}
+use Rattle.brd_config.specs.Meaning.{State, within, only_bits, task_numbers, task_of, semaphore_of, flag_of, queue_of, handler_of, added, processor_of, is_end, one_more, statement_step, statements_from, board_of, first_board, first_statement, config_of}
 use Rattle.brd_config.proofs.RamSize.{ram_again}
 use Rattle.brd_config.specs.Grammar.Piece.{Exactly, Sign, Numeral, Attributes, Value, StackValue, Area, ClassName}
 use Rattle.brd_config.specs.Grammar.{Piece, IsSpelled, AreSpelled, form, IsText, tasks_of, semaphores_of, flags_of, queues_of, handlers_of, task_said, semaphore_said, flag_said, queue_said, handler_said, said, AreNested, AreValid, Says}
@@ -70,7 +70,7 @@ from_zero high n le = record { least = omega arith; most = le }
 
 task_again : (line : ℕ) (tasks ys : List TaskConfig) (processors processor : ℕ) (t : TaskStatement)
     → IsTask processors (task_said processor t) → AllPairs (λ s t. s.id ≢ t.id) (tasks ++ task_said processor t ∷ ys) → task_of line tasks processor t ≡ Ok (task_said processor t)
-unfolding task_of
+unfolding task_of task_numbers
 task_again line tasks ys processors processor t v apart =
     rw (
       within_again 1 255 (BadId line) t.id v.id,

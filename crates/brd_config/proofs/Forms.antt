@@ -19,8 +19,8 @@ use Rattle.brd_config.specs.declared.statement.SemaphoreStatement.{SemaphoreStat
 use Rattle.brd_config.specs.declared.statement.FlagStatement.{FlagStatement}
 use Rattle.brd_config.specs.declared.statement.QueueStatement.{QueueStatement}
 use Rattle.brd_config.specs.declared.statement.HandlerStatement.{HandlerStatement}
-use Rattle.brd_config.specs.Statements.{keyword_of, board_at, class_at, task_at, semaphore_at, flag_at, queue_at, handler_at, behind_keyword, statement_at}
-use Rattle.brd_config.specs.Reading.{attribute_of, number_at, mark_at, attribute_at, joint_at, attribute_step, attributes_at, operand_at, stack_at, area_at, class_number_at, head_at, tail_at}
+use Rattle.brd_config.specs.Statements.{keyword_of, board_at, class_at, task_tail_at, task_at, semaphore_at, flag_at, queue_at, handler_at, behind_keyword, statement_at}
+use Rattle.brd_config.specs.Reading.{attribute_of, number_at, mark_at, attribute_at, joint_at, attribute_step, attributes_at, operand_at, stack_at, area_at, class_number_at, listed_number_at, listed_operand_at, head_at, tail_at}
 use Rattle.brd_config.specs.Grammar.{Piece, Joined, AreSpelled, form}
 use Rattle.brd_config.specs.Grammar.Piece.{Exactly, Sign, Numeral, Attributes, Value, StackValue, Area, ClassName}
 use Rattle.brd_config.specs.Grammar.Joined.{last, bar}
@@ -134,15 +134,28 @@ attributes_step bits ps t s =
 abbrev pub Reads : {X : Type 0} → Result (X × Text) ConfigFault → X → List Piece → Type 0
 Reads read x ps = (u : Text) × (read ≡ Ok (x, u)) × Ahead ps u
 
+listed_number_step : (n : ℕ) (ps : List Piece) (t : Text) → Ahead (Numeral n ∷ Sign 44 ∷ ps) t → (listed_number_at t ≡ Ok (n, others (others t))) × Ahead ps (others (others t))
+unfolding listed_number_at
+listed_number_step n ps t s =
+    let a = numeral_step n (Sign 44 ∷ ps) t s in
+    let b = sign_step 44 ps (others t) a.1 in
+    (rw (a.0, b.0) refl, b.1)
+
+listed_operand_step : (o : Operand) (ps : List Piece) (t : Text) → Ahead (Value o ∷ Sign 44 ∷ ps) t → (listed_operand_at t ≡ Ok (o, others (others t))) × Ahead ps (others (others t))
+unfolding listed_operand_at
+listed_operand_step o ps t s =
+    let a = value_step o (Sign 44 ∷ ps) t s in
+    let b = sign_step 44 ps (others t) a.1 in
+    (rw (a.0, b.0) refl, b.1)
+
 head_step : (id attributes : ℕ) (ps : List Piece) (t : Text) → Ahead (Sign 40 ∷ Numeral id ∷ Sign 44 ∷ Sign 123 ∷ Attributes attributes ∷ Sign 44 ∷ ps) t → (u : Text) × (head_at t ≡ Ok (id, attributes, u)) × Ahead ps u
 unfolding head_at
 head_step id attributes ps t s =
     let a = sign_step 40 (Numeral id ∷ Sign 44 ∷ Sign 123 ∷ Attributes attributes ∷ Sign 44 ∷ ps) t s in
-    let b = numeral_step id (Sign 44 ∷ Sign 123 ∷ Attributes attributes ∷ Sign 44 ∷ ps) (others t) a.1 in
-    let c = sign_step 44 (Sign 123 ∷ Attributes attributes ∷ Sign 44 ∷ ps) (others (others t)) b.1 in
-    let d = sign_step 123 (Attributes attributes ∷ Sign 44 ∷ ps) (others (others (others t))) c.1 in
-    let f = attributes_step attributes ps (others (others (others (others t)))) d.1 in
-    (f.0, rw (a.0, b.0, c.0, d.0, f.1) refl, f.2)
+    let b = listed_number_step id (Sign 123 ∷ Attributes attributes ∷ Sign 44 ∷ ps) (others t) a.1 in
+    let c = sign_step 123 (Attributes attributes ∷ Sign 44 ∷ ps) (others (others (others t))) b.1 in
+    let d = attributes_step attributes ps (others (others (others (others t)))) c.1 in
+    (d.0, rw (a.0, b.0, c.0, d.1) refl, d.2)
 
 tail_step : (ps : List Piece) (t : Text) → Ahead (Sign 125 ∷ Sign 41 ∷ Sign 59 ∷ ps) t → (tail_at t ≡ Ok (others (others (others t)))) × Ahead ps (others (others (others t)))
 unfolding tail_at
@@ -157,16 +170,14 @@ unfolding board_at
 board_again processors ram ps t s =
     let a = sign_step 40 (Numeral processors ∷ Sign 44 ∷ Numeral ram ∷ Sign 41 ∷ Sign 59 ∷ ps) t s in
     let t1 = others t in
-    let b = numeral_step processors (Sign 44 ∷ Numeral ram ∷ Sign 41 ∷ Sign 59 ∷ ps) t1 a.1 in
-    let t2 = others t1 in
-    let c = sign_step 44 (Numeral ram ∷ Sign 41 ∷ Sign 59 ∷ ps) t2 b.1 in
+    let b = listed_number_step processors (Numeral ram ∷ Sign 41 ∷ Sign 59 ∷ ps) t1 a.1 in
+    let t2 = others (others t1) in
+    let c = numeral_step ram (Sign 41 ∷ Sign 59 ∷ ps) t2 b.1 in
     let t3 = others t2 in
-    let d = numeral_step ram (Sign 41 ∷ Sign 59 ∷ ps) t3 c.1 in
+    let d = sign_step 41 (Sign 59 ∷ ps) t3 c.1 in
     let t4 = others t3 in
-    let f = sign_step 41 (Sign 59 ∷ ps) t4 d.1 in
-    let t5 = others t4 in
-    let g = sign_step 59 ps t5 f.1 in
-    (others t5, rw (a.0, b.0, c.0, d.0, f.0, g.0) refl, g.1)
+    let f = sign_step 59 ps t4 d.1 in
+    (others t4, rw (a.0, b.0, c.0, d.0, f.0) refl, f.1)
 
 class_again : (n : ℕ) (ps : List Piece) (t : Text) → Ahead (Sign 40 ∷ ClassName n ∷ Sign 41 ∷ Sign 123 ∷ ps) t → Reads (class_at t) (Class n) ps
 unfolding class_at
@@ -184,33 +195,33 @@ class_again n ps t s =
 abbrev pub object_pieces : ℕ → ℕ → List Piece → List Piece → List Piece
 object_pieces id attributes fields ps = Sign 40 ∷ Numeral id ∷ Sign 44 ∷ Sign 123 ∷ Attributes attributes ∷ Sign 44 ∷ (fields ++ Sign 125 ∷ Sign 41 ∷ Sign 59 ∷ ps)
 
+task_tail_step : (priority size : ℕ) (stack : Stack) (ps : List Piece) (t : Text)
+    → Ahead (Numeral priority ∷ Sign 44 ∷ Numeral size ∷ Sign 44 ∷ StackValue stack ∷ Sign 125 ∷ Sign 41 ∷ Sign 59 ∷ ps) t → (u : Text) × (task_tail_at t ≡ Ok (priority, size, stack, u)) × Ahead ps u
+unfolding task_tail_at
+task_tail_step priority size stack ps t s =
+    let end = Sign 125 ∷ Sign 41 ∷ Sign 59 ∷ ps in
+    let a = listed_number_step priority (Numeral size ∷ Sign 44 ∷ StackValue stack ∷ end) t s in
+    let t1 = others (others t) in
+    let b = listed_number_step size (StackValue stack ∷ end) t1 a.1 in
+    let t2 = others (others t1) in
+    let c = stack_step stack end t2 b.1 in
+    let t3 = others t2 in
+    let d = tail_step ps t3 c.1 in
+    (others (others (others t3)), rw (a.0, b.0, c.0, d.0) refl, d.1)
+
 task_again : (x : TaskStatement) (ps : List Piece) (t : Text)
     → Ahead (object_pieces x.id x.attributes (Value x.exinf ∷ Sign 44 ∷ Value x.address ∷ Sign 44 ∷ Numeral x.priority ∷ Sign 44 ∷ Numeral x.stack_size ∷ Sign 44 ∷ StackValue x.stack ∷ []) ps) t → Reads (task_at t) (Task x) ps
 unfolding task_at
 task_again x ps t s =
-    let end = Sign 125 ∷ Sign 41 ∷ Sign 59 ∷ ps in
-    let h = head_step x.id x.attributes (Value x.exinf ∷ Sign 44 ∷ Value x.address ∷ Sign 44 ∷ Numeral x.priority ∷ Sign 44 ∷ Numeral x.stack_size ∷ Sign 44 ∷ StackValue x.stack ∷ end) t s in
+    let rest = Numeral x.priority ∷ Sign 44 ∷ Numeral x.stack_size ∷ Sign 44 ∷ StackValue x.stack ∷ Sign 125 ∷ Sign 41 ∷ Sign 59 ∷ ps in
+    let h = head_step x.id x.attributes (Value x.exinf ∷ Sign 44 ∷ Value x.address ∷ Sign 44 ∷ rest) t s in
     let t0 = h.0 in
-    let a = value_step x.exinf (Sign 44 ∷ Value x.address ∷ Sign 44 ∷ Numeral x.priority ∷ Sign 44 ∷ Numeral x.stack_size ∷ Sign 44 ∷ StackValue x.stack ∷ end) t0 h.2 in
-    let t1 = others t0 in
-    let b = sign_step 44 (Value x.address ∷ Sign 44 ∷ Numeral x.priority ∷ Sign 44 ∷ Numeral x.stack_size ∷ Sign 44 ∷ StackValue x.stack ∷ end) t1 a.1 in
-    let t2 = others t1 in
-    let c = value_step x.address (Sign 44 ∷ Numeral x.priority ∷ Sign 44 ∷ Numeral x.stack_size ∷ Sign 44 ∷ StackValue x.stack ∷ end) t2 b.1 in
-    let t3 = others t2 in
-    let d = sign_step 44 (Numeral x.priority ∷ Sign 44 ∷ Numeral x.stack_size ∷ Sign 44 ∷ StackValue x.stack ∷ end) t3 c.1 in
-    let t4 = others t3 in
-    let f = numeral_step x.priority (Sign 44 ∷ Numeral x.stack_size ∷ Sign 44 ∷ StackValue x.stack ∷ end) t4 d.1 in
-    let t5 = others t4 in
-    let g = sign_step 44 (Numeral x.stack_size ∷ Sign 44 ∷ StackValue x.stack ∷ end) t5 f.1 in
-    let t6 = others t5 in
-    let i = numeral_step x.stack_size (Sign 44 ∷ StackValue x.stack ∷ end) t6 g.1 in
-    let t7 = others t6 in
-    let j = sign_step 44 (StackValue x.stack ∷ end) t7 i.1 in
-    let t8 = others t7 in
-    let k = stack_step x.stack end t8 j.1 in
-    let t9 = others t8 in
-    let l = tail_step ps t9 k.1 in
-    (others (others (others t9)), rw (h.1, a.0, b.0, c.0, d.0, f.0, g.0, i.0, j.0, k.0, l.0) refl, l.1)
+    let a = listed_operand_step x.exinf (Value x.address ∷ Sign 44 ∷ rest) t0 h.2 in
+    let t1 = others (others t0) in
+    let b = listed_operand_step x.address rest t1 a.1 in
+    let t2 = others (others t1) in
+    let c = task_tail_step x.priority x.stack_size x.stack ps t2 b.1 in
+    (c.0, rw (h.1, a.0, b.0, c.1) refl, c.2)
 
 semaphore_again : (x : SemaphoreStatement) (ps : List Piece) (t : Text) → Ahead (object_pieces x.id x.attributes (Numeral x.initial ∷ Sign 44 ∷ Numeral x.maximum ∷ []) ps) t → Reads (semaphore_at t) (Semaphore x) ps
 unfolding semaphore_at
@@ -218,14 +229,12 @@ semaphore_again x ps t s =
     let end = Sign 125 ∷ Sign 41 ∷ Sign 59 ∷ ps in
     let h = head_step x.id x.attributes (Numeral x.initial ∷ Sign 44 ∷ Numeral x.maximum ∷ end) t s in
     let t0 = h.0 in
-    let a = numeral_step x.initial (Sign 44 ∷ Numeral x.maximum ∷ end) t0 h.2 in
-    let t1 = others t0 in
-    let b = sign_step 44 (Numeral x.maximum ∷ end) t1 a.1 in
+    let a = listed_number_step x.initial (Numeral x.maximum ∷ end) t0 h.2 in
+    let t1 = others (others t0) in
+    let b = numeral_step x.maximum end t1 a.1 in
     let t2 = others t1 in
-    let c = numeral_step x.maximum end t2 b.1 in
-    let t3 = others t2 in
-    let l = tail_step ps t3 c.1 in
-    (others (others (others t3)), rw (h.1, a.0, b.0, c.0, l.0) refl, l.1)
+    let l = tail_step ps t2 b.1 in
+    (others (others (others t2)), rw (h.1, a.0, b.0, l.0) refl, l.1)
 
 flag_again : (x : FlagStatement) (ps : List Piece) (t : Text) → Ahead (object_pieces x.id x.attributes (Numeral x.pattern ∷ []) ps) t → Reads (flag_at t) (Flag x) ps
 unfolding flag_at
@@ -244,14 +253,12 @@ queue_again x ps t s =
     let end = Sign 125 ∷ Sign 41 ∷ Sign 59 ∷ ps in
     let h = head_step x.id x.attributes (Numeral x.capacity ∷ Sign 44 ∷ Area ∷ end) t s in
     let t0 = h.0 in
-    let a = numeral_step x.capacity (Sign 44 ∷ Area ∷ end) t0 h.2 in
-    let t1 = others t0 in
-    let b = sign_step 44 (Area ∷ end) t1 a.1 in
+    let a = listed_number_step x.capacity (Area ∷ end) t0 h.2 in
+    let t1 = others (others t0) in
+    let b = area_step end t1 a.1 in
     let t2 = others t1 in
-    let c = area_step end t2 b.1 in
-    let t3 = others t2 in
-    let l = tail_step ps t3 c.1 in
-    (others (others (others t3)), rw (h.1, a.0, b.0, c.0, l.0) refl, l.1)
+    let l = tail_step ps t2 b.1 in
+    (others (others (others t2)), rw (h.1, a.0, b.0, l.0) refl, l.1)
 
 handler_again : (x : HandlerStatement) (ps : List Piece) (t : Text) → Ahead (object_pieces x.line x.attributes (Value x.address ∷ []) ps) t → Reads (handler_at t) (Handler x) ps
 unfolding handler_at

@@ -21,8 +21,8 @@ use Rattle.brd_config.specs.declared.statement.Keyword.{Keyword}
 use Rattle.brd_config.specs.declared.statement.Keyword.TheVariants as keywords
 use Rattle.brd_config.specs.declared.statement.Statement.{Statement}
 use Rattle.brd_config.specs.declared.statement.Statement.TheVariants.{Board, Class, ClassEnd, Task, Semaphore, Flag, Queue, Handler}
-use Rattle.brd_config.specs.Statements.{keyword_names, keyword_of, board_at, class_at, task_at, semaphore_at, flag_at, queue_at, handler_at, behind_keyword, statement_by, statement_at}
-use Rattle.brd_config.specs.Reading.{named_in, attribute_of, class_of, operand_of, stack_of, is_area, run_of, number_at, expect_mark, mark_at, attribute_at, expect_joint, joint_at, attribute_step, attributes_at, operand_at, stack_at, area_at, class_number_at, head_at, tail_at}
+use Rattle.brd_config.specs.Statements.{keyword_names, keyword_of, board_at, class_at, task_tail_at, task_at, semaphore_at, flag_at, queue_at, handler_at, behind_keyword, statement_by, statement_at}
+use Rattle.brd_config.specs.Reading.{named_in, attribute_of, class_of, operand_of, stack_of, is_area, run_of, number_at, expect_mark, mark_at, attribute_at, expect_joint, joint_at, attribute_step, attributes_at, operand_at, stack_at, area_at, class_number_at, listed_number_at, listed_operand_at, head_at, tail_at}
 use Rattle.brd_config.specs.Grammar.{Piece, Joined, IsSpelled, AreSpelled, form}
 use Rattle.brd_config.specs.Grammar.Piece.{Exactly, Sign, Numeral, Attributes, Value, StackValue, Area, ClassName}
 use Rattle.brd_config.specs.Grammar.Joined.{last, bar}
@@ -242,12 +242,28 @@ infixr 5 ◌gives◌
 ◌gives◌ : {A B Goal : Type 0} {r : Result A ConfigFault} {f : A → Result B ConfigFault} {y : B} → (r >>= f) ≡ Ok y → ((x : A) → r ≡ Ok x → f x ≡ Ok y → Goal) → Goal
 ◌gives◌ {r = r} {f = f} {y = y} e goal = step_of r f y e goal
 
+-- n ,
+listed_number_back : (t : Text) (r : ℕ × Text) → listed_number_at t ≡ Ok r → Front (Numeral r.0 ∷ Sign 44 ∷ []) t r.1
+unfolding listed_number_at
+listed_number_back t r e =
+    e gives λ n a e. e gives λ listed b e.
+    subst (λ (q : ℕ × Text). Front (Numeral q.0 ∷ Sign 44 ∷ []) t q.1) (ok_is (n.0, listed) r e)
+    (numeral_back t n a then sign_back 44 n.1 listed b)
+
+-- value ,
+listed_operand_back : (t : Text) (r : Operand × Text) → listed_operand_at t ≡ Ok r → Front (Value r.0 ∷ Sign 44 ∷ []) t r.1
+unfolding listed_operand_at
+listed_operand_back t r e =
+    e gives λ operand a e. e gives λ listed b e.
+    subst (λ (q : Operand × Text). Front (Value q.0 ∷ Sign 44 ∷ []) t q.1) (ok_is (operand.0, listed) r e)
+    (value_back t operand a then sign_back 44 operand.1 listed b)
+
 head_back : (t : Text) (r : ℕ × ℕ × Text) → head_at t ≡ Ok r → Front (head_pieces r.0 r.1) t r.2
 unfolding head_at
 head_back t r e =
-    e gives λ opened a e. e gives λ id b e. e gives λ listed c e. e gives λ inner d e. e gives λ attributes f e.
+    e gives λ opened a e. e gives λ id b e. e gives λ inner c e. e gives λ attributes d e.
     subst (λ (q : ℕ × ℕ × Text). Front (head_pieces q.0 q.1) t q.2) (ok_is (id.0, attributes.0, attributes.1) r e)
-    (sign_back 40 t opened a then numeral_back opened id b then sign_back 44 id.1 listed c then sign_back 123 listed inner d then attributes_back inner attributes f)
+    (sign_back 40 t opened a then listed_number_back opened id b then sign_back 123 id.1 inner c then attributes_back inner attributes d)
 
 tail_back : (t u : Text) → tail_at t ≡ Ok u → Front (Sign 125 ∷ Sign 41 ∷ Sign 59 ∷ []) t u
 unfolding tail_at
@@ -258,9 +274,9 @@ tail_back t u e =
 pub board_back : (t : Text) (r : ℕ × ℕ × Text) → board_at t ≡ Ok r → Front (Sign 40 ∷ Numeral r.0 ∷ Sign 44 ∷ Numeral r.1 ∷ Sign 41 ∷ Sign 59 ∷ []) t r.2
 unfolding board_at
 board_back t r e =
-    e gives λ opened a e. e gives λ processors b e. e gives λ second c e. e gives λ ram d e. e gives λ closed f e. e gives λ ended g e.
+    e gives λ opened a e. e gives λ processors b e. e gives λ ram c e. e gives λ closed d e. e gives λ ended f e.
     subst (λ (q : ℕ × ℕ × Text). Front (Sign 40 ∷ Numeral q.0 ∷ Sign 44 ∷ Numeral q.1 ∷ Sign 41 ∷ Sign 59 ∷ []) t q.2) (ok_is (processors.0, ram.0, ended) r e)
-    (sign_back 40 t opened a then numeral_back opened processors b then sign_back 44 processors.1 second c then numeral_back second ram d then sign_back 41 ram.1 closed f then sign_back 59 closed ended g)
+    (sign_back 40 t opened a then listed_number_back opened processors b then numeral_back processors.1 ram c then sign_back 41 ram.1 closed d then sign_back 59 closed ended f)
 
 keyword_name : Keyword → List ℕ
 keyword_name keywords.Board = codes "BOARD"
@@ -283,22 +299,30 @@ class_back t r e =
     subst (Behind (codes "CLASS") false t) (ok_is (Class n.0, inner) r e)
     (record { whole = λ s x. x then sign_back 40 t opened a then class_name_back opened n b then sign_back 41 n.1 closed c then sign_back 123 closed inner d; may = refl })
 
+-- priority , size , stack } ) ;
+task_tail_back : (t : Text) (r : ℕ × ℕ × Stack × Text) → task_tail_at t ≡ Ok r → Front (Numeral r.0 ∷ Sign 44 ∷ Numeral r.1 ∷ Sign 44 ∷ StackValue r.2 ∷ Sign 125 ∷ Sign 41 ∷ Sign 59 ∷ []) t r.3
+unfolding task_tail_at
+task_tail_back t r e =
+    e gives λ priority a e. e gives λ size b e. e gives λ stack c e. e gives λ ended d e.
+    subst (λ (q : ℕ × ℕ × Stack × Text). Front (Numeral q.0 ∷ Sign 44 ∷ Numeral q.1 ∷ Sign 44 ∷ StackValue q.2 ∷ Sign 125 ∷ Sign 41 ∷ Sign 59 ∷ []) t q.3) (ok_is (priority.0, size.0, stack.0, ended) r e)
+    (listed_number_back t priority a then listed_number_back priority.1 size b then stack_back size.1 stack c then tail_back stack.1 ended d)
+
 task_back : (in_class : Bool) (t : Text) (r : Statement × Text) → task_at t ≡ Ok r → Behind (codes "CRE_TSK") in_class t r
 unfolding task_at
 task_back in_class t r e =
-    e gives λ head h e. e gives λ exinf a e. e gives λ second b e. e gives λ address c e. e gives λ third d e. e gives λ priority f e. e gives λ fourth g e. e gives λ size i e. e gives λ fifth j e. e gives λ stack k e. e gives λ ended l e.
-    subst (Behind (codes "CRE_TSK") in_class t) (ok_is (Task (record { id = head.0; attributes = head.1; exinf = exinf.0; address = address.0; priority = priority.0; stack_size = size.0; stack = stack.0 }), ended) r e)
+    e gives λ head h e. e gives λ exinf a e. e gives λ address b e. e gives λ rest c e.
+    subst (Behind (codes "CRE_TSK") in_class t) (ok_is (Task (record { id = head.0; attributes = head.1; exinf = exinf.0; address = address.0; priority = rest.0; stack_size = rest.1; stack = rest.2 }), rest.3) r e)
     (record {
-      whole = λ s x. x then head_back t head h then value_back head.2 exinf a then sign_back 44 exinf.1 second b then value_back second address c then sign_back 44 address.1 third d then numeral_back third priority f then sign_back 44 priority.1 fourth g then numeral_back fourth size i then sign_back 44 size.1 fifth j then stack_back fifth stack k then tail_back stack.1 ended l;
+      whole = λ s x. x then head_back t head h then listed_operand_back head.2 exinf a then listed_operand_back exinf.1 address b then task_tail_back address.1 rest c;
       may = tt;
     })
 
 semaphore_back : (in_class : Bool) (t : Text) (r : Statement × Text) → semaphore_at t ≡ Ok r → Behind (codes "CRE_SEM") in_class t r
 unfolding semaphore_at
 semaphore_back in_class t r e =
-    e gives λ head h e. e gives λ initial a e. e gives λ second b e. e gives λ maximum c e. e gives λ ended l e.
+    e gives λ head h e. e gives λ initial a e. e gives λ maximum b e. e gives λ ended l e.
     subst (Behind (codes "CRE_SEM") in_class t) (ok_is (Semaphore (record { id = head.0; attributes = head.1; initial = initial.0; maximum = maximum.0 }), ended) r e)
-    (record { whole = λ s x. x then head_back t head h then numeral_back head.2 initial a then sign_back 44 initial.1 second b then numeral_back second maximum c then tail_back maximum.1 ended l; may = tt })
+    (record { whole = λ s x. x then head_back t head h then listed_number_back head.2 initial a then numeral_back initial.1 maximum b then tail_back maximum.1 ended l; may = tt })
 
 flag_back : (in_class : Bool) (t : Text) (r : Statement × Text) → flag_at t ≡ Ok r → Behind (codes "CRE_FLG") in_class t r
 unfolding flag_at
@@ -310,9 +334,9 @@ flag_back in_class t r e =
 queue_back : (in_class : Bool) (t : Text) (r : Statement × Text) → queue_at t ≡ Ok r → Behind (codes "CRE_DTQ") in_class t r
 unfolding queue_at
 queue_back in_class t r e =
-    e gives λ head h e. e gives λ capacity a e. e gives λ second b e. e gives λ area c e. e gives λ ended l e.
+    e gives λ head h e. e gives λ capacity a e. e gives λ area b e. e gives λ ended l e.
     subst (Behind (codes "CRE_DTQ") in_class t) (ok_is (Queue (record { id = head.0; attributes = head.1; capacity = capacity.0 }), ended) r e)
-    (record { whole = λ s x. x then head_back t head h then numeral_back head.2 capacity a then sign_back 44 capacity.1 second b then area_back second area c then tail_back area ended l; may = tt })
+    (record { whole = λ s x. x then head_back t head h then listed_number_back head.2 capacity a then area_back capacity.1 area b then tail_back area ended l; may = tt })
 
 handler_back : (in_class : Bool) (t : Text) (r : Statement × Text) → handler_at t ≡ Ok r → Behind (codes "DEF_INH") in_class t r
 unfolding handler_at

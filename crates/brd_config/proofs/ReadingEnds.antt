@@ -27,9 +27,9 @@ use Rattle.brd_config.specs.declared.statement.SemaphoreStatement.{SemaphoreStat
 use Rattle.brd_config.specs.declared.statement.FlagStatement.{FlagStatement}
 use Rattle.brd_config.specs.declared.statement.QueueStatement.{QueueStatement}
 use Rattle.brd_config.specs.declared.statement.HandlerStatement.{HandlerStatement}
-use Rattle.brd_config.specs.Statements.{keyword_of, board_at, class_at, task_at, semaphore_at, flag_at, queue_at, handler_at, behind_keyword, statement_by, statement_at}
-use Rattle.brd_config.specs.Reading.{attribute_of, class_of, operand_of, stack_of, is_area, run_of, number_at, expect_mark, mark_at, attribute_at, expect_joint, joint_at, attribute_step, attributes_at, operand_at, stack_at, area_at, class_number_at, head_at, tail_at}
-use Rattle.brd_config.specs.Meaning.{State, within, only_bits, refused, task_of, semaphore_of, flag_of, queue_of, handler_of, added, processor_of, is_end, is_board, one_more, statement_step, statements_from, board_of, first_board, first_statement, config_of}
+use Rattle.brd_config.specs.Statements.{keyword_of, board_at, class_at, task_tail_at, task_at, semaphore_at, flag_at, queue_at, handler_at, behind_keyword, statement_by, statement_at}
+use Rattle.brd_config.specs.Reading.{attribute_of, class_of, operand_of, stack_of, is_area, run_of, number_at, expect_mark, mark_at, attribute_at, expect_joint, joint_at, attribute_step, attributes_at, operand_at, stack_at, area_at, class_number_at, listed_number_at, listed_operand_at, head_at, tail_at}
+use Rattle.brd_config.specs.Meaning.{State, within, only_bits, refused, task_numbers, task_of, semaphore_of, flag_of, queue_of, handler_of, added, processor_of, is_end, is_board, one_more, statement_step, statements_from, board_of, first_board, first_statement, config_of}
 use Rattle.brd_config.specs.Grammar.{Piece, Joined, IsSpelled, AreSpelled, form}
 use Rattle.brd_config.specs.Grammar.Piece.{Exactly, Sign, Numeral, Attributes, Value, StackValue, Area, ClassName}
 use Rattle.brd_config.specs.Grammar.Joined.{last, bar}
@@ -163,9 +163,17 @@ attributes_end t = turns_end (attribute_step 44) (λ (s : ℕ × Text). length s
 
 -- ---- statements
 
+listed_number_ends : (t : Text) → Ends (listed_number_at t)
+unfolding listed_number_at
+listed_number_ends t = number_ends t then λ n. mark_ends 44 n.1 then λ listed. answer_ends _
+
+listed_operand_ends : (t : Text) → Ends (listed_operand_at t)
+unfolding listed_operand_at
+listed_operand_ends t = operand_ends t then λ operand. mark_ends 44 operand.1 then λ listed. answer_ends _
+
 head_ends : (t : Text) → Ends (head_at t)
 unfolding head_at
-head_ends t = mark_ends 40 t then λ opened. number_ends opened then λ id. mark_ends 44 id.1 then λ listed. mark_ends 123 listed then λ inner. attributes_end inner then λ attributes. answer_ends (id.0, attributes.0, attributes.1)
+head_ends t = mark_ends 40 t then λ opened. listed_number_ends opened then λ id. mark_ends 123 id.1 then λ inner. attributes_end inner then λ attributes. answer_ends (id.0, attributes.0, attributes.1)
 
 tail_ends : (t : Text) → Ends (tail_at t)
 unfolding tail_at
@@ -173,19 +181,23 @@ tail_ends t = mark_ends 125 t then λ listed. mark_ends 41 listed then λ closed
 
 board_ends : (t : Text) → Ends (board_at t)
 unfolding board_at
-board_ends t = mark_ends 40 t then λ opened. number_ends opened then λ processors. mark_ends 44 processors.1 then λ second. number_ends second then λ ram. mark_ends 41 ram.1 then λ closed. mark_ends 59 closed then λ ended. answer_ends (processors.0, ram.0, ended)
+board_ends t = mark_ends 40 t then λ opened. listed_number_ends opened then λ processors. number_ends processors.1 then λ ram. mark_ends 41 ram.1 then λ closed. mark_ends 59 closed then λ ended. answer_ends (processors.0, ram.0, ended)
 
 class_ends : (t : Text) → Ends (class_at t)
 unfolding class_at
 class_ends t = mark_ends 40 t then λ opened. class_name_ends opened then λ n. mark_ends 41 n.1 then λ closed. mark_ends 123 closed then λ inner. answer_ends (Class n.0, inner)
 
+task_tail_ends : (t : Text) → Ends (task_tail_at t)
+unfolding task_tail_at
+task_tail_ends t = listed_number_ends t then λ priority. listed_number_ends priority.1 then λ size. stack_ends size.1 then λ stack. tail_ends stack.1 then λ ended. answer_ends _
+
 task_ends : (t : Text) → Ends (task_at t)
 unfolding task_at
-task_ends t = head_ends t then λ head. operand_ends head.2 then λ exinf. mark_ends 44 exinf.1 then λ second. operand_ends second then λ address. mark_ends 44 address.1 then λ third. number_ends third then λ priority. mark_ends 44 priority.1 then λ fourth. number_ends fourth then λ size. mark_ends 44 size.1 then λ fifth. stack_ends fifth then λ stack. tail_ends stack.1 then λ ended. answer_ends _
+task_ends t = head_ends t then λ head. listed_operand_ends head.2 then λ exinf. listed_operand_ends exinf.1 then λ address. task_tail_ends address.1 then λ rest. answer_ends _
 
 semaphore_ends : (t : Text) → Ends (semaphore_at t)
 unfolding semaphore_at
-semaphore_ends t = head_ends t then λ head. number_ends head.2 then λ initial. mark_ends 44 initial.1 then λ second. number_ends second then λ maximum. tail_ends maximum.1 then λ ended. answer_ends _
+semaphore_ends t = head_ends t then λ head. listed_number_ends head.2 then λ initial. number_ends initial.1 then λ maximum. tail_ends maximum.1 then λ ended. answer_ends _
 
 flag_ends : (t : Text) → Ends (flag_at t)
 unfolding flag_at
@@ -193,7 +205,7 @@ flag_ends t = head_ends t then λ head. number_ends head.2 then λ pattern. tail
 
 queue_ends : (t : Text) → Ends (queue_at t)
 unfolding queue_at
-queue_ends t = head_ends t then λ head. number_ends head.2 then λ capacity. mark_ends 44 capacity.1 then λ second. area_ends second then λ area. tail_ends area then λ ended. answer_ends _
+queue_ends t = head_ends t then λ head. listed_number_ends head.2 then λ capacity. area_ends capacity.1 then λ area. tail_ends area then λ ended. answer_ends _
 
 handler_ends : (t : Text) → Ends (handler_at t)
 unfolding handler_at
@@ -247,9 +259,13 @@ count_ends line low high n = within_ends low high (BadCount line) n (λ e. cc)
 processor_ends : (line high n : ℕ) → Ends (within 1 high (BadProcessor line) n)
 processor_ends line high n = within_ends 1 high (BadProcessor line) n (λ e. cc)
 
+task_numbers_end : (line : ℕ) (tasks : List TaskConfig) (x : TaskStatement) → Ends (task_numbers line tasks x)
+unfolding task_numbers
+task_numbers_end line tasks x = id_ends line 1 255 x.id then λ id. new_ends line _ then λ new. bits_end line 3 x.attributes then λ attributes. within_ends 1 16 (BadPriority line) x.priority (λ e. cc) then λ priority. refused_ends _ (BadCount line) (λ e. cc) then λ stacked. answer_ends _
+
 task_of_ends : (line : ℕ) (tasks : List TaskConfig) (processor : ℕ) (x : TaskStatement) → Ends (task_of line tasks processor x)
 unfolding task_of
-task_of_ends line tasks processor x = id_ends line 1 255 x.id then λ id. new_ends line _ then λ new. bits_end line 3 x.attributes then λ attributes. within_ends 1 16 (BadPriority line) x.priority (λ e. cc) then λ priority. refused_ends _ (BadCount line) (λ e. cc) then λ stacked. answer_ends _
+task_of_ends line tasks processor x = task_numbers_end line tasks x then λ numbers. answer_ends _
 
 semaphore_of_ends : (line : ℕ) (semaphores : List SemaphoreConfig) (x : SemaphoreStatement) → Ends (semaphore_of line semaphores x)
 unfolding semaphore_of

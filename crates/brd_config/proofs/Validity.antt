@@ -33,7 +33,7 @@ use Rattle.brd_config.specs.declared.statement.Statement.{Statement}
 use Rattle.brd_config.specs.declared.statement.Statement.TheVariants.{Board, Class, ClassEnd, Task, Semaphore, Flag, Queue, Handler}
 use Rattle.brd_config.specs.Statements.{statement_at, board_at}
 use Rattle.brd_config.specs.Configuration.{Configuration, IsWithin, IsTask, IsSemaphore, IsFlag, IsQueue, IsHandler, IsConfiguration}
-use Rattle.brd_config.specs.Meaning.{State, within, only_bits, refused, is_ram_size, task_of, semaphore_of, flag_of, queue_of, handler_of, added, processor_of, is_end, is_board, one_more, statement_step, statements_from, board_of, first_board, first_statement, config_of}
+use Rattle.brd_config.specs.Meaning.{State, within, only_bits, refused, is_ram_size, task_numbers, task_of, semaphore_of, flag_of, queue_of, handler_of, added, processor_of, is_end, is_board, one_more, statement_step, statements_from, board_of, first_board, first_statement, config_of}
 use Rattle.brd_config.specs.Grammar.{task_said, semaphore_said, flag_said, queue_said, handler_said}
 use Rattle.brd_config.proofs.RamSize.{has_ram_size}
 
@@ -82,6 +82,10 @@ refused_ok : (test : Bool) (f : ConfigFault) (x : Unit {0}) → refused test f �
 refused_ok test f x e = not_refused test f tt x e
 
 -- the values of steps that did not fail, and what they make
+pub one_ok : {A X : Type 0} (r : Result A ConfigFault) (f : A → X) (x : X) → (r >>= λ a. Ok (f a)) ≡ Ok x → (a : A) × (r ≡ Ok a) × (f a ≡ x)
+one_ok (Err w) f x h = absurd (cc)
+one_ok (Ok a) f x h = (a, refl, ok_is (f a) x h)
+
 pub two_ok : {A B X : Type 0} (r0 : Result A ConfigFault) (r1 : Result B ConfigFault) (f : A → B → X) (x : X) → (r0 >>= λ a. r1 >>= λ b. Ok (f a b)) ≡ Ok x
     → (a : A) × (b : B) × (r0 ≡ Ok a) × (r1 ≡ Ok b) × (f a b ≡ x)
 two_ok (Err w) r1 f x h = absurd (cc)
@@ -114,17 +118,19 @@ five_ok (Ok a) (Ok b) (Ok c) (Ok d) (Ok v) f x h = (a, b, c, d, v, refl, refl, r
 
 pub task_ok : (line : ℕ) (tasks : List TaskConfig) (processors processor : ℕ) (t : TaskStatement) (x : TaskConfig) → IsWithin 1 processors processor → task_of line tasks processor t ≡ Ok x
     → IsTask processors x × (list_any (λ o. nat_eq o.id x.id) tasks ≡ false) × (x ≡ task_said processor t)
-unfolding task_of
+unfolding task_of task_numbers
 task_ok line tasks processors processor t x on e =
+    let numbers = one_ok (task_numbers line tasks t)
+    (λ numbers. record { id = numbers.0; processor = processor; attributes = record { 0 = numbers.1 }; exinf = t.exinf; address = t.address; priority = numbers.2; stack_size = t.stack_size; stack = t.stack }) x e in
     let p = five_ok (within 1 255 (BadId line) t.id) (refused (list_any (λ o. nat_eq o.id t.id) tasks) (Duplicate line)) (only_bits 3 (BadAttribute line) t.attributes)
     (within 1 16 (BadPriority line) t.priority) (refused (nat_eq t.stack_size 0) (BadCount line))
-    (λ id new attributes priority sized. record { id = id; processor = processor; attributes = record { 0 = attributes }; exinf = t.exinf; address = t.address; priority = priority; stack_size = t.stack_size; stack = t.stack }) x e in
+    (λ id new attributes priority sized. (id, attributes, priority)) numbers.0 numbers.1 in
     let id = within_ok 1 255 (BadId line) t.id p.0 p.5 in
     let new = refused_ok (list_any (λ o. nat_eq o.id t.id) tasks) (Duplicate line) p.1 p.6 in
     let attributes = only_bits_ok 3 (BadAttribute line) t.attributes p.2 p.7 in
     let priority = within_ok 1 16 (BadPriority line) t.priority p.3 p.8 in
     let sized : 1 ≤ t.stack_size = not_zero t.stack_size (refused_ok (nat_eq t.stack_size 0) (BadCount line) p.4 p.9) in
-    rw (← p.10) (record { id = id.1; processor = on; attributes = attributes.1; priority = priority.1; stack_size = sized }, rw id.0 new, rw (id.0, attributes.0, priority.0) refl)
+    rw (← numbers.2, ← p.10) (record { id = id.1; processor = on; attributes = attributes.1; priority = priority.1; stack_size = sized }, rw id.0 new, rw (id.0, attributes.0, priority.0) refl)
 
 pub semaphore_ok : (line : ℕ) (semaphores : List SemaphoreConfig) (t : SemaphoreStatement) (x : SemaphoreConfig) → semaphore_of line semaphores t ≡ Ok x
     → IsSemaphore x × (list_any (λ o. nat_eq o.id x.id) semaphores ≡ false) × (x ≡ semaphore_said t)
@@ -173,10 +179,6 @@ handler_ok line handlers processors processor t x on e =
     rw (← p.6) (record { line = number.1.most; processor = on }, rw number.0 new, rw number.0 refl, omega (arith, attributes.0, attributes.1))
 
 -- ---- statements
-
-pub one_ok : {A X : Type 0} (r : Result A ConfigFault) (f : A → X) (x : X) → (r >>= λ a. Ok (f a)) ≡ Ok x → (a : A) × (r ≡ Ok a) × (f a ≡ x)
-one_ok (Err w) f x h = absurd (cc)
-one_ok (Ok a) f x h = (a, refl, ok_is (f a) x h)
 
 -- what holds of the statements so far
 pub record IsState (s : State) : Type 0 where

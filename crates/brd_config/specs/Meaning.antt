@@ -55,8 +55,7 @@ pub record State : Type 0 where
 abbrev pub processor_of : Option ℕ → ℕ
 processor_of class = unwrap_or class 1
 
--- The first steps of `task_of`: the ID, the attributes and the priority of a task, next to tasks that are defined. A
--- stack of no bytes is refused.
+-- The ID, the attributes and the priority of a task, next to tasks that are defined. A stack of no bytes is refused.
 unfoldable pub task_numbers : ℕ → List TaskConfig → TaskStatement → Result (ℕ × ℕ × ℕ) ConfigFault
 task_numbers line tasks t = do
   id ← within 1 255 (BadId line) t.id
@@ -69,12 +68,8 @@ task_numbers line tasks t = do
 -- A task on this processor, next to tasks that are defined.
 unfoldable pub task_of : ℕ → List TaskConfig → ℕ → TaskStatement → Result TaskConfig ConfigFault
 task_of line tasks processor t = do
-  id ← within 1 255 (BadId line) t.id
-  new ← refused (list_any (λ other. other.id == t.id) tasks) (Duplicate line)
-  attributes ← only_bits 3 (BadAttribute line) t.attributes
-  priority ← within 1 16 (BadPriority line) t.priority
-  stacked ← refused (t.stack_size == 0) (BadCount line)
-  Ok (record { id = id; processor = processor; attributes = record { 0 = attributes }; exinf = t.exinf; address = t.address; priority = priority; stack_size = t.stack_size; stack = t.stack })
+  numbers ← task_numbers line tasks t
+  Ok (record { id = numbers.0; processor = processor; attributes = record { 0 = numbers.1 }; exinf = t.exinf; address = t.address; priority = numbers.2; stack_size = t.stack_size; stack = t.stack })
 
 unfoldable pub semaphore_of : ℕ → List SemaphoreConfig → SemaphoreStatement → Result SemaphoreConfig ConfigFault
 semaphore_of line semaphores s = do

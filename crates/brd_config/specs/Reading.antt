@@ -163,9 +163,8 @@ listed_operand_at t = do
 unfoldable pub head_at : Text → Result (ℕ × ℕ × Text) ConfigFault
 head_at t = do
   opened ← mark_at 40 t
-  id ← number_at opened
-  listed ← mark_at 44 id.1
-  inner ← mark_at 123 listed
+  id ← listed_number_at opened
+  inner ← mark_at 123 id.1
   attributes ← attributes_at 44 inner
   Ok (id.0, attributes.0, attributes.1)
 

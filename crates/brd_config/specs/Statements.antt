@@ -11,7 +11,7 @@ use Rattle.brd_config.specs.declared.statement.Keyword.TheVariants as keywords
 use Rattle.brd_config.specs.declared.statement.Statement.{Statement}
 use Rattle.brd_config.specs.declared.statement.Statement.TheVariants.{Board, Class, ClassEnd, Task, Semaphore, Flag, Queue, Handler}
 use Rattle.brd_config.specs.declared.objects.Stack.{Stack}
-use Rattle.brd_config.specs.Reading.{named_in, number_at, listed_number_at, mark_at, operand_at, stack_at, area_at, class_number_at, head_at, tail_at}
+use Rattle.brd_config.specs.Reading.{named_in, number_at, listed_number_at, listed_operand_at, mark_at, operand_at, stack_at, area_at, class_number_at, head_at, tail_at}
 
 abbrev pub keyword_names : List (List ℕ × Keyword)
 keyword_names =
@@ -30,9 +30,8 @@ keyword_of run = named_in keyword_names run
 unfoldable pub board_at : Text → Result (ℕ × ℕ × Text) ConfigFault
 board_at t = do
   opened ← mark_at 40 t
-  processors ← number_at opened
-  second ← mark_at 44 processors.1
-  ram ← number_at second
+  processors ← listed_number_at opened
+  ram ← number_at processors.1
   closed ← mark_at 41 ram.1
   ended ← mark_at 59 closed
   Ok (processors.0, ram.0, ended)
@@ -46,7 +45,7 @@ class_at t = do
   inner ← mark_at 123 closed
   Ok (Class n.0, inner)
 
--- What follows the comma behind a task's address, the end of `task_at`: itskpri, stksz, stk});
+-- the end of CRE_TSK: itskpri, stksz, stk});
 unfoldable pub task_tail_at : Text → Result (ℕ × ℕ × Stack × Text) ConfigFault
 task_tail_at t = do
   priority ← listed_number_at t
@@ -59,25 +58,17 @@ task_tail_at t = do
 unfoldable pub task_at : Text → Result (Statement × Text) ConfigFault
 task_at t = do
   head ← head_at t
-  exinf ← operand_at head.2
-  second ← mark_at 44 exinf.1
-  address ← operand_at second
-  third ← mark_at 44 address.1
-  priority ← number_at third
-  fourth ← mark_at 44 priority.1
-  size ← number_at fourth
-  fifth ← mark_at 44 size.1
-  stack ← stack_at fifth
-  ended ← tail_at stack.1
-  Ok (Task (record { id = head.0; attributes = head.1; exinf = exinf.0; address = address.0; priority = priority.0; stack_size = size.0; stack = stack.0 }), ended)
+  exinf ← listed_operand_at head.2
+  address ← listed_operand_at exinf.1
+  rest ← task_tail_at address.1
+  Ok (Task (record { id = head.0; attributes = head.1; exinf = exinf.0; address = address.0; priority = rest.0; stack_size = rest.1; stack = rest.2 }), rest.3)
 
 -- CRE_SEM(semid, {sematr, isemcnt, maxsem});
 unfoldable pub semaphore_at : Text → Result (Statement × Text) ConfigFault
 semaphore_at t = do
   head ← head_at t
-  initial ← number_at head.2
-  second ← mark_at 44 initial.1
-  maximum ← number_at second
+  initial ← listed_number_at head.2
+  maximum ← number_at initial.1
   ended ← tail_at maximum.1
   Ok (Semaphore (record { id = head.0; attributes = head.1; initial = initial.0; maximum = maximum.0 }), ended)
 
@@ -93,9 +84,8 @@ flag_at t = do
 unfoldable pub queue_at : Text → Result (Statement × Text) ConfigFault
 queue_at t = do
   head ← head_at t
-  capacity ← number_at head.2
-  second ← mark_at 44 capacity.1
-  area ← area_at second
+  capacity ← listed_number_at head.2
+  area ← area_at capacity.1
   ended ← tail_at area
   Ok (Queue (record { id = head.0; attributes = head.1; capacity = capacity.0 }), ended)
 

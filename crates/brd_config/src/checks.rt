@@ -100,7 +100,7 @@ fn task_numbers(
 }
 
 /// The task of a statement that begins on this line, on this processor, next to the tasks that are defined.
-#[tactic(auto, unfolding(crate::specs::Meaning::task_of, crate::specs::Meaning::task_numbers))]
+#[tactic(auto, unfolding(crate::specs::Meaning::task_of))]
 pub(crate) fn task(
     line: usize,
     tasks: &[TaskConfig],

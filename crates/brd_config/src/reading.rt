@@ -275,8 +275,7 @@ pub(crate) fn head(tokens: &mut Scanner) -> Result<(u32, u32), ConfigFault>
     ensures shorter { OnOk result (length tokens.new.tokens < length tokens.old.tokens) }
 {
     mark(tokens, b'(')?;
-    let id = number(tokens)?;
-    mark(tokens, b',')?;
+    let id = listed_number(tokens)?;
     mark(tokens, b'{')?;
     let attributes = attributes(tokens, b',')?;
     Ok((id, attributes))

@@ -44,8 +44,7 @@ pub(crate) fn board(tokens: &mut Scanner) -> Result<(u32, u32), ConfigFault>
     ensures shorter { OnOk result (length tokens.new.tokens < length tokens.old.tokens) }
 {
     mark(tokens, b'(')?;
-    let processors = number(tokens)?;
-    mark(tokens, b',')?;
+    let processors = listed_number(tokens)?;
     let ram = number(tokens)?;
     mark(tokens, b')')?;
     mark(tokens, b';')?;
@@ -65,8 +64,7 @@ fn class(tokens: &mut Scanner) -> Result<Statement, ConfigFault>
     Ok(Statement::Class(processor))
 }
 
-/// Takes what follows the comma behind a task's address, to the statement's end: its priority, and its stack with its
-/// size.
+/// Takes the end of `CRE_TSK`, `itskpri, stksz, stk});`: a task's priority, the size of its stack, and the stack.
 #[tactic(auto, unfolding(crate::specs::Statements::task_tail_at))]
 fn task_tail(alloc: Global, tokens: &mut Scanner) -> Result<(u32, u32, Stack), ConfigFault>
     ensures read { Gives (λ x. (x.0, x.1, x.2, tokens.new)) result (statements.task_tail_at tokens.old) }
@@ -80,7 +78,7 @@ fn task_tail(alloc: Global, tokens: &mut Scanner) -> Result<(u32, u32, Stack), C
 }
 
 /// Takes what follows `CRE_TSK`.
-#[tactic(auto, unfolding(crate::specs::Statements::task_at, crate::specs::Statements::task_tail_at, crate::specs::Reading::listed_number_at, crate::specs::Reading::listed_operand_at))]
+#[tactic(auto, unfolding(crate::specs::Statements::task_at))]
 fn task(alloc: Global, tokens: &mut Scanner) -> Result<Statement, ConfigFault>
     ensures read { Gives (λ s. (s, tokens.new)) result (statements.task_at tokens.old) }
     ensures shorter { OnOk result (length tokens.new.tokens < length tokens.old.tokens) }
@@ -107,8 +105,7 @@ fn semaphore(tokens: &mut Scanner) -> Result<Statement, ConfigFault>
     ensures shorter { OnOk result (length tokens.new.tokens < length tokens.old.tokens) }
 {
     let (id, attributes) = head(tokens)?;
-    let initial = number(tokens)?;
-    mark(tokens, b',')?;
+    let initial = listed_number(tokens)?;
     let maximum = number(tokens)?;
     tail(tokens)?;
     Ok(Statement::Semaphore(SemaphoreStatement {
@@ -142,8 +139,7 @@ fn queue(tokens: &mut Scanner) -> Result<Statement, ConfigFault>
     ensures shorter { OnOk result (length tokens.new.tokens < length tokens.old.tokens) }
 {
     let (id, attributes) = head(tokens)?;
-    let capacity = number(tokens)?;
-    mark(tokens, b',')?;
+    let capacity = listed_number(tokens)?;
     area(tokens)?;
     tail(tokens)?;
     Ok(Statement::Queue(QueueStatement {
