@@ -3,6 +3,7 @@ use Rattle.std.proofs.Common.{◌≡◌, ◌⊎◌, inl, inr, ℕ, zero, suc, Li
 use Rattle.std.specs.Prelude.{Bool, true, false, ◌==◌, nat_lt, if◌then◌else◌, MatchBool, Option, None, Some, is_some, unwrap_or, Result, Ok, Err, is_ok, slice_index_or, slice_set}
 use Rattle.std.specs.Option.{option_map}
 use Rattle.std.proofs.lemmas.Bool.{false≢true}
+use Rattle.brd_isa.specs.declared.instruction.Insn.{Insn}
 use Rattle.brd_isa.specs.declared.instruction.Insn.TheVariants.{Linked}
 use Rattle.brd_isa.specs.declared.instruction.LinkedOp.TheVariants.{Sc}
 use Rattle.brd_mem.specs.declared.fault.Exc.{Exc}
@@ -14,7 +15,9 @@ use Rattle.brd_exec.specs.declared.outcome.Outcome.{Outcome}
 use Rattle.brd_exec.specs.declared.outcome.Outcome.TheVariants.{Done, Syscall, Exception}
 use Rattle.brd_exec.specs.State.{State, read, with_register, address_of}
 use Rattle.brd_exec.specs.Step.{Ran, ran, ended, stores_if_linked, next_instruction}
-use Rattle.brd_exec.specs.Kept.{KeepsUnlessDone}
+use Rattle.brd_exec.specs.Action.{Action, action}
+use Rattle.brd_exec.specs.declared.outcome.ExceptionCode.{ExceptionCode}
+use Rattle.brd_exec.specs.Kept.{KeepsUnlessDone, links_behind, links_left}
 use Rattle.brd_exec.specs.Did.{Did, Conditional, Ended, did_conditional, did}
 use Rattle.brd_exec.proofs.KeptLemmas.{keeps-ran}
 use Rattle.brd_exec.proofs.StepLemmas.{Moved, ran-does, ran-next, did-known}
@@ -62,9 +65,19 @@ without-twice : (links : LinkSet) (cpu : ℕ) → without (without links cpu) cp
 without-twice [] cpu = refl
 without-twice (link ∷ links) cpu = without-by (link.processor == cpu) link links cpu refl (without-twice links cpu)
 
-without-kept : (links left : LinkSet) (cpu : ℕ) → (left ≡ links) ⊎ (left ≡ without links cpu) → without left cpu ≡ without links cpu
-without-kept links left cpu (inl same) = ap (λ ls. without ls cpu) same
-without-kept links left cpu (inr own) = ap (λ ls. without ls cpu) own ∙ without-twice links cpu
+without-behind : (cpu : ℕ) (links : LinkSet) (act : Action) → without (links_behind cpu links act) cpu ≡ without links cpu
+without-behind cpu links (Action.Local after) = refl
+without-behind cpu links (Action.MayStop outcome) = refl
+without-behind cpu links (Action.Loads op rt address) = refl
+without-behind cpu links (Action.Stores op rt address) = refl
+without-behind cpu links (Action.LoadsLinked rt address) = refl
+without-behind cpu links (Action.StoresIfLinked rt address) = without-twice links cpu
+
+-- where a step stops, the links but for the processor's own are what they were
+without-left : (cpu : ℕ) (s : State) (links : LinkSet) (next : Result Insn ExceptionCode) →
+    without (links_left cpu s links next) cpu ≡ without links cpu
+without-left cpu s links (Ok insn) = without-behind cpu links (action insn s)
+without-left cpu s links (Err code) = refl
 
 -- an end of the processor's link, and then those of a dispatch, over memory and links that are already changed so
 end-then : (memory : Memory) (links : LinkSet) (cpu : ℕ) (cpus : List ℕ) (there : Memory) (left : LinkSet) → there ≡ memory →
@@ -80,7 +93,7 @@ walk-done b k cpu address s left what Done moved keeps = (left.memory, left.link
 walk-done b k cpu address s left what Syscall moved keeps =
     let c : BoardState = with_call (record b { kernel = k; memory = left.memory; links = left.links }) cpu in
     end-then b.memory b.links cpu (changed_processors c.kernel (dispatched c.kernel)) left.memory (without left.links cpu) keeps.memory
-    (without-kept b.links left.links cpu keeps.links)
+    (ap (λ ls. without ls cpu) keeps.links ∙ without-left cpu s b.links (next_instruction s b.memory))
 walk-done b k cpu address s left what (Exception code epc bd) moved keeps =
     let c : BoardState = with_fault (record b { kernel = k; memory = left.memory; links = left.links }) cpu
     (record { code = code; epc = epc; bd = bd }) in
