@@ -18,7 +18,7 @@ use Rattle.brd_kernel.specs.declared.processor.Processor.{Processor}
 use Rattle.brd_kernel.specs.declared.processor.Executor.{Executor}
 use Rattle.brd_kernel.specs.declared.processor.Executor.TheVariants as executor
 use Rattle.brd_kernel.specs.declared.processor.Standing.TheVariants as standing
-use Rattle.brd_kernel.specs.Kernel.{KernelState, processor_at, running_in, executor_by, executor_in, executor_on, context_of, context_on, with_context_of, standing_by, standing_in, deliverable, line_at, Executed, executed_by, executed_in, executed}
+use Rattle.brd_kernel.specs.Kernel.{KernelState, processor_at, running_in, executor_by, executor_in, executor_on, handler_context_at, context_of, context_on, with_context_of, standing_by, standing_in, deliverable, line_at, Executed, executed_by, executed_in, executed}
 use Rattle.brd_kernel.specs.Waits.{shown_until, seen_at}
 use Rattle.brd_kernel.specs.Running.{IsRunning}
 use Rattle.brd_kernel.proofs.RunningLemmas.{runs-once}
@@ -106,6 +106,12 @@ processors-stay : (k : KernelState) (cpu other : ℕ) (who : Executor) (s : Stat
 processors-stay k cpu other executor.Handler s = refl
 processors-stay k cpu other (executor.Task id) s = refl
 
+handlers-stay : (k : KernelState) (cpu other : ℕ) (who : Executor) (s : State) → (other ≡ cpu → ⊥) →
+    handler_context_at (with_context_of k cpu who s) other ≡ handler_context_at k other
+handlers-stay k cpu other executor.Handler s never =
+    set-other k.handler_contexts cpu other s no_context (apart-by (cpu == other) cpu other refl never)
+handlers-stay k cpu other (executor.Task id) s never = refl
+
 registers-stay : (k : KernelState) (cpu other : ℕ) (who : Executor) (s : State) → IsRunning k → executor_on k cpu ≡ Some who →
     (other ≡ cpu → ⊥) → context_on (with_context_of k cpu who s) other ≡ context_on k other
 registers-stay k cpu other who s was one never =
@@ -114,6 +120,7 @@ registers-stay k cpu other who s was one never =
 
 -- What is left as it was, whoever executes.
 record Stays (k new : KernelState) : Type 0 where
+  rows : new.tasks.rows ≡ k.tasks.rows
   ready : new.tasks.ready ≡ k.tasks.ready
   semaphores : new.semaphores ≡ k.semaphores
   flags : new.flags ≡ k.flags
@@ -125,6 +132,7 @@ record Stays (k new : KernelState) : Type 0 where
 
 stays : (k : KernelState) (cpu : ℕ) (who : Executor) (s : State) → Stays k (with_context_of k cpu who s)
 stays k cpu executor.Handler s = record {
+  rows = refl;
   ready = refl;
   semaphores = refl;
   flags = refl;
@@ -135,6 +143,7 @@ stays k cpu executor.Handler s = record {
   off = refl;
 }
 stays k cpu (executor.Task id) s = record {
+  rows = refl;
   ready = refl;
   semaphores = refl;
   flags = refl;
@@ -161,6 +170,8 @@ own-instruction b cpu who left was executes =
       tasks = λ id never. seen-other k cpu who left.state id
           (λ other is same. never ((task-runs (processor_at k cpu) id (executes ∙ ap Some (is ∙ ap executor.Task same))).1));
       own = λ id. seen-without k cpu who left.state id;
+      rows = rest.rows;
+      handlers = λ other never. handlers-stay k cpu other who left.state never;
       registers = λ other never. registers-stay k cpu other who left.state was executes never;
       processors = λ other. processors-stay k cpu other who left.state;
       standings = λ other. ap (option_map standing_in) (processors-stay k cpu other who left.state);

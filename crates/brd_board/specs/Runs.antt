@@ -5,7 +5,7 @@ use Rattle.brd_exec.specs.State.{State}
 use Rattle.brd_tasks.specs.declared.task.TaskView.{TaskView}
 use Rattle.brd_tasks.specs.Tasks.{no_context, ready_on}
 use Rattle.brd_kernel.specs.declared.processor.Standing.TheVariants as standing
-use Rattle.brd_kernel.specs.Kernel.{processor_at}
+use Rattle.brd_kernel.specs.Kernel.{handler_context_at, processor_at}
 use Rattle.brd_board.specs.declared.event.Event.{Event}
 use Rattle.brd_board.specs.declared.event.Event.TheVariants.{Step}
 use Rattle.brd_board.specs.Board.{BoardState, standing_of, registers_of, fault_of, task_of}
@@ -25,7 +25,10 @@ pub record ChangesOnlyItsOwn (b : BoardState) (event : Event) (address : ℕ) (n
   -- no task differs but the one that executed, and that one only in its context; where a handler executed none differs
   pub tasks : (id : ℕ) → (standing_of b cpu ≡ Some (standing.Task id) → ⊥) → task_of new id ≡ task_of b id
   pub own : (id : ℕ) → option_map without_context (task_of new id) ≡ option_map without_context (task_of b id)
+  -- how tasks were set up, and what else is kept of them
+  pub rows : new.kernel.tasks.rows ≡ b.kernel.tasks.rows
   pub registers : (other : ℕ) → (other ≡ cpu → ⊥) → registers_of new other ≡ registers_of b other
+  pub handlers : (other : ℕ) → (other ≡ cpu → ⊥) → handler_context_at new.kernel other ≡ handler_context_at b.kernel other
   -- who runs on each processor, its handler and its marks
   pub processors : (other : ℕ) → processor_at new.kernel other ≡ processor_at b.kernel other
   pub standings : (other : ℕ) → standing_of new other ≡ standing_of b other
