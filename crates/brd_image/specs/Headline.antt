@@ -2,7 +2,7 @@
 -- words of the object file decode to the source's instructions (`WordsDecode`), memory starts as that file names
 -- (`MemoryStarts`), and registers, memory, links, kernel and console, and what each event reported, are those of the
 -- definitions after these events (`StateIs`).
-use Rattle.std.specs.Prelude.{◌≡◌, ℕ, List, [], ◌∷◌, Ok}
+use Rattle.std.specs.Prelude.{◌≡◌, ℕ, List, [], ◌∷◌, Result, Ok, Err}
 use Rattle.brd_mem.specs.declared.image.Image.{Image}
 use Rattle.brd_asm.specs.Laws.{HasInstructions}
 use Rattle.brd_elf.specs.Meaning.{meaning}
@@ -12,6 +12,8 @@ use Rattle.brd_board.specs.declared.event.Event.{Event}
 use Rattle.brd_board.specs.declared.event.Report.{Report}
 use Rattle.brd_board.specs.Board.{BoardState, happens, after}
 use Rattle.brd_board.specs.Boot.{boot}
+use Rattle.brd_image.specs.Building.{Builds, IsBuilt}
+use Rattle.brd_image.specs.declared.fault.BuildFault.{BuildFault}
 use Rattle.brd_image.specs.declared.running.Played.{Played}
 
 -- In the image that an object file means, at the address of each line of the source with an instruction, lies a word
@@ -51,3 +53,15 @@ pub record Headline (source elf config : List ℕ) (events : List Event) (played
   pub start : BoardState
   pub starts : Starts source elf config start
   pub state : StateIs start events played
+
+-- a board that a source and a configuration make, after events
+pub record IsPlayed (source config : List ℕ) (events : List Event) (played : Played) : Type 0 where
+  pub start : BoardState
+  pub built : IsBuilt source config (Ok start)
+  pub state : StateIs start events played
+
+-- What a source, a configuration and events come to: a board that was built, after the events, or the fault of building
+-- it, unless memory ran out.
+abbrev pub Runs : List ℕ → List ℕ → List Event → Result Played BuildFault → Type 0
+Runs source config events (Ok played) = IsPlayed source config events played
+Runs source config events (Err fault) = Builds source config (Err fault)

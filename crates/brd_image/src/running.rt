@@ -1,11 +1,12 @@
 //! A board from its source to its state after events: the headline.
 
-ghost use Rattle.std.specs.Prelude.{◌≡◌, IfOk, OnOk};
+ghost use Rattle.std.specs.Prelude.{◌≡◌, false, IfErr, IfOk, OnOk};
 ghost use Rattle.brd_mem.specs.declared.image.Image.{Image as ImageOf};
 ghost use Rattle.brd_elf.specs.File.{Fits, file};
 ghost use Rattle.brd_board.specs.Board.{after};
 ghost use Rattle.brd_image.specs.Building.{IsImageOf};
-ghost use Rattle.brd_image.specs.Headline.{Headline, reports_of};
+ghost use Rattle.brd_image.specs.Faults.{holds_no_memory};
+ghost use Rattle.brd_image.specs.Headline.{Headline, Runs, reports_of};
 
 use crate::building::build;
 use crate::fault::BuildFault;
@@ -37,6 +38,10 @@ pub fn run(
     // as that file names, and the board after the events, and what each event reported, are the definition's.
     ensures headline { (image : ImageOf) → IsImageOf source.now image → Fits image →
         IfOk result (Headline source.now (file image) config.now events.now) }
+    // The board that `build` makes, after the events, or the fault that `build` answers.
+    ensures meaning { Runs source.now config.now events.now result }
+    // That memory ran out stands in no other fault.
+    ensures memory { IfErr result (λ fault. holds_no_memory fault ≡ false) }
 {
     let mut board = build(alloc, source, config)?;
     let reports = play(alloc, &mut board, events)?;
