@@ -9,7 +9,7 @@ use std::marker::Model;
 /// How many addresses a set has at most (own choice).
 pub const MOST_MARKS: usize = 64;
 
-/// At most 64 addresses, each once. They take no memory of their own.
+/// At most 64 addresses, to which none is added twice. They take no memory of their own.
 #[derive(Drop)]
 pub struct Marks {
     addresses: [u32; MOST_MARKS],
