@@ -1,19 +1,20 @@
 -- Commands that are done one after the other.
-use Rattle.std.proofs.Common.{◌≡◌, ◌+◌, ◌≤◌, ℕ, List, [], ◌∷◌, ◌++◌, length, map, refl, ap, subst, inl, arith}
+use Rattle.std.proofs.Common.{◌≡◌, ◌+◌, ◌<◌, ◌≤◌, ◌∙◌, ℕ, List, [], ◌∷◌, ◌++◌, length, map, refl, sym, ap, subst, inl, arith, append_assoc, length-append}
 use Rattle.std.specs.Prelude.{◌⊎◌, Option, Some, None, IfSome, Result}
 use Rattle.std.specs.Io.KnownBytes.{Appends}
 use Rattle.brd_debug.specs.Debugger.{DebuggerState}
 use Rattle.brd_command.specs.Answers.{Does, HasDone}
 use Rattle.brd_command.specs.Answers.HasDone.{one_more as one_more_done}
-use Rattle.brd_command.specs.DebugLine.{command_lines, command_of, commands_of}
-use Rattle.brd_command.specs.Debugging.{debugger_of, AnswersCutShort, AnswersToAll, IsOver, EndsAnswering, Debugs}
+use Rattle.brd_command.specs.DebugLine.{command_lines, command_of, commands_of, line_size}
+use Rattle.brd_command.specs.Debugging.{debugger_of, AnswersCutShort, AnswersToAll, AnswersToFirst, AnswersUpToLimit, IsOver, EndsAnswering, StopsAnswering, Debugs}
 use Rattle.brd_command.specs.Input.{most_bytes}
-use Rattle.brd_command.specs.Lines.{TakesLine, CountsLine}
+use Rattle.brd_command.specs.Lines.{TakesLine, CountsLine, IsLeftOf, KeepsFromTaking}
 use Rattle.brd_command.specs.Output.{AppendsFront, Writes}
 use Rattle.brd_command.specs.Start.{AreWithin, IsStart}
 use Rattle.brd_command.specs.declared.debug_line.DebugCommand.{DebugCommand}
 use Rattle.brd_command.specs.declared.debug_line.DebugCommand.TheVariants.{Quit}
 use Rattle.brd_command.specs.declared.fault.CommandFault.{CommandFault}
+use Rattle.brd_command.specs.declared.fault.CommandFault.TheVariants.{NoMemory, Argument, Words, Source, ImageTooLarge, Open, Read, TooLong, TooManyReads, Build, Journal, Write}
 use Rattle.brd_command.specs.declared.lines.Taken.{Taken}
 use Rattle.brd_command.specs.declared.start.Start.{Start}
 use Rattle.brd_command.proofs.OutputLemmas.{one_more}
@@ -21,8 +22,56 @@ use Rattle.brd_command.proofs.OutputLemmas.{one_more}
 -- The answers to the commands of a text, but for those of what is left of it, were written.
 abbrev pub IsAnswered : DebuggerState → List ℕ → Option (List ℕ) → ℕ → DebuggerState → Option (List ℕ) → Option (List ℕ) → Type 0
 IsAnswered first text left taken d old now =
-    (rest : List ℕ) × (bytes : List ℕ) × (left ≡ Some rest) × (taken + length rest ≡ length text)
+    (rest : List ℕ) × (bytes : List ℕ) × (left ≡ Some rest) × (taken + length rest ≡ length text) × IsLeftOf text rest
     × HasDone first (commands_of text) bytes d (commands_of rest) × Appends old now bytes
+
+left_of_left : (text rest more : List ℕ) → IsLeftOf text rest → IsLeftOf rest more → IsLeftOf text more
+left_of_left text rest more (front, whole) (line, is) =
+    (front ++ line, whole ∙ ap (λ xs. front ++ xs) is ∙ sym (append_assoc front line more))
+
+-- The next line couldn't be taken.
+module _ (first d : DebuggerState) (left : Option (List ℕ)) (taken : Taken) (old now : Option (List ℕ)) where
+  first_answered : (text : List ℕ) → IsAnswered first text left taken.bytes d old now → Writes (AnswersToFirst first (commands_of text)) old now
+  first_answered text (rest, bytes, is, counted, of-text, done, written) =
+      record { bytes = bytes; are_meant = record { last = d; left = commands_of rest; done = done }; written = written }
+
+  up_to_limit : (text : List ℕ) → ((t : List ℕ) → left ≡ Some t → most_bytes < taken.bytes + line_size t)
+      → IsAnswered first text left taken.bytes d old now → Writes (AnswersUpToLimit first text) old now
+  up_to_limit text beyond (rest, bytes, is, counted, (front, whole), done, written) = record {
+    bytes = bytes;
+    are_meant = record {
+      last = d;
+      front = front;
+      rest = rest;
+      whole = whole;
+      done = done;
+      beyond = omega (arith, counted, ap length whole, length-append front rest, beyond rest is);
+    };
+    written = written;
+  }
+
+  stopped_text : (text : List ℕ) (fault : CommandFault) → ((t : List ℕ) → left ≡ Some t → KeepsFromTaking taken t fault)
+      → IsAnswered first text left taken.bytes d old now → StopsAnswering fault first text old now
+  stopped_text text NoMemory keeps answered = first_answered text answered
+  stopped_text text (Read from error) keeps answered =
+      let why = keeps answered.0 answered.2 in (why.0, why.1, first_answered text answered)
+  stopped_text text (TooLong from) keeps answered =
+      ((keeps answered.0 answered.2).0, up_to_limit text (λ t is. (keeps t is).1) answered)
+  stopped_text text (TooManyReads from) keeps answered = (keeps answered.0 answered.2, first_answered text answered)
+  stopped_text text Argument keeps answered = absurd (keeps answered.0 answered.2)
+  stopped_text text (Words fault) keeps answered = absurd (keeps answered.0 answered.2)
+  stopped_text text (Source fault excerpt kind) keeps answered = absurd (keeps answered.0 answered.2)
+  stopped_text text ImageTooLarge keeps answered = absurd (keeps answered.0 answered.2)
+  stopped_text text (Open name error) keeps answered = absurd (keeps answered.0 answered.2)
+  stopped_text text (Build fault kind) keeps answered = absurd (keeps answered.0 answered.2)
+  stopped_text text (Journal fault kind) keeps answered = absurd (keeps answered.0 answered.2)
+  stopped_text text (Write error) keeps answered = absurd (keeps answered.0 answered.2)
+
+  pub stopped : (input : Option (List ℕ)) (fault : CommandFault) → ((t : List ℕ) → left ≡ Some t → KeepsFromTaking taken t fault)
+      → ((text : List ℕ) → input ≡ Some text → IsAnswered first text left taken.bytes d old now)
+      → IfSome input (λ text. StopsAnswering fault first text old now)
+  stopped None fault keeps answered = tt
+  stopped (Some text) fault keeps answered = stopped_text text fault keeps (answered text refl)
 
 module _ (first d : DebuggerState) (left after : Option (List ℕ)) (taken next : Taken) (found : Option (List ℕ)) (old now : Option (List ℕ))
     (takes : (t : List ℕ) → left ≡ Some t → TakesLine t taken found after next) (counts : CountsLine taken found next) where
@@ -37,7 +86,7 @@ module _ (first d : DebuggerState) (left after : Option (List ℕ)) (taken next 
 
   -- the text has ended
   ended_text : (text : List ℕ) → found ≡ None → IsAnswered first text left taken.bytes d old now → Writes (AnswersToAll first text after) old now
-  ended_text text none (rest, bytes, is, counted, done, written) =
+  ended_text text none (rest, bytes, is, counted, of-text, done, written) =
       let step = subst (λ f. TakesLine rest taken f after next) none (takes rest is) in
       let few = subst (λ f. CountsLine taken f next) none counts in
       all_done text bytes [] [] (subst (λ cs. HasDone first (commands_of text) bytes d cs) (ap (map command_of) step.0) done) step.1 refl
@@ -52,7 +101,7 @@ module _ (first d : DebuggerState) (left after : Option (List ℕ)) (taken next 
     -- the next command is `quit`
     quit_text : (text : List ℕ) → command_of line ≡ Quit → IsAnswered first text left taken.bytes d old now
         → Writes (AnswersToAll first text after) old now
-    quit_text text quits (rest, bytes, is, counted, done, written) =
+    quit_text text quits (rest, bytes, is, counted, of-text, done, written) =
         let step = subst (λ f. TakesLine rest taken f after next) some (takes rest is) in
         let few = subst (λ f. CountsLine taken f next) some counts in
         all_done text bytes step.0 (command_of line ∷ commands_of step.0)
@@ -75,12 +124,13 @@ module _ (first d : DebuggerState) (left after : Option (List ℕ)) (taken next 
       -- the answer was written
       pub more_answered : (text : List ℕ) → Appends now new answer → IsAnswered first text left taken.bytes d old now
           → IsAnswered first text after next.bytes behind old new
-      more_answered text appends (rest, bytes, is, counted, done, written) =
+      more_answered text appends (rest, bytes, is, counted, of-text, done, written) =
           let step = subst (λ f. TakesLine rest taken f after next) some (takes rest is) in (
             step.0,
             bytes ++ answer,
             step.1,
             omega (arith, counted, step.3),
+            left_of_left text rest step.0 of-text step.4,
             done_more text rest bytes is done step.0 step.2,
             one_more old now new bytes answer written appends,
           )
@@ -88,7 +138,7 @@ module _ (first d : DebuggerState) (left after : Option (List ℕ)) (taken next 
       -- a front of the answer was written
       front_text : (text : List ℕ) → AppendsFront now new answer → IsAnswered first text left taken.bytes d old now
           → Writes (AnswersCutShort first (commands_of text)) old new
-      front_text text front (rest, bytes, is, counted, done, written) =
+      front_text text front (rest, bytes, is, counted, of-text, done, written) =
           let step = subst (λ f. TakesLine rest taken f after next) some (takes rest is) in
           record {
             bytes = bytes ++ front.front;

@@ -1,8 +1,10 @@
 -- What is known of an input that was read in part.
-use Rattle.std.proofs.Common.{refl, ◌<◌, ◌≤◌, ◌+◌, ◌++◌, length, take, ℕ, List, arith, length-append, length-take-le}
+use Rattle.std.proofs.Common.{refl, sym, subst, ◌≢◌, ◌<◌, ◌≤◌, ◌+◌, ◌++◌, length, take, ℕ, List, arith, length-append, length-take-le}
 use Rattle.std.specs.Prelude.{Option, Some, None}
 use Rattle.std.specs.Io.KnownBytes.{Consumes}
+use Rattle.std.specs.IoError.{error_kind}
 use Rattle.std.specs.declared.io.Error.{Error}
+use Rattle.std.specs.declared.io.ErrorKind.TheVariants.{OutOfMemory}
 use Rattle.brd_command.specs.Faults.{IsOfRead}
 use Rattle.brd_command.specs.Input.{KeepsFromReading, most_bytes}
 use Rattle.brd_command.specs.declared.fault.CommandFault.{CommandFault}
@@ -20,7 +22,7 @@ too_long (Some xs) (Some ys) (Some zs) bytes piece n input taken read all more =
 -- a read that failed keeps any input from being read
 pub read_failed : (name : InputName) (input : Option (List ℕ)) (error : Error) (fault : CommandFault) → IsOfRead name error fault → KeepsFromReading name input fault
 read_failed name input error NoMemory is = tt
-read_failed name input error (Read from e) is = is.0
+read_failed name input error (Read from e) is = (is.0, subst (λ (x : Error). error_kind x ≢ OutOfMemory) (sym is.1) is.2)
 read_failed name input error (TooLong from) is = absurd is
 read_failed name input error (TooManyReads from) is = absurd is
 read_failed name input error (Build fault kind) is = absurd is

@@ -1,6 +1,8 @@
 -- The command `asm`: what it writes for what it reads, and how it ends where it doesn't.
-use Rattle.std.specs.Prelude.{◌≡◌, ◌≢◌, ℕ, ◌<◌, List, length, Option, Result, Ok, Err}
+use Rattle.std.specs.Prelude.{◌≡◌, ◌≢◌, ℕ, ◌<◌, ◌≤◌, List, length, Option, Result, Ok, Err}
 use Rattle.std.specs.Io.KnownBytes.{Keeps}
+use Rattle.std.specs.IoError.{error_kind}
+use Rattle.std.specs.declared.io.ErrorKind.TheVariants.{OutOfMemory}
 use Rattle.brd_mem.specs.declared.image.Image.{Image}
 use Rattle.brd_elf.specs.File.{file, Fits}
 use Rattle.brd_elf.specs.Meaning.{meaning}
@@ -50,21 +52,25 @@ KeepsFromAssembling source ImageTooLarge = IsTooLarge source
 KeepsFromAssembling source _ = ⊥
 
 -- A fault of the source comes before anything is written. Where writing failed, a front of the object file was written.
+-- A source that was read whole is no longer than an input may be.
 abbrev pub RefusesSource : CommandFault → List ℕ → Option (List ℕ) → Option (List ℕ) → Type 0
 RefusesSource NoMemory source old new = Keeps old new
 RefusesSource Argument source old new = ⊥
 RefusesSource (Words fault) source old new = ⊥
-RefusesSource (Source fault excerpt kind) source old new = KeepsFromAssembling source (Source fault excerpt kind) × Keeps old new
-RefusesSource ImageTooLarge source old new = KeepsFromAssembling source ImageTooLarge × Keeps old new
+RefusesSource (Source fault excerpt kind) source old new =
+    (length source ≤ most_bytes) × KeepsFromAssembling source (Source fault excerpt kind) × Keeps old new
+RefusesSource ImageTooLarge source old new =
+    (length source ≤ most_bytes) × KeepsFromAssembling source ImageTooLarge × Keeps old new
 RefusesSource (Open name error) source old new = ⊥
-RefusesSource (Read input error) source old new = (input ≡ input_name.Source) × Keeps old new
+RefusesSource (Read input error) source old new =
+    (input ≡ input_name.Source) × (error_kind error ≢ OutOfMemory) × Keeps old new
 RefusesSource (TooLong input) source old new = (input ≡ input_name.Source) × (most_bytes < length source) × Keeps old new
 RefusesSource (TooManyReads input) source old new = (input ≡ input_name.Source) × Keeps old new
 RefusesSource (Build fault kind) source old new = ⊥
 RefusesSource (Journal fault kind) source old new = ⊥
-RefusesSource (Write error) source old new = WritesFront (IsObjectFile source) old new
+RefusesSource (Write error) source old new = (length source ≤ most_bytes) × WritesFront (IsObjectFile source) old new
 
 -- how `asm` ends: the source's object file was written, or it was refused
 abbrev pub AsmEnds : Result Unit CommandFault → List ℕ → Option (List ℕ) → Option (List ℕ) → Type 0
-AsmEnds (Ok done) source old new = Writes (IsObjectFile source) old new
+AsmEnds (Ok done) source old new = (length source ≤ most_bytes) × Writes (IsObjectFile source) old new
 AsmEnds (Err fault) source old new = RefusesSource fault source old new

@@ -1,5 +1,5 @@
 -- The commands of `debug`, and the lines that say them (own choice).
-use Rattle.std.specs.Prelude.{ℕ, ◌-◌, ◌^◌, ◌==◌, if◌then◌else◌, List, [], ◌∷◌, length, take, drop, map, codes, Option, Some, None, option_map}
+use Rattle.std.specs.Prelude.{ℕ, ◌+◌, ◌-◌, ◌^◌, ◌==◌, if◌then◌else◌, List, [], ◌∷◌, length, take, drop, map, codes, Option, Some, None, option_map}
 use Rattle.std.specs.Str.{bytes_eq}
 use Rattle.brd_text.specs.Hex.{hex_word_of}
 use Rattle.brd_text.specs.Lines.{in_front}
@@ -12,6 +12,11 @@ use Rattle.brd_command.specs.declared.debug_line.DebugCommand.TheVariants.{Goto,
 abbrev pub command_lines : List ℕ → List (List ℕ)
 command_lines [] = []
 command_lines (b ∷ bs) = if b == 10 then [] ∷ command_lines bs else in_front b (command_lines bs)
+
+-- how many bytes the first line of an input takes, its newline too
+abbrev pub line_size : List ℕ → ℕ
+line_size [] = 0
+line_size (b ∷ bs) = if b == 10 then 1 else line_size bs + 1
 
 -- where a line begins so, what is said of its rest; else the other
 abbrev pub if_begins : List ℕ → (List ℕ → Option DebugCommand) → List ℕ → Option DebugCommand → Option DebugCommand

@@ -1,9 +1,11 @@
 -- The command `debug`: what it writes for what it reads, and how it ends where it doesn't.
-use Rattle.std.specs.Prelude.{◌≡◌, ◌⊎◌, ℕ, ◌+◌, ◌<◌, ◌≤◌, List, [], ◌∷◌, ◌++◌, length, Option, Some, IfSome, Result, Ok, Err}
+use Rattle.std.specs.Prelude.{◌≡◌, ◌≢◌, ◌⊎◌, ℕ, ◌+◌, ◌<◌, ◌≤◌, List, [], ◌∷◌, ◌++◌, length, Option, Some, IfSome, Result, Ok, Err}
 use Rattle.std.specs.Io.KnownBytes.{Keeps}
+use Rattle.std.specs.IoError.{error_kind}
+use Rattle.std.specs.declared.io.ErrorKind.TheVariants.{OutOfMemory}
 use Rattle.brd_debug.specs.Debugger.{DebuggerState}
 use Rattle.brd_command.specs.Answers.{Does, HasDone}
-use Rattle.brd_command.specs.DebugLine.{commands_of}
+use Rattle.brd_command.specs.DebugLine.{commands_of, line_size}
 use Rattle.brd_command.specs.Input.{most_bytes}
 use Rattle.brd_command.specs.Output.{Writes}
 use Rattle.brd_command.specs.Start.{AreWithin, IsStart, KeepsFromStarting}
@@ -23,6 +25,16 @@ pub record AnswersToFirst (d : DebuggerState) (commands : List DebugCommand) (by
   pub last : DebuggerState
   pub left : List DebugCommand
   pub done : HasDone d commands bytes last left
+
+-- What a debugger answers to the commands of a text whose lines end within the bytes that an input may have, where none
+-- of these is `quit` and the next line doesn't end there.
+pub record AnswersUpToLimit (d : DebuggerState) (text bytes : List ℕ) : Type 0 where
+  pub last : DebuggerState
+  pub front : List ℕ
+  pub rest : List ℕ
+  pub whole : text ≡ front ++ rest
+  pub done : HasDone d (commands_of text) bytes last (commands_of rest)
+  pub beyond : most_bytes < length front + line_size rest
 
 -- What a debugger answers to the first of some commands, and a front of its answer to the next of them.
 pub record AnswersCutShort (d : DebuggerState) (commands : List DebugCommand) (bytes : List ℕ) : Type 0 where
@@ -60,9 +72,9 @@ pub record AnswersToAll (d : DebuggerState) (text : List ℕ) (unread : Option (
 -- writing failed, a front of the answer to the next one too.
 abbrev pub StopsAnswering : CommandFault → DebuggerState → List ℕ → Option (List ℕ) → Option (List ℕ) → Type 0
 StopsAnswering NoMemory d text old new = Writes (AnswersToFirst d (commands_of text)) old new
-StopsAnswering (Read from error) d text old new = (from ≡ StandardInput) × Writes (AnswersToFirst d (commands_of text)) old new
-StopsAnswering (TooLong from) d text old new =
-    (from ≡ StandardInput) × (most_bytes < length text) × Writes (AnswersToFirst d (commands_of text)) old new
+StopsAnswering (Read from error) d text old new =
+    (from ≡ StandardInput) × (error_kind error ≢ OutOfMemory) × Writes (AnswersToFirst d (commands_of text)) old new
+StopsAnswering (TooLong from) d text old new = (from ≡ StandardInput) × Writes (AnswersUpToLimit d text) old new
 StopsAnswering (TooManyReads from) d text old new = (from ≡ StandardInput) × Writes (AnswersToFirst d (commands_of text)) old new
 StopsAnswering (Write error) d text old new = Writes (AnswersCutShort d (commands_of text)) old new
 StopsAnswering _ d text old new = ⊥

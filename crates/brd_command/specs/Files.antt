@@ -1,6 +1,7 @@
 -- What the files of a command give it, and how `asm`, `run` and `debug` end on them. `opened` and `created` say what a
--- call on files did: the files before, a name, what the call gave, and the files after. `remaining` says what a file
--- has left to read; `before` and `behind` are what standard output held before and behind the command.
+-- call on files did: the files before, a name, what the call gave, and the files after; `closed` says what letting a
+-- written file go did. `remaining` says what a file has left to read, `contents` what a file holds that is written;
+-- `before` and `behind` are what standard output held before and behind the command.
 use Rattle.std.specs.Prelude.{◌≡◌, ℕ, List, Option, IfSome, Result, Ok, Err, IsErrAnd}
 use Rattle.std.specs.declared.io.Error.{Error}
 use Rattle.brd_command.specs.AsmCommand.{AsmEnds}
@@ -10,21 +11,22 @@ use Rattle.brd_command.specs.RunCommand.{RunEnds}
 use Rattle.brd_command.specs.declared.fault.CommandFault.{CommandFault}
 use Rattle.brd_command.specs.declared.files.Inputs.{Inputs}
 
--- SOURCE is opened first; OUT is created only where SOURCE was opened; the source is read and the object file is
--- written only where both succeeded. The fault of a file that couldn't be opened or created has that file's name.
+-- SOURCE is opened first; OUT is created only where SOURCE was opened; what `asm` writes is written only where both
+-- succeeded, and then OUT is let go as `asm` left it. The fault of a file that couldn't be opened or created has that
+-- file's name.
 pub data AsmFilesEnd {F R W : Type 0}
     (opened : F → List ℕ → Result R Error → F → Type 0) (created : F → List ℕ → Result W Error → F → Type 0)
-    (remaining : R → Option (List ℕ)) (contents : W → Option (List ℕ))
+    (closed : F → W → F → Type 0) (remaining : R → Option (List ℕ)) (contents : W → Option (List ℕ))
     (old : F) (source out : List ℕ) (result : Result Unit CommandFault) (new : F) : Type 0 where
   not_opened : {error : Error} → opened old source (Err error) new → IsErrAnd result (IsOfOpen source error) →
-      AsmFilesEnd opened created remaining contents old source out result new
+      AsmFilesEnd opened created closed remaining contents old source out result new
   not_created : {between : F} {reader : R} {error : Error} →
       opened old source (Ok reader) between → created between out (Err error) new → IsErrAnd result (IsOfOpen out error) →
-      AsmFilesEnd opened created remaining contents old source out result new
-  ended : {between : F} {reader : R} {writer : W} (last : W) →
-      opened old source (Ok reader) between → created between out (Ok writer) new →
+      AsmFilesEnd opened created closed remaining contents old source out result new
+  ended : {between both : F} {reader : R} {writer last : W} →
+      opened old source (Ok reader) between → created between out (Ok writer) both → closed both last new →
       IfSome (remaining reader) (λ text. AsmEnds result text (contents writer) (contents last)) →
-      AsmFilesEnd opened created remaining contents old source out result new
+      AsmFilesEnd opened created closed remaining contents old source out result new
 
 -- IMAGE is opened first, then CONFIG, then JOURNAL, up to the first that can't be. Its fault has that file's name,
 -- unless memory ran out.

@@ -1,32 +1,31 @@
--- What a command line asks for.
-use Rattle.std.specs.Prelude.{ℕ, List}
+-- How a request ends, on files, standard input and standard output, each before and behind the command. `opened`,
+-- `created` and `closed` say what calls on files did, `remaining` what a file has left to read, `contents` what a file
+-- holds that is written; `unread` says what standard input has left to read, `written` what standard output has taken.
+use Rattle.std.specs.Prelude.{◌≡◌, ℕ, List, Option, IfSome, Result}
+use Rattle.std.specs.declared.io.Error.{Error}
+use Rattle.brd_command.specs.Files.{AsmFilesEnd, RunFilesEnd, DebugFilesEnd}
+use Rattle.brd_command.specs.WordsCommand.{WordsEnds}
+use Rattle.brd_command.specs.declared.fault.CommandFault.{CommandFault}
 use Rattle.brd_command.specs.declared.request.Request.{Request}
 use Rattle.brd_command.specs.declared.request.Request.TheVariants.{Words, Asm, Run, Debug}
 
--- of `words`, what holds of its steps
-abbrev pub IfWords : Request → (ℕ → Type 0) → Type 0
-IfWords (Words steps) P = P steps
-IfWords (Asm source out) P = Unit {0}
-IfWords (Run image config journal) P = Unit {0}
-IfWords (Debug image config journal) P = Unit {0}
-
--- of `asm`, what holds of the names SOURCE and OUT
-abbrev pub IfAsm : Request → (List ℕ → List ℕ → Type 0) → Type 0
-IfAsm (Words steps) P = Unit {0}
-IfAsm (Asm source out) P = P source.now out.now
-IfAsm (Run image config journal) P = Unit {0}
-IfAsm (Debug image config journal) P = Unit {0}
-
--- of `run`, what holds of the names IMAGE, CONFIG and JOURNAL
-abbrev pub IfRun : Request → (List ℕ → List ℕ → List ℕ → Type 0) → Type 0
-IfRun (Words steps) P = Unit {0}
-IfRun (Asm source out) P = Unit {0}
-IfRun (Run image config journal) P = P image.now config.now journal.now
-IfRun (Debug image config journal) P = Unit {0}
-
--- of `debug`, what holds of the names IMAGE, CONFIG and JOURNAL
-abbrev pub IfDebug : Request → (List ℕ → List ℕ → List ℕ → Type 0) → Type 0
-IfDebug (Words steps) P = Unit {0}
-IfDebug (Asm source out) P = Unit {0}
-IfDebug (Run image config journal) P = Unit {0}
-IfDebug (Debug image config journal) P = P image.now config.now journal.now
+module _ {F I O R W : Type 0}
+    (opened : F → List ℕ → Result I Error → F → Type 0) (created : F → List ℕ → Result O Error → F → Type 0)
+    (closed : F → O → F → Type 0) (remaining : I → Option (List ℕ)) (contents : O → Option (List ℕ))
+    (unread : R → Option (List ℕ)) (written : W → Option (List ℕ)) where
+  -- `words` touches no file, `asm` neither reads standard input nor writes standard output, and `run` doesn't read
+  -- standard input.
+  abbrev pub RequestEnds : Request → F → F → R → R → W → W → Result Unit CommandFault → Type 0
+  RequestEnds (Words steps) files_old files input_old input output_old output result =
+      IfSome (unread input_old) (λ text. WordsEnds result text steps (written output_old) (written output))
+      × (files ≡ files_old)
+  RequestEnds (Asm source out) files_old files input_old input output_old output result =
+      AsmFilesEnd opened created closed remaining contents files_old source.now out.now result files
+      × (input ≡ input_old) × (output ≡ output_old)
+  RequestEnds (Run image config journal) files_old files input_old input output_old output result =
+      RunFilesEnd opened remaining files_old image.now config.now journal.now
+      (written output_old) (written output) result files
+      × (input ≡ input_old)
+  RequestEnds (Debug image config journal) files_old files input_old input output_old output result =
+      DebugFilesEnd opened remaining unread files_old image.now config.now journal.now
+      input_old input (written output_old) (written output) result files

@@ -1,5 +1,7 @@
 -- What the commands over a journal start with: an object file and a configuration, which make a board, and the journal.
 use Rattle.std.specs.Prelude.{◌≡◌, ◌≢◌, ℕ, ◌<◌, ◌≤◌, List, length, Ok, Err}
+use Rattle.std.specs.IoError.{error_kind}
+use Rattle.std.specs.declared.io.ErrorKind.TheVariants.{OutOfMemory}
 use Rattle.brd_board.specs.Board.{BoardState}
 use Rattle.brd_image.specs.Building.{loaded}
 use Rattle.brd_image.specs.declared.fault.BuildFault.TheVariants as build_fault
@@ -59,7 +61,7 @@ KeepsFromStarting image config journal (Words fault) = ⊥
 KeepsFromStarting image config journal (Source fault excerpt kind) = ⊥
 KeepsFromStarting image config journal ImageTooLarge = ⊥
 KeepsFromStarting image config journal (Open name error) = ⊥
-KeepsFromStarting image config journal (Read input error) = IsReached image config input
+KeepsFromStarting image config journal (Read input error) = IsReached image config input × (error_kind error ≢ OutOfMemory)
 KeepsFromStarting image config journal (TooLong input) = IsTooLong image config journal input
 KeepsFromStarting image config journal (TooManyReads input) = IsReached image config input
 KeepsFromStarting image config journal (Build fault kind) = AreWithin image config journal × KeepsFromMaking image config journal (Build fault kind)

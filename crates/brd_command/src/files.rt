@@ -14,8 +14,9 @@ use std::io::{self, Read, Write};
 /// Files that are reached by their names.
 ///
 /// The members `opened` and `created` relate the files before a call, the name, what the call gave, and the files after
-/// it. So a function that is generic over its files can say by its contract which files it opens and creates, and in
-/// which order.
+/// it; `closed` relates the files before and after a written file was let go, and that file. So a function that is
+/// generic over its files can say by its contract which files it opens and creates, in which order, and how it leaves
+/// them.
 pub trait Files {
     ghost use Rattle.std.specs.Prelude.{ℕ, List, Result};
     ghost use Rattle.std.specs.declared.io.Error.{Error};
@@ -30,6 +31,8 @@ pub trait Files {
 
     ghost created: { Self → List ℕ → Result Self.Output Error → Self → Type 0 } = { λ _ _ _ _. Unit {0} };
 
+    ghost closed: { Self → Self.Output → Self → Type 0 } = { λ _ _ _. Unit {0} };
+
     /// Opens the file of that name, to be read.
     fn open(&mut self, name: &str) -> io::Result<Self::Input>
         ensures { opened self.old name.now result self.new };
@@ -37,16 +40,21 @@ pub trait Files {
     /// Creates the file of that name, or empties it, to be written.
     fn create(&mut self, name: &str) -> io::Result<Self::Output>
         ensures { created self.old name.now result self.new };
+
+    /// Lets a file go that was written.
+    fn close(&mut self, output: Self::Output)
+        ensures { closed self.old output self.new };
 }
 
-/// Does `asm` on its files: SOURCE is opened, then OUT is created or emptied, then the source is read.
+/// Does `asm` on its files: SOURCE is opened, then OUT is created or emptied, then the source is read. OUT is let go as
+/// `asm` left it.
 pub fn asm_files<F: Files>(
     alloc: Global,
     files: &mut F,
     source: &str,
     out: &str,
 ) -> Result<(), CommandFault>
-    ensures { AsmFilesEnd F.opened F.created F.Input.remaining F.Output.contents
+    ensures { AsmFilesEnd F.opened F.created F.closed F.Input.remaining F.Output.contents
         files.old source.now out.now result files.new }
 {
     let mut reader = match files.open(source) {
@@ -57,7 +65,9 @@ pub fn asm_files<F: Files>(
         Ok(writer) => writer,
         Err(error) => return Err(CommandFault::of_open(alloc, out, error)),
     };
-    asm(alloc, &mut reader, &mut writer)
+    let ended = asm(alloc, &mut reader, &mut writer);
+    files.close(writer);
+    ended
 }
 
 /// The files that a command over a journal reads.

@@ -1,9 +1,6 @@
 //! What a command line asks for.
 
-ghost use Rattle.std.specs.Prelude.{◌≡◌, IfSome};
-ghost use Rattle.brd_command.specs.Files.{AsmFilesEnd, RunFilesEnd, DebugFilesEnd};
-ghost use Rattle.brd_command.specs.Request.{IfWords, IfAsm, IfRun, IfDebug};
-ghost use Rattle.brd_command.specs.WordsCommand.{WordsEnds};
+ghost use Rattle.brd_command.specs.Request.{RequestEnds};
 
 use crate::fault::CommandFault;
 use crate::files::{Files, asm_files, debug_files, run_files};
@@ -48,19 +45,8 @@ pub fn perform<F: Files, R: Read, W: Write>(
     output: &mut W,
     request: Request<'_>,
 ) -> Result<(), CommandFault>
-    ensures words_board { IfWords request.entry (λ steps. IfSome (R.remaining input.old) (λ text.
-        WordsEnds result text steps (W.contents output.old) (W.contents output.new))) }
-    ensures words_files { IfWords request.entry (λ _. files.new ≡ files.old) }
-    ensures asm_object { IfAsm request.entry (λ source out.
-        AsmFilesEnd F.opened F.created F.Input.remaining F.Output.contents files.old source out result files.new) }
-    ensures asm_streams { IfAsm request.entry (λ _ _. (input.new ≡ input.old) × (output.new ≡ output.old)) }
-    ensures run_report { IfRun request.entry (λ image config journal.
-        RunFilesEnd F.opened F.Input.remaining files.old image config journal
-        (W.contents output.old) (W.contents output.new) result files.new) }
-    ensures run_input { IfRun request.entry (λ _ _ _. input.new ≡ input.old) }
-    ensures debug_answers { IfDebug request.entry (λ image config journal.
-        DebugFilesEnd F.opened F.Input.remaining R.remaining files.old image config journal
-        input.old input.new (W.contents output.old) (W.contents output.new) result files.new) }
+    ensures { RequestEnds F.opened F.created F.closed F.Input.remaining F.Output.contents R.remaining W.contents
+        request.entry files.old files.new input.old input.new output.old output.new result }
 {
     match request {
         Request::Words { steps } => words(alloc, input, output, steps),

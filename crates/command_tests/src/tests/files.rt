@@ -55,6 +55,10 @@ impl<'a> Files for Noted<'a> {
         self.call("create ", name)?;
         Ok(NotedOutput { notes: self.notes })
     }
+
+    fn close(&mut self, _output: NotedOutput<'a>) {
+        let _ = note(self.notes, "close", "");
+    }
 }
 
 #[derive(Drop)]
@@ -145,7 +149,7 @@ const REQUESTS: &[Done] = &[
             source: "a",
             out: "b",
         },
-        notes: "open a; create b; read; read; write; flush; ",
+        notes: "open a; create b; read; read; write; flush; close; ",
         left: 8,
         written: b"",
     },

@@ -1,8 +1,8 @@
-use Rattle.std.proofs.Common.{ℕ, List, Vec, Global, [], sym, ap, subst, true≢false, arith}
+use Rattle.std.proofs.Common.{ℕ, List, Vec, Global, [], refl, sym, ap, subst, true≢false, arith}
 use Rattle.std.specs.Prelude.{Option, option_map}
 use Rattle.brd_command.specs.Answers.HasDone.{nothing_yet}
 use Rattle.brd_command.specs.Lines.{CountsLine}
-use Rattle.brd_command.proofs.AnswerLemmas.{all_answered, quit_answered, more_answered, front_answered}
+use Rattle.brd_command.proofs.AnswerLemmas.{all_answered, quit_answered, more_answered, front_answered, stopped}
 use Rattle.brd_command.proofs.OutputLemmas as output
 use Rattle.brd_command.proofs.debug_command.answer_all.Goals as goal
 use Rattle.brd_command.proofs.debug_command.answer_all.Goals.{After-answer}
@@ -15,7 +15,7 @@ pub loop-line-init : goal.loop-line-init
 loop-line-init g c = record {
   few = omega arith;
   ended = λ e. absurd (true≢false (sym e));
-  left = λ text is. (text, [], is, omega arith, nothing_yet, output.nothing_yet (g.W.Write.contents c.args.writer.now));
+  left = λ text is. (text, [], is, omega arith, ([], refl), nothing_yet, output.nothing_yet (g.W.Write.contents c.args.writer.now));
 }
 
 pub returns-in-Ok-None : goal.returns-in-Ok-None
@@ -23,6 +23,11 @@ returns-in-Ok-None g c =
     all_answered c.args.debugger.now c.loop-line.debugger _ _ c.loop-line.taken c.next_line.new.taken (items c.in-Ok-None.field-0) _ _
     c.in-Ok-None.ensures.takes c.in-Ok-None.ensures.counts (g.R.Read.remaining c.args.input.now) (ap items c.in-Ok-None.field-0-is)
     c.loop-line.invariant.left
+
+pub returns-in-Err : goal.returns-in-Err
+returns-in-Err g c =
+    stopped c.args.debugger.now c.loop-line.debugger _ c.loop-line.taken _ _ (g.R.Read.remaining c.args.input.now) c.in-Err.fault
+    c.in-Err.ensures.takes c.loop-line.invariant.left
 
 pub returns-in-None : goal.returns-in-None
 returns-in-None g c =

@@ -4,7 +4,7 @@ use Rattle.std.specs.Prelude.{Some}
 use Rattle.std.specs.Io.KnownBytes.{Appends}
 use Rattle.brd_command.specs.Answers.{HasDone}
 use Rattle.brd_command.specs.DebugLine.{commands_of}
-use Rattle.brd_command.specs.Lines.{KnowsEnd}
+use Rattle.brd_command.specs.Lines.{IsLeftOf, KnowsEnd}
 use Rattle.brd_command.proofs.debug_command.answer_all.Given as goal
 
 abbrev pub invariant-loop-line : goal.invariant-loop-line
@@ -12,7 +12,7 @@ invariant-loop-line g l = record {
   few : l.taken.bytes ≤ 134217728;
   ended : KnowsEnd l.taken (g.R.Read.remaining l.input);
   left : (text : List ℕ) → g.R.Read.remaining l.fn.input ≡ Some text →
-      (rest : List ℕ) × (bytes : List ℕ) × (g.R.Read.remaining l.input ≡ Some rest) × (l.taken.bytes + length rest ≡ length text)
+      (rest : List ℕ) × (bytes : List ℕ) × (g.R.Read.remaining l.input ≡ Some rest) × (l.taken.bytes + length rest ≡ length text) × IsLeftOf text rest
       × HasDone l.fn.debugger (commands_of text) bytes l.debugger (commands_of rest)
       × Appends (g.W.Write.contents l.fn.writer) (g.W.Write.contents l.writer) bytes;
 }

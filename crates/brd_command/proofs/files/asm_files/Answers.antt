@@ -8,4 +8,4 @@ pub returns-in-Err-create : goal.returns-in-Err-create
 returns-in-Err-create g c = not_created c.in-Ok.ensures c.in-Err-create.ensures c.of_open-in-Err-create.ensures
 
 pub returns : goal.returns
-returns g c = ended c.asm.new.writer c.in-Ok.ensures c.in-Ok-create.ensures c.asm.ensures
+returns g c = ended c.in-Ok.ensures c.in-Ok-create.ensures c.close.ensures c.asm-ended.ensures

@@ -1,8 +1,8 @@
 -- What was taken is the front of the line.
 use Rattle.std.proofs.Common.{◌≡◌, ◌+◌, ◌-◌, ◌≤◌, List, ℕ, length}
 use Rattle.std.specs.Prelude.{Some}
-use Rattle.brd_command.specs.DebugLine.{command_lines}
-use Rattle.brd_command.specs.Lines.{KnowsEnd}
+use Rattle.brd_command.specs.DebugLine.{command_lines, line_size}
+use Rattle.brd_command.specs.Lines.{IsLeftOf, KnowsEnd}
 use Rattle.brd_command.proofs.LineLemmas.{with_front}
 use Rattle.brd_command.proofs.lines.next_line.Given as goal
 
@@ -14,7 +14,8 @@ invariant-loop-byte g l = record {
   ended : KnowsEnd l.taken (g.R.Read.remaining l.reader);
   left : (text : List ℕ) → g.R.Read.remaining l.fn.reader ≡ Some text →
       (rest : List ℕ) × (g.R.Read.remaining l.reader ≡ Some rest) × (command_lines text ≡ with_front l.line.items (command_lines rest))
-      × (l.taken.bytes + length rest ≡ l.fn.taken.bytes + length text);
+      × (l.taken.bytes + length rest ≡ l.fn.taken.bytes + length text)
+      × (l.taken.bytes + line_size rest ≡ l.fn.taken.bytes + line_size text) × IsLeftOf text rest;
 }
 
 abbrev pub decreases-loop-byte : goal.decreases-loop-byte

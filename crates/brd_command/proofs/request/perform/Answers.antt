@@ -1,10 +1,14 @@
+use Rattle.std.proofs.Common.{refl}
 use Rattle.brd_command.proofs.request.perform.Goals as goal
 
-pub returns-in-Asm-clause-asm_object : goal.returns-in-Asm-clause-asm_object
-returns-in-Asm-clause-asm_object g c = rw c.in-Asm.is c.asm_files.ensures
+pub returns-in-Words : goal.returns-in-Words
+returns-in-Words g c = rw c.in-Words.is (c.words.ensures, refl)
 
-pub returns-in-Run-clause-run_report : goal.returns-in-Run-clause-run_report
-returns-in-Run-clause-run_report g c = rw c.in-Run.is c.run_files.ensures
+pub returns-in-Asm : goal.returns-in-Asm
+returns-in-Asm g c = rw c.in-Asm.is (c.asm_files.ensures, refl, refl)
 
-pub returns-in-Debug-clause-debug_answers : goal.returns-in-Debug-clause-debug_answers
-returns-in-Debug-clause-debug_answers g c = rw c.in-Debug.is c.debug_files.ensures
+pub returns-in-Run : goal.returns-in-Run
+returns-in-Run g c = rw c.in-Run.is (c.run_files.ensures, refl)
+
+pub returns-in-Debug : goal.returns-in-Debug
+returns-in-Debug g c = rw c.in-Debug.is c.debug_files.ensures
