@@ -1,4 +1,5 @@
 pub mod End
 pub mod Laws
+pub mod Program
 pub mod Requests
 pub mod Usage

@@ -1,0 +1,33 @@
+//! What the program does, on files and streams.
+
+ghost use Rattle.std.specs.Prelude.{map};
+ghost use Rattle.brd_cli.specs.Program.{ProgramEnds};
+
+use crate::end::Stop;
+use crate::request::asked;
+use brd_command::{Files, perform};
+use std::alloc::Global;
+use std::convert::AsStr;
+use std::io::{Read, Write};
+
+/// Does what the words of a command line ask for, of which the first is the program's name, on files, standard input
+/// and standard output. Nothing is touched where they are refused, or ask for help.
+pub fn carry_out<S: AsStr, F: Files, R: Read, W: Write>(
+    alloc: Global,
+    words: &[S],
+    files: &mut F,
+    input: &mut R,
+    output: &mut W,
+) -> Result<(), Stop>
+    ensures { ProgramEnds F.opened F.created F.closed F.Input.remaining F.Output.contents R.remaining W.contents
+        (map S.text words.entry.now) files.old files.new input.old input.new output.old output.new result }
+{
+    let request = match asked(alloc, words) {
+        Ok(request) => request,
+        Err(stop) => return Err(stop),
+    };
+    match perform(alloc, files, input, output, request) {
+        Ok(()) => Ok(()),
+        Err(fault) => Err(Stop::Fault(fault)),
+    }
+}
