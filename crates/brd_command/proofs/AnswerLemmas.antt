@@ -30,7 +30,7 @@ left_of_left text rest more (front, whole) (line, is) =
     (front ++ line, whole ∙ ap (λ xs. front ++ xs) is ∙ sym (append_assoc front line more))
 
 -- The next line couldn't be taken.
-module _ (first d : DebuggerState) (left : Option (List ℕ)) (taken : Taken) (old now : Option (List ℕ)) where
+module _ (first d : DebuggerState) (left : Option (List ℕ)) (taken : Taken) (old now : Option (List ℕ)) (few : taken.bytes ≤ most_bytes) where
   first_answered : (text : List ℕ) → IsAnswered first text left taken.bytes d old now → Writes (AnswersToFirst first (commands_of text)) old now
   first_answered text (rest, bytes, is, counted, of-text, done, written) =
       record { bytes = bytes; are_meant = record { last = d; left = commands_of rest; done = done }; written = written }
@@ -44,6 +44,7 @@ module _ (first d : DebuggerState) (left : Option (List ℕ)) (taken : Taken) (o
       front = front;
       rest = rest;
       whole = whole;
+      within = omega (arith, counted, ap length whole, length-append front rest, few);
       done = done;
       beyond = omega (arith, counted, ap length whole, length-append front rest, beyond rest is);
     };

@@ -33,6 +33,7 @@ pub record AnswersUpToLimit (d : DebuggerState) (text bytes : List ℕ) : Type 0
   pub front : List ℕ
   pub rest : List ℕ
   pub whole : text ≡ front ++ rest
+  pub within : length front ≤ most_bytes
   pub done : HasDone d (commands_of text) bytes last (commands_of rest)
   pub beyond : most_bytes < length front + line_size rest
 

@@ -26,7 +26,8 @@ returns-in-Ok-None g c =
 
 pub returns-in-Err : goal.returns-in-Err
 returns-in-Err g c =
-    stopped c.args.debugger.now c.loop-line.debugger _ c.loop-line.taken _ _ (g.R.Read.remaining c.args.input.now) c.in-Err.fault
+    stopped c.args.debugger.now c.loop-line.debugger _ c.loop-line.taken _ _ c.loop-line.invariant.few
+    (g.R.Read.remaining c.args.input.now) c.in-Err.fault
     c.in-Err.ensures.takes c.loop-line.invariant.left
 
 pub returns-in-None : goal.returns-in-None
