@@ -2,7 +2,6 @@
 -- of that object, and it has a due tick where its wait has an end.
 use Rattle.std.specs.Prelude.{ℕ, ◌+◌, ◌-◌, ◌^◌, ◌==◌, nat_le, nat_lt, Bool, true, false, not, ◌&&◌, if◌then◌else◌, List, [], ◌∷◌, Option, None, Some, is_some}
 use Rattle.std.specs.Option.{option_map}
-use Rattle.brd_tasks.specs.declared.status.Status.{Status}
 use Rattle.brd_tasks.specs.declared.status.WaitReason.{WaitReason}
 use Rattle.brd_tasks.specs.declared.status.WaitReason.TheVariants as reason
 use Rattle.brd_tasks.specs.declared.task.Task.{Task}
@@ -15,7 +14,7 @@ use Rattle.brd_objects.specs.Semaphores.{semaphore_left, semaphore_reordered}
 use Rattle.brd_objects.specs.Flags.{flag_left, flag_reordered}
 use Rattle.brd_objects.specs.DataQueues.{data_queue_left, data_queue_reordered}
 use Rattle.brd_kernel.specs.declared.processor.Processor.{Processor}
-use Rattle.brd_kernel.specs.declared.call.Ercd.TheVariants.{Rlwai, Tmout}
+use Rattle.brd_kernel.specs.declared.call.Ercd.TheVariants.{Tmout}
 use Rattle.brd_kernel.specs.Answer.{e_ok, code_of}
 use Rattle.brd_kernel.specs.Kernel.{KernelState, with_tasks, with_processor, processor_at, unmarked}
 

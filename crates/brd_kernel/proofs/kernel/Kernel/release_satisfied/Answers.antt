@@ -1,8 +1,7 @@
-use Rattle.std.proofs.Common.{◌≡◌, ◌<◌, sym, ap, subst, ◌∙◌}
-use Rattle.brd_objects.specs.Table.{object_at}
+use Rattle.std.proofs.Common.{sym, ap, subst, ◌∙◌}
 use Rattle.brd_kernel.specs.Kernel.{KernelState}
 use Rattle.brd_kernel.specs.Services.{with_satisfied_released}
-use Rattle.brd_kernel.proofs.WaitLemmas.{waiting_in, IsTurn, released-turn, released-end}
+use Rattle.brd_kernel.proofs.WaitLemmas.{IsTurn, released-turn, released-end}
 use Rattle.brd_kernel.proofs.kernel.Kernel.release_satisfied.Goals as goal
 
 turn : (c : goal.After-release) → IsTurn c.loop-task.self c.release.new.self c.args.id
