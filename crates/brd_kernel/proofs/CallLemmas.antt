@@ -1,6 +1,6 @@
 -- What the service calls on objects make of waits.
 use Rattle.std.proofs.Common.{◌≡◌, ◌<◌, ℕ, List, [], ◌∷◌, ◌++◌, drop, refl, sym, ap, subst, ◌∙◌}
-use Rattle.std.specs.Prelude.{Bool, true, false, ◌==◌, nat_lt, if◌then◌else◌, Option, None, Some, Result, Ok, Err}
+use Rattle.std.specs.Prelude.{Bool, true, false, ◌==◌, nat_lt, if◌then◌else◌, Option, None, Some, Result, Err}
 use Rattle.std.specs.Option.{option_map}
 use Rattle.std.proofs.lemmas.Bool.{false≢true}
 use Rattle.brd_queue.specs.declared.entry.Entry.{Entry}
@@ -18,14 +18,15 @@ use Rattle.brd_objects.specs.Semaphores.{returned_to, returned}
 use Rattle.brd_objects.specs.Flags.{pattern_left, taken_for, flag_awaited, all_released, with_all_released}
 use Rattle.brd_objects.specs.DataQueues.{DataQueueState, has_room, sent_to, sent, outcome_to, outcome, with_room_for, with_room, forced, forced_outcome, received_by, received, receipt_by, awaited_by_sender, awaited_by_receiver}
 use Rattle.brd_kernel.specs.declared.call.Ercd.{Ercd}
-use Rattle.brd_kernel.specs.declared.call.Ercd.TheVariants.{Id, Par, Iluse, Obj, Qovr, Tmout}
+use Rattle.brd_kernel.specs.declared.call.Ercd.TheVariants.{Tmout}
 use Rattle.brd_kernel.specs.Answer.{e_ok}
 use Rattle.brd_kernel.specs.Kernel.{KernelState}
-use Rattle.brd_kernel.specs.Row.{Row, Served, refused, served_object, served}
+use Rattle.brd_kernel.specs.Row.{Row, Served, served}
 use Rattle.brd_kernel.specs.Waits.{due_by, released_in}
 use Rattle.brd_kernel.specs.Services.{or_waits, callers_priority, with_released, with_all_released_in, with_satisfied_of, handed_over, flag_got, queue_sent, queue_received}
 use Rattle.brd_kernel.specs.Waiting.{plain, semaphore_waiters, flag_waiters, senders, receivers, standing_for}
 use Rattle.brd_kernel.proofs.ListLemmas.{among, apart-plain, apart-wanting, apart-kept, has-plain, priority_in-plain, priority_in-kept, released-there}
+use Rattle.brd_kernel.proofs.ServedLemmas.{Leaves, leaves-row, leaves-if}
 use Rattle.brd_kernel.proofs.StandingLemmas.{stands_in, IsTimedBy, StandsIn}
 use Rattle.brd_kernel.proofs.KeepingLemmas.{IsEntered, by-leaving-one}
 use Rattle.brd_kernel.proofs.WaitersLemmas.{semaphore-rewrites, flag-rewrites, sender-rewrites, receiver-rewrites}
@@ -34,25 +35,13 @@ use Rattle.brd_kernel.proofs.WaitingLemmas.{released-keep, first-out, unchanged-
 -- A row of the service table keeps it, if what it does keeps it.
 
 abbrev pub Keeps : Result Served Ercd → Type 0
-Keeps (Ok done) = StandsIn [] done.kernel
-Keeps (Err code) = Unit {0}
-
-keeps-refused : (test : Bool) (code : Ercd) (otherwise : Result Served Ercd) → Keeps otherwise → Keeps (refused test code otherwise)
-keeps-refused true code otherwise keeps = tt
-keeps-refused false code otherwise keeps = keeps
-
-keeps-object : {X : Type 0} (row : Row X) (found : Option X) → row.object ≡ found → ((x : X) → row.object ≡ Some x → Keeps (row.does x)) →
-    Keeps (served_object row found)
-keeps-object row None is does = tt
-keeps-object row (Some x) is does =
-    keeps-refused (row.iluse x) Iluse _ (keeps-refused (row.obj x) Obj _ (keeps-refused (row.qovr x) Qovr _ (does x is)))
+Keeps says = Leaves (StandsIn []) says
 
 pub keeps-row : {X : Type 0} (row : Row X) → ((x : X) → row.object ≡ Some x → Keeps (row.does x)) → Keeps (served row)
-keeps-row row does = keeps-refused row.bad_id Id _ (keeps-refused row.bad_par Par _ (keeps-object row row.object refl does))
+keeps-row row does = leaves-row (StandsIn []) row (λ x passes. does x passes.there)
 
 pub keeps-if : (test : Bool) (one other : Result Served Ercd) → (test ≡ true → Keeps one) → Keeps other → Keeps (if test then one else other)
-keeps-if true one other first second = first refl
-keeps-if false one other first second = second
+keeps-if test one other first second = leaves-if (StandsIn []) test one other first (λ is. second)
 
 -- Waits that begin.
 

@@ -1,14 +1,17 @@
 -- What holds of waits at the making, where nobody waits, and when tasks are started.
 use Rattle.std.proofs.Common.{◌≡◌, ◌<◌, ◌≤◌, ℕ, List, [], length, refl, sym, ap, subst, ◌∙◌, arith}
-use Rattle.std.specs.Prelude.{Bool, true, false, ◌==◌, nat_lt, find, replicate, Option, None, Some, slice_index_or}
+use Rattle.std.specs.Prelude.{Bool, true, false, ◌==◌, nat_lt, find, replicate, Option, None, Some, IfSome, slice_index_or}
 use Rattle.std.specs.Option.{option_map}
 use Rattle.std.proofs.lemmas.Bool.Decides.{nat_tests}
 use Rattle.std.proofs.lemmas.List.{get_or-replicate, length-replicate}
 use Rattle.std.proofs.lemmas.List.FromFn.{length-map-range_with_len, get_or-map-range_with_len}
 use Rattle.std.proofs.Math.ListN.{get_or-eq_default}
+use Rattle.brd_queue.specs.declared.entry.Order.{Order}
+use Rattle.brd_queue.specs.declared.entry.Order.TheVariants.{Arrival, Priority}
 use Rattle.brd_queue.specs.Queue.{Plain, priority_in, AreApart}
 use Rattle.brd_tasks.specs.declared.status.WaitReason.{WaitReason}
 use Rattle.brd_tasks.specs.declared.status.WaitReason.TheVariants as reason
+use Rattle.brd_tasks.specs.declared.task.Task.{Task}
 use Rattle.brd_tasks.specs.declared.task.TaskSetup.{TaskSetup}
 use Rattle.brd_tasks.specs.declared.task.Request.{Request}
 use Rattle.brd_tasks.specs.Tasks.{activated, unstarted, first_row, first_rows}
@@ -16,6 +19,8 @@ use Rattle.brd_time.specs.Time.{due_of, beginning}
 use Rattle.brd_config.specs.declared.objects.SemaphoreConfig.{SemaphoreConfig}
 use Rattle.brd_config.specs.declared.objects.FlagConfig.{FlagConfig}
 use Rattle.brd_config.specs.declared.objects.QueueConfig.{QueueConfig}
+use Rattle.brd_objects.specs.declared.want.Want.{Want}
+use Rattle.brd_objects.specs.Order.{order_of}
 use Rattle.brd_objects.specs.Table.{object_at, made_at, made_below}
 use Rattle.brd_objects.specs.Semaphores.{semaphore_of}
 use Rattle.brd_objects.specs.Flags.{flag_of}
@@ -23,8 +28,10 @@ use Rattle.brd_objects.specs.DataQueues.{data_queue_of}
 use Rattle.brd_kernel.specs.declared.processor.LineSetup.{LineSetup}
 use Rattle.brd_kernel.specs.Kernel.{KernelState, with_tasks}
 use Rattle.brd_kernel.specs.Making.{made_kernel}
-use Rattle.brd_kernel.specs.Waiting.{semaphore_waiters, flag_waiters, senders, receivers, standing_for, WaitsAreKept}
+use Rattle.brd_kernel.specs.Waiting.{semaphore_waiters, flag_waiters, senders, receivers, standing_for, AreInOrder, SemaphoreIsKept, FlagIsKept, QueueIsKept, SleeperIsKept, EachIsKept, WaitsAreKept}
 use Rattle.brd_kernel.proofs.StandingLemmas.{waits, wanted, IsTimed, StandsIn, stands, kept}
+use Rattle.brd_kernel.proofs.SleeperLemmas.{activated-kept}
+use Rattle.brd_kernel.proofs.EachLemmas.{tasks-kept}
 use Rattle.brd_kernel.proofs.RowLemmas.{activated-before}
 use Rattle.brd_kernel.proofs.WaitingLemmas.{tasks-keep}
 
@@ -110,13 +117,62 @@ made-stands processors setups lines semaphores flags queues = record {
   timed = λ id in_it. subst (λ w. IsTimed w (due_of beginning id)) (sym (row-by (nat_lt id 256) setups 256 id refl)) (undue id);
 }
 
+-- nobody waits for an object
+
+some-first : {C X : Type 0} → (P : X → Type 0) (object_of : C → X) (found : Option C) → ((c : C) → P (object_of c)) →
+    IfSome (option_map object_of found) P
+some-first P object_of None first = tt
+some-first P object_of (Some c) first = first c
+
+each-first : {C X : Type 0} → (P : X → Type 0) (id_of : C → ℕ) (object_of : C → X) (configs : List C) (at : ℕ) → ((c : C) → P (object_of c)) →
+    IfSome (object_at (made_below id_of object_of configs 256) at) P
+each-first P id_of object_of configs at first =
+    made-by (nat_lt at 256) id_of object_of configs 256 at (λ found. IfSome found P) refl tt
+    (some-first P object_of (find (λ c. id_of c == at) configs) first)
+
+empty-in-order : (W : Type 0) (order : Order) → AreInOrder {W = W} order []
+empty-in-order W Arrival = tt
+empty-in-order W Priority = tt
+
+-- a task that hasn't started doesn't sleep
+
+unstarted-kept : (found : Option TaskSetup) → IfSome (option_map unstarted found) (λ task. SleeperIsKept task)
+unstarted-kept None = tt
+unstarted-kept (Some setup) = λ asleep. refl
+
+none-sleeps : (small : Bool) (setups : List TaskSetup) (n at : ℕ) → nat_lt at n ≡ small →
+    IfSome (slice_index_or (first_rows setups n) at None) (λ task. SleeperIsKept task)
+unfolding first_rows
+none-sleeps true setups n at test =
+    let small : at < n = grind (arith, nat_tests, test) in
+    subst (λ (row : Option Task). IfSome row (λ task. SleeperIsKept task))
+    (sym (get_or-map-range_with_len (first_row setups) 0 n at at None small (omega arith)))
+    (unstarted-kept (find (λ setup. setup.id == at) setups))
+none-sleeps false setups n at test =
+    let past : length (first_rows setups n) ≤ at = grind (arith, nat_tests, test, length-map-range_with_len (first_row setups) 0 n) in
+    subst (λ (row : Option Task). IfSome row (λ task. SleeperIsKept task)) (sym (get_or-eq_default (first_rows setups n) None past)) tt
+
+made-each : (processors : ℕ) (setups : List TaskSetup) (lines : List LineSetup) (semaphores : List SemaphoreConfig) (flags : List FlagConfig) (queues : List QueueConfig) →
+    EachIsKept (made_kernel processors setups lines semaphores flags queues)
+made-each processors setups lines semaphores flags queues = record {
+  sleepers = λ at. none-sleeps (nat_lt at 256) setups 256 at refl;
+  semaphores = λ at. each-first (λ s. SemaphoreIsKept s) (λ config. config.id) semaphore_of semaphores at
+      (λ c. record { ordered = empty-in-order (Unit {0}) (order_of c.attributes.0); lacking = λ has. refl });
+  flags = λ at. each-first (λ f. FlagIsKept f) (λ config. config.id) flag_of flags at
+      (λ c. record { ordered = empty-in-order Want (order_of c.attributes.0); bits = tt; lacking = tt });
+  queues = λ at. each-first (λ q. QueueIsKept q) (λ config. config.id) data_queue_of queues at
+      (λ c. record { ordered = empty-in-order ℕ (order_of c.attributes.0); room = λ has. refl; datum = λ some. (refl, refl) });
+}
+
 pub made-keeps : (processors : ℕ) (setups : List TaskSetup) (lines : List LineSetup) (semaphores : List SemaphoreConfig) (flags : List FlagConfig)
     (queues : List QueueConfig) →
     WaitsAreKept (made_kernel processors setups lines semaphores flags queues)
 made-keeps processors setups lines semaphores flags queues =
     kept (made_kernel processors setups lines semaphores flags queues) (made-stands processors setups lines semaphores flags queues)
+    (made-each processors setups lines semaphores flags queues)
 
 pub activated-keeps : (k : KernelState) (id : ℕ) (request : Request) → WaitsAreKept k → WaitsAreKept (with_tasks k (activated k.tasks id request))
 activated-keeps k id request was =
     kept (with_tasks k (activated k.tasks id request))
     (tasks-keep k (activated k.tasks id request) (activated-before k.tasks id request) (stands k was))
+    (tasks-kept k (activated k.tasks id request) (activated-kept k.tasks id request was.each.sleepers) was.each)

@@ -5,9 +5,16 @@ pub mod ExecutorLemmas
 pub mod MakingLemmas
 pub mod WaitLemmas
 pub mod ListLemmas
+pub mod ServedLemmas
+pub mod TableLemmas
+pub mod OrderLemmas
+pub mod WantLemmas
+pub mod ObjectLemmas
 pub mod StandingLemmas
 pub mod KeepingLemmas
 pub mod RowLemmas
+pub mod SleeperLemmas
+pub mod EachLemmas
 pub mod WaitersLemmas
 pub mod LeavingLemmas
 pub mod MovingLemmas

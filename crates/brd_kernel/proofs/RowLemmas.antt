@@ -103,7 +103,7 @@ activated-before t id request =
     (sym (dormant-waits task.status task.priority dormant)) refl)
     (as-written t (patched t id (record task { activation = Some request })) id task (record task { activation = Some request }) there refl refl))
 
-abbrev KeepsWait : Option Status → Status → Type 0
+abbrev pub KeepsWait : Option Status → Status → Type 0
 KeepsWait None s = Unit {0}
 KeepsWait (Some other) s = waiting_of other ≡ waiting_of s
 

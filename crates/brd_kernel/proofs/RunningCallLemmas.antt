@@ -25,16 +25,17 @@ use Rattle.brd_kernel.specs.declared.processor.Processor.{Processor}
 use Rattle.brd_kernel.specs.declared.call.Call.{Call}
 use Rattle.brd_kernel.specs.declared.call.Call.TheVariants as call
 use Rattle.brd_kernel.specs.declared.call.Ercd.{Ercd}
-use Rattle.brd_kernel.specs.declared.call.Ercd.TheVariants.{Id, Par, Iluse, Obj, Qovr, Rlwai, Tmout}
+use Rattle.brd_kernel.specs.declared.call.Ercd.TheVariants.{Rlwai, Tmout}
 use Rattle.brd_kernel.specs.Answer.{e_ok, code_of}
 use Rattle.brd_kernel.specs.Kernel.{KernelState, with_tasks, with_processor, processor_at, is_held, running_in, running_on, unmarked, with_pending, handles, accepted_line}
-use Rattle.brd_kernel.specs.Row.{Row, Served, refused, served_object, served, is_absent, or_refused}
+use Rattle.brd_kernel.specs.Row.{Row, Served, served, is_absent, or_refused}
 use Rattle.brd_kernel.specs.Waits.{due_by, due_after, can_wait, with_wait, released_in, reason_of, unlisted_from, unlisted, broken_off, ended_in, reordered_in, answer_by, timed_out, all_timed_out, ticked_on, faulted_task, faulted_in, ended_by_fault}
 use Rattle.brd_kernel.specs.Dispatch.{is_same_task}
 use Rattle.brd_kernel.specs.Services as table
 use Rattle.brd_kernel.specs.Services.{named, runs_held, is_held_elsewhere, is_no_processor, callers_priority, or_waits, with_released, with_all_released_in, with_satisfied_of, with_satisfied_released, handed_over, with_priority_in, flag_got, queue_sent, queue_received, unmarked_on, handler_ended, serve_by, serve_of, caller_on}
 use Rattle.brd_kernel.specs.Running.{is_ready_on, IsRunning}
 use Rattle.brd_kernel.proofs.ListLemmas.{same-number}
+use Rattle.brd_kernel.proofs.ServedLemmas.{Leaves, Passes, leaves-row, leaves-if}
 use Rattle.brd_kernel.proofs.ReadyLemmas.{KeepsReady, activated-keeps, ended-others, wakeup-keeps, cleared-keeps, blocked-active, suspended-active, through-others, resumed-keeps, released-keeps, priority-keeps, migrated-others, turned-keeps}
 use Rattle.brd_kernel.proofs.RunningLemmas.{held_in, HoldsReady, IsntHeld, runs-hold, tasks-run, parts-run, marked-runs, others-hold, free-isnt_held, exit-holds, number-there}
 
@@ -214,38 +215,16 @@ MayServe p caller (call.PutChr word) = Unit {0}
 MayServe p caller call.ExtKer = Unit {0}
 MayServe p caller call.RetInt = Unit {0}
 
--- A row of the service table leaves it so, if what it does leaves it so where no test refuses.
+-- A row of the service table leaves it so, if what it does leaves it so.
 
 abbrev pub Holds : Result Served Ercd → Type 0
-Holds (Ok done) = HoldsReady done.kernel
-Holds (Err code) = Unit {0}
-
--- what is known where a row does what it does
-pub record Passes {X : Type 0} (row : Row X) (x : X) : Type 0 where
-  pub there : row.object ≡ Some x
-  pub par : row.bad_par ≡ false
-  pub iluse : row.iluse x ≡ false
-  pub obj : row.obj x ≡ false
-
-holds-refused : (test : Bool) (code : Ercd) (otherwise : Result Served Ercd) → (test ≡ false → Holds otherwise) → Holds (refused test code otherwise)
-holds-refused true code otherwise holds = tt
-holds-refused false code otherwise holds = holds refl
-
-holds-object : {X : Type 0} (row : Row X) (found : Option X) → row.object ≡ found → row.bad_par ≡ false →
-    ((x : X) → Passes row x → Holds (row.does x)) → Holds (served_object row found)
-holds-object row None is par does = tt
-holds-object row (Some x) is par does =
-    holds-refused (row.iluse x) Iluse _
-    (λ iluse. holds-refused (row.obj x) Obj _
-    (λ obj. holds-refused (row.qovr x) Qovr _ (λ qovr. does x (record { there = is; par = par; iluse = iluse; obj = obj }))))
+Holds says = Leaves HoldsReady says
 
 holds-row : {X : Type 0} (row : Row X) → ((x : X) → Passes row x → Holds (row.does x)) → Holds (served row)
-holds-row row does =
-    holds-refused row.bad_id Id _ (λ id. holds-refused row.bad_par Par _ (λ par. holds-object row row.object refl par does))
+holds-row row does = leaves-row HoldsReady row does
 
 holds-if : (test : Bool) (one other : Result Served Ercd) → Holds one → Holds other → Holds (if test then one else other)
-holds-if true one other first second = first
-holds-if false one other first second = second
+holds-if test one other first second = leaves-if HoldsReady test one other (λ is. first) (λ is. second)
 
 -- The caller waits.
 

@@ -1,6 +1,6 @@
 -- Every service call, tick and exception keeps what holds of waits.
-use Rattle.std.proofs.Common.{◌≡◌, ℕ, ◌%◌, ◌^◌, List, [], ◌∷◌, ◌++◌, refl, ap, ◌∙◌}
-use Rattle.std.specs.Prelude.{Bool, true, false, ◌==◌, nat_lt, if◌then◌else◌, Option, None, Some, is_some, Result, Ok, Err}
+use Rattle.std.proofs.Common.{◌≡◌, ℕ, ◌%◌, ◌^◌, List, [], ◌∷◌, ◌++◌, refl, sym, ap, subst, ◌∙◌}
+use Rattle.std.specs.Prelude.{Bool, true, false, ◌==◌, nat_lt, if◌then◌else◌, Option, None, Some, is_some}
 use Rattle.std.proofs.lemmas.Bool.{false≢true}
 use Rattle.brd_exec.specs.State.{State}
 use Rattle.brd_tasks.specs.declared.status.WaitReason.{WaitReason}
@@ -19,18 +19,19 @@ use Rattle.brd_objects.specs.DataQueues.{DataQueueState, outcome}
 use Rattle.brd_kernel.specs.declared.processor.Processor.{Processor}
 use Rattle.brd_kernel.specs.declared.call.Call.{Call}
 use Rattle.brd_kernel.specs.declared.call.Call.TheVariants as call
-use Rattle.brd_kernel.specs.declared.call.Ercd.{Ercd}
 use Rattle.brd_kernel.specs.declared.call.Ercd.TheVariants.{Rlwai}
 use Rattle.brd_kernel.specs.Answer.{e_ok, code_of}
 use Rattle.brd_kernel.specs.declared.processor.Executor.{Executor}
 use Rattle.brd_kernel.specs.declared.processor.Executor.TheVariants as executor
 use Rattle.brd_kernel.specs.Dispatch.{dispatched}
 use Rattle.brd_kernel.specs.Kernel.{KernelState, with_tasks, with_processor, processor_at, unmarked, with_context_of, with_pending, handles, accepted_line}
-use Rattle.brd_kernel.specs.Row.{Served, or_refused}
 use Rattle.brd_kernel.specs.Waits.{due_after, reason_of, ended_in, answer_by, timed_out, all_timed_out, ticked_on, ticked, faulted_task, faulted_in, ended_by_fault}
 use Rattle.brd_kernel.specs.Services as table
 use Rattle.brd_kernel.specs.Services.{named, unmarked_on, handler_ended, serve_by, serve_of, caller_on, or_waits, callers_priority, with_released, with_all_released_in, with_satisfied_of, handed_over, flag_got, queue_sent, queue_received}
 use Rattle.brd_kernel.specs.Waiting.{standing_for, WaitsAreKept}
+use Rattle.brd_kernel.proofs.ServedLemmas.{leaves-or_refused}
+use Rattle.brd_kernel.proofs.SleeperLemmas.{AreKept}
+use Rattle.brd_kernel.proofs.EachLemmas.{others-kept, tasks-kept, serve-kept, ticked-kept, fault-kept}
 use Rattle.brd_kernel.proofs.StandingLemmas.{waits_by, waits, StandsIn, stands, kept}
 use Rattle.brd_kernel.proofs.KeepingLemmas.{by-lists, by-count}
 use Rattle.brd_kernel.proofs.RowLemmas.{noted-before, activated-before, migrated-before, turned-before, suspended-keeps, resumed-keeps, through-before}
@@ -142,14 +143,11 @@ keeps-serve k cpu caller call.ExtKer was =
 keeps-serve k cpu caller call.RetInt was =
     keeps-row (table.ret_int k cpu) (λ (p : Processor) there. parts-keep k (handler_ended k cpu p) refl refl refl refl refl was)
 
-or-refused-keeps : (k : KernelState) (says : Result Served Ercd) → StandsIn [] k → Keeps says → StandsIn [] (or_refused k says).kernel
-or-refused-keeps k (Ok done) was keeps = keeps
-or-refused-keeps k (Err code) was keeps = was
-
 pub serve-keeps : (k : KernelState) (cpu : ℕ) (c : Call) → WaitsAreKept k → WaitsAreKept (serve_of k cpu c).kernel
 serve-keeps k cpu c was =
     kept (serve_of k cpu c).kernel
-    (or-refused-keeps k (serve_by k cpu (caller_on k cpu) c) (stands k was) (keeps-serve k cpu (caller_on k cpu) c (stands k was)))
+    (leaves-or_refused (StandsIn []) k (serve_by k cpu (caller_on k cpu) c) (stands k was) (keeps-serve k cpu (caller_on k cpu) c (stands k was)))
+    (serve-kept k cpu c was.each)
 
 -- Ticks.
 
@@ -173,6 +171,7 @@ ticked-keeps k was =
     kept (ticked_on k time)
     (all-timed-keep (record k { time = time }) (due_from time 0)
     (count-keeps k time (advanced-dues (nat_lt k.time.count last_count) k.time _) (stands k was)))
+    (ticked-kept k was.each)
 
 tick-by : (test : Bool) (k one : KernelState) → WaitsAreKept one → WaitsAreKept k → WaitsAreKept (if test then one else k)
 tick-by true k one first second = first
@@ -202,18 +201,21 @@ faulted-keeps k cpu (Some p) was =
     (faulted-task-keeps k cpu p p.running was)
 
 pub fault-keeps : (k : KernelState) (cpu : ℕ) → WaitsAreKept k → WaitsAreKept (ended_by_fault k cpu)
-fault-keeps k cpu was = kept (ended_by_fault k cpu) (faulted-keeps k cpu (processor_at k cpu) (stands k was))
+fault-keeps k cpu was = kept (ended_by_fault k cpu) (faulted-keeps k cpu (processor_at k cpu) (stands k was)) (fault-kept k cpu was.each)
 
 -- What changes no wait, no list and no due tick.
 pub others-keep : (k new : KernelState) → new.tasks ≡ k.tasks → new.time ≡ k.time → new.semaphores ≡ k.semaphores → new.flags ≡ k.flags →
     new.queues ≡ k.queues → WaitsAreKept k → WaitsAreKept new
-others-keep k new tasks time semaphores flags queues was = kept new (parts-keep k new tasks time semaphores flags queues (stands k was))
+others-keep k new tasks time semaphores flags queues was =
+    kept new (parts-keep k new tasks time semaphores flags queues (stands k was))
+    (others-kept k new semaphores flags queues (subst (λ t. AreKept t) (sym tasks) was.each.sleepers) was.each)
 
 pub context-keeps : (k : KernelState) (cpu : ℕ) (who : Executor) (s : State) → WaitsAreKept k → WaitsAreKept (with_context_of k cpu who s)
 context-keeps k cpu executor.Handler s was = others-keep k (with_context_of k cpu executor.Handler s) refl refl refl refl refl was
 context-keeps k cpu (executor.Task id) s was =
     kept (with_context_of k cpu (executor.Task id) s)
     (tasks-keep k (with_context k.tasks id s) (record { long = refl; same = λ at. refl }) (stands k was))
+    (tasks-kept k (with_context k.tasks id s) was.each.sleepers was.each)
 
 pub dispatched-keeps : (k : KernelState) → WaitsAreKept k → WaitsAreKept (dispatched k)
 dispatched-keeps k was = others-keep k (dispatched k) refl refl refl refl refl was

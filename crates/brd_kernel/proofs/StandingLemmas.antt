@@ -13,7 +13,7 @@ use Rattle.brd_tasks.specs.Tasks.{TaskTable, task_at}
 use Rattle.brd_time.specs.Time.{Time, due_of}
 use Rattle.brd_kernel.specs.Kernel.{KernelState}
 use Rattle.brd_kernel.specs.Waits.{reason_in, reason_of}
-use Rattle.brd_kernel.specs.Waiting.{standing_for, has_list, WaitsAreKept}
+use Rattle.brd_kernel.specs.Waiting.{standing_for, has_list, EachIsKept, WaitsAreKept}
 use Rattle.brd_kernel.proofs.ListLemmas.{among, priority_in-absent, same-number}
 
 -- who waits for the one stands in the list of the other
@@ -180,8 +180,8 @@ delay-wait : (row : Option Task) (due : Option ℕ) → reason_in row ≡ Some r
 delay-wait None due is timed = let wrong : ⊥ = cc in absurd wrong
 delay-wait (Some task) due is timed = subst (λ w. IsTimed (waits_by w task.priority) due) is timed
 
-pub kept : (k : KernelState) → StandsIn [] k → WaitsAreKept k
-kept k all = record {
+pub kept : (k : KernelState) → StandsIn [] k → EachIsKept k → WaitsAreKept k
+kept k all each = record {
   rows = all.rows;
   dues = all.dues;
   apart = all.apart;
@@ -191,6 +191,7 @@ kept k all = record {
   only = λ id why there.
       reason-row (task_at k.tasks id) why
       (ap is_some (sym (all.listed id why)) ∙ sym (has-priority_in id (standing_for k why)) ∙ there);
+  each = each;
   timed = λ id none. subst (λ w. IsTimed w (due_of k.time id)) (no-wait (task_at k.tasks id) none) (all.timed id refl);
   delayed = λ id is. delay-wait (task_at k.tasks id) (due_of k.time id) is (all.timed id refl);
 }

@@ -1,9 +1,14 @@
--- What holds of waits after every event: a task that waits for a semaphore, for bits of an event flag, or for its turn
--- at a data queue stands in the list of that object, once and with its priority, and stands in no other; and only who
--- waits has a tick at which its wait ends.
-use Rattle.std.specs.Prelude.{◌≡◌, ℕ, Bool, true, false, List, [], map, Option, None, Some, is_some, length}
+-- What holds of waits after every event. A task that waits for a semaphore, for bits of an event flag, or to send to or
+-- receive from a data queue stands in the waiting list for just that, once and with its priority, and in no other waiting
+-- list of an object; where that list is in the order of priority, no task stands in front of one with a higher priority;
+-- no task waits for something that it could have at once; and only a task that waits has a due tick.
+use Rattle.std.specs.Prelude.{◌≡◌, ℕ, Bool, true, false, List, [], map, Option, None, Some, IfSome, is_some, length}
+use Rattle.std.specs.List.{AllByRecursion}
 use Rattle.brd_queue.specs.declared.entry.Entry.{Entry}
-use Rattle.brd_queue.specs.Queue.{Plain, has, priority_in, AreApart}
+use Rattle.brd_queue.specs.declared.entry.Order.{Order}
+use Rattle.brd_queue.specs.declared.entry.Order.TheVariants.{Arrival, Priority}
+use Rattle.brd_queue.specs.Queue.{Plain, has, priority_in, is_empty, AreApart}
+use Rattle.brd_queue.specs.Rule.{IsByPriority}
 use Rattle.brd_tasks.specs.declared.status.WaitReason.{WaitReason}
 use Rattle.brd_tasks.specs.declared.status.WaitReason.TheVariants as reason
 use Rattle.brd_tasks.specs.declared.task.Task.{Task}
@@ -13,11 +18,14 @@ use Rattle.brd_time.specs.Time.{due_of}
 use Rattle.brd_objects.specs.declared.semaphore.Semaphore.{Semaphore}
 use Rattle.brd_objects.specs.declared.flag.Flag.{Flag}
 use Rattle.brd_objects.specs.Table.{object_at}
-use Rattle.brd_objects.specs.DataQueues.{DataQueueState}
+use Rattle.brd_objects.specs.Semaphores.{has_one}
+use Rattle.brd_objects.specs.Waiters.{satisfies, WantBits}
+use Rattle.brd_objects.specs.DataQueues.{DataQueueState, has_room}
 use Rattle.brd_kernel.specs.Kernel.{KernelState}
 use Rattle.brd_kernel.specs.Waits.{reason_of}
+use Rattle.brd_kernel.specs.Services.{is_asleep}
 
--- who stands in a list, in its order and with which priority, whatever each of them wants
+-- a list without what each waiter wants: IDs and priorities, in the same order
 abbrev pub plain : {W : Type 0} → List (Entry W) → List Plain
 plain waiters = map (λ e. record { id = e.id; priority = e.priority; wanted = tt }) waiters
 
@@ -54,17 +62,59 @@ has_list (reason.Flag object) = true
 has_list (reason.Send object) = true
 has_list (reason.Receive object) = true
 
+-- Where the order is by priority, no task stands in front of one with a higher priority, which is a lower number. Nothing
+-- is said of arrival, neither where the order is by arrival nor among equals: a list doesn't tell who came first.
+abbrev pub AreInOrder : {W : Type 0} → Order → List (Entry W) → Type 0
+AreInOrder Arrival waiters = Unit {0}
+AreInOrder Priority waiters = IsByPriority waiters
+
+-- No task sleeps (waits for a wake-up) while one is queued for it.
+abbrev pub SleeperIsKept : Task → Type 0
+SleeperIsKept task = is_asleep task.status ≡ true → task.wakeup ≡ false
+
+-- What holds of the waiters of an object: they are in order, and none of them could have at once what it waits for.
+
+pub record SemaphoreIsKept (s : Semaphore) : Type 0 where
+  pub ordered : AreInOrder s.order s.waiters
+  -- while the count isn't 0, no task waits
+  pub lacking : has_one s ≡ true → s.waiters ≡ []
+
+pub record FlagIsKept (f : Flag) : Type 0 where
+  pub ordered : AreInOrder f.order f.waiters
+  -- no task waits for an empty set of bits: under TWF_ANDW every pattern would satisfy it, also one that TA_CLR has cleared
+  pub bits : WantBits f.waiters
+  -- no task waits that the pattern satisfies
+  pub lacking : AllByRecursion (λ e. satisfies f.pattern e.wanted ≡ false) f.waiters
+
+pub record QueueIsKept (q : DataQueueState) : Type 0 where
+  -- senders are in order; receivers always wait by arrival, of which nothing is said
+  pub ordered : AreInOrder q.order q.senders
+  -- while it has room, no task waits to send
+  pub room : has_room q ≡ true → q.senders ≡ []
+  -- while a task waits to receive, nothing is stored, and no task waits to send
+  pub datum : is_empty q.receivers ≡ false → (q.stored ≡ []) × (q.senders ≡ [])
+
+-- Each task is so, and each object.
+pub record EachIsKept (k : KernelState) : Type 0 where
+  pub sleepers : (id : ℕ) → IfSome (task_at k.tasks id) (λ task. SleeperIsKept task)
+  pub semaphores : (id : ℕ) → IfSome (object_at k.semaphores id) (λ s. SemaphoreIsKept s)
+  pub flags : (id : ℕ) → IfSome (object_at k.flags id) (λ f. FlagIsKept f)
+  pub queues : (id : ℕ) → IfSome (object_at k.queues id) (λ q. QueueIsKept q)
+
 pub record WaitsAreKept (k : KernelState) : Type 0 where
+  -- each ID from 0 to 255 has a row and a due tick, or None
   pub rows : length k.tasks.rows ≡ 256
   pub dues : length k.time.dues ≡ 256
-  -- no task stands twice in a list
+  -- no task stands twice in a list; IDs are below 256
   pub apart : (why : WaitReason) → AreApart (standing_for k why)
-  -- who waits for an object stands in its list, with its priority
+  -- a task that waits for an object stands in the list for just that, with its priority
   pub listed : (id : ℕ) (task : Task) (why : WaitReason) → task_at k.tasks id ≡ Some task → waiting_of task.status ≡ Some why → has_list why ≡ true →
       priority_in id (standing_for k why) ≡ Some task.priority
-  -- and nobody else
+  -- and no other task does
   pub only : (id : ℕ) (why : WaitReason) → has id (standing_for k why) ≡ true → reason_of k id ≡ Some why
-  -- who waits for nothing has no tick at which a wait ends
+  -- each list is in order, and no task waits for something that it could have at once
+  pub each : EachIsKept k
+  -- a task that doesn't wait has no due tick
   pub timed : (id : ℕ) → reason_of k id ≡ None → due_of k.time id ≡ None
-  -- and who waits for time alone has one
+  -- and one that waits for time alone has one
   pub delayed : (id : ℕ) → reason_of k id ≡ Some reason.Delay → is_some (due_of k.time id) ≡ true

@@ -31,9 +31,11 @@ pub fn dispatch_gives_each_its_first()
     ensures none { (k : KernelState) (cpu : ℕ) → processor_at k cpu ≡ None → processor_at (dispatched k) cpu ≡ None }
 {}
 
-/// In a kernel as it is made, each task that waits for an object stands once, with its priority, in the list of that
-/// object, and in no other list; only who waits has a tick at which its wait ends, and a delay has one. Every service
-/// call, tick and exception keeps this.
+/// This holds of a kernel as it is made, and every service call, tick and exception keeps it: each task that waits for a
+/// semaphore, for bits of an event flag, or to send to or receive from a data queue stands once, with its priority, in
+/// the waiting list for just that, and in no other waiting list of an object; where that list is in the order of
+/// priority, no task stands in front of one with a higher priority; no task waits for something that it could have at
+/// once; only a task that waits has a due tick, and a delay has one.
 pub fn who_waits_stands_in_its_list()
     ensures made { (processors : ℕ) (setups : List SetupOf) (lines : List LineOf) (semaphores : List SemaphoreConfig) (flags : List FlagConfig) (queues : List QueueConfig) → WaitsAreKept (made_kernel processors setups lines semaphores flags queues) }
     ensures call { (k : KernelState) (cpu : ℕ) (asked : CallOf) → WaitsAreKept k → WaitsAreKept (serve_of k cpu asked).kernel }
