@@ -9,7 +9,7 @@ ghost use Rattle.brd_queue.specs.Queue.{has, AreApart};
 ghost use Rattle.brd_tasks.specs.Tasks.{task_at, ready_on};
 ghost use Rattle.brd_kernel.specs.Kernel.{running_on};
 ghost use Rattle.brd_kernel.specs.Dispatch.{IsSettled, has_changed};
-ghost use Rattle.brd_kernel.specs.Waiting.{WaitsAreKept};
+ghost use Rattle.brd_kernel.specs.Waiting.{EachIsKept, WaitsAreKept};
 ghost use Rattle.brd_kernel.specs.Running.{is_ready_on, IsRunning, RunsOnce};
 ghost use Rattle.brd_board.specs.declared.event.Event.{Event as EventOf};
 ghost use Rattle.brd_board.specs.declared.event.Report.TheVariants as report;
@@ -31,12 +31,26 @@ pub fn a_change_of_task_ends_the_link()
     ensures { (board : BoardState) (event : EventOf) (cpu : ℕ) → 1 ≤ cpu → cpu ≤ 8 → has_changed board.kernel (happens board event).board.kernel cpu ≡ true → linked_address (happens board event).board.links cpu ≡ None }
 {}
 
-/// After every list of events from a boot each task that waits for an object stands once, with its priority, in the
-/// list of that object, and in no other list; only who waits has a tick at which its wait ends, and a delay has one. No
-/// event ends this.
+/// After every list of events from a boot each task that waits for a semaphore, for bits of an event flag, or to send to
+/// or receive from a data queue stands once, with its priority, in the waiting list for just that, and in no other
+/// waiting list of an object; where that list is in the order of priority, no task stands in front of one with a higher
+/// priority; no task waits for something that it could have at once; only a task that waits has a due tick, and a delay
+/// has one. No event ends this.
 pub fn who_waits_stands_in_its_list()
     ensures boot { (image : ImageOf) (config : Configuration) (board : BoardState) (events : List EventOf) → boot image config ≡ Ok board → WaitsAreKept (after board events).kernel }
     ensures event { (board : BoardState) (event : EventOf) → WaitsAreKept board.kernel → WaitsAreKept (happens board event).board.kernel }
+{}
+
+/// After every list of events from a boot no task waits for something that it could have at once: none for a wake-up that
+/// is queued; none for a semaphore whose count isn't 0; none for bits of an event flag while the pattern satisfies the
+/// wait (TWF_ANDW: all of them are set; TWF_ORW: any of them), nor for an empty set of bits; none to send to a data queue
+/// that has room; none to receive from one that stores a datum, or to which another task waits to send one. And where
+/// waiters stand in the order of priority, none stands in front of one with a higher priority.
+///
+/// This is the part `each` of `WaitsAreKept`, and speaks of the waiting lists; that each task that waits for an object
+/// stands in its list is said by `who_waits_stands_in_its_list`.
+pub fn nobody_waits_for_what_is_there()
+    ensures { (image : ImageOf) (config : Configuration) (board : BoardState) (events : List EventOf) → boot image config ≡ Ok board → EachIsKept (after board events).kernel }
 {}
 
 /// When an SC stores, and what its word was. This is for who writes locks.
