@@ -1,9 +1,8 @@
 -- What holds of waits at the making, where nobody waits, and when tasks are started.
 use Rattle.std.proofs.Common.{◌≡◌, ◌<◌, ◌≤◌, ℕ, List, [], length, refl, sym, ap, subst, ◌∙◌, arith}
-use Rattle.std.specs.Prelude.{Bool, true, false, ◌==◌, nat_lt, find, replicate, Option, None, Some, IfSome, slice_index_or}
+use Rattle.std.specs.Prelude.{Bool, true, false, ◌==◌, nat_lt, find, Option, None, Some, IfSome, slice_index_or}
 use Rattle.std.specs.Option.{option_map}
 use Rattle.std.proofs.lemmas.Bool.Decides.{nat_tests}
-use Rattle.std.proofs.lemmas.List.{get_or-replicate, length-replicate}
 use Rattle.std.proofs.lemmas.List.FromFn.{length-map-range_with_len, get_or-map-range_with_len}
 use Rattle.std.proofs.Math.ListN.{get_or-eq_default}
 use Rattle.brd_queue.specs.declared.entry.Order.{Order}
@@ -11,10 +10,10 @@ use Rattle.brd_queue.specs.declared.entry.Order.TheVariants.{Arrival, Priority}
 use Rattle.brd_queue.specs.Queue.{Plain, priority_in, AreApart}
 use Rattle.brd_tasks.specs.declared.status.WaitReason.{WaitReason}
 use Rattle.brd_tasks.specs.declared.status.WaitReason.TheVariants as reason
-use Rattle.brd_tasks.specs.declared.task.Task.{Task}
 use Rattle.brd_tasks.specs.declared.task.TaskSetup.{TaskSetup}
 use Rattle.brd_tasks.specs.declared.task.Request.{Request}
-use Rattle.brd_tasks.specs.Tasks.{activated, unstarted, first_row, first_rows}
+use Rattle.brd_tasks.specs.Tasks.{activated, unstarted, first_rows}
+use Rattle.brd_tasks.proofs.MadeLemmas.{rows-length, same-at, row-at}
 use Rattle.brd_time.specs.Time.{due_of, beginning}
 use Rattle.brd_config.specs.declared.objects.SemaphoreConfig.{SemaphoreConfig}
 use Rattle.brd_config.specs.declared.objects.FlagConfig.{FlagConfig}
@@ -81,26 +80,13 @@ first-waits : (found : Option TaskSetup) → waits (option_map unstarted found) 
 first-waits None = refl
 first-waits (Some setup) = refl
 
-row-by : (small : Bool) (setups : List TaskSetup) (n at : ℕ) → nat_lt at n ≡ small → waits (slice_index_or (first_rows setups n) at None) ≡ None
-unfolding first_rows
-row-by true setups n at test =
-    let small : at < n = grind (arith, nat_tests, test) in
-    ap waits (get_or-map-range_with_len (first_row setups) 0 n at at None small (omega arith)) ∙ first-waits (find (λ setup. setup.id == at) setups)
-row-by false setups n at test =
-    let past : length (first_rows setups n) ≤ at = grind (arith, nat_tests, test, length-map-range_with_len (first_row setups) 0 n) in
-    ap waits (get_or-eq_default (first_rows setups n) None past)
-
-rows-long : (setups : List TaskSetup) (n : ℕ) → length (first_rows setups n) ≡ n
-unfolding first_rows
-rows-long setups n = length-map-range_with_len (first_row setups) 0 n
-
-undue-by : (small : Bool) (n at : ℕ) → nat_lt at n ≡ small → ◌≡◌ {A = Option ℕ} (slice_index_or (replicate n None) at None) None
-undue-by true n at test = get_or-replicate n at None None (grind (arith, nat_tests, test))
-undue-by false n at test = get_or-eq_default (replicate n None) None (grind (arith, nat_tests, test, length-replicate))
+nothing-waited : (setups : List TaskSetup) (at : ℕ) → waits (slice_index_or (first_rows setups 256) at None) ≡ None
+nothing-waited setups at =
+    row-at (nat_lt at 256) setups 256 at refl (λ row. waits row ≡ None) refl (first-waits (find (λ setup. setup.id == at) setups))
 
 undue : (at : ℕ) → due_of beginning at ≡ None
 unfolding beginning
-undue at = undue-by (nat_lt at 256) 256 at refl
+undue at = same-at 256 at None
 
 dues-long : length beginning.dues ≡ 256
 unfolding beginning
@@ -109,12 +95,12 @@ dues-long = refl
 made-stands : (processors : ℕ) (setups : List TaskSetup) (lines : List LineSetup) (semaphores : List SemaphoreConfig) (flags : List FlagConfig) (queues : List QueueConfig) →
     StandsIn [] (made_kernel processors setups lines semaphores flags queues)
 made-stands processors setups lines semaphores flags queues = record {
-  rows = rows-long setups 256;
+  rows = rows-length setups 256;
   dues = dues-long;
   apart = λ why. subst AreApart (sym (nobody-waits processors setups lines semaphores flags queues why)) tt;
   listed = λ id why. ap (priority_in id) (nobody-waits processors setups lines semaphores flags queues why)
-      ∙ sym (ap (λ w. wanted w why) (row-by (nat_lt id 256) setups 256 id refl));
-  timed = λ id in_it. subst (λ w. IsTimed w (due_of beginning id)) (sym (row-by (nat_lt id 256) setups 256 id refl)) (undue id);
+      ∙ sym (ap (λ w. wanted w why) (nothing-waited setups id));
+  timed = λ id in_it. subst (λ w. IsTimed w (due_of beginning id)) (sym (nothing-waited setups id)) (undue id);
 }
 
 -- nobody waits for an object
@@ -140,22 +126,11 @@ unstarted-kept : (found : Option TaskSetup) → IfSome (option_map unstarted fou
 unstarted-kept None = tt
 unstarted-kept (Some setup) = λ asleep. refl
 
-none-sleeps : (small : Bool) (setups : List TaskSetup) (n at : ℕ) → nat_lt at n ≡ small →
-    IfSome (slice_index_or (first_rows setups n) at None) (λ task. SleeperIsKept task)
-unfolding first_rows
-none-sleeps true setups n at test =
-    let small : at < n = grind (arith, nat_tests, test) in
-    subst (λ (row : Option Task). IfSome row (λ task. SleeperIsKept task))
-    (sym (get_or-map-range_with_len (first_row setups) 0 n at at None small (omega arith)))
-    (unstarted-kept (find (λ setup. setup.id == at) setups))
-none-sleeps false setups n at test =
-    let past : length (first_rows setups n) ≤ at = grind (arith, nat_tests, test, length-map-range_with_len (first_row setups) 0 n) in
-    subst (λ (row : Option Task). IfSome row (λ task. SleeperIsKept task)) (sym (get_or-eq_default (first_rows setups n) None past)) tt
-
 made-each : (processors : ℕ) (setups : List TaskSetup) (lines : List LineSetup) (semaphores : List SemaphoreConfig) (flags : List FlagConfig) (queues : List QueueConfig) →
     EachIsKept (made_kernel processors setups lines semaphores flags queues)
 made-each processors setups lines semaphores flags queues = record {
-  sleepers = λ at. none-sleeps (nat_lt at 256) setups 256 at refl;
+  sleepers = λ at. row-at (nat_lt at 256) setups 256 at refl (λ row. IfSome row (λ task. SleeperIsKept task)) tt
+      (unstarted-kept (find (λ setup. setup.id == at) setups));
   semaphores = λ at. each-first (λ s. SemaphoreIsKept s) (λ config. config.id) semaphore_of semaphores at
       (λ c. record { ordered = empty-in-order (Unit {0}) (order_of c.attributes.0); lacking = λ has. refl });
   flags = λ at. each-first (λ f. FlagIsKept f) (λ config. config.id) flag_of flags at

@@ -1,16 +1,15 @@
 -- As the kernel is made nobody runs and nobody is ready; then tasks are started.
 use Rattle.std.proofs.Common.{◌≡◌, ◌<◌, ◌≤◌, ℕ, List, [], length, refl, sym, ap, subst, ◌∙◌, arith}
-use Rattle.std.specs.Prelude.{Bool, true, false, ◌&&◌, nat_lt, nat_le, if◌then◌else◌, slice_index_or, replicate, All, Option, None, Some}
+use Rattle.std.specs.Prelude.{Bool, true, false, ◌&&◌, nat_lt, nat_le, if◌then◌else◌, slice_index_or, All, Option, None, Some}
 use Rattle.std.proofs.lemmas.Bool.Decides.{nat_tests}
-use Rattle.std.proofs.lemmas.List.{get_or-replicate, length-replicate}
 use Rattle.std.proofs.lemmas.List.FromFn.{length-map-range_with_len, get_or-map-range_with_len}
 use Rattle.std.proofs.Math.ListN.{get_or-eq_default}
-use Rattle.brd_queue.specs.Queue.{Plain, AreApart}
+use Rattle.brd_queue.specs.Queue.{AreApart}
 use Rattle.brd_tasks.specs.declared.task.TaskSetup.{TaskSetup}
 use Rattle.brd_tasks.specs.declared.task.Request.TheVariants.{Assigned}
 use Rattle.brd_tasks.specs.Ready.{IsSetup}
 use Rattle.brd_tasks.specs.Tasks.{made, activated}
-use Rattle.brd_tasks.proofs.MadeLemmas.{made-consistent}
+use Rattle.brd_tasks.proofs.MadeLemmas.{same-at, made-consistent}
 use Rattle.brd_kernel.specs.Kernel.{KernelState, idle, running_in, with_tasks}
 use Rattle.brd_kernel.specs.Making.{idle_one, idle_ones}
 use Rattle.brd_kernel.specs.Running.{IsOrderly, IsRunning}
@@ -39,14 +38,10 @@ none-at-0 : (processors : ℕ) → slice_index_or (idle_ones processors 9) 0 Non
 unfolding idle_ones
 none-at-0 processors = get_or-map-range_with_len (idle_one processors) 0 9 0 0 None (omega arith) (omega arith)
 
-unready-by : (small : Bool) (n cpu : ℕ) → nat_lt cpu n ≡ small → ◌≡◌ {A = List Plain} (slice_index_or (replicate n []) cpu []) []
-unready-by true n cpu test = get_or-replicate n cpu [] [] (grind (arith, nat_tests, test))
-unready-by false n cpu test = get_or-eq_default (replicate n []) [] (grind (arith, nat_tests, test, length-replicate))
-
 made-orderly : (setups : List TaskSetup) → All IsSetup setups → IsOrderly (made setups)
 made-orderly setups all = record {
   consistent = made-consistent setups all;
-  once = λ cpu. subst AreApart (sym (unready-by (nat_lt cpu 9) 9 cpu refl)) tt;
+  once = λ cpu. subst AreApart (sym (same-at 9 cpu [])) tt;
 }
 
 -- a kernel with these processors and tasks, as it is made

@@ -1,5 +1,5 @@
 -- What a write to a task's row and its moves in the ready lists keep.
-use Rattle.std.proofs.Common.{◌≡◌, ◌≢◌, ◌<◌, ◌≤◌, ℕ, List, [], refl, sym, true≢false, ap, subst, ◌∙◌, length, arith}
+use Rattle.std.proofs.Common.{◌≡◌, ◌<◌, ◌≤◌, ℕ, List, [], refl, sym, true≢false, ap, subst, ◌∙◌, length, arith}
 use Rattle.std.specs.Prelude.{Bool, true, false, ◌==◌, ◌&&◌, nat_lt, if◌then◌else◌, Option, None, Some, IsSome, IfSome, slice_set, slice_index_or}
 use Rattle.std.proofs.lemmas.Bool.Decides.{nat_tests}
 use Rattle.std.proofs.lemmas.Grind.{get_or-set_at}
@@ -11,8 +11,8 @@ use Rattle.brd_queue.proofs.PriorityLemmas.{priority_in-without, priority_in-beh
 use Rattle.brd_queue.proofs.RuleLemmas.{ordered-behind_equals, ordered-without}
 use Rattle.brd_tasks.specs.declared.task.Task.{Task}
 use Rattle.brd_tasks.specs.Status.{is_ready}
-use Rattle.brd_tasks.specs.Tasks.{TaskTable, task_at, ready_on, left, entered, placed, patched, turned}
-use Rattle.brd_tasks.specs.Ready.{IsProcessor, IsTask, IsRow, ready_priority, IsConsistent}
+use Rattle.brd_tasks.specs.Tasks.{TaskTable, task_at, ready_on, left, entered, placed, patched}
+use Rattle.brd_tasks.specs.Ready.{IsTask, IsRow, ready_priority, IsConsistent}
 
 abbrev at : List (List Plain) → ℕ → List Plain
 at ready cpu = slice_index_or ready cpu []

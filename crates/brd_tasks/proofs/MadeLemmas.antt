@@ -2,7 +2,6 @@
 use Rattle.std.proofs.Common.{◌≡◌, ◌≤◌, ◌<◌, ℕ, ◌+◌, List, [], ◌∷◌, ◌++◌, refl, sym, ap, subst, ◌∙◌, length, arith}
 use Rattle.std.specs.Prelude.{Bool, true, false, ◌==◌, nat_lt, if◌then◌else◌, Option, None, Some, All, find, replicate, slice_index_or}
 use Rattle.std.specs.Option.{option_map}
-use Rattle.std.specs.List.{range_with_len}
 use Rattle.std.proofs.lemmas.List.FromFn.{map-range_with_len_more, length-map-range_with_len, get_or-map-range_with_len}
 use Rattle.std.proofs.Math.ListN.{get_or-eq_default}
 use Rattle.std.proofs.lemmas.Bool.Decides.{nat_tests}
@@ -13,7 +12,7 @@ use Rattle.brd_queue.specs.Queue.{Plain, priority_in}
 use Rattle.brd_queue.specs.Rule.{IsByPriority}
 use Rattle.brd_tasks.specs.declared.task.TaskSetup.{TaskSetup}
 use Rattle.brd_tasks.specs.declared.task.Task.{Task}
-use Rattle.brd_tasks.specs.Tasks.{TaskTable, unstarted, first_row, first_context, first_rows, first_contexts, made}
+use Rattle.brd_tasks.specs.Tasks.{unstarted, first_row, first_context, first_rows, first_contexts, made}
 use Rattle.brd_tasks.specs.Ready.{IsSetup, IsRow, ready_priority, IsConsistent}
 
 pub no_rows : (setups : List TaskSetup) → first_rows setups 0 ≡ []
@@ -32,7 +31,7 @@ pub contexts_more : (setups : List TaskSetup) (n : ℕ) → first_contexts setup
 unfolding first_contexts
 contexts_more setups n = map-range_with_len_more (first_context setups) 0 n n (omega arith)
 
-rows-length : (setups : List TaskSetup) (n : ℕ) → length (first_rows setups n) ≡ n
+pub rows-length : (setups : List TaskSetup) (n : ℕ) → length (first_rows setups n) ≡ n
 unfolding first_rows
 rows-length setups n = length-map-range_with_len (first_row setups) 0 n
 
@@ -40,19 +39,22 @@ contexts-length : (setups : List TaskSetup) (n : ℕ) → length (first_contexts
 unfolding first_contexts
 contexts-length setups n = length-map-range_with_len (first_context setups) 0 n
 
-nobody-by : (small : Bool) (n cpu : ℕ) → nat_lt cpu n ≡ small → ◌≡◌ {A = List Plain} (slice_index_or (replicate n []) cpu []) []
-nobody-by true n cpu test = get_or-replicate n cpu [] [] (grind (arith, nat_tests, test))
-nobody-by false n cpu test = get_or-eq_default (replicate n []) [] (grind (arith, nat_tests, test, length-replicate))
+same-at-by : {A : Type 0} → (small : Bool) (n at : ℕ) (x : A) → nat_lt at n ≡ small → slice_index_or (replicate n x) at x ≡ x
+same-at-by true n at x test = get_or-replicate n at x x (grind (arith, nat_tests, test))
+same-at-by false n at x test = get_or-eq_default (replicate n x) x (grind (arith, nat_tests, test, length-replicate))
 
-nobody-on : (n cpu : ℕ) → ◌≡◌ {A = List Plain} (slice_index_or (replicate n []) cpu []) []
-nobody-on n cpu = nobody-by (nat_lt cpu n) n cpu refl
+-- a list of the same, also behind its end
+pub same-at : {A : Type 0} → (n at : ℕ) (x : A) → slice_index_or (replicate n x) at x ≡ x
+same-at n at x = same-at-by (nat_lt at n) n at x refl
 
 -- a task that hasn't started is assigned, and is not ready
 row-new : (found : Option TaskSetup) (cpu : ℕ) → ready_priority (option_map unstarted found) cpu ≡ None
 row-new None cpu = refl
 row-new (Some setup) cpu = refl
 
-row-at : (small : Bool) (setups : List TaskSetup) (n id : ℕ) → nat_lt id n ≡ small → (P : Option Task → Type 0) → P None → P (first_row setups id) → P (slice_index_or (first_rows setups n) id None)
+-- what stands at a place of the rows: what its ID makes, or nothing
+pub row-at : (small : Bool) (setups : List TaskSetup) (n id : ℕ) → nat_lt id n ≡ small → (P : Option Task → Type 0) → P None → P (first_row setups id) →
+    P (slice_index_or (first_rows setups n) id None)
 unfolding first_rows
 row-at true setups n id test P none some =
     let small : id < n = grind (arith, nat_tests, test) in
@@ -85,8 +87,8 @@ made-consistent setups all = record {
   lists = refl;
   nobody = row-at true setups 256 0 refl (λ row. row ≡ None) refl (nobody-found setups all);
   each = λ id. row-at (nat_lt id 256) setups 256 id refl IsRow tt (assigned-new id setups all);
-  listed = λ id cpu. ap (priority_in id) (nobody-on 9 cpu) ∙ row-at (nat_lt id 256) setups 256 id refl (λ row. None ≡ ready_priority row cpu) refl (sym (row-new (find (λ setup. setup.id == id) setups) cpu));
-  ordered = λ cpu. subst IsByPriority (sym (nobody-on 9 cpu)) tt;
+  listed = λ id cpu. ap (priority_in id) (same-at 9 cpu []) ∙ row-at (nat_lt id 256) setups 256 id refl (λ row. None ≡ ready_priority row cpu) refl (sym (row-new (find (λ setup. setup.id == id) setups) cpu));
+  ordered = λ cpu. subst IsByPriority (sym (same-at 9 cpu [])) tt;
 }
 
 -- the same of what a function has made part by part

@@ -1,5 +1,5 @@
 -- What is always true of the tasks.
-use Rattle.std.specs.Prelude.{◌≡◌, ◌≤◌, ℕ, ◌==◌, Bool, true, false, ◌&&◌, if◌then◌else◌, Option, None, Some, length}
+use Rattle.std.specs.Prelude.{◌≡◌, ◌≤◌, ℕ, ◌==◌, true, false, ◌&&◌, if◌then◌else◌, Option, None, Some, length}
 use Rattle.brd_queue.specs.Queue.{priority_in}
 use Rattle.brd_queue.specs.Rule.{IsByPriority}
 use Rattle.brd_tasks.specs.declared.task.Request.{Request}

@@ -1,11 +1,10 @@
 -- The tasks, and what each of the kernel's operations makes of them.
-use Rattle.std.specs.Prelude.{ℕ, ◌+◌, Bool, true, false, not, ◌&&◌, if◌then◌else◌, List, [], ◌∷◌, map, replicate, find, ◌==◌}
+use Rattle.std.specs.Prelude.{ℕ, Bool, false, not, ◌&&◌, if◌then◌else◌, List, [], map, replicate, find, ◌==◌}
 use Rattle.std.specs.Prelude.{slice_index_or, slice_set, Option, None, Some, unwrap_or}
 use Rattle.std.specs.List.{range_with_len}
 use Rattle.std.specs.Option.{option_map}
 use Rattle.brd_exec.specs.State.{State, opening, write}
 use Rattle.brd_queue.specs.Queue.{Plain, behind_equals, without, rotated, first_of}
-use Rattle.brd_tasks.specs.declared.status.WaitReason.{WaitReason}
 use Rattle.brd_tasks.specs.declared.status.Status.{Status}
 use Rattle.brd_tasks.specs.declared.status.Status.TheVariants.{Dormant, Ready}
 use Rattle.brd_tasks.specs.declared.task.TaskSetup.{TaskSetup}

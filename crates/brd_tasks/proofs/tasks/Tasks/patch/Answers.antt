@@ -1,4 +1,4 @@
-use Rattle.std.proofs.Common.{◌≡◌, sym, ap, ◌∙◌, subst}
+use Rattle.std.proofs.Common.{sym, ap}
 use Rattle.brd_tasks.specs.Tasks.{TaskTable, task_at}
 use Rattle.brd_tasks.proofs.Consistency.{consistent-patched-as}
 use Rattle.brd_tasks.proofs.tasks.Tasks.patch.Goals as goal
