@@ -1,7 +1,7 @@
 -- What holds of waits after every event. A task that waits for a semaphore, for bits of an event flag, or to send to or
--- receive from a data queue stands in the waiting list for just that, once and with its priority, and in no other waiting
--- list of an object; where that list is in the order of priority, no task stands in front of one with a higher priority;
--- no task waits for something that it could have at once; and only a task that waits has a due tick.
+-- receive from a data queue stands in the waiting list for just that, once and with its priority, and in no other
+-- waiting list of an object; where that list is in the order of priority, no task stands in front of one with a higher
+-- priority; no task waits for something that it could have at once; and only a task that waits has a due tick.
 use Rattle.std.specs.Prelude.{◌≡◌, ℕ, Bool, true, false, List, [], map, Option, None, Some, IfSome, is_some, length}
 use Rattle.std.specs.List.{AllByRecursion}
 use Rattle.brd_queue.specs.declared.entry.Entry.{Entry}
@@ -62,8 +62,9 @@ has_list (reason.Flag object) = true
 has_list (reason.Send object) = true
 has_list (reason.Receive object) = true
 
--- Where the order is by priority, no task stands in front of one with a higher priority, which is a lower number. Nothing
--- is said of arrival, neither where the order is by arrival nor among equals: a list doesn't tell who came first.
+-- Where the order is by priority, no task stands in front of one with a higher priority, which is a lower number.
+-- Nothing is said of arrival, neither where the order is by arrival nor among equals: a list doesn't tell who came
+-- first.
 abbrev pub AreInOrder : {W : Type 0} → Order → List (Entry W) → Type 0
 AreInOrder Arrival waiters = Unit {0}
 AreInOrder Priority waiters = IsByPriority waiters
@@ -81,7 +82,8 @@ pub record SemaphoreIsKept (s : Semaphore) : Type 0 where
 
 pub record FlagIsKept (f : Flag) : Type 0 where
   pub ordered : AreInOrder f.order f.waiters
-  -- no task waits for an empty set of bits: under TWF_ANDW every pattern would satisfy it, also one that TA_CLR has cleared
+  -- no task waits for an empty set of bits: under TWF_ANDW every pattern would satisfy it, also one that TA_CLR has
+  -- cleared
   pub bits : WantBits f.waiters
   -- no task waits that the pattern satisfies
   pub lacking : AllByRecursion (λ e. satisfies f.pattern e.wanted ≡ false) f.waiters
