@@ -71,6 +71,8 @@ impl<'a> Places<'a> {
     }
 
     /// The number of the string at a place, or nothing if no string ends behind it.
+    // Inlined it would share the registers of all of `read`, and keep the number of each turn on the stack.
+    #[inline(never)]
     pub fn number_of(&mut self, start: usize) -> Result<Option<u32>, NoMemory>
         ensures strings { self.new.strings ≡ self.old.strings }
         ensures string { IfOk result (λ number. option_map (path_of self.new.paths) number ≡ string_of (drop start self.old.strings)) }
