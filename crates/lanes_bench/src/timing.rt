@@ -35,24 +35,13 @@ fn time_of<F: Fn(u32) -> usize>(rt: &impl Clock, scan: F) -> io::Result<u64>
     Ok(best)
 }
 
-/// Prints a line: how long a scan takes by lanes, and how long by its plain loop.
-fn print_row<R: Clock + Print, F: Fn(u32) -> usize, G: Fn(u32) -> usize>(
-    rt: &R,
-    name: &str,
-    len: usize,
-    lanes: F,
-    plain: G,
-) -> io::Result<()>
-    requires { (F.IsAlwaysCallable lanes) × (G.IsAlwaysCallable plain) }
-{
-    let lanes = time_of(rt, lanes)?;
-    let plain = time_of(rt, plain)?;
+fn print_row(rt: &impl Print, name: &str, len: usize, lanes: u64, alone: u64) -> io::Result<()> {
     println!(rt;
         "{name:12} {len:4} {:6}.{} {:6}.{}",
         lanes / 10,
         lanes % 10,
-        plain / 10,
-        plain % 10
+        alone / 10,
+        alone % 10
     )
 }
 
@@ -65,37 +54,37 @@ fn print_first_match<R: Clock + Print>(rt: &R, bed: &Bed, len: usize) -> io::Res
 {
     let pats = &bed.pats[..len];
     let or_modes = &bed.or_modes[..len];
-    print_row(
+    let lanes = time_of(
         rt,
-        "first_match",
-        len,
         |round| place(first_match(pats, or_modes, round % 2 * 256, 0)),
+    )?;
+    let alone = time_of(
+        rt,
         |round| place(plain::first_match(pats, or_modes, round % 2 * 256, 0)),
-    )
+    )?;
+    print_row(rt, "first_match", len, lanes, alone)
 }
 
 fn print_next_due<R: Clock + Print>(rt: &R, bed: &Bed, len: usize) -> io::Result<()>
     requires { len ≤ MOST }
 {
     let dues = &bed.dues[..len];
-    print_row(
-        rt,
-        "next_due",
-        len,
-        |round| place(next_due(dues, round as u64, 0)),
-        |round| place(plain::next_due(dues, round as u64, 0)),
-    )
+    let lanes = time_of(rt, |round| place(next_due(dues, round as u64, 0)))?;
+    let alone = time_of(rt, |round| place(plain::next_due(dues, round as u64, 0)))?;
+    print_row(rt, "next_due", len, lanes, alone)
 }
 
 fn print_break_links<R: Clock + Print>(rt: &R, bed: &Bed) -> io::Result<()> {
     let links = &bed.links;
-    print_row(
+    let lanes = time_of(
         rt,
-        "break_links",
-        8,
         |round| break_links(links, 0xff, round % 2048 * 16, 0) as usize,
+    )?;
+    let alone = time_of(
+        rt,
         |round| plain::break_links(links, 0xff, round % 2048 * 16, 0) as usize,
-    )
+    )?;
+    print_row(rt, "break_links", 8, lanes, alone)
 }
 
 fn print_same_words<R: Clock + Print>(rt: &R, bed: &Bed, len: usize) -> io::Result<()>
@@ -104,63 +93,67 @@ fn print_same_words<R: Clock + Print>(rt: &R, bed: &Bed, len: usize) -> io::Resu
     let words = &bed.words[..len];
     let copy = &bed.copy[..len];
     let second = &bed.second_copy[..len];
-    print_row(
-        rt,
-        "same_words",
-        len,
-        |round| same_words(words, if round % 2 == 0 { copy } else { second }) as usize,
-        |round| plain::same_words(words, if round % 2 == 0 { copy } else { second }) as usize,
-    )
+    let lanes = time_of(rt, |round| {
+        same_words(words, if round % 2 == 0 { copy } else { second }) as usize
+    })?;
+    let alone = time_of(rt, |round| {
+        plain::same_words(words, if round % 2 == 0 { copy } else { second }) as usize
+    })?;
+    print_row(rt, "same_words", len, lanes, alone)
 }
 
 fn print_hits<R: Clock + Print>(rt: &R, bed: &Bed, len: usize) -> io::Result<()>
     requires { len ≤ MOST }
 {
     let words = &bed.words[..len];
-    print_row(
+    let lanes = time_of(rt, |round| hits(words, round % 2 + 0x8000_0000) as usize)?;
+    let alone = time_of(
         rt,
-        "hits",
-        len,
-        |round| hits(words, round % 2 + 0x8000_0000) as usize,
         |round| plain::hits(words, round % 2 + 0x8000_0000) as usize,
-    )
+    )?;
+    print_row(rt, "hits", len, lanes, alone)
 }
 
 /// Starts at one of the first eight places, where each wait is satisfied.
 fn print_first_match_at_once<R: Clock + Print>(rt: &R, bed: &Bed) -> io::Result<()> {
     let pats = &bed.pats;
     let or_modes = &bed.or_modes;
-    print_row(
+    let lanes = time_of(
         rt,
-        "first_match",
-        MOST,
         |round| place(first_match(pats, or_modes, 3, round as usize % 8)),
-        |round| place(plain::first_match(pats, or_modes, 3, round as usize % 8)),
-    )
+    )?;
+    let alone = time_of(rt, |round| {
+        place(plain::first_match(pats, or_modes, 3, round as usize % 8))
+    })?;
+    print_row(rt, "first_match", MOST, lanes, alone)
 }
 
 /// The same, where each tick is due.
 fn print_next_due_at_once<R: Clock + Print>(rt: &R, bed: &Bed) -> io::Result<()> {
     let dues = &bed.dues;
-    print_row(
+    let lanes = time_of(
         rt,
-        "next_due",
-        MOST,
         |round| place(next_due(dues, 1 << 63, round as usize % 8)),
+    )?;
+    let alone = time_of(
+        rt,
         |round| place(plain::next_due(dues, 1 << 63, round as usize % 8)),
-    )
+    )?;
+    print_row(rt, "next_due", MOST, lanes, alone)
 }
 
 /// Looks for the first of the words.
 fn print_hits_at_once<R: Clock + Print>(rt: &R, bed: &Bed) -> io::Result<()> {
     let words = &bed.words;
-    print_row(
+    let lanes = time_of(
         rt,
-        "hits",
-        MOST,
         |round| hits(&words[round as usize % 8..], round % 8) as usize,
+    )?;
+    let alone = time_of(
+        rt,
         |round| plain::hits(&words[round as usize % 8..], round % 8) as usize,
-    )
+    )?;
+    print_row(rt, "hits", MOST, lanes, alone)
 }
 
 /// Prints a line for each scan and length: nanoseconds by lanes, and by the plain loop.
