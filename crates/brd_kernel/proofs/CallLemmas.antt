@@ -1,5 +1,5 @@
 -- What the service calls on objects make of waits.
-use Rattle.std.proofs.Common.{◌≡◌, ◌<◌, ℕ, List, [], ◌∷◌, ◌++◌, drop, refl, sym, ap, subst, ◌∙◌}
+use Rattle.std.proofs.Common.{◌≡◌, ◌<◌, ℕ, List, [], ◌∷◌, drop, refl, sym, ap, subst, ◌∙◌}
 use Rattle.std.specs.Prelude.{Bool, true, false, ◌==◌, nat_lt, if◌then◌else◌, Option, None, Some, Result, Err}
 use Rattle.std.specs.Option.{option_map}
 use Rattle.std.proofs.lemmas.Bool.{false≢true}
@@ -25,7 +25,7 @@ use Rattle.brd_kernel.specs.Row.{Row, Served, served}
 use Rattle.brd_kernel.specs.Waits.{due_by, released_in}
 use Rattle.brd_kernel.specs.Services.{or_waits, callers_priority, with_released, with_all_released_in, with_satisfied_of, handed_over, flag_got, queue_sent, queue_received}
 use Rattle.brd_kernel.specs.Waiting.{plain, semaphore_waiters, flag_waiters, senders, receivers, standing_for}
-use Rattle.brd_kernel.proofs.ListLemmas.{among, apart-plain, apart-wanting, apart-kept, has-plain, priority_in-plain, priority_in-kept, released-there}
+use Rattle.brd_kernel.proofs.ListLemmas.{either, among, apart-plain, apart-wanting, apart-kept, has-plain, priority_in-plain, priority_in-kept, released-there}
 use Rattle.brd_kernel.proofs.ServedLemmas.{Leaves, leaves-row, leaves-if}
 use Rattle.brd_kernel.proofs.StandingLemmas.{stands_in, IsTimedBy, StandsIn}
 use Rattle.brd_kernel.proofs.KeepingLemmas.{IsEntered, by-leaving-one}
@@ -147,27 +147,17 @@ queue-stays f k id q there same also was =
     unchanged-keeps k (standing_for (record k { queues = object_changed f k.queues id })) (reason.Receive id) (f q).receivers
     (receiver-rewrites f k id q there same) (also ∙ ap receivers (sym there)) was
 
-stored-senders : (test : Bool) (q : DataQueueState) (stored : List ℕ) → (if test then record q { stored = stored } else q).senders ≡ q.senders
-stored-senders true q stored = refl
-stored-senders false q stored = refl
-
-stored-receivers : (test : Bool) (q : DataQueueState) (stored : List ℕ) → (if test then record q { stored = stored } else q).receivers ≡ q.receivers
-stored-receivers true q stored = refl
-stored-receivers false q stored = refl
-
-either-keeps : (test : Bool) (k : KernelState) (datum : ℕ) → StandsIn [] k → StandsIn [] (handed_over k datum (if test then Stored else Full))
-either-keeps true k datum was = was
-either-keeps false k datum was = was
-
 -- `q` is the queue with the room that is made, where a datum is forced in; `w` is the one that is there
 handed-keep : (f : DataQueueState → DataQueueState) (k : KernelState) (id datum : ℕ) (q w : DataQueueState) (rs : List Plain) →
     object_at k.queues id ≡ Some w →
     f w ≡ sent_to datum q rs → q.senders ≡ w.senders → q.receivers ≡ w.receivers → w.receivers ≡ rs → StandsIn [] k →
     StandsIn [] (handed_over (record k { queues = object_changed f k.queues id }) datum (outcome_to q rs))
 handed-keep f k id datum q w [] there is same also none was =
-    either-keeps (has_room q) (record k { queues = object_changed f k.queues id }) datum
-    (queue-stays f k id w there (ap (λ x. x.senders) is ∙ stored-senders (has_room q) q (q.stored ++ datum ∷ []) ∙ same)
-    (ap (λ x. x.receivers) is ∙ stored-receivers (has_room q) q (q.stored ++ datum ∷ []) ∙ also) was)
+    let new : KernelState = record k { queues = object_changed f k.queues id } in
+    let senders = either (λ (x : DataQueueState). x.senders ≡ q.senders) (has_room q) _ q refl refl in
+    let receivers = either (λ (x : DataQueueState). x.receivers ≡ q.receivers) (has_room q) _ q refl refl in
+    let stays : StandsIn [] new = queue-stays f k id w there (ap (λ x. x.senders) is ∙ senders ∙ same) (ap (λ x. x.receivers) is ∙ receivers ∙ also) was in
+    either (λ (what : Sent). StandsIn [] (handed_over new datum what)) (has_room q) Stored Full stays stays
 handed-keep f k id datum q w (first ∷ others) there is same also some was =
     let new : KernelState = record k { queues = object_changed f k.queues id } in
     released-keep new first.id e_ok (Some datum) []

@@ -15,6 +15,7 @@ pub mod KeepingLemmas
 pub mod RowLemmas
 pub mod SleeperLemmas
 pub mod EachLemmas
+pub mod EachCallLemmas
 pub mod WaitersLemmas
 pub mod LeavingLemmas
 pub mod MovingLemmas

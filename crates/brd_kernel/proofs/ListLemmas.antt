@@ -21,6 +21,11 @@ abbrev pub among : ℕ → List ℕ → Bool
 among id [] = false
 among id (other ∷ others) = (other == id) || among id others
 
+-- what holds either way
+pub either : {A : Type 0} → (P : A → Type 0) (test : Bool) (x y : A) → P x → P y → P (if test then x else y)
+either P true x y one other = one
+either P false x y one other = other
+
 pub if-lift : {A B : Type 0} → (f : A → B) (test : Bool) (one other : A) → f (if test then one else other) ≡ (if test then f one else f other)
 if-lift f true one other = refl
 if-lift f false one other = refl

@@ -7,6 +7,7 @@ use Rattle.brd_queue.specs.declared.entry.Entry.{Entry}
 use Rattle.brd_queue.specs.declared.entry.Order.{Order}
 use Rattle.brd_queue.specs.declared.entry.Order.TheVariants.{Arrival, Priority}
 use Rattle.brd_queue.specs.Queue.{Plain, without, reordered, is_empty}
+use Rattle.brd_queue.proofs.WantedLemmas.{want-implied, want-without, want-placed, want-reordered}
 use Rattle.brd_objects.specs.declared.semaphore.Semaphore.{Semaphore}
 use Rattle.brd_objects.specs.declared.flag.Flag.{Flag}
 use Rattle.brd_objects.specs.declared.want.Want.{Want}
@@ -16,10 +17,11 @@ use Rattle.brd_objects.specs.Semaphores.{returned_to, returned, has_one, taken, 
 use Rattle.brd_objects.specs.Waiters.{satisfies}
 use Rattle.brd_objects.specs.Flags.{joined, masked, pattern_left, pattern_for, taken_for, flag_awaited, flag_left, flag_reordered, with_all_released}
 use Rattle.brd_objects.specs.DataQueues.{DataQueueState, has_room, sent_to, sent, outcome_to, outcome, with_room_for, with_room, forced, received_by, received, receipt_by, receipt, awaited_by_sender, awaited_by_receiver, data_queue_left, data_queue_reordered}
+use Rattle.brd_objects.proofs.BitLemmas.{HasBits}
 use Rattle.brd_kernel.specs.Waiting.{SemaphoreIsKept, FlagIsKept, QueueIsKept}
-use Rattle.brd_kernel.proofs.TableLemmas.{either}
+use Rattle.brd_kernel.proofs.ListLemmas.{either}
 use Rattle.brd_kernel.proofs.OrderLemmas.{in-placed, in-without, in-reordered, in-others, in-kept}
-use Rattle.brd_kernel.proofs.WantLemmas.{IsUnsatisfied, all-without, all-placed, all-reordered, all-kept, all-imply, all-none, fewer, unreleased}
+use Rattle.brd_kernel.proofs.WantLemmas.{IsUnsatisfied, want-kept, want-none, fewer, unreleased}
 
 not-both : {A : Type 0} → (x : A) (xs ys : List A) → ys ≡ x ∷ xs → ys ≡ [] → ⊥
 not-both x xs ys some none = omega (arith, ap length some, ap length none)
@@ -68,18 +70,15 @@ semaphore-reordered id priority s was = record {
 
 -- Event flags.
 
-abbrev WantsSome : Want → Type 0
-WantsSome want = want.bits ≢ 0
-
 pub masked-kept : (bits : ℕ) (f : Flag) → FlagIsKept f → FlagIsKept (masked bits f)
 masked-kept bits f was = record {
   ordered = was.ordered;
   bits = was.bits;
-  lacking = all-imply (IsUnsatisfied f.pattern) (IsUnsatisfied (masked bits f).pattern) f.waiters (fewer f.pattern bits) was.lacking;
+  lacking = want-implied (IsUnsatisfied f.pattern) (IsUnsatisfied (masked bits f).pattern) f.waiters (fewer f.pattern bits) was.lacking;
 }
 
 left-by : (clears : Bool) (f : Flag) → FlagIsKept f → FlagIsKept (record f { pattern = pattern_left clears f.pattern })
-left-by true f was = record { ordered = was.ordered; bits = was.bits; lacking = all-none f.waiters was.bits }
+left-by true f was = record { ordered = was.ordered; bits = was.bits; lacking = want-none f.waiters was.bits }
 left-by false f was = record { ordered = was.ordered; bits = was.bits; lacking = was.lacking }
 
 pub taken-for : (want : Want) (f : Flag) → FlagIsKept f → FlagIsKept (taken_for want f)
@@ -96,22 +95,22 @@ flag-awaited id priority want f some none was =
     let unsatisfied : satisfies f.pattern want ≡ false = unsatisfied-by (satisfies f.pattern want) f.pattern none in
     record {
       ordered = in-placed f.order e f.waiters was.ordered;
-      bits = all-placed WantsSome f.order e f.waiters some was.bits;
-      lacking = all-placed (IsUnsatisfied f.pattern) f.order e f.waiters unsatisfied was.lacking;
+      bits = want-placed HasBits f.order e f.waiters some was.bits;
+      lacking = want-placed (IsUnsatisfied f.pattern) f.order e f.waiters unsatisfied was.lacking;
     }
 
 pub flag-left : (id : ℕ) (f : Flag) → FlagIsKept f → FlagIsKept (flag_left id f)
 flag-left id f was = record {
   ordered = in-without f.order id f.waiters was.ordered;
-  bits = all-without WantsSome id f.waiters was.bits;
-  lacking = all-without (IsUnsatisfied f.pattern) id f.waiters was.lacking;
+  bits = want-without HasBits id f.waiters was.bits;
+  lacking = want-without (IsUnsatisfied f.pattern) id f.waiters was.lacking;
 }
 
 pub flag-reordered : (id priority : ℕ) (f : Flag) → FlagIsKept f → FlagIsKept (flag_reordered id priority f)
 flag-reordered id priority f was = record {
   ordered = in-reordered f.order id priority f.waiters was.ordered;
-  bits = all-reordered WantsSome f.order id priority f.waiters was.bits;
-  lacking = all-reordered (IsUnsatisfied f.pattern) f.order id priority f.waiters was.lacking;
+  bits = want-reordered HasBits f.order id priority f.waiters was.bits;
+  lacking = want-reordered (IsUnsatisfied f.pattern) f.order id priority f.waiters was.lacking;
 }
 
 -- bits are set, and all are released whom they satisfy
@@ -120,7 +119,7 @@ set-kept bits f was =
     let pattern : ℕ = (joined bits f).pattern in
     record {
       ordered = in-kept f.order f.clears pattern f.waiters was.ordered;
-      bits = all-kept WantsSome f.clears pattern f.waiters was.bits;
+      bits = want-kept HasBits f.clears pattern f.waiters was.bits;
       lacking = unreleased f.clears pattern f.waiters was.bits;
     }
 

@@ -1,19 +1,20 @@
 -- Waiters that are in their order stay so when one of them comes, leaves, or is given a priority.
 use Rattle.std.proofs.Common.{◌≤◌, ℕ, List, [], ◌∷◌}
-use Rattle.std.specs.Prelude.{Bool, ◌==◌, find, Option, None, Some}
+use Rattle.std.specs.Prelude.{Bool, ◌==◌, find}
 use Rattle.std.specs.List.{AllByRecursion}
 use Rattle.std.specs.Option.{option_map}
 use Rattle.brd_queue.specs.declared.entry.Entry.{Entry}
 use Rattle.brd_queue.specs.declared.entry.Order.{Order}
 use Rattle.brd_queue.specs.declared.entry.Order.TheVariants.{Arrival, Priority}
-use Rattle.brd_queue.specs.Queue.{without, placed, reordered, moved_behind, with_priority}
+use Rattle.brd_queue.specs.Queue.{without, placed, reordered, with_priority}
 use Rattle.brd_queue.specs.Rule.{IsByPriority}
+use Rattle.brd_queue.proofs.PriorityLemmas.{ordered-moved_behind}
 use Rattle.brd_queue.proofs.RuleLemmas.{ordered-without, ordered-behind_equals}
 use Rattle.brd_objects.specs.declared.want.Want.{Want}
 use Rattle.brd_objects.specs.Waiters.{satisfies}
 use Rattle.brd_objects.specs.Flags.{kept_of}
 use Rattle.brd_kernel.specs.Waiting.{AreInOrder}
-use Rattle.brd_kernel.proofs.TableLemmas.{either}
+use Rattle.brd_kernel.proofs.ListLemmas.{either}
 
 pub in-placed : {W : Type 0} → (order : Order) (e : Entry W) (xs : List (Entry W)) → AreInOrder order xs → AreInOrder order (placed order e xs)
 in-placed Arrival e xs was = tt
@@ -23,14 +24,10 @@ pub in-without : {W : Type 0} → (order : Order) (id : ℕ) (xs : List (Entry W
 in-without Arrival id xs was = tt
 in-without Priority id xs was = ordered-without id xs was
 
-in-moved : {W : Type 0} → (found : Option (Entry W)) (xs : List (Entry W)) → IsByPriority xs → IsByPriority (moved_behind found xs)
-in-moved None xs was = was
-in-moved (Some e) xs was = in-placed Priority e xs was
-
 pub in-reordered : {W : Type 0} → (order : Order) (id priority : ℕ) (xs : List (Entry W)) → AreInOrder order xs →
     AreInOrder order (reordered order id priority xs)
 in-reordered Arrival id priority xs was = tt
-in-reordered Priority id priority xs was = in-moved (option_map (with_priority priority) (find (λ x. x.id == id) xs)) xs was
+in-reordered Priority id priority xs was = ordered-moved_behind (option_map (with_priority priority) (find (λ x. x.id == id) xs)) xs was
 
 -- the first has left
 pub in-others : {W : Type 0} → (order : Order) (x : Entry W) (xs : List (Entry W)) → AreInOrder order (x ∷ xs) → AreInOrder order xs

@@ -1,6 +1,6 @@
 -- Every service call, tick and exception keeps what holds of waits.
 use Rattle.std.proofs.Common.{◌≡◌, ℕ, ◌%◌, ◌^◌, List, [], ◌∷◌, ◌++◌, refl, sym, ap, subst, ◌∙◌}
-use Rattle.std.specs.Prelude.{Bool, true, false, ◌==◌, nat_lt, if◌then◌else◌, Option, None, Some, is_some}
+use Rattle.std.specs.Prelude.{true, false, ◌==◌, nat_lt, Option, None, Some, is_some}
 use Rattle.std.proofs.lemmas.Bool.{false≢true}
 use Rattle.brd_exec.specs.State.{State}
 use Rattle.brd_tasks.specs.declared.status.WaitReason.{WaitReason}
@@ -29,9 +29,11 @@ use Rattle.brd_kernel.specs.Waits.{due_after, reason_of, ended_in, answer_by, ti
 use Rattle.brd_kernel.specs.Services as table
 use Rattle.brd_kernel.specs.Services.{named, unmarked_on, handler_ended, serve_by, serve_of, caller_on, or_waits, callers_priority, with_released, with_all_released_in, with_satisfied_of, handed_over, flag_got, queue_sent, queue_received}
 use Rattle.brd_kernel.specs.Waiting.{standing_for, WaitsAreKept}
+use Rattle.brd_kernel.proofs.ListLemmas.{either}
 use Rattle.brd_kernel.proofs.ServedLemmas.{leaves-or_refused}
 use Rattle.brd_kernel.proofs.SleeperLemmas.{AreKept}
-use Rattle.brd_kernel.proofs.EachLemmas.{others-kept, tasks-kept, serve-kept, ticked-kept, fault-kept}
+use Rattle.brd_kernel.proofs.EachLemmas.{others-kept, tasks-kept, ticked-kept, fault-kept}
+use Rattle.brd_kernel.proofs.EachCallLemmas.{serve-kept}
 use Rattle.brd_kernel.proofs.StandingLemmas.{waits_by, waits, StandsIn, stands, kept}
 use Rattle.brd_kernel.proofs.KeepingLemmas.{by-lists, by-count}
 use Rattle.brd_kernel.proofs.RowLemmas.{noted-before, activated-before, migrated-before, turned-before, suspended-keeps, resumed-keeps, through-before}
@@ -161,24 +163,16 @@ count-keeps k time same was =
     by-lists [] k.tasks time (standing_for k) (standing_for new) (lists-by k new refl refl refl)
     (by-count [] k.tasks k.time time (standing_for k) same was)
 
-advanced-dues : (test : Bool) (t : Time) (count : ℕ) → (if test then record t { count = count } else t).dues ≡ t.dues
-advanced-dues true t count = refl
-advanced-dues false t count = refl
-
 pub ticked-keeps : (k : KernelState) → WaitsAreKept k → WaitsAreKept (ticked_on k (advanced k.time))
 ticked-keeps k was =
     let time : Time = advanced k.time in
     kept (ticked_on k time)
     (all-timed-keep (record k { time = time }) (due_from time 0)
-    (count-keeps k time (advanced-dues (nat_lt k.time.count last_count) k.time _) (stands k was)))
+    (count-keeps k time (either (λ (t : Time). t.dues ≡ k.time.dues) (nat_lt k.time.count last_count) _ k.time refl refl) (stands k was)))
     (ticked-kept k was.each)
 
-tick-by : (test : Bool) (k one : KernelState) → WaitsAreKept one → WaitsAreKept k → WaitsAreKept (if test then one else k)
-tick-by true k one first second = first
-tick-by false k one first second = second
-
 pub tick-keeps : (k : KernelState) → WaitsAreKept k → WaitsAreKept (ticked k)
-tick-keeps k was = tick-by (nat_lt k.time.count last_count) k (ticked_on k (advanced k.time)) (ticked-keeps k was) was
+tick-keeps k was = either (λ x. WaitsAreKept x) (nat_lt k.time.count last_count) (ticked_on k (advanced k.time)) k (ticked-keeps k was) was
 
 -- Exceptions.
 
@@ -190,14 +184,10 @@ faulted-task-keeps k cpu p (Some id) was =
     parts-keep out (with_processor out cpu (unmarked p)) refl refl refl refl refl
     (ended-keeps on id (tasks-keep k (noted without_activation k.tasks id) (noted-before without_activation k.tasks id (λ x. refl)) was))
 
-either-kernel : (test : Bool) (one other : KernelState) → StandsIn [] one → StandsIn [] other → StandsIn [] (if test then one else other)
-either-kernel true one other first second = first
-either-kernel false one other first second = second
-
 faulted-keeps : (k : KernelState) (cpu : ℕ) (found : Option Processor) → StandsIn [] k → StandsIn [] (faulted_in k cpu found)
 faulted-keeps k cpu None was = was
 faulted-keeps k cpu (Some p) was =
-    either-kernel (is_some p.handling) _ _ (parts-keep k (with_processor k cpu (record p { stopped = true })) refl refl refl refl refl was)
+    either (StandsIn []) (is_some p.handling) _ _ (parts-keep k (with_processor k cpu (record p { stopped = true })) refl refl refl refl refl was)
     (faulted-task-keeps k cpu p p.running was)
 
 pub fault-keeps : (k : KernelState) (cpu : ℕ) → WaitsAreKept k → WaitsAreKept (ended_by_fault k cpu)

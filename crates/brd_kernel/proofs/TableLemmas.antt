@@ -1,13 +1,8 @@
 -- What holds of each object of a table still does when one of them is changed, or all are, if the change keeps it.
 use Rattle.std.proofs.Common.{◌≡◌, ℕ, zero, suc, List, [], ◌∷◌, refl, ap}
-use Rattle.std.specs.Prelude.{Bool, true, false, if◌then◌else◌, slice_index_or, slice_set, Option, None, Some, IfSome, is_some}
+use Rattle.std.specs.Prelude.{true, slice_index_or, slice_set, Option, None, Some, IfSome, is_some}
 use Rattle.std.specs.Option.{option_map}
 use Rattle.brd_objects.specs.Table.{Table, object_at, object_changed, objects_changed}
-
--- what holds either way
-pub either : {A : Type 0} → (P : A → Type 0) (test : Bool) (x y : A) → P x → P y → P (if test then x else y)
-either P true x y one other = one
-either P false x y one other = other
 
 pub set-keeps : {X : Type 0} → (P : Option X → Type 0) (xs : List (Option X)) (id at : ℕ) (y : Option X) → P y → P (slice_index_or xs at None) →
     P (slice_index_or (slice_set xs id y) at None)

@@ -2,6 +2,7 @@
 use Rattle.std.proofs.Common.{◌≡◌, ◌≢◌, ◌<◌, ℕ, List, [], ◌∷◌, ◌++◌, map, refl, sym, ap, subst, ◌∙◌, arith}
 use Rattle.std.specs.Prelude.{Bool, true, false, not, if◌then◌else◌, filter, Option, None, Some, nat_lt, length}
 use Rattle.std.specs.Option.{option_map}
+use Rattle.std.proofs.lemmas.Bool.{cond_both}
 use Rattle.std.proofs.lemmas.Bool.Decides.{nat_tests}
 use Rattle.brd_queue.specs.declared.entry.Entry.{Entry}
 use Rattle.brd_queue.specs.Queue.{Plain}
@@ -11,7 +12,7 @@ use Rattle.brd_objects.specs.declared.want.Want.{Want}
 use Rattle.brd_objects.specs.declared.flag.Flag.{Flag}
 use Rattle.brd_objects.specs.declared.sent.Received.{Received}
 use Rattle.brd_objects.specs.declared.sent.Sent.TheVariants.{Handed, Stored, Full}
-use Rattle.brd_objects.specs.Waiters.{satisfies, first_satisfied, without_satisfied, WantBits}
+use Rattle.brd_objects.specs.Waiters.{has_bits, satisfies, first_satisfied, without_satisfied, WantBits}
 use Rattle.brd_objects.specs.Flags.{released_of, kept_of, pattern_after, all_released, with_all_released, released_to, next_released, with_next_released}
 use Rattle.brd_objects.specs.DataQueues.{DataQueueState, sent_to, sent, outcome_to, outcome, received_by, received, receipt_by, receipt, contents}
 
@@ -104,22 +105,22 @@ none-released clears p ws is = let none : IsNone clears p ws = none-all clears p
 
 -- One after the other.
 
-unsatisfied : (mode : Mode) (bits : ℕ) → bits ≢ 0 → satisfies 0 (record { bits = bits; mode = mode }) ≡ false
+none-has : (mode : Mode) (bits : ℕ) → bits ≢ 0 → has_bits mode 0 bits ≡ false
+none-has modes.All bits some = grind (arith, nat_tests, some)
+none-has modes.Any bits some = refl
+
+-- a pattern of no bits satisfies nobody who wants some
+pub unsatisfied : (want : Want) → want.bits ≢ 0 → satisfies 0 want ≡ false
 unfolding satisfies
-unsatisfied modes.All bits some = grind (arith, nat_tests, some)
-unsatisfied modes.Any bits some = refl
+unsatisfied want some = none-has want.mode want.bits some
 
 nobody-at-all : (ws : List (Entry Want)) → WantBits ws → first_satisfied 0 ws ≡ None
 nobody-at-all [] bits = refl
-nobody-at-all (w ∷ ws) bits = ap (λ t. if t then Some w else first_satisfied 0 ws) (unsatisfied w.wanted.mode w.wanted.bits bits.0) ∙ nobody-at-all ws bits.1
-
-left-by : (holds : Bool) (w : Entry Want) (ws rest : List (Entry Want)) → w.wanted.bits ≢ 0 → WantBits ws → WantBits rest → WantBits (if holds then ws else w ∷ rest)
-left-by true w ws rest first others more = others
-left-by false w ws rest first others more = (first, more)
+nobody-at-all (w ∷ ws) bits = ap (λ t. if t then Some w else first_satisfied 0 ws) (unsatisfied w.wanted bits.0) ∙ nobody-at-all ws bits.1
 
 bits-left : (p : ℕ) (ws : List (Entry Want)) → WantBits ws → WantBits (without_satisfied p ws)
 bits-left p [] bits = tt
-bits-left p (w ∷ ws) bits = left-by (satisfies p w.wanted) w ws (without_satisfied p ws) bits.0 bits.1 (bits-left p ws bits.1)
+bits-left p (w ∷ ws) bits = cond_both (satisfies p w.wanted) _ _ WantBits (λ is. bits.1) (λ not. (bits.0, bits-left p ws bits.1))
 
 record IsNext (p : ℕ) (ws : List (Entry Want)) (e : Entry Want) : Type 0 where
   released : released_of false p ws ≡ e.id ∷ released_of false p (without_satisfied p ws)

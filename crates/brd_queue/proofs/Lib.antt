@@ -3,3 +3,4 @@ pub mod RuleLemmas
 pub mod PriorityLemmas
 pub mod FindLemmas
 pub mod StepLemmas
+pub mod WantedLemmas

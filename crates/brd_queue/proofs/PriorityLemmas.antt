@@ -42,9 +42,9 @@ moved_priority k (Some e) xs there =
 pub priority_in-rotated : {W : Type 0} → (k p : ℕ) (xs : List (Entry W)) → AreApart xs → priority_in k (rotated p xs) ≡ priority_in k xs
 priority_in-rotated k p xs apart = moved_priority k (find (λ y. y.priority == p) xs) xs (λ e found. priority_in-found p xs e apart found)
 
-moved_ordered : {W : Type 0} → (found : Option (Entry W)) (xs : List (Entry W)) → IsByPriority xs → IsByPriority (moved_behind found xs)
-moved_ordered None xs ordered = ordered
-moved_ordered (Some e) xs ordered = ordered-behind_equals e (without e.id xs) (ordered-without e.id xs ordered)
+pub ordered-moved_behind : {W : Type 0} → (found : Option (Entry W)) (xs : List (Entry W)) → IsByPriority xs → IsByPriority (moved_behind found xs)
+ordered-moved_behind None xs ordered = ordered
+ordered-moved_behind (Some e) xs ordered = ordered-behind_equals e (without e.id xs) (ordered-without e.id xs ordered)
 
 pub ordered-rotated : {W : Type 0} → (p : ℕ) (xs : List (Entry W)) → IsByPriority xs → IsByPriority (rotated p xs)
-ordered-rotated p xs ordered = moved_ordered (find (λ y. y.priority == p) xs) xs ordered
+ordered-rotated p xs ordered = ordered-moved_behind (find (λ y. y.priority == p) xs) xs ordered
