@@ -23,7 +23,7 @@ use Rattle.brd_kernel.specs.declared.call.Call.{Call}
 use Rattle.brd_kernel.specs.declared.call.Call.TheVariants as call
 use Rattle.brd_kernel.specs.declared.call.Ercd.TheVariants.{Rlwai}
 use Rattle.brd_kernel.specs.Answer.{e_ok, code_of}
-use Rattle.brd_kernel.specs.Kernel.{KernelState, with_tasks, with_processor, processor_at, unmarked}
+use Rattle.brd_kernel.specs.Kernel.{KernelState, with_tasks, processor_at, unmarked}
 use Rattle.brd_kernel.specs.Waits.{is_bad_timeout, due_after, reason_in, ended_in}
 use Rattle.brd_kernel.specs.Services as table
 use Rattle.brd_kernel.specs.Services.{named, is_sleep, is_asleep, is_bad_want, unmarked_on, handler_ended, serve_by, serve_of, caller_on, callers_priority, flag_got, queue_sent, queue_received}
@@ -32,7 +32,7 @@ use Rattle.brd_kernel.proofs.ObjectLemmas.{returned-kept, taken-kept, semaphore-
 use Rattle.brd_kernel.proofs.RowLemmas.{suspended-keeps, resumed-keeps}
 use Rattle.brd_kernel.proofs.SleeperLemmas as sleeper
 use Rattle.brd_kernel.proofs.ServedLemmas.{Leaves, leaves-row, leaves-if, leaves-or_refused}
-use Rattle.brd_kernel.proofs.EachLemmas.{others-kept, tasks-kept, semaphore-changed, flag-changed, queue-changed, released-kept, broken-kept, ended-kept, reordered-by, wait-kept, waits-kept, no-sleep, released-if, set-stays, handed-kept}
+use Rattle.brd_kernel.proofs.EachLemmas.{others-kept, processor-kept, tasks-kept, semaphore-changed, flag-changed, queue-changed, released-kept, broken-kept, ended-kept, reordered-by, wait-kept, waits-kept, no-sleep, released-if, set-stays, handed-kept}
 
 -- Service calls on objects.
 
@@ -101,7 +101,7 @@ not-asleep k id task other there awake is = λ asleep.
 
 exit-kept : (k : KernelState) (cpu : ℕ) (found : Option Processor) → EachIsKept k → EachIsKept (unmarked_on k cpu found)
 exit-kept k cpu None was = was
-exit-kept k cpu (Some p) was = others-kept k (with_processor k cpu (unmarked p)) refl refl refl was.sleepers was
+exit-kept k cpu (Some p) was = processor-kept k cpu (unmarked p) was
 
 keeps-serve : (k : KernelState) (cpu caller : ℕ) (c : Call) → EachIsKept k → Leaves EachIsKept (serve_by k cpu caller c)
 keeps-serve k cpu caller (call.ActTsk t) was =
@@ -127,16 +127,16 @@ keeps-serve k cpu caller (call.IrotRdq priority) was =
     leaves-row EachIsKept (table.irot_rdq k cpu priority) (λ p passes. tasks-kept k (turned k.tasks cpu priority) was.sleepers was)
 keeps-serve k cpu caller call.DisDsp was =
     leaves-row EachIsKept (table.mark_dsp k cpu true)
-    (λ (p : Processor) passes. others-kept k (with_processor k cpu (record p { disabled = true })) refl refl refl was.sleepers was)
+    (λ (p : Processor) passes. processor-kept k cpu (record p { disabled = true }) was)
 keeps-serve k cpu caller call.EnaDsp was =
     leaves-row EachIsKept (table.mark_dsp k cpu false)
-    (λ (p : Processor) passes. others-kept k (with_processor k cpu (record p { disabled = false })) refl refl refl was.sleepers was)
+    (λ (p : Processor) passes. processor-kept k cpu (record p { disabled = false }) was)
 keeps-serve k cpu caller call.LocCpu was =
     leaves-row EachIsKept (table.mark_cpu k cpu true)
-    (λ (p : Processor) passes. others-kept k (with_processor k cpu (record p { locked = true })) refl refl refl was.sleepers was)
+    (λ (p : Processor) passes. processor-kept k cpu (record p { locked = true }) was)
 keeps-serve k cpu caller call.UnlCpu was =
     leaves-row EachIsKept (table.mark_cpu k cpu false)
-    (λ (p : Processor) passes. others-kept k (with_processor k cpu (record p { locked = false })) refl refl refl was.sleepers was)
+    (λ (p : Processor) passes. processor-kept k cpu (record p { locked = false }) was)
 keeps-serve k cpu caller (call.CanAct t) was =
     leaves-row EachIsKept (table.can_act k (named caller t))
     (λ task passes. tasks-kept k (noted without_activation k.tasks (named caller t))

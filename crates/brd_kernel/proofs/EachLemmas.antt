@@ -47,6 +47,9 @@ others-kept k new semaphores flags queues sleepers was = record {
 pub tasks-kept : (k : KernelState) (t : TaskTable) → AreKept t → EachIsKept k → EachIsKept (with_tasks k t)
 tasks-kept k t sleepers was = others-kept k (with_tasks k t) refl refl refl sleepers was
 
+pub processor-kept : (k : KernelState) (cpu : ℕ) (p : Processor) → EachIsKept k → EachIsKept (with_processor k cpu p)
+processor-kept k cpu p was = others-kept k (with_processor k cpu p) refl refl refl was.sleepers was
+
 pub semaphore-changed : (f : Semaphore → Semaphore) (k : KernelState) (id : ℕ) →
     ((s : Semaphore) → object_at k.semaphores id ≡ Some s → SemaphoreIsKept s → SemaphoreIsKept (f s)) → EachIsKept k →
     EachIsKept (record k { semaphores = object_changed f k.semaphores id })
@@ -215,12 +218,12 @@ faulted-task k cpu p (Some id) was =
     let out : KernelState = ended_in on id in
     let sleepers = sleeper.noted-kept without_activation k.tasks id (λ x at own. own) was.sleepers in
     let ended : EachIsKept out = ended-kept on id (tasks-kept k (noted without_activation k.tasks id) sleepers was) in
-    others-kept out (with_processor out cpu (unmarked p)) refl refl refl ended.sleepers ended
+    processor-kept out cpu (unmarked p) ended
 
 faulted : (k : KernelState) (cpu : ℕ) (found : Option Processor) → EachIsKept k → EachIsKept (faulted_in k cpu found)
 faulted k cpu None was = was
 faulted k cpu (Some p) was =
-    either EachIsKept (is_some p.handling) _ _ (others-kept k (with_processor k cpu (record p { stopped = true })) refl refl refl was.sleepers was)
+    either EachIsKept (is_some p.handling) _ _ (processor-kept k cpu (record p { stopped = true }) was)
     (faulted-task k cpu p p.running was)
 
 pub fault-kept : (k : KernelState) (cpu : ℕ) → EachIsKept k → EachIsKept (ended_by_fault k cpu)

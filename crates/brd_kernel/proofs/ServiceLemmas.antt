@@ -24,7 +24,7 @@ use Rattle.brd_kernel.specs.Answer.{e_ok, code_of}
 use Rattle.brd_kernel.specs.declared.processor.Executor.{Executor}
 use Rattle.brd_kernel.specs.declared.processor.Executor.TheVariants as executor
 use Rattle.brd_kernel.specs.Dispatch.{dispatched}
-use Rattle.brd_kernel.specs.Kernel.{KernelState, with_tasks, with_processor, processor_at, unmarked, with_context_of, with_pending, handles, accepted_line}
+use Rattle.brd_kernel.specs.Kernel.{KernelState, with_tasks, processor_at, unmarked, with_context_of, with_pending, handles, accepted_line}
 use Rattle.brd_kernel.specs.Waits.{due_after, reason_of, ended_in, answer_by, timed_out, all_timed_out, ticked_on, ticked, faulted_task, faulted_in, ended_by_fault}
 use Rattle.brd_kernel.specs.Services as table
 use Rattle.brd_kernel.specs.Services.{named, unmarked_on, handler_ended, serve_by, serve_of, caller_on, or_waits, callers_priority, with_released, with_all_released_in, with_satisfied_of, handed_over, flag_got, queue_sent, queue_received}
@@ -37,14 +37,14 @@ use Rattle.brd_kernel.proofs.EachCallLemmas.{serve-kept}
 use Rattle.brd_kernel.proofs.StandingLemmas.{waits_by, waits, StandsIn, stands, kept}
 use Rattle.brd_kernel.proofs.KeepingLemmas.{by-lists, by-count}
 use Rattle.brd_kernel.proofs.RowLemmas.{noted-before, activated-before, migrated-before, turned-before, suspended-keeps, resumed-keeps, through-before}
-use Rattle.brd_kernel.proofs.WaitingLemmas.{lists-by, parts-keep, tasks-keep, released-keep, broken-keeps, ended-keeps, asleep-out, wait-keeps, enters-none, enters-semaphore, priority-keeps}
+use Rattle.brd_kernel.proofs.WaitingLemmas.{lists-by, parts-keep, processor-keeps, tasks-keep, released-keep, broken-keeps, ended-keeps, asleep-out, wait-keeps, enters-none, enters-semaphore, priority-keeps}
 use Rattle.brd_kernel.proofs.CallLemmas.{Keeps, keeps-row, keeps-if, waits-keep, sleep-none, delay-none, taken-by, semaphore-stays, returned-keeps, flag-stays, keeps-got, satisfied-keep, keeps-sent, sent-keeps, forced-keeps, received-keep}
 
 -- Service calls.
 
 exit-keeps : (k : KernelState) (cpu : ℕ) (found : Option Processor) → StandsIn [] k → StandsIn [] (unmarked_on k cpu found)
 exit-keeps k cpu None was = was
-exit-keeps k cpu (Some p) was = parts-keep k (with_processor k cpu (unmarked p)) refl refl refl refl refl was
+exit-keeps k cpu (Some p) was = processor-keeps k cpu (unmarked p) was
 
 asleep-by : (k : KernelState) (id : ℕ) (task : Task) (waiting : Option WaitReason) → task_at k.tasks id ≡ Some task →
     waiting_of task.status ≡ waiting → table.is_sleep waiting ≡ true → StandsIn [] k →
@@ -76,13 +76,13 @@ keeps-serve k cpu caller (call.RotRdq priority) was = keeps-row (table.rot_rdq k
     (λ p there. turned-keeps k cpu (table.priority_or_callers priority (callers_priority k caller)) was)
 keeps-serve k cpu caller (call.IrotRdq priority) was = keeps-row (table.irot_rdq k cpu priority) (λ p there. turned-keeps k cpu priority was)
 keeps-serve k cpu caller call.DisDsp was = keeps-row (table.mark_dsp k cpu true)
-    (λ (p : Processor) there. parts-keep k (with_processor k cpu (record p { disabled = true })) refl refl refl refl refl was)
+    (λ (p : Processor) there. processor-keeps k cpu (record p { disabled = true }) was)
 keeps-serve k cpu caller call.EnaDsp was = keeps-row (table.mark_dsp k cpu false)
-    (λ (p : Processor) there. parts-keep k (with_processor k cpu (record p { disabled = false })) refl refl refl refl refl was)
+    (λ (p : Processor) there. processor-keeps k cpu (record p { disabled = false }) was)
 keeps-serve k cpu caller call.LocCpu was = keeps-row (table.mark_cpu k cpu true)
-    (λ (p : Processor) there. parts-keep k (with_processor k cpu (record p { locked = true })) refl refl refl refl refl was)
+    (λ (p : Processor) there. processor-keeps k cpu (record p { locked = true }) was)
 keeps-serve k cpu caller call.UnlCpu was = keeps-row (table.mark_cpu k cpu false)
-    (λ (p : Processor) there. parts-keep k (with_processor k cpu (record p { locked = false })) refl refl refl refl refl was)
+    (λ (p : Processor) there. processor-keeps k cpu (record p { locked = false }) was)
 keeps-serve k cpu caller (call.CanAct t) was = keeps-row (table.can_act k (named caller t))
     (λ task there. tasks-keep k (noted without_activation k.tasks (named caller t))
     (noted-before without_activation k.tasks (named caller t) (λ x. refl)) was)
@@ -181,13 +181,13 @@ faulted-task-keeps k cpu p None was = was
 faulted-task-keeps k cpu p (Some id) was =
     let on : KernelState = with_tasks k (noted without_activation k.tasks id) in
     let out : KernelState = ended_in on id in
-    parts-keep out (with_processor out cpu (unmarked p)) refl refl refl refl refl
+    processor-keeps out cpu (unmarked p)
     (ended-keeps on id (tasks-keep k (noted without_activation k.tasks id) (noted-before without_activation k.tasks id (λ x. refl)) was))
 
 faulted-keeps : (k : KernelState) (cpu : ℕ) (found : Option Processor) → StandsIn [] k → StandsIn [] (faulted_in k cpu found)
 faulted-keeps k cpu None was = was
 faulted-keeps k cpu (Some p) was =
-    either (StandsIn []) (is_some p.handling) _ _ (parts-keep k (with_processor k cpu (record p { stopped = true })) refl refl refl refl refl was)
+    either (StandsIn []) (is_some p.handling) _ _ (processor-keeps k cpu (record p { stopped = true }) was)
     (faulted-task-keeps k cpu p p.running was)
 
 pub fault-keeps : (k : KernelState) (cpu : ℕ) → WaitsAreKept k → WaitsAreKept (ended_by_fault k cpu)

@@ -21,7 +21,8 @@ use Rattle.brd_objects.specs.Table.{object_at, object_changed}
 use Rattle.brd_objects.specs.Semaphores.{semaphore_awaited}
 use Rattle.brd_objects.specs.Flags.{flag_awaited}
 use Rattle.brd_objects.specs.DataQueues.{DataQueueState, awaited_by_sender, awaited_by_receiver}
-use Rattle.brd_kernel.specs.Kernel.{KernelState, with_tasks}
+use Rattle.brd_kernel.specs.declared.processor.Processor.{Processor}
+use Rattle.brd_kernel.specs.Kernel.{KernelState, with_tasks, with_processor}
 use Rattle.brd_kernel.specs.Waits.{priority_of, can_wait, with_wait, released_in, reason_of, unlisted_from, unlisted, broken_off, ended_in, reordered_in}
 use Rattle.brd_kernel.specs.Services.{callers_priority, with_priority_in}
 use Rattle.brd_kernel.specs.Waiting.{plain, semaphore_waiters, flag_waiters, senders, receivers, standing_for}
@@ -50,6 +51,9 @@ pub parts-keep : (k new : KernelState) → new.tasks ≡ k.tasks → new.time �
 parts-keep k new tasks time semaphores flags queues was =
     by-lists [] new.tasks new.time (standing_for k) (standing_for new) (lists-by k new semaphores flags queues)
     (subst (λ t. Stands [] t new.time (standing_for k)) (sym tasks) (subst (λ m. Stands [] k.tasks m (standing_for k)) (sym time) was))
+
+pub processor-keeps : (k : KernelState) (cpu : ℕ) (p : Processor) → StandsIn [] k → StandsIn [] (with_processor k cpu p)
+processor-keeps k cpu p was = parts-keep k (with_processor k cpu p) refl refl refl refl refl was
 
 -- Tasks of which none waits otherwise.
 pub tasks-keep : (k : KernelState) (t : TaskTable) → IsAsBefore k.tasks t → StandsIn [] k → StandsIn [] (with_tasks k t)
