@@ -184,6 +184,46 @@ fn pages(rt: HostRuntime) -> Result<(), Fail> {
     Ok(())
 }
 
+/// How many pages the largest RAM has.
+const MOST_PAGES: u32 = 4_096;
+
+/// Whether a byte can be written into each page of a RAM of 16 MiB.
+fn write_to_all(ram: &mut Ram) -> bool {
+    for number in 0..MOST_PAGES {
+        if ram.store8(0x8000_0000 + 4_096 * number, 1).is_err() {
+            return false;
+        }
+    }
+    true
+}
+
+/// Whether a list has all pages of a RAM of 16 MiB, in their order, each with the byte that was written.
+fn are_all_pages(pages: &[Page]) -> bool {
+    for (number, page) in pages.iter().enumerate() {
+        if page.number as usize != number || page.bytes[0] != 1 || page.bytes[1] != 0 {
+            return false;
+        }
+    }
+    pages.len() == MOST_PAGES as usize
+}
+
+/// Whether a RAM differs from a blank one in all pages.
+fn differs_in_all(ram: &Ram, blank: &Ram) -> Result<bool, NoMemory> {
+    if ram.size() != blank.size() {
+        return Ok(false);
+    }
+    let pages = ram.pages(blank)?;
+    Ok(are_all_pages(pages.as_slice()))
+}
+
+#[test]
+fn all_pages(rt: HostRuntime) -> Result<(), Fail> {
+    let blank = Ram::new(rt.alloc(), 16_777_216)?;
+    let mut ram = blank.try_copy()?;
+    assert!(rt; write_to_all(&mut ram) && differs_in_all(&ram, &blank)?);
+    Ok(())
+}
+
 /// Segments, names, and whether an image of these is plain.
 const IMAGES: &[(&[(u32, &[u8])], &[&[u8]], bool)] = &[
     (&[], &[], true),

@@ -111,3 +111,84 @@ fn many_labels_on_a_line(rt: HostRuntime) {
     let is_put = put_line(&mut source).is_ok();
     assert!(rt; is_put && is_of_labels(rt.alloc(), source.as_str()));
 }
+
+/// How many values stand on a line.
+const VALUES: u32 = 10_000;
+
+/// Puts `VALUES` halfwords on one line: 0, 1, 2 and so on.
+fn put_values(source: &mut String) -> Result<(), AllocError> {
+    source.push_str(".half 0")?;
+    put_all(source, ", #", 1, VALUES - 1)?;
+    source.push_str("\n")
+}
+
+/// Whether bytes are the halfwords 0, 1, 2 and so on, the high byte first.
+fn count_up(bytes: &[u8]) -> bool {
+    for (place, byte) in bytes.iter().enumerate() {
+        let [high, low] = ((place / 2 % 65_536) as u16).to_be_bytes();
+        if *byte != (if place % 2 == 0 { high } else { low }) {
+            return false;
+        }
+    }
+    true
+}
+
+/// Whether an image is one segment of `VALUES` halfwords that count up.
+fn has_values(image: &Image) -> bool {
+    let [segment] = image.segments.as_slice() else {
+        return false;
+    };
+    segment.bytes.len() == 2 * VALUES as usize && count_up(segment.bytes.as_slice())
+}
+
+/// Whether a source is that of `VALUES` halfwords.
+fn is_of_values(alloc: Global, source: &str) -> bool {
+    match assemble(alloc, source.as_bytes()) {
+        Ok(image) => has_values(&image),
+        Err(_) => false,
+    }
+}
+
+/// 10,000 values on one line.
+#[test]
+fn many_values_on_a_line(rt: HostRuntime) {
+    let mut source = String::new(rt.alloc());
+    let is_put = put_values(&mut source).is_ok();
+    assert!(rt; is_put && is_of_values(rt.alloc(), source.as_str()));
+}
+
+/// Puts a string of 100,000 letters, with a byte 0 behind it.
+fn put_text(source: &mut String) -> Result<(), AllocError> {
+    source.push_str(".asciiz \"")?;
+    put_all(source, "a", 1, MANY)?;
+    source.push_str("\"\n")
+}
+
+/// Whether bytes are `MANY` letters and a 0.
+fn are_letters(bytes: &[u8]) -> bool {
+    for (place, byte) in bytes.iter().enumerate() {
+        if *byte != (if place < MANY as usize { b'a' } else { 0 }) {
+            return false;
+        }
+    }
+    bytes.len() == MANY as usize + 1
+}
+
+/// Whether a source is that of `MANY` letters.
+fn is_of_letters(alloc: Global, source: &str) -> bool {
+    match assemble(alloc, source.as_bytes()) {
+        Ok(image) => match image.segments.as_slice() {
+            [segment] => are_letters(segment.bytes.as_slice()),
+            _ => false,
+        },
+        Err(_) => false,
+    }
+}
+
+/// A string of 100,000 bytes.
+#[test]
+fn a_long_string(rt: HostRuntime) {
+    let mut source = String::new(rt.alloc());
+    let is_put = put_text(&mut source).is_ok();
+    assert!(rt; is_put && is_of_letters(rt.alloc(), source.as_str()));
+}

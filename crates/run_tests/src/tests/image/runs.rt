@@ -1,9 +1,10 @@
 //! Boards from their source to their state after events.
 
 use super::{ONE_LETTER, ONE_TASK, STEPS, Shown, tells};
-use brd_board::Report;
+use brd_board::{Event, Report};
 use brd_image::{Played, run};
-use std::alloc::Global;
+use std::alloc::{AllocError, Global};
+use std::test::Fail;
 
 /// What the board of `ONE_LETTER` reports in six steps.
 pub const REPORTS: &[Report] = &[
@@ -80,6 +81,32 @@ fn greets(alloc: Global, source: &str, config: &str) -> bool {
 #[test]
 fn a_greeting(rt: HostRuntime) {
     assert!(rt; greets(rt.alloc(), HELLO, HELLO_CONFIG));
+}
+
+/// How many events a long run has.
+const MANY: usize = 100_000;
+
+/// Whether the board of a source and a configuration greets in so many steps.
+fn greets_in(alloc: Global, count: usize) -> Result<bool, AllocError> {
+    let events = vec![in alloc; Event::Step(1); count]?;
+    Ok(
+        match run(
+            alloc,
+            HELLO.as_bytes(),
+            HELLO_CONFIG.as_bytes(),
+            events.as_slice(),
+        ) {
+            Ok(played) => played.reports.len() == count && has_greeted(&played),
+            Err(_) => false,
+        },
+    )
+}
+
+/// Each of 100,000 events has its report.
+#[test]
+fn a_long_run(rt: HostRuntime) -> Result<(), Fail> {
+    assert!(rt; greets_in(rt.alloc(), MANY)?);
+    Ok(())
 }
 
 const EMPTY: Shown = Shown {
