@@ -1,5 +1,5 @@
-# board: an emulated MIPS32 board for real-time software, proved. `make demo` needs no toolchain; all else needs
-# Rattle's `rt`.
+# board: an emulated MIPS32 board for real-time software, proved. `make demo` and `make compare` need no toolchain; all
+# else needs Rattle's `rt`.
 BOARD = build/board
 
 # The crates whose wrong bodies `make attack` tries (none: all), as in `make attack CRATES="brd_exec brd_isa"`.
@@ -32,7 +32,7 @@ board:
 dist:
 	tests/dist --write $(BOARD)
 
-# The whole gate: every proof from nothing, the wrong bodies of must-fail/, all tests and the command-line tests.
+# The whole gate: every proof, the wrong bodies of must-fail/, all tests and the command-line tests.
 test:
 	tests/run
 

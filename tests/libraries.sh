@@ -1,7 +1,7 @@
 #!/bin/bash
-# The tests of what the program doesn't use yet, by the programs of other crates that `rt ci` leaves: configuration
-# texts, journals, boards of several tasks, object files, boards of a source. tests/libraries.sh PROGRAM (which it
-# doesn't run).
+# The tests of libraries by themselves, by the programs of other crates that `rt ci` leaves: each growth that is refused
+# to the readers of configurations, journals and object files, to boot, build and load; and object files of GNU ld.
+# tests/libraries.sh PROGRAM (which it doesn't run).
 . "$(dirname "$0")/check.sh"
 . tests/growths.sh
 rows=crates/config_rows/out/config_rows

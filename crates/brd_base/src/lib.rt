@@ -1,4 +1,4 @@
-//! What several layers of the board share: lists that contracts see as lists, want of memory, copies with room, exact
+//! What several layers of the board share: lists that contracts see as lists, lack of memory, copies with room, exact
 //! comparisons, and the bounds of the address space.
 #![tactic(auto)]
 

@@ -26,7 +26,7 @@ status_of_end (Err (Usage error)) = status_of_usage (kind_of error)
 abbrev pub IsWantOfMemory : Stop → Type 0
 IsWantOfMemory stop = stop ≡ Fault NoMemory
 
--- a parse that failed: of want of memory, or of the command line
+-- a parse that failed: for lack of memory, or by the command line
 abbrev pub IsStopOf : Error → Stop → Type 0
 IsStopOf error (Fault fault) = (kind_of error ≡ OutOfMemory) × (fault ≡ NoMemory)
 IsStopOf error (Usage e) = (kind_of error ≢ OutOfMemory) × (e ≡ error)

@@ -65,7 +65,7 @@ IsAsked (Some found) request = IsRequestOf found.0 found.1 request
 -- ---- command lines
 
 -- What the words of a command line come to, of which the first is the program's name: what the command that they name
--- asks for, where nothing is wrong with them; else one of the faults of the first step that fails, or want of memory.
+-- asks for, where nothing is wrong with them; else one of the faults of the first step that fails, or lack of memory.
 -- The last case is for words that pass though the command or an argument is missing, which none are known to do.
 abbrev pub IsAnswer : List Text → Result Request Stop → Type 0
 IsAnswer words (Ok request) = (fault_of board words ≡ []) × IsAsked (subcommand_of board words) (Some request)

@@ -93,7 +93,7 @@ pub record Debugs (image config journal : List ℕ) (unread_first unread : Optio
   pub is_start : IsStart image config journal start
   pub ends : IfSome unread_first (λ text. EndsAnswering result (debugger_of start) text unread old new)
 
--- Because of the three inputs, or for want of memory, there is no debugger. Standard input wasn't read, and nothing was
+-- Because of the three inputs, or for lack of memory, there is no debugger. Standard input wasn't read, and nothing was
 -- written.
 pub record GivesNoDebugger {C : Type 0} (image config journal : List ℕ) (input_first input : C) (result : Result Unit CommandFault)
     (old new : Option (List ℕ)) : Type 0 where

@@ -28,13 +28,13 @@ status_of (Build fault kind) = 1
 status_of (Journal fault kind) = 1
 status_of (Write error) = 4
 
--- the fault of a read of an input that failed with this error: want of memory where its kind says so, else the error
+-- the fault of a read of an input that failed with this error: lack of memory where its kind says so, else the error
 abbrev pub IsOfRead : InputName → Error → CommandFault → Type 0
 IsOfRead input error NoMemory = error_kind error ≡ OutOfMemory
 IsOfRead input error (Read from e) = (from ≡ input) × (e ≡ error) × (error_kind error ≢ OutOfMemory)
 IsOfRead input error _ = ⊥
 
--- the fault of a file of that name that couldn't be opened: the error with the front of the name, or want of memory
+-- the fault of a file of that name that couldn't be opened: the error with the front of the name, or lack of memory
 abbrev pub IsOfOpen : List ℕ → Error → CommandFault → Type 0
 IsOfOpen name error NoMemory = Unit {0}
 IsOfOpen name error (Open shown e) = (shown ≡ name_excerpt name) × (e ≡ error) × (error_kind error ≢ OutOfMemory)
@@ -48,7 +48,7 @@ of_build image config fault = if build.is_no_memory fault then NoMemory else Bui
 abbrev pub of_journal : List ℕ → JournalFault → CommandFault
 of_journal text fault = if journal.is_no_memory fault then NoMemory else Journal fault (journal_looks_like text fault)
 
--- the fault of a command line that couldn't be taken: want of memory where the error's kind says so, else an argument
+-- the fault of a command line that couldn't be taken: lack of memory where the error's kind says so, else an argument
 -- that isn't UTF-8
 abbrev pub IsOfArguments : Error → CommandFault → Type 0
 IsOfArguments error NoMemory = error_kind error ≡ OutOfMemory

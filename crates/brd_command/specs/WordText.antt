@@ -50,7 +50,7 @@ words_of_runs room (run ∷ runs) =
 abbrev pub words_of_text : List ℕ → Result (List ℕ) WordsFault
 words_of_text text = words_of_runs 16384 (runs_from false 1 text)
 
--- A fault is the text's, but for want of memory.
+-- A fault is the text's, but for lack of memory.
 abbrev pub IsFaultOf : Result (List ℕ) WordsFault → WordsFault → Type 0
 IsFaultOf read NoMemory = Unit {0}
 IsFaultOf read (Syntax line) = read ≡ Err (Syntax line)

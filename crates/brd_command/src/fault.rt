@@ -62,7 +62,7 @@ pub enum CommandFault {
 impl CommandFault {
     ghost use Rattle.brd_command.specs.Faults.{status_of, IsOfRead, IsOfOpen, IsOfArguments, of_build, of_journal};
 
-    /// The fault of a read of an input that failed: want of memory, or the error itself.
+    /// The fault of a read of an input that failed: lack of memory, or the error itself.
     pub fn of_read(input: InputName, error: io::Error) -> Self
         ensures { IsOfRead input error result }
     {
@@ -72,7 +72,7 @@ impl CommandFault {
         CommandFault::Read(input, error)
     }
 
-    /// The fault of a file of that name that couldn't be opened or created: want of memory, or the error itself.
+    /// The fault of a file of that name that couldn't be opened or created: lack of memory, or the error itself.
     pub fn of_open(alloc: Global, name: &str, error: io::Error) -> Self
         ensures { IsOfOpen name.now error result }
     {
@@ -85,7 +85,7 @@ impl CommandFault {
         }
     }
 
-    /// The fault of a command line that couldn't be taken: want of memory, or an argument that isn't UTF-8.
+    /// The fault of a command line that couldn't be taken: lack of memory, or an argument that isn't UTF-8.
     pub fn of_arguments(error: io::Error) -> Self
         ensures { IsOfArguments error result }
     {
@@ -95,7 +95,7 @@ impl CommandFault {
         }
     }
 
-    /// The fault of an object file and a configuration that make no board: want of memory, or the fault itself, and the
+    /// The fault of an object file and a configuration that make no board: lack of memory, or the fault itself, and the
     /// other kind of which the faulty one looks.
     pub fn of_build(fault: BuildFault, image: &[u8], config: &[u8]) -> Self
         ensures { result ≡ of_build image.now config.now fault }
@@ -106,7 +106,7 @@ impl CommandFault {
         }
     }
 
-    /// The fault of a text that is no journal: want of memory, or the fault itself, and the other kind of which the
+    /// The fault of a text that is no journal: lack of memory, or the fault itself, and the other kind of which the
     /// text looks.
     pub fn of_journal(fault: JournalFault, text: &[u8]) -> Self
         ensures { result ≡ of_journal text.now fault }

@@ -11,7 +11,7 @@ pub fn texts_follow_the_grammar()
     ensures exact { (text : List ℕ) (config : Configuration) → (config_of text ≡ Ok config) ↔ Says text config }
 {}
 
-/// The reading of every text ends, so that what it says doesn't hang on how many steps are taken.
+/// The reading of every text ends, so that what it says doesn't depend on how many steps are taken.
 pub fn reading_ends()
     ensures { (text : List ℕ) → config_of text ≢ Err NoMemory }
 {}

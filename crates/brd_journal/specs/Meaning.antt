@@ -43,6 +43,6 @@ pub record FailsBehind (limit : ℕ) (text : List ℕ) (fault : JournalFault) : 
 abbrev pub HasNoFirstLine : List ℕ → Type 0
 HasNoFirstLine text = (behind : List ℕ) → text ≡ first_line ++ 10 ∷ behind → ⊥
 
--- a text's first fault, other than want of memory
+-- a text's first fault, other than lack of memory
 abbrev pub IsFirstFault : ℕ → List ℕ → JournalFault → Type 0
 IsFirstFault limit text fault = ((fault ≡ Syntax 1) × HasNoFirstLine text) ⊎ FailsBehind limit text fault

@@ -150,7 +150,7 @@ pub due-none : (t : Time) (from : ℕ) → next_due_of t from ≡ None → due_f
 unfolding next_due_of due_from
 due-none t from found = empty (is_due t) from (256 - from) found
 
--- Whose waits end from an ID on doesn't hang on those below it.
+-- Whose waits end from an ID on doesn't depend on those below it.
 
 filter-same : (p q : ℕ → Bool) (from n : ℕ) → ((k : ℕ) → from ≤ k → p k ≡ q k) → filter p (range_with_len from n) ≡ filter q (range_with_len from n)
 filter-same p q from zero same = refl
