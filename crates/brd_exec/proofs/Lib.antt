@@ -1,7 +1,7 @@
 mod UnalignedLemmas
 mod LocalLemmas
 mod ContextLemmas
-mod LentLemmas
+pub mod LentLemmas
 pub mod FrameLemmas
 pub mod StepLemmas
 pub mod KeptLemmas
