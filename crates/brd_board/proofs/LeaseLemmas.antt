@@ -58,7 +58,7 @@ done-most limit done old now new result led rest limited most stopped steps =
       greatest = λ count within fits there. greatest count done old.context old.window (window_start old.block.context.pc) none there;
     }
 
--- A lease that is returned.
+-- A lease that is committed.
 
 some-context : (context : Executor → State) (who : Executor) (p : Processor) (block : Block) →
     Some (record { standing = standing_in p; marks = marks_of p; context = context who }) ≡ Some block → context who ≡ block.context
@@ -95,7 +95,7 @@ steps-committed b lease kernel fresh is_lease put place =
     let goes : GoesOn b lease.cpu who.0 = record {
       on = fresh.on;
       executes = who.1;
-      quiet = fresh.quiet;
+      uninterrupted = fresh.uninterrupted;
       place = if-some by who.0 (HasPlace b.kernel lease.cpu) who.1 place;
     } in
     let led : lent lease.len (context_of b.kernel lease.cpu who.0) lease.window (window_start pc) ≡ Some lease.context =

@@ -51,7 +51,7 @@ step-goes b cpu who m goes is =
     ap (λ test. if test then reported b report.Off else stepped b cpu) goes.on
     ∙ ap (stepped_in b cpu) on.1
     ∙ ap (λ test. if test then reported b report.Stopped else accepts_or_executes b cpu (deliverable b.kernel cpu)) on.2
-    ∙ ap (accepts_or_executes b cpu) goes.quiet
+    ∙ ap (accepts_or_executes b cpu) goes.uninterrupted
     ∙ ap (λ by. executes_in b cpu (executed_in b.kernel cpu b.memory b.links by)) goes.executes
     ∙ ap (λ (left : Ran). instruction_done (with_executed b (executed_by b.kernel cpu who s.pc left)) cpu s.pc left.outcome)
     (ran-done (effect cpu s b.memory b.links) s b.memory m is)
@@ -62,13 +62,13 @@ still-goes : (b : BoardState) (cpu : ℕ) (who : Executor) (m : Machine) → Goe
 still-goes b cpu executor.Handler m goes = record {
   on = goes.on;
   executes = goes.executes;
-  quiet = goes.quiet;
+  uninterrupted = goes.uninterrupted;
   place = subst (λ n. cpu < n) (sym (length-set b.kernel.handler_contexts cpu m.state)) goes.place;
 }
 still-goes b cpu (executor.Task id) m goes = record {
   on = goes.on;
   executes = goes.executes;
-  quiet = goes.quiet;
+  uninterrupted = goes.uninterrupted;
   place = subst (λ n. id < n) (sym (length-set b.kernel.tasks.contexts id m.state)) goes.place;
 }
 

@@ -6,12 +6,13 @@ use Rattle.brd_kernel.specs.Kernel.{executor_on, context_of, with_context_of, de
 use Rattle.brd_kernel.specs.Always.{HasPlace}
 use Rattle.brd_board.specs.Board.{BoardState}
 
--- Somebody executes on a processor of a board that is on, and no interrupt is deliverable to it. So its next step
--- executes an instruction, and so does the one after that, as long as these go on.
+-- Somebody executes on a processor of a board that is on, no interrupt is deliverable to it, and the context of who
+-- executes lies in the kernel (of a real board it always does). So its next step executes an instruction, and so does
+-- the one after that, as long as these go on.
 pub record GoesOn (b : BoardState) (cpu : ℕ) (who : Executor) : Type 0 where
   pub on : b.kernel.off ≡ false
   pub executes : executor_on b.kernel cpu ≡ Some who
-  pub quiet : deliverable b.kernel cpu ≡ None
+  pub uninterrupted : deliverable b.kernel cpu ≡ None
   pub place : HasPlace b.kernel cpu who
 
 -- what an instruction of a processor sees of a board: the context in which it executes, memory and links

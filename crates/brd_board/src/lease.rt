@@ -11,7 +11,8 @@ use std::marker::Model;
 /// How many instructions a lease is good for (own choice).
 pub const MOST_LENT: u32 = 64;
 
-/// A lease was returned to a board on which something that it copies is no longer so: nothing was done.
+/// A lease can't be committed, and nothing was done: the board is off, an interrupt is deliverable to the lease's
+/// processor, or its block or its window of code isn't what was lent.
 #[derive(Clone, Copy, Debug, PartialEq, Eq)]
 pub struct Stale;
 
@@ -34,9 +35,10 @@ impl Same for Block {
     }
 }
 
-/// A copy of a processor's block and of the 64 words of code round its next instruction. By it the processor's next
-/// instructions are done apart from the board, as long as they touch only registers, HI, LO and the program counter.
-/// `Board::lend` makes one, and `Board::commit` takes what was done back to the board.
+/// A copy of a processor's block and of its window of code, the 64 words round its next instruction. By it the next
+/// instructions are done apart from the board, as long as they lie in the window, are local (`brd_isa::is_local`), and
+/// are no branch or jump in a delay slot; 64 of them at most. `Board::lend` makes one, and `Board::commit` carries over
+/// to the board what was done.
 #[derive(Drop)]
 pub struct Lease {
     cpu: u8,
@@ -66,7 +68,7 @@ impl Model for Lease {
 
 impl Lease {
     /// A lease of which nothing was done yet.
-    pub fn new(cpu: u8, block: Block, window: [u32; 64]) -> Lease
+    pub(crate) fn new(cpu: u8, block: Block, window: [u32; 64]) -> Lease
         ensures { result ≡ record { cpu = cpu; block = block; window = window; len = 0; context = block.context } }
     {
         let pc = block.context.pc();
@@ -95,8 +97,8 @@ impl Lease {
         self.len
     }
 
-    /// Does the next instructions, as long as they lie in the window, are local, and are no branch or jump in a delay
-    /// slot: at most `limit` of them, and at most 64 over the life of the lease. Answers how many it did now.
+    /// Does as many of the next instructions as can be done under the lease, up to `limit` of them, and up to 64 over
+    /// the life of the lease. Answers how many it did now.
     pub fn run(&mut self, limit: u32) -> u32
         ensures { DoesMost limit self.old self.new result }
     {
@@ -122,14 +124,14 @@ impl Lease {
     }
 
     /// The block as it was lent.
-    pub fn block(&self) -> &Block
+    pub(crate) fn block(&self) -> &Block
         ensures { result.now ≡ self.now.block }
     {
         &self.block
     }
 
-    /// The words of code as they were lent.
-    pub fn window(&self) -> &[u32]
+    /// The window of code as it was lent.
+    pub(crate) fn window(&self) -> &[u32]
         ensures is { result.now ≡ self.now.window }
         ensures count { length result.now ≡ 64 }
     {
@@ -137,7 +139,7 @@ impl Lease {
     }
 
     /// The context after what was done.
-    pub fn context(&self) -> &Context
+    pub(crate) fn context(&self) -> &Context
         ensures is { result.now ≡ self.now.context }
         ensures kept { IsLease self.now }
     {

@@ -19,6 +19,6 @@ pub use board::Board;
 pub use boot::BootFault;
 pub use brd_kernel::{Standing, TaskId, TaskState, TaskView, WaitReason};
 pub use event::{Event, Report};
-pub use lease::{Block, Lease, MOST_LENT, Stale};
+pub use lease::{Lease, MOST_LENT, Stale};
 pub use snapshot::Snapshot;
 pub use view::Fault;

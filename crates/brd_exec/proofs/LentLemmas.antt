@@ -20,7 +20,7 @@ use Rattle.brd_exec.specs.Action.{Action, sets, linked, action, local_context, l
 use Rattle.brd_exec.specs.Effects.{in_context, next_in_context, LeadsIfSome}
 use Rattle.brd_exec.specs.Step.{has_slot, effect, next_instruction, of_fetch, of_word, of_next, Effect}
 use Rattle.brd_exec.specs.Went.{Machine, went_by, went_on, went}
-use Rattle.brd_exec.specs.Lent.{word_in, lent_insn, lent_word, lent_step, lent_on, lent, Lends}
+use Rattle.brd_exec.specs.Lent.{word_in, lent_insn, lent_word, lent_step, lent_on, lent, DoesLent}
 use Rattle.brd_exec.proofs.LocalLemmas.{local-meaning}
 
 local-register : (op : RegisterOp) (s : State) (register old a b : ℕ) →
@@ -46,7 +46,7 @@ local-table insn s = refl
 
 lends-action : (act : Action) (s new : State) (ended : Result Unit Stop) (result : Bool) →
     is_some (local_context act) ≡ true → LeadsIfSome (in_context act) s ended new → result ≡ is_ok ended →
-    Lends (local_context act) s result new
+    DoesLent (local_context act) s result new
 lends-action (Action.Local after) s new ended result there leads is = (is ∙ ap is_ok leads.0, leads.1)
 lends-action (Action.MayStop outcome) s new ended result there leads is = absurd (cc)
 lends-action (Action.Loads op rt address) s new ended result there leads is = absurd (cc)
@@ -58,7 +58,7 @@ lends-action (Action.StoresIfLinked rt address) s new ended result there leads i
 pub lends-done : (refused : Bool) (insn : Insn) (s new : State) (ended : Result Unit Stop) (result : Bool) →
     is_local insn ≡ true →
     LeadsIfSome (next_in_context s (if refused then Err ExceptionCode.RI else Ok insn)) s ended new →
-    result ≡ is_ok ended → Lends (if refused then None else local_meaning insn s) s result new
+    result ≡ is_ok ended → DoesLent (if refused then None else local_meaning insn s) s result new
 lends-done true insn s new ended result local leads is = (is ∙ ap is_ok leads.0, leads.1)
 lends-done false insn s new ended result local leads is =
     lends-action (action insn s) s new ended result (local-table insn s ∙ local) leads is

@@ -14,7 +14,7 @@ word_in window start address =
     if address % 4 == 0 && nat_le start address && nat_lt address (start + 256) && (address - start) % 4 == 0 then
     Some (slice_index window ((address - start) / 4)) else None
 
--- An instruction is lent where it is local, and no branch or jump in a delay slot.
+-- An instruction can be done so where it is local, and no branch or jump in a delay slot.
 abbrev pub lent_insn : State → Option Insn → Option State
 lent_insn s None = None
 lent_insn s (Some insn) = if s.slot && has_slot insn then None else local_meaning insn s
@@ -31,12 +31,12 @@ abbrev pub lent_on : Option State → List ℕ → ℕ → Option State
 lent_on None window start = None
 lent_on (Some s) window start = lent_step s window start
 
--- the context after so many lent steps; none where one of them isn't lent
+-- the context after n lent steps; none where there aren't n
 abbrev pub lent : ℕ → State → List ℕ → ℕ → Option State
 lent zero s window start = Some s
 lent (suc count) s window start = lent_on (lent count s window start) window start
 
 -- what a function that does a lent step, where there is one, has left and answered
-abbrev pub Lends : Option State → State → Bool → State → Type 0
-Lends None old result new = (result ≡ false) × (new ≡ old)
-Lends (Some after) old result new = (result ≡ true) × (new ≡ after)
+abbrev pub DoesLent : Option State → State → Bool → State → Type 0
+DoesLent None old result new = (result ≡ false) × (new ≡ old)
+DoesLent (Some after) old result new = (result ≡ true) × (new ≡ after)

@@ -1,4 +1,4 @@
--- Steps of one processor that go on, one after the other, as no SYSCALL and no exception comes.
+-- Steps of one processor that go on, one after the other, so long as no SYSCALL and no exception comes.
 use Rattle.std.specs.Prelude.{ℕ, zero, suc, Option, None, Some}
 use Rattle.brd_mem.specs.Memory.{Memory}
 use Rattle.brd_link.specs.LinkSet.{LinkSet}
@@ -19,7 +19,7 @@ abbrev pub went_on : ℕ → Option Machine → Option Machine
 went_on cpu None = None
 went_on cpu (Some m) = went_by (effect cpu m.state m.memory m.links)
 
--- what so many steps of a processor leave; none where one of them stops
+-- what n steps of a processor leave; none where one of them stops
 abbrev pub went : ℕ → ℕ → Machine → Option Machine
 went cpu zero m = Some m
 went cpu (suc count) m = went_on cpu (went cpu count m)

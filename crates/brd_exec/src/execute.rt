@@ -93,8 +93,8 @@ fn execute(
     Ok(())
 }
 
-/// Does an instruction that accesses no memory, one line a form of operands; of one that does, it does nothing. A branch
-/// or a jump tests itself whether it is in a delay slot.
+/// Does an instruction, if it accesses no memory, one line a form of operands. A branch or a jump tests itself whether
+/// it is in a delay slot.
 #[inline(always)]
 pub fn execute_in_context(context: &mut Context, insn: &Insn) -> Result<(), Stop>
     ensures { LeadsIfSome (next_in_context context.old (accepted context.old insn.now)) context.old result context.new }

@@ -29,13 +29,13 @@ pub fn local_in_one_context_is_local_in_all()
     ensures { (insn : Insn) (s other : State) → is_some (local_meaning insn s) ≡ is_some (local_meaning insn other) }
 {}
 
-/// The table of local instructions in brd_isa has exactly those that a context tells all of.
+/// The table of local instructions in brd_isa has exactly those whose action is local, in any context.
 pub fn local_instructions_are_those_of_the_table()
     ensures { (insn : Insn) (s : State) → is_some (local_meaning insn s) ≡ is_local insn }
 {}
 
-/// Lent steps are steps: over a memory that has the words of the window, so many lent steps of a context are as many
-/// steps of any processor that go on, and leave memory and links as they were.
+/// Lent steps are steps: over a memory that has the words of the window, n lent steps of a context are n steps of any
+/// processor that go on, and leave memory and links as they were.
 pub fn lent_steps_are_steps()
     ensures { (cpu count address : ℕ) (s after : State) (memory : Memory) (links : LinkSet) (window : List ℕ) →
         window_at memory address ≡ Some window → lent count s window (window_start address) ≡ Some after →

@@ -1,18 +1,18 @@
 //! Local instructions, done apart from memory.
 
 ghost use Rattle.std.specs.Prelude.{◌≡◌, Some};
-ghost use Rattle.brd_exec.specs.Lent.{word_in, lent_step, lent_word, Lends};
+ghost use Rattle.brd_exec.specs.Lent.{word_in, lent_step, lent_word, DoesLent};
 
 use crate::context::Context;
 use crate::execute::execute_in_context;
 use brd_isa::{decode, is_local};
 
-/// Does the next instruction of a context by a window of code, the 64 words from the address `start` on, where the window
-/// has its word and it is local, and no branch or jump in a delay slot. Answers whether it did; else the context stays as
-/// it was.
+/// Does the next instruction of a context by a window of code, the 64 words from the address `start` on: where the
+/// window has its word, and the instruction is local and no branch or jump in a delay slot. Answers whether it did;
+/// else the context stays as it was.
 #[tactic(auto, unfolding(crate::specs::Lent::lent_step))]
 pub fn run_local(context: &mut Context, window: &[u32; 64], start: u32) -> bool
-    ensures { Lends (lent_step context.old window.now start) context.old result context.new }
+    ensures { DoesLent (lent_step context.old window.now start) context.old result context.new }
 {
     let Some(word) = word_in(window, start, context.pc()) else {
         return false;
@@ -22,7 +22,7 @@ pub fn run_local(context: &mut Context, window: &[u32; 64], start: u32) -> bool
 
 /// Does the instruction of a word, where it is local, and no branch or jump in a delay slot.
 fn execute_local(context: &mut Context, word: u32) -> bool
-    ensures { Lends (lent_word context.old (Some word)) context.old result context.new }
+    ensures { DoesLent (lent_word context.old (Some word)) context.old result context.new }
 {
     match decode(word) {
         Some(insn) if is_local(insn) => execute_in_context(context, &insn).is_ok(),

@@ -1,6 +1,7 @@
--- Which instructions are local: they touch only registers, HI, LO and the program counter, and raise nothing by
--- themselves, whatever these hold (own choice of the word). Sync and prefetch touch nothing. One line a form of
--- operands, and one an operation where those of a form differ.
+-- Which instructions are local: they touch only registers, HI, LO and the program counter, and whatever these hold they
+-- neither raise an exception nor call the kernel. (That a branch or a jump is refused in a delay slot is no matter of
+-- the instruction by itself.) SYNC and PREF touch nothing. One line a form of operands, and one an operation where
+-- those of a form differ.
 use Rattle.std.specs.Prelude.{Bool, true, false}
 use Rattle.brd_isa.specs.declared.instruction.{Insn.Insn, RegisterOp.RegisterOp, ImmediateOp.ImmediateOp}
 

@@ -5,9 +5,9 @@ ghost use Rattle.brd_isa.specs.Local.{is_local};
 
 use crate::instruction::{ImmediateOp, Insn, RegisterOp};
 
-/// Whether an instruction touches only registers, HI, LO and the program counter, and raises nothing by itself, whatever
-/// these hold. PREF and SYNC, which touch nothing, are local; ADD, ADDI, SUB and the traps, which may raise an exception,
-/// aren't.
+/// Whether an instruction touches only registers, HI, LO and the program counter, and whatever these hold neither
+/// raises an exception nor calls the kernel. PREF and SYNC, which touch nothing, are local. Loads, stores, LL and SC,
+/// which touch memory or links, aren't; nor are ADD, ADDI, SUB, the traps, BREAK and SYSCALL.
 pub fn is_local(insn: Insn) -> bool
     ensures { result ≡ is_local insn }
 {

@@ -12,7 +12,8 @@ window_start address = address / 256 * 256
 unfoldable pub words_at : Memory → ℕ → ℕ → List ℕ
 words_at memory at count = map (λ i. word_at memory (at + 4 * i)) (range_with_len 0 count)
 
--- the window round an address; none where its bytes don't all lie in RAM
+-- the window round an address; none where its bytes don't all lie in RAM (a RAM has the whole window of each of its
+-- addresses: `laws::ram_has_whole_windows`)
 abbrev pub window_at : Memory → ℕ → Option (List ℕ)
 window_at memory address =
     if contains (size_of memory) (window_start address) 256 then Some (words_at memory (window_start address - base) 64)

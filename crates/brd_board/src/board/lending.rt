@@ -1,7 +1,7 @@
-//! Leases of a board: lent, and taken back.
+//! Leases of a board: lent, and committed.
 
 ghost use Rattle.std.specs.Prelude.{◌≡◌, Decides, not, Some};
-ghost use Rattle.brd_board.specs.Lease.{block_of, code_at, lease_of, IsFresh, Commits};
+ghost use Rattle.brd_board.specs.Lease.{block_of, code_window, lease_of, IsFresh, Commits};
 
 use super::Board;
 use crate::lease::{Block, Lease, Stale};
@@ -9,9 +9,9 @@ use brd_base::Same;
 use brd_lanes::same_words;
 
 impl Board {
-    /// A lease of a processor, by which its next instructions can be done apart from the board. None where the board is
-    /// off, an interrupt is deliverable to the processor, there is no such processor, it is idle or stopped, or the address
-    /// of its next instruction is unaligned or outside RAM.
+    /// A lease of a processor, by which its next instructions can be done apart from the board. None exactly where the
+    /// board is off, there is no such processor, it is idle or stopped, an interrupt is deliverable to it, or the
+    /// address of its next instruction is unaligned or outside RAM.
     pub fn lend(&self, cpu: u8) -> Option<Lease>
         ensures { result ≡ lease_of self.now cpu }
     {
@@ -19,7 +19,7 @@ impl Board {
             return None;
         }
         let block = self.block(cpu)?;
-        let window = self.code(block.context.pc())?;
+        let window = self.code_window(block.context.pc())?;
         Some(Lease::new(cpu, block, window))
     }
 
@@ -30,12 +30,12 @@ impl Board {
         self.is_off()
             || self.kernel.deliverable(lease.cpu()).is_some()
             || !self.has_block(lease)
-            || !self.has_code(lease)
+            || !self.has_window(lease)
     }
 
-    /// Takes back what was done under a lease: the board is then the one after as many steps of its processor, and their
-    /// number is answered. Or `Stale`, and nothing changes, where the board is off, an interrupt is deliverable to the
-    /// processor, or its block or its code isn't what was lent.
+    /// Carries over what was done under a lease: the board is then the one after as many steps of its processor, and
+    /// their number is answered. Or `Stale`, and nothing changes, exactly where the board is off, it lacks the lease's
+    /// processor, an interrupt is deliverable to that, or its block or its window of code isn't what was lent.
     pub fn commit(&mut self, lease: Lease) -> Result<u32, Stale>
         ensures { Commits self.old lease result self.new }
     {
@@ -59,8 +59,8 @@ impl Board {
     }
 
     /// The window of code round an address, where that is aligned and in RAM.
-    fn code(&self, pc: u32) -> Option<[u32; 64]>
-        ensures { result ≡ code_at self.now.memory pc }
+    fn code_window(&self, pc: u32) -> Option<[u32; 64]>
+        ensures { result ≡ code_window self.now.memory pc }
     {
         if pc % 4 != 0 {
             return None;
@@ -78,11 +78,11 @@ impl Board {
         }
     }
 
-    /// Whether RAM still has the code that was lent.
-    fn has_code(&self, lease: &Lease) -> bool
-        ensures { Decides result (code_at self.now.memory lease.now.block.context.pc ≡ Some lease.now.window) }
+    /// Whether RAM still has the window of code that was lent.
+    fn has_window(&self, lease: &Lease) -> bool
+        ensures { Decides result (code_window self.now.memory lease.now.block.context.pc ≡ Some lease.now.window) }
     {
-        match self.code(lease.block().context.pc()) {
+        match self.code_window(lease.block().context.pc()) {
             Some(window) => same_words(&window, lease.window()),
             None => false,
         }
