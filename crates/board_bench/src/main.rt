@@ -1,6 +1,6 @@
 //! How fast the board runs: `board_bench EVENTS` does so many events of two small loops on a board of words, of the
-//! first of them on a booted board of two processors and four tasks, on one processor and on both in turn, of tasks
-//! that call the kernel, and of ticks; it prints millions of events a second, beside a bare loop of about the same
+//! first of them on a booted board of two processors and four tasks, on one processor and on both in turn, of a loop
+//! that touches only registers, step by step and by leases, of tasks that call the kernel, and of ticks; it prints millions of events a second, beside a bare loop of about the same
 //! work. With a number behind EVENTS it does that work alone, counted from 0. Without EVENTS it does 16,000 events of
 //! each and prints how often the loops were gone through.
 #![tactic(auto)]
@@ -39,6 +39,18 @@ const WIDE: [u32; 10] = [
     0xa889_0006, // swl $t1, 6($a0)
     0x5520_fff9, // bnel $t1, $0, -7: to the lwl
     0x0149_5826, // xor $t3, $t2, $t1, in the slot
+];
+
+/// A loop of six instructions that touch only registers.
+const LOCAL: [u32; 8] = [
+    0x2529_0001, // addiu $t1, $t1, 1
+    0x0128_5021, // addu $t2, $t1, $t0
+    0x0149_5826, // xor $t3, $t2, $t1
+    0x0149_602b, // sltu $t4, $t2, $t1
+    0x1520_fffb, // bne $t1, $0, -5: to the addiu
+    0x0149_5825, // or $t3, $t2, $t1, in the slot
+    0x1000_fff9, // beq $0, $0, -7: to the addiu
+    0x0000_0000, // sll $0, $0, 0
 ];
 
 /// Task 1 starts task 2, which comes first and ends itself.
@@ -142,6 +154,8 @@ enum Setting {
 enum Deed {
     /// So many processors do their steps in turn.
     Steps(u8),
+    /// Processor 1 does its steps 64 at a time, each time by a lease that is lent, run and committed.
+    Leases,
     /// A tick passes, after so many steps of processor 1.
     Ticks(u64),
 }
@@ -155,7 +169,7 @@ struct Work {
     deed: Deed,
 }
 
-const WORKS: [Work; 9] = [
+const WORKS: [Work; 11] = [
     Work {
         name: "plain loop",
         words: &PLAIN,
@@ -179,6 +193,18 @@ const WORKS: [Work; 9] = [
         words: &PLAIN,
         setting: Setting::Text(TASKS),
         deed: Deed::Steps(2),
+    },
+    Work {
+        name: "local loop, on one processor of two",
+        words: &LOCAL,
+        setting: Setting::Text(TASKS),
+        deed: Deed::Steps(1),
+    },
+    Work {
+        name: "local loop, on one processor of two, by leases",
+        words: &LOCAL,
+        setting: Setting::Text(TASKS),
+        deed: Deed::Leases,
     },
     Work {
         name: "act_tsk and ext_tsk",
@@ -349,6 +375,7 @@ fn prepare(board: &mut Board, deed: Deed) {
 fn run(board: &mut Board, deed: Deed, events: u64) -> u64 {
     match deed {
         Deed::Steps(processors) => run_steps(board, processors, events),
+        Deed::Leases => run_leases(board, events / 64),
         Deed::Ticks(_) => run_ticks(board, events),
     }
 }
@@ -366,6 +393,25 @@ fn run_steps(board: &mut Board, processors: u8, events: u64) -> u64 {
         cpu = if cpu < processors { cpu + 1 } else { 1 };
     }
     ran
+}
+
+/// Does the steps of so many leases of processor 1, and counts them.
+#[inline(never)]
+fn run_leases(board: &mut Board, leases: u64) -> u64 {
+    let mut ran = 0u64;
+    for _ in 0..leases {
+        ran = ran.wrapping_add(u64::from(run_lease(board)));
+    }
+    ran
+}
+
+/// Lends processor 1, does 64 instructions by the lease, if there are as many, and commits it. Answers how many were done.
+fn run_lease(board: &mut Board) -> u32 {
+    let Some(mut lease) = board.lend(1) else {
+        return 0;
+    };
+    lease.run(64);
+    board.commit(lease).unwrap_or(0)
 }
 
 /// Does so many ticks. None of them runs an instruction.

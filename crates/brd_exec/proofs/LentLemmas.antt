@@ -1,6 +1,6 @@
 -- Lent steps: which instructions they are, and that they are steps.
 use Rattle.std.proofs.Common.{◌≡◌, ℕ, ◌+◌, ◌-◌, ◌*◌, ◌/◌, ◌%◌, ◌<◌, ◌≤◌, Bool, true, false, ◌&&◌, if◌then◌else◌, List, refl, sym, ap, subst, ◌∙◌, is_some, arith}
-use Rattle.std.specs.Prelude.{zero, suc, ◌==◌, nat_le, nat_lt, slice_index, Option, None, Some, Result, Ok, Err, is_ok}
+use Rattle.std.specs.Prelude.{zero, suc, ◌==◌, nat_le, nat_lt, slice_index, Option, None, Some, Result, Ok, Err}
 use Rattle.brd_isa.specs.declared.instruction.{Insn.Insn, RegisterOp.RegisterOp, ImmediateOp.ImmediateOp, LinkedOp.LinkedOp}
 use Rattle.brd_isa.specs.Local.{is_local, is_local_register_op, is_local_immediate_op}
 use Rattle.std.proofs.lemmas.Bool.{and_from, eq-eqb, le-leb}
@@ -13,14 +13,13 @@ use Rattle.brd_mem.specs.Memory.{Memory, size_of, contains, word_at}
 use Rattle.brd_mem.specs.Access.{at_place, fetched}
 use Rattle.brd_mem.specs.Window.{window_start, words_at, window_at}
 use Rattle.brd_link.specs.LinkSet.{LinkSet}
-use Rattle.brd_exec.specs.declared.outcome.{ExceptionCode.ExceptionCode, Stop.Stop}
+use Rattle.brd_exec.specs.declared.outcome.{ExceptionCode.ExceptionCode}
 use Rattle.brd_exec.specs.State.{State, read, address_of}
 use Rattle.brd_exec.specs.Values.{register_gives, immediate_gives}
-use Rattle.brd_exec.specs.Action.{Action, sets, linked, action, local_context, local_meaning}
-use Rattle.brd_exec.specs.Effects.{in_context, next_in_context, LeadsIfSome}
+use Rattle.brd_exec.specs.Action.{sets, linked, local_context, local_meaning}
 use Rattle.brd_exec.specs.Step.{has_slot, effect, next_instruction, of_fetch, of_word, of_next, Effect}
 use Rattle.brd_exec.specs.Went.{Machine, went_by, went_on, went}
-use Rattle.brd_exec.specs.Lent.{word_in, lent_insn, lent_word, lent_step, lent_on, lent, DoesLent}
+use Rattle.brd_exec.specs.Lent.{word_in, lent_insn, lent_word, lent_step, lent_on, lent}
 use Rattle.brd_exec.proofs.LocalLemmas.{local-meaning}
 
 local-register : (op : RegisterOp) (s : State) (register old a b : ℕ) →
@@ -43,25 +42,6 @@ local-table (Insn.ThreeRegisters op rd rs rt) s = local-register op s rd (read s
 local-table (Insn.WithImmediate op rt rs immediate) s = local-immediate op s rt (read s rs) immediate
 local-table (Insn.Linked op rt base offset) s = local-linked op rt (address_of s base offset)
 local-table insn s = refl
-
-lends-action : (act : Action) (s new : State) (ended : Result Unit Stop) (result : Bool) →
-    is_some (local_context act) ≡ true → LeadsIfSome (in_context act) s ended new → result ≡ is_ok ended →
-    DoesLent (local_context act) s result new
-lends-action (Action.Local after) s new ended result there leads is = (is ∙ ap is_ok leads.0, leads.1)
-lends-action (Action.MayStop outcome) s new ended result there leads is = absurd (cc)
-lends-action (Action.Loads op rt address) s new ended result there leads is = absurd (cc)
-lends-action (Action.Stores op rt address) s new ended result there leads is = absurd (cc)
-lends-action (Action.LoadsLinked rt address) s new ended result there leads is = absurd (cc)
-lends-action (Action.StoresIfLinked rt address) s new ended result there leads is = absurd (cc)
-
--- an instruction that is local by the table, and accepted, or refused as it is a branch or a jump in a delay slot
-pub lends-done : (refused : Bool) (insn : Insn) (s new : State) (ended : Result Unit Stop) (result : Bool) →
-    is_local insn ≡ true →
-    LeadsIfSome (next_in_context s (if refused then Err ExceptionCode.RI else Ok insn)) s ended new →
-    result ≡ is_ok ended → DoesLent (if refused then None else local_meaning insn s) s result new
-lends-done true insn s new ended result local leads is = (is ∙ ap is_ok leads.0, leads.1)
-lends-done false insn s new ended result local leads is =
-    lends-action (action insn s) s new ended result (local-table insn s ∙ local) leads is
 
 -- A lent instruction is one that a step does, and leaves memory and links.
 

@@ -1,6 +1,5 @@
 mod UnalignedLemmas
 mod LocalLemmas
-mod ContextLemmas
 pub mod LentLemmas
 pub mod FrameLemmas
 pub mod StepLemmas

@@ -31,6 +31,7 @@ use crate::value::{
 use brd_isa::{BranchOp, BranchRegimmOp, BranchZeroOp, JumpIndex, JumpOp, Register};
 
 /// A branch or a jump raises RI in a delay slot.
+#[inline(always)]
 fn outside_slot(context: &Context) -> Result<(), Stop>
     ensures { result ≡ (if context.now.slot then Err (Stop.Raise ExceptionCode.RI) else Ok tt) }
 {
@@ -41,6 +42,7 @@ fn outside_slot(context: &Context) -> Result<(), Stop>
 }
 
 /// Does `jr rs`.
+#[inline(always)]
 pub fn jump_register(context: &mut Context, rs: Register) -> Result<(), Stop>
     ensures { Leads (unless_slot context.old (jumped context.old (read context.old rs)))
         context.old result context.new }
@@ -52,6 +54,7 @@ pub fn jump_register(context: &mut Context, rs: Register) -> Result<(), Stop>
 }
 
 /// Does `jalr rd, rs`. The target is what the register was before the return address was written.
+#[inline(always)]
 pub fn call_register(context: &mut Context, rd: Register, rs: Register) -> Result<(), Stop>
     ensures { Leads (unless_slot context.old
         (jumped (write context.old rd (return_address_of context.old)) (read context.old rs)))
@@ -66,6 +69,7 @@ pub fn call_register(context: &mut Context, rd: Register, rs: Register) -> Resul
 }
 
 /// Does `op target`.
+#[inline(always)]
 pub fn jump(context: &mut Context, op: JumpOp, index: JumpIndex) -> Result<(), Stop>
     ensures { Leads (unless_slot context.old
         (jumped (with_return_address_if context.old (is_jump_calling op)) (jump_target context.old index)))
@@ -79,6 +83,7 @@ pub fn jump(context: &mut Context, op: JumpOp, index: JumpIndex) -> Result<(), S
 }
 
 /// Does `op rs, rt, target`.
+#[inline(always)]
 pub fn branch(
     context: &mut Context,
     op: BranchOp,
@@ -97,6 +102,7 @@ pub fn branch(
 }
 
 /// Does `op rs, target`.
+#[inline(always)]
 pub fn branch_zero(
     context: &mut Context,
     op: BranchZeroOp,
@@ -114,6 +120,7 @@ pub fn branch_zero(
 }
 
 /// Does `op rs, target` under REGIMM. The register is read before the return address is written.
+#[inline(always)]
 pub fn branch_regimm(
     context: &mut Context,
     op: BranchRegimmOp,

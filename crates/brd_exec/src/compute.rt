@@ -27,6 +27,7 @@ use brd_isa::{
 };
 
 /// Does `op rd, rt, sa`.
+#[inline(always)]
 pub fn shift(context: &mut Context, op: ShiftOp, rd: Register, rt: Register, sa: ShiftAmount)
     ensures { context.new ≡ with_register context.old rd (shift_gives op (read context.old rt) sa) }
 {
@@ -35,6 +36,7 @@ pub fn shift(context: &mut Context, op: ShiftOp, rd: Register, rt: Register, sa:
 }
 
 /// Does `op rd, rt, rs`.
+#[inline(always)]
 pub fn shift_variable(
     context: &mut Context,
     op: ShiftVariableOp,
@@ -51,6 +53,7 @@ pub fn shift_variable(
 }
 
 /// Does `op rd, rs, rt`.
+#[inline(always)]
 pub fn three_registers(
     context: &mut Context,
     op: RegisterOp,
@@ -68,6 +71,7 @@ pub fn three_registers(
 }
 
 /// Does `op rt, rs, immediate`.
+#[inline(always)]
 pub fn with_immediate(
     context: &mut Context,
     op: ImmediateOp,
@@ -84,6 +88,7 @@ pub fn with_immediate(
 }
 
 /// Does `mul rd, rs, rt`.
+#[inline(always)]
 pub fn multiply(context: &mut Context, rd: Register, rs: Register, rt: Register)
     ensures { context.new ≡ with_register context.old rd (multiply_gives (read context.old rs) (read context.old rt)) }
 {
@@ -92,6 +97,7 @@ pub fn multiply(context: &mut Context, rd: Register, rs: Register, rt: Register)
 }
 
 /// Does `op rd`, from HI or LO.
+#[inline(always)]
 pub fn move_from(context: &mut Context, op: MoveFromOp, rd: Register)
     ensures { context.new ≡ with_register context.old rd (moved_from op context.old) }
 {
@@ -103,6 +109,7 @@ pub fn move_from(context: &mut Context, op: MoveFromOp, rd: Register)
 }
 
 /// Does `op rs`, to HI or LO.
+#[inline(always)]
 pub fn move_to(context: &mut Context, op: MoveToOp, rs: Register)
     ensures { context.new ≡ moved_to op (advanced context.old) (read context.old rs) }
 {
@@ -114,6 +121,7 @@ pub fn move_to(context: &mut Context, op: MoveToOp, rs: Register)
 }
 
 /// Does `op rs, rt`, to HI and LO.
+#[inline(always)]
 pub fn product(context: &mut Context, op: ProductOp, rs: Register, rt: Register)
     ensures { context.new ≡
         write_product (advanced context.old) (product_gives op (read context.old rs) (read context.old rt)) }
@@ -123,6 +131,7 @@ pub fn product(context: &mut Context, op: ProductOp, rs: Register, rt: Register)
 }
 
 /// Does `op rs, rt`, with what HI and LO are.
+#[inline(always)]
 pub fn accumulate(context: &mut Context, op: AccumulateOp, rs: Register, rt: Register)
     ensures { context.new ≡ write_product (advanced context.old)
         (accumulate_gives op (product_in context.old) (read context.old rs) (read context.old rt)) }
@@ -132,6 +141,7 @@ pub fn accumulate(context: &mut Context, op: AccumulateOp, rs: Register, rt: Reg
 }
 
 /// Does `op rd, rs`.
+#[inline(always)]
 pub fn count(context: &mut Context, op: CountOp, rd: Register, rs: Register)
     ensures { context.new ≡ with_register context.old rd (count_gives op (read context.old rs)) }
 {
@@ -140,6 +150,7 @@ pub fn count(context: &mut Context, op: CountOp, rd: Register, rs: Register)
 }
 
 /// Raises a trap, or goes on to the next instruction.
+#[inline(always)]
 pub fn trap_if(context: &mut Context, traps: bool) -> Result<(), Stop>
     ensures { Leads (unless_trap context.old traps) context.old result context.new }
 {

@@ -44,6 +44,7 @@ use brd_word::{
 };
 
 /// rd of `op rd, rt, sa`.
+#[inline(always)]
 pub fn shift_value(op: ShiftOp, word: u32, amount: ShiftAmount) -> u32
     ensures { result ≡ shift_gives op word amount }
 {
@@ -55,6 +56,7 @@ pub fn shift_value(op: ShiftOp, word: u32, amount: ShiftAmount) -> u32
 }
 
 /// rd of `op rd, rt, rs`; the amount is the low five bits of rs.
+#[inline(always)]
 pub fn shift_variable_value(op: ShiftVariableOp, word: u32, amount: ShiftAmount) -> u32
     ensures { result ≡ shift_variable_gives op word amount }
 {
@@ -66,6 +68,7 @@ pub fn shift_variable_value(op: ShiftVariableOp, word: u32, amount: ShiftAmount)
 }
 
 /// A word shifted right, the sign comes in.
+#[inline(always)]
 fn shift_with_sign(word: u32, amount: ShiftAmount) -> u32
     ensures { result ≡ shifted_with_sign word amount }
 {
@@ -77,6 +80,7 @@ fn shift_with_sign(word: u32, amount: ShiftAmount) -> u32
 }
 
 /// Whether the sign bit is set.
+#[inline(always)]
 fn is_below_zero(word: u32) -> bool
     ensures { result ≡ is_negative word }
 {
@@ -84,6 +88,7 @@ fn is_below_zero(word: u32) -> bool
 }
 
 /// Whether one word is below another, read signed.
+#[inline(always)]
 fn is_signed_below(a: u32, b: u32) -> bool
     ensures { result ≡ is_below a b }
 {
@@ -92,6 +97,7 @@ fn is_signed_below(a: u32, b: u32) -> bool
 
 /// rd of `op rd, rs, rt`. The registers are read in each arm, so that the compiler can lead an arm of the decoder
 /// straight to its own.
+#[inline(always)]
 pub fn register_value(
     op: RegisterOp,
     context: &Context,
@@ -118,6 +124,7 @@ pub fn register_value(
 }
 
 /// The sum, unless it overflows.
+#[inline(always)]
 fn sum(a: u32, b: u32) -> Result<u32, ExceptionCode>
     ensures { result ≡ unless_overflow (sum_overflows a b) (sum_of a b) }
 {
@@ -128,6 +135,7 @@ fn sum(a: u32, b: u32) -> Result<u32, ExceptionCode>
 }
 
 /// The difference, unless it overflows.
+#[inline(always)]
 fn difference(a: u32, b: u32) -> Result<u32, ExceptionCode>
     ensures { result ≡ unless_overflow (difference_overflows a b) (difference_of a b) }
 {
@@ -138,6 +146,7 @@ fn difference(a: u32, b: u32) -> Result<u32, ExceptionCode>
 }
 
 /// rt of `op rt, rs, immediate`.
+#[inline(always)]
 pub fn immediate_value(op: ImmediateOp, a: u32, immediate: u16) -> Result<u32, ExceptionCode>
     ensures { result ≡ result_of (immediate_gives op a immediate) }
 {
@@ -153,6 +162,7 @@ pub fn immediate_value(op: ImmediateOp, a: u32, immediate: u16) -> Result<u32, E
 }
 
 /// rd of `mul rd, rs, rt`.
+#[inline(always)]
 pub fn multiply_value(a: u32, b: u32) -> u32
     ensures { result ≡ multiply_gives a b }
 {
@@ -160,6 +170,7 @@ pub fn multiply_value(a: u32, b: u32) -> u32
 }
 
 /// HI and LO after `op rs, rt`.
+#[inline(always)]
 pub fn product_value(op: ProductOp, a: u32, b: u32) -> u64
     ensures { result ≡ product_gives op a b }
 {
@@ -172,6 +183,7 @@ pub fn product_value(op: ProductOp, a: u32, b: u32) -> u64
 }
 
 /// The remainder in the high half, the quotient in the low one.
+#[inline(always)]
 fn in_halves(division: Division) -> u64
     ensures { result ≡ in_hi_lo (record { quotient = division.quotient; remainder = division.remainder }) }
 {
@@ -179,6 +191,7 @@ fn in_halves(division: Division) -> u64
 }
 
 /// HI and LO after `op rs, rt`, which were `old`.
+#[inline(always)]
 pub fn accumulate_value(op: AccumulateOp, old: u64, a: u32, b: u32) -> u64
     ensures { result ≡ accumulate_gives op old a b }
 {
@@ -191,6 +204,7 @@ pub fn accumulate_value(op: AccumulateOp, old: u64, a: u32, b: u32) -> u64
 }
 
 /// rd of `op rd, rs`.
+#[inline(always)]
 pub fn count_value(op: CountOp, word: u32) -> u32
     ensures { result ≡ count_gives op word }
 {
@@ -201,6 +215,7 @@ pub fn count_value(op: CountOp, word: u32) -> u32
 }
 
 /// Whether `op rs, rt` traps.
+#[inline(always)]
 pub fn is_trap(op: TrapOp, a: u32, b: u32) -> bool
     ensures { result ≡ traps op a b }
 {
@@ -215,6 +230,7 @@ pub fn is_trap(op: TrapOp, a: u32, b: u32) -> bool
 }
 
 /// Whether `op rs, immediate` traps.
+#[inline(always)]
 pub fn is_immediate_trap(op: TrapImmediateOp, a: u32, immediate: u16) -> bool
     ensures { result ≡ traps_immediate op a immediate }
 {
@@ -222,6 +238,7 @@ pub fn is_immediate_trap(op: TrapImmediateOp, a: u32, immediate: u16) -> bool
 }
 
 /// The same comparison on registers.
+#[inline(always)]
 fn register_trap(op: TrapImmediateOp) -> TrapOp
     ensures { result ≡ trap_of op }
 {
@@ -236,6 +253,7 @@ fn register_trap(op: TrapImmediateOp) -> TrapOp
 }
 
 /// Whether `op rs, rt, target` is taken.
+#[inline(always)]
 pub fn is_branch_taken(op: BranchOp, context: &Context, rs: Register, rt: Register) -> bool
     ensures { result ≡ is_taken op (read context.now rs) (read context.now rt) }
 {
@@ -246,6 +264,7 @@ pub fn is_branch_taken(op: BranchOp, context: &Context, rs: Register, rt: Regist
 }
 
 /// Whether `op rs, rt, target` is likely.
+#[inline(always)]
 pub fn is_branch_likely(op: BranchOp) -> bool
     ensures { result ≡ is_likely op }
 {
@@ -253,6 +272,7 @@ pub fn is_branch_likely(op: BranchOp) -> bool
 }
 
 /// Whether `op rs, target` is taken.
+#[inline(always)]
 pub fn is_zero_branch_taken(op: BranchZeroOp, a: u32) -> bool
     ensures { result ≡ is_zero_branch_taken op a }
 {
@@ -263,6 +283,7 @@ pub fn is_zero_branch_taken(op: BranchZeroOp, a: u32) -> bool
 }
 
 /// Whether `op rs, target` is likely.
+#[inline(always)]
 pub fn is_zero_branch_likely(op: BranchZeroOp) -> bool
     ensures { result ≡ is_zero_branch_likely op }
 {
@@ -270,6 +291,7 @@ pub fn is_zero_branch_likely(op: BranchZeroOp) -> bool
 }
 
 /// Whether `op rs, target` under REGIMM is taken.
+#[inline(always)]
 pub fn is_regimm_branch_taken(op: BranchRegimmOp, a: u32) -> bool
     ensures { result ≡ is_regimm_branch_taken op a }
 {
@@ -286,6 +308,7 @@ pub fn is_regimm_branch_taken(op: BranchRegimmOp, a: u32) -> bool
 }
 
 /// Whether `op rs, target` under REGIMM is likely.
+#[inline(always)]
 pub fn is_regimm_branch_likely(op: BranchRegimmOp) -> bool
     ensures { result ≡ is_regimm_branch_likely op }
 {
@@ -299,6 +322,7 @@ pub fn is_regimm_branch_likely(op: BranchRegimmOp) -> bool
 }
 
 /// Whether `op rs, target` under REGIMM writes the return address.
+#[inline(always)]
 pub fn is_regimm_branch_calling(op: BranchRegimmOp) -> bool
     ensures { result ≡ is_regimm_branch_calling op }
 {

@@ -19,6 +19,7 @@ use crate::word::{REGIMM, SPECIAL, SPECIAL2, low, rs};
 
 /// The instruction that a word stands for; None where it stands for none (a reserved instruction).
 #[tactic(auto, unfolding(crate::specs::Decoding::decoded))]
+#[inline(always)]
 pub fn decode(word: u32) -> Option<Insn>
     ensures is { result ≡ decoded word }
     ensures exactly { (insn : Insn) → (result ≡ Some insn) ↔ StandsFor word insn }
@@ -27,6 +28,7 @@ pub fn decode(word: u32) -> Option<Insn>
 }
 
 /// By the opcode, which names the instruction or another field that does.
+#[inline(always)]
 fn by_opcode(word: u32) -> Option<Insn>
     ensures { result ≡ of_opcode (word / 2 ^ 26) word }
 {
@@ -39,6 +41,7 @@ fn by_opcode(word: u32) -> Option<Insn>
 }
 
 /// The opcode SPECIAL: the function field names the instruction.
+#[inline(always)]
 fn special(word: u32) -> Option<Insn>
     ensures { result ≡ special_of (word % 2 ^ 6) word }
 {
@@ -85,6 +88,7 @@ fn special(word: u32) -> Option<Insn>
 }
 
 /// The opcode REGIMM: the field rt names the instruction.
+#[inline(always)]
 fn regimm(word: u32) -> Option<Insn>
     ensures { result ≡ regimm_of (rt_of word) word }
 {
@@ -108,6 +112,7 @@ fn regimm(word: u32) -> Option<Insn>
 }
 
 /// The opcode SPECIAL2: the function field names the instruction.
+#[inline(always)]
 fn special2(word: u32) -> Option<Insn>
     ensures { result ≡ special2_of (word % 2 ^ 6) word }
 {
@@ -124,6 +129,7 @@ fn special2(word: u32) -> Option<Insn>
 }
 
 /// Every other opcode: the opcode itself names the instruction.
+#[inline(always)]
 fn others(word: u32) -> Option<Insn>
     ensures { result ≡ others_of (word / 2 ^ 26) word }
 {

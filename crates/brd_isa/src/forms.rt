@@ -13,6 +13,7 @@ use crate::instruction::{
 use crate::word::{low, no_rd, no_rs, no_rt, no_sa, rd, rs, rt, rt_is_rd, sa};
 
 /// `op rd, rt, sa`, where rs is 0.
+#[inline(always)]
 pub fn shift(op: ShiftOp, word: u32) -> Option<Insn>
     ensures { result ≡ decoding.shift op word }
 {
@@ -20,6 +21,7 @@ pub fn shift(op: ShiftOp, word: u32) -> Option<Insn>
 }
 
 /// `op rd, rt, rs`, where sa is 0.
+#[inline(always)]
 pub fn shift_variable(op: ShiftVariableOp, word: u32) -> Option<Insn>
     ensures { result ≡ decoding.shift_variable op word }
 {
@@ -27,6 +29,7 @@ pub fn shift_variable(op: ShiftVariableOp, word: u32) -> Option<Insn>
 }
 
 /// `op rd, rs, rt`, where sa is 0.
+#[inline(always)]
 pub fn three_registers(op: RegisterOp, word: u32) -> Option<Insn>
     ensures { result ≡ decoding.three_registers op word }
 {
@@ -34,6 +37,7 @@ pub fn three_registers(op: RegisterOp, word: u32) -> Option<Insn>
 }
 
 /// `mul rd, rs, rt`, where sa is 0.
+#[inline(always)]
 pub fn multiply(word: u32) -> Option<Insn>
     ensures { result ≡ decoding.multiply word }
 {
@@ -41,6 +45,7 @@ pub fn multiply(word: u32) -> Option<Insn>
 }
 
 /// `jr rs`, where rt and rd are 0.
+#[inline(always)]
 pub fn jump_register(word: u32) -> Option<Insn>
     ensures { result ≡ decoding.jump_register word }
 {
@@ -48,6 +53,7 @@ pub fn jump_register(word: u32) -> Option<Insn>
 }
 
 /// `jalr rd, rs`, where rt is 0.
+#[inline(always)]
 pub fn jump_link_register(word: u32) -> Option<Insn>
     ensures { result ≡ decoding.jump_link_register word }
 {
@@ -55,6 +61,7 @@ pub fn jump_link_register(word: u32) -> Option<Insn>
 }
 
 /// `sync`, where rs, rt and rd are 0.
+#[inline(always)]
 pub fn sync(word: u32) -> Option<Insn>
     ensures { result ≡ decoding.sync word }
 {
@@ -62,6 +69,7 @@ pub fn sync(word: u32) -> Option<Insn>
 }
 
 /// `op rd`, where rs, rt and sa are 0.
+#[inline(always)]
 pub fn move_from(op: MoveFromOp, word: u32) -> Option<Insn>
     ensures { result ≡ decoding.move_from op word }
 {
@@ -69,6 +77,7 @@ pub fn move_from(op: MoveFromOp, word: u32) -> Option<Insn>
 }
 
 /// `op rs`, where rt, rd and sa are 0.
+#[inline(always)]
 pub fn move_to(op: MoveToOp, word: u32) -> Option<Insn>
     ensures { result ≡ decoding.move_to op word }
 {
@@ -76,6 +85,7 @@ pub fn move_to(op: MoveToOp, word: u32) -> Option<Insn>
 }
 
 /// `op rs, rt`, where rd and sa are 0.
+#[inline(always)]
 pub fn product(op: ProductOp, word: u32) -> Option<Insn>
     ensures { result ≡ decoding.product op word }
 {
@@ -83,6 +93,7 @@ pub fn product(op: ProductOp, word: u32) -> Option<Insn>
 }
 
 /// `op rs, rt`, where rd and sa are 0.
+#[inline(always)]
 pub fn accumulate(op: AccumulateOp, word: u32) -> Option<Insn>
     ensures { result ≡ decoding.accumulate op word }
 {
@@ -90,6 +101,7 @@ pub fn accumulate(op: AccumulateOp, word: u32) -> Option<Insn>
 }
 
 /// `op rd, rs`, where rt is rd, and sa is 0.
+#[inline(always)]
 pub fn count(op: CountOp, word: u32) -> Option<Insn>
     ensures { result ≡ decoding.count op word }
 {
@@ -97,6 +109,7 @@ pub fn count(op: CountOp, word: u32) -> Option<Insn>
 }
 
 /// `op rs, target`, where rt is 0.
+#[inline(always)]
 pub fn branch_zero(op: BranchZeroOp, word: u32) -> Option<Insn>
     ensures { result ≡ decoding.branch_zero op word }
 {
@@ -104,6 +117,7 @@ pub fn branch_zero(op: BranchZeroOp, word: u32) -> Option<Insn>
 }
 
 /// `lui rt, immediate`, where rs is 0.
+#[inline(always)]
 pub fn load_upper(word: u32) -> Option<Insn>
     ensures { result ≡ decoding.load_upper word }
 {
@@ -111,6 +125,7 @@ pub fn load_upper(word: u32) -> Option<Insn>
 }
 
 /// `op rs, rt, code`
+#[inline(always)]
 pub fn trap(op: TrapOp, word: u32) -> Option<Insn>
     ensures { result ≡ decoding.trap op word }
 {
@@ -118,6 +133,7 @@ pub fn trap(op: TrapOp, word: u32) -> Option<Insn>
 }
 
 /// `op rs, immediate`
+#[inline(always)]
 pub fn trap_immediate(op: TrapImmediateOp, word: u32) -> Option<Insn>
     ensures { result ≡ decoding.trap_immediate op word }
 {
@@ -125,6 +141,7 @@ pub fn trap_immediate(op: TrapImmediateOp, word: u32) -> Option<Insn>
 }
 
 /// `op rs, target`, under the opcode REGIMM
+#[inline(always)]
 pub fn branch_regimm(op: BranchRegimmOp, word: u32) -> Option<Insn>
     ensures { result ≡ decoding.branch_regimm op word }
 {
@@ -132,6 +149,7 @@ pub fn branch_regimm(op: BranchRegimmOp, word: u32) -> Option<Insn>
 }
 
 /// `op target`
+#[inline(always)]
 pub fn jump(op: JumpOp, word: u32) -> Option<Insn>
     ensures { result ≡ decoding.jump op word }
 {
@@ -139,6 +157,7 @@ pub fn jump(op: JumpOp, word: u32) -> Option<Insn>
 }
 
 /// `op rs, rt, target`
+#[inline(always)]
 pub fn branch(op: BranchOp, word: u32) -> Option<Insn>
     ensures { result ≡ decoding.branch op word }
 {
@@ -146,6 +165,7 @@ pub fn branch(op: BranchOp, word: u32) -> Option<Insn>
 }
 
 /// `op rt, rs, immediate`
+#[inline(always)]
 pub fn with_immediate(op: ImmediateOp, word: u32) -> Option<Insn>
     ensures { result ≡ decoding.with_immediate op word }
 {
@@ -153,6 +173,7 @@ pub fn with_immediate(op: ImmediateOp, word: u32) -> Option<Insn>
 }
 
 /// `op rt, offset(base)`
+#[inline(always)]
 pub fn load(op: LoadOp, word: u32) -> Option<Insn>
     ensures { result ≡ decoding.load op word }
 {
@@ -160,6 +181,7 @@ pub fn load(op: LoadOp, word: u32) -> Option<Insn>
 }
 
 /// `op rt, offset(base)`
+#[inline(always)]
 pub fn store(op: StoreOp, word: u32) -> Option<Insn>
     ensures { result ≡ decoding.store op word }
 {
@@ -167,6 +189,7 @@ pub fn store(op: StoreOp, word: u32) -> Option<Insn>
 }
 
 /// `op rt, offset(base)`
+#[inline(always)]
 pub fn linked(op: LinkedOp, word: u32) -> Option<Insn>
     ensures { result ≡ decoding.linked op word }
 {

@@ -8,6 +8,7 @@ use crate::instruction::{ImmediateOp, Insn, RegisterOp};
 /// Whether an instruction touches only registers, HI, LO and the program counter, and whatever these hold neither
 /// raises an exception nor calls the kernel. PREF and SYNC, which touch nothing, are local. Loads, stores, LL and SC,
 /// which touch memory or links, aren't; nor are ADD, ADDI, SUB, the traps, BREAK and SYSCALL.
+#[inline(always)]
 pub fn is_local(insn: Insn) -> bool
     ensures { result ≡ is_local insn }
 {
