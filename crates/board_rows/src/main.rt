@@ -6,13 +6,17 @@
 //!   a tick, `a` to `z` are raises of lines 0 to 25. Behind it stand the reports, a byte each (r `Ran`, c `Called`, f
 //!   `Faulted`, i `Idle`, s `Stopped`, o `Off`, n `NoSuch`, t `Ticked`, O `TimeOver`, a `Accepted`, R `Raised`), and
 //!   what the board shows;
+//! - `l CPU` boots the board, if it isn't yet, and has it lend a processor, in place of what it lent before; tells `lent`
+//!   or `none`;
+//! - `r LIMIT` does instructions under the lease, at most so many, and tells how many they are, and how many in all;
+//! - `k` commits the lease; tells how many steps that is, or `stale`, and what the board shows;
 //! - `m ADDRESS` tells the word at an address of eight hexadecimal digits;
 //! - `f LINE` boots a board with the configuration so far and this line, and tells the fault;
 //! - every other line is a comment.
 #![tactic(auto)]
 
 use brd_asm::{AsmFault, assemble};
-use brd_board::{Board, BootFault, Event, Report, Standing, TaskView};
+use brd_board::{Board, BootFault, Event, Lease, Report, Standing, TaskView};
 use brd_config::{ConfigFault, parse};
 use brd_exec::Context;
 use brd_isa::Register;
@@ -196,6 +200,7 @@ struct Scene {
     source: String,
     config: String,
     board: Option<Board>,
+    lease: Option<Lease>,
 }
 
 /// A scene without source and configuration.
@@ -204,22 +209,76 @@ fn begun(alloc: Global) -> Scene {
         source: String::new(alloc),
         config: String::new(alloc),
         board: None,
+        lease: None,
     }
+}
+
+/// Boots the board of a scene, if it isn't yet. Tells the fault, if there is one.
+fn boot(alloc: Global, scene: &mut Scene) -> Result<Option<&'static str>, AllocError> {
+    if scene.board.is_none() {
+        match board_of(alloc, scene.source.as_str(), scene.config.as_str())? {
+            Ok(board) => scene.board = Some(board),
+            Err(fault) => return Ok(Some(fault)),
+        }
+    }
+    Ok(None)
 }
 
 /// Does events on the board of a scene, which is booted first if it isn't yet. Tells the reports and what the board
 /// shows.
 fn played(alloc: Global, scene: &mut Scene, events: &str) -> Result<String, AllocError> {
-    if scene.board.is_none() {
-        match board_of(alloc, scene.source.as_str(), scene.config.as_str())? {
-            Ok(board) => scene.board = Some(board),
-            Err(fault) => return String::from_str(alloc, fault),
-        }
+    if let Some(fault) = boot(alloc, scene)? {
+        return String::from_str(alloc, fault);
     }
     let Some(board) = &mut scene.board else {
         return Ok(String::new(alloc));
     };
     let mut text = play(alloc, board, events)?;
+    show(&mut text, board)?;
+    Ok(text)
+}
+
+/// Has the board of a scene, which is booted first if it isn't yet, lend a processor. Tells whether it did.
+fn lent(alloc: Global, scene: &mut Scene, cpu: &str) -> Result<&'static str, AllocError> {
+    if let Some(fault) = boot(alloc, scene)? {
+        return Ok(fault);
+    }
+    let Some(board) = &scene.board else {
+        return Ok("");
+    };
+    scene.lease = board.lend(cpu.parse::<u8>().unwrap_or(0));
+    Ok(if scene.lease.is_some() {
+        "lent"
+    } else {
+        "none"
+    })
+}
+
+/// Does instructions under the lease of a scene. Tells how many they are, and how many were done in all.
+fn leased(alloc: Global, scene: &mut Scene, limit: &str) -> Result<String, AllocError> {
+    let mut text = String::new(alloc);
+    if let Some(lease) = &mut scene.lease {
+        let done = lease.run(limit.parse::<u32>().unwrap_or(0));
+        let (cpu, len) = (lease.cpu(), lease.len());
+        write!(text, "{done}, in all {len} of processor {cpu}")?;
+    }
+    Ok(text)
+}
+
+/// Commits the lease of a scene. Tells how many steps that is, or that it is stale, and what the board shows.
+fn committed(alloc: Global, scene: &mut Scene) -> Result<String, AllocError> {
+    let mut text = String::new(alloc);
+    let Some(lease) = scene.lease.take() else {
+        return Ok(text);
+    };
+    let Some(board) = &mut scene.board else {
+        return Ok(text);
+    };
+    let is_stale = board.is_stale(&lease);
+    match board.commit(lease) {
+        Ok(steps) => write!(text, "{steps}, stale before: {is_stale}")?,
+        Err(_) => write!(text, "stale, stale before: {is_stale}")?,
+    }
     show(&mut text, board)?;
     Ok(text)
 }
@@ -272,6 +331,16 @@ fn took(scene: &mut Scene, line: &str) -> Result<bool, AllocError> {
 fn told(alloc: Global, scene: &mut Scene, line: &str) -> Result<Option<String>, AllocError> {
     if let Some(events) = line.strip_prefix("e ") {
         return Ok(Some(played(alloc, scene, events)?));
+    }
+    if let Some(cpu) = line.strip_prefix("l ") {
+        let told = lent(alloc, scene, cpu)?;
+        return Ok(Some(String::from_str(alloc, told)?));
+    }
+    if let Some(limit) = line.strip_prefix("r ") {
+        return Ok(Some(leased(alloc, scene, limit)?));
+    }
+    if line == "k" {
+        return Ok(Some(committed(alloc, scene)?));
     }
     if let Some(address) = line.strip_prefix("m ") {
         return Ok(Some(word_at(alloc, scene, address)?));
