@@ -1,0 +1,4 @@
+pub mod StepLemmas
+pub mod StationLemmas
+pub mod RoomLemmas
+pub mod ScriptLemmas

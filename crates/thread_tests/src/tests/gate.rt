@@ -1,0 +1,67 @@
+//! Workers that wait for each other while neither holds the lock.
+
+use crate::tests::boards::{LOOP, TWO, board_of};
+use crate::tests::races::totals;
+use brd_threads::Gate;
+use std::sync::atomic::{AtomicU64, Ordering};
+
+/// How often a worker looks at most whether the other has come as far.
+const LOOKS: u32 = 1_000_000_000;
+
+/// A gate that nobody enters again before the other has entered as often. Who looks in vain is late, and from then on
+/// nobody waits.
+#[derive(Drop)]
+struct Together {
+    first: AtomicU64,
+    second: AtomicU64,
+    late: AtomicU64,
+}
+
+impl Together {
+    fn new() -> Self {
+        Together {
+            first: AtomicU64::new(0),
+            second: AtomicU64::new(0),
+            late: AtomicU64::new(0),
+        }
+    }
+}
+
+impl Gate for Together {
+    fn enter(&self, cpu: u8) {
+        let (mine, other) = if cpu == 1 {
+            (&self.first, &self.second)
+        } else {
+            (&self.second, &self.first)
+        };
+        let count = mine.fetch_add(1, Ordering::SeqCst).wrapping_add(1);
+        if self.late.load(Ordering::SeqCst) > 0 {
+            return;
+        }
+        for _ in 0..LOOKS {
+            if other.load(Ordering::SeqCst) >= count {
+                return;
+            }
+        }
+        self.late.fetch_add(1, Ordering::SeqCst);
+    }
+
+    fn leave(&self, _cpu: u8) {}
+}
+
+/// Each of two workers enters only with the other, so they take their turns at the same time.
+#[test]
+fn workers_overlap(rt: HostRuntime) {
+    let alloc = rt.alloc();
+    let Some(boot) = board_of(alloc, LOOP, TWO) else {
+        return assert!(rt; false, "no board");
+    };
+    let gate = Together::new();
+    let done = totals(&rt, alloc, &boot, &[], &[128, 128], 1000, &gate);
+    assert!(rt;
+        matches!(done, Ok(left) if left.steps == 256 && left.is_replay),
+        "{done:?}"
+    );
+    let late = gate.late.load(Ordering::SeqCst);
+    assert!(rt; late == 0, "late {late} times");
+}
