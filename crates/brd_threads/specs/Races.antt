@@ -18,9 +18,8 @@ Counts quota count (Ok false) = count < quota
 Counts quota count (Err fault) = count ≤ quota
 
 -- what the worker of a processor gives back: the processor's share, and its answer
-pub record HasWorked (cpu quota : ℕ) (worked : Counted × Result Bool RaceFault) : Type 0 where
-  pub mine : worked.0.cpu ≡ cpu
-  pub counts : Counts quota worked.0.count worked.1
+unfoldable pub HasWorked : ℕ → ℕ → Counted × Result Bool RaceFault → Type 0
+HasWorked cpu quota worked = (worked.0.cpu ≡ cpu) × Counts quota worked.0.count worked.1
 
 -- the workers of the processors from 1 on
 abbrev pub HaveWorked : List ℕ → List (Counted × Result Bool RaceFault) → Type 0

@@ -11,6 +11,7 @@ use std::sync::{Mutex, Wait};
 
 /// Takes turns until the share counts the quota, and answers true then, or until the board is off, and answers false.
 /// A turn calls the gate with no lock held, and then does one step under the lock.
+#[tactic(auto, unfolding(crate::specs::Races::HasWorked))]
 pub fn worker<K: Race, G: Gate, R: Wait>(
     rt: &R,
     station: &Mutex<Station<K>>,
