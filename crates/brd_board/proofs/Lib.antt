@@ -13,3 +13,5 @@ pub mod GateLemmas
 pub mod RunningLemmas
 pub mod OwnLemmas
 pub mod SizeLemmas
+pub mod RowLemmas
+mod LeaseLemmas

@@ -5,11 +5,16 @@ pub mod Boot
 pub mod History
 pub mod Runs
 pub mod Conditional
+pub mod InARow
+pub mod Lease
 pub use Rattle.brd_exec.specs.State
 pub use Rattle.brd_exec.specs.Step
+pub use Rattle.brd_exec.specs.Went
+pub use Rattle.brd_exec.specs.Lent
 pub use Rattle.brd_link.specs.LinkSet
 pub use Rattle.brd_mem.specs.Memory
 pub use Rattle.brd_mem.specs.Image
+pub use Rattle.brd_mem.specs.Window
 pub use Rattle.brd_tasks.specs.Tasks
 pub use Rattle.brd_kernel.specs.Kernel
 pub use Rattle.brd_kernel.specs.Dispatch

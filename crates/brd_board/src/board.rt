@@ -25,6 +25,8 @@ ghost use Rattle.brd_board.specs.Snapshot.{snapshot_of, restored, Fits};
 ghost use Rattle.brd_mem.specs.Memory.{byte_at, size_of};
 ghost use Rattle.brd_mem.specs.Image.{image_of_words, IsLoadable};
 
+mod lending;
+
 use crate::boot::BootFault;
 use crate::event::{Event, Report};
 use crate::links::end_links;

@@ -1,21 +1,28 @@
 //! What is true of every board, whatever happened to it.
 
-ghost use Rattle.std.specs.Prelude.{◌≡◌, ◌≤◌, ℕ, true, List, None, Some, Ok};
+ghost use Rattle.std.specs.Prelude.{◌≡◌, ◌≤◌, ℕ, true, List, replicate, None, Some, Ok};
 ghost use Rattle.brd_link.specs.LinkSet.{linked_address};
 ghost use Rattle.brd_mem.specs.declared.image.Image.{Image as ImageOf};
 ghost use Rattle.brd_mem.specs.Memory.{size_of};
+ghost use Rattle.brd_mem.specs.Window.{window_start, window_at};
+ghost use Rattle.brd_exec.specs.State.{State};
+ghost use Rattle.brd_exec.specs.Went.{Machine, went};
+ghost use Rattle.brd_exec.specs.Lent.{lent};
 ghost use Rattle.brd_config.specs.Configuration.{Configuration, IsConfiguration};
 ghost use Rattle.brd_queue.specs.Queue.{has, AreApart};
 ghost use Rattle.brd_tasks.specs.Tasks.{task_at, ready_on};
-ghost use Rattle.brd_kernel.specs.Kernel.{running_on};
+ghost use Rattle.brd_kernel.specs.declared.processor.Executor.{Executor as ExecutorOf};
+ghost use Rattle.brd_kernel.specs.Kernel.{running_on, context_of, with_context_of};
 ghost use Rattle.brd_kernel.specs.Dispatch.{IsSettled, has_changed};
 ghost use Rattle.brd_kernel.specs.Waiting.{EachIsKept, WaitsAreKept};
 ghost use Rattle.brd_kernel.specs.Running.{is_ready_on, IsRunning, RunsOnce};
 ghost use Rattle.brd_board.specs.declared.event.Event.{Event as EventOf};
+ghost use Rattle.brd_board.specs.declared.event.Event.TheVariants.{Step};
 ghost use Rattle.brd_board.specs.declared.event.Report.TheVariants as report;
 ghost use Rattle.brd_board.specs.Board.{BoardState, reported, happens, after};
 ghost use Rattle.brd_board.specs.Boot.{boot};
 ghost use Rattle.brd_board.specs.Runs.{ChangesOnlyItsOwn};
+ghost use Rattle.brd_board.specs.InARow.{GoesOn, machine_of, with_machine};
 ghost use Rattle.brd_board.specs.Conditional.{ConditionalLaw, WordLaw};
 
 /// After every list of events from a boot each processor that isn't held runs the first of its ready tasks, or none
@@ -31,8 +38,8 @@ pub fn a_change_of_task_ends_the_link()
     ensures { (board : BoardState) (event : EventOf) (cpu : ℕ) → 1 ≤ cpu → cpu ≤ 8 → has_changed board.kernel (happens board event).board.kernel cpu ≡ true → linked_address (happens board event).board.links cpu ≡ None }
 {}
 
-/// After every list of events from a boot each task that waits for a semaphore, for bits of an event flag, or to send to
-/// or receive from a data queue stands once, with its priority, in the waiting list for just that, and in no other
+/// After every list of events from a boot each task that waits for a semaphore, for bits of an event flag, or to send
+/// to or receive from a data queue stands once, with its priority, in the waiting list for just that, and in no other
 /// waiting list of an object; where that list is in the order of priority, no task stands in front of one with a higher
 /// priority; no task waits for something that it could have at once; only a task that waits has a due tick, and a delay
 /// has one. No event ends this.
@@ -41,11 +48,11 @@ pub fn who_waits_stands_in_its_list()
     ensures event { (board : BoardState) (event : EventOf) → WaitsAreKept board.kernel → WaitsAreKept (happens board event).board.kernel }
 {}
 
-/// After every list of events from a boot no task waits for something that it could have at once: none for a wake-up that
-/// is queued; none for a semaphore whose count isn't 0; none for bits of an event flag while the pattern satisfies the
-/// wait (TWF_ANDW: all of them are set; TWF_ORW: any of them), nor for an empty set of bits; none to send to a data queue
-/// that has room; none to receive from one that stores a datum, or to which another task waits to send one. And where
-/// waiters stand in the order of priority, none stands in front of one with a higher priority.
+/// After every list of events from a boot no task waits for something that it could have at once: none for a wake-up
+/// that is queued; none for a semaphore whose count isn't 0; none for bits of an event flag while the pattern satisfies
+/// the wait (TWF_ANDW: all of them are set; TWF_ORW: any of them), nor for an empty set of bits; none to send to a data
+/// queue that has room; none to receive from one that stores a datum, or to which another task waits to send one. And
+/// where waiters stand in the order of priority, none stands in front of one with a higher priority.
 ///
 /// This is the part `each` of `WaitsAreKept`, and speaks of the waiting lists; that each task that waits for an object
 /// stands in its list is said by `who_waits_stands_in_its_list`.
@@ -122,4 +129,22 @@ pub fn who_is_ready_stands_in_its_list()
 pub fn ram_keeps_its_size()
     ensures { (board : BoardState) (events : List EventOf) →
         size_of (after board events).memory ≡ size_of board.memory }
+{}
+
+/// On a board that is on, where somebody executes on a processor and no interrupt is deliverable to it: n steps of that
+/// processor that go on, so long as no SYSCALL and no exception comes, change the context in which they are executed,
+/// memory and links, as the definition of one instruction says of each, and nothing else of the board.
+pub fn steps_in_a_row()
+    ensures { (board : BoardState) (cpu count : ℕ) (who : ExecutorOf) (left : Machine) →
+        GoesOn board cpu who → went cpu count (machine_of board cpu who) ≡ Some left →
+        after board (replicate count (Step cpu)) ≡ with_machine board cpu who left }
+{}
+
+/// On such a board n steps of the processor that can be done by a window of the board's memory, as they are local,
+/// change the context in which they are executed, and nothing else of the board.
+pub fn lent_steps_change_the_context_alone()
+    ensures { (board : BoardState) (cpu count address : ℕ) (who : ExecutorOf) (left : State) (window : List ℕ) →
+        GoesOn board cpu who → window_at board.memory address ≡ Some window →
+        lent count (context_of board.kernel cpu who) window (window_start address) ≡ Some left →
+        after board (replicate count (Step cpu)) ≡ record board { kernel = with_context_of board.kernel cpu who left } }
 {}

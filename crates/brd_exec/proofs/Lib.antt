@@ -1,5 +1,7 @@
 mod UnalignedLemmas
 mod LocalLemmas
+mod ContextLemmas
+pub mod LentLemmas
 pub mod FrameLemmas
 pub mod StepLemmas
 pub mod KeptLemmas

@@ -1,5 +1,6 @@
 -- What the functions that do an instruction leave: only private functions' contracts name these.
-use Rattle.std.specs.Prelude.{◌≡◌, ℕ, if◌then◌else◌, Result, Ok, Err}
+use Rattle.std.specs.Prelude.{◌≡◌, ℕ, if◌then◌else◌, Option, None, Some, Result, Ok, Err}
+use Rattle.brd_isa.specs.declared.instruction.Insn.{Insn}
 use Rattle.brd_mem.specs.declared.fault.Exc.{Exc}
 use Rattle.brd_mem.specs.Memory.{Memory}
 use Rattle.brd_link.specs.LinkSet.{LinkSet}
@@ -7,6 +8,7 @@ use Rattle.brd_exec.specs.declared.outcome.{ExceptionCode.ExceptionCode, Stop.St
 use Rattle.brd_exec.specs.State.{State, advanced}
 use Rattle.brd_exec.specs.Exception.{code_of}
 use Rattle.brd_exec.specs.Values.{Given}
+use Rattle.brd_exec.specs.Action.{Action, action}
 use Rattle.brd_exec.specs.Step.{Effect}
 
 -- all of an effect; or where it stopped, the links, and context and memory as they were
@@ -36,3 +38,21 @@ unless_slot s after = if s.slot then Err (Stop.Raise ExceptionCode.RI) else Ok a
 abbrev pub result_of : Given → Result ℕ ExceptionCode
 result_of (Given.Always word) = Ok word
 result_of (Given.MayRaise given) = given
+
+-- what an action leads to, or stops at, that accesses no memory; none for one that does
+abbrev pub in_context : Action → Option (Result State Stop)
+in_context (Action.Local after) = Some (Ok after)
+in_context (Action.MayStop outcome) = Some outcome
+in_context (Action.Loads op rt address) = None
+in_context (Action.Stores op rt address) = None
+in_context (Action.LoadsLinked rt address) = None
+in_context (Action.StoresIfLinked rt address) = None
+
+-- the same of an instruction, or what is raised in its place
+abbrev pub next_in_context : State → Result Insn ExceptionCode → Option (Result State Stop)
+next_in_context s (Ok insn) = in_context (action insn s)
+next_in_context s (Err code) = Some (Err (Stop.Raise code))
+
+abbrev pub LeadsIfSome : Option (Result State Stop) → State → Result Unit Stop → State → Type 0
+LeadsIfSome None s result new_state = Unit {0}
+LeadsIfSome (Some outcome) s result new_state = Leads outcome s result new_state

@@ -6,7 +6,10 @@ pub mod Unaligned
 pub mod Step
 pub mod Did
 pub mod Kept
+pub mod Went
+pub mod Lent
 pub mod Effects
 pub use Rattle.brd_mem.specs.Memory
 pub use Rattle.brd_mem.specs.Access
+pub use Rattle.brd_mem.specs.Window
 pub use Rattle.brd_link.specs.LinkSet

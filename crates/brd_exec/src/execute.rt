@@ -2,7 +2,7 @@
 
 ghost use Rattle.std.specs.Prelude.{◌≡◌, ◌≤◌};
 ghost use Rattle.brd_exec.specs.Step.{accepted, of_next, effect, epc_of, ran};
-ghost use Rattle.brd_exec.specs.Effects.{Does};
+ghost use Rattle.brd_exec.specs.Effects.{Does, LeadsIfSome, next_in_context};
 
 use crate::branch::{branch, branch_regimm, branch_zero, call_register, jump, jump_register};
 use crate::compute::{
@@ -59,7 +59,7 @@ fn step(context: &mut Context, cpu: u8, ram: &mut Ram, links: &mut Links) -> Res
     }
 }
 
-/// Does an instruction, one line a form of operands. A branch or a jump tests itself whether it is in a delay slot.
+/// Does an instruction.
 fn execute(
     context: &mut Context,
     cpu: u8,
@@ -72,6 +72,34 @@ fn execute(
         context.old ram.old result context.new ram.new links.new }
 {
     match *insn {
+        Insn::Load(op, rt, base, offset) => return load(context, ram, op, rt, base, offset),
+        Insn::Store(op, rt, base, offset) => {
+            let address = context.address(base, offset);
+            store(context, ram, op, rt, address)?;
+            links.stored(cpu, address);
+        }
+        Insn::Linked(op, rt, base, offset) => {
+            let address = context.address(base, offset);
+            match op {
+                LinkedOp::Ll => {
+                    load_linked(context, ram, rt, address)?;
+                    links.set(cpu, address);
+                }
+                LinkedOp::Sc => return store_if_linked(context, cpu, ram, links, rt, address),
+            }
+        }
+        _ => return execute_in_context(context, insn),
+    }
+    Ok(())
+}
+
+/// Does an instruction, if it accesses no memory, one line a form of operands. A branch or a jump tests itself whether
+/// it is in a delay slot.
+#[inline(always)]
+pub fn execute_in_context(context: &mut Context, insn: &Insn) -> Result<(), Stop>
+    ensures { LeadsIfSome (next_in_context context.old (accepted context.old insn.now)) context.old result context.new }
+{
+    match *insn {
         Insn::Shift(op, rd, rt, sa) => shift(context, op, rd, rt, sa),
         Insn::ShiftVariable(op, rd, rt, rs) => shift_variable(context, op, rd, rt, rs),
         Insn::ThreeRegisters(op, rd, rs, rt) => return three_registers(context, op, rd, rs, rt),
@@ -80,7 +108,6 @@ fn execute(
         Insn::JumpLinkRegister(rd, rs) => return call_register(context, rd, rs),
         Insn::Syscall(_) => return Err(Stop::Call),
         Insn::Break(_) => return Err(Stop::Raise(ExceptionCode::Bp)),
-        Insn::Sync => context.advance(),
         Insn::MoveFrom(op, rd) => move_from(context, op, rd),
         Insn::MoveTo(op, rs) => move_to(context, op, rs),
         Insn::Product(op, rs, rt) => product(context, op, rs, rt),
@@ -100,22 +127,8 @@ fn execute(
             return with_immediate(context, op, rt, rs, immediate);
         }
         Insn::LoadUpper(rt, immediate) => context.set(rt, u32::from(immediate) << 16),
-        Insn::Load(op, rt, base, offset) => return load(context, ram, op, rt, base, offset),
-        Insn::Store(op, rt, base, offset) => {
-            let address = context.address(base, offset);
-            store(context, ram, op, rt, address)?;
-            links.stored(cpu, address);
-        }
-        Insn::Linked(LinkedOp::Ll, rt, base, offset) => {
-            let address = context.address(base, offset);
-            load_linked(context, ram, rt, address)?;
-            links.set(cpu, address);
-        }
-        Insn::Linked(LinkedOp::Sc, rt, base, offset) => {
-            let address = context.address(base, offset);
-            return store_if_linked(context, cpu, ram, links, rt, address);
-        }
-        Insn::Prefetch(_, _, _) => context.advance(),
+        Insn::Sync | Insn::Prefetch(_, _, _) => context.advance(),
+        Insn::Load(_, _, _, _) | Insn::Store(_, _, _, _) | Insn::Linked(_, _, _, _) => {}
     }
     Ok(())
 }

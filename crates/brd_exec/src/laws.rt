@@ -1,14 +1,18 @@
 //! Laws of the definitions.
 
-ghost use Rattle.std.specs.Prelude.{◌≡◌, ℕ, ◌+◌, ◌-◌, ◌≤◌, Ok, Some, IsOkAnd, is_some};
+ghost use Rattle.std.specs.Prelude.{◌≡◌, ℕ, ◌+◌, ◌-◌, ◌≤◌, List, Ok, Some, IsOkAnd, is_some};
 ghost use Rattle.brd_isa.specs.declared.instruction.Insn.{Insn};
+ghost use Rattle.brd_isa.specs.Local.{is_local};
 ghost use Rattle.brd_word.specs.Words.{bytes_of_word, AreBytes};
 ghost use Rattle.brd_base.specs.Space.{base, IsRamSize};
 ghost use Rattle.brd_mem.specs.Memory.{Memory, size_of, copied, word_at};
+ghost use Rattle.brd_mem.specs.Window.{window_start, window_at};
 ghost use Rattle.brd_link.specs.LinkSet.{LinkSet};
 ghost use Rattle.brd_exec.specs.State.{State, read};
 ghost use Rattle.brd_exec.specs.Action.{local_meaning};
 ghost use Rattle.brd_exec.specs.Step.{meaning, ran};
+ghost use Rattle.brd_exec.specs.Went.{went};
+ghost use Rattle.brd_exec.specs.Lent.{lent};
 ghost use Rattle.brd_exec.specs.Kept.{KeepsUnlessDone};
 ghost use Rattle.brd_exec.specs.Step.Effect.{Goes};
 ghost use Rattle.brd_exec.specs.Unaligned.{loaded_left, loaded_right, stored_left, stored_right};
@@ -23,6 +27,20 @@ pub fn local_instruction_touches_the_context_alone()
 /// Whether an instruction is local doesn't depend on the context.
 pub fn local_in_one_context_is_local_in_all()
     ensures { (insn : Insn) (s other : State) → is_some (local_meaning insn s) ≡ is_some (local_meaning insn other) }
+{}
+
+/// The table of local instructions in brd_isa has exactly those whose action is local, in any context.
+pub fn local_instructions_are_those_of_the_table()
+    ensures { (insn : Insn) (s : State) → is_some (local_meaning insn s) ≡ is_local insn }
+{}
+
+/// Lent steps are steps: over a memory that has the words of the window, n lent steps of a context are n steps of any
+/// processor that go on, and leave memory and links as they were.
+pub fn lent_steps_are_steps()
+    ensures { (cpu count address : ℕ) (s after : State) (memory : Memory) (links : LinkSet) (window : List ℕ) →
+        window_at memory address ≡ Some window → lent count s window (window_start address) ≡ Some after →
+        went cpu count (record { state = s; memory = memory; links = links })
+        ≡ Some (record { state = after; memory = memory; links = links }) }
 {}
 
 /// An LWL at an address, and then an LWR three bytes on, give the word of the four bytes from the address on, whatever

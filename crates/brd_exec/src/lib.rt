@@ -9,10 +9,12 @@ mod compute;
 mod context;
 mod execute;
 pub mod laws;
+mod local;
 mod memory;
 mod outcome;
 mod value;
 
 pub use context::Context;
 pub use execute::run;
+pub use local::run_local;
 pub use outcome::{ExceptionCode, Outcome};

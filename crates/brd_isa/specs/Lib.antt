@@ -3,3 +3,4 @@ pub mod Codes
 pub mod Names
 pub mod Table
 pub mod Decoding
+pub mod Local

@@ -11,6 +11,7 @@ mod formats;
 mod forms;
 mod instruction;
 pub mod laws;
+mod local;
 mod mnemonic;
 mod word;
 
@@ -22,4 +23,5 @@ pub use instruction::{
     LinkedOp, LoadOp, MoveFromOp, MoveToOp, ProductOp, RegisterOp, ShiftOp, ShiftVariableOp,
     StoreOp, TrapImmediateOp, TrapOp,
 };
+pub use local::is_local;
 pub use mnemonic::{Mnemonic, is_same_name, mnemonic_named};

@@ -16,6 +16,11 @@ abbrev pub HasContext : ℕ → Executor → Type 0
 HasContext cpu executor.Handler = cpu < 9
 HasContext cpu (executor.Task id) = id < 256
 
+-- the context of who executes lies in the kernel
+abbrev pub HasPlace : KernelState → ℕ → Executor → Type 0
+HasPlace k cpu executor.Handler = cpu < length k.handler_contexts
+HasPlace k cpu (executor.Task id) = id < length k.tasks.contexts
+
 -- how many processors, handler contexts and lines there are, how much the console holds, that there is no processor 0,
 -- and that the number of whoever runs is one that a task can have
 pub record IsKernel (k : KernelState) : Type 0 where

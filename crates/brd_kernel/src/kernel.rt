@@ -22,7 +22,7 @@ ghost use Rattle.brd_kernel.specs.Kernel.{
 ghost use Rattle.brd_time.specs.Time.{last_count};
 ghost use Rattle.brd_kernel.specs.Waits.{ended_by_fault, ticked, seen_at};
 ghost use Rattle.brd_kernel.specs.Services.{unmarked_on};
-ghost use Rattle.brd_kernel.specs.Always.{IsIdOrNone, HasContext};
+ghost use Rattle.brd_kernel.specs.Always.{IsIdOrNone, HasContext, HasPlace};
 ghost use Rattle.brd_kernel.specs.Dispatch.{dispatched, dispatched_on, is_same_task, has_changed};
 ghost use Rattle.std.specs.Int.{bit_at};
 ghost use Rattle.std.specs.Borrow.{sem};
@@ -299,8 +299,10 @@ impl Kernel {
     pub fn executor(&self, cpu: u8) -> Option<Executor>
         ensures is { result ≡ executor_on self.now cpu }
         ensures there { IfSome result (HasContext cpu) }
+        ensures place { IfSome result (HasPlace self.now cpu) }
         ensures within { IfSome result (λ _. IsProcessor cpu) }
     {
+        self.tasks.are_consistent();
         if (cpu as usize) < self.executing.len() {
             if let Some(id) = self.executing[cpu as usize] {
                 return Some(Executor::Task(id));
@@ -347,7 +349,8 @@ impl Kernel {
     /// Gives who executes on a processor another context.
     pub fn put_context(&mut self, cpu: u8, context: Context)
         requires { is_some (executor_on self.old cpu) ≡ true }
-        ensures { IfSome (executor_on self.old cpu) (λ who. self.new ≡ with_context_of self.old cpu who context) }
+        ensures is { IfSome (executor_on self.old cpu) (λ who. self.new ≡ with_context_of self.old cpu who context) }
+        ensures place { IfSome (executor_on self.old cpu) (HasPlace self.old cpu) }
     {
         if let Some(who) = self.executor(cpu) {
             *self.context_mut(cpu, who) = context;

@@ -1,3 +1,4 @@
 mod ImageLemmas
 mod MarkLemmas
 mod PageLemmas
+mod WindowLemmas

@@ -1,5 +1,6 @@
 pub mod Memory
 pub mod Image
 pub mod Access
+pub mod Window
 pub mod Pages
 pub mod Marks

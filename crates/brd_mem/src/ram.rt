@@ -16,6 +16,7 @@ ghost use Rattle.brd_mem.specs.Access.{
   storable32,
   Stores,
 };
+ghost use Rattle.brd_mem.specs.Window.{words_at, window_at};
 ghost use Rattle.brd_mem.specs.Pages.{page_size, page_of, with_pages, differing_at, differing, LieWithin};
 ghost use Rattle.brd_mem.specs.Marks.{AreMarked};
 
@@ -113,6 +114,37 @@ impl Ram {
     {
         let at = self.place(address, 4, Exc::AdEL, Exc::IBE)?;
         Ok(word_of(self.bytes_at(at)))
+    }
+
+    /// The 64 words of the aligned 256 bytes round an address; None where these don't lie in RAM.
+    pub fn window(&self, address: u32) -> Option<[u32; 64]>
+        ensures { result ≡ window_at self.now address }
+    {
+        let start = address - address % 256;
+        if !self.contains(start, 256) {
+            return None;
+        }
+        Some(self.words_at((start - BASE) as usize))
+    }
+
+    /// The 64 words from a place on.
+    #[tactic(auto, unfolding(crate::specs::Window::words_at))]
+    fn words_at(&self, at: usize) -> [u32; 64]
+        requires { at + 256 ≤ size_of self.now }
+        ensures { result ≡ words_at self.now at 64 }
+    {
+        let bytes = &self.bytes[at..at + 256];
+        let mut words = [0; 64];
+        for i in 0..64usize {
+            let first = 4 * i;
+            words[i] = word_of([
+                bytes[first],
+                bytes[first + 1],
+                bytes[first + 2],
+                bytes[first + 3],
+            ]);
+        }
+        words
     }
 
     /// The data byte at an address: DBE where it isn't in RAM.
