@@ -1,5 +1,5 @@
 -- What a journal that is appended to says of its room.
-use Rattle.std.proofs.Common.{◌≡◌, List, refl, ap, ◌∙◌}
+use Rattle.std.proofs.Common.{◌≡◌, List, refl}
 use Rattle.std.specs.Prelude.{Bool, true, false, if◌then◌else◌, Result, Ok, Err}
 use Rattle.brd_board.specs.declared.event.Event.{Event}
 use Rattle.brd_journal.specs.declared.fault.JournalFault.{JournalFault}

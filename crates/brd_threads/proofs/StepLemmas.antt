@@ -1,11 +1,10 @@
 -- Steps and what comes from outside among events.
-use Rattle.std.proofs.Common.{◌≡◌, ℕ, zero, suc, ◌+◌, ◌≤◌, cond, eqb, true, false, List, [], ◌∷◌, ◌++◌, length, replicate, refl, sym, ap, ◌∙◌, arith}
-use Rattle.std.specs.List.{count_by, filter_map}
+use Rattle.std.proofs.Common.{◌≡◌, ℕ, zero, suc, ◌+◌, ◌≤◌, cond, eqb, true, false, List, [], ◌∷◌, ◌++◌, length, replicate, refl, ◌∙◌, arith}
 use Rattle.std.proofs.lemmas.List.Sums.{sum_by-append, sum_by-cons, count_by-le-length}
 use Rattle.std.proofs.lemmas.List.Elements.{filter_map-append}
 use Rattle.std.proofs.lemmas.Bool.Decides.{nat_tests}
 use Rattle.brd_board.specs.declared.event.Event.{Event}
-use Rattle.brd_board.specs.declared.event.Event.TheVariants.{Step, Tick, Raise}
+use Rattle.brd_board.specs.declared.event.Event.TheVariants.{Step}
 use Rattle.brd_threads.specs.declared.outer.Outer.{Outer}
 use Rattle.brd_threads.specs.declared.outer.Outer.TheVariants as outer
 use Rattle.brd_threads.specs.Outers.{event_of, outer_of, outers, is_step_of, steps}

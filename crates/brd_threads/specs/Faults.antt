@@ -5,6 +5,8 @@ use Rattle.brd_journal.specs.declared.fault.JournalFault.{JournalFault}
 use Rattle.brd_journal.specs.declared.fault.JournalFault.TheVariants as journal
 use Rattle.brd_threads.specs.declared.fault.StationFault.{StationFault}
 use Rattle.brd_threads.specs.declared.fault.StationFault.TheVariants as station
+use Rattle.brd_threads.specs.declared.fault.CommitFault.{CommitFault}
+use Rattle.brd_threads.specs.declared.fault.CommitFault.TheVariants as commit
 use Rattle.brd_threads.specs.declared.fault.ScriptFault.{ScriptFault}
 use Rattle.brd_threads.specs.declared.fault.ScriptFault.TheVariants as script
 use Rattle.brd_threads.specs.declared.fault.RaceFault.{RaceFault}
@@ -33,6 +35,11 @@ is_no_memory (script.Syntax line) = false
 -- what a function returned, seen by view, is `read`, unless memory ran out
 abbrev pub Gives : {X Y : Type 0} → (X → Y) → Result X ScriptFault → Result Y ScriptFault → Type 0
 Gives view answer read = text.Gives is_no_memory view answer read
+
+-- what a station's fault is to the commit of a lease
+abbrev pub commit_fault_of : StationFault → CommitFault
+commit_fault_of station.NoMemory = commit.NoMemory
+commit_fault_of station.JournalFull = commit.JournalFull
 
 -- what a station's fault is to a race
 abbrev pub race_fault_of : StationFault → RaceFault

@@ -1,5 +1,5 @@
 -- How many processors a board has.
-use Rattle.std.specs.Prelude.{ℕ, Bool, List, [], ◌∷◌, is_some}
+use Rattle.std.specs.Prelude.{ℕ, Bool, [], ◌∷◌, is_some}
 use Rattle.std.specs.List.{prefix_len}
 use Rattle.brd_board.specs.Board.{BoardState, standing_of}
 

@@ -1,7 +1,7 @@
 //! Why something isn't done.
 
 ghost use Rattle.std.specs.Prelude.{◌≡◌};
-ghost use Rattle.brd_threads.specs.Faults.{race_fault_of};
+ghost use Rattle.brd_threads.specs.Faults.{commit_fault_of, race_fault_of};
 ghost use Rattle.brd_threads.specs.declared.fault.StationFault.TheVariants as station_fault;
 ghost use Rattle.brd_threads.specs.declared.fault.ScriptFault.TheVariants as script_fault;
 ghost use Rattle.brd_threads.specs.declared.fault.RaceFault.TheVariants as race_fault;
@@ -34,6 +34,31 @@ impl From<AllocError> for StationFault {
 
     fn from(_e: AllocError) -> Self {
         StationFault::NoMemory
+    }
+}
+
+/// Why a lease isn't committed. Nothing has changed.
+#[derive(Clone, Copy, Debug, PartialEq, Eq, Error)]
+pub enum CommitFault {
+    /// Memory ran out.
+    #[error("out of memory")]
+    NoMemory,
+    /// The events need more runs than the journal's limit.
+    #[error("the events need more runs than the journal's limit")]
+    JournalFull,
+    /// The board isn't as it was when the lease was lent.
+    #[error("the lease is stale")]
+    Stale,
+}
+
+impl From<StationFault> for CommitFault {
+    ghost from_gives = { λ fault commit_fault. commit_fault ≡ commit_fault_of fault };
+
+    fn from(fault: StationFault) -> Self {
+        match fault {
+            StationFault::NoMemory => CommitFault::NoMemory,
+            StationFault::JournalFull => CommitFault::JournalFull,
+        }
     }
 }
 

@@ -17,7 +17,7 @@ mod workers;
 
 pub use boards::processors;
 pub use brd_ledgers::{Blanks, Race, Share};
-pub use fault::{RaceFault, ScriptFault, StationFault};
+pub use fault::{CommitFault, RaceFault, ScriptFault, StationFault};
 pub use gate::{Gate, Open};
 pub use outer::Outer;
 pub use races::race;

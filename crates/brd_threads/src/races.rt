@@ -1,11 +1,12 @@
 //! Races: all threads of a station, from their start to what they leave.
 
-ghost use Rattle.std.specs.Prelude.{◌≡◌, ℕ, ◌+◌, ◌<◌, ◌≤◌, ◌==◌, true, length, slice_index_or, vec_len, IfOk};
+ghost use Rattle.std.specs.Prelude.{◌≡◌, ℕ, ◌+◌, ◌<◌, ◌≤◌, ◌==◌, true, false, length, slice_index_or, take, vec_len, IfOk};
 ghost use Rattle.brd_journal.specs.Journal.{most_runs};
 ghost use Rattle.brd_ledgers.specs.Blanks.{AreOf};
 ghost use Rattle.brd_ledgers.specs.Shares.{AreNew};
-ghost use Rattle.brd_threads.specs.Outers.{steps};
+ghost use Rattle.brd_threads.specs.Outers.{outers, steps};
 ghost use Rattle.brd_threads.specs.Processors.{processors_of};
+ghost use Rattle.brd_threads.specs.Station.{board_of};
 ghost use Rattle.brd_threads.specs.Races.{AreMet, AreWithin, Counts, HasRaced, HasWorked, HaveWorked, first_fault};
 
 use crate::fault::{RaceFault, StationFault};
@@ -62,12 +63,20 @@ pub fn race<K: Race + Send + Sync, G: Gate + Sync, R: Threads + Wait + Sync>(
     }
     let mut station = shared.into_inner();
     let met = are_met(&mut station, quotas, workers);
-    let over = station.board().is_off() || (met && station.is_done());
-    if over && station.is_of(boot, script) {
-        let _ = station.journal();
-        return Ok(station);
+    if !is_over(&station, met) || !station.is_of(boot, script) {
+        return Err(RaceFault::Broken);
     }
-    Err(RaceFault::Broken)
+    Ok(station)
+}
+
+/// Whether nothing is left to do: the quotas are met and the script is used up, or the board is off.
+fn is_over<K: Race>(station: &Station<K>, met: bool) -> bool
+    ensures met { result ≡ true → (board_of station.now).kernel.off ≡ false → met ≡ true }
+    ensures whole { result ≡ true → (board_of station.now).kernel.off ≡ false → outers station.now.journal.events ≡ station.now.script }
+    ensures taken { outers station.now.journal.events ≡ take station.now.taken station.now.script }
+{
+    let _ = station.journal();
+    station.board().is_off() || (met && station.is_done())
 }
 
 /// Starts all threads, and waits for their ends.

@@ -1,11 +1,13 @@
 //! The station: a board under one lock, its journal, and the script of what comes from outside.
 
-ghost use Rattle.std.specs.Prelude.{◌≡◌, ℕ, ◌+◌, ◌<◌, ◌≤◌, ◌==◌, ◌^◌, ◌∷◌, [], length, take, replicate, vec_len, Decides, Some, IfOk, OnOk, OnErr, IfErr};
+ghost use Rattle.std.specs.Prelude.{◌≡◌, ℕ, ◌+◌, ◌<◌, ◌≤◌, ◌==◌, ◌^◌, ◌∷◌, [], length, take, replicate, vec_len, Decides, Some, IfOk, IfSome, OnOk, OnErr, IfErr};
 ghost use Rattle.brd_board.specs.declared.event.Event.TheVariants.{Step};
+ghost use Rattle.brd_board.specs.Lease.{lease_of};
 ghost use Rattle.brd_journal.specs.Journal.{most_runs};
 ghost use Rattle.brd_ledgers.specs.Blanks.{AreOf};
 ghost use Rattle.brd_ledgers.specs.Shares.{AreNew};
 ghost use Rattle.brd_threads.specs.Faults.{IsFullUnless, station_fault_of};
+ghost use Rattle.brd_threads.specs.Leases.{Commits, IsNewFor};
 ghost use Rattle.brd_threads.specs.Outers.{event_of, outers, steps};
 ghost use Rattle.brd_threads.specs.Processors.{processors_of};
 ghost use Rattle.brd_threads.specs.Station.{
@@ -23,10 +25,10 @@ ghost use Rattle.brd_threads.specs.Station.{
 ghost use Rattle.brd_threads.specs.declared.fault.StationFault.TheVariants as fault;
 
 use crate::boards::{has_processor, processors};
-use crate::fault::StationFault;
+use crate::fault::{CommitFault, StationFault};
 use crate::outer::Outer;
 use brd_base::same_slices;
-use brd_board::{Board, Event, Report};
+use brd_board::{Board, Event, Lease, Report};
 use brd_journal::{Journal, JournalFault};
 use brd_ledgers::{Blanks, Books, Race, Share, open_books};
 use std::alloc::Global;
@@ -171,6 +173,38 @@ impl<K: Race> Station<K> {
         record(&mut self.journal, event, 1)?;
         self.taken += 1;
         Ok(self.board.event_apart(event))
+    }
+
+    /// A lease of a processor, under which its next instructions can be done with no lock held. None exactly where the
+    /// board is off, there is no such processor, it is idle or stopped, an interrupt is deliverable to it, or the
+    /// address of its next instruction is unaligned or outside RAM.
+    pub fn lend(&self, cpu: u8) -> Option<Lease>
+        ensures is { result ≡ lease_of (board_of self.now) cpu }
+        ensures new { IfSome result (IsNewFor cpu) }
+    {
+        self.board.lend(cpu)
+    }
+
+    /// Carries over what was done under a lease: it is as many steps of its processor, which its share counts. Answers
+    /// how many. It is `Stale` exactly where `Board::is_stale` says so, and else `JournalFull` exactly where the journal
+    /// has no room for the steps, unless memory runs out. An `Err` changes nothing.
+    pub fn commit(&mut self, lease: Lease, share: &mut Share<K>) -> Result<u32, CommitFault>
+        requires mine { lease.cpu ≡ share.old.cpu }
+        ensures commits { Commits self.old lease result self.new }
+        ensures count { OnOk result (share.new ≡ record share.old { count = share.old.count + lease.len }) }
+        ensures err { OnErr result (share.new ≡ share.old) }
+    {
+        if self.board.is_stale(&lease) {
+            return Err(CommitFault::Stale);
+        }
+        let (cpu, len) = (lease.cpu(), lease.len());
+        // Its contract says how few events there can be, so that the count has room.
+        let _ = self.journal.len();
+        record(&mut self.journal, Event::Step(cpu), len)?;
+        // It isn't stale, so this is done.
+        let _ = self.board.commit(lease);
+        self.books.add(share, len);
+        Ok(len)
     }
 
     /// The board: what the journal's events make of the boot.

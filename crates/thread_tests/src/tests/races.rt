@@ -73,7 +73,7 @@ fn raced<K: Race + Send + Sync, G: Gate + Sync, R: Threads + Wait + Sync>(
 }
 
 /// What a race leaves. `Broken` also where there are more or fewer quotas than processors.
-pub fn totals<G: Gate + Sync, R: Threads + Wait + Sync>(
+pub fn raced_on<G: Gate + Sync, R: Threads + Wait + Sync>(
     rt: &R,
     alloc: Global,
     boot: &Board,
@@ -126,12 +126,12 @@ fn all_is_done(rt: HostRuntime) {
     let Some(boot) = board_of(alloc, LOOP, TWO) else {
         return assert!(rt; false, "no board");
     };
-    let done = totals(&rt, alloc, &boot, TICKS, &[100, 100], 1000, &Open);
+    let done = raced_on(&rt, alloc, &boot, TICKS, &[100, 100], 1000, &Open);
     assert!(rt;
         matches!(done, Ok(left) if left.steps == 200 && left.outers == 5 && left.is_replay && !left.is_off),
         "{done:?}"
     );
-    let nothing = totals(&rt, alloc, &boot, &[], &[0, 0], 0, &Open);
+    let nothing = raced_on(&rt, alloc, &boot, &[], &[0, 0], 0, &Open);
     assert!(rt;
         matches!(nothing, Ok(left) if left.steps == 0 && left.runs == 0),
         "{nothing:?}"
@@ -145,8 +145,8 @@ fn journal_of_one_run(rt: HostRuntime) {
     let Some(boot) = board_of(alloc, LOOP, TWO) else {
         return assert!(rt; false, "no board");
     };
-    let both = totals(&rt, alloc, &boot, &[], &[10, 10], 1, &Open);
-    let one = totals(&rt, alloc, &boot, &[], &[10, 0], 1, &Open);
+    let both = raced_on(&rt, alloc, &boot, &[], &[10, 10], 1, &Open);
+    let one = raced_on(&rt, alloc, &boot, &[], &[10, 0], 1, &Open);
     assert!(rt;
         both == Err(RaceFault::JournalFull)
             && matches!(one, Ok(left) if left.steps == 10 && left.runs == 1 && left.is_replay),
@@ -161,7 +161,7 @@ fn eight_workers(rt: HostRuntime) {
     let Some(boot) = board_of(alloc, LOOP, EIGHT) else {
         return assert!(rt; false, "no board");
     };
-    let done = totals(
+    let done = raced_on(
         &rt,
         alloc,
         &boot,
@@ -183,7 +183,7 @@ fn board_goes_off(rt: HostRuntime) {
     let Some(boot) = board_of(alloc, OFF_WORDS, OFF) else {
         return assert!(rt; false, "no board");
     };
-    let done = totals(
+    let done = raced_on(
         &rt,
         alloc,
         &boot,

@@ -1,4 +1,4 @@
-use Rattle.std.proofs.Common.{◌<◌, length, ap, arith}
+use Rattle.std.proofs.Common.{ap, arith}
 use Rattle.std.proofs.lemmas.Option.{slice_get_within}
 use Rattle.brd_threads.proofs.StationLemmas.{entry_kept}
 use Rattle.brd_threads.proofs.station.Station.take_entry.Goals as goal
