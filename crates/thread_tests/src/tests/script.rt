@@ -39,10 +39,21 @@ fn faulty_lines(rt: HostRuntime) {
     }
 }
 
+/// Whether a text says these entries.
+fn says(alloc: Global, text: &str, entries: &[Outer]) -> bool {
+    match read_script(alloc, text.as_bytes()) {
+        Ok(script) => script.as_slice() == entries,
+        Err(_) => false,
+    }
+}
+
 #[test]
 fn entries(rt: HostRuntime) {
-    let script = read_script(rt.alloc(), b"T 2\nR 4 1\n");
     assert!(rt;
-        matches!(script, Ok(entries) if entries.as_slice() == [Outer::Tick, Outer::Tick, Outer::Raise(4)].as_slice())
+        says(
+            rt.alloc(),
+            "T 2\nR 4 1\n",
+            &[Outer::Tick, Outer::Tick, Outer::Raise(4)]
+        )
     );
 }
