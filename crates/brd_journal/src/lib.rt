@@ -17,5 +17,6 @@ mod writing;
 
 pub use fault::JournalFault;
 pub use journal::{Journal, MOST_RUNS};
+pub use line::run_of_line;
 pub use reading::read_text;
 pub use run::Run;

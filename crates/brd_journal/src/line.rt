@@ -13,7 +13,7 @@ use brd_text::{behind, plain_decimal};
 pub(crate) const FIRST_LINE: &[u8] = b"board-journal 1";
 
 /// The run that a line spells, which has no newline.
-pub(crate) fn run_of_line(line: &[u8]) -> Option<Run>
+pub fn run_of_line(line: &[u8]) -> Option<Run>
     ensures { result ≡ reading.run_of_line line.now }
 {
     let Some((kind, rest)) = line.split_first() else {

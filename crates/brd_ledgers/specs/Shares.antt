@@ -1,0 +1,34 @@
+-- What a processor's share is: whose it is, and what it has counted.
+use Rattle.std.specs.Prelude.{◌≡◌, ℕ, ◌+◌, ◌<◌, List, length, slice_index_or}
+use Rattle.brd_ledgers.specs.declared.share.Token.{Token}
+use Rattle.brd_ledgers.specs.declared.share.Token.TheVariants.{First, Second, Third, Fourth, Fifth, Sixth, Seventh, Eighth}
+
+pub record Counted : Type 0 where
+  pub cpu : ℕ
+  pub count : ℕ
+
+abbrev pub cpu_of : {K : Type 0} → Token K → ℕ
+cpu_of (First count) = 1
+cpu_of (Second count) = 2
+cpu_of (Third count) = 3
+cpu_of (Fourth count) = 4
+cpu_of (Fifth count) = 5
+cpu_of (Sixth count) = 6
+cpu_of (Seventh count) = 7
+cpu_of (Eighth count) = 8
+
+abbrev pub count_of : {K : Type 0} → Token K → ℕ
+count_of (First count) = count
+count_of (Second count) = count
+count_of (Third count) = count
+count_of (Fourth count) = count
+count_of (Fifth count) = count
+count_of (Sixth count) = count
+count_of (Seventh count) = count
+count_of (Eighth count) = count
+
+-- the shares of processors from the first on, in their order, which have counted nothing
+abbrev pub AreNew : List Counted → Type 0
+AreNew shares =
+    (i : ℕ) (default : Counted) → i < length shares
+    → ((slice_index_or shares i default).cpu ≡ i + 1) × ((slice_index_or shares i default).count ≡ 0)

@@ -1,0 +1,31 @@
+-- What becomes of a lease that a station lent.
+use Rattle.std.specs.Prelude.{◌≡◌, ℕ, max, true, false, List, replicate, Option, None, Some, Result, Ok, Err}
+use Rattle.brd_board.specs.declared.event.Event.{Event}
+use Rattle.brd_board.specs.declared.event.Event.TheVariants.{Step}
+use Rattle.brd_board.specs.Lease.{LeaseState, IsFresh}
+use Rattle.brd_threads.specs.declared.fault.CommitFault.{CommitFault}
+use Rattle.brd_threads.specs.declared.fault.CommitFault.TheVariants.{NoMemory, JournalFull, Stale}
+use Rattle.brd_threads.specs.Station.{StationState, board_of, has_room, with_events}
+
+-- what was done under a lease, as events
+abbrev pub steps_under : LeaseState → List Event
+steps_under lease = replicate lease.len (Step lease.cpu)
+
+-- What the commit of a lease answers and leaves: as many steps of its processor have happened. Or nothing has: where the
+-- lease is stale, whatever room there is; else where the journal has no room for the steps, or memory ran out.
+abbrev pub Commits : StationState → LeaseState → Result ℕ CommitFault → StationState → Type 0
+Commits old lease (Ok count) new =
+    IsFresh (board_of old) lease × (has_room old.journal (steps_under lease) ≡ true) × (count ≡ lease.len) × (new ≡ with_events old (steps_under lease))
+Commits old lease (Err NoMemory) new = IsFresh (board_of old) lease × (new ≡ old)
+Commits old lease (Err JournalFull) new = IsFresh (board_of old) lease × (has_room old.journal (steps_under lease) ≡ false) × (new ≡ old)
+Commits old lease (Err Stale) new = (IsFresh (board_of old) lease → ⊥) × (new ≡ old)
+
+-- a processor's lease under which nothing was done yet
+pub record IsNewFor (cpu : ℕ) (lease : LeaseState) : Type 0 where
+  pub mine : lease.cpu ≡ cpu
+  pub new : lease.len ≡ 0
+
+-- how many steps a turn may count: those under its lease, and at least one
+abbrev pub most_counted : Option LeaseState → ℕ
+most_counted None = 1
+most_counted (Some lease) = max 1 lease.len

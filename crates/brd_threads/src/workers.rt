@@ -1,0 +1,127 @@
+//! What a thread does: a processor's worker, and the driver of the script.
+
+ghost use Rattle.std.specs.Prelude.{◌≡◌, ◌+◌, ◌<◌, ◌≤◌, true, false, Ok, IfSome, OnOk, OnErr};
+ghost use Rattle.brd_threads.specs.Leases.{IsNewFor, most_counted};
+ghost use Rattle.brd_threads.specs.Races.{HasWorked};
+
+use crate::fault::{CommitFault, RaceFault, StationFault};
+use crate::gate::Gate;
+use crate::station::Station;
+use brd_board::{Lease, MOST_LENT};
+use brd_ledgers::{Race, Share};
+use std::sync::{Mutex, Wait};
+
+/// Takes turns until the share counts the quota, and answers true then, or until the board is off, and answers false.
+/// A turn lends under the lock, runs the lease with no lock held, between the calls of the gate and within what remains
+/// of the quota, and then commits it under the lock. Without a lease, with nothing done under it, or where it is stale,
+/// the turn does one step under the lock.
+#[tactic(auto, unfolding(crate::specs::Races::HasWorked))]
+pub fn worker<K: Race, G: Gate, R: Wait>(
+    rt: &R,
+    station: &Mutex<Station<K>>,
+    quota: u64,
+    gate: &G,
+    share: Share<K>,
+) -> (Share<K>, Result<bool, RaceFault>)
+    requires { share.count ≡ 0 }
+    ensures { HasWorked share.cpu quota result }
+{
+    let mut share = share;
+    let cpu = share.cpu();
+    while share.count() < quota {
+        let left = quota - share.count();
+        let Some(lent) = lent(rt, station, cpu) else {
+            return (share, Ok(false));
+        };
+        let run = run_apart(gate, cpu, left, lent);
+        let mut guard = station.lock(rt);
+        if let Err(fault) = take_back(&mut guard, cpu, run, &mut share) {
+            return (share, Err(RaceFault::from(fault)));
+        }
+    }
+    (share, Ok(true))
+}
+
+/// What a processor is lent, under the lock: a lease, where there is one. None where the board is off.
+fn lent<K: Race, R: Wait>(rt: &R, station: &Mutex<Station<K>>, cpu: u8) -> Option<Option<Lease>>
+    ensures { IfSome result (λ lent. IfSome lent (IsNewFor cpu)) }
+{
+    let guard = station.lock(rt);
+    if guard.board().is_off() {
+        return None;
+    }
+    Some(guard.lend(cpu))
+}
+
+/// Runs a lease between the calls of the gate, up to so many instructions.
+fn run_apart<G: Gate>(gate: &G, cpu: u8, left: u64, lent: Option<Lease>) -> Option<Lease>
+    requires { IfSome lent (IsNewFor cpu) }
+    ensures { IfSome result (λ lease. (lease.cpu ≡ cpu) × (lease.len ≤ left)) }
+{
+    let Some(mut lease) = lent else {
+        gate.enter(cpu, None);
+        gate.leave(cpu, None);
+        return None;
+    };
+    gate.enter(cpu, Some(&lease));
+    lease.run(left.min(MOST_LENT as u64) as u32);
+    gate.leave(cpu, Some(&lease));
+    Some(lease)
+}
+
+/// Commits what was done under a lease. Without a lease, with nothing done under it, or where it is stale, does one
+/// step.
+fn take_back<K: Race>(
+    station: &mut Station<K>,
+    cpu: u8,
+    run: Option<Lease>,
+    share: &mut Share<K>,
+) -> Result<(), StationFault>
+    requires mine { cpu ≡ share.old.cpu }
+    requires lease { IfSome run (λ lease. lease.cpu ≡ cpu) }
+    ensures cpu { share.new.cpu ≡ share.old.cpu }
+    ensures more { OnOk result (share.old.count < share.new.count) }
+    ensures few { OnOk result (share.new.count ≤ share.old.count + most_counted run) }
+    ensures err { OnErr result (share.new ≡ share.old) }
+{
+    if let Some(lease) = run
+        && is_taken_back(station, lease, share)?
+    {
+        return Ok(());
+    }
+    station.step(cpu, share)?;
+    Ok(())
+}
+
+/// Commits what was done under a lease. False, and nothing changes, where nothing was done under it or it is stale.
+fn is_taken_back<K: Race>(
+    station: &mut Station<K>,
+    lease: Lease,
+    share: &mut Share<K>,
+) -> Result<bool, StationFault>
+    requires mine { lease.cpu ≡ share.old.cpu }
+    ensures done { result ≡ Ok true → (0 < lease.len) × (share.new ≡ record share.old { count = share.old.count + lease.len }) }
+    ensures not { result ≡ Ok false → share.new ≡ share.old }
+    ensures err { OnErr result (share.new ≡ share.old) }
+{
+    if lease.len() == 0 {
+        return Ok(false);
+    }
+    match station.commit(lease, share) {
+        Ok(_) => Ok(true),
+        Err(CommitFault::Stale) => Ok(false),
+        Err(CommitFault::NoMemory) => Err(StationFault::NoMemory),
+        Err(CommitFault::JournalFull) => Err(StationFault::JournalFull),
+    }
+}
+
+/// Takes the script's entries one by one, each under the lock, until it is used up or the board is off.
+pub fn driver<K: Race, R: Wait>(rt: &R, station: &Mutex<Station<K>>) -> Result<(), StationFault> {
+    for _ in rt.forever() {
+        let mut guard = station.lock(rt);
+        if guard.board().is_off() || guard.script_next()?.is_none() {
+            return Ok(());
+        }
+    }
+    unreachable!()
+}

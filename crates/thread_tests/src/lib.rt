@@ -1,0 +1,5 @@
+//! Tests of brd_threads.
+#![tactic(auto)]
+
+#[cfg(test)]
+mod tests;
