@@ -12,7 +12,7 @@ use brd_text::{behind, plain_decimal};
 /// The first line.
 pub(crate) const FIRST_LINE: &[u8] = b"board-journal 1";
 
-/// The run that a line spells, which has no newline.
+/// The run that a line spells. The line stands without its newline.
 pub fn run_of_line(line: &[u8]) -> Option<Run>
     ensures { result ≡ reading.run_of_line line.now }
 {

@@ -33,7 +33,7 @@ impl<K: Race> Model for Books<K> {
     ghost view = { λ books. 0 ∷ books.first ∷ books.second ∷ books.third ∷ books.fourth ∷ books.fifth ∷ books.sixth ∷ books.seventh ∷ books.eighth ∷ [] };
 }
 
-/// Books that have counted nothing, and a share for each of so many processors, from the first on.
+/// Books that have counted nothing, and a share for each of the processors from 1 to `processors`.
 pub fn open_books<K: Race>(
     alloc: Global,
     blanks: Blanks,

@@ -10,6 +10,7 @@ pub trait Race {
     ghost names: { ℕ → ℕ };
 }
 
+/// The names are any: whoever opens books of `Brand` chooses, in a proof, those of the blanks that it opens them of.
 impl Race for Brand {
     ghost names = { λ _. 0 };
 }

@@ -5,7 +5,7 @@ ghost use Rattle.std.specs.Prelude.{◌≡◌, ◌+◌, ◌<◌, ◌^◌};
 use std::marker::Model;
 use std::sync::ledger::{Blank, Book, Ledger, Share};
 
-/// A count that lies where several threads come.
+/// A count that lies with what several threads share.
 #[derive(Drop)]
 pub struct Tally<L: Ledger> {
     book: Book<L>,
@@ -22,7 +22,7 @@ impl<L: Ledger> Model for Tally<L> {
     ghost invariant = { λ tally. tally.book.total ≡ tally.count };
 }
 
-/// The same count, as the one thread keeps it that adds to the tally.
+/// The same count, as the thread keeps it that alone adds to the tally.
 #[derive(Drop)]
 pub struct Hold<L: Ledger> {
     share: Share<L>,

@@ -18,12 +18,12 @@ station_fault_of journal.NoMemory = station.NoMemory
 station_fault_of journal.Full = station.JournalFull
 station_fault_of (journal.Syntax line) = station.JournalFull
 
--- the fault says that the journal is full only where it has no room; that memory ran out may always be
+-- JournalFull only where the journal has no room; NoMemory in any case
 abbrev pub IsFaultFor : Bool → StationFault → Type 0
 IsFaultFor room station.NoMemory = Unit {0}
 IsFaultFor room station.JournalFull = room ≡ false
 
--- the answer says that the journal is full unless it has room, and else that it isn't, unless memory ran out
+-- JournalFull exactly where the journal has no room, unless memory ran out
 abbrev pub IsFullUnless : {X : Type 0} → Bool → Result X StationFault → Type 0
 IsFullUnless room (Ok x) = room ≡ true
 IsFullUnless room (Err fault) = IsFaultFor room fault

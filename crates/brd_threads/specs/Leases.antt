@@ -11,8 +11,8 @@ use Rattle.brd_threads.specs.Station.{StationState, board_of, has_room, with_eve
 abbrev pub steps_under : LeaseState → List Event
 steps_under lease = replicate lease.len (Step lease.cpu)
 
--- What the commit of a lease answers and leaves: as many steps of its processor have happened. Or nothing has: where the
--- lease is stale, whatever room there is; else where the journal has no room for the steps, or memory ran out.
+-- What the commit of a lease answers and leaves: the steps that were done under it have happened. Or nothing has: where
+-- the lease is stale, whatever room there is; else where the journal has no room for the steps, or memory ran out.
 abbrev pub Commits : StationState → LeaseState → Result ℕ CommitFault → StationState → Type 0
 Commits old lease (Ok count) new =
     IsFresh (board_of old) lease × (has_room old.journal (steps_under lease) ≡ true) × (count ≡ lease.len) × (new ≡ with_events old (steps_under lease))

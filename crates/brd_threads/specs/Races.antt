@@ -4,18 +4,25 @@ use Rattle.std.specs.Prelude.{Option, None, Some, Result, Ok, Err}
 use Rattle.brd_board.specs.Board.{BoardState}
 use Rattle.brd_ledgers.specs.Shares.{Counted}
 use Rattle.brd_threads.specs.declared.fault.RaceFault.{RaceFault}
+use Rattle.brd_threads.specs.declared.fault.RaceFault.TheVariants as race
 use Rattle.brd_threads.specs.declared.fault.StationFault.{StationFault}
 use Rattle.brd_threads.specs.declared.outer.Outer.{Outer}
 use Rattle.brd_threads.specs.Faults.{race_fault_of}
 use Rattle.brd_threads.specs.Outers.{outers, steps}
 use Rattle.brd_threads.specs.Station.{StationState, board_of}
 
--- What a worker's share counts, by what the worker answers: true, and it counts the quota; false, and it counts less;
--- with a fault it counts no more.
+-- the faults that a worker may have: that something is broken only a race can say
+abbrev pub IsOfWorker : RaceFault → Type 0
+IsOfWorker race.NoMemory = Unit {0}
+IsOfWorker race.JournalFull = Unit {0}
+IsOfWorker race.Broken = ⊥
+
+-- What a worker's share counts, by what the worker answers: true, and it counts the quota; false or a fault, and it
+-- counts less.
 abbrev pub Counts : ℕ → ℕ → Result Bool RaceFault → Type 0
 Counts quota count (Ok true) = count ≡ quota
 Counts quota count (Ok false) = count < quota
-Counts quota count (Err fault) = count ≤ quota
+Counts quota count (Err fault) = (count < quota) × IsOfWorker fault
 
 -- what the worker of a processor gives back: the processor's share, and its answer
 unfoldable pub HasWorked : ℕ → ℕ → Counted × Result Bool RaceFault → Type 0
@@ -50,8 +57,9 @@ AreWithin quotas station = (i : ℕ) → i < length quotas → steps (i + 1) sta
 abbrev pub AreMet : List ℕ → StationState → Type 0
 AreMet quotas station = (i : ℕ) → i < length quotas → steps (i + 1) station.journal.events ≡ slice_index_or quotas i 0
 
--- What a race answers: a station of this boot and script. What came from outside is what was taken of the script, all of
--- it unless the board is off. No processor has done more steps than its quota, and each as many, unless the board is off.
+-- What a race answers: a station of this boot and script. What came from outside is what was taken of the script, all
+-- of it unless the board is off. No processor has done more steps than its quota, and each as many, unless the board is
+-- off.
 pub record HasRaced (boot : BoardState) (script : List Outer) (quotas : List ℕ) (station : StationState) : Type 0 where
   pub boot_is : station.boot ≡ boot
   pub script_is : station.script ≡ script

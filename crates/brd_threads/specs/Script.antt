@@ -14,7 +14,7 @@ use Rattle.brd_threads.specs.Outers.{outer_of}
 abbrev pub most_entries : ℕ
 most_entries = 1000000
 
--- entries with so many more of one at the end, unless that makes too many
+-- entries with `count` more of one at the end, unless that makes too many
 abbrev pub repeated_within : List Outer → ℕ → Outer → Option (List Outer)
 repeated_within script count entry = if nat_le (length script + count) most_entries then Some (script ++ replicate count entry) else None
 
@@ -26,7 +26,7 @@ with_run script run = option_and_then (repeated_within script run.count) (outer_
 abbrev pub with_line : List Outer → List ℕ → Option (List Outer)
 with_line script line = option_and_then (with_run script) (run_of_line line)
 
--- The lines from the one of this number on, behind those that made these entries. What stands behind the last newline
+-- The lines from the one of this number on, after those that made these entries. What stands after the last newline
 -- has to be empty.
 abbrev pub lines_read : List Outer → ℕ → List (List ℕ) → Result (List Outer) ScriptFault
 lines_read script number [] = Err (Syntax number)

@@ -19,7 +19,8 @@ pub record StationState : Type 0 where
   pub taken : ℕ  -- how many entries of the script have happened
 
 -- What a station's type says. The board is what the journal's events make of the boot; of what comes from outside, the
--- journal has the entries of the script that were taken, in their order; and the books have the steps of each processor.
+-- journal has the entries of the script that were taken, in their order; and the books have the steps of each
+-- processor.
 pub record IsReplay (boot board : BoardState) (events : List Event) (script : List Outer) (taken : ℕ) (books : List ℕ) : Type 0 where
   pub replay : board ≡ after boot events
   pub within : taken ≤ length script
@@ -34,7 +35,7 @@ board_of station = after station.boot station.journal.events
 abbrev pub begun : BoardState → List Outer → ℕ → StationState
 begun boot script limit = record { boot = boot; journal = record { limit = limit; events = [] }; script = script; taken = 0 }
 
--- whether the journal's limit suffices for more events behind its own
+-- whether the journal's limit suffices for more events after its own
 abbrev pub has_room : JournalState → List Event → Bool
 has_room journal more = nat_le (length (runs_of (journal.events ++ more))) journal.limit
 
@@ -54,7 +55,7 @@ abbrev pub report_on : StationState → Event → Report
 report_on station event = (happens (board_of station) event).report
 
 -- The answer and the station after the script's next entry, by that entry: what it reports, unless the journal has no
--- room for it. Behind the last entry nothing happens.
+-- room for it. After the last entry nothing happens.
 abbrev pub EntryHappens : Option Outer → StationState → Result (Option Report) StationFault → StationState → Type 0
 EntryHappens None old answer new = (answer ≡ Ok None) × (new ≡ old)
 EntryHappens (Some entry) old (Ok told) new =

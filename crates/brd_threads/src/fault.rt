@@ -46,7 +46,8 @@ pub enum CommitFault {
     /// The events need more runs than the journal's limit.
     #[error("the events need more runs than the journal's limit")]
     JournalFull,
-    /// The board isn't as it was when the lease was lent.
+    /// The board is off, an interrupt is deliverable to the lease's processor, or its block or its window of code isn't
+    /// what was lent.
     #[error("the lease is stale")]
     Stale,
 }
@@ -68,7 +69,7 @@ pub enum ScriptFault {
     /// Memory ran out.
     #[error("out of memory")]
     NoMemory,
-    /// A line of the text has none of the forms, no newline at its end, or more entries than a script may have. Lines
+    /// A line of the text has none of the forms or no newline at its end, or makes too many events in all. Lines
     /// are counted from 1.
     #[error("line {line}: expected `T COUNT` or `R LINE COUNT`, and at most 1,000,000 events in all")]
     Syntax { line: usize },
@@ -91,8 +92,8 @@ pub enum RaceFault {
     /// The events need more runs than the journal's limit.
     #[error("the events need more runs than the journal's limit")]
     JournalFull,
-    /// What the threads left isn't what they were given, or isn't done, though the board is on.
-    #[error("the threads left something undone")]
+    /// What the threads left is of another boot or script; or something is undone though the board is on.
+    #[error("the threads left another board than theirs, or something undone")]
     Broken,
 }
 

@@ -2,7 +2,8 @@
 
 use brd_board::Lease;
 
-/// Is told of each turn of a worker, while the worker holds no lock.
+/// Is told of the turns of workers: when one begins, and when what it does without the lock is done. The worker holds
+/// no lock at either.
 pub trait Gate {
     ghost use Rattle.std.specs.Prelude.{◌≡◌, IfSome};
     ghost use Rattle.brd_threads.specs.Leases.{IsNewFor};

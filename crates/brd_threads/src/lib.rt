@@ -2,8 +2,8 @@
 //!
 //! What the threads share is a `Station` under one lock: a board, the journal of all that has happened to it, and a
 //! script of ticks and interrupts. Its type says that the board is what its boot and its journal make, whichever way
-//! the threads took their turns (`IsReplay` in `specs/Station.antt`). `race` lets them run; `specs/Races.antt` says what
-//! it answers. `specs/Script.antt` says how the text of a script is read.
+//! the threads took their turns (`IsReplay` in `specs/Station.antt`). `race` lets them run; `specs/Races.antt` says
+//! what it answers. `specs/Script.antt` says how the text of a script is read.
 #![tactic(auto)]
 
 mod boards;

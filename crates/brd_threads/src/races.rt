@@ -37,9 +37,10 @@ impl<K: Race> Promise<Worked<K>> for Quota {
     ghost kept_by = { λ promise worked. HasWorked promise.cpu promise.quota worked };
 }
 
-/// Lets a thread work for each processor until it has done as many steps as its quota, and one for the script, until all
-/// of them end. A fault is that of the lowest processor, the script's last. What the threads left is looked at then: the
-/// answer is `Broken` where it isn't of this boot and script, or where something is undone though the board is on.
+/// Lets a thread work for each processor, until that has done as many steps as its quota, and one for the script, and
+/// waits until all of them have ended. Of their faults it answers that of the lowest processor, and that of the
+/// script's thread only where no processor's has one. Then it looks at what they left, and answers `Broken` where that
+/// is of another boot or script, or where something is undone though the board is on.
 pub fn race<K: Race + Send + Sync, G: Gate + Sync, R: Threads + Wait + Sync>(
     rt: &R,
     alloc: Global,
@@ -102,7 +103,7 @@ fn ended<K: Race + Send + Sync, G: Gate + Sync, R: Threads + Wait + Sync>(
             ensures len { IfOk result (λ r. vec_len r.0 ≡ length quotas.entry.now) }
             ensures each { IfOk result (λ r. HaveWorked quotas.entry.now r.0.items) }
         {
-            let driving = scope.spawn(move || driver(rt, station))?;
+            let driving = scope.spawn(move || driver(rt, alloc, station))?;
             let workers = started(scope, rt, alloc, station, quotas, gate, shares)?;
             Ok((workers, driving.join(rt)))
         },
@@ -131,7 +132,7 @@ fn started<'s, E, K: Race + Send + Sync, G: Gate + Sync, R: Threads + Wait + Syn
     let quota = quotas[cpu as usize - 1];
     let working = scope.spawn_with(
         Quota { cpu, quota },
-        move || worker(rt, station, quota, gate, share),
+        move || worker(rt, alloc, station, quota, gate, share),
     )?;
     let mut workers = started(scope, rt, alloc, station, quotas, gate, shares)?;
     workers.push(working.join(rt))?;

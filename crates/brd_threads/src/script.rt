@@ -70,7 +70,7 @@ fn entry_of(event: Event) -> Option<Outer>
     }
 }
 
-/// Puts an entry so many times at the end.
+/// Puts an entry at the end `count` times.
 fn put_entries(script: &mut Vec<Outer>, entry: Outer, count: u32) -> Result<(), NoMemory>
     ensures { OnOk result (script.new.items ≡ script.old.items ++ replicate count entry) }
 {

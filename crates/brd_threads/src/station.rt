@@ -1,4 +1,4 @@
-//! The station: a board under one lock, its journal, and the script of what comes from outside.
+//! The station, what threads share under one lock: a board, its journal, and the script of what comes from outside.
 
 ghost use Rattle.std.specs.Prelude.{◌≡◌, ℕ, ◌+◌, ◌<◌, ◌≤◌, ◌==◌, ◌^◌, ◌∷◌, [], length, take, replicate, vec_len, Decides, Some, IfOk, IfSome, OnOk, OnErr, IfErr};
 ghost use Rattle.brd_board.specs.declared.event.Event.TheVariants.{Step};
@@ -79,7 +79,7 @@ fn fault_of(fault: JournalFault) -> StationFault
     }
 }
 
-/// Appends an event to a journal so many times. An `Err` changes nothing.
+/// Appends an event to a journal `count` times. An `Err` changes nothing.
 #[tactic(auto, unfolding(brd_journal::specs::Runs::copies))]
 fn record(journal: &mut Journal, event: Event, count: u32) -> Result<(), StationFault>
     ensures room { IsFullUnless (has_room journal.old (replicate count event)) result }
@@ -93,8 +93,8 @@ fn record(journal: &mut Journal, event: Event, count: u32) -> Result<(), Station
 }
 
 impl<K: Race> Station<K> {
-    /// A station of this boot and script, to which nothing has happened, and a share for each processor. The journal may
-    /// have so many runs.
+    /// A station of this boot and script, to which nothing has happened, and a share for each processor. The journal
+    /// may have up to `limit` runs.
     pub fn new(
         alloc: Global,
         boot: &Board,
@@ -139,7 +139,7 @@ impl<K: Race> Station<K> {
         Ok(report)
     }
 
-    /// The next entry of the script happens, also where the board is off. Answers what it reports, and None behind the
+    /// The next entry of the script happens, also where the board is off. Answers what it reports, and None after the
     /// last entry. It is `JournalFull` exactly where the journal has no room for it, unless memory runs out. An `Err`
     /// changes nothing, so the entry is still to come.
     pub fn script_next(&mut self) -> Result<Option<Report>, StationFault>
@@ -186,8 +186,8 @@ impl<K: Race> Station<K> {
     }
 
     /// Carries over what was done under a lease: it is as many steps of its processor, which its share counts. Answers
-    /// how many. It is `Stale` exactly where `Board::is_stale` says so, and else `JournalFull` exactly where the journal
-    /// has no room for the steps, unless memory runs out. An `Err` changes nothing.
+    /// how many. It is `Stale` exactly where `Board::is_stale` says so, and else `JournalFull` exactly where the
+    /// journal has no room for the steps, unless memory runs out. An `Err` changes nothing.
     pub fn commit(&mut self, lease: Lease, share: &mut Share<K>) -> Result<u32, CommitFault>
         requires mine { lease.cpu ≡ share.old.cpu }
         ensures commits { Commits self.old lease result self.new }

@@ -2,22 +2,27 @@
 
 ghost use Rattle.std.specs.Prelude.{◌≡◌, ◌+◌, ◌<◌, ◌≤◌, true, false, Ok, IfSome, OnOk, OnErr};
 ghost use Rattle.brd_threads.specs.Leases.{IsNewFor, most_counted};
+ghost use Rattle.brd_board.specs.Lease.{IsFresh};
 ghost use Rattle.brd_threads.specs.Races.{HasWorked};
+ghost use Rattle.brd_threads.specs.Station.{board_of};
 
 use crate::fault::{CommitFault, RaceFault, StationFault};
 use crate::gate::Gate;
 use crate::station::Station;
 use brd_board::{Lease, MOST_LENT};
 use brd_ledgers::{Race, Share};
+use std::alloc::Global;
 use std::sync::{Mutex, Wait};
 
 /// Takes turns until the share counts the quota, and answers true then, or until the board is off, and answers false.
 /// A turn lends under the lock, runs the lease with no lock held, between the calls of the gate and within what remains
 /// of the quota, and then commits it under the lock. Without a lease, with nothing done under it, or where it is stale,
-/// the turn does one step under the lock.
+/// the turn does one step under the lock. (Today only the journal asks for memory, by the allocator that it was made
+/// with.)
 #[tactic(auto, unfolding(crate::specs::Races::HasWorked))]
 pub fn worker<K: Race, G: Gate, R: Wait>(
     rt: &R,
+    _alloc: Global,
     station: &Mutex<Station<K>>,
     quota: u64,
     gate: &G,
@@ -35,7 +40,7 @@ pub fn worker<K: Race, G: Gate, R: Wait>(
         };
         let run = run_apart(gate, cpu, left, lent);
         let mut guard = station.lock(rt);
-        if let Err(fault) = take_back(&mut guard, cpu, run, &mut share) {
+        if let Err(fault) = commit_or_step(&mut guard, cpu, run, &mut share) {
             return (share, Err(RaceFault::from(fault)));
         }
     }
@@ -53,7 +58,7 @@ fn lent<K: Race, R: Wait>(rt: &R, station: &Mutex<Station<K>>, cpu: u8) -> Optio
     Some(guard.lend(cpu))
 }
 
-/// Runs a lease between the calls of the gate, up to so many instructions.
+/// Runs a lease between the calls of the gate, up to `left` instructions.
 fn run_apart<G: Gate>(gate: &G, cpu: u8, left: u64, lent: Option<Lease>) -> Option<Lease>
     requires { IfSome lent (IsNewFor cpu) }
     ensures { IfSome result (λ lease. (lease.cpu ≡ cpu) × (lease.len ≤ left)) }
@@ -71,7 +76,7 @@ fn run_apart<G: Gate>(gate: &G, cpu: u8, left: u64, lent: Option<Lease>) -> Opti
 
 /// Commits what was done under a lease. Without a lease, with nothing done under it, or where it is stale, does one
 /// step.
-fn take_back<K: Race>(
+fn commit_or_step<K: Race>(
     station: &mut Station<K>,
     cpu: u8,
     run: Option<Lease>,
@@ -85,7 +90,7 @@ fn take_back<K: Race>(
     ensures err { OnErr result (share.new ≡ share.old) }
 {
     if let Some(lease) = run
-        && is_taken_back(station, lease, share)?
+        && is_committed(station, lease, share)?
     {
         return Ok(());
     }
@@ -94,7 +99,7 @@ fn take_back<K: Race>(
 }
 
 /// Commits what was done under a lease. False, and nothing changes, where nothing was done under it or it is stale.
-fn is_taken_back<K: Race>(
+fn is_committed<K: Race>(
     station: &mut Station<K>,
     lease: Lease,
     share: &mut Share<K>,
@@ -102,6 +107,7 @@ fn is_taken_back<K: Race>(
     requires mine { lease.cpu ≡ share.old.cpu }
     ensures done { result ≡ Ok true → (0 < lease.len) × (share.new ≡ record share.old { count = share.old.count + lease.len }) }
     ensures not { result ≡ Ok false → share.new ≡ share.old }
+    ensures stale { (IsFresh (board_of station.old) lease → ⊥) → result ≡ Ok false }
     ensures err { OnErr result (share.new ≡ share.old) }
 {
     if lease.len() == 0 {
@@ -116,7 +122,11 @@ fn is_taken_back<K: Race>(
 }
 
 /// Takes the script's entries one by one, each under the lock, until it is used up or the board is off.
-pub fn driver<K: Race, R: Wait>(rt: &R, station: &Mutex<Station<K>>) -> Result<(), StationFault> {
+pub fn driver<K: Race, R: Wait>(
+    rt: &R,
+    _alloc: Global,
+    station: &Mutex<Station<K>>,
+) -> Result<(), StationFault> {
     for _ in rt.forever() {
         let mut guard = station.lock(rt);
         if guard.board().is_off() || guard.script_next()?.is_none() {

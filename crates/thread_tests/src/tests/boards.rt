@@ -5,7 +5,7 @@ use brd_config::parse;
 use brd_mem::Image;
 use std::alloc::Global;
 
-/// A loop that ends never: a branch to itself, and its slot.
+/// A loop that never ends: a branch to itself, and its slot.
 pub const LOOP: &[u32] = &[0x1000_ffff, 0];
 
 /// Two processors with a task each, at the first word.

@@ -10,7 +10,8 @@ use std::sync::atomic::{AtomicU64, Ordering};
 const LOOKS: u32 = 1_000_000_000;
 
 /// A gate that nobody enters again before the other has entered as often. Who looks in vain is late, and from then on
-/// nobody waits. A turn is odd that has no lease, or leaves with less than 64 instructions done.
+/// nobody waits. A turn is odd that doesn't enter with a lease under which nothing was done, or doesn't leave with one
+/// under which 64 instructions were.
 #[derive(Drop)]
 struct Together {
     first: AtomicU64,
@@ -44,7 +45,10 @@ impl Together {
 }
 
 impl Gate for Together {
-    fn enter(&self, cpu: u8, _lease: Option<&Lease>) {
+    fn enter(&self, cpu: u8, lease: Option<&Lease>) {
+        if !matches!(lease, Some(lease) if lease.len() == 0) {
+            self.odd.fetch_add(1, Ordering::SeqCst);
+        }
         let (mine, other) = if cpu == 1 {
             (&self.first, &self.second)
         } else {

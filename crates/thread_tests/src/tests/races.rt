@@ -13,7 +13,7 @@ use std::marker::Brand;
 use std::sync::Wait;
 use std::thread::Threads;
 
-/// What is seen of a station behind a race, the same for every order of the threads.
+/// What is seen of a station after a race.
 #[derive(Clone, Copy, Debug, PartialEq, Eq)]
 pub struct Totals {
     /// The steps of all processors.
