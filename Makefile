@@ -36,9 +36,11 @@ dist:
 test:
 	tests/run
 
-# Every wrong body, those of wrong/ too, on a scratch copy; ends in 'N refused, M let through'.
+# Every wrong body on a scratch copy: those of wrong/ too, which the prover has to refuse, and those of by-test/, of
+# which a test has to fail. Each of the two ends in 'N refused .., M let through'.
 attack:
 	tests/attack $(CRATES)
+	tests/attack_tests $(CRATES)
 
 # Random boards beside a model in Python, which shares nothing with the program: BOARDS of them, from the seed SEED on.
 compare: $(BOARD)
@@ -65,6 +67,7 @@ bench:
 	crates/elf_bench/out/elf_bench time
 	$(MAKE) board
 	tests/debug_speed $(BOARD)
+	tests/race_speed $(BOARD)
 
 clean:
 	rm -rf build crates/*/out
