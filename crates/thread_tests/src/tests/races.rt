@@ -6,11 +6,13 @@ ghost use Rattle.brd_ledgers.specs.Blanks.{AreOf};
 ghost use Rattle.brd_threads.specs.Processors.{processors_of};
 
 use crate::tests::boards::{LOOP, TWO, board_of};
-use brd_board::Board;
-use brd_threads::{Blanks, Gate, Open, Outer, Race, RaceFault, Station, processors, race};
+use brd_board::{Board, Event};
+use brd_threads::{
+    Blanks, Gate, Open, Outer, Race, RaceFault, Station, driver, processors, race, worker,
+};
 use std::alloc::Global;
 use std::marker::Brand;
-use std::sync::Wait;
+use std::sync::{Mutex, Wait};
 use std::thread::Threads;
 
 /// What is seen of a station after a race.
@@ -196,4 +198,47 @@ fn board_goes_off(rt: HostRuntime) {
         matches!(done, Ok(left) if left.is_off && left.is_replay && left.steps < 2_000_000 && left.outers <= 5),
         "{done:?}"
     );
+}
+
+/// Whether a driver and a worker do nothing on a board that is off, on ledgers of these blanks.
+fn ends_at_once<K: Race + Send + Sync, R: Wait>(
+    rt: &R,
+    alloc: Global,
+    off: &Board,
+    blanks: Blanks,
+) -> bool
+    requires { AreOf K.names blanks }
+{
+    let Ok((station, mut shares)) = Station::<K>::new(alloc, off, TICKS, 10, blanks) else {
+        return false;
+    };
+    let shared = Mutex::new(station);
+    let Some(share) = shares.pop() else {
+        return false;
+    };
+    if share.count() != 0 {
+        return false;
+    }
+    let driven = driver(rt, alloc, &shared);
+    let (share, worked) = worker(rt, alloc, &shared, 10, &Open, share);
+    driven == Ok(())
+        && worked == Ok(false)
+        && share.count() == 0
+        && shared.into_inner().journal().is_empty()
+}
+
+/// The same, on ledgers of its own.
+fn does_nothing<R: Wait>(rt: &R, alloc: Global, off: &Board) -> bool {
+    ends_at_once::<Brand, R>(rt, alloc, off, Blanks::new())
+}
+
+/// On a board that is off nothing is taken of the script, and no processor does a step.
+#[test]
+fn board_is_off(rt: HostRuntime) {
+    let alloc = rt.alloc();
+    let Some(mut board) = board_of(alloc, OFF_WORDS, OFF) else {
+        return assert!(rt; false, "no board");
+    };
+    board.repeat(Event::Step(1), 2);
+    assert!(rt; board.is_off() && does_nothing(&rt, alloc, &board));
 }

@@ -120,6 +120,137 @@ fn goes_well(alloc: Global, boot: &Board, limit: u32, scene: Scene) -> bool
     is_so::<Brand>(alloc, boot, limit, scene, Blanks::new())
 }
 
+/// What happens between a lease of processor 1 and its commit.
+#[derive(Clone, Copy)]
+struct Between {
+    name: &'static str,
+    /// The code of task 2, which runs on processor 2, from 0x80000100 on.
+    code: &'static [u32],
+    /// How many steps processor 2 does.
+    steps: u32,
+    /// What the commit answers.
+    wanted: Result<u32, CommitFault>,
+}
+
+/// Task 1 is an endless loop on processor 1. Task 3, of a higher priority there, is started by nobody but task 2.
+const THREE: &str = "BOARD(2, 0x10000);
+CRE_TSK(1, {TA_ACT, 0, 0x80000000, 2, 256, NULL});
+CRE_TSK(3, {0, 0, 0x80000000, 1, 256, NULL});
+CLASS(TCL_2) { CRE_TSK(2, {TA_ACT, 0, 0x80000100, 1, 256, NULL}); }
+";
+
+const BETWEEN: &[Between] = &[
+    Between {
+        name: "nothing",
+        code: &[],
+        steps: 0,
+        wanted: Ok(5),
+    },
+    Between {
+        name: "a higher task is started",
+        code: &[0x2404_0003, 0x2402_0001, 0x0000_000c], // addiu $a0, $0, 3; addiu $v0, $0, 1: act_tsk; syscall
+        steps: 3,
+        wanted: Err(CommitFault::Stale),
+    },
+    Between {
+        name: "the last word of the window is stored to",
+        code: &[0x3c10_8000, 0xae10_00fc], // lui $s0, 0x8000; sw $s0, 0xfc($s0)
+        steps: 2,
+        wanted: Err(CommitFault::Stale),
+    },
+    Between {
+        name: "the word after the window is stored to",
+        code: &[0x3c10_8000, 0xae10_0100], // lui $s0, 0x8000; sw $s0, 0x100($s0)
+        steps: 2,
+        wanted: Ok(5),
+    },
+    Between {
+        name: "the last word of the window is stored to, and then its old value",
+        code: &[0x3c10_8000, 0xae10_00fc, 0xae00_00fc], // .. and sw $0, 0xfc($s0)
+        steps: 3,
+        wanted: Ok(5),
+    },
+];
+
+/// The board of a case.
+fn board_between(alloc: Global, case: &Between) -> Option<Board> {
+    let mut words = Vec::new(alloc);
+    for word in LOOP {
+        words.push(*word).ok()?;
+    }
+    for _ in LOOP.len()..64 {
+        words.push(0).ok()?;
+    }
+    for word in case.code {
+        words.push(*word).ok()?;
+    }
+    board_of(alloc, words.as_slice(), THREE)
+}
+
+/// Whether a lease's commit answers what it should, and appends as many steps, or none.
+fn commits<K: Race>(
+    station: &mut Station<K>,
+    first: &mut Share<K>,
+    second: &mut Share<K>,
+    case: &Between,
+) -> bool {
+    let Some(mut lease) = station.lend(1) else {
+        return false;
+    };
+    if lease.run(5) != 5 || first.cpu() != 1 || second.cpu() != 2 {
+        return false;
+    }
+    for _ in 0..case.steps {
+        let cpu = second.cpu();
+        if station.step(cpu, second).is_err() {
+            return false;
+        }
+    }
+    let answer = station.commit(lease, first);
+    let steps = u64::from(answer.unwrap_or(0));
+    answer == case.wanted
+        && station.journal().len() == steps + u64::from(case.steps)
+        && first.count() == steps
+        && station.steps(2) == Some(u64::from(case.steps))
+}
+
+/// Whether that is so on a station of its own.
+fn is_committed<K: Race>(alloc: Global, boot: &Board, case: &Between, blanks: Blanks) -> bool
+    requires { AreOf K.names blanks }
+{
+    let Ok((mut station, mut shares)) = Station::<K>::new(alloc, boot, &[], 10, blanks) else {
+        return false;
+    };
+    let Some((first, others)) = shares.as_mut_slice().split_first_mut() else {
+        return false;
+    };
+    let Some(second) = others.first_mut() else {
+        return false;
+    };
+    commits(&mut station, first, second, case)
+}
+
+/// The same, on ledgers of its own.
+fn commits_well(alloc: Global, boot: &Board, case: &Between) -> bool {
+    is_committed::<Brand>(alloc, boot, case, Blanks::new())
+}
+
+/// Whether a case goes as it should.
+fn goes_as_wanted(alloc: Global, case: &Between) -> bool {
+    match board_between(alloc, case) {
+        Some(boot) => commits_well(alloc, &boot, case),
+        None => false,
+    }
+}
+
+/// A lease is stale by its values, whatever came between.
+#[test]
+fn commits_between(rt: HostRuntime) {
+    for case in BETWEEN {
+        assert!(rt; goes_as_wanted(rt.alloc(), case), "{}", case.name);
+    }
+}
+
 #[test]
 fn stations(rt: HostRuntime) {
     let alloc = rt.alloc();
