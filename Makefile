@@ -67,6 +67,7 @@ bench:
 	crates/elf_bench/out/elf_bench time
 	$(MAKE) board
 	tests/debug_speed $(BOARD)
+	tests/race_speed $(BOARD)
 
 clean:
 	rm -rf build crates/*/out
