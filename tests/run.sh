@@ -37,9 +37,6 @@ for journal in examples/*/*.journal; do
     run "$name" 0 "$name.report" "" "$work/image" "$name.cfg" "$journal"
 done
 
-# The example in C, where there is a compiler for it.
-check_script "the example in C" examples/c_program/build.sh "$board"
-
 # The files are opened in the order of the arguments, before any is read.
 hello=tests/scenarios/hello
 "$board" asm $hello/source.s "$work/hello"

@@ -1,41 +1,24 @@
-/* A water meter. Interrupt line 3 is raised by each pulse, and a task adds up the litres and writes the sum. */
+/* A water meter. A line is raised by each pulse of the meter, and a task adds up the litres and writes the sum. */
 #include "board.h"
+#include "ids.h"
 
-#define PULSE 1                         /* the semaphore that counts the pulses not yet added */
-
-static const unsigned litres[] = { 7, 25, 118 };
-static const char text[] = "litres ";
-static unsigned pulses;
-static unsigned sum;
-
-static void put_text(const char *next)
-{
-    while (*next)
-        put_chr(*next++);
-}
-
-static void put_number(unsigned number)
-{
-    if (number >= 10)
-        put_number(number / 10);
-    put_chr((char)('0' + number % 10));
-}
+static const UINT litres[] = { 7, 25, 118 };
 
 /* The handler of the line. */
-void handler(unsigned line)
+void pulse(INHNO line)
 {
     (void)line;
-    isig_sem(PULSE);
+    isig_sem(PULSES);
 }
 
-/* The task: ends after three pulses. */
-void meter(void)
+/* The task: ends after so many pulses. */
+void meter(VP_INT pulses)
 {
-    while (pulses < sizeof litres / sizeof litres[0]) {
-        wai_sem(PULSE);
-        sum += litres[pulses++];
-        put_text(text);
-        put_number(sum);
-        put_chr('\n');
+    UINT sum = 0;
+    for (INT i = 0; i < pulses; i++) {
+        ER answer = wai_sem(PULSES);
+        assert(answer == E_OK);
+        sum += litres[i];
+        printf("litres %4u\n", sum);
     }
 }
