@@ -40,6 +40,7 @@ CONFIGURE = $(CC) -E -x c -undef -nostdinc -D__ASSEMBLER__ -I. -isystem $(SDK)/i
 
 OBJECTS = $(BUILD)/start.o $(patsubst %.c,$(BUILD)/%.o,$(SOURCES)) $(BUILD)/print.o $(BUILD)/memory.o \
     $(if $(STACK_CHECK),$(BUILD)/stack.o)
+FLAGS = $(COMPILE) $(ASSEMBLE) $(LINK) $(OBJECTS)
 HEADERS = $(wildcard *.h $(SDK)/include/*.h $(SDK)/lib/*.h)
 IMAGE = $(BUILD)/firmware.elf
 CONFIGURATION = $(BUILD)/firmware.cfg
@@ -75,7 +76,7 @@ $(BUILD)/entries.inc: firmware.cfg $(HEADERS) $(BUILD)/flags
 # What was built with other flags is built anew.
 $(BUILD)/flags: FORCE
 	@mkdir -p $(BUILD)
-	@echo '$(COMPILE) $(ASSEMBLE) $(LINK) $(OBJECTS)' | cmp -s - $@ || echo '$(COMPILE) $(ASSEMBLE) $(LINK) $(OBJECTS)' > $@
+	@echo '$(FLAGS)' | cmp -s - $@ || echo '$(FLAGS)' > $@
 
 test: all
 	@$(SDK)/test $(BOARD) $(IMAGE) $(CONFIGURATION) $(wildcard *.journal)
