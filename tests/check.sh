@@ -52,6 +52,11 @@ check_usage() {
     verdict "$1" "${wrong:+$wrong: $(head -c 600 "$work/err")}"
 }
 
+# have TOOL WHAT: whether a tool is there; a line says what is skipped where it isn't.
+have() {
+    command -v "$1" > /dev/null || { echo "skipped: $2: $1 is missing"; return 1; }
+}
+
 # check_script NAME COMMAND..: runs a test of its own, which prints one line for each thing that it tried. One that is
 # skipped, since a tool is missing, says so and isn't counted.
 check_script() {

@@ -3,6 +3,7 @@
 # tests/documents.sh PROGRAM
 . "$(dirname "$0")/check.sh"
 
+have python3 "the documents" || { summary; exit; }
 check_script "the walks" tests/walks
 lines=$(tests/documents "$board")
 more=$(tail -n 1 <<< "$lines")

@@ -16,10 +16,8 @@ says() {
     verdict "kit: $name" "${wrong:+$wrong: $(head -c 1500 "$work/said")}"
 }
 
-if command -v python3 > /dev/null; then
-    check_script "the headers beside the documents" tests/kit_doc
-else
-    echo "skipped: the headers of sdk/ beside the documents: python3 is missing"
+if have python3 "the kit's headers beside the documents"; then
+    check_script "the kit's headers beside the documents" tests/kit_doc
 fi
 
 # What needs no compiler: wrong command lines, and the marks of lines that the C preprocessor leaves.
@@ -35,12 +33,8 @@ printf '%s\n' ' #define CRE_SEM(2);' '' 'BOARD(1);' '' '' '' 'CRE_SEM(1);' > "$w
 awk -v main=a.cfg -f sdk/lib/lines.awk "$work/marked" > "$work/out"
 verdict "kit: lines.awk" "$(diff "$work/wanted" "$work/out")"
 
-for tool in mips-linux-gnu-gcc mips-linux-gnu-ld make; do
-    if ! command -v $tool > /dev/null; then
-        echo "skipped: kit: programs in C: $tool is missing (Debian: gcc-mips-linux-gnu, make)"
-        summary
-        exit
-    fi
+for tool in make mips-linux-gnu-gcc; do
+    have $tool "programs in C (Debian: make, gcc-mips-linux-gnu)" || { summary; exit; }
 done
 
 # project FOLDER ARGUMENT..: make in the folder of a project.
@@ -129,15 +123,16 @@ says "a journal that has a fault" 2 "FAILED: other.journal" project "$new" test
 rm "$new"/other.*
 
 # The debugger with the names of C, on a word to which two processors add: which lines it writes, as patterns.
-if command -v python3 > /dev/null; then
+if have python3 "sdk/debug"; then
     project "$shared" hunt CFLAGS=-DRACE TRIES=100 > "$work/out" 2> "$work/err"
     cat > "$work/session" << 'END'
 watch added|ok
 end|at [0-9]+: the end
-back|at [0-9]+: processor [12] in add \(firmware\.c:[0-9]+\)
+back|at [0-9]+: processor [12] in add \(firmware\.c:[0-9]+\), added: 000000[0-9a-f]{2} -> 000000[0-9a-f]{2}
 mem added|000000[0-9a-f]{2}
 mem added+3|[0-9a-f]{2}
 break adder|ok
+break firmware.c:0|unknown
 goto 0|at 0: line 3 is raised
 next|at [0-9]+: processor [12] in adder \(firmware\.c:[0-9]+\)
 regs 1|pc 80[0-9a-f]{6} [a-z_0-9]+ \([a-z]+\.[a-zS]+:[0-9]+\)
@@ -161,7 +156,5 @@ END
     printf 'quit\nend\n' | project "$shared" debug CFLAGS=-DRACE > "$work/out" 2> "$work/err"
     check "kit: sdk/debug ends by quit" 0 "$work/nothing" "" $?
     says "sdk/debug without a journal" 2 "board: can't open nosuch: $is_missing" project "$shared" debug JOURNAL=nosuch
-else
-    echo "skipped: sdk/debug: python3 is missing"
 fi
 summary
