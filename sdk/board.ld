@@ -15,7 +15,7 @@ SECTIONS
   .data : { *(.data .data.*) *(.sdata .sdata.*) } > ram
   .bss (NOLOAD) : { *(.sbss .sbss.*) *(.bss .bss.*) *(COMMON) } > ram
   _end = .;
-  /DISCARD/ : { *(.reginfo) *(.MIPS.abiflags) *(.pdr) *(.comment) *(.eh_frame) *(.note.*) *(.gnu.attributes) }
+  /DISCARD/ : { *(.reginfo) *(.MIPS.abiflags) *(.pdr) *(.comment) *(.eh_frame) *(.note.*) }
 }
 
 ASSERT(_end + board_stacks <= ORIGIN(ram) + board_ram, "the program and the stacks of its tasks don't fit into RAM")

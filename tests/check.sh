@@ -2,6 +2,7 @@
 # What the tests of every command share: each tests/NAME.sh reads this file, is run with the program, and ends with
 # `summary`. $board is the program, $work a folder for files, $work/nothing an empty one.
 set -u
+unset MAKEFLAGS MAKELEVEL MFLAGS
 [ $# = 1 ] || { echo "use: $0 PROGRAM" >&2; exit 2; }
 board=$(realpath -- "$1") || exit 2
 cd "$(dirname "${BASH_SOURCE[0]}")/.." || exit 2
