@@ -38,8 +38,9 @@ ASSEMBLE = $(CC) $(MACHINE) -g -DHANDLER_STACK=$(HANDLER_STACK) -I$(BUILD)
 LINK = $(LD) -EB -n -z noexecstack -e 0x80000000 -T $(SDK)/board.ld
 CONFIGURE = $(CC) -E -x c -undef -nostdinc -D__ASSEMBLER__ -I. -isystem $(SDK)/include
 
-OBJECTS = $(BUILD)/start.o $(patsubst %.c,$(BUILD)/%.o,$(SOURCES)) $(BUILD)/print.o $(BUILD)/memory.o \
-    $(if $(STACK_CHECK),$(BUILD)/stack.o)
+KIT = $(BUILD)/kit
+OBJECTS = $(KIT)/start.o $(patsubst %.c,$(BUILD)/%.o,$(SOURCES)) $(KIT)/print.o $(KIT)/memory.o \
+    $(if $(STACK_CHECK),$(KIT)/stack.o)
 FLAGS = $(COMPILE) $(ASSEMBLE) $(LINK) $(OBJECTS)
 HEADERS = $(wildcard *.h $(SDK)/include/*.h $(SDK)/lib/*.h)
 IMAGE = $(BUILD)/firmware.elf
@@ -53,16 +54,17 @@ all: $(IMAGE) $(CONFIGURATION)
 $(IMAGE): $(OBJECTS) $(SDK)/board.ld
 	$(LINK) -o $@ $(OBJECTS)
 
-$(BUILD)/%.o: %.c $(HEADERS) $(BUILD)/flags
+$(KIT)/%.o: $(SDK)/lib/%.c $(HEADERS) $(BUILD)/flags
 	$(COMPILE) -c -o $@ $<
 
-$(BUILD)/%.o: $(SDK)/lib/%.c $(HEADERS) $(BUILD)/flags
-	$(COMPILE) -c -o $@ $<
-
-$(BUILD)/%.o: $(SDK)/lib/%.S $(BUILD)/flags
+$(KIT)/%.o: $(SDK)/lib/%.S $(BUILD)/flags
 	$(ASSEMBLE) -c -o $@ $<
 
-$(BUILD)/start.o: $(BUILD)/entries.inc
+$(KIT)/start.o: $(BUILD)/entries.inc
+
+$(BUILD)/%.o: %.c $(HEADERS) $(BUILD)/flags
+	@mkdir -p $(@D)
+	$(COMPILE) -c -o $@ $<
 
 # The configuration's IDs by their names, and tasks and handlers by their functions in C.
 $(CONFIGURATION): firmware.cfg $(HEADERS) $(SDK)/lib/lines.awk $(BUILD)/flags
@@ -75,7 +77,7 @@ $(BUILD)/entries.inc: firmware.cfg $(HEADERS) $(BUILD)/flags
 
 # What was built with other flags is built anew.
 $(BUILD)/flags: FORCE
-	@mkdir -p $(BUILD)
+	@mkdir -p $(KIT)
 	@echo '$(FLAGS)' | cmp -s - $@ || echo '$(FLAGS)' > $@
 
 test: all

@@ -107,6 +107,11 @@ mistake "a function that isn't there" 2 "(.text.start+0x8): undefined reference 
 mistake "a wrong line of the configuration" 2 \
     "board: the configuration: line 5: found what no statement has here, expected one in the form of its kind" \
     firmware.cfg 's/CRE_SEM/CRE_MTX/' test
+mkdir "$new/more"
+echo 'extern int twice(int n); int twice(int n) { return 2 * n; }' > "$new/more/print.c"
+mistake "several sources" 2 "+Hello, number 1 of 6" firmware.c '/^void press/iint twice(int n);
+s/, times)/, twice(times))/' test SOURCES="firmware.c more/print.c"
+rm -r "$new/more"
 mistake "stacks that don't fit" 2 "mips-linux-gnu-ld: the program and the stacks of its tasks don't fit into RAM" \
     firmware.cfg 's/1024/65536/' all
 mistake "a program that doesn't fit" 2 "mips-linux-gnu-ld: the program and the stacks of its tasks don't fit into RAM" \
