@@ -41,7 +41,7 @@ CONFIGURE = $(CC) -E -x c -undef -nostdinc -D__ASSEMBLER__ -I. -isystem $(SDK)/i
 KIT = $(BUILD)/kit
 OBJECTS = $(KIT)/start.o $(patsubst %.c,$(BUILD)/%.o,$(SOURCES)) $(KIT)/print.o $(KIT)/memory.o \
     $(if $(STACK_CHECK),$(KIT)/stack.o)
-FLAGS = $(COMPILE) $(ASSEMBLE) $(LINK) $(OBJECTS)
+FLAGS = $(CURDIR) $(COMPILE) $(ASSEMBLE) $(LINK) $(OBJECTS)
 HEADERS = $(wildcard *.h $(SDK)/include/*.h $(SDK)/lib/*.h)
 IMAGE = $(BUILD)/firmware.elf
 CONFIGURATION = $(BUILD)/firmware.cfg
@@ -75,7 +75,7 @@ $(BUILD)/entries.inc: firmware.cfg $(HEADERS) $(BUILD)/flags
 	$(CONFIGURE) -P -imacros $(SDK)/lib/entries.h $< > $(BUILD)/entries.cfg
 	tr ';{}' '\n\n\n' < $(BUILD)/entries.cfg | sed -n '/^ *entry_/p' > $@
 
-# What was built with other flags is built anew.
+# What was built with other flags, or for another project, is built anew.
 $(BUILD)/flags: FORCE
 	@mkdir -p $(KIT)
 	@echo '$(FLAGS)' | cmp -s - $@ || echo '$(FLAGS)' > $@

@@ -1,7 +1,7 @@
 #!/bin/bash
-# The tests of the kit for C, sdk/: tests/kit.sh PROGRAM. Its headers beside the documents; then, where there are GCC for
-# MIPS and make, the examples in C and the programs of tests/kit, each at four levels of optimization; and what a project
-# that sdk/new has made says of mistakes.
+# The tests of the kit for C, sdk/: tests/kit.sh PROGRAM. Its headers beside the documents; the examples in C and the
+# programs of tests/kit, as Clang makes them and as GCC for MIPS does, at levels of optimization; and what a project that
+# sdk/new has made says of mistakes. Each is skipped, which a line says, where its tools are missing.
 . "$(dirname "$0")/check.sh"
 sdk=$PWD/sdk
 
@@ -33,9 +33,7 @@ printf '%s\n' ' #define CRE_SEM(2);' '' 'BOARD(1);' '' '' '' 'CRE_SEM(1);' > "$w
 awk -v main=a.cfg -f sdk/lib/lines.awk "$work/marked" > "$work/out"
 verdict "kit: lines.awk" "$(diff "$work/wanted" "$work/out")"
 
-for tool in make mips-linux-gnu-gcc; do
-    have $tool "programs in C (Debian: make, gcc-mips-linux-gnu)" || { summary; exit; }
-done
+have make "programs in C" || { summary; exit; }
 
 # project FOLDER ARGUMENT..: make in the folder of a project.
 project() {
@@ -54,7 +52,19 @@ awk 'BEGIN {
     }
     print "S 2 50000\nS 1 50000"
 }' > "$work/kit/shared/firmware.journal"
-for folder in examples/c_program examples/c_two_processors "$work"/kit/*; do
+projects=(examples/c_program examples/c_two_processors "$work"/kit/*)
+what="programs in C, as Clang makes them"
+if have clang "$what" && have ld.lld "$what"; then
+    for folder in "${projects[@]}"; do
+        for level in -O0 -Os; do
+            says "$(basename "$folder"), Clang, $level" 0 "ok: firmware.journal" \
+                project "$folder" test CC="clang --target=mips-linux-gnu" LD=ld.lld OPTIMIZE=$level
+        done
+    done
+fi
+
+have mips-linux-gnu-gcc "programs in C, as GCC for MIPS makes them (Debian: gcc-mips-linux-gnu)" || { summary; exit; }
+for folder in "${projects[@]}"; do
     name=$(basename "$folder")
     for level in -O0 -O1 -O2 -Os; do
         says "$name, $level" 0 "ok: firmware.journal" project "$folder" test OPTIMIZE=$level
@@ -126,6 +136,18 @@ says "a console that was accepted" 0 "ok: other.journal" project "$new" test
 echo 'S 1 0' >> "$new/other.journal"
 says "a journal that has a fault" 2 "FAILED: other.journal" project "$new" test
 rm "$new"/other.*
+
+# Where the program has a command `trace`, its summary stands in the place of the report.
+cat > "$work/tracing" << END
+#!/bin/sh
+case \$1 in
+    --help) echo "  trace  Show what happened" ;;
+    trace) echo "task 1 waits: \$#, \$5" ;;
+    *) exec "$board" "\$@" ;;
+esac
+END
+chmod +x "$work/tracing"
+board=$work/tracing mistake "a summary of board trace" 2 "task 1 waits: 5, --summary" firmware.c 's/Hello/Hullo/' test
 
 # The debugger with the names of C, on a word to which two processors add: which lines it writes, as patterns.
 if have python3 "sdk/debug"; then
