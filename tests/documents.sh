@@ -17,6 +17,7 @@ fi
 
 # Which C library README.md says that the program of dist/ wants.
 wanted=$(gunzip -c dist/board.gz | grep -aoE 'GLIBC_[0-9]+(\.[0-9]+)+' | sort -V | tail -n 1)
-verdict "the C library in README.md" "$(grep -qF "GNU C library ${wanted#GLIBC_} or later" README.md || echo "the program wants $wanted")"
+grep -qF "GNU C library ${wanted#GLIBC_} or later" README.md && wanted=
+verdict "the C library in README.md" "${wanted:+the program wants $wanted}"
 
 summary

@@ -1,7 +1,7 @@
 #!/bin/bash
 # The tests of the kit for C, sdk/: tests/kit.sh PROGRAM. Its headers beside the documents; the examples in C and the
-# programs of tests/kit, as Clang makes them and as GCC for MIPS does, at levels of optimization; and what a project that
-# sdk/new has made says of mistakes. Each is skipped, which a line says, where its tools are missing.
+# programs of tests/kit, as Clang makes them and as GCC for MIPS does, at levels of optimization; and what a project
+# that sdk/new has made says of mistakes. Each is skipped, which a line says, where its tools are missing.
 . "$(dirname "$0")/check.sh"
 sdk=$PWD/sdk
 
@@ -27,8 +27,8 @@ says "sdk/new where something is" 1 "sdk/new: $work is there already" sdk/new "$
 says "sdk/test without a program" 2 "use: sdk/test [--accept] BOARD IMAGE CONFIG NAME.journal.." sdk/test
 says "sdk/test without a journal" 1 "FAILED: there is no journal, a file NAME.journal" sdk/test "$board" image config
 says "sdk/hunt without a program" 2 "use: sdk/hunt BOARD IMAGE CONFIG JOURNAL TRIES SEED OUT" sdk/hunt
-printf '%s\n' '# 0 "a.cfg"' '# 1 "<command-line>"' '#define' '# 1 "a.cfg"' '# 1 "ids.h" 1' 'CRE_SEM(2);' '# 2 "a.cfg" 2' '' \
-    'BOARD(1);' '# 7 "a.cfg"' 'CRE_SEM(1);' > "$work/marked"
+printf '%s\n' '# 0 "a.cfg"' '# 1 "<command-line>"' '#define' '# 1 "a.cfg"' '# 1 "ids.h" 1' 'CRE_SEM(2);' \
+    '# 2 "a.cfg" 2' '' 'BOARD(1);' '# 7 "a.cfg"' 'CRE_SEM(1);' > "$work/marked"
 printf '%s\n' ' #define CRE_SEM(2);' '' 'BOARD(1);' '' '' '' 'CRE_SEM(1);' > "$work/wanted"
 awk -v main=a.cfg -f sdk/lib/lines.awk "$work/marked" > "$work/out"
 verdict "kit: lines.awk" "$(diff "$work/wanted" "$work/out")"
@@ -80,6 +80,17 @@ for level in -O0 -O2; do
     says "orders of a race, $level" 2 "-added 40, swapped 40, locked 40, taken 1" \
         project "$shared" hunt OPTIMIZE=$level CFLAGS=-DRACE TRIES=100
 done
+# steps JOURNAL: its other events, and how many steps each processor has before each of them.
+steps() {
+    awk '
+        $1 == "S" { sum[$2] += $3; next }
+        { print sum[1] + 0, sum[2] + 0, $0; sum[1] = sum[2] = 0 }
+        END { print sum[1] + 0, sum[2] + 0 }
+    ' "$1"
+}
+order=$work/build/hunt.journal
+verdict "kit: an order has the same steps" "$(diff <(steps "$shared/firmware.journal") <(steps "$order"))"
+verdict "kit: an order is another one" "$(cmp -s "$shared/firmware.journal" "$order" && echo "it is the same")"
 says "orders of two processors" 0 "ok: 5 orders, from seed 7 on, with the console of firmware.journal" \
     project examples/c_two_processors hunt TRIES=5 SEED=7
 
@@ -89,7 +100,8 @@ says "sdk/new" 0 "$new has a program in C, firmware.c. To build and test it: mak
 for level in -O0 -O1 -O2 -Os; do
     says "a new project, $level" 0 "ok: firmware.journal" make -s -C "$new" BOARD="$board" test OPTIMIZE=$level
 done
-verdict "kit: a new project's files" "$(diff <(LC_ALL=C ls "$new") <({ ls sdk/project; echo Makefile; echo build; } | LC_ALL=C sort))"
+{ ls sdk/project; echo Makefile; echo build; } | LC_ALL=C sort > "$work/wanted"
+verdict "kit: a new project's files" "$(LC_ALL=C ls "$new" | diff "$work/wanted" -)"
 
 # mistake NAME STATUS TEXT FILE SED ARGUMENT..: changes a file of the project by sed, and makes it.
 mistake() {
@@ -109,11 +121,13 @@ verdict "kit: the stack that overflowed" "$(
         grep -qE '^80[0-9a-f]{6} is greet firmware.c:[0-9]+$' "$work/said" || cat "$work/said")"
 mistake "an assertion in a task" 2 "+firmware.c:16: this doesn't hold: i < 2 (task 1, processor 1)" \
     firmware.c 's/answer == E_OK/i < 2/' test CFLAGS=-w
-mistake "an assertion of a CPU-locked task" 2 "+firmware.c:16: this doesn't hold: loc_cpu() != E_OK (task 1, processor 1)" \
+mistake "an assertion of a CPU-locked task" 2 \
+    "+firmware.c:16: this doesn't hold: loc_cpu() != E_OK (task 1, processor 1)" \
     firmware.c 's/answer == E_OK/loc_cpu() != E_OK/' test CFLAGS=-w
 mistake "an assertion in a handler" 2 "cpu 1 stopped" firmware.c 's/line == BUTTON/line != BUTTON/' test
 mistake "another console" 2 "+Hullo, number 2 of 3" firmware.c 's/Hello/Hullo/' test
-mistake "a function that isn't there" 2 "(.text.start+0x8): undefined reference to \`greeet'" firmware.cfg 's/greet/greeet/' all
+mistake "a function that isn't there" 2 "(.text.start+0x8): undefined reference to \`greeet'" \
+    firmware.cfg 's/greet/greeet/' all
 mistake "a wrong line of the configuration" 2 \
     "board: the configuration: line 5: found what no statement has here, expected one in the form of its kind" \
     firmware.cfg 's/CRE_SEM/CRE_MTX/' test
@@ -127,7 +141,8 @@ mistake "stacks that don't fit" 2 "mips-linux-gnu-ld: the program and the stacks
 mistake "a program that doesn't fit" 2 "mips-linux-gnu-ld: the program and the stacks of its tasks don't fit into RAM" \
     firmware.c '$aUB large[65536];' all
 mistake "floating point" 2 '*' firmware.c '$aint half(int n); int half(int n) { return n * 0.5; }' all
-verdict "kit: floating point isn't linked" "$(grep -q "undefined reference to \`__muldf3'" "$work/said" || cat "$work/said")"
+verdict "kit: floating point isn't linked" \
+    "$(grep -q "undefined reference to \`__muldf3'" "$work/said" || cat "$work/said")"
 mistake "another console" 2 "+Hullo, number 2 of 3" firmware.c 's/Hello/Hullo/' test
 cp "$new/firmware.journal" "$new/other.journal"
 says "a journal without a console" 2 "If that is right: make accept" project "$new" test

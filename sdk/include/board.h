@@ -1,4 +1,4 @@
-/* What a program for the board has besides the kernel's calls: a console, assertions, and words that processors share. */
+/* What a program for the board has besides the kernel's calls: a console, assertions, words that processors share. */
 #ifndef BOARD_H
 #define BOARD_H
 

@@ -1,5 +1,5 @@
-/* For programs that are built with STACK_CHECK=1: each function calls this first, which looks whether the stack has room
- * for it. It takes no stack itself, and no register that compilers use. */
+/* For programs that are built with STACK_CHECK=1: each function calls this first, which looks whether the stack has
+ * room for it. It takes no stack itself, and no register that compilers use. */
         .set    noreorder
         .equ    OVERFLOW_STACK, 512
         .section .text

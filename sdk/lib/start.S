@@ -1,7 +1,7 @@
-/* Where tasks and interrupt handlers begin, and what becomes of them when their functions in C return. The kernel begins
- * both with 0 in $ra, so a function that returned there would fetch its next instruction from 0, which is an exception.
- * A handler begins with 0 in $sp too: it gets a stack of its own for each line, since handlers of two processors run at
- * the same time. Above its stack pointer a function finds 16 bytes for its arguments, hence each 16 below.
+/* Where tasks and interrupt handlers begin, and what becomes of them when their functions in C return. The kernel
+ * begins both with 0 in $ra, so a function that returned there would fetch its next instruction from 0, which is an
+ * exception. A handler begins with 0 in $sp too: each line has a stack of its own, since handlers of two processors run
+ * at the same time. Above its stack pointer a function finds 16 bytes for its arguments, hence each 16 below.
  *
  * $k0, which no compiler uses, has the lowest address of the stack, for stack.S. Whatever is in $a0 stays there: a
  * task's argument (exinf), a handler's line. */

@@ -1,5 +1,5 @@
-/* Every conversion of printf, with widths and flags, and the functions of memory. firmware.console has what the printf of
- * the GNU C library writes. */
+/* Every conversion of printf, with widths and flags, and the functions of memory. firmware.console has what the printf
+ * of the GNU C library writes. */
 #include "board.h"
 #include "ids.h"
 
