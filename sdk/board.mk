@@ -25,7 +25,7 @@ SEED ?= 1
 BUILD ?= build
 
 BOARD ?= $(SDK)/../build/board
-export CROSS = mips-linux-gnu-
+export CROSS ?= mips-linux-gnu-
 CC = $(CROSS)gcc
 LD = $(CROSS)ld
 

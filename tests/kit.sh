@@ -119,6 +119,8 @@ mistake "a stack that overflows" 2 '*' firmware.c "$overflow" test STACK_CHECK=1
 verdict "kit: the stack that overflowed" "$(
     grep -qE '^\+the stack of task 1 \(processor 1\) has no room for the function at 80[0-9a-f]{6}$' "$work/said" &&
         grep -qE '^80[0-9a-f]{6} is greet firmware.c:[0-9]+$' "$work/said" || cat "$work/said")"
+mistake "a handler's stack that overflows" 2 "cpu 1 stopped" ids.h '' test STACK_CHECK=1 HANDLER_STACK=16
+mistake "a large stack" 0 "ok: firmware.journal" firmware.cfg 's/1024/40000/' test STACK_CHECK=1
 mistake "an assertion in a task" 2 "+firmware.c:16: this doesn't hold: i < 2 (task 1, processor 1)" \
     firmware.c 's/answer == E_OK/i < 2/' test CFLAGS=-w
 mistake "an assertion of a CPU-locked task" 2 \
