@@ -54,7 +54,11 @@ awk 'BEGIN {
 }' > "$work/kit/shared/firmware.journal"
 projects=(examples/c_program examples/c_two_processors "$work"/kit/*)
 what="programs in C, as Clang makes them"
-if have clang "$what" && have ld.lld "$what"; then
+if ! have clang "$what" || ! have ld.lld "$what"; then
+    :
+elif ! clang --target=mips-linux-gnu -x c -c -o "$work/object" /dev/null 2> /dev/null; then
+    echo "skipped: $what: this Clang has no MIPS"
+else
     for folder in "${projects[@]}"; do
         for level in -O0 -Os; do
             says "$(basename "$folder"), Clang, $level" 0 "ok: firmware.journal" \
