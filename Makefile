@@ -1,5 +1,5 @@
-# board: an emulated MIPS32 board for real-time software, proved. `make demo` and `make compare` need no toolchain; all
-# else needs Rattle's `rt`.
+# board: an emulated MIPS32 board for real-time software, proved. `make demo`, `make check` and `make compare` need no
+# toolchain; all else needs Rattle's `rt`.
 BOARD = build/board
 
 # The crates whose wrong bodies `make attack` tries (none: all), as in `make attack CRATES="brd_exec brd_isa"`.
@@ -9,15 +9,23 @@ CRATES =
 BOARDS = 2000
 SEED = 1
 
-.PHONY: demo board dist test attack compare gate-times bench clean
+.PHONY: unpack demo check board dist test attack compare gate-times bench clean
 
-# Unpacks the program of dist/ to build/board, and runs the examples.
-demo:
+# Runs the examples on the program of dist/.
+demo: unpack
+	examples/demo $(BOARD)
+
+# All tests that need no toolchain, on the program of dist/: 'N passed, M failed'. What needs a tool that is missing says
+# that it is skipped.
+check: unpack
+	tests/commands --without-toolchain $(BOARD)
+
+# Unpacks the program of dist/ to build/board.
+unpack:
 	mkdir -p build
 	gunzip -c dist/board.gz > $(BOARD)
 	chmod +x $(BOARD)
 	sha256sum --check --quiet dist/board.sha256
-	examples/demo $(BOARD)
 
 # Proves what has changed, from nothing on a fresh clone, leaves the program at build/board, and says whether it is that
 # of dist/.
