@@ -1,4 +1,4 @@
-use Rattle.std.proofs.Common.{◌∙◌, ◌≡◌, ap, ap₂, codes, rules}
+use Rattle.std.proofs.Common.{◌∙◌, ◌≡◌, ap, ap₂, codes, refl}
 use Rattle.clap.specs.Words.{App, app_of, new_app, with_rule, with_subcommand}
 use Rattle.brd_cli.proofs.usage.race_command.Goals as goal
 
@@ -10,4 +10,19 @@ returns c = λ old new adds.
     let three = c.in_ok-arg-3.ensures.shape c.needed-3.ensures.own ∙ ap₂ with_rule two c.needed-3.ensures.rule in
     let four = c.in_ok-arg-4.ensures.shape c.number.ensures.own ∙ ap₂ with_rule three c.number.ensures.rule in
     let five = c.in_ok-command.ensures.shape c.needed-4.ensures.own ∙ ap₂ with_rule four c.needed-4.ensures.rule in
-    adds.shape (search rules) ∙ ap (λ (form : App). with_subcommand (app_of old) form.top) five
+    adds.shape (rw (
+      c.in_ok-command.ensures.globals,
+      c.needed-4.ensures.own,
+      c.in_ok-arg-4.ensures.globals,
+      c.number.ensures.own,
+      c.in_ok-arg-3.ensures.globals,
+      c.needed-3.ensures.own,
+      c.in_ok-arg-2.ensures.globals,
+      c.needed-2.ensures.own,
+      c.in_ok-arg.ensures.globals,
+      c.needed.ensures.own,
+      c.after_help.ensures,
+      c.about.ensures,
+      c.new.ensures.local,
+    ) refl)
+    ∙ ap (λ (form : App). with_subcommand (app_of old) form.top) five
