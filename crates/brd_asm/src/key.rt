@@ -3,7 +3,7 @@
 
 ghost use Rattle.std.specs.Prelude.{◌≡◌, [], ◌∷◌};
 ghost use Rattle.brd_asm.specs.Key.{folded, written, finished, keys_of};
-ghost use borrow.Author.Rules.{rules};
+ghost use Rattle.std.proofs.Common.{rules};
 
 use std::hash::{BuildHasher, DefaultHasher, Hash, Hasher};
 
