@@ -1,11 +1,12 @@
 //! How long long sources take. `asm_bench` alone says what it finds in short ones; `asm_bench time` assembles a source
-//! of 1 MiB, 16 MiB of zeros, 65,534 segments in ascending and in descending order, and 100,000 names, and prints times
-//! too.
+//! of 1 MiB, 16 MiB of zeros, 65,534 segments in ascending and in descending order, 100,000 names, and 50,000 labels as
+//! they come and 50,000 chosen to be found slowly, and prints times too.
 #![tactic(auto)]
 
 use brd_asm::{AsmFault, assemble};
 use brd_mem::Image;
 use std::alloc::{AllocError, Global};
+use std::hash::{FoldHasher, Hasher};
 use std::time::Instant;
 use std::{env, io};
 
@@ -44,6 +45,69 @@ fn chain(alloc: Global, count: u32) -> Result<String, AllocError> {
     for i in 1..count {
         let line = format!(in alloc; ".equ n{i}, n{}+1\n", i - 1)?;
         text.push_str(line.as_str())?;
+    }
+    Ok(text)
+}
+
+/// A label without its last letter, as a number says: its first letter comes from the last digit.
+fn front(number: u32) -> [u8; 7] {
+    let mut letters = [b'a'; 7];
+    let mut left = number;
+    for letter in letters.iter_mut() {
+        *letter = b'a' + (left % 26) as u8;
+        left /= 26;
+    }
+    letters
+}
+
+/// The hash of what a map by std's usual hasher, whose seed is fixed, hashes of a label, up to its last letter.
+fn front_hash(letters: &[u8]) -> FoldHasher {
+    let mut hasher = FoldHasher::default();
+    hasher.write_usize(letters.len() + 1);
+    for letter in letters {
+        hasher.write_u8(*letter);
+    }
+    hasher
+}
+
+/// Whether that map would look for a label from the first of its 8,192 groups on.
+fn is_chosen(front: FoldHasher, letter: u8) -> bool {
+    let mut hasher = front;
+    hasher.write_u8(letter);
+    let hash = hasher.finish();
+    (hash ^ (hash >> 32)) % 8192 == 0
+}
+
+/// Puts a line with a label.
+fn put_label(text: &mut String, front: &[u8], last: u8) -> Result<(), AllocError> {
+    for letter in front {
+        text.push(char::from(*letter))?;
+    }
+    text.push(char::from(last))?;
+    text.push_str(":\n")
+}
+
+/// Puts the labels that begin as a number says, all or the chosen ones, as long as the text is shorter than `size`.
+fn put_labels(text: &mut String, number: u32, size: usize, chosen: bool) -> Result<(), AllocError> {
+    let letters = front(number);
+    let hash = front_hash(&letters);
+    for last in b'a'..=b'z' {
+        if text.len() < size && (!chosen || is_chosen(hash, last)) {
+            put_label(text, &letters, last)?;
+        }
+    }
+    Ok(())
+}
+
+/// As many labels of eight letters: all as they come, or those that a map with a fixed seed would look for in turn.
+fn labels(alloc: Global, count: u32, chosen: bool) -> Result<String, AllocError> {
+    let size = 10 * (count as usize);
+    let mut text = String::new(alloc);
+    for number in 0..u32::MAX {
+        if text.len() >= size {
+            break;
+        }
+        put_labels(&mut text, number, size, chosen)?;
     }
     Ok(text)
 }
@@ -91,7 +155,12 @@ fn all(rt: &(impl Print + AllocGlobal + std::rt::Clock), timed: bool) -> io::Res
     let text = islands(rt.alloc(), count, true)?;
     run(rt, "downward", text.as_str(), timed)?;
     let text = chain(rt.alloc(), if timed { 100_000 } else { 64 })?;
-    run(rt, "names", text.as_str(), timed)
+    run(rt, "names", text.as_str(), timed)?;
+    let count = if timed { 50_000 } else { 64 };
+    let text = labels(rt.alloc(), count, false)?;
+    run(rt, "labels", text.as_str(), timed)?;
+    let text = labels(rt.alloc(), count, true)?;
+    run(rt, "chosen labels", text.as_str(), timed)
 }
 
 fn main(rt: HostRuntime) -> io::Result<()> {

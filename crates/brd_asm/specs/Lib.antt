@@ -8,3 +8,4 @@ pub mod View
 pub mod LayoutView
 pub mod Index
 pub mod Output
+pub mod Key

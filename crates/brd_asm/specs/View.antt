@@ -1,7 +1,7 @@
 -- What clauses see of the values of the code.
-use Rattle.std.specs.Prelude.{ℕ, ℤ, List, map}
-use Rattle.std.specs.Borrow.{Bor}
+use Rattle.std.specs.Prelude.{ℤ, map}
 use Rattle.brd_source.specs.View as source
+use Rattle.brd_asm.specs.declared.key.NameKey.{NameKey}
 use Rattle.brd_asm.specs.declared.piece.Content as contents
 use Rattle.brd_asm.specs.declared.piece.Content.TheVariants as content_of
 use Rattle.brd_asm.specs.declared.piece.Piece as pieces
@@ -12,8 +12,8 @@ use Rattle.brd_asm.specs.Layout.{Content, Piece, Effect}
 use Rattle.brd_asm.specs.Layout.Content.{Code, Values, Bytes, Zeros}
 use Rattle.brd_asm.specs.Layout.Effect.{Stays, Moves, Equates, Fills}
 
-abbrev pub name : Bor (List ℕ) × ℤ → Name
-name entry = record { name = entry.0.now; value = entry.1 }
+abbrev pub name : NameKey × ℤ → Name
+name entry = record { name = entry.0.name.now; value = entry.1 }
 
 abbrev pub content : contents.Content → Content
 content (content_of.Code instruction) = Code (source.instruction_value instruction)

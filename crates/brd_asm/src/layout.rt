@@ -29,13 +29,13 @@ pub struct Layout<'a> {
 }
 
 impl<'a> Layout<'a> {
-    /// Nothing yet.
-    pub fn new(alloc: Global) -> Self
+    /// Nothing of a text yet.
+    pub fn new(alloc: Global, text: &[u8]) -> Self
         ensures { layout result ≡ nothing }
     {
         Layout {
             place: BASE,
-            names: Names::new(alloc),
+            names: Names::new(alloc, text),
             pieces: Pieces::new(alloc),
         }
     }

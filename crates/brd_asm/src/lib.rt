@@ -8,6 +8,7 @@ mod assembler;
 mod effect;
 mod fault;
 mod instruction;
+mod key;
 pub mod laws;
 mod layout;
 mod names;

@@ -1,12 +1,13 @@
 //! The names of a source and their values.
 
-ghost use Rattle.std.specs.Prelude.{◌≡◌, [], ◌∷◌, ◌++◌, false, map, IfOk, OnOk};
+ghost use Rattle.std.specs.Prelude.{◌≡◌, [], ◌∷◌, ◌++◌, false, map, IfOk};
 ghost use Rattle.brd_asm.specs.Faults.{Gives};
 ghost use Rattle.brd_asm.specs.Values.{named};
 ghost use Rattle.brd_asm.specs.Image.{symbol_of};
 ghost use Rattle.brd_asm.specs.Layout.{is_defined, define, labelled};
 
 use crate::fault::AsmFault;
+use crate::key::{NameKey, SourceHash};
 use crate::value::word;
 use brd_base::NoMemory;
 use brd_mem::{Bytes, Symbol, Symbols};
@@ -16,7 +17,7 @@ use std::marker::Model;
 
 /// Names in order of definition, each with its value.
 pub struct Names<'a> {
-    values: IndexMap<&'a [u8], i64>,
+    values: IndexMap<NameKey<'a>, i64, SourceHash>,
 }
 
 impl<'a> Model for Names<'a> {
@@ -37,12 +38,12 @@ impl Drop for Names<'_> {
 }
 
 impl<'a> Names<'a> {
-    /// No names.
-    pub fn new(alloc: Global) -> Self
+    /// No names of a text yet.
+    pub fn new(alloc: Global, text: &[u8]) -> Self
         ensures { result ≡ [] }
     {
         Names {
-            values: IndexMap::new(alloc),
+            values: IndexMap::with_hasher(alloc, SourceHash::new(text)),
         }
     }
 
@@ -50,7 +51,7 @@ impl<'a> Names<'a> {
     pub fn value(&self, name: &[u8]) -> Option<i64>
         ensures { result ≡ named self.now name.now }
     {
-        self.values.get(name).copied()
+        self.values.get(&NameKey { name }).copied()
     }
 
     /// Whether a name has a value.
@@ -65,19 +66,19 @@ impl<'a> Names<'a> {
     pub fn define(&mut self, line: usize, value: i64, name: &'a [u8]) -> Result<(), AsmFault>
         ensures { Gives (λ _. self.new) result (define line value name.entry.now self.old) }
     {
-        if self.has(name) {
+        if self.put(name, value)? {
             return Err(AsmFault::Twice { line });
         }
-        Ok(self.add(name, value)?)
+        Ok(())
     }
 
-    /// Gives a value to a name that has none yet.
-    fn add(&mut self, name: &'a [u8], value: i64) -> Result<(), NoMemory>
-        requires { is_defined self.old name.now ≡ false }
-        ensures { OnOk result (self.new ≡ self.old ++ record { name = name.entry.now; value = value } ∷ []) }
+    /// Gives a value to a name, and says whether it had one. If it had, the names are of no more use.
+    fn put(&mut self, name: &'a [u8], value: i64) -> Result<bool, NoMemory>
+        ensures had { IfOk result (λ had. had ≡ is_defined self.old name.entry.now) }
+        ensures put { IfOk result (λ had. had ≡ false → self.new ≡ self.old ++ record { name = name.entry.now; value = value } ∷ []) }
     {
-        self.values.insert(name, value)?;
-        Ok(())
+        let old = self.values.insert(NameKey { name }, value)?;
+        Ok(old.is_some())
     }
 
     /// Gives a place to labels. After a fault the names are of no more use.
@@ -95,9 +96,9 @@ impl<'a> Names<'a> {
         ensures { IfOk result (λ symbols. symbols ≡ map symbol_of self.now) }
     {
         let mut symbols = Symbols::new(alloc);
-        for (name, value) in self.values.iter() {
+        for (key, value) in self.values.iter() {
             let mut bytes = Bytes::new(alloc);
-            bytes.append(*name)?;
+            bytes.append(key.name)?;
             let value = word(*value);
             symbols.push(Symbol { name: bytes, value })?;
         }

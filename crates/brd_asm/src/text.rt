@@ -15,7 +15,7 @@ use std::alloc::Global;
 pub fn place_all<'a>(alloc: Global, text: &'a [u8]) -> Result<Layout<'a>, AsmFault>
     ensures { Gives layout result (all_placed 1 (lines_of text.now) nothing) }
 {
-    let mut placed = Layout::new(alloc);
+    let mut placed = Layout::new(alloc, text);
     let mut rest = text;
     let mut line = 1;
     'lines: loop {
