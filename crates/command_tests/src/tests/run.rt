@@ -44,7 +44,7 @@ fn run_failing(
 }
 
 /// The fault of an input that can't be read, by its place.
-const UNREAD: [&str; 3] = [
+pub const UNREAD: [&str; 3] = [
     "can't read the object file: the reader's own words",
     "can't read the configuration: the reader's own words",
     "can't read the journal: the reader's own words",
