@@ -301,11 +301,13 @@ for report in tests/scenarios/*/report; do
     check "debug: the end of $(basename "$folder")" 0 "$work/wanted" "" "${PIPESTATUS[0]}"
 done
 
-# The largest RAM, and its ends.
+# The largest RAM, and its ends; in little more memory than a few copies of it take.
 sed 's/0x10000)/0x1000000)/' $five/config.cfg > "$work/large.cfg"
 printf '%s\n' 'watch 80ffffff' 'goto 9' back 'mem 80ffffff' 'mem 81000000' 'regs 1' > "$work/in"
 printf '%s\n' ok 'at 9' none 00 outside 'pc 80000010' '$29 81000000' > "$work/wanted"
 debug "16 MiB of RAM" 0 "$work/wanted" "" "$work/five" "$work/large.cfg" $five/journal
+(ulimit -v 100000; exec "$board" debug "$work/five" "$work/large.cfg" $five/journal) < "$work/in" > "$work/out" 2> "$work/err"
+check "debug: 16 MiB of RAM in 100,000 KiB" 0 "$work/wanted" "" $?
 
 # Moves over a long journal, far apart: without snapshots each would do 2,500,000 events. The limit is one of processor
 # seconds, so it doesn't depend on how busy the machine is.

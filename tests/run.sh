@@ -140,7 +140,8 @@ rm "$work/padded"
 
 # It takes no more memory than it needs: 16 MiB of RAM, and little more.
 sed 's/0x10000)/0x1000000)/' $hello/config.cfg > "$work/large.cfg"
-(ulimit -v 40000; exec "$board" run "$work/hello" "$work/large.cfg" $hello/journal) < /dev/null > "$work/out" 2> "$work/err"
+(ulimit -v 40000; exec "$board" run "$work/hello" "$work/large.cfg" $hello/journal) \
+    < /dev/null > "$work/out" 2> "$work/err"
 check "run: 16 MiB of RAM in 40,000 KiB" 0 $hello/report "" $?
 
 : > "$work/in"
@@ -172,8 +173,9 @@ if [ "$can_refuse" = yes ]; then
     [ "$few" -gt 100 ] && [ "$few" = "$many" ] || wrong="$wrong; $few growths with few events, $many with 100,000"
     verdict "run: an event takes no memory" "$wrong"
     # All kinds of events are among them: one of each is at a position where the board shows it.
-    for address in 8000001c 80000154 80000158 800000cc 800000fc 80000140; do printf 'break %s\nnext\n' "$address"; done > "$work/in"
-    "$board" debug "$work/image" $counted/config.cfg "$work/journal" < "$work/in" 2> "$work/err" | grep -c '^at ' > "$work/out"
+    printf 'break %s\nnext\n' 8000001c 80000154 80000158 800000cc 800000fc 80000140 > "$work/in"
+    "$board" debug "$work/image" $counted/config.cfg "$work/journal" < "$work/in" 2> "$work/err" \
+        | grep -c '^at ' > "$work/out"
     echo 6 > "$work/wanted"
     check "run: these events are of each kind" 0 "$work/wanted" "" 0
 else

@@ -9,9 +9,13 @@ cp $five/config.cfg "$work/config"
 cp $five/journal "$work/journal"
 cp $five/source.s "$work/source"
 printf 'nop 1\n' > "$work/faulty"
+fault="board: the source: line 1: found what no line has, expected labels, then an instruction or a directive with its"
+fault="$fault operands: nop 1"
 echo 00000000 > "$work/words"
 printf 'goto 3\nquit\n' > "$work/commands"
-(cd "$work" && cat image config journal source faulty words commands) > "$work/all"
+files="image config journal source faulty words commands"
+# shellcheck disable=SC2086
+(cd "$work" && cat $files) > "$work/all"
 is_closed="$(LC_ALL=C cat 2>&1 <&- | sed -n '1s/.*: //p') (os error 9)"
 unread="board: can't read standard input: $is_closed"
 unwritten="board: can't write the output: $is_closed"
@@ -37,7 +41,8 @@ closed() {
     got=$?
     case $streams in *1*) output=$work/nothing ;; esac
     case $streams in *2*) error= ;; esac
-    (cd "$work" && cat image config journal source faulty words commands) | cmp -s - "$work/all" || got="$got with a changed file"
+    # shellcheck disable=SC2086
+    (cd "$work" && cat $files) | cmp -s - "$work/all" || got="$got with a changed file"
     check "streams: $1 without $streams" "$status" "$output" "$error" "$got"
 }
 
@@ -63,8 +68,7 @@ for streams in 0 1 2 01 02 12 012; do
     esac
     closed $streams 4 "$work/nothing" "board: can't open nosuch: $is_missing" words run image nosuch journal
     made $streams 0 "" source "$work/image"
-    made $streams 1 "board: the source: line 1: found what no line has, expected labels, then an instruction or a directive with its operands: nop 1" \
-        faulty "$work/nothing"
+    made $streams 1 "$fault" faulty "$work/nothing"
     closed $streams 2 "$work/nothing" "board: an argument isn't UTF-8" words words $'\xff'
 done
 summary
