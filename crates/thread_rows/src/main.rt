@@ -244,6 +244,17 @@ fn raced_surely<R: Threads + Wait + Sync>(
     bail!("out of memory twice")
 }
 
+/// Ticks, raises and ticks, each so often. Asks for memory once, however many they are.
+fn script_of_all(alloc: Global, often: usize) -> Result<Vec<Outer>> {
+    let mut script = Vec::with_capacity(alloc, often.saturating_mul(3))?;
+    for entry in [Outer::Tick, Outer::Raise(4), Outer::Tick] {
+        for _ in 0..often {
+            script.push(entry)?;
+        }
+    }
+    Ok(script)
+}
+
 /// The script of a text; once more where there was no memory.
 fn script_of(alloc: Global, text: &str) -> Result<Vec<Outer>> {
     match read_script(alloc, text.as_bytes()) {
@@ -252,30 +263,57 @@ fn script_of(alloc: Global, text: &str) -> Result<Vec<Outer>> {
     }
 }
 
+/// Tells what is left of a station of this script.
+fn tell_station(
+    rt: &impl Print,
+    alloc: Global,
+    boot: &Board,
+    script: &[Outer],
+    often: u32,
+) -> Result<()> {
+    let left = stationed_surely(alloc, boot, script, often as usize)?;
+    let (steps, outers, runs) = (left.steps, left.outers, left.runs);
+    println!(rt; "station: {steps} steps, {outers} of the script, {runs} runs")?;
+    Ok(())
+}
+
+/// Tells of a station and of a race, whose script is read.
+fn tell_all(
+    rt: &(impl Print + Threads + Wait + Sync),
+    alloc: Global,
+    boot: &Board,
+    often: u32,
+) -> Result<()> {
+    let text = format!(in alloc; "T {often}\nR 4 {often}\nT {often}\n")?;
+    let script = script_of(alloc, text.as_str())?;
+    tell_station(rt, alloc, boot, &script, often)?;
+    let left = raced_surely(rt, alloc, boot, &script)?;
+    let (steps, outers) = (left.steps, left.outers);
+    println!(rt; "race: {steps} steps, {outers} of the script")?;
+    Ok(())
+}
+
+/// The number that a text is.
+fn number_of(text: &str) -> Result<u32> {
+    match text.parse::<u32>() {
+        Ok(number) => Ok(number),
+        Err(_) => bail!("there is no number"),
+    }
+}
+
 fn run(rt: &(impl Input + Print + AllocGlobal + Threads + Wait + Sync)) -> Result<()> {
     let alloc = rt.alloc();
     let input = io::read_to_string(alloc, rt.reader())?;
     let text = input.as_str().trim();
-    let (text, is_alone) = match text.strip_suffix(" alone") {
-        Some(front) => (front, true),
-        None => (text, false),
-    };
-    let Ok(often) = text.parse::<u32>() else {
-        bail!("there is no number");
-    };
     let boot = boot(alloc)?;
-    let text = format!(in alloc; "T {often}\nR 4 {often}\nT {often}\n")?;
-    let script = script_of(alloc, text.as_str())?;
-    let left = stationed_surely(alloc, &boot, &script, often as usize)?;
-    let (steps, outers, runs) = (left.steps, left.outers, left.runs);
-    println!(rt; "station: {steps} steps, {outers} of the script, {runs} runs")?;
-    if is_alone {
-        return Ok(());
+    match text.strip_suffix(" alone") {
+        None => tell_all(rt, alloc, &boot, number_of(text)?),
+        Some(front) => {
+            let often = number_of(front)?;
+            let script = script_of_all(alloc, often as usize)?;
+            tell_station(rt, alloc, &boot, &script, often)
+        }
     }
-    let left = raced_surely(rt, alloc, &boot, &script)?;
-    let (steps, outers) = (left.steps, left.outers);
-    println!(rt; "race: {steps} steps, {outers} of the script")?;
-    Ok(())
 }
 
 fn main(rt: HostRuntime) -> Result<()> {
