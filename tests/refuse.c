@@ -7,6 +7,7 @@
 #include <fcntl.h>
 #include <stdio.h>
 #include <stdlib.h>
+#include <sys/syscall.h>
 #include <unistd.h>
 
 static long count;
@@ -17,6 +18,13 @@ __attribute__((destructor)) static void tell(void) {
     int file = name ? open(name, O_CREAT | O_WRONLY | O_TRUNC, 0600) : -1;
     if (file >= 0 && write(file, text, snprintf(text, sizeof text, "%ld\n", count)) >= 0)
         close(file);
+}
+
+/* A program that may have threads ends by this, and not by `exit`. */
+void _exit(int status) {
+    tell();
+    syscall(SYS_exit_group, status);
+    __builtin_unreachable();
 }
 
 static int is_refused(void) {

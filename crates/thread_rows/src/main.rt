@@ -4,7 +4,7 @@
 //! `alone` where there is to be no race. What is printed doesn't depend on the schedule.
 #![tactic(auto)]
 
-ghost use Rattle.std.specs.Prelude.{◌≡◌, ◌≤◌, length};
+ghost use Rattle.std.specs.Prelude.{◌≡◌, length};
 ghost use Rattle.brd_ledgers.specs.Blanks.{AreOf};
 ghost use Rattle.brd_threads.specs.Processors.{processors_of};
 
@@ -197,14 +197,25 @@ fn left_of<K: Race>(station: &Station<K>) -> Left {
     }
 }
 
-/// The same, on ledgers of its own, and once more where there was no memory.
+/// The same, on ledgers of its own.
+fn stationed_once(
+    alloc: Global,
+    boot: &Board,
+    script: &[Outer],
+    often: usize,
+) -> Result<Option<Left>> {
+    stationed::<Brand>(alloc, boot, script, often, Blanks::new())
+}
+
+/// The same; once more where there was no memory.
 fn stationed_surely(alloc: Global, boot: &Board, script: &[Outer], often: usize) -> Result<Left> {
-    for _ in 0..2u8 {
-        if let Some(left) = stationed::<Brand>(alloc, boot, script, often, Blanks::new())? {
-            return Ok(left);
-        }
+    if let Some(left) = stationed_once(alloc, boot, script, often)? {
+        return Ok(left);
     }
-    bail!("out of memory twice")
+    match stationed_once(alloc, boot, script, often)? {
+        Some(left) => Ok(left),
+        None => bail!("out of memory twice"),
+    }
 }
 
 /// What a race leaves.
@@ -223,7 +234,20 @@ fn raced<K: Race + Send + Sync, R: Threads + Wait + Sync>(
     Ok(left_of(&station))
 }
 
-/// The same, on ledgers of its own, and once more where there was no memory.
+/// The same, on ledgers of its own.
+fn raced_once<R: Threads + Wait + Sync>(
+    rt: &R,
+    alloc: Global,
+    boot: &Board,
+    script: &[Outer],
+    quotas: &[u64],
+) -> Result<Left, RaceFault>
+    requires each { length quotas.now ≡ processors_of boot.now }
+{
+    raced::<Brand, R>(rt, alloc, boot, script, quotas, Blanks::new())
+}
+
+/// The same; once more where there was no memory.
 fn raced_surely<R: Threads + Wait + Sync>(
     rt: &R,
     alloc: Global,
@@ -234,14 +258,10 @@ fn raced_surely<R: Threads + Wait + Sync>(
     if processors(boot) != quotas.len() {
         bail!("another board");
     }
-    for _ in 0..2u8 {
-        match raced::<Brand, R>(rt, alloc, boot, script, &quotas, Blanks::new()) {
-            Ok(left) => return Ok(left),
-            Err(RaceFault::NoMemory) => {}
-            Err(fault) => bail!("{fault}"),
-        }
+    match raced_once(rt, alloc, boot, script, &quotas) {
+        Err(RaceFault::NoMemory) => Ok(raced_once(rt, alloc, boot, script, &quotas)?),
+        answer => Ok(answer?),
     }
-    bail!("out of memory twice")
 }
 
 /// Ticks, raises and ticks, each so often. Asks for memory once, however many they are.
