@@ -129,10 +129,7 @@ fn reads_and_writes_are_interrupted(rt: HostRuntime) -> Result<(), Fail> {
 
 /// Whether `debug` gives up after 268,435,456 reads of commands, those of lines that it has answered too.
 fn gives_up(alloc: Global, image: &[u8]) -> bool {
-    let mut commands = Busy {
-        left: b"goto 2\nback\n",
-        reads: 0,
-    };
+    let mut commands = Busy::new(b"goto 2\nback\n", false);
     let mut writer = Taking::new(alloc);
     let ended = debug_by(alloc, image, &mut commands, &mut writer);
     let text = "standard input didn't end within 268,435,456 reads";

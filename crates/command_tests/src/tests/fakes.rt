@@ -46,11 +46,22 @@ impl<'a> Read for Bytewise<'a> {
     }
 }
 
-/// Gives a byte a read, and then interrupts each. It counts them.
+/// Gives a byte a read, and then ends, or interrupts each. It counts them.
 #[derive(Drop)]
 pub struct Busy<'a> {
     pub left: &'a [u8],
+    pub ends: bool,
     pub reads: u32,
+}
+
+impl<'a> Busy<'a> {
+    pub fn new(left: &'a [u8], ends: bool) -> Self {
+        Busy {
+            left,
+            ends,
+            reads: 0,
+        }
+    }
 }
 
 impl<'a> Read for Busy<'a> {
@@ -62,6 +73,7 @@ impl<'a> Read for Busy<'a> {
                 self.left = rest;
                 Ok(1)
             }
+            _ if self.ends => Ok(0),
             _ => Err(io::Error::from(ErrorKind::Interrupted)),
         }
     }
