@@ -1,5 +1,5 @@
-# board: an emulated MIPS32 board for real-time software, proved. `make demo`, `make compare` and `make fuzz` need no
-# toolchain; all else needs Rattle's `rt`.
+# board: an emulated MIPS32 board for real-time software, proved. `make demo`, `make check`, `make compare` and `make
+# fuzz` need no toolchain; all else needs Rattle's `rt`.
 BOARD = build/board
 
 # The crates whose wrong bodies `make attack` tries (none: all), as in `make attack CRATES="brd_exec brd_isa"`.
@@ -12,15 +12,23 @@ SEED = 1
 # How many inputs `make fuzz` tries, from the seed SEED on.
 INPUTS = 5000
 
-.PHONY: demo board dist test attack compare fuzz gate-times bench clean
+.PHONY: unpack demo check board dist test attack compare fuzz gate-times bench clean
 
-# Unpacks the program of dist/ to build/board, and runs the examples.
-demo:
+# Runs the examples on the program of dist/.
+demo: unpack
+	examples/demo $(BOARD)
+
+# All tests that need no toolchain, on the program of dist/: 'N passed, M failed'. What needs a tool that is missing says
+# that it is skipped.
+check: unpack
+	tests/commands --without-toolchain $(BOARD)
+
+# Unpacks the program of dist/ to build/board.
+unpack:
 	mkdir -p build
 	gunzip -c dist/board.gz > $(BOARD)
 	chmod +x $(BOARD)
 	sha256sum --check --quiet dist/board.sha256
-	examples/demo $(BOARD)
 
 # Proves what has changed, from nothing on a fresh clone, leaves the program at build/board, and says whether it is that
 # of dist/.
@@ -75,6 +83,7 @@ bench:
 	crates/elf_bench/out/elf_bench time
 	$(MAKE) board
 	tests/debug_speed $(BOARD)
+	tests/race_speed $(BOARD)
 
 clean:
 	rm -rf build crates/*/out

@@ -84,12 +84,14 @@ segments 65535
 : > "$work/wanted"
 asm "65,535 segments" 1 "${front}its image has more segments or bytes than an object file can hold"
 
-# The examples, which readelf reads too, where it is there.
+# The examples, which readelf reads too.
+readelf=
+have readelf "readelf of the examples" && readelf=yes
 for example in examples/*.s; do
     [ "$example" = examples/firmware.s ] && continue
     "$board" asm "$example" "$work/object" > "$work/out" 2> "$work/err"
     check "asm: $example" 0 "$work/nothing" "" $?
-    if command -v readelf > /dev/null; then
+    if [ $readelf ]; then
         readelf -a "$work/object" > /dev/null 2> "$work/err"
         got=$?
         : > "$work/out"

@@ -2,6 +2,7 @@
 # What the tests of every command share: each tests/NAME.sh reads this file, is run with the program, and ends with
 # `summary`. $board is the program, $work a folder for files, $work/nothing an empty one.
 set -u
+unset MAKEFLAGS MAKELEVEL MFLAGS
 [ $# = 1 ] || { echo "use: $0 PROGRAM" >&2; exit 2; }
 board=$(realpath -- "$1") || exit 2
 cd "$(dirname "${BASH_SOURCE[0]}")/.." || exit 2
@@ -50,6 +51,11 @@ check_usage() {
     [ "$(grep '^Usage' "$work/err")" = "$3" ] || wrong="$wrong; the usage isn't '$3'"
     [ "$(tail -n 1 "$work/err")" = "For more information, try '--help'." ] || wrong="$wrong; another last line"
     verdict "$1" "${wrong:+$wrong: $(head -c 600 "$work/err")}"
+}
+
+# have TOOL WHAT: whether a tool is there; a line says what is skipped where it isn't.
+have() {
+    command -v "$1" > /dev/null || { echo "skipped: $2: $1 is missing"; return 1; }
 }
 
 # check_script NAME COMMAND..: runs a test of its own, which prints one line for each thing that it tried. One that is

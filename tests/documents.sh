@@ -3,6 +3,7 @@
 # tests/documents.sh PROGRAM
 . "$(dirname "$0")/check.sh"
 
+have python3 "the documents" || { summary; exit; }
 check_script "the walks" tests/walks
 lines=$(tests/documents "$board")
 more=$(tail -n 1 <<< "$lines")
@@ -13,5 +14,10 @@ if [[ "$more" =~ ^([0-9]+)\ passed,\ ([0-9]+)\ failed$ ]]; then
 else
     fail "the commands of the documents" "$more"
 fi
+
+# Which C library README.md says that the program of dist/ wants.
+wanted=$(gunzip -c dist/board.gz | grep -aoE 'GLIBC_[0-9]+(\.[0-9]+)+' | sort -V | tail -n 1)
+grep -qF "GNU C library ${wanted#GLIBC_} or later" README.md && wanted=
+verdict "the C library in README.md" "${wanted:+the program wants $wanted}"
 
 summary

@@ -13,28 +13,33 @@ builds=crates/image_rows/out/image_rows
 debuggers=crates/debug_rows/out/debug_rows
 threads=crates/thread_rows/out/thread_rows
 
+# built PROGRAM: whether `rt ci` has left it; a line says that its tests are skipped where it hasn't.
+built() {
+    [ -x "$1" ] || { echo "skipped: ${1##*/}: $1 isn't there"; return 1; }
+}
+
 # The texts of the table, a few at a time: a growth that is refused ends the program.
-if [ -x "$rows" ]; then
+if built "$rows"; then
     sed -n '60,90p' crates/config_rows/stdin > "$work/in"
     "$rows" < "$work/in" > "$work/wanted"
     refuse_each "configuration texts" 1 "*[Mm]emory*" "$rows"
 fi
-if [ -x "$journals" ]; then
+if built "$journals"; then
     sed -n '/^# Neighbours/,/^$/p' crates/journal_rows/stdin > "$work/in"
     "$journals" < "$work/in" > "$work/wanted"
     refuse_each "journal texts" 1 "*[Mm]emory*" "$journals"
 fi
-if [ -x "$scenes" ]; then
+if built "$scenes"; then
     sed -n '/^= stacks/,/^$/p' crates/board_rows/stdin > "$work/in"
     "$scenes" < "$work/in" > "$work/wanted"
     refuse_each "boot" 1 "*[Mm]emory*" "$scenes"
 fi
-if [ -x "$elf" ]; then
+if built "$elf"; then
     : > "$work/in"
     "$elf" crates/elf_bench/data/firmware.elf > "$work/wanted"
     refuse_each "an object file" 1 "*[Mm]emory*" "$elf" crates/elf_bench/data/firmware.elf
 fi
-if [ -x "$builds" ]; then
+if built "$builds"; then
     cp crates/image_rows/stdin "$work/in"
     "$builds" < "$work/in" > "$work/wanted"
     refuse_each "build and load" 1 "*[Mm]emory*" "$builds"

@@ -30,15 +30,12 @@ for folder in tests/scenarios/*/; do
     fi
 done
 
-# The examples: each that has a journal prints its report.
-for journal in examples/*/*.journal; do
-    name=${journal%.journal}
+# The examples in assembler: each prints its report. (tests/kit.sh has those in C.)
+for report in examples/*/*.report; do
+    name=${report%.report}
     "$board" asm "$name.s" "$work/image" 2> "$work/err" || fail "run: $name" "$(cat "$work/err")"
-    run "$name" 0 "$name.report" "" "$work/image" "$name.cfg" "$journal"
+    run "$name" 0 "$report" "" "$work/image" "$name.cfg" "$name.journal"
 done
-
-# The example in C, where there is a compiler for it.
-check_script "the example in C" examples/c_program/build.sh "$board"
 
 # The files are opened in the order of the arguments, before any is read.
 hello=tests/scenarios/hello

@@ -22,6 +22,7 @@ unwritten="board: can't write the output: $is_closed"
 printf 'pc 80000004\n$29 80010000\n' > "$work/registers"
 echo 'at 3' > "$work/answers"
 "$board" run "$work/image" "$work/config" "$work/journal" > "$work/report"
+printf 'board-journal 1\nS 1 10\n' > "$work/raced"
 
 # closed STREAMS STATUS OUTPUT-FILE ERROR INPUT ARGUMENT..: runs the program without these streams, `0`, `1` or `2` or
 # several, in the folder of its files. What is on a stream that is open is as it has to be, and no file has changed.
@@ -66,6 +67,11 @@ for streams in 0 1 2 01 02 12 012; do
     *1*) closed $streams 4 "$work/nothing" "$unwritten" words run image config journal ;;
     *) closed $streams 0 "$work/report" "" words run image config journal ;;
     esac
+    case $streams in
+    *1*) closed $streams 4 "$work/nothing" "$unwritten" words race image config nothing 10 object ;;
+    *) closed $streams 0 "$work/report" "" words race image config nothing 10 object ;;
+    esac
+    verdict "streams: the journal of race without $streams" "$(cmp "$work/object" "$work/raced" 2>&1)"
     closed $streams 4 "$work/nothing" "board: can't open nosuch: $is_missing" words run image nosuch journal
     made $streams 0 "" source "$work/image"
     made $streams 1 "$fault" faulty "$work/nothing"

@@ -7,19 +7,19 @@ use Rattle.clap.specs.Words.{IsAmong, Row, Text, fault_of, first_of, kind_of, on
 use Rattle.clap.specs.declared.error.kind.ErrorKind.TheVariants.{MissingSubcommand}
 use Rattle.brd_command.specs.declared.fault.CommandFault.TheVariants.{NoMemory}
 use Rattle.brd_command.specs.declared.request.Request.{Request}
-use Rattle.brd_command.specs.declared.request.Request.TheVariants.{Words, Asm, Run, Debug}
+use Rattle.brd_command.specs.declared.request.Request.TheVariants.{Words, Asm, Run, Race, Debug}
 use Rattle.brd_cli.specs.declared.end.Stop.{Stop}
 use Rattle.brd_cli.specs.declared.end.Stop.TheVariants.{Fault, Usage}
-use Rattle.brd_cli.specs.Usage.{board, inputs, source_and_out}
+use Rattle.brd_cli.specs.Usage.{board, inputs, race_files, source_and_out}
 
 -- ---- what was given
 
--- the number that STEPS is, in decimal digits, maybe behind a +, and below 2 to the 32nd; none where it isn't there or
--- is no such number
-abbrev pub AreSteps : Option Text → Option ℕ → Type 0
-AreSteps None steps = steps ≡ None
-AreSteps (Some text) (Some n) = ParsesUnsigned {E = ⊤} 32 10 text (Ok n)
-AreSteps (Some text) None = ParsesUnsigned {E = ⊤} 32 10 text (Err tt)
+-- the number that an argument is, in decimal digits, maybe after a +, and below 2 to the 32nd; none where it isn't
+-- there or is no such number
+abbrev pub IsNumber : Option Text → Option ℕ → Type 0
+IsNumber None number = number ≡ None
+IsNumber (Some text) (Some n) = ParsesUnsigned {E = ⊤} 32 10 text (Ok n)
+IsNumber (Some text) None = ParsesUnsigned {E = ⊤} 32 10 text (Err tt)
 
 abbrev pub before : Option Text → Option (List Text) → Option (List Text)
 before (Some text) (Some texts) = Some (text ∷ texts)
@@ -33,15 +33,23 @@ given (name ∷ names) rows = before (first_of name rows) (given names rows)
 -- ---- requests
 
 abbrev pub AreWords : Option Text → Option Request → Type 0
-AreWords text None = AreSteps text None
-AreWords text (Some (Words steps)) = AreSteps text (Some steps)
+AreWords text None = IsNumber text None
+AreWords text (Some (Words steps)) = IsNumber text (Some steps)
 AreWords text (Some other) = ⊥
 
--- a request of files, as its command and their names
+-- the request of `race`: a quota that is this text, and files of these names
+abbrev pub IsRace : Option Text → Option (List Text) → Option Request → Type 0
+IsRace text names None = (names ≡ None) ⊎ IsNumber text None
+IsRace text names (Some (Race image config script quota out)) =
+    (names ≡ Some (image.now ∷ config.now ∷ script.now ∷ out.now ∷ [])) × IsNumber text (Some quota)
+IsRace text names (Some other) = ⊥
+
+-- a request, as its command and the names of its files
 abbrev pub spoken : Request → Text × List Text
 spoken (Words steps) = (codes "words", [])
 spoken (Asm source out) = (codes "asm", source.now ∷ out.now ∷ [])
 spoken (Run image config journal) = (codes "run", image.now ∷ config.now ∷ journal.now ∷ [])
+spoken (Race image config script quota out) = (codes "race", image.now ∷ config.now ∷ script.now ∷ out.now ∷ [])
 spoken (Debug image config journal) = (codes "debug", image.now ∷ config.now ∷ journal.now ∷ [])
 
 -- the request of a command of files has what was given for them, in this order
@@ -54,8 +62,9 @@ IsRequestOf name rows request =
     MatchBool (bytes_eq name (codes "words")) (AreWords (one_of (codes "STEPS") rows) request)
     (MatchBool (bytes_eq name (codes "asm")) (IsOfFiles (codes "asm") source_and_out rows request)
     (MatchBool (bytes_eq name (codes "run")) (IsOfFiles (codes "run") inputs rows request)
+    (MatchBool (bytes_eq name (codes "race")) (IsRace (one_of (codes "QUOTA") rows) (given race_files rows) request)
     (MatchBool (bytes_eq name (codes "debug")) (IsOfFiles (codes "debug") inputs rows request)
-    (request ≡ None))))
+    (request ≡ None)))))
 
 -- the request of a command with its rows; none where there is no command
 abbrev pub IsAsked : Option (Text × List Row) → Option Request → Type 0

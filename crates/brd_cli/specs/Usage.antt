@@ -9,16 +9,19 @@ use Rattle.clap.specs.declared.builder.value_parser.ValueParser.TheVariants.{Sig
 abbrev pub needed : Text → Rule
 needed name = record (new_rule name) { required = true; action = Some Set }
 
--- the number of steps, up to a million
-abbrev pub steps : Rule
-steps = record (needed (codes "STEPS")) { parser = Some (Signed (pos 0) (pos 1000000)) }
+-- an argument that is a number, up to a million
+abbrev pub number : Text → Rule
+number name = record (needed name) { parser = Some (Signed (pos 0) (pos 1000000)) }
 
--- the files that `asm` takes, and those that `run` and `debug` take
+-- the files that `asm` takes, those that `run` and `debug` take, and those that `race` takes beside its quota
 abbrev pub source_and_out : List Text
 source_and_out = codes "SOURCE" ∷ codes "OUT" ∷ []
 
 abbrev pub inputs : List Text
 inputs = codes "IMAGE" ∷ codes "CONFIG" ∷ codes "JOURNAL" ∷ []
+
+abbrev pub race_files : List Text
+race_files = codes "IMAGE" ∷ codes "CONFIG" ∷ codes "SCRIPT" ∷ codes "OUT" ∷ []
 
 -- a command that takes these arguments, in this order
 abbrev pub command_with : Text → List Rule → App
@@ -34,7 +37,7 @@ program_with name commands =
 
 -- the program and its commands
 abbrev pub words : App
-words = command_with (codes "words") (steps ∷ [])
+words = command_with (codes "words") (number (codes "STEPS") ∷ [])
 
 abbrev pub asm : App
 asm = command_with (codes "asm") (map needed source_and_out)
@@ -42,11 +45,15 @@ asm = command_with (codes "asm") (map needed source_and_out)
 abbrev pub run : App
 run = command_with (codes "run") (map needed inputs)
 
+abbrev pub race : App
+race = command_with (codes "race")
+    (needed (codes "IMAGE") ∷ needed (codes "CONFIG") ∷ needed (codes "SCRIPT") ∷ number (codes "QUOTA") ∷ needed (codes "OUT") ∷ [])
+
 abbrev pub debug : App
 debug = command_with (codes "debug") (map needed inputs)
 
 abbrev pub board : App
-board = program_with (codes "board") (words ∷ asm ∷ run ∷ debug ∷ [])
+board = program_with (codes "board") (words ∷ asm ∷ run ∷ race ∷ debug ∷ [])
 
 -- where the command is added to another, a command of this form is
 abbrev pub AddsForm : App → Command → Type 0

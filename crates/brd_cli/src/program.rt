@@ -9,10 +9,13 @@ use brd_command::{Files, perform};
 use std::alloc::Global;
 use std::convert::AsStr;
 use std::io::{Read, Write};
+use std::sync::Wait;
+use std::thread::Threads;
 
 /// Does what the words of a command line ask for, of which the first is the program's name, on files, standard input
 /// and standard output. Nothing is touched where they are refused, or ask for help.
-pub fn carry_out<S: AsStr, F: Files, R: Read, W: Write>(
+pub fn carry_out<S: AsStr, F: Files, R: Read, W: Write, T: Threads + Wait + Sync>(
+    rt: &T,
     alloc: Global,
     words: &[S],
     files: &mut F,
@@ -26,7 +29,7 @@ pub fn carry_out<S: AsStr, F: Files, R: Read, W: Write>(
         Ok(request) => request,
         Err(stop) => return Err(stop),
     };
-    match perform(alloc, files, input, output, request) {
+    match perform(rt, alloc, files, input, output, request) {
         Ok(()) => Ok(()),
         Err(fault) => Err(Stop::Fault(fault)),
     }

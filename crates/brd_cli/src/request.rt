@@ -3,9 +3,9 @@
 ghost use Rattle.std.specs.Prelude.{◌≡◌, ◌∷◌, [], IfOk, codes, map, option_map};
 ghost use Rattle.clap.specs.Words.{app_of, first_of, found_of, kind_of, one_of, rows_of, subcommand_rows_of};
 ghost use Rattle.clap.specs.declared.error.kind.ErrorKind.TheVariants.{MissingSubcommand};
-ghost use Rattle.brd_cli.specs.Requests.{AreSteps, IsAnswer, IsAsked, IsRequestOf, given};
+ghost use Rattle.brd_cli.specs.Requests.{IsAnswer, IsAsked, IsNumber, IsRace, IsRequestOf, given};
 ghost use Rattle.brd_cli.specs.Usage as usage;
-ghost use Rattle.brd_cli.specs.Usage.{inputs};
+ghost use Rattle.brd_cli.specs.Usage.{inputs, race_files};
 
 use crate::end::Stop;
 use crate::usage::board_command;
@@ -58,7 +58,7 @@ fn request_named<'a>(name: &str, arguments: &ArgMatches<'a>) -> Option<Request<'
 {
     match name {
         "words" => {
-            let steps = steps_of(arguments)?;
+            let steps = number_of(arguments, "STEPS")?;
             Some(Request::Words { steps })
         }
         "asm" => {
@@ -74,6 +74,7 @@ fn request_named<'a>(name: &str, arguments: &ArgMatches<'a>) -> Option<Request<'
                 journal,
             })
         }
+        "race" => race_of(arguments),
         "debug" => {
             let (image, config, journal) = inputs_of(arguments)?;
             Some(Request::Debug {
@@ -84,6 +85,25 @@ fn request_named<'a>(name: &str, arguments: &ArgMatches<'a>) -> Option<Request<'
         }
         _ => None,
     }
+}
+
+/// The request of `race`.
+fn race_of<'a>(arguments: &ArgMatches<'a>) -> Option<Request<'a>>
+    ensures { IsRace (one_of (codes "QUOTA") (rows_of (found_of arguments.now)))
+        (given race_files (rows_of (found_of arguments.now))) result }
+{
+    let image = text_of(arguments, "IMAGE")?;
+    let config = text_of(arguments, "CONFIG")?;
+    let script = text_of(arguments, "SCRIPT")?;
+    let out = text_of(arguments, "OUT")?;
+    let quota = number_of(arguments, "QUOTA")?;
+    Some(Request::Race {
+        image,
+        config,
+        script,
+        quota,
+        out,
+    })
 }
 
 /// The names IMAGE, CONFIG and JOURNAL, where all are there.
@@ -104,9 +124,9 @@ fn text_of<'a>(arguments: &ArgMatches<'a>, name: &str) -> Option<&'a str>
     arguments.get_str(name)
 }
 
-/// The number that was given for STEPS.
-fn steps_of(arguments: &ArgMatches) -> Option<u32>
-    ensures { AreSteps (one_of (codes "STEPS") (rows_of (found_of arguments.now))) result }
+/// The number that was given for an argument.
+fn number_of(arguments: &ArgMatches, name: &str) -> Option<u32>
+    ensures { IsNumber (one_of name.now (rows_of (found_of arguments.now))) result }
 {
-    arguments.get_one::<u32>("STEPS")
+    arguments.get_one::<u32>(name)
 }

@@ -3,7 +3,7 @@
 ghost use Rattle.std.specs.Prelude.{◌≡◌, ◌∷◌, [], IfOk, codes, false, map};
 ghost use Rattle.clap.specs.Words.{app_of, rule_of};
 ghost use Rattle.brd_cli.specs.Usage as usage;
-ghost use Rattle.brd_cli.specs.Usage.{AddsForm, board, command_with, inputs, source_and_out, steps};
+ghost use Rattle.brd_cli.specs.Usage.{AddsForm, board, command_with, inputs, race_files, source_and_out};
 
 use brd_base::NoMemory;
 use clap::{Arg, ArgAction, Command};
@@ -16,6 +16,7 @@ Files:
   object file    a big-endian ELF32 executable for MIPS, as `board asm` writes it
   configuration  text of statements: BOARD(..); first, then CRE_TSK(..); and so on
   journal        text: `board-journal 1` first, then lines as `S 1 6`, six steps of processor 1
+  script         text: lines as `T 5`, five ticks, or `R 4 1`, interrupt line 4 raised once
 
 Example:
   board asm hello.s hello.elf
@@ -44,10 +45,20 @@ Example:
   board asm hello.s hello.elf
   board run hello.elf hello.cfg hello.journal";
 
+/// What the help of `race` says of its files.
+const RACE: &str = "\
+Each processor of the board works in a thread of its own. SCRIPT has what comes from outside: lines
+`T COUNT` for ticks, `R LINE COUNT` for an interrupt line that is raised; with an empty file
+nothing comes. OUT gets the journal of what happened. It is created, or emptied if it is there.
+
+Example:
+  board race hello.elf hello.cfg hello.script 1000 hello.journal
+  board run hello.elf hello.cfg hello.journal";
+
 /// What the help of `debug` says of its commands.
 const DEBUG: &str = "\
 Commands, one a line:
-  goto N   goes to position N, behind N events
+  goto N   goes to position N, after N events
   next     goes forward to the next stop
   back     goes backward to the last stop before
   break X  sets a break at the instruction at X
@@ -71,6 +82,7 @@ pub fn board_command<'a>(alloc: Global) -> Result<Command<'a>, NoMemory>
         .subcommand(words_command(alloc)?)?
         .subcommand(asm_command(alloc)?)?
         .subcommand(run_command(alloc)?)?
+        .subcommand(race_command(alloc)?)?
         .subcommand(debug_command(alloc)?)?;
     Ok(board)
 }
@@ -79,12 +91,11 @@ pub fn board_command<'a>(alloc: Global) -> Result<Command<'a>, NoMemory>
 fn words_command<'a>(alloc: Global) -> Result<Command<'a>, NoMemory>
     ensures { IfOk result (AddsForm usage.words) }
 {
-    let steps = needed(
+    let steps = number(
         alloc,
         "STEPS",
         "How many instructions processor 1 executes, 0 to 1,000,000",
-    )
-    .value_parser(clap::value_parser!(u32).range(0..=1_000_000));
+    );
     let command = Command::new(alloc, "words")
         .about("Runs the words that standard input has in hexadecimal, and prints the registers")
         .after_help(WORDS)
@@ -120,6 +131,35 @@ fn run_command<'a>(alloc: Global) -> Result<Command<'a>, NoMemory>
     )
 }
 
+/// What `race` takes.
+fn race_command<'a>(alloc: Global) -> Result<Command<'a>, NoMemory>
+    ensures { IfOk result (AddsForm usage.race) }
+{
+    let command = Command::new(alloc, "race")
+        .about(
+            "Boots a board whose processors work in threads of the host, records its journal, and prints a report",
+        )
+        .after_help(RACE)
+        .arg(needed(
+            alloc,
+            "IMAGE",
+            "The board's object file, an ELF32 executable",
+        ))?
+        .arg(needed(alloc, "CONFIG", "The file of its kernel's configuration"))?
+        .arg(needed(
+            alloc,
+            "SCRIPT",
+            "A script: what comes from outside, in order",
+        ))?
+        .arg(number(
+            alloc,
+            "QUOTA",
+            "How many steps each processor does unless the board goes off, 0 to 1,000,000",
+        ))?
+        .arg(needed(alloc, "OUT", "Where the journal goes"))?;
+    Ok(command)
+}
+
 /// What `debug` takes.
 fn debug_command<'a>(alloc: Global) -> Result<Command<'a>, NoMemory>
     ensures { IfOk result (AddsForm usage.debug) }
@@ -152,6 +192,14 @@ fn with_inputs<'a>(
             "A journal: the events that the board does",
         ))?;
     Ok(command)
+}
+
+/// An argument that is a number up to a million, and has to be given.
+fn number<'a>(alloc: Global, name: &'a str, help: &'a str) -> Arg<'a>
+    ensures rule { rule_of result ≡ usage.number name.entry.now }
+    ensures own { result.global ≡ false }
+{
+    needed(alloc, name, help).value_parser(clap::value_parser!(u32).range(0..=1_000_000))
 }
 
 /// An argument that has to be given, with one value.

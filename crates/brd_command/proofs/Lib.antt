@@ -7,4 +7,5 @@ pub mod LineLemmas
 pub mod AnswerLemmas
 pub mod StartLemmas
 pub mod RunLemmas
+pub mod RaceLemmas
 pub mod DebugLineLemmas

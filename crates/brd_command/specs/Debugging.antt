@@ -13,6 +13,7 @@ use Rattle.brd_command.specs.declared.debug_line.DebugCommand.{DebugCommand}
 use Rattle.brd_command.specs.declared.debug_line.DebugCommand.TheVariants.{Quit}
 use Rattle.brd_command.specs.declared.fault.CommandFault.{CommandFault}
 use Rattle.brd_command.specs.declared.fault.CommandFault.TheVariants.{NoMemory, Read, TooLong, TooManyReads, Write}
+use Rattle.brd_command.specs.declared.input_name.InputName.TheVariants as input_name
 use Rattle.brd_command.specs.declared.input_name.InputName.TheVariants.{StandardInput}
 use Rattle.brd_command.specs.declared.start.Start.{Start}
 
@@ -99,7 +100,7 @@ pub record GivesNoDebugger {C : Type 0} (image config journal : List ℕ) (input
     (old new : Option (List ℕ)) : Type 0 where
   pub fault : CommandFault
   pub is_fault : result ≡ Err fault
-  pub keeps_from : KeepsFromStarting image config journal fault
+  pub keeps_from : KeepsFromStarting input_name.Journal image config journal fault
   pub unread : input ≡ input_first
   pub nothing : Keeps old new
 

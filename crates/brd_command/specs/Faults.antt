@@ -7,11 +7,15 @@ use Rattle.brd_image.specs.Faults as build
 use Rattle.brd_image.specs.declared.fault.BuildFault.{BuildFault}
 use Rattle.brd_journal.specs.Faults as journal
 use Rattle.brd_journal.specs.declared.fault.JournalFault.{JournalFault}
+use Rattle.brd_threads.specs.Faults as threads
+use Rattle.brd_threads.specs.declared.fault.RaceFault.{RaceFault}
+use Rattle.brd_threads.specs.declared.fault.RaceFault.TheVariants as race_fault
+use Rattle.brd_threads.specs.declared.fault.ScriptFault.{ScriptFault}
 use Rattle.brd_command.specs.Excerpt.{name_excerpt}
-use Rattle.brd_command.specs.FileKinds.{build_looks_like, journal_looks_like}
+use Rattle.brd_command.specs.FileKinds.{build_looks_like, journal_looks_like, script_looks_like}
 use Rattle.brd_command.specs.declared.input_name.InputName.{InputName}
 use Rattle.brd_command.specs.declared.fault.CommandFault.{CommandFault}
-use Rattle.brd_command.specs.declared.fault.CommandFault.TheVariants.{NoMemory, Argument, Words, Source, ImageTooLarge, Open, Read, TooLong, TooManyReads, Build, Journal, Write}
+use Rattle.brd_command.specs.declared.fault.CommandFault.TheVariants.{NoMemory, Argument, Words, Source, ImageTooLarge, Open, Read, TooLong, TooManyReads, Build, Journal, Script, Race, Write}
 
 -- the status that the program ends with
 abbrev pub status_of : CommandFault → ℕ
@@ -26,6 +30,8 @@ status_of (TooLong input) = 4
 status_of (TooManyReads input) = 4
 status_of (Build fault kind) = 1
 status_of (Journal fault kind) = 1
+status_of (Script fault kind) = 1
+status_of (Race fault) = 1
 status_of (Write error) = 4
 
 -- the fault of a read of an input that failed with this error: lack of memory where its kind says so, else the error
@@ -47,6 +53,15 @@ of_build image config fault = if build.is_no_memory fault then NoMemory else Bui
 -- the fault of a journal's text, likewise
 abbrev pub of_journal : List ℕ → JournalFault → CommandFault
 of_journal text fault = if journal.is_no_memory fault then NoMemory else Journal fault (journal_looks_like text fault)
+
+-- the fault of a script's text, likewise
+abbrev pub of_script : List ℕ → ScriptFault → CommandFault
+of_script text fault = if threads.is_no_memory fault then NoMemory else Script fault (script_looks_like text fault)
+
+-- the fault of a race, likewise
+abbrev pub of_race : RaceFault → CommandFault
+of_race race_fault.NoMemory = NoMemory
+of_race fault = Race fault
 
 -- the fault of a command line that couldn't be taken: lack of memory where the error's kind says so, else an argument
 -- that isn't UTF-8

@@ -13,8 +13,10 @@ use Rattle.brd_asm.specs.declared.fault.AsmFault.{AsmFault}
 use Rattle.brd_asm.specs.declared.fault.AsmFault.TheVariants as asm_fault
 use Rattle.brd_journal.specs.declared.fault.JournalFault.{JournalFault}
 use Rattle.brd_journal.specs.declared.fault.JournalFault.TheVariants as journal_fault
+use Rattle.brd_threads.specs.declared.fault.ScriptFault.{ScriptFault}
+use Rattle.brd_threads.specs.declared.fault.ScriptFault.TheVariants as script_fault
 use Rattle.brd_command.specs.declared.file_kind.FileKind.{FileKind}
-use Rattle.brd_command.specs.declared.file_kind.FileKind.TheVariants.{ObjectFile, Configuration, Journal, Source, Empty}
+use Rattle.brd_command.specs.declared.file_kind.FileKind.TheVariants.{ObjectFile, Configuration, Journal, Script, Source, Empty}
 
 -- the first word, behind blanks and comments, is BOARD
 abbrev pub begins_with_board : List ℕ → Bool
@@ -27,25 +29,32 @@ is_text_byte b = is_blank b || (nat_le 32 b && nat_le b 126)
 abbrev pub are_text : List ℕ → Bool
 are_text bytes = list_all is_text_byte bytes
 
--- The kind of which a file looks: an object file and a journal by their first bytes, a configuration by its first word.
--- Any other text, by its first 1,024 bytes, is source.
+-- it begins as an entry of a script does: with T or R, and a space
+abbrev pub begins_with_entry : List ℕ → Bool
+begins_with_entry bytes = starts_with nat_eq bytes (codes "T ") || starts_with nat_eq bytes (codes "R ")
+
+-- The kind of which a file looks: an object file, a journal and a script by their first bytes, a configuration by its
+-- first word. Any other text, by its first 1,024 bytes, is source.
 unfoldable pub looks_like : List ℕ → Option FileKind
 looks_like bytes =
     if length bytes == 0 then Some Empty
     else (if starts_with nat_eq bytes magic then Some ObjectFile
     else (if starts_with nat_eq bytes (codes "board-journal") then Some Journal
+    else (if begins_with_entry bytes then Some Script
     else (if begins_with_board bytes then Some Configuration
     else (if are_text (take 1024 bytes) then Some Source
-    else None))))
+    else None)))))
 
--- Another kind than a file should be of. Text in the place of a configuration or a journal may be one that has a fault,
--- so that it isn't taken for source.
+-- Another kind than a file should be of. Text in the place of a configuration, a journal or a script may be one that has
+-- a fault, so that it isn't taken for source.
 abbrev pub unless_own : FileKind → FileKind → Option FileKind
 unless_own ObjectFile ObjectFile = None
 unless_own Configuration Configuration = None
 unless_own Configuration Source = None
 unless_own Journal Journal = None
 unless_own Journal Source = None
+unless_own Script Script = None
+unless_own Script Source = None
 unless_own Source Source = None
 unless_own wanted kind = Some kind
 
@@ -64,6 +73,11 @@ build_looks_like image config fault = None
 abbrev pub journal_looks_like : List ℕ → JournalFault → Option FileKind
 journal_looks_like text (journal_fault.Syntax line) = other_kind Journal text
 journal_looks_like text fault = None
+
+-- what a fault of a script says that it looks like: one that hasn't the form of a script
+abbrev pub script_looks_like : List ℕ → ScriptFault → Option FileKind
+script_looks_like text (script_fault.Syntax line) = other_kind Script text
+script_looks_like text fault = None
 
 -- what a fault of a source says that it looks like: one that hasn't the form of a source
 abbrev pub source_looks_like : List ℕ → AsmFault → Option FileKind

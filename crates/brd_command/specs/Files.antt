@@ -1,12 +1,13 @@
--- What the files of a command give it, and how `asm`, `run` and `debug` end on them. `opened` and `created` say what a
--- call on files did: the files before, a name, what the call gave, and the files after; `closed` says what letting a
--- written file go did. `remaining` says what a file has left to read, `contents` what a file holds that is written;
--- `before` and `behind` are what standard output held before and behind the command.
+-- What the files of a command give it, and how `asm`, `run`, `race` and `debug` end on them. `opened` and `created` say
+-- what a call on files did: the files before, a name, what the call gave, and the files after; `closed` says what letting
+-- a written file go did. `remaining` says what a file has left to read, `contents` what a file holds that is written;
+-- `before` and `behind` are what standard output held before and after the command.
 use Rattle.std.specs.Prelude.{◌≡◌, ℕ, List, Option, IfSome, Result, Ok, Err, IsErrAnd}
 use Rattle.std.specs.declared.io.Error.{Error}
 use Rattle.brd_command.specs.AsmCommand.{AsmEnds}
 use Rattle.brd_command.specs.Faults.{IsOfOpen}
 use Rattle.brd_command.specs.Debugging.{DebugEnds}
+use Rattle.brd_command.specs.RaceCommand.{RaceEnds}
 use Rattle.brd_command.specs.RunCommand.{RunEnds}
 use Rattle.brd_command.specs.declared.fault.CommandFault.{CommandFault}
 use Rattle.brd_command.specs.declared.files.Inputs.{Inputs}
@@ -28,23 +29,23 @@ pub data AsmFilesEnd {F R W : Type 0}
       IfSome (remaining reader) (λ text. AsmEnds result text (contents writer) (contents last)) →
       AsmFilesEnd opened created closed remaining contents old source out result new
 
--- IMAGE is opened first, then CONFIG, then JOURNAL, up to the first that can't be. Its fault has that file's name,
--- unless memory ran out.
+-- IMAGE is opened first, then CONFIG, then a last file, JOURNAL or SCRIPT, up to the first that can't be. Its fault
+-- has that file's name, unless memory ran out.
 pub data OpensInputs {F R : Type 0} (opened : F → List ℕ → Result R Error → F → Type 0)
-    (old : F) (image config journal : List ℕ) (result : Result (Inputs R) CommandFault) (new : F) : Type 0 where
+    (old : F) (image config last : List ℕ) (result : Result (Inputs R) CommandFault) (new : F) : Type 0 where
   no_image : {error : Error} → opened old image (Err error) new → IsErrAnd result (IsOfOpen image error) →
-      OpensInputs opened old image config journal result new
+      OpensInputs opened old image config last result new
   no_config : {between : F} {reader : R} {error : Error} →
       opened old image (Ok reader) between → opened between config (Err error) new → IsErrAnd result (IsOfOpen config error) →
-      OpensInputs opened old image config journal result new
-  no_journal : {first second : F} {of_image of_config : R} {error : Error} →
-      opened old image (Ok of_image) first → opened first config (Ok of_config) second → opened second journal (Err error) new →
-      IsErrAnd result (IsOfOpen journal error) →
-      OpensInputs opened old image config journal result new
+      OpensInputs opened old image config last result new
+  no_last : {first second : F} {of_image of_config : R} {error : Error} →
+      opened old image (Ok of_image) first → opened first config (Ok of_config) second → opened second last (Err error) new →
+      IsErrAnd result (IsOfOpen last error) →
+      OpensInputs opened old image config last result new
   all : {first second : F} {inputs : Inputs R} →
-      opened old image (Ok inputs.image) first → opened first config (Ok inputs.config) second → opened second journal (Ok inputs.journal) new →
+      opened old image (Ok inputs.image) first → opened first config (Ok inputs.config) second → opened second last (Ok inputs.last) new →
       result ≡ Ok inputs →
-      OpensInputs opened old image config journal result new
+      OpensInputs opened old image config last result new
 
 -- The report is written only where all three files were opened; else nothing was written.
 pub data RunFilesEnd {F R : Type 0}
@@ -53,9 +54,28 @@ pub data RunFilesEnd {F R : Type 0}
   not_opened : {fault : CommandFault} → OpensInputs opened old image config journal (Err fault) new → result ≡ Err fault → before ≡ behind →
       RunFilesEnd opened remaining old image config journal before behind result new
   ended : {inputs : Inputs R} → OpensInputs opened old image config journal (Ok inputs) new →
-      IfSome (remaining inputs.image) (λ file. IfSome (remaining inputs.config) (λ statements. IfSome (remaining inputs.journal) (λ events.
+      IfSome (remaining inputs.image) (λ file. IfSome (remaining inputs.config) (λ statements. IfSome (remaining inputs.last) (λ events.
       RunEnds result file statements events before behind))) →
       RunFilesEnd opened remaining old image config journal before behind result new
+
+-- OUT is created only where all three files were opened; what `race` writes is written only where it was created too,
+-- and then OUT is let go as `race` left it. The fault of OUT has its name; unless all four were opened, nothing is
+-- written on standard output.
+pub data RaceFilesEnd {F R W : Type 0}
+    (opened : F → List ℕ → Result R Error → F → Type 0) (created : F → List ℕ → Result W Error → F → Type 0)
+    (closed : F → W → F → Type 0) (remaining : R → Option (List ℕ)) (contents : W → Option (List ℕ))
+    (old : F) (image config script : List ℕ) (quota : ℕ) (out : List ℕ) (before behind : Option (List ℕ))
+    (result : Result Unit CommandFault) (new : F) : Type 0 where
+  not_opened : {fault : CommandFault} → OpensInputs opened old image config script (Err fault) new → result ≡ Err fault → before ≡ behind →
+      RaceFilesEnd opened created closed remaining contents old image config script quota out before behind result new
+  not_created : {all : F} {inputs : Inputs R} {error : Error} → OpensInputs opened old image config script (Ok inputs) all →
+      created all out (Err error) new → IsErrAnd result (IsOfOpen out error) → before ≡ behind →
+      RaceFilesEnd opened created closed remaining contents old image config script quota out before behind result new
+  ended : {all both : F} {inputs : Inputs R} {writer last : W} → OpensInputs opened old image config script (Ok inputs) all →
+      created all out (Ok writer) both → closed both last new →
+      IfSome (remaining inputs.image) (λ file. IfSome (remaining inputs.config) (λ statements. IfSome (remaining inputs.last) (λ text.
+      RaceEnds result quota file statements text (contents writer) (contents last) before behind))) →
+      RaceFilesEnd opened created closed remaining contents old image config script quota out before behind result new
 
 -- Standard input, which had `input_first` in it and has `input` left, is read, and answers are written, only where all
 -- three files were opened; else neither was.
@@ -67,6 +87,6 @@ pub data DebugFilesEnd {F R C : Type 0}
       input ≡ input_first →
       DebugFilesEnd opened remaining unread old image config journal input_first input before behind result new
   ended : {inputs : Inputs R} → OpensInputs opened old image config journal (Ok inputs) new →
-      IfSome (remaining inputs.image) (λ file. IfSome (remaining inputs.config) (λ statements. IfSome (remaining inputs.journal) (λ events.
+      IfSome (remaining inputs.image) (λ file. IfSome (remaining inputs.config) (λ statements. IfSome (remaining inputs.last) (λ events.
       DebugEnds unread file statements events input_first input result before behind))) →
       DebugFilesEnd opened remaining unread old image config journal input_first input before behind result new

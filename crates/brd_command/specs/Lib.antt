@@ -10,6 +10,7 @@ pub mod AsmCommand
 pub mod Report
 pub mod Start
 pub mod RunCommand
+pub mod RaceCommand
 pub mod DebugLine
 pub mod DebugGrammar
 pub mod Lines

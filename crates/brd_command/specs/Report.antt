@@ -1,4 +1,4 @@
--- What `run` prints of a board, and lines that `debug` prints too: how many events happened to it, the time, each
+-- What `run` and `race` print of a board, and lines that `debug` prints too: how many events happened to it, the time, each
 -- processor, each task, and the console (own choice).
 use Rattle.std.specs.Prelude.{ℕ, List, [], ◌∷◌, ◌++◌, codes, length, if◌then◌else◌, Option, Some, None}
 use Rattle.std.specs.Fmt.{decimal}

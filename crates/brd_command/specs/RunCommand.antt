@@ -7,6 +7,7 @@ use Rattle.brd_command.specs.Report.{report_of}
 use Rattle.brd_command.specs.Start.{AreWithin, IsStart, KeepsFromStarting}
 use Rattle.brd_command.specs.declared.fault.CommandFault.{CommandFault}
 use Rattle.brd_command.specs.declared.fault.CommandFault.TheVariants.{NoMemory, Write}
+use Rattle.brd_command.specs.declared.input_name.InputName.TheVariants as input_name
 use Rattle.brd_command.specs.declared.start.Start.{Start}
 
 -- The bytes that show what comes of an object file, a configuration and a journal: the report of the board that the
@@ -21,7 +22,7 @@ pub record ShowsRun (image config text bytes : List ℕ) : Type 0 where
 abbrev pub RefusesRun : CommandFault → List ℕ → List ℕ → List ℕ → Option (List ℕ) → Option (List ℕ) → Type 0
 RefusesRun NoMemory image config journal old new = Keeps old new
 RefusesRun (Write error) image config journal old new = WritesFront (ShowsRun image config journal) old new
-RefusesRun fault image config journal old new = KeepsFromStarting image config journal fault × Keeps old new
+RefusesRun fault image config journal old new = KeepsFromStarting input_name.Journal image config journal fault × Keeps old new
 
 -- how `run` ends: the report was written, or it was refused
 abbrev pub RunEnds : Result Unit CommandFault → List ℕ → List ℕ → List ℕ → Option (List ℕ) → Option (List ℕ) → Type 0

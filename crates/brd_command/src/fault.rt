@@ -14,6 +14,7 @@ use brd_config::ConfigFault;
 use brd_elf::ElfFault;
 use brd_image::BuildFault;
 use brd_journal::JournalFault;
+use brd_threads::{RaceFault, ScriptFault};
 use std::alloc::Global;
 use std::io::{self, ErrorKind};
 use thiserror::Error;
@@ -54,13 +55,19 @@ pub enum CommandFault {
     /// The journal's text has a fault. It looks like a file of this kind.
     #[error("the journal: {0}{hint}", hint = hint(*.1))]
     Journal(JournalFault, Option<FileKind>),
+    /// The script's text has a fault. It looks like a file of this kind.
+    #[error("the script: {0}{hint}", hint = hint(*.1))]
+    Script(ScriptFault, Option<FileKind>),
+    /// A race has no result.
+    #[error("the race: {0}")]
+    Race(RaceFault),
     /// Output couldn't be written.
     #[error("can't write the output: {0}")]
     Write(io::Error),
 }
 
 impl CommandFault {
-    ghost use Rattle.brd_command.specs.Faults.{status_of, IsOfRead, IsOfOpen, IsOfArguments, of_build, of_journal};
+    ghost use Rattle.brd_command.specs.Faults.{status_of, IsOfRead, IsOfOpen, IsOfArguments, of_build, of_journal, of_race, of_script};
 
     /// The fault of a read of an input that failed: lack of memory, or the error itself.
     pub fn of_read(input: InputName, error: io::Error) -> Self
@@ -117,8 +124,31 @@ impl CommandFault {
         }
     }
 
-    /// The status that the program ends with: 1 for a fault of the input, 2 for one of the command line, 3 for want of
-    /// memory, 4 where reading or writing failed.
+    /// The fault of a text that is no script: lack of memory, or the fault itself, and the other kind of which the text
+    /// looks.
+    pub fn of_script(fault: ScriptFault, text: &[u8]) -> Self
+        ensures { result ≡ of_script text.now fault }
+    {
+        match fault {
+            ScriptFault::NoMemory => CommandFault::NoMemory,
+            ScriptFault::Syntax { .. } => {
+                CommandFault::Script(fault, other_kind(FileKind::Script, text))
+            }
+        }
+    }
+
+    /// The fault of a race: lack of memory, or the fault itself.
+    pub fn of_race(fault: RaceFault) -> Self
+        ensures { result ≡ of_race fault }
+    {
+        match fault {
+            RaceFault::NoMemory => CommandFault::NoMemory,
+            RaceFault::JournalFull | RaceFault::Broken => CommandFault::Race(fault),
+        }
+    }
+
+    /// The status that the program ends with: 1 for a fault of the input or of a race, 2 for one of the command line, 3
+    /// for want of memory, 4 where reading or writing failed.
     pub fn status(&self) -> u8
         ensures { result ≡ status_of self.now }
     {
@@ -127,7 +157,9 @@ impl CommandFault {
             | CommandFault::Source(_, _, _)
             | CommandFault::ImageTooLarge
             | CommandFault::Build(_, _)
-            | CommandFault::Journal(_, _) => 1,
+            | CommandFault::Journal(_, _)
+            | CommandFault::Script(_, _)
+            | CommandFault::Race(_) => 1,
             CommandFault::Argument => 2,
             CommandFault::NoMemory => 3,
             CommandFault::Open(_, _)

@@ -12,6 +12,11 @@ const OBJECT_FILE: &[u8] = b"\x7fELF";
 /// The first bytes of a journal.
 const JOURNAL: &[u8] = b"board-journal";
 
+/// The first bytes of an entry of a script.
+const TICKS: &[u8] = b"T ";
+
+const RAISES: &[u8] = b"R ";
+
 /// How many bytes are looked at to tell text from other bytes.
 const MOST_OF_TEXT: usize = 1_024;
 
@@ -24,6 +29,8 @@ pub enum FileKind {
     Configuration,
     /// A journal.
     Journal,
+    /// A script of ticks and interrupts.
+    Script,
     /// Assembler source.
     Source,
     /// A file without a byte.
@@ -40,6 +47,7 @@ pub fn other_kind(wanted: FileKind, bytes: &[u8]) -> Option<FileKind>
         (FileKind::ObjectFile, Some(FileKind::ObjectFile))
         | (FileKind::Configuration, Some(FileKind::Configuration | FileKind::Source))
         | (FileKind::Journal, Some(FileKind::Journal | FileKind::Source))
+        | (FileKind::Script, Some(FileKind::Script | FileKind::Source))
         | (FileKind::Source, Some(FileKind::Source)) => None,
         (_, kind) => kind,
     }
@@ -59,6 +67,9 @@ fn looks_like(bytes: &[u8]) -> Option<FileKind>
     if bytes.starts_with(JOURNAL) {
         return Some(FileKind::Journal);
     }
+    if begins_with_entry(bytes) {
+        return Some(FileKind::Script);
+    }
     if begins_with_board(bytes) {
         return Some(FileKind::Configuration);
     }
@@ -66,6 +77,13 @@ fn looks_like(bytes: &[u8]) -> Option<FileKind>
         return Some(FileKind::Source);
     }
     None
+}
+
+/// Whether it begins as an entry of a script does.
+fn begins_with_entry(bytes: &[u8]) -> bool
+    ensures { result ≡ kinds.begins_with_entry bytes.now }
+{
+    bytes.starts_with(TICKS) || bytes.starts_with(RAISES)
 }
 
 /// Whether the first word, behind blanks and comments, is `BOARD`.
@@ -106,6 +124,7 @@ pub fn hint(kind: Option<FileKind>) -> &'static str {
         Some(FileKind::ObjectFile) => "; it looks like an object file",
         Some(FileKind::Configuration) => "; it looks like a configuration",
         Some(FileKind::Journal) => "; it looks like a journal",
+        Some(FileKind::Script) => "; it looks like a script",
         Some(FileKind::Source) => {
             "; it looks like assembler source, which \"board asm\" makes an object file of"
         }

@@ -1,15 +1,21 @@
 //! The files of a command.
 
-ghost use Rattle.std.specs.Prelude.{IfOk, IfErr, Ok, Err};
+ghost use Rattle.std.specs.Prelude.{IfOk, IfErr, IfSome, Ok, Err};
 ghost use Rattle.brd_command.specs.Faults.{IsOfOpen};
-ghost use Rattle.brd_command.specs.Files.{OpensInputs, AsmFilesEnd, RunFilesEnd, DebugFilesEnd};
+ghost use Rattle.brd_command.specs.Files.{OpensInputs, AsmFilesEnd, RunFilesEnd, RaceFilesEnd, DebugFilesEnd};
+ghost use Rattle.brd_command.specs.RaceCommand.{RaceEnds};
 
 use crate::asm_command::asm;
 use crate::debug_command::debug;
 use crate::fault::CommandFault;
+use crate::race_command::race;
 use crate::run_command::run;
+use brd_threads::Blanks;
 use std::alloc::Global;
 use std::io::{self, Read, Write};
+use std::marker::Brand;
+use std::sync::Wait;
+use std::thread::Threads;
 
 /// Files that are reached by their names.
 ///
@@ -70,23 +76,23 @@ pub fn asm_files<F: Files>(
     ended
 }
 
-/// The files that a command over a journal reads.
+/// The files that a command over a board reads. The last is a journal or a script.
 #[derive(Drop)]
 struct Inputs<R> {
     image: R,
     config: R,
-    journal: R,
+    last: R,
 }
 
-/// Opens IMAGE, then CONFIG, then JOURNAL.
+/// Opens IMAGE, then CONFIG, then the last.
 fn open_inputs<F: Files>(
     alloc: Global,
     files: &mut F,
     image: &str,
     config: &str,
-    journal: &str,
+    last: &str,
 ) -> Result<Inputs<F::Input>, CommandFault>
-    ensures { OpensInputs F.opened files.old image.now config.now journal.now result files.new }
+    ensures { OpensInputs F.opened files.old image.now config.now last.now result files.new }
 {
     let of_image = match files.open(image) {
         Ok(reader) => reader,
@@ -96,14 +102,14 @@ fn open_inputs<F: Files>(
         Ok(reader) => reader,
         Err(error) => return Err(CommandFault::of_open(alloc, config, error)),
     };
-    let of_journal = match files.open(journal) {
+    let of_last = match files.open(last) {
         Ok(reader) => reader,
-        Err(error) => return Err(CommandFault::of_open(alloc, journal, error)),
+        Err(error) => return Err(CommandFault::of_open(alloc, last, error)),
     };
     Ok(Inputs {
         image: of_image,
         config: of_config,
-        journal: of_journal,
+        last: of_last,
     })
 }
 
@@ -127,8 +133,64 @@ pub fn run_files<F: Files, W: Write>(
         alloc,
         &mut inputs.image,
         &mut inputs.config,
-        &mut inputs.journal,
+        &mut inputs.last,
         output,
+    )
+}
+
+/// Does `race` on its files: IMAGE is opened, then CONFIG, then SCRIPT, then OUT is created or emptied, and then the
+/// three are read. The report is written, and OUT is let go as `race` left it.
+pub fn race_files<F: Files, W: Write, R: Threads + Wait + Sync>(
+    rt: &R,
+    alloc: Global,
+    files: &mut F,
+    image: &str,
+    config: &str,
+    script: &str,
+    quota: u32,
+    out: &str,
+    output: &mut W,
+) -> Result<(), CommandFault>
+    ensures { RaceFilesEnd F.opened F.created F.closed F.Input.remaining F.Output.contents
+        files.old image.now config.now script.now quota out.now (W.contents output.old) (W.contents output.new) result files.new }
+{
+    let mut inputs = match open_inputs(alloc, files, image, config, script) {
+        Ok(inputs) => inputs,
+        Err(fault) => return Err(fault),
+    };
+    let mut journal = match files.create(out) {
+        Ok(journal) => journal,
+        Err(error) => return Err(CommandFault::of_open(alloc, out, error)),
+    };
+    let ended = race_on(rt, alloc, &mut inputs, quota, &mut journal, output);
+    files.close(journal);
+    ended
+}
+
+/// Does `race` on files that are open, with ledgers of its own.
+fn race_on<I: Read, O: Write, W: Write, R: Threads + Wait + Sync>(
+    rt: &R,
+    alloc: Global,
+    inputs: &mut Inputs<I>,
+    quota: u32,
+    out: &mut O,
+    output: &mut W,
+) -> Result<(), CommandFault>
+    ensures { IfSome (I.remaining inputs.old.image) (λ file. IfSome (I.remaining inputs.old.config) (λ statements.
+        IfSome (I.remaining inputs.old.last) (λ text.
+        RaceEnds result quota file statements text (O.contents out.old) (O.contents out.new)
+        (W.contents output.old) (W.contents output.new)))) }
+{
+    race::<Brand, I, O, W, R>(
+        rt,
+        alloc,
+        &mut inputs.image,
+        &mut inputs.config,
+        &mut inputs.last,
+        quota,
+        out,
+        output,
+        Blanks::new(),
     )
 }
 
@@ -154,7 +216,7 @@ pub fn debug_files<F: Files, R: Read, W: Write>(
         alloc,
         &mut inputs.image,
         &mut inputs.config,
-        &mut inputs.journal,
+        &mut inputs.last,
         input,
         output,
     )

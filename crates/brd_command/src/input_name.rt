@@ -15,6 +15,8 @@ pub enum InputName {
     Configuration,
     /// JOURNAL: a journal's text.
     Journal,
+    /// SCRIPT: the text of a script.
+    Script,
 }
 
 impl fmt::Display for InputName {
@@ -25,6 +27,7 @@ impl fmt::Display for InputName {
             InputName::Image => "the object file",
             InputName::Configuration => "the configuration",
             InputName::Journal => "the journal",
+            InputName::Script => "the script",
         })
     }
 }

@@ -1,8 +1,8 @@
 //! The commands of the program `board`, over readers, writers and files.
 //!
-//! `specs/WordsCommand.antt`, `specs/AsmCommand.antt`, `specs/RunCommand.antt` and `specs/Debugging.antt` say what a
-//! command writes for what it reads, and which faults keep it from that; `specs/Files.antt` which files are opened, and
-//! in which order.
+//! `specs/WordsCommand.antt`, `specs/AsmCommand.antt`, `specs/RunCommand.antt`, `specs/RaceCommand.antt` and
+//! `specs/Debugging.antt` say what a command writes for what it reads, and which faults keep it from that;
+//! `specs/Files.antt` which files are opened, and in which order.
 #![tactic(auto)]
 
 mod asm_command;
@@ -19,6 +19,7 @@ mod input_name;
 pub mod laws;
 mod lines;
 mod output;
+mod race_command;
 mod report;
 mod request;
 mod run_command;
@@ -28,12 +29,14 @@ mod word_text;
 mod words_command;
 
 pub use asm_command::asm;
+pub use brd_threads::{Blanks, Race};
 pub use debug_command::debug;
 pub use excerpt::Excerpt;
 pub use fault::CommandFault;
 pub use file_kind::FileKind;
-pub use files::{Files, asm_files, debug_files, run_files};
+pub use files::{Files, asm_files, debug_files, race_files, run_files};
 pub use input_name::InputName;
+pub use race_command::race;
 pub use request::{Request, perform};
 pub use run_command::run;
 pub use word_text::WordsFault;

@@ -1,4 +1,4 @@
-//! What `run` prints of a board.
+//! What `run` and `race` print of a board.
 
 ghost use Rattle.std.specs.Prelude.{◌≡◌, ◌++◌, OnOk, IfOk, codes};
 ghost use Rattle.brd_command.specs.Report.{

@@ -3,10 +3,12 @@
 ghost use Rattle.brd_command.specs.Request.{RequestEnds};
 
 use crate::fault::CommandFault;
-use crate::files::{Files, asm_files, debug_files, run_files};
+use crate::files::{Files, asm_files, debug_files, race_files, run_files};
 use crate::words_command::words;
 use std::alloc::Global;
 use std::io::{Read, Write};
+use std::sync::Wait;
+use std::thread::Threads;
 
 /// What a command line asks for.
 #[derive(Clone, Copy)]
@@ -26,6 +28,15 @@ pub enum Request<'a> {
         config: &'a str,
         journal: &'a str,
     },
+    /// The report of the board of an object file and a configuration after a race with a script, with this quota for
+    /// each processor, on standard output, and the race's journal in another file.
+    Race {
+        image: &'a str,
+        config: &'a str,
+        script: &'a str,
+        quota: u32,
+        out: &'a str,
+    },
     /// The debugger of the board of an object file and a configuration, and of a journal: the answers to the commands
     /// on standard input, on standard output.
     Debug {
@@ -36,9 +47,10 @@ pub enum Request<'a> {
 }
 
 /// Does what was asked for, on files, standard input and standard output. `words` touches no file; `asm` neither reads
-/// standard input nor writes standard output; `run` doesn't read standard input. `debug` reads that only
-/// where its files could be opened and make a debugger.
-pub fn perform<F: Files, R: Read, W: Write>(
+/// standard input nor writes standard output; `run` and `race` don't read standard input. `debug` reads that only where
+/// its files could be opened and make a debugger. Threads of the host are started only for `race`.
+pub fn perform<F: Files, R: Read, W: Write, T: Threads + Wait + Sync>(
+    rt: &T,
     alloc: Global,
     files: &mut F,
     input: &mut R,
@@ -56,6 +68,13 @@ pub fn perform<F: Files, R: Read, W: Write>(
             config,
             journal,
         } => run_files(alloc, files, image, config, journal, output),
+        Request::Race {
+            image,
+            config,
+            script,
+            quota,
+            out,
+        } => race_files(rt, alloc, files, image, config, script, quota, out, output),
         Request::Debug {
             image,
             config,

@@ -1,7 +1,8 @@
-//! What the commands over a journal start with.
+//! What the commands over a board start with.
 
 ghost use Rattle.std.specs.Prelude.{IfSome, MatchResult};
-ghost use Rattle.brd_command.specs.Start.{AreWithin, IsStart, KeepsFromMaking, KeepsFromStarting};
+ghost use Rattle.brd_command.specs.Start.{AreWithin, IsRaceStart, IsStart, KeepsFromMaking, KeepsFromStarting};
+ghost use Rattle.brd_command.specs.declared.input_name.InputName.TheVariants as input_name;
 
 use crate::fault::CommandFault;
 use crate::input::read_whole;
@@ -9,6 +10,7 @@ use crate::input_name::InputName;
 use brd_board::Board;
 use brd_image::load;
 use brd_journal::{Journal, MOST_RUNS, read_text};
+use brd_threads::{Outer, read_script};
 use std::alloc::Global;
 use std::io::Read;
 
@@ -19,6 +21,15 @@ pub struct Start {
     pub board: Board,
     /// What is to happen to it.
     pub journal: Journal,
+}
+
+/// A board, and a script of what comes to it from outside.
+#[derive(Drop)]
+pub struct RaceStart {
+    /// The board.
+    pub board: Board,
+    /// What is to come from outside.
+    pub script: Vec<Outer>,
 }
 
 /// Reads an object file, a configuration and a journal to their ends, in this order. The first two make the board, to
@@ -32,7 +43,7 @@ pub fn read_start<R: Read>(
     ensures { IfSome (R.remaining image.old) (λ file. IfSome (R.remaining config.old) (λ statements.
         IfSome (R.remaining journal.old) (λ events.
         MatchResult result (λ start. AreWithin file statements events × IsStart file statements events start)
-        (KeepsFromStarting file statements events)))) }
+        (KeepsFromStarting input_name.Journal file statements events)))) }
 {
     let file = match read_whole(alloc, InputName::Image, image) {
         Ok(file) => file,
@@ -57,7 +68,7 @@ fn make_start(
     journal: &[u8],
 ) -> Result<Start, CommandFault>
     ensures { MatchResult result (IsStart image.now config.now journal.now)
-        (KeepsFromMaking image.now config.now journal.now) }
+        (KeepsFromMaking input_name.Journal image.now config.now journal.now) }
 {
     let board = match load(alloc, image, config) {
         Ok(board) => board,
@@ -66,5 +77,53 @@ fn make_start(
     match read_text(alloc, journal, MOST_RUNS) {
         Ok(journal) => Ok(Start { board, journal }),
         Err(fault) => Err(CommandFault::of_journal(fault, journal)),
+    }
+}
+
+/// Reads an object file, a configuration and a script to their ends, in this order. The first two make the board, to
+/// which nothing has happened yet.
+pub fn read_race_start<R: Read>(
+    alloc: Global,
+    image: &mut R,
+    config: &mut R,
+    script: &mut R,
+) -> Result<RaceStart, CommandFault>
+    ensures { IfSome (R.remaining image.old) (λ file. IfSome (R.remaining config.old) (λ statements.
+        IfSome (R.remaining script.old) (λ text.
+        MatchResult result (λ start. AreWithin file statements text × IsRaceStart file statements text start)
+        (KeepsFromStarting input_name.Script file statements text)))) }
+{
+    let file = match read_whole(alloc, InputName::Image, image) {
+        Ok(file) => file,
+        Err(fault) => return Err(fault),
+    };
+    let statements = match read_whole(alloc, InputName::Configuration, config) {
+        Ok(statements) => statements,
+        Err(fault) => return Err(fault),
+    };
+    let text = match read_whole(alloc, InputName::Script, script) {
+        Ok(text) => text,
+        Err(fault) => return Err(fault),
+    };
+    make_race_start(alloc, &file, &statements, &text)
+}
+
+/// The board that an object file and a configuration make, and a script.
+fn make_race_start(
+    alloc: Global,
+    image: &[u8],
+    config: &[u8],
+    script: &[u8],
+) -> Result<RaceStart, CommandFault>
+    ensures { MatchResult result (IsRaceStart image.now config.now script.now)
+        (KeepsFromMaking input_name.Script image.now config.now script.now) }
+{
+    let board = match load(alloc, image, config) {
+        Ok(board) => board,
+        Err(fault) => return Err(CommandFault::of_build(fault, image, config)),
+    };
+    match read_script(alloc, script) {
+        Ok(script) => Ok(RaceStart { board, script }),
+        Err(fault) => Err(CommandFault::of_script(fault, script)),
     }
 }

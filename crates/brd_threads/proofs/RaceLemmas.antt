@@ -7,6 +7,7 @@ use Rattle.std.proofs.lemmas.List.{get_or_append_left, length-append}
 use Rattle.std.proofs.Math.Seq.{get_or-append_seam}
 use Rattle.brd_board.specs.declared.event.Event.{Event}
 use Rattle.brd_board.specs.Board.{BoardState}
+use Rattle.brd_journal.specs.Runs.{runs_of}
 use Rattle.brd_ledgers.specs.Shares.{Counted}
 use Rattle.brd_threads.specs.declared.fault.RaceFault.{RaceFault}
 use Rattle.brd_threads.specs.declared.outer.Outer.{Outer}
@@ -51,13 +52,14 @@ next_looked R quotas events before worked len is all here more =
     (λ i from to. more i (omega (arith, length-append before (worked ∷ []), from)) to)
 
 -- what is known of a station behind the joins
-pub has_raced : {boot : BoardState} {script : List Outer} {quotas : List ℕ} {station : StationState} → (station.boot ≡ boot) × (station.script ≡ script)
-    → outers station.journal.events ≡ take station.taken station.script → AreWithin quotas station
+pub has_raced : {boot : BoardState} {script : List Outer} {quotas : List ℕ} {limit : ℕ} {station : StationState} → (station.boot ≡ boot) × (station.script ≡ script)
+    → length (runs_of station.journal.events) ≤ limit → outers station.journal.events ≡ take station.taken station.script → AreWithin quotas station
     → ((board_of station).kernel.off ≡ false → outers station.journal.events ≡ station.script) → ((board_of station).kernel.off ≡ false → AreMet quotas station)
-    → HasRaced boot script quotas station
-has_raced {station = station} same taken within whole met = record {
+    → HasRaced boot script quotas limit station
+has_raced {station = station} same room taken within whole met = record {
   boot_is = same.0;
   script_is = same.1;
+  room = room;
   taken = taken ∙ ap (take station.taken) same.1;
   within = within;
   whole = λ on. whole on ∙ same.1;

@@ -2,6 +2,7 @@
 use Rattle.std.specs.Prelude.{◌≡◌, ℕ, ◌+◌, ◌<◌, ◌≤◌, Bool, true, false, List, [], ◌∷◌, length, take, slice_index_or}
 use Rattle.std.specs.Prelude.{Option, None, Some, Result, Ok, Err}
 use Rattle.brd_board.specs.Board.{BoardState}
+use Rattle.brd_journal.specs.Runs.{runs_of}
 use Rattle.brd_ledgers.specs.Shares.{Counted}
 use Rattle.brd_threads.specs.declared.fault.RaceFault.{RaceFault}
 use Rattle.brd_threads.specs.declared.fault.RaceFault.TheVariants as race
@@ -59,10 +60,11 @@ AreMet quotas station = (i : ℕ) → i < length quotas → steps (i + 1) statio
 
 -- What a race answers: a station of this boot and script. What came from outside is what was taken of the script, all
 -- of it unless the board is off. No processor has done more steps than its quota, and each as many, unless the board is
--- off.
-pub record HasRaced (boot : BoardState) (script : List Outer) (quotas : List ℕ) (station : StationState) : Type 0 where
+-- off. The journal has no more runs than `limit`. Of numbers that no processor has it says nothing.
+pub record HasRaced (boot : BoardState) (script : List Outer) (quotas : List ℕ) (limit : ℕ) (station : StationState) : Type 0 where
   pub boot_is : station.boot ≡ boot
   pub script_is : station.script ≡ script
+  pub room : length (runs_of station.journal.events) ≤ limit
   pub taken : outers station.journal.events ≡ take station.taken script
   pub within : AreWithin quotas station
   pub whole : (board_of station).kernel.off ≡ false → outers station.journal.events ≡ script

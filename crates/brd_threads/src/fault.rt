@@ -92,7 +92,8 @@ pub enum RaceFault {
     /// The events need more runs than the journal's limit.
     #[error("the events need more runs than the journal's limit")]
     JournalFull,
-    /// What the threads left is of another boot or script; or something is undone though the board is on.
+    /// What the threads left is of another boot or script, or its journal has more runs than the limit; or something is
+    /// undone though the board is on.
     #[error("the threads left another board than theirs, or something undone")]
     Broken,
 }

@@ -1,7 +1,8 @@
 //! Races: all threads of a station, from their start to what they leave.
 
-ghost use Rattle.std.specs.Prelude.{◌≡◌, ℕ, ◌+◌, ◌<◌, ◌≤◌, ◌==◌, true, false, length, slice_index_or, take, vec_len, IfOk};
+ghost use Rattle.std.specs.Prelude.{◌≡◌, ℕ, ◌+◌, ◌<◌, ◌≤◌, ◌==◌, true, false, length, slice_index_or, take, vec_len, Decides, IfOk};
 ghost use Rattle.brd_journal.specs.Journal.{most_runs};
+ghost use Rattle.brd_journal.specs.Runs.{runs_of};
 ghost use Rattle.brd_ledgers.specs.Blanks.{AreOf};
 ghost use Rattle.brd_ledgers.specs.Shares.{AreNew};
 ghost use Rattle.brd_threads.specs.Outers.{outers, steps};
@@ -40,7 +41,8 @@ impl<K: Race> Promise<Worked<K>> for Quota {
 /// Lets a thread work for each processor, until that has done as many steps as its quota, and one for the script, and
 /// waits until all of them have ended. Of their faults it answers that of the lowest processor, and that of the
 /// script's thread only where no processor's has one. Then it looks at what they left, and answers `Broken` where that
-/// is of another boot or script, or where something is undone though the board is on.
+/// is of another boot or script, where its journal has more runs than `limit`, or where something is undone though
+/// the board is on.
 pub fn race<K: Race + Send + Sync, G: Gate + Sync, R: Threads + Wait + Sync>(
     rt: &R,
     alloc: Global,
@@ -54,7 +56,7 @@ pub fn race<K: Race + Send + Sync, G: Gate + Sync, R: Threads + Wait + Sync>(
     requires limit { limit ≤ most_runs }
     requires each { length quotas.now ≡ processors_of boot.now }
     requires blanks { AreOf K.names blanks }
-    ensures { IfOk result (HasRaced boot.now script.now quotas.now) }
+    ensures { IfOk result (HasRaced boot.now script.now quotas.now limit) }
 {
     let (station, shares) = Station::<K>::new(alloc, boot, script, limit, blanks)?;
     let shared = Mutex::new(station);
@@ -64,10 +66,17 @@ pub fn race<K: Race + Send + Sync, G: Gate + Sync, R: Threads + Wait + Sync>(
     }
     let mut station = shared.into_inner();
     let met = are_met(&mut station, quotas, workers);
-    if !is_over(&station, met) || !station.is_of(boot, script) {
+    if !is_over(&station, met) || !station.is_of(boot, script) || !is_within(&station, limit) {
         return Err(RaceFault::Broken);
     }
     Ok(station)
+}
+
+/// Whether the journal of a station has at most this many runs.
+fn is_within<K: Race>(station: &Station<K>, limit: u32) -> bool
+    ensures { Decides result (length (runs_of station.now.journal.events) ≤ limit) }
+{
+    station.journal().runs().len() <= limit as usize
 }
 
 /// Whether nothing is left to do: the quotas are met and the script is used up, or the board is off.

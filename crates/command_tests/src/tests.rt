@@ -4,6 +4,7 @@
 mod debug;
 mod fakes;
 mod files;
+mod race;
 mod run;
 
 use brd_asm::AsmFault;

@@ -5,7 +5,9 @@ use brd_command::{Files, Request, asm_files, perform};
 use std::alloc::{AllocError, Global};
 use std::cell::RefCell;
 use std::io::{self, ErrorKind, Read, Write};
+use std::sync::Wait;
 use std::test::Fail;
+use std::thread::Threads;
 use test_help::none_wrong;
 
 /// Files that note what is done with them, one thing behind the other. All that are read hold the same; of a name that
@@ -133,6 +135,7 @@ fn names_of_files(rt: HostRuntime) {
 struct Done {
     request: Request<'static>,
     notes: &'static str,
+    is_ok: bool,
     left: usize,
     written: &'static [u8],
 }
@@ -141,6 +144,7 @@ const REQUESTS: &[Done] = &[
     Done {
         request: Request::Words { steps: 1 },
         notes: "",
+        is_ok: true,
         left: 0,
         written: b"pc 80000004\n$8 00000005\n$29 80010000\n",
     },
@@ -150,6 +154,57 @@ const REQUESTS: &[Done] = &[
             out: "b",
         },
         notes: "open a; create b; read; read; write; flush; close; ",
+        is_ok: true,
+        left: 8,
+        written: b"",
+    },
+    Done {
+        request: Request::Run {
+            image: "a",
+            config: "b",
+            journal: "c",
+        },
+        notes: "open a; open b; open c; read; read; read; read; read; read; ",
+        is_ok: false,
+        left: 8,
+        written: b"",
+    },
+    Done {
+        request: Request::Race {
+            image: "a",
+            config: "b",
+            script: "c",
+            quota: 1,
+            out: "d",
+        },
+        notes: "open a; open b; open c; create d; read; read; read; read; read; read; close; ",
+        is_ok: false,
+        left: 8,
+        written: b"",
+    },
+    Done {
+        request: Request::Race {
+            image: "a",
+            config: "b",
+            script: "no c",
+            quota: 1,
+            out: "d",
+        },
+        notes: "open a; open b; open no c; ",
+        is_ok: false,
+        left: 8,
+        written: b"",
+    },
+    Done {
+        request: Request::Race {
+            image: "a",
+            config: "b",
+            script: "c",
+            quota: 1,
+            out: "no d",
+        },
+        notes: "open a; open b; open c; create no d; ",
+        is_ok: false,
         left: 8,
         written: b"",
     },
@@ -164,7 +219,12 @@ fn are_noted(notes: &RefCell<String>, wanted: &str) -> bool {
 }
 
 /// Whether a request uses standard input and output as it should, over files that make these notes.
-fn is_performed(alloc: Global, notes: &RefCell<String>, row: &Done) -> bool {
+fn is_performed<T: Threads + Wait + Sync>(
+    rt: &T,
+    alloc: Global,
+    notes: &RefCell<String>,
+    row: &Done,
+) -> bool {
     let mut files = Noted {
         notes,
         text: b"nop",
@@ -172,29 +232,30 @@ fn is_performed(alloc: Global, notes: &RefCell<String>, row: &Done) -> bool {
     };
     let mut input = b"24080005".as_slice();
     let mut output = Vec::new(alloc);
-    perform(alloc, &mut files, &mut input, &mut output, row.request).is_ok()
+    perform(rt, alloc, &mut files, &mut input, &mut output, row.request).is_ok() == row.is_ok
         && input.len() == row.left
         && output.as_slice() == row.written
 }
 
 /// Whether a request does what it should.
-fn is_done(alloc: Global, row: &Done) -> bool {
+fn is_done<T: Threads + Wait + Sync>(rt: &T, alloc: Global, row: &Done) -> bool {
     let notes = RefCell::new(String::new(alloc));
-    is_performed(alloc, &notes, row) && are_noted(&notes, row.notes)
+    is_performed(rt, alloc, &notes, row) && are_noted(&notes, row.notes)
 }
 
 /// The first of `REQUESTS` that does something else.
-fn first_wrong_request(alloc: Global) -> Option<usize> {
+fn first_wrong_request<T: Threads + Wait + Sync>(rt: &T, alloc: Global) -> Option<usize> {
     for (number, row) in REQUESTS.iter().enumerate() {
-        if !is_done(alloc, row) {
+        if !is_done(rt, alloc, row) {
             return Some(number);
         }
     }
     None
 }
 
-/// `words` touches no file, `asm` neither standard input nor output.
+/// `words` touches no file, `asm` neither standard input nor output, `run` and `race` no standard input. (The files hold
+/// a source, so that `run` and `race` read all of them, and then refuse the object file.)
 #[test]
 fn requests(rt: HostRuntime) -> Result<(), Fail> {
-    none_wrong(first_wrong_request(rt.alloc()))
+    none_wrong(first_wrong_request(&rt, rt.alloc()))
 }

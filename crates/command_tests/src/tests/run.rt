@@ -14,7 +14,7 @@ pub const CONFIG: &[u8] = b"BOARD(1, 0x10000); CRE_TSK(1, {TA_ACT, 0, _start, 1,
 
 pub const JOURNAL: &[u8] = b"board-journal 1\nS 1 3\n";
 
-const REPORT: &[u8] =
+pub const REPORT: &[u8] =
     b"events 3\ntick 0\noff 0\ncpu 1 task 1 pc 8000000c\ntask 1 ready pri 1 cpu 1\nconsole 1\nH\n";
 
 /// The object file of `SOURCE`.

@@ -1,0 +1,265 @@
+//! The command `race` over readers and writers that fail, and the order of its faults.
+
+use super::fakes::{Bytewise, Taking};
+use super::run::{CONFIG, REPORT, image};
+use super::{UNWRITTEN, is_fault};
+use brd_command::{Blanks, CommandFault, race};
+use brd_threads::RaceFault;
+use std::alloc::Global;
+use std::marker::Brand;
+use std::sync::Wait;
+use std::test::Fail;
+use std::thread::Threads;
+use test_help::none_wrong;
+
+/// The journal of three steps on one processor.
+const JOURNAL: &[u8] = b"board-journal 1\nS 1 3\n";
+
+/// A script in which nothing happens.
+const SCRIPT: &[u8] = b"";
+
+/// Where the journal and the report go.
+#[derive(Drop)]
+struct Outputs {
+    journal: Taking,
+    report: Taking,
+}
+
+impl Outputs {
+    fn new(alloc: Global) -> Self {
+        Outputs {
+            journal: Taking::new(alloc),
+            report: Taking::new(alloc),
+        }
+    }
+
+    /// Whether nothing was written.
+    fn are_empty(&self) -> bool {
+        self.journal.writes == 0 && self.report.writes == 0
+    }
+}
+
+/// A race of three steps a processor. The input at this place fails at the read of this number; none fails where that is
+/// 0.
+fn race_failing<R: Threads + Wait + Sync>(
+    rt: &R,
+    alloc: Global,
+    inputs: [&[u8]; 3],
+    place: usize,
+    fails_at: usize,
+    outputs: &mut Outputs,
+) -> Result<(), CommandFault> {
+    let [image, config, script] = inputs;
+    let mut image = Bytewise::new(image);
+    let mut config = Bytewise::new(config);
+    let mut script = Bytewise::new(script);
+    match place {
+        0 => image.fails_at = fails_at,
+        1 => config.fails_at = fails_at,
+        _ => script.fails_at = fails_at,
+    }
+    race::<Brand, Bytewise<'_>, Taking, Taking, R>(
+        rt,
+        alloc,
+        &mut image,
+        &mut config,
+        &mut script,
+        3,
+        &mut outputs.journal,
+        &mut outputs.report,
+        Blanks::new(),
+    )
+}
+
+/// The fault of an input that can't be read, by its place.
+const UNREAD: [&str; 3] = [
+    "can't read the object file: the reader's own words",
+    "can't read the configuration: the reader's own words",
+    "can't read the script: the reader's own words",
+];
+
+/// Whether the read of this number of an input fails with this fault, and nothing is written.
+fn ends_by_a_read<R: Threads + Wait + Sync>(
+    rt: &R,
+    alloc: Global,
+    inputs: [&[u8]; 3],
+    place: usize,
+    number: usize,
+) -> bool {
+    let mut outputs = Outputs::new(alloc);
+    let ended = race_failing(rt, alloc, inputs, place, number, &mut outputs);
+    is_fault(alloc, &ended, UNREAD[place], 4) && outputs.are_empty()
+}
+
+/// The first read of the input of this place that fails in another way.
+fn first_wrong_read<R: Threads + Wait + Sync>(
+    rt: &R,
+    alloc: Global,
+    inputs: [&[u8]; 3],
+    place: usize,
+) -> Option<(usize, usize)> {
+    let last = inputs[place].len().saturating_add(1);
+    for number in 1..=last {
+        if !ends_by_a_read(rt, alloc, inputs, place, number) {
+            return Some((place, number));
+        }
+    }
+    None
+}
+
+/// The first input, by its place, and read of it that fails in another way.
+fn first_wrong_input<R: Threads + Wait + Sync>(
+    rt: &R,
+    alloc: Global,
+    image: &[u8],
+) -> Option<(usize, usize)> {
+    for place in 0..3usize {
+        if let Some(wrong) = first_wrong_read(rt, alloc, [image, CONFIG, b"T 1\n"], place) {
+            return Some(wrong);
+        }
+    }
+    None
+}
+
+/// An input of n bytes takes n + 1 reads, the last of which finds the end. Where one fails, its input is named, and
+/// nothing is written.
+#[test]
+fn each_read_of_race_fails(rt: HostRuntime) -> Result<(), Fail> {
+    let image = image(rt.alloc())?;
+    none_wrong(first_wrong_input(&rt, rt.alloc(), image.as_slice()))
+}
+
+/// Whether the write after so many bytes of the journal fails, and is the last one.
+fn ends_in_the_journal<R: Threads + Wait + Sync>(
+    rt: &R,
+    alloc: Global,
+    image: &[u8],
+    taken: usize,
+) -> bool {
+    let mut outputs = Outputs::new(alloc);
+    outputs.journal.fails_at = taken.saturating_add(1);
+    let ended = race_failing(rt, alloc, [image, CONFIG, SCRIPT], 0, 0, &mut outputs);
+    is_fault(alloc, &ended, UNWRITTEN, 4)
+        && outputs.journal.has_failed_behind(JOURNAL, taken)
+        && outputs.report.writes == 0
+}
+
+/// Whether the write after so many bytes of the report fails, and is the last one; the journal is whole.
+fn ends_in_the_report<R: Threads + Wait + Sync>(
+    rt: &R,
+    alloc: Global,
+    image: &[u8],
+    taken: usize,
+) -> bool {
+    let mut outputs = Outputs::new(alloc);
+    outputs.report.fails_at = taken.saturating_add(1);
+    let ended = race_failing(rt, alloc, [image, CONFIG, SCRIPT], 0, 0, &mut outputs);
+    is_fault(alloc, &ended, UNWRITTEN, 4)
+        && outputs.report.has_failed_behind(REPORT, taken)
+        && outputs.journal.has_flushed(JOURNAL)
+}
+
+/// Whether the journal and the report are written a byte a write, and flushed.
+fn writes_both<R: Threads + Wait + Sync>(rt: &R, alloc: Global, image: &[u8]) -> bool {
+    let mut outputs = Outputs::new(alloc);
+    let ended = race_failing(rt, alloc, [image, CONFIG, SCRIPT], 0, 0, &mut outputs);
+    ended.is_ok() && outputs.journal.has_flushed(JOURNAL) && outputs.report.has_flushed(REPORT)
+}
+
+/// After how many bytes the first write of the journal fails in another way.
+fn first_wrong_in_the_journal<R: Threads + Wait + Sync>(
+    rt: &R,
+    alloc: Global,
+    image: &[u8],
+) -> Option<usize> {
+    for taken in 0..=JOURNAL.len() {
+        if !ends_in_the_journal(rt, alloc, image, taken) {
+            return Some(taken);
+        }
+    }
+    None
+}
+
+/// After how many bytes the first write of the report fails in another way.
+fn first_wrong_in_the_report<R: Threads + Wait + Sync>(
+    rt: &R,
+    alloc: Global,
+    image: &[u8],
+) -> Option<usize> {
+    for taken in 0..=REPORT.len() {
+        if !ends_in_the_report(rt, alloc, image, taken) {
+            return Some(taken);
+        }
+    }
+    None
+}
+
+/// The journal is written before the report; each takes a write for each byte, and a flush.
+#[test]
+fn each_write_of_race_fails(rt: HostRuntime) -> Result<(), Fail> {
+    let image = image(rt.alloc())?;
+    none_wrong(first_wrong_in_the_journal(&rt, rt.alloc(), image.as_slice()))?;
+    none_wrong(first_wrong_in_the_report(&rt, rt.alloc(), image.as_slice()))?;
+    assert!(rt; writes_both(&rt, rt.alloc(), image.as_slice()));
+    Ok(())
+}
+
+/// Whether inputs have this fault, and nothing is written.
+fn are_refused<R: Threads + Wait + Sync>(
+    rt: &R,
+    alloc: Global,
+    inputs: [&[u8]; 3],
+    text: &str,
+) -> bool {
+    let mut outputs = Outputs::new(alloc);
+    let ended = race_failing(rt, alloc, inputs, 0, 0, &mut outputs);
+    is_fault(alloc, &ended, text, 1) && outputs.are_empty()
+}
+
+/// Of several faults that of the object file comes first, then those of the configuration, the boot and the script.
+#[test]
+fn faults_of_race(rt: HostRuntime) -> Result<(), Fail> {
+    let alloc = rt.alloc();
+    let elf = "the object file: no ELF file: it doesn't begin with the bytes 7F 45 4C 46";
+    assert!(rt; are_refused(&rt, alloc, [b"\x7fEL", b"", b"x"], elf));
+    let image = image(alloc)?;
+    let config =
+        "the configuration: line 1: found a processor out of range, expected 1 to 8 of BOARD, 1 to its number of CLASS";
+    assert!(rt;
+        are_refused(
+            &rt,
+            alloc,
+            [image.as_slice(), b"BOARD(9, 0x10000);", b"x"],
+            config
+        )
+    );
+    let boot = "the boot: the configuration names a symbol that the image doesn't have";
+    let unknown = b"BOARD(1, 0x10000); CRE_TSK(1, {0, 0, x, 1, 256, NULL});".as_slice();
+    assert!(rt; are_refused(&rt, alloc, [image.as_slice(), unknown, b"x"], boot));
+    let script =
+        "the script: line 2: expected `T COUNT` or `R LINE COUNT`, and at most 1,000,000 events in all";
+    assert!(rt;
+        are_refused(
+            &rt,
+            alloc,
+            [image.as_slice(), CONFIG, b"T 1\nS 1 3\n"],
+            script
+        )
+    );
+    Ok(())
+}
+
+/// Whether a race's own fault ends the command with this text and status.
+fn ends_with(alloc: Global, fault: RaceFault, text: &str, status: u8) -> bool {
+    is_fault(alloc, &Err(CommandFault::of_race(fault)), text, status)
+}
+
+/// A race's own faults, which no race of these tests comes to.
+#[test]
+fn own_faults_of_race(rt: HostRuntime) {
+    let full = "the race: the events need more runs than the journal's limit";
+    assert!(rt; ends_with(rt.alloc(), RaceFault::JournalFull, full, 1));
+    let broken = "the race: the threads left another board than theirs, or something undone";
+    assert!(rt; ends_with(rt.alloc(), RaceFault::Broken, broken, 1));
+    assert!(rt; ends_with(rt.alloc(), RaceFault::NoMemory, "out of memory", 3));
+}

@@ -1,0 +1,102 @@
+/* Types and constants of the uITRON 4.0 specification, as far as the board's kernel has a use for them. */
+#ifndef ITRON_H
+#define ITRON_H
+
+#ifndef __ASSEMBLER__
+
+typedef signed char B;                  /* integers of 8, 16, 32 and 64 bits */
+typedef short H;
+typedef int W;
+typedef long long D;
+typedef unsigned char UB;
+typedef unsigned short UH;
+typedef unsigned int UW;
+typedef unsigned long long UD;
+typedef signed char VB;                 /* bits of any type */
+typedef short VH;
+typedef int VW;
+typedef long long VD;
+typedef void *VP;                       /* a pointer to anything */
+typedef void (*FP)(void);               /* where a program starts */
+typedef int INT;
+typedef unsigned int UINT;
+typedef INT BOOL;
+typedef INT FN;
+typedef INT ER;                         /* E_OK, or why a call was refused */
+typedef INT ID;
+typedef UINT ATR;
+typedef UINT STAT;
+typedef UINT MODE;
+typedef INT PRI;                        /* 1, the highest, to 16 */
+typedef UINT SIZE;
+typedef W TMO;                          /* a timeout in ticks, TMO_POL or TMO_FEVR */
+typedef UW RELTIM;                      /* ticks */
+typedef UW FLGPTN;                      /* the bits of an event flag */
+typedef INT VP_INT;                     /* an integer, or a pointer that was made one: an argument, a datum */
+typedef INT ER_ID;                      /* an error, or an ID */
+typedef INT ER_UINT;                    /* an error, or a count */
+typedef INT ER_BOOL;                    /* an error, or TRUE or FALSE */
+typedef UINT INHNO;                     /* an interrupt line, 0 to 31 */
+
+#ifndef NULL
+#define NULL ((void *)0)
+#endif
+#define TRUE 1
+#define FALSE 0
+
+/* What a call answers. The kernel of the board answers those that docs/KERNEL.md lists. */
+#define E_OK 0
+#define E_SYS (-5)
+#define E_NOSPT (-9)
+#define E_RSFN (-10)
+#define E_RSATR (-11)
+#define E_PAR (-17)
+#define E_ID (-18)
+#define E_CTX (-25)
+#define E_MACV (-26)
+#define E_OACV (-27)
+#define E_ILUSE (-28)
+#define E_NOMEM (-33)
+#define E_NOID (-34)
+#define E_OBJ (-41)
+#define E_NOEXS (-42)
+#define E_QOVR (-43)
+#define E_RLWAI (-49)
+#define E_TMOUT (-50)
+#define E_DLT (-51)
+#define E_CLS (-52)
+#define E_WBLK (-57)
+#define E_BOVR (-58)
+#define MERCD(ercd) ((ER)(B)(ercd))     /* the main code of an error; there are no sub-codes here */
+#define SERCD(ercd) ((ER)((ercd) >> 8))
+
+#define TMO_POL 0
+#define TMO_FEVR (-1)
+
+#define TWF_ANDW 0u                     /* wai_flg: all of the bits, or any */
+#define TWF_ORW 1u
+
+#define TSK_SELF 0
+#define TSK_NONE 0
+#define TPRI_SELF 0
+#define TPRI_INI 0
+#define TMIN_TPRI 1
+#define TMAX_TPRI 16
+#define TMAX_ACTCNT 1
+#define TMAX_WUPCNT 1
+#define TMAX_SUSCNT 1
+#define TMAX_MAXSEM 65535
+#define TBIT_FLGPTN 32
+
+/* The attributes of objects, which the configuration gives; it knows these names by itself. */
+#define TA_HLNG 0x00u
+#define TA_ASM 0x01u
+#define TA_ACT 0x02u
+#define TA_TFIFO 0x00u
+#define TA_TPRI 0x01u
+#define TA_WSGL 0x00u
+#define TA_WMUL 0x02u
+#define TA_CLR 0x04u
+
+#endif
+#endif

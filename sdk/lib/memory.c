@@ -1,0 +1,52 @@
+/* What a C compiler calls in every program, and strlen. */
+#include "board.h"
+
+/* GCC would make calls of these functions of their own loops. */
+#ifndef __clang__
+#pragma GCC optimize("no-tree-loop-distribute-patterns")
+#endif
+
+void *memmove(void *to, const void *from, SIZE size)
+{
+    UB *out = to;
+    const UB *in = from;
+    if (out <= in) {
+        while (size-- > 0)
+            *out++ = *in++;
+    } else {
+        while (size-- > 0)
+            out[size] = in[size];
+    }
+    return to;
+}
+
+void *memcpy(void *to, const void *from, SIZE size)
+{
+    return memmove(to, from, size);
+}
+
+void *memset(void *to, int byte, SIZE size)
+{
+    UB *out = to;
+    while (size-- > 0)
+        *out++ = (UB)byte;
+    return to;
+}
+
+int memcmp(const void *one, const void *other, SIZE size)
+{
+    const UB *left = one;
+    const UB *right = other;
+    for (; size > 0; size--, left++, right++)
+        if (*left != *right)
+            return *left - *right;
+    return 0;
+}
+
+SIZE strlen(const char *text)
+{
+    SIZE size = 0;
+    while (text[size] != '\0')
+        size++;
+    return size;
+}

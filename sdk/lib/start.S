@@ -1,0 +1,56 @@
+/* Where tasks and interrupt handlers begin, and what becomes of them when their functions in C return. The kernel
+ * begins both with 0 in $ra, so a function that returned there would fetch its next instruction from 0, which is an
+ * exception. A handler begins with 0 in $sp too: each line has a stack of its own, since handlers of two processors run
+ * at the same time. Above its stack pointer a function finds 16 bytes for its arguments, hence each 16 below.
+ *
+ * $k0, which no compiler uses, has the lowest address of the stack, for stack.S. Whatever is in $a0 stays there: a
+ * task's argument (exinf), a handler's line. */
+        .set    noreorder
+        .equ    EXT_TSK, 3
+        .equ    RET_INT, 58
+        .set    stacks, 0
+
+/* BOARD: how much RAM there is, for the linker script. */
+        .macro  entry_board ram
+        .globl  board_ram
+        .equ    board_ram, \ram
+        .endm
+
+/* CRE_TSK: task_ID calls the task's function, and then ext_tsk. */
+        .macro  entry_task id, function, size, stack
+        .globl  task_\id
+task_\id:
+        li      $k0, \size
+        subu    $k0, $sp, $k0
+        jal     \function
+        addiu   $sp, $sp, -16           /* in the delay slot */
+        addiu   $v0, $0, EXT_TSK
+        syscall
+        .ifc    \stack, NULL
+        .set    stacks, stacks + ((\size + 15) / 16) * 16
+        .endif
+        .endm
+
+/* DEF_INH: handler_LINE calls the handler's function on the line's stack, and then ret_int. */
+        .macro  entry_handler line, function
+        .globl  handler_\line
+handler_\line:
+        lui     $k0, %hi(handler_stack_\line)
+        addiu   $k0, $k0, %lo(handler_stack_\line)
+        jal     \function
+        addiu   $sp, $k0, HANDLER_STACK - 16
+        addiu   $v0, $0, RET_INT
+        syscall
+        .pushsection .bss.stacks, "aw", @nobits
+        .balign 16
+handler_stack_\line:
+        .space  HANDLER_STACK
+        .popsection
+        .endm
+
+        .section .text.start, "ax"
+#include "entries.inc"
+
+/* How much the stacks take that the board lays from the end of RAM down, for the linker script. */
+        .globl  board_stacks
+        .equ    board_stacks, stacks

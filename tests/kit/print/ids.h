@@ -1,0 +1,1 @@
+#define PRINT 1                         /* tasks */

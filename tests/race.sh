@@ -1,0 +1,171 @@
+#!/bin/bash
+# The tests of `board race`: tests/race.sh PROGRAM. What a race does depends on the host; what is tested is what has to
+# hold in every one, or boards on which all races end alike.
+. "$(dirname "$0")/check.sh"
+. tests/growths.sh
+journal=$work/journal
+
+# race NAME STATUS OUTPUT-FILE ERROR IMAGE CONFIG SCRIPT QUOTA: runs `board race`, with the journal in $journal.
+race() {
+    "$board" race "$5" "$6" "$7" "$8" "$journal" < /dev/null > "$work/out" 2> "$work/err"
+    check "race: $1" "$2" "$3" "$4" $?
+}
+
+# records NAME LINE..: whether $journal has these lines after its first.
+records() {
+    local name=$1
+    shift
+    { echo "board-journal 1"; [ $# = 0 ] || printf '%s\n' "$@"; } > "$work/lines"
+    verdict "race: $name" "$(cmp -s "$journal" "$work/lines" || echo "the journal has $(head -n 5 "$journal" | tr '\n' ';')")"
+}
+
+# counted LINE: the sum of the counts of the journal's runs that begin so.
+counted() {
+    sed -n "s/^$1 \([0-9]*\)\$/\1/p" "$journal" | awk '{ sum += $1 } END { print sum + 0 }'
+}
+
+# replays IMAGE CONFIG SCRIPT QUOTA: what is wrong with a race and with `board run` of its journal, or nothing.
+replays() {
+    "$board" race "$1" "$2" "$3" "$4" "$journal" > "$work/raced" 2>&1 || echo -n "; the race fails: $(head -n 1 "$work/raced")"
+    "$board" run "$1" "$2" "$journal" > "$work/ran" 2>&1 || echo -n "; its journal fails: $(head -n 1 "$work/ran")"
+    cmp -s "$work/raced" "$work/ran" || echo -n "; another report"
+}
+
+# ---- boards on which all races end alike
+
+printf '_start: b _start\n nop\n' > "$work/loop.s"
+"$board" asm "$work/loop.s" "$work/loop"
+printf 'BOARD(1, 0x10000);\nCRE_TSK(1, {TA_ACT, 0, _start, 1, 256, NULL});\n' > "$work/one"
+{
+    printf 'BOARD(8, 0x10000);\n'
+    for cpu in 1 2 3 4 5 6 7 8; do
+        printf 'CLASS(TCL_%s) { CRE_TSK(%s, {TA_ACT, 0, _start, 1, 256, NULL}); }\n' $cpu $cpu
+    done
+} > "$work/eight"
+printf 'T 2\nR 31 3\nT 1\n' > "$work/script"
+# report EVENTS TICK PC: the report of the endless loop on one processor.
+report() {
+    printf 'events %s\ntick %s\noff 0\ncpu 1 task 1 pc %s\ntask 1 ready pri 1 cpu 1\nconsole 0\n\n' "$@" > "$work/report"
+}
+report 0 0 80000000
+race "no steps and an empty script" 0 "$work/report" "" "$work/loop" "$work/one" "$work/nothing" 0
+records "no steps and an empty script"
+report 1001 0 80000004
+race "an endless loop" 0 "$work/report" "" "$work/loop" "$work/one" "$work/nothing" 1001
+records "an endless loop" "S 1 1001"
+report 6 3 80000000
+race "a script alone" 0 "$work/report" "" "$work/loop" "$work/one" "$work/script" 0
+records "a script alone" "T 2" "R 31 3" "T 1"
+report 1000006 3 80000000
+race "the greatest quota" 0 "$work/report" "" "$work/loop" "$work/one" "$work/script" 1000000
+verdict "race: the greatest quota: its steps" "$([ "$(counted 'S 1')" = 1000000 ] || echo "there are $(counted 'S 1')")"
+verdict "race: the greatest quota: its script" \
+    "$([ "$(grep -v '^[bS]' "$journal" | cut -d ' ' -f 1 | uniq | tr -d '\n')" = TRT ] || echo "it came in another order")"
+
+# ---- what holds in every race
+
+wrong=""
+for _ in {1..10}; do
+    wrong="$wrong$(replays "$work/loop" "$work/eight" "$work/script" 300)"
+    for cpu in 1 2 3 4 5 6 7 8; do
+        [ "$(counted "S $cpu")" = 300 ] || wrong="$wrong; processor $cpu has $(counted "S $cpu") steps"
+    done
+    [ "$(counted T)" = 3 ] || wrong="$wrong; there are $(counted T) ticks"
+    [ "$(counted 'R 31')" = 3 ] || wrong="$wrong; the line is raised $(counted 'R 31') times"
+done
+verdict "race: eight processors, ten times" "$wrong"
+
+# Two processors count in one word, and the board goes off in the middle, unless a quota is used up before.
+"$board" asm examples/recorded_race/counter.s "$work/counter"
+wrong=""
+offs=0
+for _ in {1..100}; do
+    wrong="$wrong$(replays "$work/counter" examples/recorded_race/counter.cfg "$work/script" 20000)"
+    if grep -q '^off 1$' "$work/raced"; then offs=$((offs + 1)); fi
+    for cpu in 1 2; do
+        [ "$(counted "S $cpu")" -le 20000 ] || wrong="$wrong; processor $cpu has $(counted "S $cpu") steps"
+    done
+done
+verdict "race: a counter, a hundred times" "${wrong:0:600}"
+verdict "race: a counter: the board goes off" "$([ "$offs" -gt 0 ] || echo "it never does")"
+
+# ---- files
+
+# The files are opened in the order of the arguments, before any is read; OUT is emptied only where all are there.
+cp "$work/script" "$journal"
+for missing in 0 1 2; do
+    arguments=("$work/loop" "$work/one" "$work/script")
+    for ((i = missing; i < 3; i++)); do arguments[i]=$work/nosuch$i; done
+    race "argument $((missing + 1)) is missing" 4 "$work/nothing" "board: can't open $work/nosuch$missing: $is_missing" \
+        "${arguments[@]}" 1
+    verdict "race: argument $((missing + 1)) is missing: OUT" "$(cmp -s "$journal" "$work/script" || echo "it has changed")"
+done
+journal=$work/nosuch/journal
+race "OUT can't be created" 4 "$work/nothing" "board: can't open $journal: $is_missing" "$work/script" / / 1
+journal=$work/journal
+
+# What is read is at fault: OUT is empty.
+place=0
+faults=("the object file: no ELF file: it doesn't begin with the bytes 7F 45 4C 46"
+    "the configuration: line 1: found what no statement has here, expected one in the form of its kind"
+    "the script: line 1: expected \`T COUNT\` or \`R LINE COUNT\`, and at most 1,000,000 events in all")
+for fault in "${faults[@]}"; do
+    arguments=("$work/loop" "$work/one" "$work/script")
+    printf 'board-journal 1\n' > "$work/another"
+    for ((i = place; i < 3; i++)); do arguments[i]=$work/another; done
+    cp "$work/script" "$journal"
+    race "a journal as argument $((place + 1))" 1 "$work/nothing" "board: $fault; it looks like a journal" "${arguments[@]}" 1
+    verdict "race: a journal as argument $((place + 1)): OUT" "$([ -e "$journal" ] && [ ! -s "$journal" ] || echo "it isn't empty")"
+    place=$((place + 1))
+done
+race "IMAGE is a folder" 4 "$work/nothing" "board: can't read the object file: $is_directory" / / / 1
+race "CONFIG is a folder" 4 "$work/nothing" "board: can't read the configuration: $is_directory" "$work/loop" / / 1
+race "SCRIPT is a folder" 4 "$work/nothing" "board: can't read the script: $is_directory" "$work/loop" "$work/one" / 1
+
+# Scripts that are none. Fields: the line that is at fault; the text, for printf.
+while IFS='|' read -r line text; do
+    # shellcheck disable=SC2059
+    printf "$text" > "$work/text"
+    race "the script $text" 1 "$work/nothing" \
+        "board: the script: line $line: expected \`T COUNT\` or \`R LINE COUNT\`, and at most 1,000,000 events in all" \
+        "$work/loop" "$work/one" "$work/text" 1
+done << 'END'
+1|T 1
+2|T 1\nS 1 1\n
+1|T 0\n
+1|T 01\n
+1|T\n
+1|T 1 \n
+1|T  1\n
+1|T 1\r\n
+1|\n
+1|t 1\n
+1|R 4\n
+1|R 256 1\n
+1|R 4 4294967296\n
+1|T 1000001\n
+3|T 999999\nR 4 1\nT 1\n
+2|R 0 1\n\nT 1\n
+END
+printf 'T 4\n' > "$work/text"
+"$board" run "$work/loop" "$work/one" "$work/text" > "$work/out" 2> "$work/err"
+check "a script as a journal" 1 "$work/nothing" \
+    "board: the journal: line 1: expected \`board-journal 1\` first, then lines \`S CPU COUNT\`, \`T COUNT\` and \`R LINE COUNT\`; it looks like a script" $?
+
+# Writing fails.
+journal=/dev/full
+race "OUT is full" 4 "$work/nothing" "board: can't write the output: $is_full" "$work/loop" "$work/one" "$work/script" 5
+journal=$work/journal
+: > "$work/out"
+"$board" race "$work/loop" "$work/one" "$work/nothing" 5 "$journal" > /dev/full 2> "$work/err"
+check "race: standard output is full" 4 "$work/nothing" "board: can't write the output: $is_full" $?
+records "standard output is full" "S 1 5"
+
+# ---- memory
+
+: > "$work/in"
+report 1 0 80000004
+cp "$work/report" "$work/wanted"
+refuse_each "board race" 3 "board: out of memory" "$board" race "$work/loop" "$work/one" "$work/nothing" 1 "$journal"
+
+summary
