@@ -113,8 +113,12 @@ fn gives_up(alloc: Global, inputs: [&[u8]; 3], place: usize, text: &str) -> bool
         &mut journal,
         &mut writer,
     );
-    let reads = [image.reads, config.reads, journal.reads];
-    is_fault(alloc, &ended, text, 4) && writer.writes == 0 && reads[place] == 268_435_456
+    let reads = match place {
+        0 => image.reads,
+        1 => config.reads,
+        _ => journal.reads,
+    };
+    is_fault(alloc, &ended, text, 4) && writer.writes == 0 && reads == 268_435_456
 }
 
 #[test]
