@@ -1,5 +1,5 @@
-# board: an emulated MIPS32 board for real-time software, proved. `make demo`, `make check` and `make compare` need no
-# toolchain; all else needs Rattle's `rt`.
+# board: an emulated MIPS32 board for real-time software, proved. `make demo`, `make check`, `make compare` and `make
+# fuzz` need no toolchain; all else needs Rattle's `rt`.
 BOARD = build/board
 
 # The crates whose wrong bodies `make attack` tries (none: all), as in `make attack CRATES="brd_exec brd_isa"`.
@@ -9,7 +9,10 @@ CRATES =
 BOARDS = 2000
 SEED = 1
 
-.PHONY: unpack demo check board dist test attack compare gate-times bench clean
+# How many inputs `make fuzz` tries, from the seed SEED on.
+INPUTS = 5000
+
+.PHONY: unpack demo check board dist test attack compare fuzz gate-times bench clean
 
 # Runs the examples on the program of dist/.
 demo: unpack
@@ -53,6 +56,11 @@ attack:
 # Random boards beside a model in Python, which shares nothing with the program: BOARDS of them, from the seed SEED on.
 compare: $(BOARD)
 	tests/model/compare $(BOARD) --boards $(BOARDS) --seed $(SEED) --counts
+
+# Random and spoiled inputs of every command: INPUTS of them, from the seed SEED on. Those that end wrongly are kept in
+# build/fuzz.
+fuzz: $(BOARD)
+	tests/fuzz $(BOARD) --count $(INPUTS) --seed $(SEED) --counts
 
 $(BOARD):
 	$(MAKE) demo

@@ -301,9 +301,24 @@ for report in tests/scenarios/*/report; do
     check "debug: the end of $(basename "$folder")" 0 "$work/wanted" "" "${PIPESTATUS[0]}"
 done
 
-# Memory, also where snapshots are taken and played from.
+# The largest RAM, and its ends; in little more memory than a few copies of it take.
+sed 's/0x10000)/0x1000000)/' $five/config.cfg > "$work/large.cfg"
+printf '%s\n' 'watch 80ffffff' 'goto 9' back 'mem 80ffffff' 'mem 81000000' 'regs 1' > "$work/in"
+printf '%s\n' ok 'at 9' none 00 outside 'pc 80000010' '$29 81000000' > "$work/wanted"
+debug "16 MiB of RAM" 0 "$work/wanted" "" "$work/five" "$work/large.cfg" $five/journal
+(ulimit -v 100000; exec "$board" debug "$work/five" "$work/large.cfg" $five/journal) < "$work/in" > "$work/out" 2> "$work/err"
+check "debug: 16 MiB of RAM in 100,000 KiB" 0 "$work/wanted" "" $?
+
+# Moves over a long journal, far apart: without snapshots each would do 2,500,000 events. The limit is one of processor
+# seconds, so it doesn't depend on how busy the machine is.
 long=tests/debugging/long_run
-assembled "memory" $long/source.s
+assembled "far moves" $long/source.s
+awk 'BEGIN { for (i = 0; i < 5000; i++) print "goto " i * 2499997 % 5000001 }' > "$work/in"
+sed 's/goto/at/' "$work/in" > "$work/wanted"
+(ulimit -t 30; exec "$board" debug "$work/image" $long/config.cfg $long/journal) < "$work/in" > "$work/out" 2> "$work/err"
+check "debug: 5,000 far moves in 30 processor seconds" 0 "$work/wanted" "" $?
+
+# Memory, also where snapshots are taken and played from.
 printf '%s\n' 'break 80000008' next 'regs 1' 'watch 80000000' 'goto 10' back 'mem 80000000' 'goto 5000001' stop \
     'goto 9000' next back 'goto 4097' back 'goto 8200' back > "$work/in"
 printf '%s\n' ok 'at 2' 'pc 80000008' '$29 80010000' ok 'at 10' 'at 7' 00 'past 5000000' unknown \

@@ -36,3 +36,11 @@ refuse_each() {
     [ -n "$wrong" ] || echo "$name: $((n - 1)) growths"
     verdict "$name" "${wrong:0:2000}"
 }
+
+# counts PROGRAM ARGUMENT..: how many growths a run of the program on $work/in has; its output is in $work/out, and its
+# status in $counted.
+counts() {
+    LD_PRELOAD="$work/refuse.so" COUNTED="$work/counted" "$@" < "$work/in" > "$work/out" 2> "$work/err"
+    counted=$?
+    cat "$work/counted"
+}

@@ -1,7 +1,8 @@
 #!/bin/bash
 # The tests of libraries by themselves, by the programs of other crates that `rt ci` leaves: each growth that is refused
-# to the readers of configurations, journals and object files, to boot, build and load; and object files of GNU ld.
-# tests/libraries.sh PROGRAM (which it doesn't run).
+# to the readers of configurations, journals and object files, to boot, build and load, to journals, debuggers, stations
+# and races; how often a station asks for memory; and object files of GNU ld. tests/libraries.sh PROGRAM (which it
+# doesn't run).
 . "$(dirname "$0")/check.sh"
 . tests/growths.sh
 rows=crates/config_rows/out/config_rows
@@ -9,6 +10,8 @@ journals=crates/journal_rows/out/journal_rows
 scenes=crates/board_rows/out/board_rows
 elf=crates/elf_bench/out/elf_bench
 builds=crates/image_rows/out/image_rows
+debuggers=crates/debug_rows/out/debug_rows
+threads=crates/thread_rows/out/thread_rows
 
 # built PROGRAM: whether `rt ci` has left it; a line says that its tests are skipped where it hasn't.
 built() {
@@ -40,6 +43,33 @@ if built "$builds"; then
     cp crates/image_rows/stdin "$work/in"
     "$builds" < "$work/in" > "$work/wanted"
     refuse_each "build and load" 1 "*[Mm]emory*" "$builds"
+fi
+
+# A board with every kind of object, handlers and eight processors, its copies and snapshots; a journal; moves of a
+# debugger. What was refused is done once more, so the output is that without refusals.
+if [ -x "$debuggers" ]; then
+    cp crates/debug_rows/stdin "$work/in"
+    "$debuggers" < "$work/in" > "$work/wanted"
+    refuse_each "journals and debuggers" 1 "*[Mm]emory*" "$debuggers"
+fi
+if [ -x "$threads" ]; then
+    cp crates/thread_rows/stdin "$work/in"
+    "$threads" < "$work/in" > "$work/wanted"
+    refuse_each "stations and races" 1 "*[Mm]emory*" "$threads"
+fi
+
+# The events of a station's board take no memory: some by steps, scripts and leases, or 100,000 and more, ask for it
+# just as often.
+if [ -x "$threads" ] && [ "$can_refuse" = yes ]; then
+    echo "1 alone" > "$work/in"
+    few=$(counts "$threads")
+    echo "900 alone" > "$work/in"
+    many=$(counts "$threads")
+    wrong=
+    steps=$(sed -n 's/^station: \([0-9]*\) steps.*/\1/p' "$work/out")
+    [ "${steps:-0}" -gt 100000 ] || wrong="; another output: $(cat "$work/out")"
+    [ "$few" -gt 10 ] && [ "$few" = "$many" ] || wrong="$wrong; $few growths, and $many"
+    verdict "a station's events take no memory" "$wrong"
 fi
 
 # Object files of GNU as and ld.

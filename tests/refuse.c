@@ -1,18 +1,37 @@
-/* A library to be loaded before the C library: it refuses one growth, the one whose number the environment's REFUSE gives, counted from 1, and then leaves the
-   file that REFUSED names. For the tests: each growth of a program is refused in turn. */
+/* A library to be loaded before the C library, for tests: each growth of a program is a call of the C library for memory.
+   It refuses one growth, the one whose number the environment's REFUSE gives, counted from 1, and then leaves the file
+   that REFUSED names. At the program's end it writes how many growths there were into the file that COUNTED names. */
 #define _GNU_SOURCE
 #include <dlfcn.h>
 #include <errno.h>
 #include <fcntl.h>
+#include <stdio.h>
 #include <stdlib.h>
+#include <sys/syscall.h>
 #include <unistd.h>
 
 static long count;
 
+__attribute__((destructor)) static void tell(void) {
+    char text[32];
+    const char *name = getenv("COUNTED");
+    int file = name ? open(name, O_CREAT | O_WRONLY | O_TRUNC, 0600) : -1;
+    if (file >= 0 && write(file, text, snprintf(text, sizeof text, "%ld\n", count)) >= 0)
+        close(file);
+}
+
+/* A program that may have threads ends by this, and not by `exit`. */
+void _exit(int status) {
+    tell();
+    syscall(SYS_exit_group, status);
+    __builtin_unreachable();
+}
+
 static int is_refused(void) {
     const char *which = getenv("REFUSE");
     const char *left = getenv("REFUSED");
-    if (!which || ++count != atol(which))
+    long number = __atomic_add_fetch(&count, 1, __ATOMIC_SEQ_CST);
+    if (!which || number != atol(which))
         return 0;
     if (left)
         close(open(left, O_CREAT | O_WRONLY, 0600));

@@ -121,8 +121,62 @@ run "a wrong line behind 4,194,305 runs" 1 "$work/nothing" "board: the journal: 
     "$work/hello" $hello/config.cfg "$work/journal"
 rm "$work/journal"
 
+# A large object file: what stands after all that it names is read, and ignored. And one as long as an input may be.
+cp "$work/hello" "$work/padded"
+truncate -s 100000000 "$work/padded"
+run "an object file of 100,000,000 bytes" 0 $hello/report "" "$work/padded" $hello/config.cfg $hello/journal
+truncate -s 134217728 "$work/padded"
+run "an object file of 134,217,728 bytes" 0 $hello/report "" "$work/padded" $hello/config.cfg $hello/journal
+truncate -s 134217729 "$work/padded"
+run "an object file of one byte more" 4 "$work/nothing" "board: the object file is longer than 134,217,728 bytes" \
+    "$work/padded" $hello/config.cfg $hello/journal
+{ cat $hello/config.cfg; head -c 134217729 /dev/zero | tr '\0' ' '; } > "$work/padded"
+run "a configuration that is too long" 4 "$work/nothing" "board: the configuration is longer than 134,217,728 bytes" \
+    "$work/hello" "$work/padded" $hello/journal
+rm "$work/padded"
+
+# It takes no more memory than it needs: 16 MiB of RAM, and little more.
+sed 's/0x10000)/0x1000000)/' $hello/config.cfg > "$work/large.cfg"
+(ulimit -v 40000; exec "$board" run "$work/hello" "$work/large.cfg" $hello/journal) \
+    < /dev/null > "$work/out" 2> "$work/err"
+check "run: 16 MiB of RAM in 40,000 KiB" 0 $hello/report "" $?
+
 : > "$work/in"
 cp $hello/report "$work/wanted"
 refuse_each "run" 3 "board: out of memory" "$board" run "$work/hello" $hello/config.cfg $hello/journal
+
+# An event takes no memory. Under one journal of 100,000 events and more, task 1 turns the board off in its first round,
+# after 1,000 ticks and ten events, or never: the program asks for memory just as often. (The journal begins with ticks
+# and ends as it does so that the lines of both reports take the same room.)
+counted=tests/counted
+{
+    printf 'board-journal 1\nT 1000\n'
+    for ((i = 0; i < 1400; i++)); do printf 'S 1 7\nS 2 30\nT 1\nS 3 4\nR 4 1\nS 2 25\nS 1 4\n'; done
+    printf 'T 5\nS 2 8\n'
+} > "$work/journal"
+# growths ROUND: how many growths there are where the board goes off in that round. The report is in $work/out.
+growths() {
+    { echo ".equ last, $1"; cat $counted/source.s; } > "$work/source"
+    "$board" asm "$work/source" "$work/image"
+    counts "$board" run "$work/image" $counted/config.cfg "$work/journal"
+}
+if [ "$can_refuse" = yes ]; then
+    few=$(growths 1)
+    early=$(sed -n '/^off/p' "$work/out")
+    many=$(growths 30000)
+    late=$(sed -n '/^off/p' "$work/out")
+    wrong=
+    [ "$early, $late" = "off 1, off 0" ] || wrong="; the board is $early, and $late"
+    [ "$few" -gt 100 ] && [ "$few" = "$many" ] || wrong="$wrong; $few growths with few events, $many with 100,000"
+    verdict "run: an event takes no memory" "$wrong"
+    # All kinds of events are among them: one of each is at a position where the board shows it.
+    printf 'break %s\nnext\n' 8000001c 80000154 80000158 800000cc 800000fc 80000140 > "$work/in"
+    "$board" debug "$work/image" $counted/config.cfg "$work/journal" < "$work/in" 2> "$work/err" \
+        | grep -c '^at ' > "$work/out"
+    echo 6 > "$work/wanted"
+    check "run: these events are of each kind" 0 "$work/wanted" "" 0
+else
+    echo "skipped: run: an event takes no memory: there is no C compiler (cc)"
+fi
 
 summary

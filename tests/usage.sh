@@ -12,6 +12,16 @@ done < tests/usage.table
 
 "$board" words $'\xff' < /dev/null > "$work/out" 2> "$work/err"
 check "an argument that isn't UTF-8" 2 "$work/nothing" "board: an argument isn't UTF-8" $?
+# Arguments that aren't printable: what is said of them is, on lines of its own.
+odd=$'a\033[31m\tb\303\244\177'
+"$board" words "$odd" < /dev/null > "$work/out" 2> "$work/err"
+check_usage "an argument that isn't printable" \
+    "error: invalid value 'a?[31m b???' for '<STEPS>': invalid digit found in string" "" $?
+"$board" "$odd" < /dev/null > "$work/out" 2> "$work/err"
+check_usage "a command that isn't printable" "error: unrecognized subcommand 'a?[31m b???'" "Usage: board <COMMAND>" $?
+"$board" asm a b "$odd" < /dev/null > "$work/out" 2> "$work/err"
+check_usage "one argument more that isn't printable" "error: unexpected argument 'a?[31m b???' found" \
+    "Usage: board asm <SOURCE> <OUT>" $?
 # Help that was asked for: tests/help has the whole texts.
 # shows NAME ARGUMENT..: asks for the text of that name.
 shows() {

@@ -1,2 +1,3 @@
 pub mod LawLemmas
+pub mod SaidLemmas
 pub mod WordsLemmas

@@ -2,4 +2,5 @@ pub mod End
 pub mod Laws
 pub mod Program
 pub mod Requests
+pub mod Said
 pub mod Usage

@@ -224,7 +224,7 @@ fn many_reads(rt: HostRuntime) {
 
 /// Whether a command gives up after 268,435,456 reads without a byte.
 fn gives_up(alloc: Global, tested: Tested) -> bool {
-    let mut reader = Busy { reads: 0 };
+    let mut reader = Busy::new(b"", false);
     is_refused(alloc, tested, &mut reader, tested.endless(), 4) && reader.reads == 268_435_456
 }
 

@@ -1,10 +1,11 @@
 //! The command `debug` over readers and writers that fail, and the lines that it reads.
 
-use super::fakes::{Bytewise, Taking};
-use super::run::{CONFIG, JOURNAL, image};
+use super::fakes::{Busy, Bytewise, Taking};
+use super::run::{CONFIG, JOURNAL, UNREAD, image};
 use super::{UNWRITTEN, is_fault};
 use brd_command::{CommandFault, debug};
 use std::alloc::Global;
+use std::io::Read;
 use std::test::Fail;
 use test_help::none_wrong;
 
@@ -13,10 +14,10 @@ const COMMANDS: &[u8] = b"goto 2\nback\nregs 1";
 const ANSWERS: &[u8] = b"at 2\nnone\npc 80000008\n$2 00000028\n$4 00000048\n$29 80010000\n";
 
 /// Debugs the firmware of `run`'s tests by these commands.
-fn debug_by(
+fn debug_by<R: Read>(
     alloc: Global,
     image: &[u8],
-    commands: &mut Bytewise<'_>,
+    commands: &mut R,
     writer: &mut Taking,
 ) -> Result<(), CommandFault> {
     let mut image = image;
@@ -30,6 +31,119 @@ fn debug_by(
         commands,
         writer,
     )
+}
+
+/// Debugs with files of which the one of this place fails at a read.
+fn debug_failing(
+    alloc: Global,
+    inputs: [&[u8]; 3],
+    place: usize,
+    fails_at: usize,
+    commands: &mut Bytewise<'_>,
+    writer: &mut Taking,
+) -> Result<(), CommandFault> {
+    let [image, config, journal] = inputs;
+    let mut image = Bytewise::new(image);
+    let mut config = Bytewise::new(config);
+    let mut journal = Bytewise::new(journal);
+    match place {
+        0 => image.fails_at = fails_at,
+        1 => config.fails_at = fails_at,
+        _ => journal.fails_at = fails_at,
+    }
+    debug(
+        alloc,
+        &mut image,
+        &mut config,
+        &mut journal,
+        commands,
+        writer,
+    )
+}
+
+/// Whether the read of this number of a file fails with this fault, and no command is read, nor anything written.
+fn ends_by_a_file(
+    alloc: Global,
+    inputs: [&[u8]; 3],
+    place: usize,
+    number: usize,
+    text: &str,
+) -> bool {
+    let mut commands = Bytewise::new(COMMANDS);
+    let mut writer = Taking::new(alloc);
+    let ended = debug_failing(alloc, inputs, place, number, &mut commands, &mut writer);
+    is_fault(alloc, &ended, text, 4) && commands.reads == 0 && writer.writes == 0
+}
+
+/// The first read of a file of so many bytes that fails in another way.
+fn first_wrong_read_of(
+    alloc: Global,
+    inputs: [&[u8]; 3],
+    place: usize,
+    len: usize,
+    text: &str,
+) -> Option<usize> {
+    for number in 1..=len.saturating_add(1) {
+        if !ends_by_a_file(alloc, inputs, place, number, text) {
+            return Some(number);
+        }
+    }
+    None
+}
+
+/// The first file, by its place, and read of it that fails in another way.
+fn first_wrong_file(alloc: Global, image: &[u8]) -> Option<(usize, usize)> {
+    let inputs = [image, CONFIG, JOURNAL];
+    for (place, text) in UNREAD.iter().enumerate() {
+        let len = inputs[place].len();
+        if let Some(number) = first_wrong_read_of(alloc, inputs, place, len, *text) {
+            return Some((place, number));
+        }
+    }
+    None
+}
+
+/// A file of n bytes takes n + 1 reads, the last of which finds the end. Where one fails, its file is named.
+#[test]
+fn each_read_of_a_file_fails(rt: HostRuntime) -> Result<(), Fail> {
+    let image = image(rt.alloc())?;
+    none_wrong(first_wrong_file(rt.alloc(), image.as_slice()))
+}
+
+/// Whether commands are answered where reads and writes are interrupted.
+fn goes_on(alloc: Global, image: &[u8]) -> bool {
+    let mut commands = Bytewise::new(COMMANDS);
+    commands.interrupts = true;
+    let mut writer = Taking::new(alloc);
+    writer.interrupts = true;
+    let ended = debug_by(alloc, image, &mut commands, &mut writer);
+    ended.is_ok() && writer.taken.as_slice() == ANSWERS
+}
+
+#[test]
+fn reads_and_writes_are_interrupted(rt: HostRuntime) -> Result<(), Fail> {
+    let image = image(rt.alloc())?;
+    assert!(rt; goes_on(rt.alloc(), image.as_slice()));
+    Ok(())
+}
+
+/// Whether `debug` gives up after 268,435,456 reads of commands, those of lines that it has answered too.
+fn gives_up(alloc: Global, image: &[u8]) -> bool {
+    let mut commands = Busy::new(b"goto 2\nback\n", false);
+    let mut writer = Taking::new(alloc);
+    let ended = debug_by(alloc, image, &mut commands, &mut writer);
+    let text = "standard input didn't end within 268,435,456 reads";
+    is_fault(alloc, &ended, text, 4)
+        && commands.reads == 268_435_456
+        && writer.taken.as_slice() == b"at 2\nnone\n".as_slice()
+}
+
+/// Commands that never end a line are given up.
+#[test]
+fn reads_end(rt: HostRuntime) -> Result<(), Fail> {
+    let image = image(rt.alloc())?;
+    assert!(rt; gives_up(rt.alloc(), image.as_slice()));
+    Ok(())
 }
 
 /// What is answered before the read of this number of `COMMANDS`.

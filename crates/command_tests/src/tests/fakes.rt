@@ -46,16 +46,36 @@ impl<'a> Read for Bytewise<'a> {
     }
 }
 
-/// Interrupts each read, and counts them.
+/// Gives a byte a read, and then ends, or interrupts each. It counts them.
 #[derive(Drop)]
-pub struct Busy {
+pub struct Busy<'a> {
+    pub left: &'a [u8],
+    pub ends: bool,
     pub reads: u32,
 }
 
-impl Read for Busy {
-    fn read(&mut self, _buf: &mut [u8]) -> io::Result<usize> {
+impl<'a> Busy<'a> {
+    pub fn new(left: &'a [u8], ends: bool) -> Self {
+        Busy {
+            left,
+            ends,
+            reads: 0,
+        }
+    }
+}
+
+impl<'a> Read for Busy<'a> {
+    fn read(&mut self, buf: &mut [u8]) -> io::Result<usize> {
         self.reads = self.reads.wrapping_add(1);
-        Err(io::Error::from(ErrorKind::Interrupted))
+        match (self.left.split_first(), buf.first_mut()) {
+            (Some((byte, rest)), Some(place)) => {
+                *place = *byte;
+                self.left = rest;
+                Ok(1)
+            }
+            _ if self.ends => Ok(0),
+            _ => Err(io::Error::from(ErrorKind::Interrupted)),
+        }
     }
 }
 

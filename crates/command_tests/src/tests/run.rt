@@ -1,6 +1,6 @@
 //! The command `run` over readers and writers that fail, and the order of its faults.
 
-use super::fakes::{Bytewise, Taking};
+use super::fakes::{Busy, Bytewise, Taking};
 use super::{UNWRITTEN, is_fault};
 use brd_asm::assemble;
 use brd_command::{CommandFault, run};
@@ -44,7 +44,7 @@ fn run_failing(
 }
 
 /// The fault of an input that can't be read, by its place.
-const UNREAD: [&str; 3] = [
+pub const UNREAD: [&str; 3] = [
     "can't read the object file: the reader's own words",
     "can't read the configuration: the reader's own words",
     "can't read the journal: the reader's own words",
@@ -97,6 +97,52 @@ fn first_wrong_input(alloc: Global, image: &[u8]) -> Option<(usize, usize)> {
 fn each_read_of_run_fails(rt: HostRuntime) -> Result<(), Fail> {
     let image = image(rt.alloc())?;
     none_wrong(first_wrong_input(rt.alloc(), image.as_slice()))
+}
+
+/// Whether `run` gives up an input, by its place, after 268,435,456 reads, and names it.
+fn gives_up(alloc: Global, inputs: [&[u8]; 3], place: usize, text: &str) -> bool {
+    let [image, config, journal] = inputs;
+    let mut image = Busy::new(image, place != 0);
+    let mut config = Busy::new(config, place != 1);
+    let mut journal = Busy::new(journal, place != 2);
+    let mut writer = Taking::new(alloc);
+    let ended = run(
+        alloc,
+        &mut image,
+        &mut config,
+        &mut journal,
+        &mut writer,
+    );
+    let reads = match place {
+        0 => image.reads,
+        1 => config.reads,
+        _ => journal.reads,
+    };
+    is_fault(alloc, &ended, text, 4) && writer.writes == 0 && reads == 268_435_456
+}
+
+#[test]
+fn reads_of_the_object_file_end(rt: HostRuntime) -> Result<(), Fail> {
+    let image = image(rt.alloc())?;
+    let text = "the object file didn't end within 268,435,456 reads";
+    assert!(rt; gives_up(rt.alloc(), [image.as_slice(), CONFIG, JOURNAL], 0, text));
+    Ok(())
+}
+
+#[test]
+fn reads_of_the_configuration_end(rt: HostRuntime) -> Result<(), Fail> {
+    let image = image(rt.alloc())?;
+    let text = "the configuration didn't end within 268,435,456 reads";
+    assert!(rt; gives_up(rt.alloc(), [image.as_slice(), CONFIG, JOURNAL], 1, text));
+    Ok(())
+}
+
+#[test]
+fn reads_of_the_journal_end(rt: HostRuntime) -> Result<(), Fail> {
+    let image = image(rt.alloc())?;
+    let text = "the journal didn't end within 268,435,456 reads";
+    assert!(rt; gives_up(rt.alloc(), [image.as_slice(), CONFIG, JOURNAL], 2, text));
+    Ok(())
 }
 
 /// Whether the write behind so many bytes of the report fails, and is the last one.

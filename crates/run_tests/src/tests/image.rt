@@ -1,4 +1,5 @@
 mod booted;
+mod changed;
 mod faults;
 mod files;
 mod large;

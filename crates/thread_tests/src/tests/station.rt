@@ -4,7 +4,7 @@ ghost use Rattle.std.specs.Prelude.{◌≤◌};
 ghost use Rattle.brd_ledgers.specs.Blanks.{AreOf};
 
 use crate::tests::boards::{LOOP, TWO, board_of};
-use brd_board::{Board, Report};
+use brd_board::{Board, Event, Report};
 use brd_threads::{Blanks, CommitFault, Outer, Race, Share, Station, StationFault};
 use std::alloc::Global;
 use std::marker::Brand;
@@ -19,6 +19,26 @@ fn refuses_all<K: Race>(station: &mut Station<K>, share: &mut Share<K>, boot: &B
         && station.steps(cpu) == Some(0)
         && share.count() == 0
         && !station.is_done()
+}
+
+/// Whether a station that has no room refuses a stale lease as stale: that of a board that has done a step more.
+fn refuses_stale<K: Race>(station: &mut Station<K>, share: &mut Share<K>, boot: &Board) -> bool {
+    let cpu = share.cpu();
+    let Ok(mut later) = boot.try_copy() else {
+        return false;
+    };
+    let _ = later.event(Event::Step(cpu));
+    let (Some(mut stale), Some(mut good)) = (later.lend(cpu), station.lend(cpu)) else {
+        return false;
+    };
+    if stale.run(5) != 5 || good.run(5) != 5 {
+        return false;
+    }
+    station.commit(stale, share) == Err(CommitFault::Stale)
+        && station.commit(good, share) == Err(CommitFault::JournalFull)
+        && station.journal().is_empty()
+        && station.board().same(boot)
+        && share.count() == 0
 }
 
 /// Whether a station does a step and its script's entry, each once.
@@ -70,6 +90,7 @@ fn leases_none<K: Race>(station: &mut Station<K>, share: &mut Share<K>) -> bool 
 #[derive(Clone, Copy)]
 enum Scene {
     Refuses,
+    RefusesStale,
     Does,
     LeasesAll,
     LeasesNone,
@@ -84,6 +105,7 @@ fn does<K: Race>(
 ) -> bool {
     match scene {
         Scene::Refuses => refuses_all(station, share, boot),
+        Scene::RefusesStale => refuses_stale(station, share, boot),
         Scene::Does => does_each(station, share),
         Scene::LeasesAll => leases_all(station, share),
         Scene::LeasesNone => leases_none(station, share),
@@ -258,6 +280,10 @@ fn stations(rt: HostRuntime) {
         return assert!(rt; false, "no board");
     };
     assert!(rt; goes_well(alloc, &boot, 0, Scene::Refuses), "no room");
+    assert!(rt;
+        goes_well(alloc, &boot, 0, Scene::RefusesStale),
+        "a stale lease and no room"
+    );
     assert!(rt;
         goes_well(alloc, &boot, 2, Scene::Does),
         "room for two runs"

@@ -114,6 +114,10 @@ const TEXTS: &[(BuildFault, &str)] = &[
         BuildFault::Boot(BootFault::UnknownSymbol),
         "the boot: the configuration names a symbol that the image doesn't have",
     ),
+    (
+        BuildFault::Boot(BootFault::Outside),
+        "the boot: a segment, a stack or a start isn't in the board's RAM, or a start isn't aligned",
+    ),
 ];
 
 #[test]

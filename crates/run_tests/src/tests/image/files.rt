@@ -13,7 +13,7 @@ use std::test::Fail;
 const FOUR_WORDS: &str = "_start: lui $t0, %hi(d)\nlw $t1, %lo(d)($t0)\nnop\nd: .word 7\n";
 
 /// The file of a source without a fault.
-fn file_of(alloc: Global, source: &str) -> Result<Vec<u8>, Fail> {
+pub fn file_of(alloc: Global, source: &str) -> Result<Vec<u8>, Fail> {
     let image = assemble(alloc, source.as_bytes())?;
     Ok(write(alloc, &image)?)
 }

@@ -1,0 +1,133 @@
+"""Random texts of the languages of `board`: most of their lines are right, so that more than a reader is met."""
+
+REGISTERS = ("$0", "$1", "$8", "$t0", "$t9", "$s0", "$sp", "$ra", "$31", "$zero", "$s8")
+LABELS = ("_start", "loop", "a", "b.c", "d$1", ".x")
+# The operands of mnemonics: r a register, i an immediate, u one without a sign, s a shift, m an address, l a target.
+OPERANDS = {
+    "r, r, r": "add addu sub subu and or xor nor slt sltu mul movz movn sllv srlv srav",
+    "r, r, i": "addi addiu slti sltiu", "r, r, u": "andi ori xori", "r, u": "lui", "r, r, s": "sll srl sra",
+    "r, m": "lb lbu lh lhu lw lwl lwr sb sh sw swl swr ll sc", "r, r, l": "beq bne beql bnel",
+    "r, l": "blez bgtz bltz bgez bltzal bgezal blezl bgtzl bltzl bgezl beqz bnez", "l": "j jal b bal",
+    "r": "jr mfhi mflo mthi mtlo jalr", "": "nop syscall break sync",
+    "r, r": "mult multu div divu clz clo move madd msub",
+    "r, i": "teqi tnei tgei tlti",
+}
+INSTRUCTIONS = [(name, operands) for operands, names in OPERANDS.items() for name in names.split()]
+
+
+class Texts:
+    """Makes texts from one source of random numbers."""
+
+    def __init__(self, random):
+        self.random = random
+
+    def often(self, probability):
+        return self.random.random() < probability
+
+    def among(self, *values):
+        return self.random.choice(values)
+
+    # Sources
+
+    def operand(self, kind):
+        label = self.random.choice(LABELS)
+        if kind == "r":
+            return self.random.choice(REGISTERS)
+        if kind == "m":
+            return f"{self.among('', '0', '4', '-4', f'%lo({label})', '32767')}({self.operand('r')})"
+        if kind == "l":
+            return self.among(label, label, label, f"{label}+4", "0x80000000")
+        if kind == "s":
+            return str(self.random.randrange(32))
+        return self.among("0", "1", "7", "0x7f", "32767", f"%lo({label})") if kind == "i" \
+            else self.among("0", "1", "0xffff", f"%hi({label})", "%hi(0x80001234)")
+
+    def statement(self):
+        if self.often(.75):
+            name, operands = self.random.choice(INSTRUCTIONS)
+            return f"{name} {', '.join(self.operand(kind) for kind in operands.split(', ') if kind)}".strip()
+        label, number = self.random.choice(LABELS), self.random.randrange(200)
+        return self.among(f".word {label}, {number}, -1", f".half {number}, 0xffff", f".byte {number}, 255", ".align 2",
+                          f".space {4 * number}", f'.asciiz "x{number}\\n"\n.align 2', f".equ n{number}, {number}",
+                          f".globl {label}", ".set noreorder", "# a comment", "",
+                          f".org 0x{0x80001000 + 4096 * number:x}")
+
+    def source(self):
+        count = self.random.randrange(1, 60)
+        lines = [f"        {self.statement()}" for _ in range(count)]
+        for label in LABELS:
+            if self.often(.97):
+                lines.insert(self.random.randrange(len(lines) + 1), f"{label}:")
+        return "\n".join(lines + [""]).encode()
+
+    # Configurations
+
+    def attributes(self, *names):
+        return " | ".join(self.random.sample(names, self.random.randrange(1, len(names) + 1)))
+
+    def object(self):
+        random, order = self.random, self.among("TA_TFIFO", "TA_TPRI")
+        number = random.randrange(1, 256)
+        start = self.among("_start", "loop", "0x80000000", f"0x{0x80000000 + 4 * random.randrange(16384):x}", "a")
+        return self.among(
+            f"CRE_TSK({number}, {{{self.attributes('TA_HLNG', 'TA_ACT', 'TA_ACT', '0')}, {number}, {start}, "
+            f"{random.randrange(1, 17)}, {random.choice((1, 16, 256, 4096))}, {self.among('NULL', '0x80004000')}}});",
+            f"CRE_SEM({number}, {{{order}, {random.randrange(3)}, {self.among(2, 65535)}}});",
+            f"CRE_FLG({number}, {{{self.attributes('TA_TPRI', 'TA_WMUL', 'TA_CLR')}, {random.randrange(4)}}});",
+            f"CRE_DTQ({number}, {{{order}, {self.among(0, 1, 16, 256)}, NULL}});",
+            f"DEF_INH({random.randrange(32)}, {{TA_HLNG, {start}}});")
+
+    def configuration(self):
+        processors = self.among(1, 1, 2, 3, 8)
+        lines = [f"BOARD({processors}, 0x{self.among(1, 1, 1, 2, 16, 256):x}0000);"]
+        for _ in range(self.random.randrange(12)):
+            line = self.object()
+            if self.often(.4):
+                line = f"CLASS(TCL_{self.random.randrange(1, processors + 1)}) {{ {line} /* on another */ }}"
+            lines.append(line)
+        return "\n".join(lines + [""]).encode()
+
+    # Journals, scripts, commands, words
+
+    def run(self, kinds):
+        kind, count = self.random.choice(kinds), self.random.choice((1, 1, 2, 3, 7, 40, 300))
+        number = f" {self.random.choice((1, 1, 1, 2, 3, 8, 0, 31, 255))}" if kind != "T" else ""
+        return f"{kind}{number} {count}"
+
+    def journal(self):
+        runs = [self.run("SSSSSTR") for _ in range(self.random.choice((0, 1, 5, 40)))]
+        return "\n".join(["board-journal 1", *runs, ""]).encode()
+
+    def script(self):
+        return "".join(f"{self.run('TTR')}\n" for _ in range(self.random.choice((0, 1, 5, 20)))).encode()
+
+    def commands(self):
+        lines = []
+        for _ in range(self.random.randrange(25)):
+            address = 0x80000000 + self.random.choice((4, 1, 4096)) * self.random.randrange(64)
+            position, processor = self.random.randrange(200), self.random.randrange(1, 9)
+            lines.append(self.among("next", "back", "next", "back", f"goto {position}", f"mem {address:08x}",
+                                    f"regs {processor}", f"break {address:08x}", f"watch {address:08x}"))
+        if self.often(.2):
+            lines.insert(self.random.randrange(len(lines) + 1), "quit")
+        return "\n".join(lines + [""]).encode()
+
+    def words(self):
+        known = (0x24080005, 0x10000002, 0x25080001, 0x25080064, 0x01084821, 0x1000FFFF, 0x0000000C, 0xAC080000)
+        made = [self.random.choice(known) if self.often(.7) else self.random.getrandbits(32)
+                for _ in range(self.random.choice((0, 1, 9, 80)))]
+        return self.among(" ", "\n", "\r\n ").join(f"{word:08x}" for word in made).encode()
+
+    # Command lines
+
+    def arguments(self):
+        """A command line, mostly a wrong one. No name has a slash in it, so that files are made in one folder alone."""
+        words = ("words", "asm", "run", "debug", "race", "help", "-h", "--help", "--version", "-V", "--", "-", "", "x",
+                 "1", "-1", "1000001", "18446744073709551616", "--STEPS", "--steps=1", "\x1b[31m", "a\nb", "a\tb",
+                 "\u00e9\u202e", "x" * 4000, "image.elf", "board.cfg", "board.journal", "source.s", "%s%n", "{}", "'")
+        made = [self.random.choice(words).encode() for _ in range(self.random.choice((0, 1, 1, 2, 2, 3, 4, 5, 9)))]
+        if made and self.often(.3):
+            made[0] = self.random.choice((b"words", b"asm", b"run", b"debug", b"help"))
+        if made and self.often(.1):
+            made[self.random.randrange(len(made))] = self.random.randbytes(6).replace(b"\0", b"").replace(b"/", b"_")
+        return made
