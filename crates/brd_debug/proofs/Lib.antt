@@ -1,4 +1,6 @@
 mod MarkLemmas
-mod PlayingLemmas
 mod SearchLemmas
+mod StillLemmas
+mod PlayingLemmas
+mod NotedLemmas
 mod KeptLemmas

@@ -6,9 +6,11 @@ ghost use Rattle.brd_board.specs.Board.{happens};
 ghost use Rattle.brd_mem.specs.Memory.{Memory as MemoryOf};
 ghost use Rattle.brd_debug.specs.Marks.{most_marks};
 ghost use Rattle.brd_debug.specs.Stops.{IsBreak, Differs, StopsAt};
+ghost use Rattle.brd_journal.specs.Still.{does_no_more};
 
 use crate::marks::{MOST_MARKS, Marks};
 use brd_board::{Board, Event, Report};
+use brd_journal::does_no_more;
 
 /// Addresses of instructions, and addresses of bytes.
 #[derive(Drop)]
@@ -17,6 +19,15 @@ pub struct Stops {
     pub breaks: Marks,
     /// Where a byte that changes is a stop.
     pub watches: Marks,
+}
+
+/// What was seen of an event.
+#[derive(Clone, Copy)]
+pub struct Seen {
+    /// Whether it is a stop.
+    pub stop: bool,
+    /// Whether the same event does nothing where it comes again.
+    pub over: bool,
 }
 
 impl Stops {
@@ -30,15 +41,19 @@ impl Stops {
         }
     }
 
-    /// Lets an event happen to a board. Answers whether that is a stop.
-    pub fn happen(&self, board: &mut Board, event: Event) -> bool
+    /// Lets an event happen to a board. Answers whether that is a stop, and whether the event is over then.
+    pub fn happen(&self, board: &mut Board, event: Event) -> Seen
         ensures is { board.new ≡ (happens board.old event).board }
-        ensures stops { Decides result (StopsAt self.now board.old event) }
+        ensures stops { Decides result.stop (StopsAt self.now board.old event) }
+        ensures over { result.over ≡ does_no_more event (happens board.old event).report }
     {
         let watches = self.watches.as_slice();
         let before = watched(watches, board);
         let report = board.event_apart(event);
-        self.is_break(report) || differ(watches, &before, board)
+        Seen {
+            stop: self.is_break(report) || differ(watches, &before, board),
+            over: does_no_more(event, report),
+        }
     }
 
     /// Whether an event with this report executed an instruction at a break.
