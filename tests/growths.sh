@@ -12,6 +12,7 @@ fi
 refuse_each() {
     local name="$1, each growth refused in turn" refusal=$2 text=$3 n status=1 wrong=""
     shift 3
+    : > "$work/told"
     if [ "$can_refuse" = no ]; then
         echo "skipped: $name: there is no C compiler (cc)"
         return
@@ -23,6 +24,7 @@ refuse_each() {
         status=$?
         if [ "$status" = 0 ]; then
             cmp -s "$work/out" "$work/wanted" || wrong="$wrong; growth $n: another output"
+            cat "$work/err" >> "$work/told"
         elif [ "$status" != "$refusal" ]; then
             wrong="$wrong; growth $n: status $status, $(head -n 1 "$work/err")"
         else

@@ -1,6 +1,7 @@
 #!/bin/bash
 # The tests of libraries by themselves, by the programs of other crates that `rt ci` leaves: each growth that is refused
-# to the readers of configurations, journals and object files, to boot, build and load; and object files of GNU ld.
+# to the readers of configurations, journals and object files, to boot, build and load, and to a debugger's moves; and
+# object files of GNU ld.
 # tests/libraries.sh PROGRAM (which it doesn't run).
 . "$(dirname "$0")/check.sh"
 . tests/growths.sh
@@ -9,6 +10,7 @@ journals=crates/journal_rows/out/journal_rows
 scenes=crates/board_rows/out/board_rows
 elf=crates/elf_bench/out/elf_bench
 builds=crates/image_rows/out/image_rows
+moves=crates/debug_moves/out/debug_moves
 
 # The texts of the table, a few at a time: a growth that is refused ends the program.
 if [ -x "$rows" ]; then
@@ -35,6 +37,15 @@ if [ -x "$builds" ]; then
     cp crates/image_rows/stdin "$work/in"
     "$builds" < "$work/in" > "$work/wanted"
     refuse_each "build and load" 1 "*[Mm]emory*" "$builds"
+fi
+if [ -x "$moves" ]; then
+    : > "$work/in"
+    cp crates/debug_moves/stdout "$work/wanted"
+    refuse_each "moves of a debugger" 1 "*[Mm]emory*" "$moves"
+    if [ "$can_refuse" = yes ]; then
+        count=$(grep -c '^refused 1$' "$work/told")
+        [ "$count" -gt 20 ] || fail "moves of a debugger" "only $count moves were refused"
+    fi
 fi
 
 # Object files of GNU as and ld.
