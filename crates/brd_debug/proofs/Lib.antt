@@ -1,4 +1,5 @@
 mod MarkLemmas
+mod StopLemmas
 mod SearchLemmas
 mod StillLemmas
 mod PlayingLemmas

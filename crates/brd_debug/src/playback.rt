@@ -71,11 +71,12 @@ impl Playback {
         ensures still { (boot : BoardOf) → IsPlayed boot journal.now.events self.old → AreStill boot journal.now.events end self.new.at }
     {
         let mut rest = nothing_left();
+        let mut bytes = stops.watched(&self.board);
         while self.at < end {
             let at = self.at;
             let event = next_event(journal, at, &mut rest)?;
             self.at += 1;
-            let seen = stops.happen(&mut self.board, event);
+            let seen = stops.happen(&mut self.board, event, &mut bytes);
             if seen.stop {
                 return Some(at);
             }
@@ -92,12 +93,13 @@ impl Playback {
             → IsGreatest (IsStop stops.now boot journal.now.events) self.old.at to result }
     {
         let mut rest = nothing_left();
+        let mut bytes = stops.watched(&self.board);
         let mut last = None;
         while self.at < to {
             let at = self.at;
             let event = next_event(journal, at, &mut rest)?;
             self.at += 1;
-            let seen = stops.happen(&mut self.board, event);
+            let seen = stops.happen(&mut self.board, event, &mut bytes);
             last = later(last, seen.stop, at);
             self.at += skipped(&mut rest, seen.over, to - self.at);
         }

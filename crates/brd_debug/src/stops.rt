@@ -1,6 +1,6 @@
 //! Where a debugger stops.
 
-ghost use Rattle.std.specs.Prelude.{◌≡◌, ◌≤◌, Decides, [], length};
+ghost use Rattle.std.specs.Prelude.{◌≡◌, ◌≤◌, Decides, false, [], length};
 ghost use Rattle.brd_debug.specs.Watching.{AreBytesAt};
 ghost use Rattle.brd_board.specs.Board.{happens};
 ghost use Rattle.brd_mem.specs.Memory.{Memory as MemoryOf};
@@ -30,6 +30,13 @@ pub struct Seen {
     pub over: bool,
 }
 
+/// The bytes at watched addresses, in the order of these; None where RAM has none.
+#[derive(Clone, Copy)]
+pub struct WatchedBytes {
+    /// The bytes.
+    pub bytes: [Option<u8>; MOST_MARKS],
+}
+
 impl Stops {
     /// No stops.
     pub fn new() -> Stops
@@ -41,17 +48,26 @@ impl Stops {
         }
     }
 
-    /// Lets an event happen to a board. Answers whether that is a stop, and whether the event is over then.
-    pub fn happen(&self, board: &mut Board, event: Event) -> Seen
+    /// The bytes that are watched, as a board has them.
+    pub fn watched(&self, board: &Board) -> WatchedBytes
+        ensures { AreBytesAt self.now.watches board.now.memory result.bytes }
+    {
+        watched(self.watches.as_slice(), board)
+    }
+
+    /// Lets an event happen to a board with these watched bytes, and keeps them up to date. Answers whether that is a
+    /// stop, and whether the event is over then.
+    pub fn happen(&self, board: &mut Board, event: Event, bytes: &mut WatchedBytes) -> Seen
+        requires { AreBytesAt self.now.watches board.old.memory bytes.old.bytes }
+        ensures bytes { AreBytesAt self.now.watches board.new.memory bytes.new.bytes }
         ensures is { board.new ≡ (happens board.old event).board }
         ensures stops { Decides result.stop (StopsAt self.now board.old event) }
         ensures over { result.over ≡ does_no_more event (happens board.old event).report }
     {
-        let watches = self.watches.as_slice();
-        let before = watched(watches, board);
         let report = board.event_apart(event);
+        let changed = renewed(self.watches.as_slice(), bytes, board);
         Seen {
-            stop: self.is_break(report) || differ(watches, &before, board),
+            stop: self.is_break(report) || changed,
             over: does_no_more(event, report),
         }
     }
@@ -70,24 +86,40 @@ impl Stops {
 }
 
 /// The bytes at watched addresses, in the order of these; None where RAM has none.
-fn watched(watches: &[u32], board: &Board) -> [Option<u8>; MOST_MARKS]
+fn watched(watches: &[u32], board: &Board) -> WatchedBytes
     requires { length watches.now ≤ most_marks }
-    ensures { AreBytesAt watches.now board.now.memory result }
+    ensures { AreBytesAt watches.now board.now.memory result.bytes }
 {
     let mut bytes = [None; MOST_MARKS];
     for i in 0..watches.len() {
         bytes[i] = board.memory(watches[i]);
     }
-    bytes
+    WatchedBytes { bytes }
+}
+
+/// Whether one of them is another byte now. They are brought up to date.
+fn renewed(watches: &[u32], bytes: &mut WatchedBytes, board: &Board) -> bool
+    requires { length watches.now ≤ most_marks }
+    ensures differ { (memory : MemoryOf) → AreBytesAt watches.now memory bytes.old.bytes
+        → Decides result (Differs watches.now memory board.now.memory) }
+    ensures bytes { AreBytesAt watches.now board.now.memory bytes.new.bytes }
+{
+    if !differ(watches, bytes, board) {
+        return false;
+    }
+    *bytes = watched(watches, board);
+    true
 }
 
 /// Whether one of them is another byte now.
-fn differ(watches: &[u32], before: &[Option<u8>; MOST_MARKS], board: &Board) -> bool
+fn differ(watches: &[u32], before: &WatchedBytes, board: &Board) -> bool
     requires { length watches.now ≤ most_marks }
-    ensures { (memory : MemoryOf) → AreBytesAt watches.now memory before.now → Decides result (Differs watches.now memory board.now.memory) }
+    ensures differ { (memory : MemoryOf) → AreBytesAt watches.now memory before.now.bytes
+        → Decides result (Differs watches.now memory board.now.memory) }
+    ensures same { result ≡ false → AreBytesAt watches.now board.now.memory before.now.bytes }
 {
     for i in 0..watches.len() {
-        if board.memory(watches[i]) != before[i] {
+        if board.memory(watches[i]) != before.bytes[i] {
             return true;
         }
     }

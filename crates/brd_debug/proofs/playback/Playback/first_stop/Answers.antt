@@ -11,6 +11,7 @@ loop-self-init c = record {
   from = omega arith;
   on = omega (arith, c.requires.on, c.requires.past);
   left = left-none c.args.journal.now.events c.args.self.now.at c.nothing_left-rest.result c.nothing_left-rest.ensures;
+  bytes = c.watched-bytes.ensures;
   played = λ boot is. is;
   none = λ boot is m above below. absurd (omega (arith, above, below));
   still = λ boot is p above below. absurd (omega (arith, above, below, c.requires.on));
@@ -53,6 +54,7 @@ loop-self-preserved c =
       on = more;
       left = passed-left c.args.journal.now.events (c.loop-self.self.at + 1) c.next_event.new.rest c.skipped.new.rest c.skipped.result
           c.in_ok-event.ensures.left c.skipped.ensures.few.1 c.skipped.ensures.left;
+      bytes = c.happen-seen.ensures.bytes;
       played = λ boot is. record {
         board = passed-board c.args.stops.now boot c.args.journal.now.events c.happen-seen.new.board (c.loop-self.self.at + 1) c.next_event.new.rest
             c.happen-seen.result.over c.skipped.result (pass boot is);
