@@ -47,12 +47,12 @@ fi
 
 # A board with every kind of object, handlers and eight processors, its copies and snapshots; a journal; moves of a
 # debugger. What was refused is done once more, so the output is that without refusals.
-if [ -x "$debuggers" ]; then
+if built "$debuggers"; then
     cp crates/debug_rows/stdin "$work/in"
     "$debuggers" < "$work/in" > "$work/wanted"
     refuse_each "journals and debuggers" 1 "*[Mm]emory*" "$debuggers"
 fi
-if [ -x "$threads" ]; then
+if built "$threads"; then
     cp crates/thread_rows/stdin "$work/in"
     "$threads" < "$work/in" > "$work/wanted"
     refuse_each "stations and races" 1 "*[Mm]emory*" "$threads"

@@ -1,4 +1,7 @@
 mod MarkLemmas
-mod PlayingLemmas
+mod StopLemmas
 mod SearchLemmas
+mod StillLemmas
+mod PlayingLemmas
+mod NotedLemmas
 mod KeptLemmas

@@ -37,6 +37,17 @@ none-both Stop from mid to front behind m above below stop = elim (cases_lt m mi
   | inr ge ↦ behind m ge below stop
 ]
 
+-- a range, and one after it in which there is none
+
+pub greatest-on : (Stop : ℕ → Type 0) (from mid to : ℕ) (last : Option ℕ) → mid ≤ to → IsGreatest Stop from mid last → NoneFrom Stop mid to →
+    IsGreatest Stop from to last
+greatest-on Stop from mid to None on is none = none-both Stop from mid to is none
+greatest-on Stop from mid to (Some n) on is none =
+    (is.0, omega (arith, is.1, on), is.2, λ m behind before stop. none-both Stop (n + 1) mid to (λ k above below s. is.3 k (omega (arith, above)) below s) none m (omega (arith, behind)) before stop)
+
+pub least-one : (Stop : ℕ → Type 0) (from to : ℕ) → from ≤ to → NoneFrom Stop from to → Stop to → IsLeast Stop from (to + 1) (Some to)
+least-one Stop from to above none here = (above, omega arith, here, none)
+
 pub least-whole : (Stop : ℕ → Type 0) (from mid end to n : ℕ) → from ≤ mid → end ≤ to → NoneFrom Stop from mid →
     IsLeast Stop mid end (Some n) → IsLeast Stop from to (Some n)
 least-whole Stop from mid end to n above below none is =
@@ -60,6 +71,10 @@ pub found-least : (Stop : ℕ → Type 0) (from mid end to : ℕ) (found : Optio
     NoneFrom Stop from mid → IsLeast Stop mid end found → IsLeast Stop from to found
 found-least Stop from mid end to None some above below none is = absurd (false≢true some)
 found-least Stop from mid end to (Some n) some above below none is = least-whole Stop from mid end to n above below none is
+
+pub found-more : (Stop : ℕ → Type 0) (from to : ℕ) (found : Option ℕ) → is_some found ≡ true → IsLeast Stop from to found → from < to
+found-more Stop from to None some is = absurd (false≢true some)
+found-more Stop from to (Some n) some is = omega (arith, is.0, is.1)
 
 pub found-greatest : (Stop : ℕ → Type 0) (low from mid to : ℕ) (found : Option ℕ) → is_some found ≡ true → low ≤ from → mid ≤ to →
     NoneFrom Stop mid to → IsGreatest Stop from mid found → IsGreatest Stop low to found

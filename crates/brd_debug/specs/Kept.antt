@@ -1,10 +1,11 @@
 -- What a debugger keeps of the boards that a journal makes of its boot.
-use Rattle.std.specs.Prelude.{◌≡◌, ℕ, ◌*◌, ◌%◌, ◌≤◌, ◌==◌, ◌&&◌, nat_lt, if◌then◌else◌, List, [], ◌∷◌, ◌++◌, length, map, filter, All}
+use Rattle.std.specs.Prelude.{◌≡◌, ◌⊎◌, ℕ, zero, suc, ◌+◌, ◌-◌, ◌*◌, ◌%◌, ◌≤◌, ◌==◌, ◌&&◌, nat_lt, if◌then◌else◌, List, [], ◌∷◌, ◌++◌, length, map, filter, All}
 use Rattle.brd_board.specs.declared.event.Event.{Event}
 use Rattle.brd_board.specs.Board.{BoardState}
 use Rattle.brd_board.specs.Snapshot.{restored, Fits}
 use Rattle.brd_debug.specs.declared.playback.Playback.{Playback}
 use Rattle.brd_debug.specs.declared.snapshots.Kept.{Kept}
+use Rattle.brd_debug.specs.Playing.{IsStill}
 use Rattle.brd_debug.specs.Stops.{board_at}
 
 -- a board has played the first so many events
@@ -24,6 +25,10 @@ AreKept boot events kept = All (IsKept boot events) kept
 -- their pages lie inside the boot's RAM
 abbrev pub DoFit : BoardState → List Kept → Type 0
 DoFit boot kept = All (λ one. Fits boot one.snapshot) kept
+
+-- no snapshot lies after this position and up to the other one
+abbrev pub IsLastUpTo : List Kept → ℕ → ℕ → Type 0
+IsLastUpTo kept to last = All (λ one. one.at ≤ to → one.at ≤ last) kept
 
 -- Snapshots, and how many events they are apart at least.
 pub record SnapshotsState : Type 0 where
@@ -53,11 +58,29 @@ abbrev pub most_kept : ℕ
 most_kept = 1024
 
 -- A snapshot is taken at a multiple of the interval behind all others. Where there would be more than 1,024, the
--- interval doubles instead, and those that are no multiples of it any more are given up (own choice). Kept are then the
--- first 1,024 multiples, so the one that there is no room for is the next one, and no multiple of the doubled interval.
+-- interval doubles instead, and those that are no multiples of it any more are given up (own choice). Where none was
+-- left out, kept are then the first 1,024 multiples, so the one that there is no room for is the next one, and no
+-- multiple of the doubled interval.
 abbrev pub noted : Plan → ℕ → Plan
 noted plan at =
     if nat_lt (last_of plan.positions) at && (at % plan.interval == 0)
     then (if nat_lt (length plan.positions) most_kept then record plan { positions = plan.positions ++ at ∷ [] }
     else record { interval = plan.interval * 2; positions = filter (λ position. position % (plan.interval * 2) == 0) plan.positions })
     else plan
+
+-- the next multiple of an interval after a position
+abbrev pub next_multiple : ℕ → ℕ → ℕ
+next_multiple interval at = at - at % interval + interval
+
+-- What becomes of the plan while a board plays so many events from a position on: a snapshot is noted at each position
+-- that is left. It may be left out where the event of the position does nothing.
+abbrev pub IsNoted : BoardState → List Event → Plan → ℕ → ℕ → Plan → Type 0
+IsNoted boot events plan at zero new = new ≡ plan
+IsNoted boot events plan at (suc n) new =
+    IsNoted boot events (noted plan at) (suc at) n new ⊎ (IsStill boot events at × IsNoted boot events plan (suc at) n new)
+
+-- The same, while a board plays up to a position, from the board that is shown at another one or from a snapshot,
+-- whichever is nearest.
+abbrev pub IsNotedUpTo : BoardState → List Event → SnapshotsState → ℕ → ℕ → Plan → Type 0
+IsNotedUpTo boot events old shown to new =
+    (from : ℕ) × (from ≤ to) × IsLastUpTo old.kept to from × (shown ≤ to → shown ≤ from) × IsNoted boot events (plan_of old) from (to - from) new

@@ -9,7 +9,7 @@ ghost use Rattle.brd_debug.specs.Stops.{IsStop, IsLeast, IsGreatest};
 
 use crate::fault::DebugFault;
 use crate::playback::Playback;
-use crate::search::{next_stop, played_to, stop_before};
+use crate::search::{next_stop, play_near, played_to, stop_before};
 use crate::snapshots::Snapshots;
 use crate::stops::Stops;
 use brd_base::NoMemory;
@@ -154,12 +154,25 @@ impl Debugger {
         Ok(found)
     }
 
-    /// Shows the board after so many events.
+    /// Shows the board after so many events. It plays on in place where no snapshot may be due on the way.
     fn show_at(&mut self, position: u64) -> Result<(), NoMemory>
         requires { position ≤ length self.old.events }
         ensures ok { OnOk result (self.new ≡ record self.old { position = position }) }
         ensures err { OnErr result (self.new ≡ self.old) }
     {
+        let len = self.journal.len();
+        if position == self.shown.at {
+            return Ok(());
+        }
+        if position > self.shown.at && position <= self.snapshots.next(self.shown.at) {
+            return play_near(
+                &self.boot,
+                &self.journal,
+                &mut self.snapshots,
+                &mut self.shown,
+                position,
+            );
+        }
         self.shown = played_to(
             &self.boot,
             &self.journal,

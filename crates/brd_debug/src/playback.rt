@@ -1,15 +1,16 @@
 //! A board that plays a journal.
 
-ghost use Rattle.std.specs.Prelude.{◌≡◌, ◌+◌, ◌≤◌, length, slice_get, IfOk, IfSome, None};
+ghost use Rattle.std.specs.Prelude.{◌≡◌, ◌+◌, ◌-◌, ◌≤◌, false, if◌then◌else◌, length, slice_get, IfOk, IfSome, None, Some};
 ghost use Rattle.brd_board.specs.Board.{BoardState as BoardOf};
 ghost use Rattle.brd_debug.specs.Kept.{IsPlayed};
 ghost use Rattle.brd_debug.specs.Stops.{IsStop, IsLeast, IsGreatest};
-ghost use Rattle.brd_debug.specs.Playing.{IsLeft};
+ghost use Rattle.brd_debug.specs.Playing.{IsLeft, AreStill};
+ghost use Rattle.brd_journal.specs.Still.{does_no_more};
 
 use crate::stops::Stops;
 use brd_base::NoMemory;
-use brd_board::{Board, Event};
-use brd_journal::{Journal, Run};
+use brd_board::{Board, Event, Report};
+use brd_journal::{Journal, Run, does_no_more};
 
 /// A board that plays a journal, and how many events it has played.
 #[derive(Drop)]
@@ -31,40 +32,55 @@ impl Playback {
         })
     }
 
-    /// Plays on up to a position.
-    pub fn play_to(&mut self, journal: &Journal, to: u64)
-        requires on { self.old.at ≤ to }
+    /// Plays on up to a position, and past it, as far as the other one, while a run's events do nothing.
+    pub fn play_to(&mut self, journal: &Journal, end: u64, to: u64)
+        requires on { self.old.at ≤ end }
+        requires past { end ≤ to }
         requires within { to ≤ length journal.now.events }
-        ensures at { self.new.at ≡ to }
+        ensures at { (end ≤ self.new.at) × (self.new.at ≤ to) }
         ensures played { (boot : BoardOf) → IsPlayed boot journal.now.events self.old → IsPlayed boot journal.now.events self.new }
+        ensures still { (boot : BoardOf) → IsPlayed boot journal.now.events self.old → AreStill boot journal.now.events end self.new.at }
     {
-        while self.at < to {
+        while self.at < end {
             let Some(rest) = journal.rest_at(self.at) else {
                 return;
             };
-            let count = (to - self.at).min(rest.count as u64);
-            self.board.repeat(rest.event, count as u32);
+            let report = self.board.event_apart(rest.event);
+            let far = reach(rest.event, report, end, to);
+            let count = (far - self.at).min(rest.count as u64);
+            let more = Run {
+                event: rest.event,
+                count: (count - 1) as u32,
+            };
+            more.play(&mut self.board);
             self.at += count;
         }
     }
 
-    /// Plays on up to a position, or up to behind the first stop before it. Answers that stop.
-    pub fn first_stop(&mut self, journal: &Journal, stops: &Stops, to: u64) -> Option<u64>
-        requires on { self.old.at ≤ to }
+    /// Plays on up to a position, and past it, as far as the other one, while a run's events do nothing; or up to after
+    /// the first stop. Answers that stop.
+    pub fn first_stop(&mut self, journal: &Journal, stops: &Stops, end: u64, to: u64) -> Option<u64>
+        requires on { self.old.at ≤ end }
+        requires past { end ≤ to }
         requires within { to ≤ length journal.now.events }
+        ensures at { (self.old.at ≤ self.new.at) × (self.new.at ≤ to) }
+        ensures none { result ≡ None → end ≤ self.new.at }
         ensures least { (boot : BoardOf) → IsPlayed boot journal.now.events self.old
-            → IsLeast (IsStop stops.now boot journal.now.events) self.old.at to result }
+            → IsLeast (IsStop stops.now boot journal.now.events) self.old.at self.new.at result }
         ensures played { (boot : BoardOf) → IsPlayed boot journal.now.events self.old → IsPlayed boot journal.now.events self.new }
-        ensures at { result ≡ None → self.new.at ≡ to }
+        ensures still { (boot : BoardOf) → IsPlayed boot journal.now.events self.old → AreStill boot journal.now.events end self.new.at }
     {
         let mut rest = nothing_left();
-        while self.at < to {
+        let mut bytes = stops.watched(&self.board);
+        while self.at < end {
             let at = self.at;
             let event = next_event(journal, at, &mut rest)?;
             self.at += 1;
-            if stops.happen(&mut self.board, event) {
+            let seen = stops.happen(&mut self.board, event, &mut bytes);
+            if seen.stop {
                 return Some(at);
             }
+            self.at += skipped(&mut rest, seen.over, to - self.at);
         }
         None
     }
@@ -77,17 +93,48 @@ impl Playback {
             → IsGreatest (IsStop stops.now boot journal.now.events) self.old.at to result }
     {
         let mut rest = nothing_left();
+        let mut bytes = stops.watched(&self.board);
         let mut last = None;
         while self.at < to {
             let at = self.at;
             let event = next_event(journal, at, &mut rest)?;
             self.at += 1;
-            if stops.happen(&mut self.board, event) {
-                last = Some(at);
-            }
+            let seen = stops.happen(&mut self.board, event, &mut bytes);
+            last = later(last, seen.stop, at);
+            self.at += skipped(&mut rest, seen.over, to - self.at);
         }
         last
     }
+}
+
+/// How far a board may play on with an event that has reported this: as far as `to` where the same event does nothing.
+fn reach(event: Event, report: Report, end: u64, to: u64) -> u64
+    requires { end ≤ to }
+    ensures is { result ≡ (if does_no_more event report then to else end) }
+    ensures between { (end ≤ result) × (result ≤ to) }
+{
+    if does_no_more(event, report) { to } else { end }
+}
+
+/// Takes at most so many events off what is left of a run, where the run is over. Answers how many.
+fn skipped(rest: &mut Run, over: bool, most: u64) -> u64
+    ensures none { over ≡ false → result ≡ 0 }
+    ensures few { (result ≤ most) × (result ≤ rest.old.count) }
+    ensures left { rest.new ≡ record rest.old { count = rest.old.count - result } }
+{
+    if !over {
+        return 0;
+    }
+    let count = most.min(rest.count as u64);
+    rest.count -= count as u32;
+    count
+}
+
+/// The last of the stops so far and this position, if that is one.
+fn later(last: Option<u64>, stop: bool, at: u64) -> Option<u64>
+    ensures { result ≡ (if stop then Some at else last) }
+{
+    if stop { Some(at) } else { last }
 }
 
 /// Nothing of a run.
@@ -105,6 +152,7 @@ fn next_event(journal: &Journal, at: u64, rest: &mut Run) -> Option<Event>
     requires { IsLeft journal.now.events at rest.old }
     ensures event { result ≡ slice_get journal.now.events at }
     ensures left { IfSome result (λ _. IsLeft journal.now.events (at + 1) rest.new) }
+    ensures same { IfSome result (λ event. rest.new.event ≡ event) }
 {
     if rest.count == 0 {
         *rest = journal.rest_at(at)?;

@@ -1,12 +1,13 @@
 //! Ways through a journal: to a position, to the next stop, to the one before.
 
-ghost use Rattle.std.specs.Prelude.{◌≡◌, ◌+◌, ◌≤◌, List as ListOf, length, IfOk};
+ghost use Rattle.std.specs.Prelude.{◌≡◌, ◌+◌, ◌-◌, ◌<◌, ◌≤◌, List as ListOf, length, IfOk, OnOk, OnErr};
 ghost use Rattle.brd_board.specs.declared.event.Event.{Event as EventOf};
-ghost use Rattle.brd_debug.specs.Kept.{IsPlayed, AreKept, DoFit};
+ghost use Rattle.brd_board.specs.Snapshot.{Fits};
+ghost use Rattle.brd_debug.specs.Kept.{IsPlayed, IsKept, AreKept, DoFit, IsLastUpTo, next_multiple, plan_of, IsNoted, IsNotedUpTo};
 ghost use Rattle.brd_debug.specs.Stops.{IsStop, IsLeast, IsGreatest};
 
 use crate::playback::Playback;
-use crate::snapshots::Snapshots;
+use crate::snapshots::{Kept, Snapshots};
 use crate::stops::Stops;
 use brd_base::NoMemory;
 use brd_board::Board;
@@ -27,18 +28,66 @@ pub(crate) fn played_to(
     ensures played { IfOk result (IsPlayed boot.now journal.now.events) }
     ensures at { IfOk result (λ playback. playback.at ≡ to) }
     ensures kept { AreKept boot.now journal.now.events snapshots.new.kept }
+    ensures noted { IfOk result (λ _. IsNotedUpTo boot.now journal.now.events snapshots.old shown.now.at to (plan_of snapshots.new)) }
 {
-    let len = journal.len();
     let mut playback = nearest(boot, snapshots, shown, to)?;
-    while playback.at < to {
-        let end = snapshots.next(playback.at).min(to);
-        playback.play_to(journal, end);
-        snapshots.note(boot, &playback)?;
-    }
+    play_on(boot, journal, snapshots, &mut playback, to)?;
     Ok(playback)
 }
 
-/// The first stop behind the position of the board that is shown. It takes snapshots on its way.
+/// Lets a board play on up to a position, and takes snapshots on its way.
+fn play_on(
+    boot: &Board,
+    journal: &Journal,
+    snapshots: &mut Snapshots,
+    playback: &mut Playback,
+    to: u64,
+) -> Result<(), NoMemory>
+    requires played { IsPlayed boot.now journal.now.events playback.old }
+    requires kept { AreKept boot.now journal.now.events snapshots.old.kept }
+    requires on { playback.old.at ≤ to }
+    requires within { to ≤ length journal.now.events }
+    ensures played { IsPlayed boot.now journal.now.events playback.new }
+    ensures at { OnOk result (playback.new.at ≡ to) }
+    ensures kept { AreKept boot.now journal.now.events snapshots.new.kept }
+    ensures noted { OnOk result (IsNoted boot.now journal.now.events (plan_of snapshots.old) playback.old.at (to - playback.old.at) (plan_of snapshots.new)) }
+{
+    let len = journal.len();
+    while playback.at < to {
+        snapshots.note(boot, playback)?;
+        let end = snapshots.next(playback.at).min(to);
+        playback.play_to(journal, end, to);
+    }
+    Ok(())
+}
+
+/// Lets the board that is shown play on in place, up to a position that is no further than the next snapshot. An `Err`
+/// leaves it as it is.
+pub(crate) fn play_near(
+    boot: &Board,
+    journal: &Journal,
+    snapshots: &mut Snapshots,
+    shown: &mut Playback,
+    to: u64,
+) -> Result<(), NoMemory>
+    requires shown { IsPlayed boot.now journal.now.events shown.old }
+    requires kept { AreKept boot.now journal.now.events snapshots.old.kept }
+    requires on { shown.old.at < to }
+    requires near { to ≤ next_multiple snapshots.old.interval shown.old.at }
+    requires within { to ≤ length journal.now.events }
+    ensures played { IsPlayed boot.now journal.now.events shown.new }
+    ensures at { OnOk result (shown.new.at ≡ to) }
+    ensures err { OnErr result (shown.new ≡ shown.old) }
+    ensures kept { AreKept boot.now journal.now.events snapshots.new.kept }
+    ensures noted { OnOk result (IsNoted boot.now journal.now.events (plan_of snapshots.old) shown.old.at (to - shown.old.at) (plan_of snapshots.new)) }
+{
+    let len = journal.len();
+    snapshots.note(boot, shown)?;
+    shown.play_to(journal, to, to);
+    Ok(())
+}
+
+/// The first stop after the position of the board that is shown. It takes snapshots on its way.
 pub(crate) fn next_stop(
     boot: &Board,
     journal: &Journal,
@@ -56,7 +105,7 @@ pub(crate) fn next_stop(
         return Ok(None);
     }
     let mut playback = shown.try_copy()?;
-    playback.play_to(journal, shown.at + 1);
+    play_on(boot, journal, snapshots, &mut playback, shown.at + 1)?;
     stop_from(boot, journal, stops, snapshots, &mut playback)
 }
 
@@ -73,12 +122,13 @@ fn stop_from(
     requires kept { AreKept boot.now journal.now.events snapshots.old.kept }
     ensures least { IfOk result (IsLeast (IsStop stops.now boot.now journal.now.events) playback.old.at (length journal.now.events)) }
     ensures kept { AreKept boot.now journal.now.events snapshots.new.kept }
+    ensures noted { OnOk result (IsNoted boot.now journal.now.events (plan_of snapshots.old) playback.old.at (playback.new.at - playback.old.at) (plan_of snapshots.new)) }
 {
     let len = journal.len();
     while playback.at < len {
         snapshots.note(boot, playback)?;
         let end = snapshots.next(playback.at).min(len);
-        let found = playback.first_stop(journal, stops, end);
+        let found = playback.first_stop(journal, stops, end, len);
         if found.is_some() {
             return Ok(found);
         }
@@ -112,22 +162,17 @@ pub(crate) fn stop_before(
     Ok(None)
 }
 
-/// A board to play on from to a position: that of a snapshot at or before it, or the boot.
+/// A board to play on from to a position: that of the last snapshot at or before it, or the boot.
 fn from_snapshot(boot: &Board, snapshots: &Snapshots, to: u64) -> Result<Playback, NoMemory>
     requires { DoFit boot.now snapshots.now.kept }
     ensures at { IfOk result (λ playback. playback.at ≤ to) }
+    ensures last { IfOk result (λ playback. IsLastUpTo snapshots.now.kept to playback.at) }
     ensures played { (events : ListOf EventOf) → AreKept boot.now events snapshots.now.kept → IfOk result (IsPlayed boot.now events) }
 {
-    let Some(kept) = snapshots.nearest(to) else {
-        return Ok(Playback {
-            board: boot.try_copy()?,
-            at: 0,
-        });
-    };
-    Ok(Playback {
-        board: Board::from_snapshot(boot, &kept.snapshot)?,
-        at: kept.at,
-    })
+    match snapshots.nearest(to) {
+        Some(kept) => from_kept(boot, kept),
+        None => from_boot(boot),
+    }
 }
 
 /// The same, or the one that is shown, where that is nearer.
@@ -139,12 +184,45 @@ fn nearest(
 ) -> Result<Playback, NoMemory>
     requires { DoFit boot.now snapshots.now.kept }
     ensures at { IfOk result (λ playback. playback.at ≤ to) }
+    ensures last { IfOk result (λ playback. IsLastUpTo snapshots.now.kept to playback.at) }
+    ensures shown { IfOk result (λ playback. shown.now.at ≤ to → shown.now.at ≤ playback.at) }
     ensures played { (events : ListOf EventOf) → IsPlayed boot.now events shown.now → AreKept boot.now events snapshots.now.kept
         → IfOk result (IsPlayed boot.now events) }
 {
-    let kept = snapshots.nearest(to).map_or(0, |kept| kept.at);
-    if shown.at <= to && kept <= shown.at {
-        return shown.try_copy();
+    match snapshots.nearest(to) {
+        Some(kept) => {
+            if shown.at > to || shown.at < kept.at {
+                return from_kept(boot, kept);
+            }
+        }
+        None => {
+            if shown.at > to {
+                return from_boot(boot);
+            }
+        }
     }
-    from_snapshot(boot, snapshots, to)
+    shown.try_copy()
+}
+
+/// The board of a snapshot.
+fn from_kept(boot: &Board, kept: &Kept) -> Result<Playback, NoMemory>
+    requires { Fits boot.now kept.now.snapshot }
+    ensures at { IfOk result (λ playback. playback.at ≡ kept.now.at) }
+    ensures played { (events : ListOf EventOf) → IsKept boot.now events kept.now → IfOk result (IsPlayed boot.now events) }
+{
+    Ok(Playback {
+        board: Board::from_snapshot(boot, &kept.snapshot)?,
+        at: kept.at,
+    })
+}
+
+/// The boot.
+fn from_boot(boot: &Board) -> Result<Playback, NoMemory>
+    ensures at { IfOk result (λ playback. playback.at ≡ 0) }
+    ensures played { (events : ListOf EventOf) → IfOk result (IsPlayed boot.now events) }
+{
+    Ok(Playback {
+        board: boot.try_copy()?,
+        at: 0,
+    })
 }

@@ -1,10 +1,10 @@
 //! Snapshots of the boards that a journal makes.
 
-ghost use Rattle.std.specs.Prelude.{◌≡◌, ℕ, ◌+◌, ◌<◌, ◌≤◌, ◌^◌, ◌%◌, ◌==◌, List as ListOf, [], Contains, filter, map, OnOk, OnErr, IfSome};
+ghost use Rattle.std.specs.Prelude.{◌≡◌, ℕ, ◌+◌, ◌<◌, ◌≤◌, ◌^◌, ◌%◌, ◌==◌, List as ListOf, [], All, Contains, filter, map, OnOk, OnErr, IfSome, IfNone};
 ghost use Rattle.brd_mem.specs.Memory.{size_of};
 ghost use Rattle.brd_board.specs.declared.event.Event.{Event as EventOf};
 ghost use Rattle.brd_board.specs.Board.{BoardState as BoardOf};
-ghost use Rattle.brd_debug.specs.Kept.{IsPlayed, AreKept, first_interval, plan_of, last_of, noted};
+ghost use Rattle.brd_debug.specs.Kept.{IsPlayed, AreKept, IsLastUpTo, first_interval, plan_of, last_of, next_multiple, noted};
 
 use crate::playback::Playback;
 use brd_base::NoMemory;
@@ -56,22 +56,27 @@ impl Snapshots {
         }
     }
 
-    /// The next multiple of the interval behind a position.
+    /// The next multiple of the interval after a position.
     pub fn next(&self, at: u64) -> u64
         requires { at < 2 ^ 60 }
-        ensures { at < result }
+        ensures is { result ≡ next_multiple self.now.interval at }
+        ensures after { at < result }
     {
         at - at % self.interval + self.interval
     }
 
     /// The last snapshot that was taken at or before a position.
     pub fn nearest(&self, at: u64) -> Option<&Kept>
-        ensures { IfSome result (λ kept. Contains self.now.kept kept.now × (kept.now.at ≤ at)) }
+        ensures found { IfSome result (λ kept. Contains self.now.kept kept.now × (kept.now.at ≤ at)) }
+        ensures last { IfSome result (λ kept. IsLastUpTo self.now.kept at kept.now.at) }
+        ensures none { IfNone result (All (λ one. at < one.at) self.now.kept) }
     {
         let mut found = None;
+        let mut last = 0;
         for kept in self.kept.as_slice() {
-            if kept.at <= at {
+            if kept.at <= at && last <= kept.at {
                 found = Some(kept);
+                last = kept.at;
             }
         }
         found

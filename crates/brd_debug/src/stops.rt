@@ -1,14 +1,16 @@
 //! Where a debugger stops.
 
-ghost use Rattle.std.specs.Prelude.{◌≡◌, ◌≤◌, Decides, [], length};
+ghost use Rattle.std.specs.Prelude.{◌≡◌, ◌≤◌, Decides, false, [], length};
 ghost use Rattle.brd_debug.specs.Watching.{AreBytesAt};
 ghost use Rattle.brd_board.specs.Board.{happens};
 ghost use Rattle.brd_mem.specs.Memory.{Memory as MemoryOf};
 ghost use Rattle.brd_debug.specs.Marks.{most_marks};
 ghost use Rattle.brd_debug.specs.Stops.{IsBreak, Differs, StopsAt};
+ghost use Rattle.brd_journal.specs.Still.{does_no_more};
 
 use crate::marks::{MOST_MARKS, Marks};
 use brd_board::{Board, Event, Report};
+use brd_journal::does_no_more;
 
 /// Addresses of instructions, and addresses of bytes.
 #[derive(Drop)]
@@ -17,6 +19,22 @@ pub struct Stops {
     pub breaks: Marks,
     /// Where a byte that changes is a stop.
     pub watches: Marks,
+}
+
+/// What was seen of an event.
+#[derive(Clone, Copy)]
+pub struct Seen {
+    /// Whether it is a stop.
+    pub stop: bool,
+    /// Whether the same event does nothing where it comes again.
+    pub over: bool,
+}
+
+/// The bytes at watched addresses, in the order of these; None where RAM has none.
+#[derive(Clone, Copy)]
+pub struct WatchedBytes {
+    /// The bytes.
+    pub bytes: [Option<u8>; MOST_MARKS],
 }
 
 impl Stops {
@@ -30,15 +48,28 @@ impl Stops {
         }
     }
 
-    /// Lets an event happen to a board. Answers whether that is a stop.
-    pub fn happen(&self, board: &mut Board, event: Event) -> bool
-        ensures is { board.new ≡ (happens board.old event).board }
-        ensures stops { Decides result (StopsAt self.now board.old event) }
+    /// The bytes that are watched, as a board has them.
+    pub fn watched(&self, board: &Board) -> WatchedBytes
+        ensures { AreBytesAt self.now.watches board.now.memory result.bytes }
     {
-        let watches = self.watches.as_slice();
-        let before = watched(watches, board);
+        watched(self.watches.as_slice(), board)
+    }
+
+    /// Lets an event happen to a board with these watched bytes, and keeps them up to date. Answers whether that is a
+    /// stop, and whether the event is over then.
+    pub fn happen(&self, board: &mut Board, event: Event, bytes: &mut WatchedBytes) -> Seen
+        requires { AreBytesAt self.now.watches board.old.memory bytes.old.bytes }
+        ensures bytes { AreBytesAt self.now.watches board.new.memory bytes.new.bytes }
+        ensures is { board.new ≡ (happens board.old event).board }
+        ensures stops { Decides result.stop (StopsAt self.now board.old event) }
+        ensures over { result.over ≡ does_no_more event (happens board.old event).report }
+    {
         let report = board.event_apart(event);
-        self.is_break(report) || differ(watches, &before, board)
+        let changed = renewed(self.watches.as_slice(), bytes, board);
+        Seen {
+            stop: self.is_break(report) || changed,
+            over: does_no_more(event, report),
+        }
     }
 
     /// Whether an event with this report executed an instruction at a break.
@@ -55,24 +86,40 @@ impl Stops {
 }
 
 /// The bytes at watched addresses, in the order of these; None where RAM has none.
-fn watched(watches: &[u32], board: &Board) -> [Option<u8>; MOST_MARKS]
+fn watched(watches: &[u32], board: &Board) -> WatchedBytes
     requires { length watches.now ≤ most_marks }
-    ensures { AreBytesAt watches.now board.now.memory result }
+    ensures { AreBytesAt watches.now board.now.memory result.bytes }
 {
     let mut bytes = [None; MOST_MARKS];
     for i in 0..watches.len() {
         bytes[i] = board.memory(watches[i]);
     }
-    bytes
+    WatchedBytes { bytes }
+}
+
+/// Whether one of them is another byte now. They are brought up to date.
+fn renewed(watches: &[u32], bytes: &mut WatchedBytes, board: &Board) -> bool
+    requires { length watches.now ≤ most_marks }
+    ensures differ { (memory : MemoryOf) → AreBytesAt watches.now memory bytes.old.bytes
+        → Decides result (Differs watches.now memory board.now.memory) }
+    ensures bytes { AreBytesAt watches.now board.now.memory bytes.new.bytes }
+{
+    if !differ(watches, bytes, board) {
+        return false;
+    }
+    *bytes = watched(watches, board);
+    true
 }
 
 /// Whether one of them is another byte now.
-fn differ(watches: &[u32], before: &[Option<u8>; MOST_MARKS], board: &Board) -> bool
+fn differ(watches: &[u32], before: &WatchedBytes, board: &Board) -> bool
     requires { length watches.now ≤ most_marks }
-    ensures { (memory : MemoryOf) → AreBytesAt watches.now memory before.now → Decides result (Differs watches.now memory board.now.memory) }
+    ensures differ { (memory : MemoryOf) → AreBytesAt watches.now memory before.now.bytes
+        → Decides result (Differs watches.now memory board.now.memory) }
+    ensures same { result ≡ false → AreBytesAt watches.now board.now.memory before.now.bytes }
 {
     for i in 0..watches.len() {
-        if board.memory(watches[i]) != before[i] {
+        if board.memory(watches[i]) != before.bytes[i] {
             return true;
         }
     }

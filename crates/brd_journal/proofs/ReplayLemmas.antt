@@ -11,7 +11,7 @@ after-append b [] behind = refl
 after-append b (event ∷ front) behind = after-append (happens b event).board front behind
 
 pub after_run : (before next last : BoardState) (runs : List Run) (i : ℕ) (d : Run) → i < length runs
-    → next ≡ after before (replicate (get_or runs i d).count (get_or runs i d).event)
+    → next ≡ after before (copies (get_or runs i d).event (get_or runs i d).count)
     → after before (events_of (drop i runs)) ≡ last → after next (events_of (drop (i + 1) runs)) ≡ last
 unfolding copies
 after_run before next last runs i d within is so_far =

@@ -5,3 +5,4 @@ pub mod Journal
 pub mod Text
 pub mod Reading
 pub mod Meaning
+pub mod Still

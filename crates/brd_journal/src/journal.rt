@@ -123,12 +123,12 @@ impl Journal {
         self.runs.as_slice()
     }
 
-    /// Lets a board do the events, one after the other.
+    /// Lets a board do the events, one after the other. A run whose events do nothing ends at once.
     pub fn replay(&self, board: &mut Board)
         ensures { board.new ≡ after board.old self.now.events }
     {
         for run in self.runs.as_slice() {
-            board.repeat(run.event, run.count);
+            run.play(board);
         }
     }
 

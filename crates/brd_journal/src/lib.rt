@@ -19,4 +19,4 @@ pub use fault::JournalFault;
 pub use journal::{Journal, MOST_RUNS};
 pub use line::run_of_line;
 pub use reading::read_text;
-pub use run::Run;
+pub use run::{Run, does_no_more};

@@ -1,33 +1,63 @@
-use Rattle.std.proofs.Common.{◌≡◌, ◌+◌, length, subst, sym, ◌∙◌, arith}
+use Rattle.std.proofs.Common.{◌<◌, ◌≤◌, length, sym, ◌∙◌, arith}
+use Rattle.brd_debug.specs.Kept.{plan_of}
 use Rattle.brd_debug.specs.Stops.{IsStop}
 use Rattle.brd_debug.proofs.KeptLemmas.{size-played}
-use Rattle.brd_debug.proofs.SearchLemmas.{NoneFrom, found-least, none-of, none-least, none-both}
+use Rattle.brd_debug.proofs.SearchLemmas.{found-least, found-more, none-of, none-least, none-both}
+use Rattle.brd_debug.proofs.NotedLemmas.{noted-on, noted-both, noted-nowhere}
 use Rattle.brd_debug.proofs.search.stop_from.Goals as goal
 
 pub note-requires-clause-sizes : goal.note-requires-clause-sizes
 note-requires-clause-sizes c = size-played c.args.boot.now c.args.journal.now.events c.loop-playback.playback c.loop-playback.invariant.played
 
+pub loop-playback-init : goal.loop-playback-init
+loop-playback-init c = record {
+  from = omega arith;
+  none = λ m above below stop. omega (arith, above, below);
+  played = c.requires.played;
+  kept = c.requires.kept;
+  noted = noted-nowhere c.args.boot.now c.args.journal.now.events (plan_of c.args.snapshots.now) c.args.playback.now.at;
+}
+
 pub returns-then-is_some-clause-least : goal.returns-then-is_some-clause-least
 returns-then-is_some-clause-least c =
-    found-least (IsStop c.args.stops.now c.args.boot.now c.args.journal.now.events) c.args.playback.now.at c.loop-playback.playback.at c.min-end.result
-    (length c.args.journal.now.events) c.first_stop-found.result (sym c.is_some.ensures ∙ c.if-is_some.true) c.loop-playback.invariant.from
-    (omega (arith, c.min-end.ensures, c.len-len.ensures.len)) c.loop-playback.invariant.none
+    found-least (IsStop c.args.stops.now c.args.boot.now c.args.journal.now.events) c.args.playback.now.at c.loop-playback.playback.at
+    c.first_stop-found.new.self.at (length c.args.journal.now.events) c.first_stop-found.result (sym c.is_some.ensures ∙ c.if-is_some.true)
+    c.loop-playback.invariant.from (omega (arith, c.first_stop-found.ensures.at.1, c.len-len.ensures.len)) c.loop-playback.invariant.none
     (c.first_stop-found.ensures.least c.args.boot.now c.loop-playback.invariant.played)
+
+pub returns-then-is_some-clause-noted : goal.returns-then-is_some-clause-noted
+returns-then-is_some-clause-noted c =
+    let more : c.loop-playback.playback.at < c.first_stop-found.new.self.at =
+    found-more (IsStop c.args.stops.now c.args.boot.now c.args.journal.now.events) c.loop-playback.playback.at c.first_stop-found.new.self.at
+    c.first_stop-found.result (sym c.is_some.ensures ∙ c.if-is_some.true) (c.first_stop-found.ensures.least c.args.boot.now c.loop-playback.invariant.played) in
+    noted-both c.args.boot.now c.args.journal.now.events (plan_of c.args.snapshots.now) (plan_of c.loop-playback.snapshots) (plan_of c.note.new.self)
+    c.args.playback.now.at c.loop-playback.playback.at c.first_stop-found.new.self.at c.loop-playback.invariant.from (omega (arith, more))
+    c.loop-playback.invariant.noted
+    (noted-on c.args.boot.now c.args.journal.now.events (plan_of c.loop-playback.snapshots) (plan_of c.note.new.self) c.loop-playback.playback.at
+    c.min-end.result c.first_stop-found.new.self.at c.in_ok-note.ensures.noted more (omega (arith, c.min-end.ensures, c.next.ensures.is))
+    (c.first_stop-found.ensures.still c.args.boot.now c.loop-playback.invariant.played))
 
 pub loop-playback-preserved : goal.loop-playback-preserved
 loop-playback-preserved c =
-    let none : c.first_stop-found.new.self.at ≡ c.min-end.result =
-    c.first_stop-found.ensures.at (none-of c.first_stop-found.result (sym c.is_some.ensures ∙ c.if-is_some.false)) in
+    let far : c.min-end.result ≤ c.first_stop-found.new.self.at =
+    c.first_stop-found.ensures.none (none-of c.first_stop-found.result (sym c.is_some.ensures ∙ c.if-is_some.false)) in
+    let more : c.loop-playback.playback.at < c.first_stop-found.new.self.at =
+    omega (arith, far, c.min-end.ensures, c.next.ensures.after, c.loop-playback-test.true) in
     record {
-      from = omega (arith, none, c.min-end.ensures, c.next.ensures, c.loop-playback-test.true, c.loop-playback.invariant.from);
+      from = omega (arith, more, c.loop-playback.invariant.from);
       none = none-both (IsStop c.args.stops.now c.args.boot.now c.args.journal.now.events) c.args.playback.now.at c.loop-playback.playback.at
           c.first_stop-found.new.self.at c.loop-playback.invariant.none
-          (subst (NoneFrom (IsStop c.args.stops.now c.args.boot.now c.args.journal.now.events) c.loop-playback.playback.at) (sym none)
-          (none-least (IsStop c.args.stops.now c.args.boot.now c.args.journal.now.events) c.loop-playback.playback.at c.min-end.result
+          (none-least (IsStop c.args.stops.now c.args.boot.now c.args.journal.now.events) c.loop-playback.playback.at c.first_stop-found.new.self.at
           c.first_stop-found.result (sym c.is_some.ensures ∙ c.if-is_some.false)
-          (c.first_stop-found.ensures.least c.args.boot.now c.loop-playback.invariant.played)));
+          (c.first_stop-found.ensures.least c.args.boot.now c.loop-playback.invariant.played));
       played = c.first_stop-found.ensures.played c.args.boot.now c.loop-playback.invariant.played;
       kept = c.in_ok-note.ensures.kept c.args.journal.now.events c.loop-playback.invariant.played c.loop-playback.invariant.kept;
+      noted = noted-both c.args.boot.now c.args.journal.now.events (plan_of c.args.snapshots.now) (plan_of c.loop-playback.snapshots) (plan_of c.note.new.self)
+          c.args.playback.now.at c.loop-playback.playback.at c.first_stop-found.new.self.at c.loop-playback.invariant.from (omega (arith, more))
+          c.loop-playback.invariant.noted
+          (noted-on c.args.boot.now c.args.journal.now.events (plan_of c.loop-playback.snapshots) (plan_of c.note.new.self) c.loop-playback.playback.at
+          c.min-end.result c.first_stop-found.new.self.at c.in_ok-note.ensures.noted more (omega (arith, c.min-end.ensures, c.next.ensures.is))
+          (c.first_stop-found.ensures.still c.args.boot.now c.loop-playback.invariant.played));
     }
 
 pub returns-clause-least : goal.returns-clause-least

@@ -1,6 +1,6 @@
--- Up to where the board has played, there is no stop from where it began on.
-use Rattle.std.proofs.Common.{◌≤◌, ◌+◌, ◌-◌, length}
-use Rattle.brd_debug.specs.Kept.{IsPlayed, AreKept}
+-- Up to where the board has played, there is no stop from where it began on, and the snapshots are noted.
+use Rattle.std.proofs.Common.{◌≤◌, ◌-◌, length}
+use Rattle.brd_debug.specs.Kept.{IsPlayed, AreKept, IsNoted, plan_of}
 use Rattle.brd_debug.specs.Stops.{IsStop}
 use Rattle.brd_debug.proofs.SearchLemmas.{NoneFrom}
 use Rattle.brd_debug.proofs.search.stop_from.Given as goal
@@ -11,6 +11,7 @@ invariant-loop-playback l = record {
   none : NoneFrom (IsStop l.stops l.boot l.journal.events) l.fn.playback.at l.playback.at;
   played : IsPlayed l.boot l.journal.events l.playback;
   kept : AreKept l.boot l.journal.events l.snapshots.kept;
+  noted : IsNoted l.boot l.journal.events (plan_of l.fn.snapshots) l.fn.playback.at (l.playback.at - l.fn.playback.at) (plan_of l.snapshots);
 }
 
 abbrev pub decreases-loop-playback : goal.decreases-loop-playback

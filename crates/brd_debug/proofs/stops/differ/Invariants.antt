@@ -5,4 +5,4 @@ use Rattle.brd_mem.specs.Memory.{byte_at}
 use Rattle.brd_debug.proofs.stops.differ.Given as goal
 
 abbrev pub invariant-loop-i : goal.invariant-loop-i
-invariant-loop-i l = (k : ℕ) → k < l.i → byte_at l.board.memory (slice_index l.watches k) ≡ slice_index_or l.before k None
+invariant-loop-i l = (k : ℕ) → k < l.i → byte_at l.board.memory (slice_index l.watches k) ≡ slice_index_or l.before.bytes k None
