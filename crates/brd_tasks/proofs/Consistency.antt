@@ -3,7 +3,7 @@ use Rattle.std.proofs.Common.{◌≡◌, ◌<◌, ◌≤◌, ℕ, List, [], refl
 use Rattle.std.specs.Prelude.{Bool, true, false, ◌==◌, ◌&&◌, nat_lt, if◌then◌else◌, Option, None, Some, IsSome, IfSome, slice_set, slice_index_or}
 use Rattle.std.proofs.lemmas.Bool.Decides.{nat_tests}
 use Rattle.std.proofs.lemmas.Grind.{get_or-set_at}
-use Rattle.std.proofs.lemmas.List.{get_or-set_other, get_or_default, length-set}
+use Rattle.std.proofs.lemmas.List.{get_or-set_other, length-set}
 use Rattle.std.proofs.Math.ListN.{get_or-eq_default}
 use Rattle.brd_queue.specs.Queue.{Plain, has, priority_in, behind_equals, without, rotated}
 use Rattle.brd_queue.specs.Rule.{IsByPriority}
@@ -11,7 +11,7 @@ use Rattle.brd_queue.proofs.PriorityLemmas.{priority_in-without, priority_in-beh
 use Rattle.brd_queue.proofs.RuleLemmas.{ordered-behind_equals, ordered-without}
 use Rattle.brd_tasks.specs.declared.task.Task.{Task}
 use Rattle.brd_tasks.specs.Status.{is_ready}
-use Rattle.brd_tasks.specs.Tasks.{TaskTable, task_at, ready_on, left, entered, placed, patched}
+use Rattle.brd_tasks.specs.Tasks.{TaskTable, task_at, ready_on, left, entered, placed, patched, first_id, top_of}
 use Rattle.brd_tasks.specs.Ready.{IsTask, IsRow, ready_priority, IsConsistent}
 
 abbrev at : List (List Plain) → ℕ → List Plain
@@ -197,9 +197,12 @@ consistent-patched-as t id task (Some old) was is there same assigned =
     consistent-patched t id task was (known_small t id (Some old) was is there) (subst IsSome is there) assigned
     (λ cpu. grind (arith, same.0, same.1, same.2) ∙ ap (λ row. ready_priority row cpu) is)
 
-pub consistent-turned-as : (t : TaskTable) (cpu priority : ℕ) (old xs : List Plain) → IsConsistent t → cpu < 9 → old ≡ slice_index_or t.ready cpu old → xs ≡ rotated priority old →
-    ((id : ℕ) → priority_in id xs ≡ priority_in id old) → IsConsistent (record { rows = t.rows; contexts = t.contexts; ready = slice_set t.ready cpu xs })
-consistent-turned-as t cpu priority old xs was small old_is is stay =
-    let lies : old ≡ ready_on t cpu = old_is ∙ get_or_default t.ready cpu old [] (omega (arith, was.lists, small)) in
-    let ordered : IsByPriority (rotated priority old) = ordered-rotated priority old (subst IsByPriority (sym lies) (was.ordered cpu)) in
-    consistent-turned t cpu xs was small (λ id. stay id ∙ ap (priority_in id) lies) (subst IsByPriority (sym is) ordered)
+pub consistent-turned-as : (t : TaskTable) (cpu priority : ℕ) (ready : List (List Plain)) → IsConsistent t → cpu < 9 → ready ≡ slice_set t.ready cpu (rotated priority (ready_on t cpu)) →
+    ((id : ℕ) → priority_in id (rotated priority (ready_on t cpu)) ≡ priority_in id (ready_on t cpu)) → IsConsistent (record { rows = t.rows; contexts = t.contexts; ready = ready })
+consistent-turned-as t cpu priority ready was small is stay =
+    subst (λ r. IsConsistent (record { rows = t.rows; contexts = t.contexts; ready = r })) (sym is)
+    (consistent-turned t cpu (rotated priority (ready_on t cpu)) was small stay (ordered-rotated priority (ready_on t cpu) (was.ordered cpu)))
+
+-- there is nobody on a processor that isn't there
+pub top-past : (t : TaskTable) (cpu : ℕ) → IsConsistent t → 8 < cpu → None ≡ top_of t cpu
+top-past t cpu was past = ap first_id (sym (get_or-eq_default t.ready [] {n = cpu} (omega (arith, was.lists, past))))

@@ -1,2 +1,5 @@
 pub mod Consistency
 pub mod MadeLemmas
+pub mod MarkLemmas
+pub mod ReadyLemmas
+pub mod MarkedLemmas

@@ -5,3 +5,5 @@ pub mod Lending
 pub use Rattle.brd_exec.specs.State
 pub use Rattle.brd_queue.specs.Queue
 pub use Rattle.brd_queue.specs.Rule
+pub mod Marks
+pub mod ReadyRings

@@ -6,6 +6,7 @@
 
 mod lists;
 mod making;
+mod marks;
 mod reply;
 mod status;
 mod task;

@@ -1,6 +1,6 @@
 //! The tasks as they are at the making.
 
-ghost use Rattle.std.specs.Prelude.{◌≡◌, ◌↔◌, ◌==◌, All, IfOk, IsTrue, find, replicate, []};
+ghost use Rattle.std.specs.Prelude.{◌≡◌, ◌↔◌, ◌==◌, All, IfOk, IsTrue, find};
 ghost use Rattle.brd_tasks.specs.Ready.{IsSetup};
 ghost use Rattle.brd_tasks.specs.Tasks.{first_row, first_context, first_rows, first_contexts};
 
@@ -8,7 +8,6 @@ use crate::status::TaskId;
 use crate::task::{Task, TaskSetup};
 use brd_base::NoMemory;
 use brd_exec::Context;
-use brd_queue::Queue;
 use std::alloc::Global;
 
 /// Whether each of these is a task's setup: with a number from 1 to 255 and a processor from 1 to 8.
@@ -47,17 +46,6 @@ pub fn contexts_of(alloc: Global, setups: &[TaskSetup]) -> Result<Vec<Context>, 
         contexts.push(context_of(setups, id))?;
     }
     Ok(contexts)
-}
-
-/// Ready lists in which nobody is.
-pub fn empty_lists(alloc: Global) -> Result<Vec<Queue<()>>, NoMemory>
-    ensures { IfOk result (λ lists. lists.items ≡ replicate 9 []) }
-{
-    let mut lists = Vec::new(alloc);
-    for _ in 0..9u8 {
-        lists.push(Queue::new(alloc)?)?;
-    }
-    Ok(lists)
 }
 
 /// The task of an ID before its first start.

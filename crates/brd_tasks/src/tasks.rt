@@ -28,14 +28,13 @@ ghost use Rattle.brd_tasks.specs.Ready.{IsProcessor, IsRequest, IsSetup, IsTask,
 ghost use Rattle.std.specs.Borrow.{sem};
 ghost use Rattle.brd_tasks.specs.Lending.{LendsContext};
 
-use crate::lists::{enter, leave};
-use crate::making::{contexts_of, empty_lists, rows_of};
+use crate::lists::ReadyLists;
+use crate::making::{contexts_of, rows_of};
 use crate::reply::answer;
 use crate::status::{Status, TaskId, WaitReason};
 use crate::task::{Request, Task, TaskSetup, TaskView};
-use brd_base::{NoMemory, copy_with_room, same_slices};
+use brd_base::{NoMemory, Same, copy_with_room, same_slices};
 use brd_exec::Context;
-use brd_queue::Queue;
 use std::alloc::Global;
 use std::marker::Model;
 
@@ -43,7 +42,7 @@ use std::marker::Model;
 pub struct Tasks {
     rows: Vec<Option<Task>>,
     contexts: Vec<Context>,
-    ready: Vec<Queue<()>>,
+    ready: ReadyLists,
 }
 
 impl Model for Tasks {
@@ -52,9 +51,9 @@ impl Model for Tasks {
 
     ghost Value = { TaskTable };
 
-    ghost view = { λ t. record { rows = t.rows.items; contexts = t.contexts.items; ready = t.ready.items } };
+    ghost view = { λ t. record { rows = t.rows.items; contexts = t.contexts.items; ready = t.ready } };
 
-    ghost invariant = { λ t. IsConsistent (record { rows = t.rows.items; contexts = t.contexts.items; ready = t.ready.items }) };
+    ghost invariant = { λ t. IsConsistent (record { rows = t.rows.items; contexts = t.contexts.items; ready = t.ready }) };
 }
 
 /// Written out, so that a function that lets one go is proved with a call, and not with the end of each part.
@@ -77,7 +76,7 @@ impl Tasks {
         Ok(Tasks {
             rows: rows_of(alloc, setups)?,
             contexts: contexts_of(alloc, setups)?,
-            ready: empty_lists(alloc)?,
+            ready: ReadyLists::new(alloc)?,
         })
     }
 
@@ -98,7 +97,7 @@ impl Tasks {
     {
         same_slices(self.rows.as_slice(), other.rows.as_slice())
             && same_slices(self.contexts.as_slice(), other.contexts.as_slice())
-            && same_slices(self.ready.as_slice(), other.ready.as_slice())
+            && self.ready.same(&other.ready)
     }
 
     /// The task of a number, where there is one.
@@ -141,11 +140,11 @@ impl Tasks {
         ensures is { result ≡ top_of self.now cpu }
         ensures small { IfSome result (λ id. id < 256) }
     {
-        if (cpu as usize) >= self.ready.len() {
+        let ready = &self.ready;
+        if cpu > 8 {
             return None;
         }
-        let first = self.ready[cpu as usize].first()?;
-        Some(first.id)
+        Some(ready.first(cpu)? as u16)
     }
 
     /// Starts a dormant task by a request. Any other keeps the request until it ends, in the place of one that it kept
@@ -280,7 +279,7 @@ impl Tasks {
         requires { IsProcessor cpu }
         ensures { self.new ≡ turned self.old cpu priority }
     {
-        self.ready[cpu as usize].rotate(priority);
+        self.ready.rotate(cpu, priority);
     }
 
     /// Gives a task another context.
@@ -325,9 +324,9 @@ impl Tasks {
         ensures { self.new ≡ placed self.old id task }
     {
         let old = self.task(id);
-        leave(&mut self.ready, id, old);
+        self.ready.leave(id, old);
         self.rows[id as usize] = Some(task);
-        enter(&mut self.ready, id, task);
+        self.ready.enter(id, task);
     }
 
     /// Writes a task that stays where it is.
