@@ -1,8 +1,9 @@
 //! How fast the board runs: `board_bench EVENTS` does so many events of two small loops on a board of words, of the
 //! first of them on a booted board of two processors and four tasks, on one processor and on both in turn, of a loop
-//! that touches only registers, step by step and by leases, of tasks that call the kernel, and of ticks; it prints millions of events a second, beside a bare loop of about the same
-//! work. With a number behind EVENTS it does that work alone, counted from 0. Without EVENTS it does 16,000 events of
-//! each and prints how often the loops were gone through.
+//! that touches only registers, step by step and by leases, of tasks that call the kernel, of ticks, and of long ready
+//! lists; it prints millions of events a second, beside a bare loop of about the same work. With a number behind EVENTS
+//! it does that work alone, counted from 0. Without EVENTS it does 16,000 events of each and prints how often the loops
+//! were gone through.
 #![tactic(auto)]
 
 use brd_board::{Board, BootFault, Event, Report};
@@ -102,6 +103,37 @@ const DELAY: [u32; 4] = [
     0x0000_000c, // syscall
 ];
 
+/// Each task starts itself again, which is queued, and ends.
+const ENDS: [u32; 5] = [
+    0x2404_0000, // addiu $a0, $0, 0: the caller
+    0x2402_0001, // addiu $v0, $0, 1: act_tsk
+    0x0000_000c, // syscall
+    0x2402_0003, // addiu $v0, $0, 3: ext_tsk
+    0x0000_000c, // syscall
+];
+
+/// Each task puts itself behind its equals, over and over.
+const TURNS: [u32; 5] = [
+    0x2404_0000, // addiu $a0, $0, 0: the caller's priority
+    0x2402_000a, // addiu $v0, $0, 10: rot_rdq
+    0x0000_000c, // syscall
+    0x1000_fffd, // beq $0, $0, -3: to the addiu of $v0
+    0x2529_0001, // addiu $t1, $t1, 1, in the slot
+];
+
+/// A task gives task 1 priorities 3 and 2, over and over.
+const CHANGES: [u32; 9] = [
+    0x2404_0001, // addiu $a0, $0, 1
+    0x2405_0003, // addiu $a1, $0, 3
+    0x2402_0005, // addiu $v0, $0, 5: chg_pri
+    0x0000_000c, // syscall
+    0x2405_0002, // addiu $a1, $0, 2
+    0x2402_0005, // addiu $v0, $0, 5: chg_pri
+    0x0000_000c, // syscall
+    0x1000_fff9, // beq $0, $0, -7: to the addiu of $a1
+    0x2529_0001, // addiu $t1, $t1, 1, in the slot
+];
+
 /// Two processors with two tasks each, of which one is started, and as much RAM as there can be.
 const TASKS: &str = "BOARD(2, 0x1000000);
 CRE_TSK(1, {TA_ACT, 0, 0x80000000, 2, 4096, NULL});
@@ -147,6 +179,10 @@ enum Setting {
     Delayed,
     /// It has 255 tasks, of which all but one wait for a flag; the last to come is the one that is released.
     Flagged,
+    /// It has 255 ready tasks of one priority.
+    Ready,
+    /// It has 255 ready tasks, of which the last runs before the others, which have one priority.
+    Led,
 }
 
 /// What is done, over and over.
@@ -169,7 +205,7 @@ struct Work {
     deed: Deed,
 }
 
-const WORKS: [Work; 11] = [
+const WORKS: [Work; 14] = [
     Work {
         name: "plain loop",
         words: &PLAIN,
@@ -236,6 +272,24 @@ const WORKS: [Work; 11] = [
         setting: Setting::Text(EIGHT),
         deed: Deed::Ticks(0),
     },
+    Work {
+        name: "act_tsk of itself and ext_tsk, of 255 ready tasks of one priority",
+        words: &ENDS,
+        setting: Setting::Ready,
+        deed: Deed::Steps(1),
+    },
+    Work {
+        name: "rot_rdq over 255 ready tasks of one priority",
+        words: &TURNS,
+        setting: Setting::Ready,
+        deed: Deed::Steps(1),
+    },
+    Work {
+        name: "chg_pri to and fro, of one of 255 ready tasks",
+        words: &CHANGES,
+        setting: Setting::Led,
+        deed: Deed::Steps(1),
+    },
 ];
 
 fn main(rt: HostRuntime) -> anyhow::Result<()> {
@@ -281,14 +335,10 @@ fn board_of(rt: &HostRuntime, work: Work) -> anyhow::Result<Board> {
     let made = match work.setting {
         Setting::Words => Board::from_words(alloc, work.words),
         Setting::Text(text) => booted(alloc, work.words, text)?,
-        Setting::Delayed => {
-            let text = crowd(alloc, 0x8000_0000, 0x8000_0000)?;
-            booted(alloc, work.words, text.as_str())?
-        }
-        Setting::Flagged => {
-            let text = crowd(alloc, 0x8000_0018, 0x8000_0000)?;
-            booted(alloc, work.words, text.as_str())?
-        }
+        Setting::Delayed => crowded(alloc, work.words, 0x8000_0000, 3)?,
+        Setting::Flagged => crowded(alloc, work.words, 0x8000_0018, 3)?,
+        Setting::Ready => crowded(alloc, work.words, 0x8000_0000, 2)?,
+        Setting::Led => crowded(alloc, work.words, 0x8000_0000, 1)?,
     };
     match made {
         Ok(board) => Ok(board),
@@ -303,18 +353,32 @@ fn booted(alloc: Global, words: &[u32], text: &str) -> anyhow::Result<Result<Boa
     Ok(Board::boot(alloc, &image, &config))
 }
 
-/// A configuration with 255 tasks: the first 254 start at `others`, with 2 as the argument of the last of them and 1 of
-/// the rest; task 255 comes after all of them and starts at `last`.
-fn crowd(alloc: Global, others: u32, last: u32) -> Result<String, AllocError> {
+/// The board of words and 255 tasks: the first 254 start at `others`, the last at the first word with this priority.
+fn crowded(
+    alloc: Global,
+    words: &[u32],
+    others: u32,
+    priority: u8,
+) -> anyhow::Result<Result<Board, BootFault>> {
+    let text = crowd(alloc, others, priority)?;
+    booted(alloc, words, text.as_str())
+}
+
+/// A configuration with 255 tasks: the first 254 start at `others` with priority 2, with 2 as the argument of the last
+/// of them and 1 of the rest; task 255 starts at the first word with this priority.
+fn crowd(alloc: Global, others: u32, priority: u8) -> Result<String, AllocError> {
     let mut text = String::from_str(alloc, CROWD)?;
     for id in 1..255u16 {
         let bits = if id == 254 { 2 } else { 1 };
         write!(
             text,
-            "CRE_TSK({id}, {{TA_ACT, {bits}, {others}, 1, 16, NULL}});\n"
+            "CRE_TSK({id}, {{TA_ACT, {bits}, {others}, 2, 16, NULL}});\n"
         )?;
     }
-    write!(text, "CRE_TSK(255, {{TA_ACT, 0, {last}, 2, 16, NULL}});\n")?;
+    write!(
+        text,
+        "CRE_TSK(255, {{TA_ACT, 0, 0x80000000, {priority}, 16, NULL}});\n"
+    )?;
     Ok(text)
 }
 

@@ -5,5 +5,6 @@ mod configs;
 mod exec;
 mod kernel;
 mod objects;
+mod ready;
 mod sysgate;
 mod tasks;
