@@ -31,7 +31,7 @@ fn refuses_stale<K: Race>(station: &mut Station<K>, share: &mut Share<K>, boot: 
     let (Some(mut stale), Some(mut good)) = (later.lend(cpu), station.lend(cpu)) else {
         return false;
     };
-    if stale.run(5) != 5 || good.run(5) != 5 {
+    if stale.run(5) != 5 || good.run(5) != 5 || stale.cpu() != cpu {
         return false;
     }
     station.commit(stale, share) == Err(CommitFault::Stale)
