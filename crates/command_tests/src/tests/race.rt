@@ -85,23 +85,25 @@ fn ends_by_a_read<R: Threads + Wait + Sync>(
     inputs: [&[u8]; 3],
     place: usize,
     number: usize,
+    text: &str,
 ) -> bool {
     let mut outputs = Outputs::new(alloc);
     let ended = race_failing(rt, alloc, inputs, place, number, &mut outputs);
-    is_fault(alloc, &ended, UNREAD[place], 4) && outputs.are_empty()
+    is_fault(alloc, &ended, text, 4) && outputs.are_empty()
 }
 
-/// The first read of the input of this place that fails in another way.
+/// The first read of an input of so many bytes that fails in another way.
 fn first_wrong_read<R: Threads + Wait + Sync>(
     rt: &R,
     alloc: Global,
     inputs: [&[u8]; 3],
     place: usize,
-) -> Option<(usize, usize)> {
-    let last = inputs[place].len().saturating_add(1);
-    for number in 1..=last {
-        if !ends_by_a_read(rt, alloc, inputs, place, number) {
-            return Some((place, number));
+    len: usize,
+    text: &str,
+) -> Option<usize> {
+    for number in 1..=len.saturating_add(1) {
+        if !ends_by_a_read(rt, alloc, inputs, place, number, text) {
+            return Some(number);
         }
     }
     None
@@ -113,9 +115,11 @@ fn first_wrong_input<R: Threads + Wait + Sync>(
     alloc: Global,
     image: &[u8],
 ) -> Option<(usize, usize)> {
-    for place in 0..3usize {
-        if let Some(wrong) = first_wrong_read(rt, alloc, [image, CONFIG, b"T 1\n"], place) {
-            return Some(wrong);
+    let inputs = [image, CONFIG, b"T 1\n".as_slice()];
+    for (place, text) in UNREAD.iter().enumerate() {
+        let len = inputs[place].len();
+        if let Some(number) = first_wrong_read(rt, alloc, inputs, place, len, *text) {
+            return Some((place, number));
         }
     }
     None
@@ -216,37 +220,46 @@ fn are_refused<R: Threads + Wait + Sync>(
     is_fault(alloc, &ended, text, 1) && outputs.are_empty()
 }
 
+/// A configuration and a script for the object file of the board, and the fault.
+const FAULTS: &[(&[u8], &[u8], &str)] = &[
+    (
+        b"BOARD(9, 0x10000);",
+        b"x",
+        "the configuration: line 1: found a processor out of range, expected 1 to 8 of BOARD, 1 to its number of CLASS",
+    ),
+    (
+        b"BOARD(1, 0x10000); CRE_TSK(1, {0, 0, x, 1, 256, NULL});",
+        b"x",
+        "the boot: the configuration names a symbol that the image doesn't have",
+    ),
+    (
+        CONFIG,
+        b"T 1\nS 1 3\n",
+        "the script: line 2: expected `T COUNT` or `R LINE COUNT`, and at most 1,000,000 events in all",
+    ),
+];
+
+/// The first of `FAULTS` that is another one.
+fn first_wrong_fault<R: Threads + Wait + Sync>(
+    rt: &R,
+    alloc: Global,
+    image: &[u8],
+) -> Option<usize> {
+    for (row, (config, script, text)) in FAULTS.iter().enumerate() {
+        if !are_refused(rt, alloc, [image, *config, *script], *text) {
+            return Some(row);
+        }
+    }
+    None
+}
+
 /// Of several faults that of the object file comes first, then those of the configuration, the boot and the script.
 #[test]
 fn faults_of_race(rt: HostRuntime) -> Result<(), Fail> {
-    let alloc = rt.alloc();
     let elf = "the object file: no ELF file: it doesn't begin with the bytes 7F 45 4C 46";
-    assert!(rt; are_refused(&rt, alloc, [b"\x7fEL", b"", b"x"], elf));
-    let image = image(alloc)?;
-    let config =
-        "the configuration: line 1: found a processor out of range, expected 1 to 8 of BOARD, 1 to its number of CLASS";
-    assert!(rt;
-        are_refused(
-            &rt,
-            alloc,
-            [image.as_slice(), b"BOARD(9, 0x10000);", b"x"],
-            config
-        )
-    );
-    let boot = "the boot: the configuration names a symbol that the image doesn't have";
-    let unknown = b"BOARD(1, 0x10000); CRE_TSK(1, {0, 0, x, 1, 256, NULL});".as_slice();
-    assert!(rt; are_refused(&rt, alloc, [image.as_slice(), unknown, b"x"], boot));
-    let script =
-        "the script: line 2: expected `T COUNT` or `R LINE COUNT`, and at most 1,000,000 events in all";
-    assert!(rt;
-        are_refused(
-            &rt,
-            alloc,
-            [image.as_slice(), CONFIG, b"T 1\nS 1 3\n"],
-            script
-        )
-    );
-    Ok(())
+    assert!(rt; are_refused(&rt, rt.alloc(), [b"\x7fEL", b"", b"x"], elf));
+    let image = image(rt.alloc())?;
+    none_wrong(first_wrong_fault(&rt, rt.alloc(), image.as_slice()))
 }
 
 /// Whether a race's own fault ends the command with this text and status.

@@ -106,13 +106,7 @@ fn gives_up(alloc: Global, inputs: [&[u8]; 3], place: usize, text: &str) -> bool
     let mut config = Busy::new(config, place != 1);
     let mut journal = Busy::new(journal, place != 2);
     let mut writer = Taking::new(alloc);
-    let ended = run(
-        alloc,
-        &mut image,
-        &mut config,
-        &mut journal,
-        &mut writer,
-    );
+    let ended = run(alloc, &mut image, &mut config, &mut journal, &mut writer);
     let reads = match place {
         0 => image.reads,
         1 => config.reads,
