@@ -2,6 +2,7 @@
 use Rattle.std.specs.Prelude.{◌≢◌, ℕ, ◌+◌, ◌-◌, ◌≤◌, ◌⊎◌, ◌&&◌, nat_le, nat_lt, if◌then◌else◌, List, [], ◌∷◌, length}
 use Rattle.std.specs.Prelude.{flat_map, slice_get, Option, None, Some, bytes_eq}
 use Rattle.std.specs.List.{AllByRecursion}
+use Rattle.brd_word.specs.declared.order.Order.{Order}
 use Rattle.brd_word.specs.Words.{bytes_of_word}
 use Rattle.brd_base.specs.Space.{base, top}
 use Rattle.brd_mem.specs.declared.image.Image.{Image}
@@ -11,11 +12,11 @@ use Rattle.brd_mem.specs.declared.image.Symbol.{Symbol}
 -- Words lie from the first address of RAM on, each with the most significant byte first; no words make no segment.
 abbrev pub segments_of_words : List ℕ → List Segment
 segments_of_words [] = []
-segments_of_words (word ∷ words) = record { address = base; bytes = flat_map bytes_of_word (word ∷ words) } ∷ []
+segments_of_words (word ∷ words) = record { address = base; bytes = flat_map (bytes_of_word Order.Big) (word ∷ words) } ∷ []
 
--- the image of words: it starts at the first of them, and names nothing
+-- the image of words: it is big-endian, starts at the first of them, and names nothing
 abbrev pub image_of_words : List ℕ → Image
-image_of_words words = record { entry = base; segments = segments_of_words words; symbols = [] }
+image_of_words words = record { entry = base; segments = segments_of_words words; symbols = []; order = Order.Big }
 
 -- From an address on, segments that have bytes follow one another, none over another, none past 0x80FFFFFF.
 abbrev pub AreAscending : ℕ → List Segment → Type 0

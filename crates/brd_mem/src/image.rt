@@ -4,6 +4,7 @@ ghost use Rattle.std.specs.Prelude.{◌≡◌, IfOk};
 
 use crate::words::bytes_of_words;
 use brd_base::{BASE, List, NoMemory};
+use brd_word::Order;
 use std::alloc::Global;
 
 /// A list of bytes.
@@ -41,6 +42,8 @@ pub struct Image {
     pub segments: Segments,
     /// The names.
     pub symbols: Symbols,
+    /// In which order the bytes of its words lie.
+    pub order: Order,
 }
 
 /// Written out, so that a function that lets one go is proved with a call, and not with the end of each part.
@@ -50,6 +53,7 @@ impl Drop for Image {
             entry: _,
             segments: _,
             symbols: _,
+            order: _,
         } = self;
     }
 }
@@ -57,7 +61,7 @@ impl Drop for Image {
 impl Image {
     ghost use Rattle.brd_mem.specs.Image.{image_of_words};
 
-    /// The image of these words: one segment at the first address of RAM, or none for no words.
+    /// The big-endian image of these words: one segment at the first address of RAM, or none for no words.
     pub fn from_words(alloc: Global, words: &[u32]) -> Result<Image, NoMemory>
         ensures { IfOk result (λ image. image ≡ image_of_words words.now) }
     {
@@ -73,6 +77,7 @@ impl Image {
             entry: BASE,
             segments,
             symbols: Symbols::new(alloc),
+            order: Order::Big,
         })
     }
 }

@@ -3,7 +3,7 @@
 ghost use Rattle.std.specs.Prelude.{◌≡◌, Decides, ℕ, ◌+◌, ◌-◌, ◌*◌, ◌%◌, ◌^◌, ◌<◌, ◌≤◌, ◌↔◌, ◌++◌, length, bytes_eq, true, OnOk, IfOk, IsErrOf};
 ghost use Rattle.brd_base.specs.Space.{base, IsRamSize};
 ghost use Rattle.brd_word.specs.Words.{bytes_of_word};
-ghost use Rattle.brd_mem.specs.Memory.{Memory, size_of, zeros, contains, bytes_at, with_bytes, copied, byte_at};
+ghost use Rattle.brd_mem.specs.Memory.{Memory, memory_of_bytes, size_of, zeros, contains, bytes_at, with_bytes, copied, byte_at};
 ghost use Rattle.brd_mem.specs.Access.{
   place_of,
   fetched,
@@ -23,21 +23,22 @@ ghost use Rattle.brd_mem.specs.Marks.{AreMarked};
 use crate::fault::{Exc, RamFault};
 use crate::pages::{PAGE_SIZE, Page, Pages};
 use brd_base::{BASE, NoMemory, copy_with_room, is_ram_size};
-use brd_word::{bytes_of, half_bytes_of, half_of, word_of};
+use brd_word::{Order, bytes_of, half_bytes_of, half_of, word_of};
 use std::alloc::Global;
 use std::marker::Model;
 
-/// 64 KiB to 16 MiB of bytes from `BASE` upward. Words are big-endian.
+/// 64 KiB to 16 MiB of bytes from `BASE` upward, and the order in which the bytes of its halfwords and words lie.
 pub struct Ram {
     bytes: Vec<u8>,
     /// For each page, whether it may hold anything but zeros.
     marks: Vec<bool>,
+    order: Order,
 }
 
 impl Model for Ram {
     ghost Value = { Memory };
 
-    ghost view = { λ ram. record { bytes = ram.bytes.items } };
+    ghost view = { λ ram. memory_of_bytes ram.order ram.bytes.items };
 
     ghost invariant = { λ ram. IsRamSize (length ram.bytes.items) × AreMarked ram.bytes.items ram.marks.items };
 }
@@ -45,14 +46,18 @@ impl Model for Ram {
 /// Written out, so that a function that lets one go is proved with a call, and not with the end of each part.
 impl Drop for Ram {
     fn drop(self) {
-        let Ram { bytes: _, marks: _ } = self;
+        let Ram {
+            bytes: _,
+            marks: _,
+            order: _,
+        } = self;
     }
 }
 
 impl Ram {
-    /// RAM of this many bytes, all zero.
-    pub fn new(alloc: Global, size: u32) -> Result<Ram, RamFault>
-        ensures zero { IfOk result (λ ram. ram ≡ zeros size) }
+    /// RAM of this many bytes, all zero, with words in this order.
+    pub fn new(alloc: Global, size: u32, order: Order) -> Result<Ram, RamFault>
+        ensures zero { IfOk result (λ ram. ram ≡ zeros order size) }
         ensures fits { IfOk result (λ _. IsRamSize size) }
         ensures bad_size { IsErrOf result RamFault.BadSize ↔ ¬ (IsRamSize size) }
     {
@@ -62,7 +67,11 @@ impl Ram {
         let size = size as usize;
         let bytes = vec![in alloc; 0; size].map_err(|_| RamFault::NoMemory)?;
         let marks = vec![in alloc; false; size / PAGE_SIZE].map_err(|_| RamFault::NoMemory)?;
-        Ok(Ram { bytes, marks })
+        Ok(Ram {
+            bytes,
+            marks,
+            order,
+        })
     }
 
     /// An equal RAM.
@@ -72,14 +81,22 @@ impl Ram {
         Ok(Ram {
             bytes: copy_with_room(&self.bytes, 0)?,
             marks: copy_with_room(&self.marks, 0)?,
+            order: self.order,
         })
     }
 
-    /// Whether both have the same bytes.
+    /// Whether both have the same bytes and order.
     pub fn same(&self, other: &Ram) -> bool
         ensures { Decides result (self.now ≡ other.now) }
     {
-        self.bytes.as_slice() == other.bytes.as_slice()
+        self.order == other.order && self.bytes.as_slice() == other.bytes.as_slice()
+    }
+
+    /// In which order the bytes of its halfwords and words lie.
+    pub fn order(&self) -> Order
+        ensures { result ≡ self.now.order }
+    {
+        self.order
     }
 
     /// How many bytes it has.
@@ -113,7 +130,7 @@ impl Ram {
         ensures { result ≡ fetched self.now address }
     {
         let at = self.place(address, 4, Exc::AdEL, Exc::IBE)?;
-        Ok(word_of(self.bytes_at(at)))
+        Ok(word_of(self.bytes_at(at), self.order))
     }
 
     /// The 64 words of the aligned 256 bytes round an address; None where these don't lie in RAM.
@@ -137,12 +154,13 @@ impl Ram {
         let mut words = [0; 64];
         for i in 0..64usize {
             let first = 4 * i;
-            words[i] = word_of([
+            let four = [
                 bytes[first],
                 bytes[first + 1],
                 bytes[first + 2],
                 bytes[first + 3],
-            ]);
+            ];
+            words[i] = word_of(four, self.order);
         }
         words
     }
@@ -160,16 +178,16 @@ impl Ram {
         ensures { result ≡ loaded16 self.now address }
     {
         let at = self.place(address, 2, Exc::AdEL, Exc::DBE)?;
-        Ok(half_of(self.bytes_at(at)))
+        Ok(half_of(self.bytes_at(at), self.order))
     }
 
     /// The data word at an address: AdEL where it isn't aligned, then DBE where it isn't in RAM.
     pub fn load32(&self, address: u32) -> Result<u32, Exc>
         ensures is { result ≡ loaded32 self.now address }
-        ensures bytes { IfOk result (λ word. bytes_of_word word ≡ bytes_at self.now (address - base) 4) }
+        ensures bytes { IfOk result (λ word. bytes_of_word self.now.order word ≡ bytes_at self.now (address - base) 4) }
     {
         let at = self.place(address, 4, Exc::AdEL, Exc::DBE)?;
-        Ok(word_of(self.bytes_at(at)))
+        Ok(word_of(self.bytes_at(at), self.order))
     }
 
     /// Stores a data byte at an address: DBE where it isn't in RAM.
@@ -186,7 +204,7 @@ impl Ram {
         ensures { Stores (stored16 self.old address half) self.old result self.new }
     {
         let at = self.place(address, 2, Exc::AdES, Exc::DBE)?;
-        self.put_in_page(at, &half_bytes_of(half));
+        self.put_in_page(at, &half_bytes_of(half, self.order));
         Ok(())
     }
 
@@ -195,7 +213,7 @@ impl Ram {
         ensures { Stores (stored32 self.old address word) self.old result self.new }
     {
         let at = self.place(address, 4, Exc::AdES, Exc::DBE)?;
-        self.put_in_page(at, &bytes_of(word));
+        self.put_in_page(at, &bytes_of(word, self.order));
         Ok(())
     }
 
@@ -233,9 +251,10 @@ impl Ram {
         self.put_bytes((address - BASE) as usize, bytes);
     }
 
-    /// The pages in which it differs from a RAM of its size, with the bytes that it has there itself.
+    /// The pages in which it differs from a RAM of its size and order, with the bytes that it has there itself.
     pub fn pages(&self, base: &Ram) -> Result<Pages, NoMemory>
         requires sizes { size_of self.now ≡ size_of base.now }
+        requires orders { self.now.order ≡ base.now.order }
         ensures is { IfOk result (λ pages. pages ≡ differing base.now self.now) }
         ensures within { IfOk result (LieWithin (size_of base.now)) }
         ensures back { IfOk result (λ pages. with_pages base.now pages ≡ self.now) }
@@ -275,10 +294,11 @@ impl Ram {
         self.page(number) == base.page(number)
     }
 
-    /// Becomes the base, a RAM of its size, with these pages in their places. So it becomes the RAM that they were
-    /// taken of, where that was compared with an equal base.
+    /// Becomes the base, a RAM of its size and order, with these pages in their places. So it becomes the RAM that they
+    /// were taken of, where that was compared with an equal base.
     pub fn put_back(&mut self, base: &Ram, pages: &Pages)
         requires sizes { size_of self.old ≡ size_of base.now }
+        requires orders { self.old.order ≡ base.now.order }
         requires within { LieWithin (size_of base.now) pages.now }
         ensures { self.new ≡ with_pages base.now pages.now }
     {

@@ -4,6 +4,7 @@
 use Rattle.std.specs.Prelude.{ℕ, ◌+◌, ◌-◌, ◌*◌, ◌/◌, ◌%◌, ◌^◌, ◌<◌, ◌==◌, nat_lt, Bool, ◌&&◌, not, if◌then◌else◌, List}
 use Rattle.std.specs.Prelude.{[], ◌∷◌, slice_index, ℤ, pos, negsuc, ◌+ℤ◌, ◌-ℤ◌, ◌*ℤ◌, int_div, int_rem}
 use Rattle.std.specs.Int.{w32, w64, cast_signed, cast_unsigned}
+use Rattle.brd_word.specs.declared.order.Order.{Order}
 
 -- the signed reading of a word
 abbrev pub signed : ℕ → ℤ
@@ -61,22 +62,27 @@ signed_quotient a b =
       remainder = word_of_signed (int_rem (signed a) (signed b));
     }
 
--- the four bytes of a word, the most significant first
-abbrev pub bytes_of_word : ℕ → List ℕ
-bytes_of_word word = word / 2 ^ 24 % 256 ∷ word / 2 ^ 16 % 256 ∷ word / 2 ^ 8 % 256 ∷ word % 256 ∷ []
+-- the four bytes of a word as they lie in memory, from the lowest address on: the most significant first, or last
+abbrev pub bytes_of_word : Order → ℕ → List ℕ
+bytes_of_word Order.Big word = word / 2 ^ 24 % 256 ∷ word / 2 ^ 16 % 256 ∷ word / 2 ^ 8 % 256 ∷ word % 256 ∷ []
+bytes_of_word Order.Little word = word % 256 ∷ word / 2 ^ 8 % 256 ∷ word / 2 ^ 16 % 256 ∷ word / 2 ^ 24 % 256 ∷ []
 
--- the word of four bytes, the most significant first
-abbrev pub word_of_bytes : List ℕ → ℕ
-word_of_bytes bytes =
+-- the word of four bytes that lie so
+abbrev pub word_of_bytes : Order → List ℕ → ℕ
+word_of_bytes Order.Big bytes =
     slice_index bytes 0 * 2 ^ 24 + slice_index bytes 1 * 2 ^ 16 + slice_index bytes 2 * 2 ^ 8 + slice_index bytes 3
+word_of_bytes Order.Little bytes =
+    slice_index bytes 3 * 2 ^ 24 + slice_index bytes 2 * 2 ^ 16 + slice_index bytes 1 * 2 ^ 8 + slice_index bytes 0
 
--- the two bytes of a halfword, the most significant first
-abbrev pub bytes_of_half : ℕ → List ℕ
-bytes_of_half half = half / 2 ^ 8 % 256 ∷ half % 256 ∷ []
+-- the two bytes of a halfword as they lie in memory
+abbrev pub bytes_of_half : Order → ℕ → List ℕ
+bytes_of_half Order.Big half = half / 2 ^ 8 % 256 ∷ half % 256 ∷ []
+bytes_of_half Order.Little half = half % 256 ∷ half / 2 ^ 8 % 256 ∷ []
 
--- the halfword of two bytes, the most significant first
-abbrev pub half_of_bytes : List ℕ → ℕ
-half_of_bytes bytes = slice_index bytes 0 * 2 ^ 8 + slice_index bytes 1
+-- the halfword of two bytes that lie so
+abbrev pub half_of_bytes : Order → List ℕ → ℕ
+half_of_bytes Order.Big bytes = slice_index bytes 0 * 2 ^ 8 + slice_index bytes 1
+half_of_bytes Order.Little bytes = slice_index bytes 1 * 2 ^ 8 + slice_index bytes 0
 
 -- each of these numbers is a byte
 abbrev pub AreBytes : List ℕ → Type 0

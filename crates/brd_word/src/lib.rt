@@ -1,6 +1,7 @@
 //! Words of 32 bits: what the instructions of MIPS32 compute with them.
 //!
-//! A word is a `u32`. Its signed reading subtracts 2^32 from values of 2^31 and above.
+//! A word is a `u32`. Its signed reading subtracts 2^32 from values of 2^31 and above. In memory its bytes lie in one of
+//! two orders.
 #![tactic(auto)]
 
 ghost use Rattle.std.specs.Prelude.{◌≡◌, ℤ, ◌*ℤ◌, int_div, int_rem};
@@ -14,11 +15,11 @@ ghost use Rattle.brd_word.specs.Words.{
   unsigned_product,
   unsigned_quotient,
   signed_quotient,
-  bytes_of_word,
-  word_of_bytes,
-  bytes_of_half,
-  half_of_bytes,
 };
+
+mod order;
+
+pub use order::{Order, bytes_of, half_bytes_of, half_of, word_of};
 
 /// A byte's signed value as a word (MD00086, `sign_extend` of a loaded byte).
 pub fn sign8(byte: u8) -> u32
@@ -125,36 +126,4 @@ pub fn div_unsigned(a: u32, b: u32) -> Division
         quotient: a / b,
         remainder: a % b,
     }
-}
-
-/// The four bytes of a word, the most significant first.
-pub fn bytes_of(word: u32) -> [u8; 4]
-    ensures is { result ≡ bytes_of_word word }
-    ensures again { word_of_bytes result ≡ word }
-{
-    word.to_be_bytes()
-}
-
-/// The word of four bytes, the most significant first.
-pub fn word_of(bytes: [u8; 4]) -> u32
-    ensures is { result ≡ word_of_bytes bytes }
-    ensures again { bytes_of_word result ≡ bytes }
-{
-    u32::from_be_bytes(bytes)
-}
-
-/// The two bytes of a halfword, the most significant first.
-pub fn half_bytes_of(half: u16) -> [u8; 2]
-    ensures is { result ≡ bytes_of_half half }
-    ensures again { half_of_bytes result ≡ half }
-{
-    half.to_be_bytes()
-}
-
-/// The halfword of two bytes, the most significant first.
-pub fn half_of(bytes: [u8; 2]) -> u16
-    ensures is { result ≡ half_of_bytes bytes }
-    ensures again { bytes_of_half result ≡ bytes }
-{
-    u16::from_be_bytes(bytes)
 }

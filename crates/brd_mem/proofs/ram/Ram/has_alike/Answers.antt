@@ -1,6 +1,6 @@
 use Rattle.std.proofs.Common.{◌≡◌, ℕ, ◌*◌, true, false, bytes_eq, get_or, length, ap, ◌∙◌, sym, arith}
 use Rattle.std.proofs.lemmas.List.{get_or_read}
-use Rattle.brd_mem.specs.Memory.{Memory, size_of, bytes_at}
+use Rattle.brd_mem.specs.Memory.{Memory, memory_of_bytes, size_of, bytes_at}
 use Rattle.brd_mem.specs.Pages.{page_size}
 use Rattle.brd_mem.proofs.MarkLemmas.{clear-equal}
 use Rattle.brd_mem.proofs.ram.Ram.has_alike.Goals as goal
@@ -19,5 +19,5 @@ returns-then-not-index-2 c =
     ∙ c.if-not-index-2.true in
     clear-equal c.self.inside.bytes.items c.base.inside.bytes.items c.self.inside.marks.items c.base.inside.marks.items c.args.number
     c.self.invariant.1 c.base.invariant.1 (omega arith) (omega arith) clear also
-    ∙ ap (λ (memory : Memory). bytes_eq (bytes_at memory at page_size) (bytes_at (record { bytes = c.base.inside.bytes.items }) at page_size)) c.self.view_is
+    ∙ ap (λ (memory : Memory). bytes_eq (bytes_at memory at page_size) (bytes_at (memory_of_bytes c.base.inside.order c.base.inside.bytes.items) at page_size)) c.self.view_is
     ∙ ap (λ (memory : Memory). bytes_eq (bytes_at c.args.self.now at page_size) (bytes_at memory at page_size)) c.base.view_is

@@ -7,6 +7,7 @@ use Rattle.brd_mem.proofs.ram.Ram.put_back.Given as goal
 abbrev pub invariant-loop-page : goal.invariant-loop-page
 invariant-loop-page l = record {
   is : with_pages l.self (drop l.page-index l.page-items) ≡ with_pages l.base l.pages;
+  order : l.self.order ≡ l.base.order;
   size : size_of l.self ≡ size_of l.base;
   within : LieWithin (size_of l.base) (drop l.page-index l.page-items);
 }
