@@ -4,7 +4,7 @@ use Rattle.std.specs.Prelude.{Option, Some, None, IfSome, Result, Ok, Err, Match
 use Rattle.brd_command.specs.Input.{IsWhole, most_bytes}
 use Rattle.brd_command.specs.Start.{AreWithin, KeepsFromMaking, KeepsFromStarting}
 use Rattle.brd_command.specs.declared.fault.CommandFault.{CommandFault}
-use Rattle.brd_command.specs.declared.fault.CommandFault.TheVariants.{NoMemory, Argument, Words, Source, ImageTooLarge, Open, Read, TooLong, TooManyReads, Build, Journal, Script, Race, Write}
+use Rattle.brd_command.specs.declared.fault.CommandFault.TheVariants.{NoMemory, Argument, Words, Source, ImageTooLarge, Open, Read, TooLong, TooManyReads, Build, Journal, Script, Race, Trace, Write}
 use Rattle.brd_command.specs.declared.input_name.InputName.{InputName}
 
 module _ {S : Type 0} (Is : List ℕ → List ℕ → List ℕ → S → Type 0) (last : InputName) where
@@ -23,6 +23,7 @@ module _ {S : Type 0} (Is : List ℕ → List ℕ → List ℕ → S → Type 0)
     keeps_from (Journal fault kind) keeps = (within, keeps)
     keeps_from (Script fault kind) keeps = (within, keeps)
     keeps_from (Race fault) keeps = keeps
+    keeps_from (Trace fault) keeps = keeps
     keeps_from (Write error) keeps = keeps
 
     made_within : (result : Result S CommandFault) → MatchResult result (Is i c j) (KeepsFromMaking last i c j)

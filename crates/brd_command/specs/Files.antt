@@ -1,4 +1,4 @@
--- What the files of a command give it, and how `asm`, `run`, `race` and `debug` end on them. `opened` and `created` say
+-- What the files of a command give it, and how `asm`, `run`, `race`, `debug` and `trace` end on them. `opened` and `created` say
 -- what a call on files did: the files before, a name, what the call gave, and the files after; `closed` says what letting
 -- a written file go did. `remaining` says what a file has left to read, `contents` what a file holds that is written;
 -- `before` and `behind` are what standard output held before and after the command.
@@ -9,6 +9,7 @@ use Rattle.brd_command.specs.Faults.{IsOfOpen}
 use Rattle.brd_command.specs.Debugging.{DebugEnds}
 use Rattle.brd_command.specs.RaceCommand.{RaceEnds}
 use Rattle.brd_command.specs.RunCommand.{RunEnds}
+use Rattle.brd_command.specs.TraceCommand.{TraceEnds}
 use Rattle.brd_command.specs.declared.fault.CommandFault.{CommandFault}
 use Rattle.brd_command.specs.declared.files.Inputs.{Inputs}
 
@@ -90,3 +91,14 @@ pub data DebugFilesEnd {F R C : Type 0}
       IfSome (remaining inputs.image) (λ file. IfSome (remaining inputs.config) (λ statements. IfSome (remaining inputs.last) (λ events.
       DebugEnds unread file statements events input_first input result before behind))) →
       DebugFilesEnd opened remaining unread old image config journal input_first input before behind result new
+
+-- The trace is written only where all three files were opened; else nothing was written.
+pub data TraceFilesEnd {F R : Type 0}
+    (opened : F → List ℕ → Result R Error → F → Type 0) (remaining : R → Option (List ℕ))
+    (old : F) (image config journal : List ℕ) (before behind : Option (List ℕ)) (result : Result Unit CommandFault) (new : F) : Type 0 where
+  not_opened : {fault : CommandFault} → OpensInputs opened old image config journal (Err fault) new → result ≡ Err fault → before ≡ behind →
+      TraceFilesEnd opened remaining old image config journal before behind result new
+  ended : {inputs : Inputs R} → OpensInputs opened old image config journal (Ok inputs) new →
+      IfSome (remaining inputs.image) (λ file. IfSome (remaining inputs.config) (λ statements. IfSome (remaining inputs.last) (λ events.
+      TraceEnds result file statements events before behind))) →
+      TraceFilesEnd opened remaining old image config journal before behind result new

@@ -16,5 +16,6 @@ pub mod DebugGrammar
 pub mod Lines
 pub mod Answers
 pub mod Debugging
+pub mod TraceCommand
 pub mod Files
 pub mod Request

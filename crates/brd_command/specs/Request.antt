@@ -3,18 +3,18 @@
 -- holds that is written; `unread` says what standard input has left to read, `written` what standard output has taken.
 use Rattle.std.specs.Prelude.{◌≡◌, ℕ, List, Option, IfSome, Result}
 use Rattle.std.specs.declared.io.Error.{Error}
-use Rattle.brd_command.specs.Files.{AsmFilesEnd, RunFilesEnd, RaceFilesEnd, DebugFilesEnd}
+use Rattle.brd_command.specs.Files.{AsmFilesEnd, RunFilesEnd, RaceFilesEnd, DebugFilesEnd, TraceFilesEnd}
 use Rattle.brd_command.specs.WordsCommand.{WordsEnds}
 use Rattle.brd_command.specs.declared.fault.CommandFault.{CommandFault}
 use Rattle.brd_command.specs.declared.request.Request.{Request}
-use Rattle.brd_command.specs.declared.request.Request.TheVariants.{Words, Asm, Run, Race, Debug}
+use Rattle.brd_command.specs.declared.request.Request.TheVariants.{Words, Asm, Run, Race, Debug, Trace}
 
 module _ {F I O R W : Type 0}
     (opened : F → List ℕ → Result I Error → F → Type 0) (created : F → List ℕ → Result O Error → F → Type 0)
     (closed : F → O → F → Type 0) (remaining : I → Option (List ℕ)) (contents : O → Option (List ℕ))
     (unread : R → Option (List ℕ)) (written : W → Option (List ℕ)) where
-  -- `words` touches no file, `asm` neither reads standard input nor writes standard output, and `run` and `race` don't
-  -- read standard input.
+  -- `words` touches no file, `asm` neither reads standard input nor writes standard output, and `run`, `race` and
+  -- `trace` don't read standard input.
   abbrev pub RequestEnds : Request → F → F → R → R → W → W → Result Unit CommandFault → Type 0
   RequestEnds (Words steps) files_old files input_old input output_old output result =
       IfSome (unread input_old) (λ text. WordsEnds result text steps (written output_old) (written output))
@@ -33,3 +33,7 @@ module _ {F I O R W : Type 0}
   RequestEnds (Debug image config journal) files_old files input_old input output_old output result =
       DebugFilesEnd opened remaining unread files_old image.now config.now journal.now
       input_old input (written output_old) (written output) result files
+  RequestEnds (Trace image config journal options) files_old files input_old input output_old output result =
+      TraceFilesEnd opened remaining files_old image.now config.now journal.now
+      (written output_old) (written output) result files
+      × (input ≡ input_old)

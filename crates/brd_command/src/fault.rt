@@ -7,6 +7,7 @@ ghost use Rattle.brd_command.specs.declared.fault.CommandFault.TheVariants.{NoMe
 use crate::excerpt::Excerpt;
 use crate::file_kind::{FileKind, hint, other_kind};
 use crate::input_name::InputName;
+use crate::trace_options::TraceFault;
 use crate::word_text::WordsFault;
 use brd_asm::AsmFault;
 use brd_base::NoMemory;
@@ -61,6 +62,9 @@ pub enum CommandFault {
     /// A race has no result.
     #[error("the race: {0}")]
     Race(RaceFault),
+    /// There is no trace.
+    #[error("the trace: {0}")]
+    Trace(TraceFault),
     /// Output couldn't be written.
     #[error("can't write the output: {0}")]
     Write(io::Error),
@@ -160,7 +164,7 @@ impl CommandFault {
             | CommandFault::Journal(_, _)
             | CommandFault::Script(_, _)
             | CommandFault::Race(_) => 1,
-            CommandFault::Argument => 2,
+            CommandFault::Argument | CommandFault::Trace(_) => 2,
             CommandFault::NoMemory => 3,
             CommandFault::Open(_, _)
             | CommandFault::Read(_, _)

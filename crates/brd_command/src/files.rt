@@ -2,7 +2,7 @@
 
 ghost use Rattle.std.specs.Prelude.{IfOk, IfErr, IfSome, Ok, Err};
 ghost use Rattle.brd_command.specs.Faults.{IsOfOpen};
-ghost use Rattle.brd_command.specs.Files.{OpensInputs, AsmFilesEnd, RunFilesEnd, RaceFilesEnd, DebugFilesEnd};
+ghost use Rattle.brd_command.specs.Files.{OpensInputs, AsmFilesEnd, RunFilesEnd, RaceFilesEnd, DebugFilesEnd, TraceFilesEnd};
 ghost use Rattle.brd_command.specs.RaceCommand.{RaceEnds};
 
 use crate::asm_command::asm;
@@ -10,6 +10,8 @@ use crate::debug_command::debug;
 use crate::fault::CommandFault;
 use crate::race_command::race;
 use crate::run_command::run;
+use crate::trace_command::trace;
+use crate::trace_options::TraceOptions;
 use brd_threads::Blanks;
 use std::alloc::Global;
 use std::io::{self, Read, Write};
@@ -218,6 +220,33 @@ pub fn debug_files<F: Files, R: Read, W: Write>(
         &mut inputs.config,
         &mut inputs.last,
         input,
+        output,
+    )
+}
+
+/// Does `trace` on its files: IMAGE is opened, then CONFIG, then JOURNAL, and then all are read. The trace is written.
+pub fn trace_files<F: Files, W: Write>(
+    alloc: Global,
+    files: &mut F,
+    image: &str,
+    config: &str,
+    journal: &str,
+    options: TraceOptions,
+    output: &mut W,
+) -> Result<(), CommandFault>
+    ensures { TraceFilesEnd F.opened F.Input.remaining files.old image.now config.now journal.now
+        (W.contents output.old) (W.contents output.new) result files.new }
+{
+    let mut inputs = match open_inputs(alloc, files, image, config, journal) {
+        Ok(inputs) => inputs,
+        Err(fault) => return Err(fault),
+    };
+    trace(
+        alloc,
+        &mut inputs.image,
+        &mut inputs.config,
+        &mut inputs.last,
+        options,
         output,
     )
 }

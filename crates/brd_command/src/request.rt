@@ -3,7 +3,8 @@
 ghost use Rattle.brd_command.specs.Request.{RequestEnds};
 
 use crate::fault::CommandFault;
-use crate::files::{Files, asm_files, debug_files, race_files, run_files};
+use crate::files::{Files, asm_files, debug_files, race_files, run_files, trace_files};
+use crate::trace_options::TraceOptions;
 use crate::words_command::words;
 use std::alloc::Global;
 use std::io::{Read, Write};
@@ -44,10 +45,18 @@ pub enum Request<'a> {
         config: &'a str,
         journal: &'a str,
     },
+    /// What happens on the board of an object file and a configuration under a journal, on standard output.
+    Trace {
+        image: &'a str,
+        config: &'a str,
+        journal: &'a str,
+        options: TraceOptions,
+    },
 }
 
 /// Does what was asked for, on files, standard input and standard output. `words` touches no file; `asm` neither reads
-/// standard input nor writes standard output; `run` and `race` don't read standard input. `debug` reads that only where
+/// standard input nor writes standard output; `run`, `race` and `trace` don't read standard
+/// input. `debug` reads that only where
 /// its files could be opened and make a debugger. Threads of the host are started only for `race`.
 pub fn perform<F: Files, R: Read, W: Write, T: Threads + Wait + Sync>(
     rt: &T,
@@ -80,5 +89,11 @@ pub fn perform<F: Files, R: Read, W: Write, T: Threads + Wait + Sync>(
             config,
             journal,
         } => debug_files(alloc, files, image, config, journal, input, output),
+        Request::Trace {
+            image,
+            config,
+            journal,
+            options,
+        } => trace_files(alloc, files, image, config, journal, options, output),
     }
 }

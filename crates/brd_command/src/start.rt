@@ -61,7 +61,7 @@ pub fn read_start<R: Read>(
 }
 
 /// The board that an object file and a configuration make, and a journal.
-fn make_start(
+pub(crate) fn make_start(
     alloc: Global,
     image: &[u8],
     config: &[u8],

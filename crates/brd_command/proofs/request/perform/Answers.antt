@@ -15,3 +15,6 @@ returns-in-Debug g c = rw c.in-Debug.is c.debug_files.ensures
 
 pub returns-in-Race : goal.returns-in-Race
 returns-in-Race g c = rw c.in-Race.is (c.race_files.ensures, refl)
+
+pub returns-in-Trace : goal.returns-in-Trace
+returns-in-Trace g c = rw c.in-Trace.is (c.trace_files.ensures, refl)

@@ -1,0 +1,73 @@
+//! An instruction as a line of the assembler's source.
+
+use crate::name::mnemonic_name;
+use crate::number::{put_decimal, put_hex, put_signed};
+use crate::operand::{Operand, mnemonic_of, operands_of};
+use crate::register::register_name;
+use brd_base::NoMemory;
+use brd_isa::{Insn, Register, ShiftOp};
+use brd_text::hex_digits;
+
+/// Puts at the end the line of source, without a newline, that stands for an instruction at an address, as
+/// `lw $t0, 8($sp)` or `beq $t0, $zero, 0x80000040`: targets of branches and jumps are addresses, a code that is 0 is
+/// left out, and SLL of nothing is `nop`. Where memory runs out, a front of the line may be there.
+pub fn write_instruction(insn: &Insn, address: u32, to: &mut Vec<u8>) -> Result<(), NoMemory> {
+    if is_nop(insn) {
+        to.extend_from_slice(b"nop")?;
+        return Ok(());
+    }
+    to.extend_from_slice(mnemonic_name(mnemonic_of(insn)).as_bytes())?;
+    let [first, second, third] = operands_of(insn, address);
+    put_operand(to, " ", first)?;
+    put_operand(to, ", ", second)?;
+    put_operand(to, ", ", third)
+}
+
+/// Whether an instruction is `nop`: SLL of register 0 by 0 into register 0.
+fn is_nop(insn: &Insn) -> bool {
+    match *insn {
+        Insn::Shift(ShiftOp::Sll, rd, rt, sa) => {
+            rd.number() == 0 && rt.number() == 0 && sa.bits() == 0
+        }
+        _ => false,
+    }
+}
+
+/// Puts an operand at the end, where there is one, and before it what parts it from what is there.
+fn put_operand(to: &mut Vec<u8>, between: &str, operand: Operand) -> Result<(), NoMemory> {
+    if matches!(operand, Operand::Nothing) {
+        return Ok(());
+    }
+    to.extend_from_slice(between.as_bytes())?;
+    match operand {
+        Operand::Nothing => Ok(()),
+        Operand::Register(register) => put_register(to, register),
+        Operand::Signed(bits) => put_signed(to, bits),
+        Operand::Bits(bits) => put_hex(to, bits as u32),
+        Operand::Number(number) => put_decimal(to, number),
+        Operand::Target(address) => put_target(to, address),
+        Operand::Address(offset, base) => put_address(to, offset, base),
+    }
+}
+
+/// Puts the name of a register at the end.
+fn put_register(to: &mut Vec<u8>, register: Register) -> Result<(), NoMemory> {
+    to.extend_from_slice(register_name(register).as_bytes())?;
+    Ok(())
+}
+
+/// Puts an address at the end: `0x` and eight digits.
+fn put_target(to: &mut Vec<u8>, address: u32) -> Result<(), NoMemory> {
+    to.extend_from_slice(b"0x")?;
+    to.extend_from_slice(&hex_digits(address))?;
+    Ok(())
+}
+
+/// Puts `offset(base)` at the end.
+fn put_address(to: &mut Vec<u8>, offset: u16, base: Register) -> Result<(), NoMemory> {
+    put_signed(to, offset)?;
+    to.push(b'(')?;
+    put_register(to, base)?;
+    to.push(b')')?;
+    Ok(())
+}

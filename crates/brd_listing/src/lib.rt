@@ -1,0 +1,18 @@
+//! Instructions and addresses as text, as the assembler's source has them.
+//!
+//! `write_instruction` writes a line that the assembler reads, at the same address, as the same instruction.
+//! `nearest` finds the symbol by whose name an address goes, and `write_place` writes it.
+#![tactic(auto)]
+
+mod instruction;
+mod name;
+mod number;
+mod operand;
+mod place;
+mod register;
+
+pub use instruction::write_instruction;
+pub use name::mnemonic_name;
+pub use operand::mnemonic_of;
+pub use place::{nearest, write_place};
+pub use register::register_name;

@@ -1,0 +1,46 @@
+//! Addresses by the symbols of an image.
+
+use crate::number::put_hex;
+use brd_base::{BASE, NoMemory, TOP};
+use brd_mem::Symbol;
+use brd_text::hex_digits;
+
+/// The symbol by which an address goes: of those with a value from the first address of RAM to this one, that with the
+/// greatest value; of equal ones the last. None for an address outside the space that RAM can fill.
+pub fn nearest(symbols: &[Symbol], address: u32) -> Option<&Symbol> {
+    if address < BASE || TOP <= address {
+        return None;
+    }
+    let mut best: Option<&Symbol> = None;
+    for symbol in symbols {
+        if is_better(best, symbol, address) {
+            best = Some(symbol);
+        }
+    }
+    best
+}
+
+/// Whether a symbol is at least as near below an address as what was found before it.
+fn is_better(best: Option<&Symbol>, symbol: &Symbol, address: u32) -> bool {
+    let least = match best {
+        None => BASE,
+        Some(found) => found.value,
+    };
+    least <= symbol.value && symbol.value <= address
+}
+
+/// Puts an address at the end: its nearest symbol and the distance from it, as `main+0x1c`, without a distance of 0;
+/// eight hexadecimal digits where it has no symbol. Where memory runs out, a front of it may be there.
+pub fn write_place(symbols: &[Symbol], address: u32, to: &mut Vec<u8>) -> Result<(), NoMemory> {
+    let Some(symbol) = nearest(symbols, address) else {
+        to.extend_from_slice(&hex_digits(address))?;
+        return Ok(());
+    };
+    to.extend_from_slice(symbol.name.as_slice())?;
+    let distance = address.wrapping_sub(symbol.value);
+    if distance == 0 {
+        return Ok(());
+    }
+    to.push(b'+')?;
+    put_hex(to, distance)
+}

@@ -1,0 +1,21 @@
+//! Why there is no picture.
+
+use brd_base::NoMemory;
+use thiserror::Error;
+
+/// What keeps a picture from being drawn.
+#[derive(Clone, Copy, Debug, PartialEq, Eq, Error)]
+pub enum PictureFault {
+    /// The program ran out of memory.
+    #[error("out of memory")]
+    NoMemory,
+    /// There are more than `MOST_DRAWN` lanes, slices and marks together.
+    #[error("more to draw than a picture can show")]
+    TooMuch,
+}
+
+impl From<NoMemory> for PictureFault {
+    fn from(_e: NoMemory) -> Self {
+        PictureFault::NoMemory
+    }
+}

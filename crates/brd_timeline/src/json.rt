@@ -1,0 +1,136 @@
+//! A timeline in the trace event format, as an object of JSON. One event of the board is one microsecond.
+
+use crate::escape::put_json;
+use crate::number::{put, put_decimal};
+use crate::timeline::{Group, Lane, Mark, Slice, Timeline, kind_name, label_or, mark_name};
+use brd_base::NoMemory;
+
+/// The process that stands for the ticks; those of the groups come before it.
+const TICKS: u64 = 3;
+
+/// Puts a timeline at the end in the trace event format ("Trace Event Format", Google): a process for the processors,
+/// one for the tasks and one for the ticks, a thread for each lane, complete events for slices, and instants for marks
+/// and ticks. Where memory runs out, a front of it may be there.
+pub fn json(timeline: &Timeline, to: &mut Vec<u8>) -> Result<(), NoMemory> {
+    put(to, "{\"displayTimeUnit\":\"ms\",\"traceEvents\":[")?;
+    put_processes(to)?;
+    for (place, lane) in timeline.lanes.iter().enumerate() {
+        put_thread(to, place, lane)?;
+    }
+    for slice in timeline.slices.iter() {
+        put_slice(to, timeline, slice)?;
+    }
+    for mark in timeline.marks.iter() {
+        put_mark(to, timeline, mark)?;
+    }
+    put_ticks(to, timeline)?;
+    put(to, "\n]}\n")
+}
+
+/// The number of the process that stands for a group.
+fn process_of(group: Group) -> u64 {
+    match group {
+        Group::Processor => 1,
+        Group::Task => 2,
+    }
+}
+
+/// The number of the thread that stands for a lane.
+fn thread_of(place: usize) -> u64 {
+    (place as u64).saturating_add(1)
+}
+
+/// Puts the names of the processes at the end, and that of the thread of the ticks.
+fn put_processes(to: &mut Vec<u8>) -> Result<(), NoMemory> {
+    put(
+        to,
+        "\n{\"ph\":\"M\",\"pid\":1,\"name\":\"process_name\",\"args\":{\"name\":\"processors\"}}",
+    )?;
+    put(
+        to,
+        ",\n{\"ph\":\"M\",\"pid\":2,\"name\":\"process_name\",\"args\":{\"name\":\"tasks\"}}",
+    )?;
+    put(
+        to,
+        ",\n{\"ph\":\"M\",\"pid\":3,\"name\":\"process_name\",\"args\":{\"name\":\"ticks\"}}",
+    )?;
+    put(
+        to,
+        ",\n{\"ph\":\"M\",\"pid\":3,\"tid\":1,\"name\":\"thread_name\",\"args\":{\"name\":\"ticks\"}}",
+    )
+}
+
+/// Puts the beginning of an entry at the end: its phase, and its track.
+fn put_head(to: &mut Vec<u8>, phase: &str, process: u64, thread: u64) -> Result<(), NoMemory> {
+    put(to, ",\n{\"ph\":\"")?;
+    put(to, phase)?;
+    put(to, "\",\"pid\":")?;
+    put_decimal(to, process)?;
+    put(to, ",\"tid\":")?;
+    put_decimal(to, thread)
+}
+
+/// Puts the name of a lane's thread at the end, and its place among the others.
+fn put_thread(to: &mut Vec<u8>, place: usize, lane: &Lane) -> Result<(), NoMemory> {
+    let process = process_of(lane.group);
+    put_head(to, "M", process, thread_of(place))?;
+    put(to, ",\"name\":\"thread_name\",\"args\":{\"name\":")?;
+    put_json(to, &lane.name)?;
+    put(to, "}}")?;
+    put_head(to, "M", process, thread_of(place))?;
+    put(
+        to,
+        ",\"name\":\"thread_sort_index\",\"args\":{\"sort_index\":",
+    )?;
+    put_decimal(to, thread_of(place))?;
+    put(to, "}}")
+}
+
+/// Puts the middle of an entry at the end: when it begins, and of which category it is.
+fn put_start(to: &mut Vec<u8>, at: u64, category: &str) -> Result<(), NoMemory> {
+    put(to, ",\"ts\":")?;
+    put_decimal(to, at)?;
+    put(to, ",\"cat\":\"")?;
+    put(to, category)?;
+    put(to, "\",\"name\":")
+}
+
+/// Puts a slice at the end, where it has a lane.
+fn put_slice(to: &mut Vec<u8>, timeline: &Timeline, slice: &Slice) -> Result<(), NoMemory> {
+    let Some(lane) = timeline.lanes.get(slice.lane) else {
+        return Ok(());
+    };
+    let name = kind_name(slice.kind);
+    put_head(to, "X", process_of(lane.group), thread_of(slice.lane))?;
+    put(to, ",\"dur\":")?;
+    put_decimal(to, slice.to.saturating_sub(slice.from))?;
+    put_start(to, slice.from, name)?;
+    put_json(to, label_or(&slice.label, name))?;
+    put(to, "}")
+}
+
+/// Puts a mark at the end, where it has a lane.
+fn put_mark(to: &mut Vec<u8>, timeline: &Timeline, mark: &Mark) -> Result<(), NoMemory> {
+    let Some(lane) = timeline.lanes.get(mark.lane) else {
+        return Ok(());
+    };
+    let name = mark_name(mark.kind);
+    put_head(to, "i", process_of(lane.group), thread_of(mark.lane))?;
+    put(to, ",\"s\":\"t\"")?;
+    put_start(to, mark.at, name)?;
+    put_json(to, label_or(&mark.label, name))?;
+    put(to, "}")
+}
+
+/// Puts the ticks at the end, each with its number.
+fn put_ticks(to: &mut Vec<u8>, timeline: &Timeline) -> Result<(), NoMemory> {
+    for (place, at) in timeline.ticks.iter().enumerate() {
+        put_head(to, "i", TICKS, 1)?;
+        put(to, ",\"s\":\"t\"")?;
+        put_start(to, *at, "tick")?;
+        put(to, "\"tick ")?;
+        put_decimal(to, timeline.first_tick.saturating_add(place as u64))?;
+        put(to, "\"}")?;
+    }
+    Ok(())
+}

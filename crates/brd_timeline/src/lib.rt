@@ -1,0 +1,20 @@
+//! A run as a timeline, without regard to what made it, and its two pictures: `json` in the trace event format, which
+//! Perfetto and chrome://tracing read, and `svg`.
+#![tactic(auto)]
+
+mod axis;
+mod escape;
+mod fault;
+mod json;
+mod layout;
+mod legend;
+mod mark;
+mod number;
+mod slice;
+mod svg;
+mod timeline;
+
+pub use fault::PictureFault;
+pub use json::json;
+pub use svg::{MOST_DRAWN, svg};
+pub use timeline::{Group, Kind, Lane, Mark, MarkKind, Slice, Timeline};

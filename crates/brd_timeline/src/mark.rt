@@ -1,0 +1,54 @@
+//! Marks in a picture. Each kind has a shape of its own, so that it needs no colour.
+
+use crate::escape::put_xml;
+use crate::layout::{HEIGHT, x_of, y_of};
+use crate::number::{put, put_decimal, put_tenths};
+use crate::timeline::{Mark, MarkKind, Timeline, label_or, mark_name};
+use brd_base::NoMemory;
+
+/// The shape of a kind, from the middle of the lane's upper edge on, in pixels, with how it is drawn: a triangle for a
+/// call, a cross for a fault, a diamond for an interrupt, and a line for a tick.
+fn shape_of(kind: MarkKind) -> &'static str {
+    match kind {
+        MarkKind::Call => "l-3.5-6h7z\" fill=\"#000000",
+        MarkKind::Fault => {
+            "m-5 5l10 10m0-10l-10 10\" fill=\"none\" stroke-width=\"3\" stroke=\"#d55e00"
+        }
+        MarkKind::Interrupt => "m0 4l4 6l-4 6l-4-6z\" stroke=\"#ffffff\" fill=\"#000000",
+        MarkKind::Tick => "v20\" fill=\"none\" stroke-width=\"1.5\" stroke=\"#000000",
+    }
+}
+
+/// Puts the shape of a kind at the end, at a place; the element stays open.
+pub(crate) fn put_shape(to: &mut Vec<u8>, kind: MarkKind, x: u32, y: u32) -> Result<(), NoMemory> {
+    put(to, "<path d=\"M")?;
+    put_tenths(to, x)?;
+    put(to, " ")?;
+    put_tenths(to, y)?;
+    put(to, shape_of(kind))?;
+    put(to, "\">")
+}
+
+/// Puts a mark at the end, where it has a lane and lies in the picture.
+pub(crate) fn put_mark(to: &mut Vec<u8>, timeline: &Timeline, mark: &Mark) -> Result<(), NoMemory> {
+    let Some(lane) = timeline.lanes.get(mark.lane) else {
+        return Ok(());
+    };
+    if mark.at < timeline.from || timeline.to < mark.at {
+        return Ok(());
+    }
+    let name = mark_name(mark.kind);
+    put_shape(
+        to,
+        mark.kind,
+        x_of(timeline, mark.at),
+        y_of(mark.lane, lane.group),
+    )?;
+    put(to, "<title>")?;
+    put_xml(to, label_or(&mark.label, name))?;
+    put(to, " (")?;
+    put(to, name)?;
+    put(to, "), at ")?;
+    put_decimal(to, mark.at)?;
+    put(to, "</title></path>\n")
+}

@@ -1,0 +1,98 @@
+//! A timeline as a picture in SVG.
+
+use crate::axis::{put_events, put_ticks};
+use crate::escape::put_xml;
+use crate::fault::PictureFault;
+use crate::layout::{AXES, HEIGHT, LEFT, WIDTH, bottom_of, y_of};
+use crate::legend::put_legend;
+use crate::mark::put_mark;
+use crate::number::{put, put_attribute, put_decimal, put_tenths};
+use crate::slice::put_slice;
+use crate::timeline::{Lane, Timeline};
+use brd_base::NoMemory;
+
+/// How many lanes, slices and marks a picture has at most together: more can't be told apart.
+pub const MOST_DRAWN: usize = 5_000;
+
+/// Puts a timeline at the end as a picture ("Scalable Vector Graphics (SVG) 1.1", W3C): a lane for each processor and
+/// each task, a legend above, and the axes of events and ticks below. Where memory runs out, a front of it may be there.
+///
+/// # Errors
+///
+/// `TooMuch` where there are more than `MOST_DRAWN` lanes, slices and marks; then nothing is put. `NoMemory` where
+/// memory runs out.
+pub fn svg(timeline: &Timeline, to: &mut Vec<u8>) -> Result<(), PictureFault> {
+    if is_too_much(timeline) {
+        return Err(PictureFault::TooMuch);
+    }
+    put_picture(to, timeline)?;
+    Ok(())
+}
+
+/// Whether there is more than a picture can show.
+fn is_too_much(timeline: &Timeline) -> bool {
+    let lanes = timeline.lanes.len() as u128;
+    let slices = timeline.slices.len() as u128;
+    let marks = timeline.marks.len() as u128;
+    lanes + slices + marks > MOST_DRAWN as u128
+}
+
+/// Puts the picture at the end.
+fn put_picture(to: &mut Vec<u8>, timeline: &Timeline) -> Result<(), NoMemory> {
+    put_head(to, timeline)?;
+    put_legend(to, timeline)?;
+    put_events(to, timeline)?;
+    put_ticks(to, timeline)?;
+    put_lanes(to, timeline)?;
+    for slice in timeline.slices.iter() {
+        put_slice(to, timeline, slice)?;
+    }
+    for mark in timeline.marks.iter() {
+        put_mark(to, timeline, mark)?;
+    }
+    put(to, "</svg>\n")
+}
+
+/// Puts the beginning at the end: the size, what a reader aloud says, a white ground.
+fn put_head(to: &mut Vec<u8>, timeline: &Timeline) -> Result<(), NoMemory> {
+    let height = bottom_of(timeline) + AXES;
+    put(
+        to,
+        "<svg xmlns=\"http://www.w3.org/2000/svg\" viewBox=\"0 0 ",
+    )?;
+    put_tenths(to, WIDTH)?;
+    put(to, " ")?;
+    put_tenths(to, height)?;
+    put(to, "\"")?;
+    put_attribute(to, "width", WIDTH)?;
+    put_attribute(to, "height", height)?;
+    put(
+        to,
+        " role=\"img\" font-family=\"sans-serif\" font-size=\"11\">\n<title>events ",
+    )?;
+    put_decimal(to, timeline.from)?;
+    put(to, " to ")?;
+    put_decimal(to, timeline.to)?;
+    put(
+        to,
+        "</title>\n<rect width=\"100%\" height=\"100%\" fill=\"#ffffff\"/>\n",
+    )
+}
+
+/// Puts the names of the lanes at the end.
+fn put_lanes(to: &mut Vec<u8>, timeline: &Timeline) -> Result<(), NoMemory> {
+    for (place, lane) in timeline.lanes.iter().enumerate() {
+        put_name(to, place, lane)?;
+    }
+    Ok(())
+}
+
+/// Puts the name of a lane at the end.
+fn put_name(to: &mut Vec<u8>, place: usize, lane: &Lane) -> Result<(), NoMemory> {
+    put(to, "<text text-anchor=\"end\"")?;
+    put_attribute(to, "x", LEFT - 80)?;
+    put_attribute(to, "y", y_of(place, lane.group) + HEIGHT * 7 / 10)?;
+    put(to, ">")?;
+    put_xml(to, &lane.name)?;
+    put(to, "</text>\n")
+}

@@ -1,0 +1,138 @@
+//! Timelines. A place on one is a position: 0 is the boot, and n the board after the first n events.
+
+/// What a lane is about.
+#[derive(Clone, Copy, PartialEq, Eq)]
+pub enum Group {
+    /// A processor: who has it.
+    Processor,
+    /// A task: its state.
+    Task,
+}
+
+/// What goes on in a lane for some time.
+#[derive(Clone, Copy, PartialEq, Eq)]
+pub enum Kind {
+    /// The processor has a running task.
+    Task,
+    /// The processor has an interrupt handler.
+    Handler,
+    /// The processor has neither a task nor a handler.
+    Idle,
+    /// The processor executes nothing any more.
+    Stopped,
+    /// The task is in the state RUNNING.
+    Running,
+    /// The task is in the state READY, and doesn't run.
+    Ready,
+    /// The task is in the state WAITING.
+    Waiting,
+    /// The task is in the state SUSPENDED.
+    Suspended,
+    /// The task is in the state WAITING-SUSPENDED.
+    WaitingSuspended,
+    /// The task is in the state DORMANT.
+    Dormant,
+}
+
+/// What happened in a lane at a position.
+#[derive(Clone, Copy, PartialEq, Eq)]
+pub enum MarkKind {
+    /// A service call.
+    Call,
+    /// An exception that ended a task or stopped a processor.
+    Fault,
+    /// An interrupt was raised, accepted or ended.
+    Interrupt,
+    /// A tick released the task.
+    Tick,
+}
+
+/// A processor or a task.
+#[derive(Drop)]
+pub struct Lane {
+    /// What it is called.
+    pub name: Vec<u8>,
+    /// Which of the two it is.
+    pub group: Group,
+}
+
+/// A stretch of a lane. Those of one lane don't overlap.
+#[derive(Drop)]
+pub struct Slice {
+    /// The lane's place in the list of lanes, from 0 on. A slice without a lane isn't shown.
+    pub lane: usize,
+    /// The position at which it begins.
+    pub from: u64,
+    /// The position at which it ends, above `from`.
+    pub to: u64,
+    /// What goes on.
+    pub kind: Kind,
+    /// What it is called; the name of its kind where this is empty.
+    pub label: Vec<u8>,
+}
+
+/// Something that happened in a lane.
+#[derive(Drop)]
+pub struct Mark {
+    /// The lane's place in the list of lanes, from 0 on. A mark without a lane isn't shown.
+    pub lane: usize,
+    /// The position at which it happened.
+    pub at: u64,
+    /// What it is.
+    pub kind: MarkKind,
+    /// What it is called; the name of its kind where this is empty.
+    pub label: Vec<u8>,
+}
+
+/// A stretch of a run.
+#[derive(Drop)]
+pub struct Timeline {
+    /// The processors, and then the tasks.
+    pub lanes: Vec<Lane>,
+    /// What went on.
+    pub slices: Vec<Slice>,
+    /// What happened.
+    pub marks: Vec<Mark>,
+    /// The positions of the ticks, ascending.
+    pub ticks: Vec<u64>,
+    /// The number of the first of these ticks: the system time from then on.
+    pub first_tick: u64,
+    /// The position at which the picture begins.
+    pub from: u64,
+    /// The position at which it ends.
+    pub to: u64,
+}
+
+/// The name of a kind.
+pub(crate) fn kind_name(kind: Kind) -> &'static str {
+    match kind {
+        Kind::Task => "task",
+        Kind::Handler => "handler",
+        Kind::Idle => "idle",
+        Kind::Stopped => "stopped",
+        Kind::Running => "running",
+        Kind::Ready => "ready",
+        Kind::Waiting => "waiting",
+        Kind::Suspended => "suspended",
+        Kind::WaitingSuspended => "waiting-suspended",
+        Kind::Dormant => "dormant",
+    }
+}
+
+/// The name of a kind of marks.
+pub(crate) fn mark_name(kind: MarkKind) -> &'static str {
+    match kind {
+        MarkKind::Call => "call",
+        MarkKind::Fault => "fault",
+        MarkKind::Interrupt => "interrupt",
+        MarkKind::Tick => "tick",
+    }
+}
+
+/// A label, or the name of a kind where it is empty.
+pub(crate) fn label_or<'a>(label: &'a [u8], name: &'a str) -> &'a [u8] {
+    if label.is_empty() {
+        return name.as_bytes();
+    }
+    label
+}

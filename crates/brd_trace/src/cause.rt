@@ -1,0 +1,203 @@
+//! Why an instruction raised an exception, in words.
+
+use crate::effect::put_instruction;
+use crate::names::Names;
+use crate::text::{put, put_number, put_word};
+use brd_base::NoMemory;
+use brd_board::{Board, Fault};
+use brd_exec::{Context, ExceptionCode};
+use brd_isa::{ImmediateOp, Insn, LinkedOp, Register, RegisterOp, decode};
+use std::alloc::Global;
+
+/// The word at an address, where RAM has its four bytes.
+pub(crate) fn word_at(board: &Board, address: u32) -> Option<u32> {
+    let first = board.memory(address)?;
+    let second = board.memory(address.wrapping_add(1))?;
+    let third = board.memory(address.wrapping_add(2))?;
+    let last = board.memory(address.wrapping_add(3))?;
+    Some(u32::from_be_bytes([first, second, third, last]))
+}
+
+/// A load or a store.
+#[derive(Clone, Copy)]
+struct Access {
+    /// Whether it is a store.
+    stores: bool,
+    /// Its address.
+    address: u32,
+}
+
+/// An instruction that raised an exception.
+#[derive(Clone, Copy)]
+pub(crate) struct Raised {
+    /// The context before it.
+    pub context: Context,
+    /// The word that was fetched, where RAM has one.
+    pub word: Option<u32>,
+    /// What the processor keeps of it.
+    pub fault: Fault,
+}
+
+impl Raised {
+    /// Puts at the end the exception's name and its cause.
+    pub(crate) fn put(&self, alloc: Global, names: Names, out: &mut Vec<u8>) -> Result<(), NoMemory> {
+        put(out, exception_name(self.fault.code))?;
+        put(out, ": ")?;
+        match self.fault.code {
+            ExceptionCode::AdEL | ExceptionCode::AdES => self.put_unaligned(names, out)?,
+            ExceptionCode::IBE => {
+                put(out, "fetch outside RAM at ")?;
+                put_word(out, self.context.pc())?;
+                self.put_return(names, out)?;
+            }
+            ExceptionCode::DBE => {
+                self.put_access(out)?;
+                put(out, ", outside RAM")?;
+            }
+            ExceptionCode::Bp => self.put_break(alloc, out)?,
+            ExceptionCode::RI => self.put_reserved(out)?,
+            ExceptionCode::Ov => self.put_overflow(out)?,
+            ExceptionCode::Tr => self.put_trap(out)?,
+        }
+        if !self.fault.bd {
+            return Ok(());
+        }
+        put(out, ", in the delay slot of ")?;
+        names.put_place(out, self.fault.epc)
+    }
+
+    /// The instruction, where the word stands for one.
+    fn instruction(&self) -> Option<Insn> {
+        decode(self.word?)
+    }
+
+    /// The load or the store that it is.
+    fn access(&self) -> Option<Access> {
+        match self.instruction()? {
+            Insn::Load(_, _, base, offset) | Insn::Linked(LinkedOp::Ll, _, base, offset) => {
+                Some(Access {
+                    stores: false,
+                    address: self.context.address(base, offset),
+                })
+            }
+            Insn::Store(_, _, base, offset) | Insn::Linked(LinkedOp::Sc, _, base, offset) => {
+                Some(Access {
+                    stores: true,
+                    address: self.context.address(base, offset),
+                })
+            }
+            _ => None,
+        }
+    }
+
+    /// Puts at the end what isn't aligned: a fetch, else a load or a store.
+    fn put_unaligned(&self, names: Names, out: &mut Vec<u8>) -> Result<(), NoMemory> {
+        let pc = self.context.pc();
+        if pc % 4 == 0 {
+            self.put_access(out)?;
+            return put(out, ", unaligned");
+        }
+        put(out, "fetch from ")?;
+        put_word(out, pc)?;
+        put(out, ", unaligned")?;
+        self.put_return(names, out)
+    }
+
+    /// Puts at the end what it loads from, or stores to.
+    fn put_access(&self, out: &mut Vec<u8>) -> Result<(), NoMemory> {
+        let Some(access) = self.access() else {
+            return put(out, "no load and no store");
+        };
+        put(out, if access.stores { "store to " } else { "load from " })?;
+        put_word(out, access.address)
+    }
+
+    /// Puts at the end where $ra leads, from where a wrong jump may have come.
+    fn put_return(&self, names: Names, out: &mut Vec<u8>) -> Result<(), NoMemory> {
+        put(out, ", $ra is ")?;
+        names.put_place(out, self.context.read(Register::low(31)))
+    }
+
+    /// Puts the code of a BREAK at the end.
+    fn put_break(&self, alloc: Global, out: &mut Vec<u8>) -> Result<(), NoMemory> {
+        put(out, "break ")?;
+        match self.instruction() {
+            Some(Insn::Break(code)) => put_number(alloc, out, u64::from(code.code())),
+            _ => Ok(()),
+        }
+    }
+
+    /// Puts at the end what is no instruction here.
+    fn put_reserved(&self, out: &mut Vec<u8>) -> Result<(), NoMemory> {
+        if self.instruction().is_some() {
+            put_instruction(out, self.context.pc(), self.word)?;
+            return put(out, " is a branch or a jump");
+        }
+        put_word(out, self.word.unwrap_or(0))?;
+        put(out, " is no instruction of MIPS32 Release 1")
+    }
+
+    /// Puts at the end the instruction, and which sum or difference is no signed word.
+    fn put_overflow(&self, out: &mut Vec<u8>) -> Result<(), NoMemory> {
+        put_instruction(out, self.context.pc(), self.word)?;
+        put(out, ", ")?;
+        match self.instruction() {
+            Some(Insn::ThreeRegisters(RegisterOp::Sub, _, rs, rt)) => {
+                self.put_words(out, self.context.read(rs), " - ", self.context.read(rt))?;
+            }
+            Some(Insn::ThreeRegisters(_, _, rs, rt)) => {
+                self.put_words(out, self.context.read(rs), " + ", self.context.read(rt))?;
+            }
+            Some(Insn::WithImmediate(ImmediateOp::Addi, _, rs, immediate)) => {
+                self.put_words(out, self.context.read(rs), " + ", sign_extended(immediate))?;
+            }
+            _ => (),
+        }
+        put(out, " is no signed word")
+    }
+
+    /// Puts at the end the trap, and which words it compared.
+    fn put_trap(&self, out: &mut Vec<u8>) -> Result<(), NoMemory> {
+        put_instruction(out, self.context.pc(), self.word)?;
+        put(out, ", of ")?;
+        match self.instruction() {
+            Some(Insn::Trap(_, rs, rt, _)) => {
+                self.put_words(out, self.context.read(rs), " and ", self.context.read(rt))?;
+            }
+            Some(Insn::TrapImmediate(_, rs, immediate)) => {
+                self.put_words(out, self.context.read(rs), " and ", sign_extended(immediate))?;
+            }
+            _ => (),
+        }
+        Ok(())
+    }
+
+    /// Puts two words at the end.
+    fn put_words(&self, out: &mut Vec<u8>, one: u32, between: &str, other: u32) -> Result<(), NoMemory> {
+        put_word(out, one)?;
+        put(out, between)?;
+        put_word(out, other)
+    }
+}
+
+/// An immediate with its sign extended.
+fn sign_extended(immediate: u16) -> u32 {
+    if immediate < 0x8000 {
+        return u32::from(immediate);
+    }
+    u32::from(immediate) + 0xffff_0000
+}
+
+/// The name of an exception (MD00090, the ExcCode field of the Cause register).
+pub(crate) fn exception_name(code: ExceptionCode) -> &'static str {
+    match code {
+        ExceptionCode::AdEL => "AdEL",
+        ExceptionCode::AdES => "AdES",
+        ExceptionCode::IBE => "IBE",
+        ExceptionCode::DBE => "DBE",
+        ExceptionCode::Bp => "Bp",
+        ExceptionCode::RI => "RI",
+        ExceptionCode::Ov => "Ov",
+        ExceptionCode::Tr => "Tr",
+    }
+}

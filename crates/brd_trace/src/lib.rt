@@ -1,0 +1,32 @@
+//! What happens on a board under a journal, in words: a line for each event that is more than an ordinary instruction,
+//! and a summary of what stands at the end.
+//!
+//! `specs/Playing.antt` says what it is to play a journal: no event is left out, and none comes in between.
+#![tactic(auto)]
+
+mod answer;
+mod cause;
+mod effect;
+mod line;
+mod names;
+mod playback;
+mod quiet;
+mod recording;
+mod refusals;
+mod service;
+mod summary;
+mod tasks;
+mod text;
+mod tracer;
+mod waits;
+
+pub use line::HEAD;
+pub use names::Names;
+pub use playback::{Moved, Playback};
+pub use tracer::{Options, Tracer};
+
+#[cfg(test)]
+mod tests {
+    #[test]
+    fn nothing() {}
+}

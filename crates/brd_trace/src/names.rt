@@ -1,0 +1,23 @@
+//! Names for addresses.
+
+use brd_base::NoMemory;
+use brd_listing::write_place;
+use brd_mem::Symbol;
+
+/// The symbols of an image, by which addresses are named.
+#[derive(Clone, Copy)]
+pub struct Names<'a> {
+    symbols: &'a [Symbol],
+}
+
+impl<'a> Names<'a> {
+    /// The names of these symbols.
+    pub fn new(symbols: &'a [Symbol]) -> Self {
+        Names { symbols }
+    }
+
+    /// Puts an address at the end, by the nearest symbol at or below it.
+    pub(crate) fn put_place(&self, out: &mut Vec<u8>, address: u32) -> Result<(), NoMemory> {
+        write_place(self.symbols, address, out)
+    }
+}

@@ -1,0 +1,82 @@
+//! A board that plays a journal, event by event.
+
+ghost use Rattle.std.specs.Prelude.{◌≡◌, ◌+◌, ◌≤◌, ◌<◌, if◌then◌else◌, length, slice_get, IfSome, None, Some};
+ghost use Rattle.brd_board.specs.Board.{BoardState as BoardOf, happens};
+ghost use Rattle.brd_journal.specs.Still.{does_no_more};
+ghost use Rattle.brd_trace.specs.Playing.{IsPlayed, AreStill};
+
+use brd_board::{Board, Event, Report};
+use brd_journal::{Journal, Run, does_no_more};
+
+/// A board that plays a journal, and how many events it has played.
+#[derive(Drop)]
+pub struct Playback {
+    /// The board.
+    pub board: Board,
+    /// How many events have happened to it.
+    pub at: u64,
+}
+
+/// An event that a board has done, with those of its run after it that did nothing.
+#[derive(Clone, Copy)]
+pub struct Moved {
+    /// The event.
+    pub event: Event,
+    /// What it reported.
+    pub report: Report,
+    /// How many events there were, with those after it.
+    pub count: u64,
+}
+
+impl Playback {
+    /// Does the next event of a journal, and those of its run after it that do nothing, up to a position. `None` at that
+    /// position.
+    pub fn advance(&mut self, journal: &Journal, to: u64) -> Option<Moved>
+        requires on { self.old.at ≤ to }
+        requires within { to ≤ length journal.now.events }
+        // It goes on by so many events as it says, at least one, and not past the position.
+        ensures goes { IfSome result (λ moved. (1 ≤ moved.count) × (self.new.at ≡ self.old.at + moved.count)) }
+        ensures to { self.new.at ≤ to }
+        ensures ends { result ≡ None → (self.new ≡ self.old) × (self.new.at ≡ to) }
+        // The event is the journal's at its position, and it reported what the answer says.
+        ensures event { IfSome result (λ moved. slice_get journal.now.events self.old.at ≡ Some moved.event) }
+        ensures report { IfSome result (λ moved. moved.report ≡ (happens self.old.board moved.event).report) }
+        // The board is that of the definition after so many events, and those after the first one did nothing.
+        ensures played { (boot : BoardOf) → IsPlayed boot journal.now.events self.old → IsPlayed boot journal.now.events self.new }
+        ensures still { (boot : BoardOf) → IsPlayed boot journal.now.events self.old
+            → AreStill boot journal.now.events (self.old.at + 1) self.new.at }
+    {
+        if self.at >= to {
+            return None;
+        }
+        let rest = journal.rest_at(self.at)?;
+        let report = self.board.event_apart(rest.event);
+        let far = reach(rest.event, report, self.at, to);
+        let count = (far - self.at).min(rest.count as u64);
+        let more = Run {
+            event: rest.event,
+            count: (count - 1) as u32,
+        };
+        more.play(&mut self.board);
+        self.at += count;
+        Some(Moved {
+            event: rest.event,
+            report,
+            count,
+        })
+    }
+}
+
+/// How far a board may go on with an event that has reported this: to the end where the same event does nothing, else
+/// by one.
+fn reach(event: Event, report: Report, at: u64, to: u64) -> u64
+    requires { at < to }
+    ensures between { (at + 1 ≤ result) × (result ≤ to) }
+    ensures is { result ≡ (if does_no_more event report then to else at + 1) }
+{
+    if does_no_more(event, report) {
+        to
+    } else {
+        at + 1
+    }
+}

@@ -1,0 +1,236 @@
+//! The timeline of a run.
+
+use crate::tasks::{Standings, TaskSeen};
+use crate::text::put_named;
+use crate::waits::put_wait;
+use brd_base::NoMemory;
+use brd_board::{Standing, TaskState, WaitReason};
+use brd_timeline::{Group, Kind, Lane, Mark, MarkKind, Slice, Timeline};
+use std::alloc::Global;
+
+/// What goes on in a lane.
+#[derive(Clone, Copy, PartialEq, Eq)]
+struct Doing {
+    /// What.
+    kind: Kind,
+    /// The number of the task or of the line that a processor executes.
+    number: u16,
+    /// What a task waits for.
+    waiting: Option<WaitReason>,
+}
+
+/// What goes on in a lane, and from which position on.
+#[derive(Clone, Copy)]
+struct Open {
+    /// What.
+    doing: Doing,
+    /// From where.
+    from: u64,
+}
+
+/// A timeline that is being made.
+#[derive(Drop)]
+pub(crate) struct Recording {
+    timeline: Timeline,
+    /// The processor of each of the first lanes.
+    processors: Vec<u8>,
+    /// What goes on in each lane.
+    open: Vec<Open>,
+}
+
+impl Recording {
+    /// The timeline of a run of so many processors and these tasks, from a position on.
+    pub(crate) fn new(
+        alloc: Global,
+        standings: &Standings,
+        tasks: &[TaskSeen],
+        from: u64,
+    ) -> Result<Recording, NoMemory> {
+        let mut recording = Recording {
+            timeline: Timeline {
+                lanes: Vec::new(alloc),
+                slices: Vec::new(alloc),
+                marks: Vec::new(alloc),
+                ticks: Vec::new(alloc),
+                first_tick: 0,
+                from,
+                to: from,
+            },
+            processors: Vec::new(alloc),
+            open: Vec::new(alloc),
+        };
+        for cpu in 1..9u8 {
+            if let Some(standing) = standings.at(cpu) {
+                recording.processors.push(cpu)?;
+                let doing = of_processor(Some(standing));
+                recording.begin(alloc, "cpu", u64::from(cpu), Group::Processor, doing)?;
+            }
+        }
+        for task in tasks {
+            let doing = of_task(task, standings);
+            recording.begin(alloc, "task", u64::from(task.id), Group::Task, doing)?;
+        }
+        Ok(recording)
+    }
+
+    /// Adds a lane.
+    fn begin(
+        &mut self,
+        alloc: Global,
+        name: &str,
+        number: u64,
+        group: Group,
+        doing: Doing,
+    ) -> Result<(), NoMemory> {
+        let mut label = Vec::new(alloc);
+        put_named(alloc, &mut label, name, number)?;
+        self.timeline.lanes.push(Lane { name: label, group })?;
+        let from = self.timeline.from;
+        self.open.push(Open { doing, from })?;
+        Ok(())
+    }
+
+    /// What goes on at a position, from which on it does.
+    pub(crate) fn see(
+        &mut self,
+        alloc: Global,
+        standings: &Standings,
+        tasks: &[TaskSeen],
+        at: u64,
+    ) -> Result<(), NoMemory> {
+        for i in 0..self.processors.len() {
+            let doing = of_processor(standings.at(self.processors[i]));
+            self.turn(alloc, i, doing, at)?;
+        }
+        let first = self.processors.len();
+        for i in 0..tasks.len() {
+            let doing = of_task(&tasks[i], standings);
+            self.turn(alloc, first.saturating_add(i), doing, at)?;
+        }
+        Ok(())
+    }
+
+    /// What goes on in a lane from a position on.
+    fn turn(&mut self, alloc: Global, lane: usize, doing: Doing, at: u64) -> Result<(), NoMemory> {
+        if lane >= self.open.len() || self.open[lane].doing == doing {
+            return Ok(());
+        }
+        self.close(alloc, lane, at)?;
+        if lane < self.open.len() {
+            self.open[lane] = Open { doing, from: at };
+        }
+        Ok(())
+    }
+
+    /// Ends what goes on in a lane.
+    fn close(&mut self, alloc: Global, lane: usize, to: u64) -> Result<(), NoMemory> {
+        if lane >= self.open.len() {
+            return Ok(());
+        }
+        let Open { doing, from } = self.open[lane];
+        if from >= to {
+            return Ok(());
+        }
+        self.timeline.slices.push(Slice {
+            lane,
+            from,
+            to,
+            kind: doing.kind,
+            label: label_of(alloc, doing)?,
+        })?;
+        Ok(())
+    }
+
+    /// A mark in the lane of a processor.
+    pub(crate) fn mark(
+        &mut self,
+        alloc: Global,
+        cpu: u8,
+        at: u64,
+        kind: MarkKind,
+        label: &[u8],
+    ) -> Result<(), NoMemory> {
+        for lane in 0..self.processors.len() {
+            if self.processors[lane] == cpu {
+                self.timeline.marks.push(Mark {
+                    lane,
+                    at,
+                    kind,
+                    label: Vec::from_slice(alloc, label)?,
+                })?;
+                return Ok(());
+            }
+        }
+        Ok(())
+    }
+
+    /// A tick: its position, and its number.
+    pub(crate) fn tick(&mut self, at: u64, number: u64) -> Result<(), NoMemory> {
+        if self.timeline.ticks.is_empty() {
+            self.timeline.first_tick = number;
+        }
+        self.timeline.ticks.push(at)?;
+        Ok(())
+    }
+
+    /// The timeline up to a position.
+    pub(crate) fn end(mut self, alloc: Global, to: u64) -> Result<Timeline, NoMemory> {
+        for lane in 0..self.open.len() {
+            self.close(alloc, lane, to)?;
+        }
+        let Recording {
+            mut timeline,
+            processors: _,
+            open: _,
+        } = self;
+        timeline.to = to;
+        Ok(timeline)
+    }
+}
+
+/// What goes on in the lane of a processor.
+fn of_processor(standing: Option<Standing>) -> Doing {
+    let (kind, number) = match standing {
+        Some(Standing::Task(id)) => (Kind::Task, id),
+        Some(Standing::Handler(line)) => (Kind::Handler, u16::from(line)),
+        Some(Standing::Stopped) => (Kind::Stopped, 0),
+        _ => (Kind::Idle, 0),
+    };
+    Doing {
+        kind,
+        number,
+        waiting: None,
+    }
+}
+
+/// What goes on in the lane of a task.
+fn of_task(task: &TaskSeen, standings: &Standings) -> Doing {
+    let kind = match task.state {
+        TaskState::Dormant => Kind::Dormant,
+        TaskState::Ready if standings.runs(task.id) => Kind::Running,
+        TaskState::Ready => Kind::Ready,
+        TaskState::Waiting => Kind::Waiting,
+        TaskState::Suspended => Kind::Suspended,
+        TaskState::WaitingSuspended => Kind::WaitingSuspended,
+    };
+    Doing {
+        kind,
+        number: 0,
+        waiting: task.waiting,
+    }
+}
+
+/// The label of a slice; empty where its kind says enough.
+fn label_of(alloc: Global, doing: Doing) -> Result<Vec<u8>, NoMemory> {
+    let mut label = Vec::new(alloc);
+    if let Some(reason) = doing.waiting {
+        put_wait(alloc, &mut label, reason, None)?;
+        return Ok(label);
+    }
+    match doing.kind {
+        Kind::Task => put_named(alloc, &mut label, "task", u64::from(doing.number))?,
+        Kind::Handler => put_named(alloc, &mut label, "handler", u64::from(doing.number))?,
+        _ => (),
+    }
+    Ok(label)
+}

@@ -1,0 +1,65 @@
+//! Service calls that were answered with an error, by kind.
+
+use crate::answer::error_name;
+use crate::names::Names;
+use crate::service::{Asked, service_of};
+use crate::text::{put, put_count, put_named, put_number, put_signed};
+use brd_base::NoMemory;
+use std::alloc::Global;
+
+/// Calls of one number, or of numbers that no call has, with one answer.
+#[derive(Clone, Copy)]
+pub(crate) struct Refusals {
+    /// The first of them.
+    pub asked: Asked,
+    /// The answer.
+    pub code: u32,
+    /// How many there were.
+    pub count: u64,
+    /// The position of the first one's answer.
+    pub position: u64,
+    /// Where the first one was made.
+    pub place: u32,
+}
+
+impl Refusals {
+    /// Whether a call with this answer is of this kind.
+    fn has(&self, asked: Asked, code: u32) -> bool {
+        self.code == code
+            && (self.asked.number == asked.number
+                || (service_of(self.asked.number).is_none() && service_of(asked.number).is_none()))
+    }
+
+    /// Puts a line at the end: the call, its answer, how often it came, and where the first time.
+    pub(crate) fn put(&self, alloc: Global, names: Names, out: &mut Vec<u8>) -> Result<(), NoMemory> {
+        put(out, "refused: ")?;
+        self.asked.put(alloc, out)?;
+        put(out, " = ")?;
+        match error_name(self.code) {
+            Some(name) => put(out, name)?,
+            None => put_signed(alloc, out, self.code)?,
+        }
+        put(out, " at event ")?;
+        put_number(alloc, out, self.position)?;
+        put(out, ", at ")?;
+        names.put_place(out, self.place)?;
+        if self.count > 1 {
+            put(out, ", and ")?;
+            put_count(alloc, out, self.count - 1, "time")?;
+            put(out, " after it")?;
+        }
+        put(out, "\n")
+    }
+}
+
+/// Counts a call with its answer.
+pub(crate) fn note_refusal(refusals: &mut Vec<Refusals>, new: Refusals) -> Result<(), NoMemory> {
+    for i in 0..refusals.len() {
+        if refusals[i].has(new.asked, new.code) {
+            refusals[i].count = refusals[i].count.saturating_add(1);
+            return Ok(());
+        }
+    }
+    refusals.push(new)?;
+    Ok(())
+}

@@ -1,0 +1,8 @@
+//! Tests of instructions and addresses as text, and of timelines as pictures.
+//!
+//! A function answers the first row that isn't right, by its number from 0 on, and a test fails by `none_wrong`, which
+//! says it.
+#![tactic(auto)]
+
+#[cfg(test)]
+mod tests;

@@ -1,0 +1,4 @@
+//! Instructions and addresses as text.
+
+mod instructions;
+mod places;
