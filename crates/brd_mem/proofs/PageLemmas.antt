@@ -1,13 +1,12 @@
 -- Pages below a number, put into a base one after the other: up to there the bytes are the memory's, from there on the
 -- base's.
-use Rattle.std.proofs.Common.{◌≡◌, ℕ, zero, suc, ◌+◌, ◌-◌, ◌*◌, ◌/◌, ◌%◌, ◌≤◌, ◌<◌, ◌^◌, Bool, true, false, bytes_eq, List, [], ◌∷◌, ◌++◌, length, take, drop, refl, sym, ap, ◌∙◌, arith, Decides, if◌then◌else◌}
-use Rattle.std.specs.List.{AllByRecursion}
+use Rattle.std.proofs.Common.{◌≡◌, ℕ, zero, suc, ◌+◌, ◌-◌, ◌*◌, ◌≤◌, Bool, true, false, bytes_eq, List, [], ◌∷◌, ◌++◌, length, take, drop, refl, sym, ap, ◌∙◌, arith, if◌then◌else◌}
 use Rattle.std.proofs.Math.Seq.{take-add}
 use Rattle.std.proofs.lemmas.List.{take-append-drop, length-take-le, take_at, append_assoc, append-nil, take_all, drop_all, drop-drop, length-drop}
 use Rattle.std.proofs.lemmas.Slice.{drop-append-drop}
 use Rattle.std.proofs.lemmas.Slice.Eq.{bytes_eq-Decides}
-use Rattle.brd_mem.specs.Memory.{Memory, size_of, bytes_at, with_bytes}
-use Rattle.brd_mem.specs.Pages.{page_size, page_of, with_pages, differing_below, differing, LieWithin}
+use Rattle.brd_mem.specs.Memory.{Memory, size_of, with_bytes}
+use Rattle.brd_mem.specs.Pages.{page_size, page_of, with_pages, differing_below, LieWithin}
 use Rattle.brd_mem.specs.declared.pages.Page.{Page}
 
 -- the bytes of the one up to a place, and of the other from there on
@@ -24,7 +23,7 @@ page-alike at p xs ys alike =
     ∙ ap (λ rest. take (at + p) xs ++ rest) (drop-drop p at ys)
 
 -- a page that is put in its place
-page-put : (at p : ℕ) (xs ys : List ℕ) → at + p ≤ length xs
+pub page-put : (at p : ℕ) (xs ys : List ℕ) → at + p ≤ length xs
     → with_bytes (record { bytes = halves at xs ys }) at (take p (drop at xs)) ≡ record { bytes = halves (at + p) xs ys }
 page-put at p xs ys within =
     let low : at ≤ length xs = omega (arith, within) in
@@ -87,3 +86,17 @@ all-put n base memory sizes whole =
     ∙ ap (λ bytes. record { bytes = bytes ++ drop (n * page_size) base.bytes }) (take_all (n * page_size) memory.bytes (omega (arith, whole)))
     ∙ ap (λ rest. record { bytes = memory.bytes ++ rest }) (drop_all (n * page_size) base.bytes (omega (arith, whole, sizes)))
     ∙ ap (λ bytes. record { bytes = bytes }) (append-nil memory.bytes)
+
+-- a page that is put where it is already
+pub page-same : (at p : ℕ) (xs : List ℕ) → at + p ≤ length xs → with_bytes (record { bytes = xs }) at (take p (drop at xs)) ≡ record { bytes = xs }
+page-same at p xs within =
+    ap (λ bytes. with_bytes (record { bytes = bytes }) at (take p (drop at xs))) (sym (take-append-drop at xs))
+    ∙ page-put at p xs xs within
+    ∙ ap (λ bytes. record { bytes = bytes }) (take-append-drop (at + p) xs)
+
+-- all of the one, and nothing of the other
+pub halves-all : (at : ℕ) (xs ys : List ℕ) → length xs ≡ length ys → at ≡ length xs → halves at xs ys ≡ xs
+halves-all at xs ys sizes whole =
+    ap (λ front. front ++ drop at ys) (take_all at xs (omega (arith, whole)))
+    ∙ ap (λ rest. xs ++ rest) (drop_all at ys (omega (arith, whole, sizes)))
+    ∙ append-nil xs
