@@ -6,3 +6,4 @@ pub mod StepLemmas
 pub mod KeptLemmas
 pub mod ZeroLemmas
 pub mod SizeLemmas
+pub mod StoringLemmas
