@@ -8,6 +8,7 @@ pub mod Did
 pub mod Kept
 pub mod Went
 pub mod Lent
+pub mod Storing
 pub mod Effects
 pub use Rattle.brd_mem.specs.Memory
 pub use Rattle.brd_mem.specs.Access

@@ -1,6 +1,6 @@
 //! Laws of the definitions.
 
-ghost use Rattle.std.specs.Prelude.{◌≡◌, ℕ, ◌+◌, ◌-◌, ◌^◌, ◌<◌, ◌≤◌, List, Ok, Some, IsOkAnd, is_some};
+ghost use Rattle.std.specs.Prelude.{◌≡◌, ℕ, ◌+◌, ◌-◌, ◌^◌, ◌<◌, ◌≤◌, List, false, Ok, Some, IsOkAnd, is_some};
 ghost use Rattle.brd_isa.specs.declared.instruction.Insn.{Insn};
 ghost use Rattle.brd_isa.specs.Local.{is_local};
 ghost use Rattle.brd_word.specs.Words.{bytes_of_word, AreBytes};
@@ -14,6 +14,7 @@ ghost use Rattle.brd_exec.specs.Step.{meaning, ran};
 ghost use Rattle.brd_exec.specs.Went.{went};
 ghost use Rattle.brd_exec.specs.Lent.{lent};
 ghost use Rattle.brd_exec.specs.Kept.{KeepsUnlessDone};
+ghost use Rattle.brd_exec.specs.Storing.{may_store};
 ghost use Rattle.brd_exec.specs.Step.Effect.{Goes};
 ghost use Rattle.brd_exec.specs.Unaligned.{loaded_left, loaded_right, stored_left, stored_right, high_end, low_end};
 
@@ -85,4 +86,10 @@ pub fn ram_keeps_its_size()
 pub fn ram_keeps_its_order()
     ensures { (cpu : ℕ) (s : State) (memory : Memory) (links : LinkSet) →
         (ran cpu s memory links).memory.order ≡ memory.order }
+{}
+
+/// No instruction but a store changes memory.
+pub fn only_stores_change_memory()
+    ensures { (cpu : ℕ) (s : State) (memory : Memory) (links : LinkSet) →
+        may_store s memory ≡ false → (ran cpu s memory links).memory ≡ memory }
 {}

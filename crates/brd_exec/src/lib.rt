@@ -12,9 +12,11 @@ pub mod laws;
 mod local;
 mod memory;
 mod outcome;
+mod storing;
 mod value;
 
 pub use context::Context;
 pub use execute::run;
 pub use local::run_local;
 pub use outcome::{ExceptionCode, Outcome};
+pub use storing::may_store;

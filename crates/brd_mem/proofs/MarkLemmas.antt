@@ -169,7 +169,7 @@ zeros-alike xs ys at n fits also zero =
     ∙ sym (get_or-take n (drop at ys) k 0 inside))
 
 -- pages without a mark are alike
-clear-alike : (xs ys : List ℕ) (marks others : List Bool) (number : ℕ) → AreMarked xs marks → AreMarked ys others →
+pub clear-alike : (xs ys : List ℕ) (marks others : List Bool) (number : ℕ) → AreMarked xs marks → AreMarked ys others →
     number * page_size + page_size ≤ length xs → number * page_size + page_size ≤ length ys →
     get_or marks number true ≡ false → get_or others number true ≡ false →
     take page_size (drop (number * page_size) xs) ≡ take page_size (drop (number * page_size) ys)

@@ -24,7 +24,7 @@ page-alike at p xs ys alike =
     ∙ ap (λ rest. take (at + p) xs ++ rest) (drop-drop p at ys)
 
 -- a page that is put in its place
-page-put : (order : Order) (at p : ℕ) (xs ys : List ℕ) → at + p ≤ length xs
+pub page-put : (order : Order) (at p : ℕ) (xs ys : List ℕ) → at + p ≤ length xs
     → with_bytes (memory_of_bytes order (halves at xs ys)) at (take p (drop at xs)) ≡ memory_of_bytes order (halves (at + p) xs ys)
 page-put order at p xs ys within =
     let low : at ≤ length xs = omega (arith, within) in
@@ -88,3 +88,18 @@ all-put n base memory sizes orders whole =
     ∙ ap (λ rest. memory_of_bytes base.order (memory.bytes ++ rest)) (drop_all (n * page_size) base.bytes (omega (arith, whole, sizes)))
     ∙ ap (memory_of_bytes base.order) (append-nil memory.bytes)
     ∙ ap (λ order. memory_of_bytes order memory.bytes) (sym orders)
+
+-- a page that is put where it is already
+pub page-same : (order : Order) (at p : ℕ) (xs : List ℕ) → at + p ≤ length xs
+    → with_bytes (memory_of_bytes order xs) at (take p (drop at xs)) ≡ memory_of_bytes order xs
+page-same order at p xs within =
+    ap (λ bytes. with_bytes (memory_of_bytes order bytes) at (take p (drop at xs))) (sym (take-append-drop at xs))
+    ∙ page-put order at p xs xs within
+    ∙ ap (memory_of_bytes order) (take-append-drop (at + p) xs)
+
+-- all of the one, and nothing of the other
+pub halves-all : (at : ℕ) (xs ys : List ℕ) → length xs ≡ length ys → at ≡ length xs → halves at xs ys ≡ xs
+halves-all at xs ys sizes whole =
+    ap (λ front. front ++ drop at ys) (take_all at xs (omega (arith, whole)))
+    ∙ ap (λ rest. xs ++ rest) (drop_all at ys (omega (arith, whole, sizes)))
+    ∙ append-nil xs

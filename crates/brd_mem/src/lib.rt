@@ -11,6 +11,6 @@ mod words;
 
 pub use fault::{Exc, RamFault};
 pub use image::{Bytes, Image, Segment, Segments, Symbol, Symbols};
-pub use pages::{PAGE_SIZE, Page, Pages};
+pub use pages::{PAGE_SIZE, Page, Pages, SharedPage};
 pub use plain::is_plain;
 pub use ram::Ram;

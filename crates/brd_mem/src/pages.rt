@@ -1,6 +1,11 @@
 //! Pages of a RAM.
 
-use brd_base::List;
+ghost use Rattle.std.specs.Prelude.{◌≡◌, IfOk};
+
+use brd_base::{List, NoMemory};
+use std::alloc::Global;
+use std::marker::Model;
+use std::rc::Rc;
 
 /// How many bytes a page has (own choice).
 pub const PAGE_SIZE: usize = 4_096;
@@ -14,5 +19,48 @@ pub struct Page {
     pub bytes: [u8; PAGE_SIZE],
 }
 
+/// A page that several lists may have, and that lies in memory once. It can't be changed.
+#[derive(Drop)]
+pub struct SharedPage {
+    page: Rc<Page>,
+}
+
+impl Model for SharedPage {
+    ghost use Rattle.std.specs.Rc.{rc_value};
+    ghost use Rattle.brd_mem.specs.declared.pages.Page.{Page};
+
+    ghost Value = { Page };
+
+    ghost view = { λ shared. rc_value shared.page };
+}
+
+impl SharedPage {
+    /// A page that nobody else has yet.
+    pub fn new(alloc: Global, page: Page) -> Result<SharedPage, NoMemory>
+        ensures { IfOk result (λ shared. shared ≡ page) }
+    {
+        match Rc::new(alloc, page) {
+            Ok(page) => Ok(SharedPage { page }),
+            Err(_) => Err(NoMemory),
+        }
+    }
+
+    /// The same page once more. It takes no memory; a page can't be shared more often than there are numbers.
+    pub fn share(&self) -> Result<SharedPage, NoMemory>
+        ensures { IfOk result (λ shared. shared ≡ self.now) }
+    {
+        Ok(SharedPage {
+            page: self.page.clone()?,
+        })
+    }
+
+    /// The page.
+    pub fn page(&self) -> &Page
+        ensures { result.now ≡ self.now }
+    {
+        self.page.as_ref()
+    }
+}
+
 /// A list of pages.
-pub type Pages = List<Page>;
+pub type Pages = List<SharedPage>;

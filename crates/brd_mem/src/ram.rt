@@ -20,8 +20,10 @@ ghost use Rattle.brd_mem.specs.Window.{words_at, window_at};
 ghost use Rattle.brd_mem.specs.Pages.{page_size, page_of, with_pages, differing_at, differing, LieWithin};
 ghost use Rattle.brd_mem.specs.Marks.{AreMarked};
 
+mod saving;
+
 use crate::fault::{Exc, RamFault};
-use crate::pages::{PAGE_SIZE, Page, Pages};
+use crate::pages::{PAGE_SIZE, Pages};
 use brd_base::{BASE, NoMemory, copy_with_room, is_ram_size};
 use brd_word::{Order, bytes_of, half_bytes_of, half_of, word_of};
 use std::alloc::Global;
@@ -259,27 +261,7 @@ impl Ram {
         ensures within { IfOk result (LieWithin (size_of base.now)) }
         ensures back { IfOk result (λ pages. with_pages base.now pages ≡ self.now) }
     {
-        let mut pages = Pages::new(*self.bytes.allocator());
-        for number in 0..self.bytes.len() / PAGE_SIZE {
-            self.note_page(number, base, &mut pages)?;
-        }
-        Ok(pages)
-    }
-
-    /// Puts a page at the end of these, unless the base has the same bytes there.
-    fn note_page(&self, number: usize, base: &Ram, pages: &mut Pages) -> Result<(), NoMemory>
-        requires sizes { size_of self.now ≡ size_of base.now }
-        requires within { number * page_size + page_size ≤ size_of self.now }
-        requires few { number < 2 ^ 12 }
-        ensures { OnOk result (pages.new ≡ pages.old ++ differing_at number base.now self.now) }
-    {
-        if !self.has_alike(number, base) {
-            pages.push(Page {
-                number: number as u16,
-                bytes: self.bytes_at(number * PAGE_SIZE),
-            })?;
-        }
-        Ok(())
+        self.pages_after(base, &Pages::new(*self.bytes.allocator()))
     }
 
     /// Whether both have the same bytes in a page. Where neither has a mark, both have zeros.
@@ -302,9 +284,9 @@ impl Ram {
         requires within { LieWithin (size_of base.now) pages.now }
         ensures { self.new ≡ with_pages base.now pages.now }
     {
-        self.bytes.copy_from_slice(base.bytes.as_slice());
-        self.marks.copy_from_slice(base.marks.as_slice());
-        for page in pages.as_slice() {
+        self.copy_from(base);
+        for shared in pages.as_slice() {
+            let page = shared.page();
             self.put_in_page(page.number as usize * PAGE_SIZE, &page.bytes);
         }
     }
@@ -312,7 +294,8 @@ impl Ram {
     /// The bytes of a page.
     fn page(&self, number: usize) -> &[u8]
         requires { number * page_size + page_size ≤ size_of self.now }
-        ensures { result.now ≡ (page_of self.now number).bytes }
+        ensures is { result.now ≡ (page_of self.now number).bytes }
+        ensures long { length result.now ≡ page_size }
     {
         let bytes = self.bytes.as_slice();
         let at = number * PAGE_SIZE;

@@ -20,6 +20,8 @@ ghost use Rattle.brd_objects.specs.DataQueues.{
   data_queue_reordered,
 };
 
+mod saved;
+
 use crate::sent::{Received, Sent};
 use bitflags::Flags;
 use brd_base::{NoMemory, Same, copy_with_room};
@@ -27,6 +29,8 @@ use brd_config::{QueueAttributes, QueueConfig};
 use brd_queue::{Entry, Order, Queue};
 use std::alloc::{AllocError, Global};
 use std::marker::Model;
+
+pub use saved::SavedDataQueue;
 
 /// A data queue (uITRON 4.0 specification, "Data Queues"). Only `new` takes memory.
 #[derive(Drop)]

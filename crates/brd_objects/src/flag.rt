@@ -18,6 +18,8 @@ ghost use Rattle.brd_objects.specs.Flags.{
 };
 ghost use Rattle.brd_objects.specs.Waiters.{WantBits};
 
+mod saved;
+
 use crate::waiters::Waiters;
 use crate::want::Want;
 use bitflags::Flags;
@@ -25,6 +27,8 @@ use brd_base::{NoMemory, Same};
 use brd_config::{FlagAttributes, FlagConfig};
 use brd_queue::{Entry, Order};
 use std::alloc::Global;
+
+pub use saved::SavedFlag;
 
 /// An event flag (uITRON 4.0 specification, "Eventflags").
 #[derive(Clone, Drop)]

@@ -17,12 +17,16 @@ ghost use Rattle.brd_objects.specs.Flags.{
 };
 ghost use Rattle.brd_objects.specs.Waiters.{WantBits};
 
+mod saved;
+
 use crate::flag::Flag;
 use crate::want::Want;
 use brd_base::{NoMemory, same_slices};
 use brd_config::FlagConfig;
 use std::alloc::Global;
 use std::marker::Model;
+
+pub use saved::SavedFlags;
 
 /// The event flags of a board by their IDs. Only `new` takes memory.
 pub struct Flags {

@@ -16,9 +16,9 @@ mod want;
 
 pub use data_queue::DataQueue;
 pub use flag::Flag;
-pub use flags::Flags;
-pub use queues::Queues;
+pub use flags::{Flags, SavedFlags};
+pub use queues::{Queues, SavedQueues};
 pub use semaphore::Semaphore;
-pub use semaphores::Semaphores;
+pub use semaphores::{SavedSemaphores, Semaphores};
 pub use sent::{Received, Sent};
 pub use want::{Mode, Want};

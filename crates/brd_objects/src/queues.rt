@@ -19,12 +19,16 @@ ghost use Rattle.brd_objects.specs.DataQueues.{
   data_queue_reordered,
 };
 
+mod saved;
+
 use crate::data_queue::DataQueue;
 use crate::sent::{Received, Sent};
 use brd_base::{NoMemory, same_slices};
 use brd_config::QueueConfig;
 use std::alloc::Global;
 use std::marker::Model;
+
+pub use saved::SavedQueues;
 
 /// The data queues of a board by their IDs. Only `new` takes memory.
 pub struct Queues {

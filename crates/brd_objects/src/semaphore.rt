@@ -14,11 +14,15 @@ ghost use Rattle.brd_objects.specs.Semaphores.{
   semaphore_reordered,
 };
 
+mod saved;
+
 use bitflags::Flags;
 use brd_base::{NoMemory, Same};
 use brd_config::{SemaphoreAttributes, SemaphoreConfig};
 use brd_queue::{Entry, Order, Queue};
 use std::alloc::Global;
+
+pub use saved::SavedSemaphore;
 
 /// A semaphore (uITRON 4.0 specification, "Semaphores").
 #[derive(Clone, Drop)]

@@ -14,11 +14,15 @@ ghost use Rattle.brd_objects.specs.Semaphores.{
   has_one_in,
 };
 
+mod saved;
+
 use crate::semaphore::Semaphore;
 use brd_base::{NoMemory, same_slices};
 use brd_config::SemaphoreConfig;
 use std::alloc::Global;
 use std::marker::Model;
+
+pub use saved::SavedSemaphores;
 
 /// The semaphores of a board by their IDs. Only `new` takes memory.
 pub struct Semaphores {

@@ -5,12 +5,16 @@ ghost use Rattle.brd_queue.specs.declared.entry.Order.TheVariants.{Priority};
 ghost use Rattle.brd_queue.specs.Queue.{has, without, entered, placed, reordered, is_empty};
 ghost use Rattle.brd_objects.specs.Waiters.{first_satisfied, without_satisfied, WantBits};
 
+mod saved;
+
 use crate::want::Want;
 use brd_base::{NoMemory, Same, copy_with_room};
 use brd_lanes::first_match;
 use brd_queue::{Entry, MOST_TASKS, Order, Queue, insert_within};
 use std::alloc::{AllocError, Global};
 use std::marker::Model;
+
+pub use saved::SavedWaiters;
 
 /// The tasks that wait for a flag, in their order, each with what it wants. What they want stands once more in columns,
 /// which are scanned.

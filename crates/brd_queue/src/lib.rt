@@ -10,5 +10,5 @@ mod queue;
 mod room;
 
 pub use entry::{Entry, Order};
-pub use queue::Queue;
+pub use queue::{Queue, SavedQueue};
 pub use room::{MOST_TASKS, insert_within};

@@ -4,11 +4,15 @@ ghost use Rattle.std.specs.Prelude.{◌≡◌, ◌<◌, ◌≤◌, ℕ, [], fals
 ghost use Rattle.std.specs.Option.{option_map};
 ghost use Rattle.brd_queue.specs.Queue.{AreApart, has, priority_in, entered, behind_equals, without, moved_behind, rotated, with_priority, renumbered, reordered, placed, is_empty, first_of};
 
+mod saved;
+
 use crate::entry::{Entry, Order};
 use crate::room::{MOST_TASKS, insert_within};
 use brd_base::{NoMemory, Same, copy_with_room, same_slices};
 use std::alloc::{AllocError, Global};
 use std::marker::Model;
+
+pub use saved::SavedQueue;
 
 /// Tasks in the order in which they are served, none of them twice, each with what it wants. It has room for every task
 /// that there can be, so only `new` takes memory.

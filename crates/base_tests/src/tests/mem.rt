@@ -154,13 +154,14 @@ const PAGES: [(u16, usize, u8); 5] = [
 ];
 
 /// Whether a list has those pages, and no others.
-fn has_pages(pages: &[Page]) -> bool {
+fn has_pages(pages: &[SharedPage]) -> bool {
     if pages.len() != PAGES.len() {
         return false;
     }
     for i in 0..PAGES.len() {
         let (number, at, byte) = PAGES[i];
-        if pages[i].number != number || at >= PAGE_SIZE || pages[i].bytes[at] != byte {
+        let page = pages[i].page();
+        if page.number != number || at >= PAGE_SIZE || page.bytes[at] != byte {
             return false;
         }
     }
@@ -198,8 +199,9 @@ fn write_to_all(ram: &mut Ram) -> bool {
 }
 
 /// Whether a list has all pages of a RAM of 16 MiB, in their order, each with the byte that was written.
-fn are_all_pages(pages: &[Page]) -> bool {
-    for (number, page) in pages.iter().enumerate() {
+fn are_all_pages(pages: &[SharedPage]) -> bool {
+    for (number, shared) in pages.iter().enumerate() {
+        let page = shared.page();
         if page.number as usize != number || page.bytes[0] != 1 || page.bytes[1] != 0 {
             return false;
         }

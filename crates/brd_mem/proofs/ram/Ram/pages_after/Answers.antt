@@ -2,7 +2,7 @@ use Rattle.std.proofs.Common.{◌≡◌, length, subst, sym, ◌∙◌, ap, arit
 use Rattle.brd_mem.specs.Memory.{size_of}
 use Rattle.brd_mem.specs.Pages.{with_pages, LieWithin}
 use Rattle.brd_mem.proofs.PageLemmas.{below-within, all-put}
-use Rattle.brd_mem.proofs.ram.Ram.pages.Goals as goal
+use Rattle.brd_mem.proofs.ram.Ram.pages_after.Goals as goal
 
 pub returns-clause-within : goal.returns-clause-within
 returns-clause-within c =
