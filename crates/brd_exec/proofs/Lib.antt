@@ -6,5 +6,4 @@ pub mod StepLemmas
 pub mod KeptLemmas
 pub mod ZeroLemmas
 pub mod FormLemmas
-pub mod SizeLemmas
 pub mod StoringLemmas
