@@ -6,11 +6,13 @@ use Rattle.std.specs.List.{range_with_len}
 use Rattle.std.proofs.lemmas.Bool.{false≢true}
 use Rattle.std.proofs.lemmas.List.{map-set}
 use Rattle.std.proofs.Math.ListN.{get_or-map}
+use Rattle.brd_tasks.specs.Tasks.{are_there}
+use Rattle.brd_tasks.proofs.ThereLemmas.{there-is}
 use Rattle.brd_kernel.specs.declared.processor.Processor.{Processor}
 use Rattle.brd_kernel.specs.declared.processor.Executor.{Executor}
 use Rattle.brd_kernel.specs.declared.processor.Executor.TheVariants as executor
-use Rattle.brd_kernel.specs.Kernel.{idle, running_in, executor_by, executor_in}
-use Rattle.brd_kernel.specs.Always.{IsIdOrNone, HasContext, task_of, task_executing}
+use Rattle.brd_kernel.specs.Kernel.{KernelState, idle, running_in, executor_by, executor_in}
+use Rattle.brd_kernel.specs.Always.{is_task_or_none, HasContext, task_of, task_executing}
 use Rattle.brd_kernel.specs.Making.{idle_one, idle_ones}
 
 -- none executes on a processor that is idle
@@ -50,16 +52,19 @@ executor-is es ps cpu id are is = task-is (executor_in (slice_index_or ps cpu No
 
 -- who executes has a context
 
-by-has : (cpu : ℕ) (running handling : Option ℕ) → cpu < 9 → IsIdOrNone running → IfSome (executor_by running handling) (HasContext cpu)
-by-has cpu None None within small = tt
-by-has cpu (Some id) None within small = small
-by-has cpu None (Some line) within small = within
-by-has cpu (Some id) (Some line) within small = within
+by-has : (k : KernelState) (cpu : ℕ) (running handling : Option ℕ) → cpu < 9 → is_task_or_none (are_there k.tasks) running ≡ true →
+    IfSome (executor_by running handling) (HasContext k cpu)
+by-has k cpu None None within known = tt
+by-has k cpu (Some id) None within known = sym (there-is k.tasks id) ∙ known
+by-has k cpu None (Some line) within known = within
+by-has k cpu (Some id) (Some line) within known = within
 
-unless-has : (stopped : Bool) (cpu : ℕ) (who : Option Executor) → IfSome who (HasContext cpu) → IfSome (if stopped then None else who) (HasContext cpu)
-unless-has true cpu who has = tt
-unless-has false cpu who has = has
+unless-has : (stopped : Bool) (k : KernelState) (cpu : ℕ) (who : Option Executor) → IfSome who (HasContext k cpu) →
+    IfSome (if stopped then None else who) (HasContext k cpu)
+unless-has true k cpu who has = tt
+unless-has false k cpu who has = has
 
-pub executor-has : (cpu : ℕ) (p : Option Processor) → cpu < 9 → IsIdOrNone (running_in p) → IfSome (executor_in p) (HasContext cpu)
-executor-has cpu None within small = tt
-executor-has cpu (Some p) within small = unless-has p.stopped cpu (executor_by p.running p.handling) (by-has cpu p.running p.handling within small)
+pub executor-has : (k : KernelState) (cpu : ℕ) (p : Option Processor) → cpu < 9 → is_task_or_none (are_there k.tasks) (running_in p) ≡ true →
+    IfSome (executor_in p) (HasContext k cpu)
+executor-has k cpu None within known = tt
+executor-has k cpu (Some p) within known = unless-has p.stopped k cpu (executor_by p.running p.handling) (by-has k cpu p.running p.handling within known)

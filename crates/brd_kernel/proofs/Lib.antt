@@ -1,6 +1,7 @@
 pub mod BitLemmas
 pub mod LineLemmas
 pub mod DispatchLemmas
+pub mod ThereLemmas
 pub mod ExecutorLemmas
 pub mod MakingLemmas
 pub mod WaitLemmas

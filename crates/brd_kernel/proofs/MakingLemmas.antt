@@ -1,11 +1,9 @@
 -- The kernel as it is made.
-use Rattle.std.proofs.Common.{◌≡◌, ◌<◌, ◌≤◌, ℕ, zero, suc, ◌+◌, List, [], ◌∷◌, ◌++◌, map, refl, sym, ap, subst, ◌∙◌, length, arith}
-use Rattle.std.specs.Prelude.{Bool, true, false, ◌&&◌, nat_lt, nat_le, if◌then◌else◌, slice_index_or, replicate, Option, None, Some}
+use Rattle.std.proofs.Common.{◌≡◌, ◌≤◌, ℕ, zero, suc, ◌+◌, List, [], ◌∷◌, ◌++◌, map, refl, sym, ap, subst, ◌∙◌, length, arith}
+use Rattle.std.specs.Prelude.{Bool, true, false, ◌&&◌, nat_le, if◌then◌else◌, slice_index_or, replicate, Option, None, Some}
 use Rattle.std.specs.List.{range_with_len}
-use Rattle.std.proofs.lemmas.Bool.Decides.{nat_tests}
-use Rattle.std.proofs.Math.ListN.{get_or-eq_default}
 use Rattle.brd_exec.specs.State.{State}
-use Rattle.brd_tasks.specs.Tasks.{TaskTable, no_context}
+use Rattle.brd_tasks.specs.Tasks.{TaskTable, no_context, are_there}
 use Rattle.brd_time.specs.Time.{Time}
 use Rattle.brd_objects.specs.Table.{Table}
 use Rattle.brd_objects.specs.declared.semaphore.Semaphore.{Semaphore}
@@ -16,7 +14,8 @@ use Rattle.brd_kernel.specs.declared.processor.Line.{Line}
 use Rattle.brd_kernel.specs.declared.processor.LineSetup.{LineSetup}
 use Rattle.brd_kernel.specs.Kernel.{idle, running_in}
 use Rattle.brd_kernel.specs.Services.{console_size}
-use Rattle.brd_kernel.specs.Always.{IsIdOrNone, IsKernel, AreQuiet}
+use Rattle.brd_kernel.specs.Always.{is_task_or_none, run_tasks, IsKernel, AreQuiet}
+use Rattle.brd_kernel.proofs.ThereLemmas.{both}
 use Rattle.std.proofs.lemmas.List.FromFn.{map-range_with_len_more, length-map-range_with_len, get_or-map-range_with_len}
 use Rattle.std.specs.Prelude.{false}
 use Rattle.std.proofs.lemmas.List.Elements.{All-nil, All-cons}
@@ -40,18 +39,18 @@ ones-length : (processors n : ℕ) → length (idle_ones processors n) ≡ n
 unfolding idle_ones
 ones-length processors n = length-map-range_with_len (idle_one processors) 0 n
 
-idle-at : (there : Bool) → IsIdOrNone (running_in (if there then Some idle else None))
-idle-at true = tt
-idle-at false = tt
+idle-runs : (there : List Bool) (one : Bool) → is_task_or_none there (running_in (if one then Some idle else None)) ≡ true
+idle-runs there true = refl
+idle-runs there false = refl
 
-none-at : (small : Bool) (processors n cpu : ℕ) → nat_lt cpu n ≡ small → IsIdOrNone (running_in (slice_index_or (idle_ones processors n) cpu None))
+idle-run : (there : List Bool) (processors from n : ℕ) → run_tasks there (map (idle_one processors) (range_with_len from n)) ≡ true
+idle-run there processors from zero = refl
+idle-run there processors from (suc n) =
+    both _ _ (idle-runs there (nat_le 1 from && nat_le from processors)) (idle-run there processors (from + 1) n)
+
+idle-ones-run : (there : List Bool) (processors n : ℕ) → run_tasks there (idle_ones processors n) ≡ true
 unfolding idle_ones
-none-at true processors n cpu test =
-    let small : cpu < n = grind (arith, nat_tests, test) in
-    subst (λ p. IsIdOrNone (running_in p)) (sym (get_or-map-range_with_len (idle_one processors) 0 n cpu cpu None small (omega arith))) (idle-at (nat_le 1 cpu && nat_le cpu processors))
-none-at false processors n cpu test =
-    let past : length (idle_ones processors n) ≤ cpu = grind (arith, nat_tests, test, ones-length processors n) in
-    subst (λ p. IsIdOrNone (running_in p)) (sym (get_or-eq_default (idle_ones processors n) None past)) tt
+idle-ones-run there processors n = idle-run there processors 0 n
 
 none-at-0 : (processors : ℕ) → slice_index_or (idle_ones processors 9) 0 None ≡ None
 unfolding idle_ones
@@ -67,7 +66,7 @@ made-kernel time tasks semaphores flags queues processors setups ps contexts lin
   lines = ap length lines_are ∙ lines-length setups 32;
   console = subst (λ c. length c ≤ console_size) (sym console_is) (omega arith);
   nobody = subst (λ l. slice_index_or l 0 None ≡ None) (sym ps_are) (none-at-0 processors);
-  running = λ cpu. subst (λ l. IsIdOrNone (running_in (slice_index_or l cpu None))) (sym ps_are) (none-at (nat_lt cpu 9) processors 9 cpu refl);
+  running = subst (λ l. run_tasks (are_there tasks) l ≡ true) (sym ps_are) (idle-ones-run (are_there tasks) processors 9);
 }
 
 quiet-from : (setups : List LineSetup) (from n : ℕ) → AreQuiet (map (made_line setups) (range_with_len from n))

@@ -2,7 +2,7 @@
 
 ghost use Rattle.std.specs.Prelude.{◌≡◌, Decides, ◌<◌, ◌≤◌, ◌+◌, ◌==◌, ◌&&◌, ℕ, if◌then◌else◌, All, IfOk, IfSome, is_some, nat_lt, option_copied, option_map, true};
 ghost use Rattle.brd_tasks.specs.Ready.{IsProcessor, IsSetup};
-ghost use Rattle.brd_tasks.specs.Tasks.{activated};
+ghost use Rattle.brd_tasks.specs.Tasks.{activated, are_there};
 ghost use Rattle.brd_tasks.specs.declared.task.Request.TheVariants.{Assigned};
 ghost use Rattle.brd_kernel.specs.Making.{made_kernel};
 ghost use Rattle.brd_kernel.specs.Kernel.{
@@ -22,7 +22,7 @@ ghost use Rattle.brd_kernel.specs.Kernel.{
 ghost use Rattle.brd_time.specs.Time.{last_count};
 ghost use Rattle.brd_kernel.specs.Waits.{ended_by_fault, ticked, seen_at};
 ghost use Rattle.brd_kernel.specs.Services.{unmarked_on};
-ghost use Rattle.brd_kernel.specs.Always.{IsIdOrNone, HasContext, HasPlace};
+ghost use Rattle.brd_kernel.specs.Always.{IsIdOrNone, is_task_or_none, HasContext, HasPlace};
 ghost use Rattle.brd_kernel.specs.Dispatch.{dispatched, dispatched_on, is_same_task, has_changed};
 ghost use Rattle.std.specs.Int.{bit_at};
 ghost use Rattle.std.specs.Borrow.{sem};
@@ -229,8 +229,10 @@ impl Kernel {
     pub fn processor(&self, cpu: u8) -> Option<Processor>
         ensures is { result ≡ processor_at self.now cpu }
         ensures small { IfSome result (λ p. IsIdOrNone p.running) }
+        ensures known { IfSome result (λ p. is_task_or_none (are_there self.now.tasks) p.running ≡ true) }
         ensures within { IfSome result (λ _. IsProcessor cpu) }
     {
+        self.tasks.are_consistent();
         if (cpu as usize) < self.processors.len() {
             return self.processors[cpu as usize];
         }
@@ -298,7 +300,7 @@ impl Kernel {
     /// Who executes on a processor, if somebody does.
     pub fn executor(&self, cpu: u8) -> Option<Executor>
         ensures is { result ≡ executor_on self.now cpu }
-        ensures there { IfSome result (HasContext cpu) }
+        ensures there { IfSome result (HasContext self.now cpu) }
         ensures place { IfSome result (HasPlace self.now cpu) }
         ensures within { IfSome result (λ _. IsProcessor cpu) }
     {
@@ -316,15 +318,16 @@ impl Kernel {
     pub fn context(&self, cpu: u8) -> Option<&Context>
         ensures { option_copied result ≡ context_on self.now cpu }
     {
+        self.tasks.are_consistent();
         match self.executor(cpu)? {
             Executor::Handler => Some(&self.handler_contexts[cpu as usize]),
             Executor::Task(id) => Some(self.tasks.context(id)),
         }
     }
 
-    /// The context of who executes on a processor, to be changed where it lies.
+    /// The context of who executes on a processor, of a task that is there, to be changed where it lies.
     pub fn context_mut(&mut self, cpu: u8, who: Executor) -> &mut Context
-        requires { HasContext cpu who }
+        requires { HasContext self.old cpu who }
         ensures* writes_back { sem 𝓛 (LendsContext self.entry cpu who result) }
         ensures value { result.now ≡ context_of self.old cpu who }
     {
@@ -378,13 +381,13 @@ impl Kernel {
         let Some(id) = processor.running else { return };
         self.tasks.clear_activation(id);
         self.end(id);
-        self.put_processor(cpu, processor.unmarked());
+        self.unmark(cpu);
     }
 
     /// Writes a processor anew.
     fn put_processor(&mut self, cpu: u8, processor: Processor)
         requires there { IsProcessor cpu }
-        requires small { IsIdOrNone processor.running }
+        requires known { is_task_or_none (are_there self.old.tasks) processor.running ≡ true }
         ensures { self.new ≡ with_processor self.old cpu processor }
     {
         self.processors[cpu as usize] = Some(processor);

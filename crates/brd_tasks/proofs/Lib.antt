@@ -1,4 +1,5 @@
 pub mod Consistency
+pub mod ThereLemmas
 pub mod MadeLemmas
 pub mod MarkLemmas
 pub mod ReadyLemmas

@@ -1,6 +1,6 @@
 -- The tasks, and what each of the kernel's operations makes of them.
 use Rattle.std.specs.Prelude.{ℕ, Bool, false, not, ◌&&◌, if◌then◌else◌, List, [], map, replicate, find, ◌==◌}
-use Rattle.std.specs.Prelude.{slice_index_or, slice_set, Option, None, Some, unwrap_or}
+use Rattle.std.specs.Prelude.{slice_index_or, slice_set, Option, None, Some, is_some, unwrap_or}
 use Rattle.std.specs.List.{range_with_len}
 use Rattle.std.specs.Option.{option_map}
 use Rattle.brd_exec.specs.State.{State, opening, write}
@@ -23,6 +23,10 @@ pub record TaskTable : Type 0 where
 -- the task of an ID, where there is one
 abbrev pub task_at : TaskTable → ℕ → Option Task
 task_at t id = slice_index_or t.rows id None
+
+-- of each ID, whether there is a task: no operation changes that
+abbrev pub are_there : TaskTable → List Bool
+are_there t = map is_some t.rows
 
 -- any context: of IDs that are no task's
 unfoldable pub no_context : State
@@ -114,7 +118,7 @@ abbrev pub with_context : TaskTable → ℕ → State → TaskTable
 with_context t id context = record t { contexts = slice_set t.contexts id context }
 
 -- What the operations make of a table. Nothing happens where there is no task of the ID, nor by a transition that
--- doesn't apply to the task's state; `with_context` and `turned` ask for no task.
+-- doesn't apply to the task's state. `turned` names no task; `with_context` is asked for only of one that is there.
 
 -- what is made of the task of a row, if there is one
 abbrev pub where_there : TaskTable → Option Task → (Task → TaskTable) → TaskTable

@@ -21,6 +21,7 @@ ghost use Rattle.brd_tasks.specs.Tasks.{
   with_wakeup,
   without_activation,
   turned,
+  are_there,
   top_of,
   view_of,
 };
@@ -139,6 +140,7 @@ impl Tasks {
     pub fn top(&self, cpu: u8) -> Option<TaskId>
         ensures is { result ≡ top_of self.now cpu }
         ensures small { IfSome result (λ id. id < 256) }
+        ensures there { IfSome result (λ id. IsSome (task_at self.now id)) }
     {
         let ready = &self.ready;
         if cpu > 8 {
@@ -151,7 +153,8 @@ impl Tasks {
     /// before.
     pub fn activate(&mut self, id: TaskId, request: Request)
         requires { IsRequest request }
-        ensures { self.new ≡ activated self.old id request }
+        ensures is { self.new ≡ activated self.old id request }
+        ensures there { are_there self.new ≡ are_there self.old }
     {
         let Some(task) = self.task(id) else { return };
         if task.status.is_dormant() {
@@ -170,7 +173,8 @@ impl Tasks {
     /// Ends a task. It starts again where a request was queued, else it is dormant, and keeps its context, priority and
     /// processor.
     pub fn end(&mut self, id: TaskId)
-        ensures { self.new ≡ ended self.old id }
+        ensures is { self.new ≡ ended self.old id }
+        ensures there { are_there self.new ≡ are_there self.old }
     {
         let Some(task) = self.task(id) else { return };
         let Some(request) = task.activation else {
@@ -189,7 +193,8 @@ impl Tasks {
 
     /// A ready task begins to wait.
     pub fn block(&mut self, id: TaskId, reason: WaitReason)
-        ensures { self.new ≡ through (blocked reason) self.old id }
+        ensures is { self.new ≡ through (blocked reason) self.old id }
+        ensures there { are_there self.new ≡ are_there self.old }
     {
         let Some(task) = self.task(id) else { return };
         let Some(status) = task.status.blocked(reason) else {
@@ -201,7 +206,8 @@ impl Tasks {
     /// Ends the wait of a task, and answers its service call: $v0 takes the answer, $v1 the second result, if there is
     /// one.
     pub fn release(&mut self, id: TaskId, code: u32, second: Option<u32>)
-        ensures { self.new ≡ released_with self.old id code second }
+        ensures is { self.new ≡ released_with self.old id code second }
+        ensures there { are_there self.new ≡ are_there self.old }
     {
         let Some(task) = self.task(id) else { return };
         let Some(status) = task.status.released() else {
@@ -213,7 +219,8 @@ impl Tasks {
 
     /// Suspends a ready or waiting task.
     pub fn suspend(&mut self, id: TaskId)
-        ensures { self.new ≡ through suspended self.old id }
+        ensures is { self.new ≡ through suspended self.old id }
+        ensures there { are_there self.new ≡ are_there self.old }
     {
         let Some(task) = self.task(id) else { return };
         let Some(status) = task.status.suspended() else {
@@ -224,7 +231,8 @@ impl Tasks {
 
     /// Resumes a suspended task.
     pub fn resume(&mut self, id: TaskId)
-        ensures { self.new ≡ through resumed self.old id }
+        ensures is { self.new ≡ through resumed self.old id }
+        ensures there { are_there self.new ≡ are_there self.old }
     {
         let Some(task) = self.task(id) else { return };
         let Some(status) = task.status.resumed() else {
@@ -236,7 +244,8 @@ impl Tasks {
     /// Gives a task another priority. One that is ready comes behind its equals, also where it has that priority
     /// already.
     pub fn set_priority(&mut self, id: TaskId, priority: u8)
-        ensures { self.new ≡ changed (with_priority priority) self.old id }
+        ensures is { self.new ≡ changed (with_priority priority) self.old id }
+        ensures there { are_there self.new ≡ are_there self.old }
     {
         let Some(task) = self.task(id) else { return };
         self.place(id, Task { priority, ..task });
@@ -245,7 +254,8 @@ impl Tasks {
     /// Assigns a task to another processor. One that is ready comes behind its equals there.
     pub fn migrate(&mut self, id: TaskId, cpu: u8)
         requires { IsProcessor cpu }
-        ensures { self.new ≡ changed (on_processor cpu) self.old id }
+        ensures is { self.new ≡ changed (on_processor cpu) self.old id }
+        ensures there { are_there self.new ≡ are_there self.old }
     {
         let Some(task) = self.task(id) else { return };
         self.place(id, Task { cpu, ..task });
@@ -253,7 +263,8 @@ impl Tasks {
 
     /// Queues a wake-up of a task, or takes it back. A dormant task has none.
     pub fn set_wakeup(&mut self, id: TaskId, queued: bool)
-        ensures { self.new ≡ noted (with_wakeup queued) self.old id }
+        ensures is { self.new ≡ noted (with_wakeup queued) self.old id }
+        ensures there { are_there self.new ≡ are_there self.old }
     {
         let Some(task) = self.task(id) else { return };
         let wakeup = queued && !task.status.is_dormant();
@@ -262,7 +273,8 @@ impl Tasks {
 
     /// Takes the queued request of a task back.
     pub fn clear_activation(&mut self, id: TaskId)
-        ensures { self.new ≡ noted without_activation self.old id }
+        ensures is { self.new ≡ noted without_activation self.old id }
+        ensures there { are_there self.new ≡ are_there self.old }
     {
         let Some(task) = self.task(id) else { return };
         self.patch(
@@ -282,9 +294,9 @@ impl Tasks {
         self.ready.rotate(cpu, priority);
     }
 
-    /// Gives a task another context.
+    /// Gives a task that is there another context.
     pub fn put_context(&mut self, id: TaskId, context: Context)
-        requires { id < 256 }
+        requires there { IsSome (task_at self.old id) }
         ensures { self.new ≡ with_context self.old id context }
     {
         self.contexts[id as usize] = context;
@@ -298,9 +310,9 @@ impl Tasks {
         &self.contexts[id as usize]
     }
 
-    /// The context of a task, to be changed where it lies.
+    /// The context of a task that is there, to be changed where it lies.
     pub fn context_mut(&mut self, id: TaskId) -> &mut Context
-        requires { id < 256 }
+        requires there { IsSome (task_at self.old id) }
         ensures* writes_back { sem 𝓛 (LendsContext self.entry id result) }
         ensures value { result.now ≡ context_at self.old id }
     {
@@ -311,17 +323,20 @@ impl Tasks {
     fn start(&mut self, id: TaskId, cpu: u8, task: Task)
         requires known { IsSome (task_at self.old id) }
         requires processor { IsProcessor cpu }
-        ensures { self.new ≡ starts self.old id cpu task }
+        ensures is { self.new ≡ starts self.old id cpu task }
+        ensures there { are_there self.new ≡ are_there self.old }
     {
         self.place(id, task.started(cpu));
         self.contexts[id as usize] = task.setup.opening();
     }
 
     /// Writes a task, and puts it behind its equals where it is ready.
+    #[tactic(auto, using(crate::proofs::ThereLemmas::there_set))]
     fn place(&mut self, id: TaskId, task: Task)
         requires known { IsSome (task_at self.old id) }
         requires well { IsTask task }
-        ensures { self.new ≡ placed self.old id task }
+        ensures is { self.new ≡ placed self.old id task }
+        ensures there { are_there self.new ≡ are_there self.old }
     {
         let old = self.task(id);
         self.ready.leave(id, old);
@@ -330,11 +345,13 @@ impl Tasks {
     }
 
     /// Writes a task that stays where it is.
+    #[tactic(auto, using(crate::proofs::ThereLemmas::there_set))]
     fn patch(&mut self, id: TaskId, task: Task)
         requires known { IsSome (task_at self.old id) }
         requires same { IfSome (task_at self.old id) (λ old. (task.status ≡ old.status) × (task.cpu ≡ old.cpu) × (task.priority ≡ old.priority)) }
         requires well { IsTask task }
-        ensures { self.new ≡ patched self.old id task }
+        ensures is { self.new ≡ patched self.old id task }
+        ensures there { are_there self.new ≡ are_there self.old }
     {
         self.rows[id as usize] = Some(task);
     }

@@ -5,7 +5,8 @@ ghost use Rattle.brd_tasks.specs.Ready.{IsProcessor};
 ghost use Rattle.brd_kernel.specs.declared.call.Ercd.TheVariants.{Par, Noexs};
 ghost use Rattle.brd_kernel.specs.Row.{Serves, served, or_fault};
 ghost use Rattle.brd_kernel.specs.Kernel.{processor_at};
-ghost use Rattle.brd_kernel.specs.Always.{IsIdOrNone};
+ghost use Rattle.brd_tasks.specs.Tasks.{are_there};
+ghost use Rattle.brd_kernel.specs.Always.{is_task_or_none};
 ghost use Rattle.brd_kernel.specs.Services as table;
 ghost use Rattle.brd_kernel.specs.Services.{is_no_processor, priority_or_callers};
 
@@ -112,7 +113,7 @@ impl Kernel {
     /// The processor from which a call comes.
     fn own_processor(&self, cpu: u8) -> Result<Processor, Ercd>
         ensures is { result ≡ or_fault Noexs (processor_at self.now cpu) }
-        ensures small { IfOk result (λ p. IsIdOrNone p.running) }
+        ensures known { IfOk result (λ p. is_task_or_none (are_there self.now.tasks) p.running ≡ true) }
         ensures within { IfOk result (λ _. IsProcessor cpu) }
     {
         match self.processor(cpu) {

@@ -1,20 +1,31 @@
-use Rattle.std.proofs.Common.{◌≡◌, ◌<◌, length, subst, ap, arith}
-use Rattle.std.specs.Prelude.{None, Option, IfSome, slice_index_or}
+use Rattle.std.proofs.Common.{◌≡◌, ◌<◌, length, sym, subst, ap, arith}
+use Rattle.std.specs.Prelude.{Option, Some, true, IfSome}
+use Rattle.brd_tasks.specs.Tasks.{are_there}
+use Rattle.brd_tasks.proofs.ThereLemmas.{there-small}
 use Rattle.brd_kernel.specs.declared.processor.Executor.{Executor}
-use Rattle.brd_kernel.specs.Kernel.{KernelState}
-use Rattle.brd_kernel.specs.Always.{HasContext}
+use Rattle.brd_kernel.specs.declared.processor.Executor.TheVariants as executor
+use Rattle.brd_kernel.specs.Kernel.{KernelState, processor_at, executor_on}
+use Rattle.brd_kernel.specs.Always.{run_tasks, HasContext}
+use Rattle.brd_kernel.proofs.ThereLemmas.{run-at}
 use Rattle.brd_kernel.proofs.ExecutorLemmas.{executor-is, executor-has}
 use Rattle.brd_kernel.proofs.kernel.Kernel.executor.Goals as goal
 
 pub returns-in-Some-clause-there : goal.returns-in-Some-clause-there
 returns-in-Some-clause-there c =
-    subst (λ (who : Option Executor). IfSome who (HasContext c.args.cpu))
-    (executor-is c.self.inside.executing c.self.inside.processors c.args.cpu c.in-Some.id c.self.invariant.3 c.in-Some.is)
-    (executor-has c.args.cpu (slice_index_or c.self.inside.processors c.args.cpu None) c.if-cpu-lt9.true (c.self.invariant.0.running c.args.cpu))
+    let k : KernelState = c.args.self.now in
+    let run : run_tasks (are_there k.tasks) k.processors ≡ true =
+    subst (λ (s : KernelState). run_tasks (are_there s.tasks) s.processors ≡ true) c.self.view_is c.self.invariant.0.running in
+    let who : executor_on k c.args.cpu ≡ Some (executor.Task c.in-Some.id) =
+    subst (λ (s : KernelState). executor_on s c.args.cpu ≡ Some (executor.Task c.in-Some.id)) c.self.view_is
+    (executor-is c.self.inside.executing c.self.inside.processors c.args.cpu c.in-Some.id c.self.invariant.3 c.in-Some.is) in
+    subst (λ (x : Option Executor). IfSome x (HasContext k c.args.cpu)) who
+    (executor-has k c.args.cpu (processor_at k c.args.cpu) c.if-cpu-lt9.true (run-at (are_there k.tasks) k.processors c.args.cpu run))
 
 pub returns-in-Some-clause-place : goal.returns-in-Some-clause-place
 returns-in-Some-clause-place c =
-    let known : c.in-Some.id < 256 = returns-in-Some-clause-there c in
-    let count : length c.self.inside.tasks.contexts ≡ length c.args.self.now.tasks.contexts =
-    ap (λ (k : KernelState). length k.tasks.contexts) c.self.view_is in
+    let k : KernelState = c.args.self.now in
+    let known : c.in-Some.id < 256 =
+    there-small c.self.inside.tasks c.in-Some.id c.are_consistent.ensures
+    (subst (λ (s : KernelState). HasContext s c.args.cpu (executor.Task c.in-Some.id)) (sym c.self.view_is) (returns-in-Some-clause-there c)) in
+    let count : length c.self.inside.tasks.contexts ≡ length k.tasks.contexts = ap (λ (s : KernelState). length s.tasks.contexts) c.self.view_is in
     omega (arith, known, count, c.are_consistent.ensures.contexts)

@@ -1,11 +1,21 @@
-use Rattle.std.proofs.Common.{rules}
+use Rattle.std.proofs.Common.{◌≡◌, sym, subst, rules}
+use Rattle.std.specs.Prelude.{true, slice_set, Some}
+use Rattle.brd_tasks.specs.Tasks.{are_there}
+use Rattle.brd_kernel.specs.Kernel.{KernelState}
+use Rattle.brd_kernel.specs.Always.{is_task_or_none, run_tasks}
+use Rattle.brd_kernel.proofs.ThereLemmas.{run-set}
 use Rattle.brd_kernel.proofs.ExecutorLemmas.{executing-set}
 use Rattle.brd_kernel.proofs.kernel.Kernel.put_processor.Goals as goal
 
 pub invariant_of-self : goal.invariant_of-self
-invariant_of-self c = (
-  search rules,
-  c.self.invariant.1,
-  c.self.invariant.2,
-  rw c.task.ensures (executing-set c.self.inside.executing c.self.inside.processors c.args.cpu c.args.processor c.self.invariant.3),
-)
+invariant_of-self c =
+    let known : is_task_or_none (are_there c.self.inside.tasks) c.args.processor.running ≡ true =
+    subst (λ (k : KernelState). is_task_or_none (are_there k.tasks) c.args.processor.running ≡ true) (sym c.self.view_is) c.requires.known in
+    let run : run_tasks (are_there c.self.inside.tasks) (slice_set c.self.inside.processors c.args.cpu (Some c.args.processor)) ≡ true =
+    run-set (are_there c.self.inside.tasks) c.self.inside.processors c.args.cpu c.args.processor known c.self.invariant.0.running in
+    (
+      search (rules, run),
+      c.self.invariant.1,
+      c.self.invariant.2,
+      rw c.task.ensures (executing-set c.self.inside.executing c.self.inside.processors c.args.cpu c.args.processor c.self.invariant.3),
+    )
