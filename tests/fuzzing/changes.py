@@ -90,7 +90,8 @@ def changed(random, data, others, changes):
     return data
 
 
-# Object files. The fields of each table: where a field begins in its entry, and how many bytes it has.
+# Object files of either byte order, which their sixth byte says. The fields of each table: where a field begins in its
+# entry, and how many bytes it has.
 HEADER = [(at, 1) for at in range(16)] + [(16, 2), (18, 2)] + [(at, 4) for at in range(20, 40, 4)] \
     + [(at, 2) for at in range(40, 52, 2)]
 SEGMENT = [(at, 4) for at in range(0, 32, 4)]
@@ -98,8 +99,12 @@ SECTION = [(at, 4) for at in range(0, 40, 4)]
 SYMBOL = [(0, 4), (4, 4), (8, 4), (12, 1), (13, 1), (14, 2)]
 
 
+def order_of(data):
+    return "little" if data[5:6] == b"\1" else "big"
+
+
 def number_at(data, at, size):
-    return int.from_bytes(data[at:at + size].ljust(size, b"\0"), "big")
+    return int.from_bytes(data[at:at + size].ljust(size, b"\0"), order_of(data))
 
 
 def tables(data):
@@ -123,7 +128,7 @@ def with_field(random, data, _):
     old = number_at(data, at, size)
     near = (old + 1, old - 1, 2 * old, len(data), len(data) - old, random.randrange(16))
     new = random.choice((random.choice(NUMBERS), *near))
-    return data[:at] + (new % 256 ** size).to_bytes(size, "big") + data[at + size:]
+    return data[:at] + (new % 256 ** size).to_bytes(size, order_of(data)) + data[at + size:]
 
 
 def with_entry_again(random, data, _):
@@ -141,13 +146,14 @@ FILES = (with_field,) * 8 + (with_entry_again, with_byte, with_bit, cut, with_sl
 def object_file(random):
     """An object file of random segments, which now and then overlap or lie outside of what can be loaded."""
     count, data, headers = random.randrange(4), b"", b""
+    encoding, sign = random.choice(((1, "<"), (2, ">")))
     for _ in range(count):
         kind = random.choice((1, 1, 1, 1, 0, 4, 0x70000003))
         piece = random.randbytes(4 * random.randrange(40))
         address = random.choice((0x80000000, 0x80000000 + 16 * random.randrange(4096), 0x80FFFF00, 0x81000000, 0))
         longer = random.choice((0, 0, 1, 5, 65536))
-        headers += struct.pack(">8I", kind, 52 + 32 * count + len(data), address, address, len(piece),
+        headers += struct.pack(f"{sign}8I", kind, 52 + 32 * count + len(data), address, address, len(piece),
                                len(piece) + longer, 7, 4)
         data += piece
-    fields = struct.pack(">HHIIIIIHHHHHH", 2, 8, 1, 0x80000000, 52, 0, 0, 52, 32, count, 40, 0, 0)
-    return b"\x7fELF\1\2\1".ljust(16, b"\0") + fields + headers + data
+    fields = struct.pack(f"{sign}HHIIIIIHHHHHH", 2, 8, 1, 0x80000000, 52, 0, 0, 52, 32, count, 40, 0, 0)
+    return (b"\x7fELF\1" + bytes([encoding]) + b"\1").ljust(16, b"\0") + fields + headers + data

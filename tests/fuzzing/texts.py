@@ -58,7 +58,14 @@ class Texts:
         for label in LABELS:
             if self.often(.97):
                 lines.insert(self.random.randrange(len(lines) + 1), f"{label}:")
+        if self.often(.3):
+            # (mostly where it may stand)
+            place = 0 if self.often(.8) else self.random.randrange(len(lines) + 1)
+            lines.insert(place, f"{self.among('', '        ', '# first')}\n.byteorder {self.order()}")
         return "\n".join(lines + [""]).encode()
+
+    def order(self):
+        return self.among("little", "little", "little", "big", "big", "LITTLE", "middle", "", "little big")
 
     # Configurations
 
@@ -96,7 +103,8 @@ class Texts:
 
     def journal(self):
         runs = [self.run("SSSSSTR") for _ in range(self.random.choice((0, 1, 5, 40)))]
-        return "\n".join(["board-journal 1", *runs, ""]).encode()
+        first = self.among("board-journal 1", "board-journal 2 big", "board-journal 2 little", "board-journal 2")
+        return "\n".join([first, *runs, ""]).encode()
 
     def script(self):
         return "".join(f"{self.run('TTR')}\n" for _ in range(self.random.choice((0, 1, 5, 20)))).encode()

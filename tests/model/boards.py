@@ -84,17 +84,19 @@ class Program(list):
 
 
 class Maker:
-    """Makes the board of a seed: `setup`, `image`, `configuration`, and `runs`, which are those of its journal."""
+    """Makes the board of a seed: `setup`, `image`, `configuration`, and `journal`, the text of `runs`."""
 
     def __init__(self, seed):
         self.random = random.Random(seed)
+        self.order = self.chance("big", "little")
         self.theme = self.random.choice(list(THEMES))
         self.stray, self.faults = self.chance(.1, .02, .05, .25), self.chance(0, .01, .02, .05)
         self.shape()
         self.write_program()
         self.write_configuration()
         self.write_image()
-        self.runs = list(self.journal())
+        self.runs = list(self.events())
+        self.journal = self.journal_text()
 
     def chance(self, *among):
         return self.random.choice(among)
@@ -350,17 +352,19 @@ class Maker:
             top = code.here()
             make(code, who)
             code.back(top)
-        self.code = b"".join(word.to_bytes(4, "big") for word in code)
+        self.code = b"".join(word.to_bytes(4, self.order) for word in code)
 
     def write_image(self):
         """An ELF file (System V ABI) without symbols: its header, program headers, and the segments' bytes."""
         segments = self.setup.segments
         headers, at = b"", 52 + 32 * len(segments)
-        for address, data in segments:
-            headers += struct.pack(">8I", 1, at, address, 0, len(data), len(data), 7, 1)
-            at += len(data)
-        fields = struct.pack(">HHIIIIIHHHHHH", 2, 8, 1, self.start, 52, 0, 0, 52, 32, len(segments), 40, 0, 0)
-        self.image = b"\x7fELF\1\2\1".ljust(16, b"\0") + fields + headers + b"".join(data for _, data in segments)
+        data, sign = {"little": (1, "<"), "big": (2, ">")}[self.order]
+        for address, piece in segments:
+            headers += struct.pack(f"{sign}8I", 1, at, address, 0, len(piece), len(piece), 7, 1)
+            at += len(piece)
+        fields = struct.pack(f"{sign}HHIIIIIHHHHHH", 2, 8, 1, self.start, 52, 0, 0, 52, 32, len(segments), 40, 0, 0)
+        ident = (b"\x7fELF\1" + bytes([data]) + b"\1").ljust(16, b"\0")
+        self.image = ident + fields + headers + b"".join(piece for _, piece in segments)
 
     def write_configuration(self):
         """The setup, and the text of the configuration that says the same."""
@@ -369,7 +373,8 @@ class Maker:
         lines = {line: (its, self.address["line", line]) for line, its in self.lines.items()}
         data = self.random.getrandbits(8 * 64).to_bytes(64, "big")
         segments = [(self.start, self.code), (DATA, data)]
-        self.setup = Setup(self.processors, ram, segments, tasks, self.semaphores, self.flags, self.queues, lines)
+        self.setup = Setup(self.processors, ram, self.order, segments, tasks, self.semaphores, self.flags, self.queues,
+                           lines)
         bound = [(it.processor, "CRE_TSK(%d, {%d, 0x%x, 0x%x, %d, %d, %s});" % (
             it.id, 2 * it.starts, it.argument, it.address, it.priority, it.size,
             "NULL" if it.stack is None else hex(it.stack))) for it in tasks]
@@ -390,7 +395,14 @@ class Maker:
         argument = self.chance(0, 1, self.random.getrandbits(32))
         return TaskSetup(task, self.place[task], starts, argument, self.address[task], self.priority[task], size, stack)
 
-    def journal(self):
+    def journal_text(self):
+        """The journal of the runs. One of version 1 is big-endian, and so may stand for one of version 2."""
+        old = ["board-journal 1"] if self.order == "big" else []
+        lines = [self.chance(f"board-journal 2 {self.order}", *old)]
+        lines += [f"{kind} {count}" if kind == "T" else f"{kind} {number} {count}" for kind, number, count in self.runs]
+        return "\n".join([*lines, ""])
+
+    def events(self):
         """Runs of events: a letter, a processor's or a line's number, and how often it comes."""
         left, longest = self.chance(500, 1000, 2000), self.chance(1, 4, 8, 20, 40)
         ticks, raises = self.chance(.05, .1, .2, .3), self.chance(.02, .06, .15)

@@ -15,7 +15,7 @@ CONSOLE_BYTES = 65536
 SILENT, DONE = (), (E_OK,)
 
 # What a board is made of. Objects stand by their IDs, lines by their numbers, tasks in the order of their statements.
-Setup = collections.namedtuple("Setup", "processors ram segments tasks semaphores flags queues lines")
+Setup = collections.namedtuple("Setup", "processors ram order segments tasks semaphores flags queues lines")
 TaskSetup = collections.namedtuple("TaskSetup", "id processor starts argument address priority size stack")
 
 
@@ -82,7 +82,7 @@ class Processor:
 class Board:
     def __init__(self, setup):
         self.counts = collections.Counter()
-        self.memory = Memory(setup.ram, self.counts)
+        self.memory = Memory(setup.ram, setup.order, self.counts)
         for address, data in setup.segments:
             self.memory.bytes[address - RAM_START:address - RAM_START + len(data)] = data
         self.processors = {number: Processor(number) for number in range(1, setup.processors + 1)}

@@ -25,10 +25,11 @@ def signed(word):
 
 
 class Memory:
-    """RAM from 0x80000000 on, and for each processor that has a link the word that it is linked to."""
+    """RAM from 0x80000000 on, in which the bytes of words lie in an order, "big" or "little"; and for each processor
+    that has a link the word that it is linked to."""
 
-    def __init__(self, size, counts):
-        self.bytes, self.links, self.counts = bytearray(size), {}, counts
+    def __init__(self, size, order, counts):
+        self.bytes, self.order, self.links, self.counts = bytearray(size), order, {}, counts
         # The addresses of bytes that have become others, for who watches them.
         self.changed = []
 
@@ -42,7 +43,15 @@ class Memory:
 
     def load(self, address, size, outside=DBE):
         at = self.index(address, size, ADEL, outside)
-        return int.from_bytes(self.bytes[at:at + size], "big")
+        return int.from_bytes(self.bytes[at:at + size], self.order)
+
+    def data(self, word, size=4):
+        """The bytes of the low bits of a word, as they lie."""
+        return (word & (1 << 8 * size) - 1).to_bytes(size, self.order)
+
+    def before(self, address):
+        """How many bytes of the word with this address are more significant than the byte there."""
+        return address & 3 if self.order == "big" else 3 - (address & 3)
 
     def store(self, processor, address, data):
         """Writes bytes; ends each link of another processor into their 16 bytes (the size is an own choice)."""
@@ -188,36 +197,48 @@ def store(size):
     def meaning(it, context, memory, processor):
         address = it.address(context)
         memory.index(address, size, ADES, DBE)
-        memory.store(processor, address, context.registers[it.rt].to_bytes(4, "big")[4 - size:])
+        memory.store(processor, address, memory.data(context.registers[it.rt], size))
     return meaning
 
 
 def load_left(it, context, memory, processor):
-    """LWL: the bytes from the address to its word's end come to the register's left."""
+    """LWL: the byte at the address, and those of its word that are less significant, come to the register's left."""
     address = it.address(context)
-    shift = 8 * (address & 3)
+    shift = 8 * memory.before(address)
     kept = context.registers[it.rt] & (1 << shift) - 1
     context.set(it.rt, memory.load(address & ~3, 4) << shift | kept)
 
 
 def load_right(it, context, memory, processor):
-    """LWR: the bytes from the word's start to the address come to the register's right."""
+    """LWR: the byte at the address, and those of its word that are more significant, come to the register's right."""
     address = it.address(context)
-    shift = 8 * (3 - (address & 3))
+    shift = 8 * (3 - memory.before(address))
     kept = context.registers[it.rt] & ~(WORD >> shift)
     context.set(it.rt, memory.load(address & ~3, 4) >> shift | kept)
 
 
 def store_left(it, context, memory, processor):
+    """SWL: the register's left goes to the byte at the address, and to those of its word that are less significant."""
     address = it.address(context)
     memory.index(address & ~3, 4, ADES, DBE)
-    memory.store(processor, address, context.registers[it.rt].to_bytes(4, "big")[:4 - (address & 3)])
+    size = 4 - memory.before(address)
+    data = memory.data(context.registers[it.rt])
+    if memory.order == "big":
+        memory.store(processor, address, data[:size])
+    else:
+        memory.store(processor, address & ~3, data[4 - size:])
 
 
 def store_right(it, context, memory, processor):
+    """SWR: the register's right goes to the byte at the address, and to those of its word that are more significant."""
     address = it.address(context)
     memory.index(address & ~3, 4, ADES, DBE)
-    memory.store(processor, address & ~3, context.registers[it.rt].to_bytes(4, "big")[3 - (address & 3):])
+    size = memory.before(address) + 1
+    data = memory.data(context.registers[it.rt])
+    if memory.order == "big":
+        memory.store(processor, address & ~3, data[4 - size:])
+    else:
+        memory.store(processor, address, data[:size])
 
 
 def load_linked(it, context, memory, processor):
@@ -233,7 +254,7 @@ def store_conditional(it, context, memory, processor):
     address, value = it.address(context), context.registers[it.rt]
     memory.index(address, 4, ADES, DBE)
     if linked == address:
-        memory.store(processor, address, value.to_bytes(4, "big"))
+        memory.store(processor, address, memory.data(value))
     context.set(it.rt, linked == address)
     memory.counts["SC: " + ("stores" if linked == address else "no link" if linked is None else "another word")] += 1
 

@@ -10,6 +10,7 @@ use Rattle.brd_text.proofs.FaultLemmas.{bind_ok}
 use Rattle.brd_base.specs.Space.{base, top}
 use Rattle.brd_mem.specs.Image.{AreNamed, IsPlain, byte_in, symbol_value}
 use Rattle.brd_mem.specs.Image as images
+use Rattle.brd_word.specs.declared.order.Order.{Order}
 use Rattle.brd_mem.specs.declared.image.Image.{Image}
 use Rattle.brd_mem.specs.declared.image.Segment.{Segment}
 use Rattle.brd_mem.specs.declared.image.Symbol.{Symbol}
@@ -21,7 +22,7 @@ use Rattle.brd_source.proofs.OptionLemmas.{some_is}
 use Rattle.brd_asm.specs.declared.fault.AsmFault.{AsmFault}
 use Rattle.brd_asm.specs.Values.{Name, named, modulo}
 use Rattle.brd_text.specs.Lines.{lines_of}
-use Rattle.brd_asm.specs.Layout.{Piece, Layout, size_of, effect_of, placed, all_placed, nothing}
+use Rattle.brd_asm.specs.Layout.{Piece, Layout, size_of, effect_of, placed, all_placed, nothing, order_by}
 use Rattle.brd_asm.specs.Layout.Content.{Code}
 use Rattle.brd_asm.specs.Layout.Effect.{Fills}
 use Rattle.brd_asm.specs.Meaning.{Meaning, Placed, instruction_of, content_meaning, meanings}
@@ -41,15 +42,16 @@ use Rattle.brd_asm.proofs.StretchLemmas.{skipped}
 
 pub record IsLaidOut (text : List ℕ) (program : Program) (s : Layout) : Type 0 where
   pub placed : all_placed 1 (lines_of text) nothing ≡ Ok s
+  pub order : program.order ≡ order_by s.order
   pub names : program.names ≡ s.names
-  pub means : meanings s.names s.pieces ≡ Ok program.contents
+  pub means : meanings (order_by s.order) s.names s.pieces ≡ Ok program.contents
 
 laid_out : (text : List ℕ) (program : Program) → program_of text ≡ Ok program → (s : Layout) × IsLaidOut text program s
 unfolding program_of
 laid_out text program e =
-    let s = bind_ok (all_placed 1 (lines_of text) nothing) (λ s. meanings s.names s.pieces >>= λ contents. Ok (record { names = s.names; contents = contents })) program e in
-    let c = bind_ok (meanings s.0.names s.0.pieces) (λ contents. Ok (record { names = s.0.names; contents = contents })) program s.2 in
-    (s.0, subst (λ (p : Program). IsLaidOut text p s.0) (inside (record { names = s.0.names; contents = c.0 }) program c.2) (record { placed = s.1; names = refl; means = c.1 }))
+    let s = bind_ok (all_placed 1 (lines_of text) nothing) (λ s. meanings (order_by s.order) s.names s.pieces >>= λ contents. Ok (record { order = order_by s.order; names = s.names; contents = contents })) program e in
+    let c = bind_ok (meanings (order_by s.0.order) s.0.names s.0.pieces) (λ contents. Ok (record { order = order_by s.0.order; names = s.0.names; contents = contents })) program s.2 in
+    (s.0, subst (λ (p : Program). IsLaidOut text p s.0) (inside (record { order = order_by s.0.order; names = s.0.names; contents = c.0 }) program c.2) (record { placed = s.1; order = refl; names = refl; means = c.1 }))
 
 -- ---- plain images
 
@@ -99,9 +101,9 @@ has_offset : (output : List ℕ) (o : Option ℕ) → IsSome (option_and_then (s
 has_offset output (Some k) there = refl
 has_offset output None there = absurd (cc)
 
-spelled_in_ram : (names : List Name) (pieces : List Piece) (contents : List Placed) (spelled : List Segment) → meanings names pieces ≡ Ok contents → AreSpelled contents spelled → AllByRecursion InRam pieces → memory.InRam (byte_in spelled)
-spelled_in_ram names pieces contents spelled means are ram = λ a there.
-    let agree = agree_all names pieces contents spelled means are in
+spelled_in_ram : (order : Order) (names : List Name) (pieces : List Piece) (contents : List Placed) (spelled : List Segment) → meanings order names pieces ≡ Ok contents → AreSpelled order contents spelled → AllByRecursion InRam pieces → memory.InRam (byte_in spelled)
+spelled_in_ram order names pieces contents spelled means are ram = λ a there.
+    let agree = agree_all order names pieces contents spelled means are in
     filled_in_ram pieces a ram (has_offset (all_bytes spelled) (offset_at pieces a) (subst IsSome (agree.bytes a) there))
 
 pub plain : (text : List ℕ) (program : Program) (image : Image) → program_of text ≡ Ok program → IsImage program image → IsPlain image
@@ -109,7 +111,7 @@ plain text program image e is =
     let s = laid_out text program e in
     let sound = all_sound (lines_of text) s.0 s.1.placed in
     record {
-      segments = ascending (byte_in is.spelled) image.segments is.segments (spelled_in_ram s.0.names s.0.pieces program.contents is.spelled s.1.means is.are_spelled sound.in_ram);
+      segments = ascending (byte_in is.spelled) image.segments is.segments (spelled_in_ram (order_by s.0.order) s.0.names s.0.pieces program.contents is.spelled s.1.means (rw s.1.order at is.are_spelled) sound.in_ram);
       symbols = subst AreNamed (sym (is.symbols ∙ ap (λ (ns : List Name). map symbol_of ns) s.1.names)) (are_named s.0.names sound.names.are sound.names.differ);
     }
 
@@ -202,34 +204,34 @@ in_others s ss address bytes apart lies = λ i lt.
         ]
 
 -- what a piece means lies at its place
-record LiesAt (names : List Name) (p : Piece) (spelled : List Segment) : Type 0 where
+record LiesAt (order : Order) (names : List Name) (p : Piece) (spelled : List Segment) : Type 0 where
   meaning : Meaning
-  means : content_meaning p.line p.place names p.content ≡ Ok meaning
+  means : content_meaning order p.line p.place names p.content ≡ Ok meaning
   bytes : List ℕ
-  spells : HasBytes meaning bytes
+  spells : HasBytes order meaning bytes
   lies : Lies spelled p.place bytes
 
-first_lies : (names : List Name) (p : Piece) (one : Meaning) (others : List Placed) (spelled : List Segment) → content_meaning p.line p.place names p.content ≡ Ok one → AreSpelled (record { place = p.place; meaning = one } ∷ others) spelled → LiesAt names p spelled
-first_lies names p one others [] means are = absurd are
-first_lies names p one others (s ∷ ss) means are = record { meaning = one; means = means; bytes = s.bytes; spells = are.1; lies = in_first s ss p.place are.0 }
+first_lies : (order : Order) (names : List Name) (p : Piece) (one : Meaning) (others : List Placed) (spelled : List Segment) → content_meaning order p.line p.place names p.content ≡ Ok one → AreSpelled order (record { place = p.place; meaning = one } ∷ others) spelled → LiesAt order names p spelled
+first_lies order names p one others [] means are = absurd are
+first_lies order names p one others (s ∷ ss) means are = record { meaning = one; means = means; bytes = s.bytes; spells = are.1; lies = in_first s ss p.place are.0 }
 
-other_lies : (names : List Name) (p q : Piece) (one : Meaning) (others : List Placed) (spelled : List Segment) → content_meaning q.line q.place names q.content ≡ Ok one → Apart q p → ((ss : List Segment) → AreSpelled others ss → LiesAt names p ss)
-    → AreSpelled (record { place = q.place; meaning = one } ∷ others) spelled → LiesAt names p spelled
-other_lies names p q one others [] means apart lie are = absurd are
-other_lies names p q one others (s ∷ ss) means apart lie are =
+other_lies : (order : Order) (names : List Name) (p q : Piece) (one : Meaning) (others : List Placed) (spelled : List Segment) → content_meaning order q.line q.place names q.content ≡ Ok one → Apart q p → ((ss : List Segment) → AreSpelled order others ss → LiesAt order names p ss)
+    → AreSpelled order (record { place = q.place; meaning = one } ∷ others) spelled → LiesAt order names p spelled
+other_lies order names p q one others [] means apart lie are = absurd are
+other_lies order names p q one others (s ∷ ss) means apart lie are =
     let l = lie ss are.2 in
-    let size = size_is q.line q.place names q.content one s.bytes means are.1 in
-    let long = size_is p.line p.place names p.content l.meaning l.bytes l.means l.spells in
+    let size = size_is order q.line q.place names q.content one s.bytes means are.1 in
+    let long = size_is order p.line p.place names p.content l.meaning l.bytes l.means l.spells in
     let away : (ltb s.address (p.place + length l.bytes) && ltb p.place (s.address + length s.bytes)) ≡ false = rw (are.0, size, long) apart in
     record { meaning = l.meaning; means = l.means; bytes = l.bytes; spells = l.spells; lies = in_others s ss p.place l.bytes away l.lies }
 
-piece_lies : (names : List Name) (before : List Piece) (p : Piece) (behind : List Piece) (contents : List Placed) (spelled : List Segment) → meanings names (before ++ p ∷ behind) ≡ Ok contents → AreSpelled contents spelled → Pairwise Apart (before ++ p ∷ behind) → LiesAt names p spelled
-piece_lies names [] p behind contents spelled means are apart =
-    let one = one_piece names p behind contents means in
-    first_lies names p one.meaning one.others spelled one.means (subst (λ (cs : List Placed). AreSpelled cs spelled) one.contents_are are)
-piece_lies names (q ∷ before) p behind contents spelled means are apart =
-    let one = one_piece names q (before ++ p ∷ behind) contents means in
-    other_lies names p q one.meaning one.others spelled one.means (from_all before p behind apart.0) (λ ss h. piece_lies names before p behind one.others ss one.mean h apart.1) (subst (λ (cs : List Placed). AreSpelled cs spelled) one.contents_are are)
+piece_lies : (order : Order) (names : List Name) (before : List Piece) (p : Piece) (behind : List Piece) (contents : List Placed) (spelled : List Segment) → meanings order names (before ++ p ∷ behind) ≡ Ok contents → AreSpelled order contents spelled → Pairwise Apart (before ++ p ∷ behind) → LiesAt order names p spelled
+piece_lies order names [] p behind contents spelled means are apart =
+    let one = one_piece order names p behind contents means in
+    first_lies order names p one.meaning one.others spelled one.means (subst (λ (cs : List Placed). AreSpelled order cs spelled) one.contents_are are)
+piece_lies order names (q ∷ before) p behind contents spelled means are apart =
+    let one = one_piece order names q (before ++ p ∷ behind) contents means in
+    other_lies order names p q one.meaning one.others spelled one.means (from_all before p behind apart.0) (λ ss h. piece_lies order names before p behind one.others ss one.mean h apart.1) (subst (λ (cs : List Placed). AreSpelled order cs spelled) one.contents_are are)
   where
     from_all : (before : List Piece) (p : Piece) (behind : List Piece) → AllByRecursion (λ p. Apart q p) (before ++ p ∷ behind) → Apart q p
     from_all [] p behind all = all.0
@@ -240,17 +242,17 @@ code_filled : (line : ℕ) (instruction : Instruction) (bytes : List ℕ) (s t :
 unfolding effect_of
 code_filled line instruction bytes s t one says =
     let effect : Fills (Code instruction) ≡ one.effect = inside (Fills (Code instruction)) one.effect (rw says at one.effect_is) in
-    elim (fills line (Code instruction) (record { place = s.place; names = one.names; pieces = s.pieces }) t (rw (← effect) at one.happens)) [
+    elim (fills line (Code instruction) (record { order = one.order; place = s.place; names = one.names; pieces = s.pieces }) t (rw (← effect) at one.happens)) [
       | inl none ↦ absurd (true≢false (sym none.0))
       | inr fill ↦ fill.pieces_are
     ]
 
-word_lies : (line place : ℕ) (names : List Name) (instruction : Instruction) (spelled segments : List Segment) → LiesAt names (record { place = place; line = line; content = Code instruction }) spelled → ((a : ℕ) → byte_in segments a ≡ byte_in spelled a)
-    → (insn : Insn) × (instruction_of line place names instruction ≡ Ok insn) × (bytes : List ℕ) × HasBytes (Means insn) bytes × Lies segments place bytes
+word_lies : (order : Order) (line place : ℕ) (names : List Name) (instruction : Instruction) (spelled segments : List Segment) → LiesAt order names (record { place = place; line = line; content = Code instruction }) spelled → ((a : ℕ) → byte_in segments a ≡ byte_in spelled a)
+    → (insn : Insn) × (instruction_of line place names instruction ≡ Ok insn) × (bytes : List ℕ) × HasBytes order (Means insn) bytes × Lies segments place bytes
 unfolding content_meaning
-word_lies line place names instruction spelled segments l same =
+word_lies order line place names instruction spelled segments l same =
     let i = bind_ok (instruction_of line place names instruction) (λ i. Ok (Means i)) l.meaning l.means in
-    (i.0, i.1, l.bytes, subst (λ (m : Meaning). HasBytes m l.bytes) (sym (inside (Means i.0) l.meaning i.2)) l.spells, λ n lt. same (place + n) ∙ l.lies n lt)
+    (i.0, i.1, l.bytes, subst (λ (m : Meaning). HasBytes order m l.bytes) (sym (inside (Means i.0) l.meaning i.2)) l.spells, λ n lt. same (place + n) ∙ l.lies n lt)
 
 pub instructions : (text : List ℕ) (program : Program) (image : Image) → program_of text ≡ Ok program → IsImage program image → HasInstructions text image
 instructions text program image e is = λ other number place said instruction other_is line says.
@@ -262,7 +264,8 @@ instructions text program image e is = λ other number place said instruction ot
     let pieces : s.0.pieces ≡ line.so_far.pieces ++ piece ∷ g.on.more =
     g.on.pieces ∙ ap (λ (ps : List Piece). ps ++ g.on.more) filled ∙ append_assoc line.so_far.pieces (piece ∷ []) g.on.more in
     let sound = all_sound (lines_of text) s.0 s.1.placed in
-    let lies = piece_lies s.0.names line.so_far.pieces piece g.on.more program.contents is.spelled (rw pieces at s.1.means) is.are_spelled (rw pieces at sound.apart) in
-    let found = word_lies number line.so_far.place s.0.names instruction is.spelled image.segments lies is.segments.same in
+    let lies = piece_lies (order_by s.0.order) s.0.names line.so_far.pieces piece g.on.more program.contents is.spelled (rw pieces at s.1.means) (rw s.1.order at is.are_spelled) (rw pieces at sound.apart) in
+    let order : image.order ≡ order_by s.0.order = is.order ∙ s.1.order in
+    let found = word_lies image.order number line.so_far.place s.0.names instruction is.spelled image.segments (rw order lies) is.segments.same in
     let names : s.0.names ≡ other.names = sym s.1.names ∙ ap (λ (p : Program). p.names) (inside program other (sym e ∙ other_is)) in
     (found.0, rw (line.address_is, ← names) found.1, found.2, found.3, rw line.address_is found.4)

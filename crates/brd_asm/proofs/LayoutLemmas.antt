@@ -8,8 +8,9 @@ use Rattle.brd_text.specs.Bytes.{is_name}
 use Rattle.brd_text.specs.Faults.{◌>>=◌}
 use Rattle.brd_text.proofs.FaultLemmas.{bind_ok}
 use Rattle.brd_base.specs.Space.{base, top}
+use Rattle.brd_word.specs.declared.order.Order.{Order}
 use Rattle.brd_source.specs.Statement.{Expression, Statement, Line}
-use Rattle.brd_source.specs.Statement.Statement.{Nothing, Instruct, Org, Align, Space, Data, Text, Equal}
+use Rattle.brd_source.specs.Statement.Statement.{Nothing, WithoutEffect, ByteOrder, Instruct, Org, Align, Space, Data, Text, Equal}
 use Rattle.brd_source.specs.Lines.{line_of}
 use Rattle.brd_source.specs.Tokens.{tokens_of}
 use Rattle.brd_source.proofs.LineForm.{said_line}
@@ -17,7 +18,7 @@ use Rattle.brd_source.proofs.Names as source_names
 use Rattle.brd_asm.specs.declared.fault.AsmFault.{AsmFault}
 use Rattle.brd_asm.specs.declared.fault.AsmFault.TheVariants as fault
 use Rattle.brd_asm.specs.Values.{Name, named, value_of, known, within, up_to}
-use Rattle.brd_asm.specs.Layout.{Content, Piece, Layout, Effect, size_of, alignment_of, gap, effect_of, own_name, is_defined, define, labelled, check_is_new, are_in_ram, overlaps, filled, happened, read, placed, all_placed, nothing}
+use Rattle.brd_asm.specs.Layout.{Content, Piece, Layout, Effect, size_of, alignment_of, gap, effect_of, own_name, is_defined, define, labelled, check_is_new, are_in_ram, overlaps, filled, happened, read, settled, placed, all_placed, nothing}
 use Rattle.brd_asm.specs.Layout.Content.{Code, Values, Bytes, Zeros}
 use Rattle.brd_asm.specs.Layout.Effect.{Stays, Moves, Equates, Fills}
 use Rattle.brd_asm.proofs.PairLemmas.{all_push, Pairwise, pairs_push}
@@ -147,6 +148,8 @@ given made effect is e = subst IsEffect e is
 is_effect : (line place : ℕ) (names : List Name) (statement : Statement) (effect : Effect) → ((name : List ℕ) (value : Expression) → statement ≡ Equal name value → is_name name ≡ true) → effect_of line place names statement ≡ Ok effect → IsEffect effect
 unfolding effect_of
 is_effect line place names Nothing effect is e = given Stays effect tt (inside Stays effect e)
+is_effect line place names WithoutEffect effect is e = given Stays effect tt (inside Stays effect e)
+is_effect line place names (ByteOrder order) effect is e = given Stays effect tt (inside Stays effect e)
 is_effect line place names (Instruct instruction) effect is e = given (Fills (Code instruction)) effect tt (inside (Fills (Code instruction)) effect e)
 is_effect line place names (Org x) effect is e =
     let v = bind_ok (known line (value_of names x)) (λ v. up_to line 4294967295 v >>= λ n. Ok (Moves n)) effect e in
@@ -207,7 +210,7 @@ by_tests false true true false a b c s u t e = inr (refl, refl, inside u t e)
 pub fills : (line : ℕ) (content : Content) (s t : Layout) → filled line content s ≡ Ok t → ((eqb (size_of content) 0 ≡ true) × (s ≡ t)) ⊎ Filled line content s t
 unfolding filled
 fills line content s t e =
-    let after : Layout = record { place = s.place + size_of content; names = s.names; pieces = s.pieces ++ piece_at s.place line content ∷ [] } in
+    let after : Layout = record { order = s.order; place = s.place + size_of content; names = s.names; pieces = s.pieces ++ piece_at s.place line content ∷ [] } in
     elim (by_tests (eqb (size_of content) 0) (are_in_ram s.place (size_of content)) (eqb (s.place % alignment_of content) 0) (overlaps s.pieces s.place (s.place + size_of content)) (fault.Range line) (fault.Misaligned line) (fault.Overlap line) s after t e) [
       | inl stays ↦ inl stays
       | inr more ↦ inr (subst (λ (u : Layout). Filled line content s u) more.2 (record {
@@ -235,8 +238,8 @@ pub record GoesOn (s t : Layout) : Type 0 where
   pub pieces : t.pieces ≡ s.pieces ++ more
   pub sound : IsSound s → IsSound t
 
-abbrev layout : ℕ → List Name → List Piece → Layout
-layout place names pieces = record { place = place; names = names; pieces = pieces }
+abbrev layout : Option Order → ℕ → List Name → List Piece → Layout
+layout order place names pieces = record { order = order; place = place; names = names; pieces = pieces }
 
 stays : (s : Layout) → GoesOn s s
 stays s = record { names = add_none s.names; more = []; pieces = sym (append-nil s.pieces); sound = λ sound. sound }
@@ -249,8 +252,8 @@ goes_on_all s t u first then = record {
   sound = λ sound. then.sound (first.sound sound);
 }
 
-names_go_on : (s : Layout) (names : List Name) → Adds s.names names → (AreNames s.names → AreNames names) → GoesOn s (layout s.place names s.pieces)
-names_go_on s names adds are = record {
+names_go_on : (s : Layout) (order : Option Order) (names : List Name) → Adds s.names names → (AreNames s.names → AreNames names) → GoesOn s (layout order s.place names s.pieces)
+names_go_on s order names adds are = record {
   names = adds;
   more = [];
   pieces = sym (append-nil s.pieces);
@@ -274,16 +277,16 @@ pieces_go_on line content s t fill = record {
 
 happens : (line : ℕ) (effect : Effect) (s t : Layout) → IsEffect effect → happened line effect s ≡ Ok t → GoesOn s t
 happens line Stays s t is e = subst (λ (u : Layout). GoesOn s u) (inside s t e) (stays s)
-happens line (Moves place) s t is e = subst (λ (u : Layout). GoesOn s u) (inside (layout place s.names s.pieces) t e) (record {
+happens line (Moves place) s t is e = subst (λ (u : Layout). GoesOn s u) (inside (layout s.order place s.names s.pieces) t e) (record {
   names = add_none s.names;
   more = [];
   pieces = sym (append-nil s.pieces);
   sound = λ sound. record { place = is; names = sound.names; apart = sound.apart; in_ram = sound.in_ram };
 })
 happens line (Equates name value) s t is e =
-    let b = bind_ok (define line value name s.names) (λ names. Ok (layout s.place names s.pieces)) t e in
+    let b = bind_ok (define line value name s.names) (λ names. Ok (layout s.order s.place names s.pieces)) t e in
     let one = defines line value name s.names b.0 b.1 in
-    subst (λ (u : Layout). GoesOn s u) (inside (layout s.place b.0 s.pieces) t b.2) (names_go_on s b.0 one.adds (one.are is))
+    subst (λ (u : Layout). GoesOn s u) (inside (layout s.order s.place b.0 s.pieces) t b.2) (names_go_on s s.order b.0 one.adds (one.are is))
 happens line (Fills content) s t is e =
     elim (fills line content s t e) [
       | inl none ↦ subst (λ (u : Layout). GoesOn s u) none.1 (stays s)
@@ -294,11 +297,13 @@ happens line (Fills content) s t is e =
 pub record OneLine (line : ℕ) (bytes : List ℕ) (s t : Layout) : Type 0 where
   pub said : Line
   pub says : line_of bytes ≡ Some said
+  pub order : Option Order
+  pub order_is : settled line said s.order ≡ Ok order
   pub names : List Name
   pub labels : Labels s.place said.labels s.names names
   pub effect : Effect
   pub effect_is : effect_of line s.place s.names said.statement ≡ Ok effect
-  pub happens : happened line effect (record { place = s.place; names = names; pieces = s.pieces }) ≡ Ok t
+  pub happens : happened line effect (record { order = order; place = s.place; names = names; pieces = s.pieces }) ≡ Ok t
 
 was_read : (line : ℕ) (r : Option Line) (said : Line) → read line r ≡ Ok said → r ≡ Some said
 was_read line (Some l) said e = ap (λ (l : Line). Some l) (inside l said e)
@@ -307,13 +312,16 @@ was_read line None said e = absurd (cc)
 pub one_line : (line : ℕ) (bytes : List ℕ) (s t : Layout) → placed line bytes s ≡ Ok t → OneLine line bytes s t
 unfolding placed
 one_line line bytes s t e =
-    let l = bind_ok (read line (line_of bytes)) (λ l. labelled line s.place l.labels s.names >>= λ names. check_is_new line (own_name l.statement) names >>= λ is_new. effect_of line s.place s.names l.statement >>= λ effect. happened line effect (layout s.place names s.pieces)) t e in
-    let n = bind_ok (labelled line s.place l.0.labels s.names) (λ names. check_is_new line (own_name l.0.statement) names >>= λ is_new. effect_of line s.place s.names l.0.statement >>= λ effect. happened line effect (layout s.place names s.pieces)) t l.2 in
-    let f = bind_ok (check_is_new line (own_name l.0.statement) n.0) (λ is_new. effect_of line s.place s.names l.0.statement >>= λ effect. happened line effect (layout s.place n.0 s.pieces)) t n.2 in
-    let x = bind_ok (effect_of line s.place s.names l.0.statement) (λ effect. happened line effect (layout s.place n.0 s.pieces)) t f.2 in
+    let l = bind_ok (read line (line_of bytes)) (λ l. settled line l s.order >>= λ order. labelled line s.place l.labels s.names >>= λ names. check_is_new line (own_name l.statement) names >>= λ is_new. effect_of line s.place s.names l.statement >>= λ effect. happened line effect (layout order s.place names s.pieces)) t e in
+    let o = bind_ok (settled line l.0 s.order) (λ order. labelled line s.place l.0.labels s.names >>= λ names. check_is_new line (own_name l.0.statement) names >>= λ is_new. effect_of line s.place s.names l.0.statement >>= λ effect. happened line effect (layout order s.place names s.pieces)) t l.2 in
+    let n = bind_ok (labelled line s.place l.0.labels s.names) (λ names. check_is_new line (own_name l.0.statement) names >>= λ is_new. effect_of line s.place s.names l.0.statement >>= λ effect. happened line effect (layout o.0 s.place names s.pieces)) t o.2 in
+    let f = bind_ok (check_is_new line (own_name l.0.statement) n.0) (λ is_new. effect_of line s.place s.names l.0.statement >>= λ effect. happened line effect (layout o.0 s.place n.0 s.pieces)) t n.2 in
+    let x = bind_ok (effect_of line s.place s.names l.0.statement) (λ effect. happened line effect (layout o.0 s.place n.0 s.pieces)) t f.2 in
     record {
       said = l.0;
       says = was_read line (line_of bytes) l.0 l.1;
+      order = o.0;
+      order_is = o.1;
       names = n.0;
       labels = labels_are line s.place l.0.labels s.names n.0 n.1;
       effect = x.0;
@@ -322,17 +330,17 @@ one_line line bytes s t e =
     }
 
 -- the statement, behind the labels
-pub statement_goes_on : (line : ℕ) (bytes : List ℕ) (s t : Layout) (one : OneLine line bytes s t) → GoesOn (layout s.place one.names s.pieces) t
+pub statement_goes_on : (line : ℕ) (bytes : List ℕ) (s t : Layout) (one : OneLine line bytes s t) → GoesOn (layout one.order s.place one.names s.pieces) t
 statement_goes_on line bytes s t one =
     let named = source_names.names (tokens_of bytes) one.said (said_line bytes one.said one.says) in
     let is = is_effect line s.place s.names one.said.statement one.effect named.equal one.effect_is in
-    happens line one.effect (layout s.place one.names s.pieces) t is one.happens
+    happens line one.effect (layout one.order s.place one.names s.pieces) t is one.happens
 
 pub line_goes_on : (line : ℕ) (bytes : List ℕ) (s t : Layout) → OneLine line bytes s t → GoesOn s t
 line_goes_on line bytes s t one =
     let said = source_names.names (tokens_of bytes) one.said (said_line bytes one.said one.says) in
-    let named = names_go_on s one.names one.labels.adds (one.labels.are said.labels) in
-    goes_on_all s (layout s.place one.names s.pieces) t named (statement_goes_on line bytes s t one)
+    let named = names_go_on s one.order one.names one.labels.adds (one.labels.are said.labels) in
+    goes_on_all s (layout one.order s.place one.names s.pieces) t named (statement_goes_on line bytes s t one)
 
 -- ---- all lines
 

@@ -5,6 +5,7 @@ use Rattle.std.proofs.lemmas.Bool.{cases_lt, lt-ltb, le-ltb, le-leb, and_from, a
 use Rattle.std.proofs.lemmas.Option.{slice_get-get_or}
 use Rattle.std.proofs.lemmas.List.{same_lists}
 use Rattle.brd_word.specs.Words.{bytes_of_word}
+use Rattle.brd_word.specs.declared.order.Order.{Order}
 use Rattle.brd_isa.proofs.WordLemmas.{one_word}
 use Rattle.brd_mem.specs.declared.image.Image.{Image}
 use Rattle.brd_mem.specs.declared.image.Segment.{Segment}
@@ -102,30 +103,31 @@ one_list_of_stretches memory ss ts one other = one_list ss ts 0 0 one.separate o
 
 -- ---- one spelling
 
-spelled_so : (m : Meaning) (xs ys : List ℕ) → HasBytes m xs → HasBytes m ys → xs ≡ ys
-spelled_so (Means insn) xs ys v w = v.3 ∙ ap bytes_of_word (one_word v.0 w.0 insn v.1 w.1 (λ ignores. v.2 ignores ∙ sym (w.2 ignores))) ∙ sym w.3
-spelled_so (Is numbers) xs ys v w = v ∙ sym w
+spelled_so : (order : Order) (m : Meaning) (xs ys : List ℕ) → HasBytes order m xs → HasBytes order m ys → xs ≡ ys
+spelled_so order (Means insn) xs ys v w = v.3 ∙ ap (λ (n : ℕ). bytes_of_word order n) (one_word v.0 w.0 insn v.1 w.1 (λ ignores. v.2 ignores ∙ sym (w.2 ignores))) ∙ sym w.3
+spelled_so order (Is numbers) xs ys v w = v ∙ sym w
 
-one_spelling : (ps : List Placed) (ss ts : List Segment) → AreSpelled ps ss → AreSpelled ps ts → ss ≡ ts
-one_spelling [] [] [] one other = refl
-one_spelling [] [] (t ∷ ts) one other = absurd other
-one_spelling [] (s ∷ ss) ts one other = absurd one
-one_spelling (p ∷ ps) [] ts one other = absurd one
-one_spelling (p ∷ ps) (s ∷ ss) [] one other = absurd other
-one_spelling (p ∷ ps) (s ∷ ss) (t ∷ ts) one other =
+one_spelling : (order : Order) (ps : List Placed) (ss ts : List Segment) → AreSpelled order ps ss → AreSpelled order ps ts → ss ≡ ts
+one_spelling order [] [] [] one other = refl
+one_spelling order [] [] (t ∷ ts) one other = absurd other
+one_spelling order [] (s ∷ ss) ts one other = absurd one
+one_spelling order (p ∷ ps) [] ts one other = absurd one
+one_spelling order (p ∷ ps) (s ∷ ss) [] one other = absurd other
+one_spelling order (p ∷ ps) (s ∷ ss) (t ∷ ts) one other =
     ap (λ (n : ℕ). stretch n s.bytes ∷ ss) (one.0 ∙ sym other.0)
-    ∙ ap (λ (xs : List ℕ). stretch t.address xs ∷ ss) (spelled_so p.meaning s.bytes t.bytes one.1 other.1)
-    ∙ ap (λ (us : List Segment). t ∷ us) (one_spelling ps ss ts one.2 other.2)
+    ∙ ap (λ (xs : List ℕ). stretch t.address xs ∷ ss) (spelled_so order p.meaning s.bytes t.bytes one.1 other.1)
+    ∙ ap (λ (us : List Segment). t ∷ us) (one_spelling order ps ss ts one.2 other.2)
 
 -- ---- one image
 
 pub one_image : (program : Program) (a b : Image) → IsImage program a → IsImage program b → a ≡ b
 one_image program a b one other =
-    let spelled = one_spelling program.contents one.spelled other.spelled one.are_spelled other.are_spelled in
+    let spelled = one_spelling program.order program.contents one.spelled other.spelled one.are_spelled other.are_spelled in
     let memory : AreStretches (byte_in other.spelled) a.segments = subst (λ (ss : List Segment). AreStretches (byte_in ss) a.segments) spelled one.segments in
-    ap (λ (n : ℕ). image n a.segments a.symbols) (one.entry ∙ sym other.entry)
-    ∙ ap (λ (ss : List Segment). image b.entry ss a.symbols) (one_list_of_stretches (byte_in other.spelled) a.segments b.segments memory other.segments)
-    ∙ ap (λ (ss : List Symbol). image b.entry b.segments ss) (one.symbols ∙ sym other.symbols)
+    ap (λ (o : Order). image o a.entry a.segments a.symbols) (one.order ∙ sym other.order)
+    ∙ ap (λ (n : ℕ). image b.order n a.segments a.symbols) (one.entry ∙ sym other.entry)
+    ∙ ap (λ (ss : List Segment). image b.order b.entry ss a.symbols) (one_list_of_stretches (byte_in other.spelled) a.segments b.segments memory other.segments)
+    ∙ ap (λ (ss : List Symbol). image b.order b.entry b.segments ss) (one.symbols ∙ sym other.symbols)
   where
-    image : ℕ → List Segment → List Symbol → Image
-    image entry segments symbols = record { entry = entry; segments = segments; symbols = symbols }
+    image : Order → ℕ → List Segment → List Symbol → Image
+    image order entry segments symbols = record { order = order; entry = entry; segments = segments; symbols = symbols }

@@ -2,6 +2,7 @@
 use Rattle.std.proofs.lemmas.List.{drop_more}
 use Rattle.std.proofs.Common.{◌≡◌, ◌<◌, get_or, drop, ℕ, ◌+◌, List, [], ◌∷◌, ◌++◌, length, Result, Ok, Err, refl, sym, ap, ◌∙◌, append_assoc, append-nil}
 use Rattle.std.specs.Prelude.{ℤ, pos}
+use Rattle.brd_word.specs.declared.order.Order.{Order}
 use Rattle.brd_source.specs.declared.statement.Width.{Width}
 use Rattle.brd_asm.specs.Values.{within}
 use Rattle.brd_asm.specs.Meaning.{least_of, greatest_of, bytes_of, data_of}
@@ -30,22 +31,22 @@ behind_more before more (Err e) = refl
 
 -- ---- one piece after the other
 
-pub record Progress (names : List Name) (pieces rest : List Piece) (output : List ℕ) : Type 0 where
+pub record Progress (order : Order) (names : List Name) (pieces rest : List Piece) (output : List ℕ) : Type 0 where
   pub done : List Placed
   pub spelled : List Segment
-  pub are_spelled : AreSpelled done spelled
+  pub are_spelled : AreSpelled order done spelled
   pub output_is : output ≡ all_bytes spelled
-  pub same : in_front_of done (meanings names rest) ≡ meanings names pieces
+  pub same : in_front_of done (meanings order names rest) ≡ meanings order names pieces
 
 pub meets_ok : {X Y : Type 0} (related : X → Y → Type 0) (x : X) (r : Result Y AsmFault) → Meets related (Ok x) r → (y : Y) × (r ≡ Ok y) × related x y
 meets_ok related x (Ok y) h = (y, refl, h)
 meets_ok related x (Err e) h = absurd h
 
-spelled_push : (ps : List Placed) (ss : List Segment) (p : Placed) (s : Segment) → AreSpelled ps ss → s.address ≡ p.place → HasBytes p.meaning s.bytes → AreSpelled (ps ++ p ∷ []) (ss ++ s ∷ [])
-spelled_push [] [] p s are at is = (at, is, tt)
-spelled_push [] (t ∷ ss) p s are at is = absurd are
-spelled_push (q ∷ ps) [] p s are at is = absurd are
-spelled_push (q ∷ ps) (t ∷ ss) p s are at is = (are.0, are.1, spelled_push ps ss p s are.2 at is)
+spelled_push : (order : Order) (ps : List Placed) (ss : List Segment) (p : Placed) (s : Segment) → AreSpelled order ps ss → s.address ≡ p.place → HasBytes order p.meaning s.bytes → AreSpelled order (ps ++ p ∷ []) (ss ++ s ∷ [])
+spelled_push order [] [] p s are at is = (at, is, tt)
+spelled_push order [] (t ∷ ss) p s are at is = absurd are
+spelled_push order (q ∷ ps) [] p s are at is = absurd are
+spelled_push order (q ∷ ps) (t ∷ ss) p s are at is = (are.0, are.1, spelled_push order ps ss p s are.2 at is)
 
 bytes_push : (ss : List Segment) (s : Segment) → all_bytes (ss ++ s ∷ []) ≡ all_bytes ss ++ s.bytes
 bytes_push [] s = append-nil s.bytes
@@ -58,30 +59,30 @@ in_front_more done p (Ok others) = ap (λ (xs : List Placed). ok xs) (sym (appen
     ok xs = Ok xs
 in_front_more done p (Err e) = refl
 
-pub progress_starts : (names : List Name) (pieces : List Piece) → Progress names pieces pieces []
-progress_starts names pieces = record { done = []; spelled = []; are_spelled = tt; output_is = refl; same = whole (meanings names pieces) }
+pub progress_starts : (order : Order) (names : List Name) (pieces : List Piece) → Progress order names pieces pieces []
+progress_starts order names pieces = record { done = []; spelled = []; are_spelled = tt; output_is = refl; same = whole (meanings order names pieces) }
   where
     whole : (r : Result (List Placed) AsmFault) → in_front_of [] r ≡ r
     whole (Ok ps) = refl
     whole (Err e) = refl
 
-one_meaning : (names : List Name) (rest : List Piece) (p : Piece) (m : Meaning) → content_meaning p.line p.place names p.content ≡ Ok m
-    → meanings names (p ∷ rest) ≡ (meanings names rest >>= λ others. Ok (record { place = p.place; meaning = m } ∷ others))
-one_meaning names rest p m is = rw is refl
+one_meaning : (order : Order) (names : List Name) (rest : List Piece) (p : Piece) (m : Meaning) → content_meaning order p.line p.place names p.content ≡ Ok m
+    → meanings order names (p ∷ rest) ≡ (meanings order names rest >>= λ others. Ok (record { place = p.place; meaning = m } ∷ others))
+one_meaning order names rest p m is = rw is refl
 
-pub progress_more : (names : List Name) (pieces rest : List Piece) (p : Piece) (before after : List ℕ) → Progress names pieces (p ∷ rest) before
-    → Meets (λ (u : Unit {0}) meaning. Adds meaning before after) (Ok tt) (content_meaning p.line p.place names p.content) → Progress names pieces rest after
-progress_more names pieces rest p before after so_far meets =
-    let m = meets_ok (λ (u : Unit {0}) meaning. Adds meaning before after) tt (content_meaning p.line p.place names p.content) meets in
+pub progress_more : (order : Order) (names : List Name) (pieces rest : List Piece) (p : Piece) (before after : List ℕ) → Progress order names pieces (p ∷ rest) before
+    → Meets (λ (u : Unit {0}) meaning. Adds order meaning before after) (Ok tt) (content_meaning order p.line p.place names p.content) → Progress order names pieces rest after
+progress_more order names pieces rest p before after so_far meets =
+    let m = meets_ok (λ (u : Unit {0}) meaning. Adds order meaning before after) tt (content_meaning order p.line p.place names p.content) meets in
     let placed : Placed = record { place = p.place; meaning = m.0 } in
     let segment : Segment = record { address = p.place; bytes = m.2.0 } in
-    let e = one_meaning names rest p m.0 m.1 in
+    let e = one_meaning order names rest p m.0 m.1 in
     record {
       done = so_far.done ++ placed ∷ [];
       spelled = so_far.spelled ++ segment ∷ [];
-      are_spelled = spelled_push so_far.done so_far.spelled placed segment so_far.are_spelled refl m.2.1;
+      are_spelled = spelled_push order so_far.done so_far.spelled placed segment so_far.are_spelled refl m.2.1;
       output_is = m.2.2 ∙ ap (λ (xs : List ℕ). xs ++ m.2.0) so_far.output_is ∙ sym (bytes_push so_far.spelled segment);
-      same = sym (in_front_more so_far.done placed (meanings names rest)) ∙ sym (ap (λ (r : Result (List Placed) AsmFault). in_front_of so_far.done r) e) ∙ so_far.same;
+      same = sym (in_front_more so_far.done placed (meanings order names rest)) ∙ sym (ap (λ (r : Result (List Placed) AsmFault). in_front_of so_far.done r) e) ∙ so_far.same;
     }
 
 -- what is left of a list, from its next item on
@@ -90,25 +91,25 @@ next_item xs i x is lt = drop_more xs i x lt ∙ ap (λ y. y ∷ drop (i + 1) xs
 
 -- ---- one value after the other
 
-one_value : (line : ℕ) (width : Width) (v : ℤ) (vs : List ℤ) (x : ℤ) → within line (least_of width) (greatest_of width) v ≡ Ok x
-    → data_of line width (v ∷ vs) ≡ (data_of line width vs >>= λ bytes. Ok (bytes_of width x ++ bytes))
-one_value line width v vs x is = rw is refl
+one_value : (order : Order) (line : ℕ) (width : Width) (v : ℤ) (vs : List ℤ) (x : ℤ) → within line (least_of width) (greatest_of width) v ≡ Ok x
+    → data_of order line width (v ∷ vs) ≡ (data_of order line width vs >>= λ bytes. Ok (bytes_of order width x ++ bytes))
+one_value order line width v vs x is = rw is refl
 
-pub data_more : (line : ℕ) (width : Width) (values : List ℤ) (i : ℕ) (x : ℤ) (before after : List ℕ) (total : Result (List ℕ) AsmFault) → i < length values
-    → within line (least_of width) (greatest_of width) (get_or values i (pos 0)) ≡ Ok x → after ≡ before ++ bytes_of width x
-    → behind before (data_of line width (drop i values)) ≡ total → behind after (data_of line width (drop (i + 1) values)) ≡ total
-data_more line width values i x before after total lt is after_is so_far =
-    let e = one_value line width (get_or values i (pos 0)) (drop (i + 1) values) x is in
-    ap (λ (bs : List ℕ). behind bs (data_of line width (drop (i + 1) values))) after_is
-    ∙ sym (behind_more before (bytes_of width x) (data_of line width (drop (i + 1) values)))
+pub data_more : (order : Order) (line : ℕ) (width : Width) (values : List ℤ) (i : ℕ) (x : ℤ) (before after : List ℕ) (total : Result (List ℕ) AsmFault) → i < length values
+    → within line (least_of width) (greatest_of width) (get_or values i (pos 0)) ≡ Ok x → after ≡ before ++ bytes_of order width x
+    → behind before (data_of order line width (drop i values)) ≡ total → behind after (data_of order line width (drop (i + 1) values)) ≡ total
+data_more order line width values i x before after total lt is after_is so_far =
+    let e = one_value order line width (get_or values i (pos 0)) (drop (i + 1) values) x is in
+    ap (λ (bs : List ℕ). behind bs (data_of order line width (drop (i + 1) values))) after_is
+    ∙ sym (behind_more before (bytes_of order width x) (data_of order line width (drop (i + 1) values)))
     ∙ sym (ap (λ (r : Result (List ℕ) AsmFault). behind before r) e)
-    ∙ sym (ap (λ (vs : List ℤ). behind before (data_of line width vs)) (drop_more values i (pos 0) lt))
+    ∙ sym (ap (λ (vs : List ℤ). behind before (data_of order line width vs)) (drop_more values i (pos 0) lt))
     ∙ so_far
 
-pub data_fails : (line : ℕ) (width : Width) (values : List ℤ) (i : ℕ) (e : AsmFault) (before : List ℕ) (total : Result (List ℕ) AsmFault) → i < length values
+pub data_fails : (order : Order) (line : ℕ) (width : Width) (values : List ℤ) (i : ℕ) (e : AsmFault) (before : List ℕ) (total : Result (List ℕ) AsmFault) → i < length values
     → Fails is_no_memory e (within line (least_of width) (greatest_of width) (get_or values i (pos 0)))
-    → behind before (data_of line width (drop i values)) ≡ total → Fails is_no_memory e total
-data_fails line width values i e before total lt fails so_far =
+    → behind before (data_of order line width (drop i values)) ≡ total → Fails is_no_memory e total
+data_fails order line width values i e before total lt fails so_far =
     passed_on is_no_memory e (within line (least_of width) (greatest_of width) (get_or values i (pos 0))) total fails (λ h.
-    let f : behind before (data_of line width (get_or values i (pos 0) ∷ drop (i + 1) values)) ≡ Err e = rw h refl in
-    sym so_far ∙ ap (λ (vs : List ℤ). behind before (data_of line width vs)) (drop_more values i (pos 0) lt) ∙ f)
+    let f : behind before (data_of order line width (get_or values i (pos 0) ∷ drop (i + 1) values)) ≡ Err e = rw h refl in
+    sym so_far ∙ ap (λ (vs : List ℤ). behind before (data_of order line width vs)) (drop_more values i (pos 0) lt) ∙ f)

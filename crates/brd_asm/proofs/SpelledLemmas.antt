@@ -6,6 +6,9 @@ use Rattle.std.proofs.lemmas.List.{length-replicate}
 use Rattle.brd_text.specs.Faults.{◌>>=◌}
 use Rattle.brd_text.proofs.FaultLemmas.{bind_ok}
 use Rattle.brd_mem.specs.declared.image.Segment.{Segment}
+use Rattle.brd_word.specs.Words.{bytes_of_word}
+use Rattle.brd_word.specs.declared.order.Order.{Order}
+use Rattle.brd_word.specs.declared.order.Order.TheVariants.{Big, Little}
 use Rattle.brd_source.specs.declared.statement.Width.{Width}
 use Rattle.brd_source.specs.declared.statement.Width.TheVariants.{Byte, Half, Word}
 use Rattle.brd_source.specs.Statement.{Expression}
@@ -38,50 +41,57 @@ values_length line names (x ∷ es) vs e =
     let ih = values_length line names es w.0 w.1 in
     ap (λ (xs : List ℤ). length xs) (sym (inside (v.0 ∷ w.0) vs w.2)) ∙ omega (arith, ih)
 
-one_length : (width : Width) (v : ℤ) → length (bytes_of width v) ≡ bytes_in width
-one_length Byte v = refl
-one_length Half v = refl
-one_length Word v = refl
+one_length : (order : Order) (width : Width) (v : ℤ) → length (bytes_of order width v) ≡ bytes_in width
+one_length Big Byte v = refl
+one_length Little Byte v = refl
+one_length Big Half v = refl
+one_length Little Half v = refl
+one_length Big Word v = refl
+one_length Little Word v = refl
 
-data_length : (line : ℕ) (width : Width) (vs : List ℤ) (bytes : List ℕ) → data_of line width vs ≡ Ok bytes → length bytes ≡ bytes_in width * length vs
-data_length line width [] bytes e = ap (λ (xs : List ℕ). length xs) (sym (inside [] bytes e)) ∙ omega arith
-data_length line width (v ∷ vs) bytes e =
-    let x = bind_ok (within line (least_of width) (greatest_of width) v) (λ x. data_of line width vs >>= λ bytes. Ok (bytes_of width x ++ bytes)) bytes e in
-    let w = bind_ok (data_of line width vs) (λ bytes. Ok (bytes_of width x.0 ++ bytes)) bytes x.2 in
-    let ih = data_length line width vs w.0 w.1 in
-    ap (λ (xs : List ℕ). length xs) (sym (inside (bytes_of width x.0 ++ w.0) bytes w.2))
-    ∙ omega (arith, ih, one_length width x.0, length-append (bytes_of width x.0) w.0)
+word_length : (order : Order) (word : ℕ) → length (bytes_of_word order word) ≡ 4
+word_length Big word = refl
+word_length Little word = refl
 
-spelled_is : (numbers bytes : List ℕ) (m : Meaning) → ok (Is numbers) ≡ Ok m → HasBytes m bytes → bytes ≡ numbers
-spelled_is numbers bytes m e spells = subst (λ (m : Meaning). HasBytes m bytes) (sym (inside (Is numbers) m e)) spells
+data_length : (order : Order) (line : ℕ) (width : Width) (vs : List ℤ) (bytes : List ℕ) → data_of order line width vs ≡ Ok bytes → length bytes ≡ bytes_in width * length vs
+data_length order line width [] bytes e = ap (λ (xs : List ℕ). length xs) (sym (inside [] bytes e)) ∙ omega arith
+data_length order line width (v ∷ vs) bytes e =
+    let x = bind_ok (within line (least_of width) (greatest_of width) v) (λ x. data_of order line width vs >>= λ bytes. Ok (bytes_of order width x ++ bytes)) bytes e in
+    let w = bind_ok (data_of order line width vs) (λ bytes. Ok (bytes_of order width x.0 ++ bytes)) bytes x.2 in
+    let ih = data_length order line width vs w.0 w.1 in
+    ap (λ (xs : List ℕ). length xs) (sym (inside (bytes_of order width x.0 ++ w.0) bytes w.2))
+    ∙ omega (arith, ih, one_length order width x.0, length-append (bytes_of order width x.0) w.0)
 
-pub size_is : (line place : ℕ) (names : List Name) (c : Content) (m : Meaning) (bytes : List ℕ) → content_meaning line place names c ≡ Ok m → HasBytes m bytes → length bytes ≡ size_of c
+spelled_is : (order : Order) (numbers bytes : List ℕ) (m : Meaning) → ok (Is numbers) ≡ Ok m → HasBytes order m bytes → bytes ≡ numbers
+spelled_is order numbers bytes m e spells = subst (λ (m : Meaning). HasBytes order m bytes) (sym (inside (Is numbers) m e)) spells
+
+pub size_is : (order : Order) (line place : ℕ) (names : List Name) (c : Content) (m : Meaning) (bytes : List ℕ) → content_meaning order line place names c ≡ Ok m → HasBytes order m bytes → length bytes ≡ size_of c
 unfolding content_meaning
-size_is line place names (Code instruction) m bytes e spells =
+size_is order line place names (Code instruction) m bytes e spells =
     let i = bind_ok (instruction_of line place names instruction) (λ i. Ok (Means i)) m e in
-    let word = subst (λ (m : Meaning). HasBytes m bytes) (sym (inside (Means i.0) m i.2)) spells in
-    ap (λ (xs : List ℕ). length xs) word.3
-size_is line place names (Values width es) m bytes e spells =
-    let v = bind_ok (values_of line names es) (λ vs. data_of line width vs >>= λ bytes. Ok (Is bytes)) m e in
-    let d = bind_ok (data_of line width v.0) (λ bytes. Ok (Is bytes)) m v.2 in
-    ap (λ (xs : List ℕ). length xs) (spelled_is d.0 bytes m d.2 spells) ∙ data_length line width v.0 d.0 d.1 ∙ ap (λ (n : ℕ). bytes_in width * n) (values_length line names es v.0 v.1)
-size_is line place names (Bytes numbers) m bytes e spells = ap (λ (xs : List ℕ). length xs) (spelled_is numbers bytes m e spells)
-size_is line place names (Zeros n) m bytes e spells = ap (λ (xs : List ℕ). length xs) (spelled_is (replicate n 0) bytes m e spells) ∙ length-replicate n 0
+    let word = subst (λ (m : Meaning). HasBytes order m bytes) (sym (inside (Means i.0) m i.2)) spells in
+    ap (λ (xs : List ℕ). length xs) word.3 ∙ word_length order word.0
+size_is order line place names (Values width es) m bytes e spells =
+    let v = bind_ok (values_of line names es) (λ vs. data_of order line width vs >>= λ bytes. Ok (Is bytes)) m e in
+    let d = bind_ok (data_of order line width v.0) (λ bytes. Ok (Is bytes)) m v.2 in
+    ap (λ (xs : List ℕ). length xs) (spelled_is order d.0 bytes m d.2 spells) ∙ data_length order line width v.0 d.0 d.1 ∙ ap (λ (n : ℕ). bytes_in width * n) (values_length line names es v.0 v.1)
+size_is order line place names (Bytes numbers) m bytes e spells = ap (λ (xs : List ℕ). length xs) (spelled_is order numbers bytes m e spells)
+size_is order line place names (Zeros n) m bytes e spells = ap (λ (xs : List ℕ). length xs) (spelled_is order (replicate n 0) bytes m e spells) ∙ length-replicate n 0
 
 -- ---- the output
 
 -- contents by the pieces that they are the meanings of
-pub record OnePiece (names : List Name) (p : Piece) (ps : List Piece) (contents : List Placed) : Type 0 where
+pub record OnePiece (order : Order) (names : List Name) (p : Piece) (ps : List Piece) (contents : List Placed) : Type 0 where
   pub meaning : Meaning
   pub others : List Placed
-  pub means : content_meaning p.line p.place names p.content ≡ Ok meaning
-  pub mean : meanings names ps ≡ Ok others
+  pub means : content_meaning order p.line p.place names p.content ≡ Ok meaning
+  pub mean : meanings order names ps ≡ Ok others
   pub contents_are : contents ≡ record { place = p.place; meaning = meaning } ∷ others
 
-pub one_piece : (names : List Name) (p : Piece) (ps : List Piece) (contents : List Placed) → meanings names (p ∷ ps) ≡ Ok contents → OnePiece names p ps contents
-one_piece names p ps contents e =
-    let m = bind_ok (content_meaning p.line p.place names p.content) (λ meaning. meanings names ps >>= λ others. Ok (record { place = p.place; meaning = meaning } ∷ others)) contents e in
-    let o = bind_ok (meanings names ps) (λ others. Ok (record { place = p.place; meaning = m.0 } ∷ others)) contents m.2 in
+pub one_piece : (order : Order) (names : List Name) (p : Piece) (ps : List Piece) (contents : List Placed) → meanings order names (p ∷ ps) ≡ Ok contents → OnePiece order names p ps contents
+one_piece order names p ps contents e =
+    let m = bind_ok (content_meaning order p.line p.place names p.content) (λ meaning. meanings order names ps >>= λ others. Ok (record { place = p.place; meaning = meaning } ∷ others)) contents e in
+    let o = bind_ok (meanings order names ps) (λ others. Ok (record { place = p.place; meaning = m.0 } ∷ others)) contents m.2 in
     record { meaning = m.0; others = o.0; means = m.1; mean = o.1; contents_are = sym (inside (record { place = p.place; meaning = m.0 } ∷ o.0) contents o.2) }
 
 -- the bytes of spelled contents are as many as those of the pieces, and lie at their places
@@ -113,16 +123,16 @@ agree_more p ps s ss at size agree = record {
         let below : k < length (all_bytes ss) = omega (arith, agree.sizes, offset_below ps a k o_is) in
         rw (b_is, o_is, ← size) (back_of s.bytes (all_bytes ss) k below)
 
-pub agree_all : (names : List Name) (pieces : List Piece) (contents : List Placed) (spelled : List Segment) → meanings names pieces ≡ Ok contents → AreSpelled contents spelled → Agree pieces spelled
-agree_all names [] contents spelled e are = none spelled (subst (λ (ps : List Placed). AreSpelled ps spelled) (sym (inside [] contents e)) are)
+pub agree_all : (order : Order) (names : List Name) (pieces : List Piece) (contents : List Placed) (spelled : List Segment) → meanings order names pieces ≡ Ok contents → AreSpelled order contents spelled → Agree pieces spelled
+agree_all order names [] contents spelled e are = none spelled (subst (λ (ps : List Placed). AreSpelled order ps spelled) (sym (inside [] contents e)) are)
   where
-    none : (ss : List Segment) → AreSpelled [] ss → Agree [] ss
+    none : (ss : List Segment) → AreSpelled order [] ss → Agree [] ss
     none [] are = record { sizes = refl; bytes = λ a. refl }
     none (s ∷ ss) are = absurd are
-agree_all names (p ∷ ps) contents spelled e are =
-    let one = one_piece names p ps contents e in
-    some one (λ ss h. agree_all names ps one.others ss one.mean h) spelled (subst (λ (cs : List Placed). AreSpelled cs spelled) one.contents_are are)
+agree_all order names (p ∷ ps) contents spelled e are =
+    let one = one_piece order names p ps contents e in
+    some one (λ ss h. agree_all order names ps one.others ss one.mean h) spelled (subst (λ (cs : List Placed). AreSpelled order cs spelled) one.contents_are are)
   where
-    some : (one : OnePiece names p ps contents) → ((ss : List Segment) → AreSpelled one.others ss → Agree ps ss) → (ss : List Segment) → AreSpelled (record { place = p.place; meaning = one.meaning } ∷ one.others) ss → Agree (p ∷ ps) ss
+    some : (one : OnePiece order names p ps contents) → ((ss : List Segment) → AreSpelled order one.others ss → Agree ps ss) → (ss : List Segment) → AreSpelled order (record { place = p.place; meaning = one.meaning } ∷ one.others) ss → Agree (p ∷ ps) ss
     some one ih [] are = absurd are
-    some one ih (s ∷ ss) are = agree_more p ps s ss are.0 (size_is p.line p.place names p.content one.meaning s.bytes one.means are.1) (ih ss are.2)
+    some one ih (s ∷ ss) are = agree_more p ps s ss are.0 (size_is order p.line p.place names p.content one.meaning s.bytes one.means are.1) (ih ss are.2)

@@ -1,12 +1,14 @@
 -- Where the statements of a source stand, and what its names are. Faults in the order in which they count on a line.
-use Rattle.std.specs.Prelude.{ℕ, ◌+◌, ◌-◌, ◌*◌, ◌%◌, ◌^◌, ℤ, pos, negsuc, Bool, not, ◌&&◌, ◌==◌, nat_lt, nat_le, if◌then◌else◌, List, [], ◌∷◌, ◌++◌, length, Option, None, Some, is_some, Result, Ok, Err}
+use Rattle.std.specs.Prelude.{ℕ, ◌+◌, ◌-◌, ◌*◌, ◌%◌, ◌^◌, ℤ, pos, negsuc, Bool, not, ◌&&◌, ◌||◌, ◌==◌, nat_lt, nat_le, if◌then◌else◌, List, [], ◌∷◌, ◌++◌, length, Option, None, Some, is_some, Result, Ok, Err}
 use Rattle.std.specs.List.{list_any}
 use Rattle.brd_text.specs.Faults.{◌>>=◌, or_fault}
 use Rattle.brd_base.specs.Space.{base, top}
+use Rattle.brd_word.specs.declared.order.Order.{Order}
+use Rattle.brd_word.specs.declared.order.Order.TheVariants.{Big}
 use Rattle.brd_source.specs.declared.statement.Width.{Width}
 use Rattle.brd_source.specs.declared.statement.Width.TheVariants.{Byte, Half, Word}
 use Rattle.brd_source.specs.Statement.{Expression, Instruction, Statement, Line}
-use Rattle.brd_source.specs.Statement.Statement.{Nothing, Instruct, Org, Align, Space, Data, Text, Equal}
+use Rattle.brd_source.specs.Statement.Statement.{Nothing, WithoutEffect, ByteOrder, Instruct, Org, Align, Space, Data, Text, Equal}
 use Rattle.brd_source.specs.Lines.{line_of}
 use Rattle.brd_asm.specs.declared.fault.AsmFault.{AsmFault}
 use Rattle.brd_asm.specs.declared.fault.AsmFault.TheVariants as fault
@@ -24,8 +26,9 @@ pub record Piece : Type 0 where
   pub line : ℕ
   pub content : Content
 
--- the place of what comes next, the names so far, and what was placed so far
+-- the byte order if it is settled, the place of what comes next, the names so far, and what was placed so far
 pub record Layout : Type 0 where
+  pub order : Option Order
   pub place : ℕ
   pub names : List Name
   pub pieces : List Piece
@@ -63,6 +66,8 @@ gap place n = (n - place % n) % n
 -- The names are those of earlier lines.
 unfoldable pub effect_of : ℕ → ℕ → List Name → Statement → Result Effect AsmFault
 effect_of line place names Nothing = Ok Stays
+effect_of line place names WithoutEffect = Ok Stays
+effect_of line place names (ByteOrder order) = Ok Stays
 effect_of line place names (Instruct instruction) = Ok (Fills (Code instruction))
 effect_of line place names (Org e) = do
   v ← known line (value_of names e)
@@ -83,9 +88,33 @@ effect_of line place names (Equal name e) = do
   x ← within line (negsuc 2147483647) (pos 4294967295) v
   Ok (Equates name x)
 
+-- the byte order of a source in which it was settled so, or not at all
+abbrev pub order_by : Option Order → Order
+order_by None = Big
+order_by (Some order) = order
+
+-- The first line that says anything settles the byte order: it is the one that this line's .byteorder names, and else
+-- big-endian. Anywhere else, also behind a label, .byteorder has none of the language's forms.
+abbrev pub settled_by : ℕ → Bool → Option Order → Statement → Result (Option Order) AsmFault
+settled_by line is_labelled order Nothing = Ok (if is_labelled then Some (order_by order) else order)
+settled_by line is_labelled order (ByteOrder named) = if is_labelled || is_some order then Err (fault.Syntax line) else Ok (Some named)
+settled_by line is_labelled order WithoutEffect = Ok (Some (order_by order))
+settled_by line is_labelled order (Instruct instruction) = Ok (Some (order_by order))
+settled_by line is_labelled order (Org e) = Ok (Some (order_by order))
+settled_by line is_labelled order (Align e) = Ok (Some (order_by order))
+settled_by line is_labelled order (Space e) = Ok (Some (order_by order))
+settled_by line is_labelled order (Data width values) = Ok (Some (order_by order))
+settled_by line is_labelled order (Text bytes) = Ok (Some (order_by order))
+settled_by line is_labelled order (Equal name e) = Ok (Some (order_by order))
+
+unfoldable pub settled : ℕ → Line → Option Order → Result (Option Order) AsmFault
+settled line said order = settled_by line (not (length said.labels == 0)) order said.statement
+
 -- the name that a statement gives a value to
 abbrev pub own_name : Statement → Option (List ℕ)
 own_name Nothing = None
+own_name WithoutEffect = None
+own_name (ByteOrder order) = None
 own_name (Instruct instruction) = None
 own_name (Org e) = None
 own_name (Align e) = None
@@ -128,6 +157,7 @@ filled line content s =
     else (if not (s.place % alignment_of content == 0) then Err (fault.Misaligned line)
     else (if overlaps s.pieces s.place (s.place + size_of content) then Err (fault.Overlap line)
     else Ok (record {
+      order = s.order;
       place = s.place + size_of content;
       names = s.names;
       pieces = s.pieces ++ record { place = s.place; line = line; content = content } ∷ [];
@@ -135,10 +165,10 @@ filled line content s =
 
 abbrev pub happened : ℕ → Effect → Layout → Result Layout AsmFault
 happened line Stays s = Ok s
-happened line (Moves place) s = Ok (record { place = place; names = s.names; pieces = s.pieces })
+happened line (Moves place) s = Ok (record { order = s.order; place = place; names = s.names; pieces = s.pieces })
 happened line (Equates name value) s = do
   names ← define line value name s.names
-  Ok (record { place = s.place; names = names; pieces = s.pieces })
+  Ok (record { order = s.order; place = s.place; names = names; pieces = s.pieces })
 happened line (Fills content) s = filled line content s
 
 -- what a line says, and Syntax where it has none of the language's forms
@@ -149,10 +179,11 @@ read line said = or_fault (fault.Syntax line) said
 unfoldable pub placed : ℕ → List ℕ → Layout → Result Layout AsmFault
 placed line bytes s = do
   l ← read line (line_of bytes)
+  order ← settled line l s.order
   names ← labelled line s.place l.labels s.names
   is_new ← check_is_new line (own_name l.statement) names
   effect ← effect_of line s.place s.names l.statement
-  happened line effect (record { place = s.place; names = names; pieces = s.pieces })
+  happened line effect (record { order = order; place = s.place; names = names; pieces = s.pieces })
 
 -- one line after the other, from this number on
 abbrev pub all_placed : ℕ → List (List ℕ) → Layout → Result Layout AsmFault
@@ -161,4 +192,4 @@ all_placed line (bytes ∷ lines) s = placed line bytes s >>= all_placed (line +
 
 -- nothing is placed yet, and what comes first stands at 0x80000000
 abbrev pub nothing : Layout
-nothing = record { place = base; names = []; pieces = [] }
+nothing = record { order = None; place = base; names = []; pieces = [] }

@@ -3,4 +3,4 @@ use Rattle.brd_asm.specs.declared.layout.Layout as layouts
 use Rattle.brd_asm.specs.Layout.{Layout}
 
 abbrev pub layout : layouts.Layout → Layout
-layout l = record { place = l.place; names = l.names; pieces = l.pieces }
+layout l = record { order = l.order; place = l.place; names = l.names; pieces = l.pieces }

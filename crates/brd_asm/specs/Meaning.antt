@@ -10,6 +10,7 @@ use Rattle.brd_isa.specs.declared.instruction.ImmediateOp.{ImmediateOp}
 use Rattle.brd_isa.specs.declared.instruction.ImmediateOp.TheVariants.{Andi, Ori, Xori}
 use Rattle.brd_isa.specs.declared.mnemonic.Mnemonic.{Mnemonic}
 use Rattle.brd_isa.specs.declared.mnemonic.Mnemonic.TheVariants as mnemonic
+use Rattle.brd_word.specs.declared.order.Order.{Order}
 use Rattle.brd_source.specs.declared.statement.Width.{Width}
 use Rattle.brd_source.specs.declared.statement.Width.TheVariants.{Byte, Half, Word}
 use Rattle.brd_source.specs.Statement.{Expression, Operand, Instruction, register_in, expression_in, immediate_in}
@@ -127,11 +128,11 @@ greatest_of Byte = pos 255
 greatest_of Half = pos 65535
 greatest_of Word = pos 4294967295
 
--- the bytes of a value, the most significant first
-abbrev pub bytes_of : Width → ℤ → List ℕ
-bytes_of Byte v = modulo v (2 ^ 8) ∷ []
-bytes_of Half v = bytes_of_half (modulo v (2 ^ 16))
-bytes_of Word v = bytes_of_word (modulo v (2 ^ 32))
+-- the bytes of a value, in the source's order
+abbrev pub bytes_of : Order → Width → ℤ → List ℕ
+bytes_of order Byte v = modulo v (2 ^ 8) ∷ []
+bytes_of order Half v = bytes_of_half order (modulo v (2 ^ 16))
+bytes_of order Word v = bytes_of_word order (modulo v (2 ^ 32))
 
 -- the values of some expressions, unless a name in one of them has none
 abbrev pub values_of : ℕ → List Name → List Expression → Result (List ℤ) AsmFault
@@ -142,12 +143,12 @@ values_of line names (e ∷ es) = do
   Ok (v ∷ vs)
 
 -- the bytes of some values, each of which has to be in range
-abbrev pub data_of : ℕ → Width → List ℤ → Result (List ℕ) AsmFault
-data_of line width [] = Ok []
-data_of line width (v ∷ vs) = do
+abbrev pub data_of : Order → ℕ → Width → List ℤ → Result (List ℕ) AsmFault
+data_of order line width [] = Ok []
+data_of order line width (v ∷ vs) = do
   x ← within line (least_of width) (greatest_of width) v
-  bytes ← data_of line width vs
-  Ok (bytes_of width x ++ bytes)
+  bytes ← data_of order line width vs
+  Ok (bytes_of order width x ++ bytes)
 
 -- an instruction, or bytes
 pub data Meaning : Type 0 where
@@ -158,21 +159,21 @@ pub record Placed : Type 0 where
   pub place : ℕ
   pub meaning : Meaning
 
-unfoldable pub content_meaning : ℕ → ℕ → List Name → Content → Result Meaning AsmFault
-content_meaning line place names (Code instruction) = do
+unfoldable pub content_meaning : Order → ℕ → ℕ → List Name → Content → Result Meaning AsmFault
+content_meaning order line place names (Code instruction) = do
   i ← instruction_of line place names instruction
   Ok (Means i)
-content_meaning line place names (Values width es) = do
+content_meaning order line place names (Values width es) = do
   vs ← values_of line names es
-  bytes ← data_of line width vs
+  bytes ← data_of order line width vs
   Ok (Is bytes)
-content_meaning line place names (Bytes bytes) = Ok (Is bytes)
-content_meaning line place names (Zeros n) = Ok (Is (replicate n 0))
+content_meaning order line place names (Bytes bytes) = Ok (Is bytes)
+content_meaning order line place names (Zeros n) = Ok (Is (replicate n 0))
 
 -- what stands at the places of pieces, in their order
-abbrev pub meanings : List Name → List Piece → Result (List Placed) AsmFault
-meanings names [] = Ok []
-meanings names (piece ∷ pieces) = do
-  meaning ← content_meaning piece.line piece.place names piece.content
-  others ← meanings names pieces
+abbrev pub meanings : Order → List Name → List Piece → Result (List Placed) AsmFault
+meanings order names [] = Ok []
+meanings order names (piece ∷ pieces) = do
+  meaning ← content_meaning order piece.line piece.place names piece.content
+  others ← meanings order names pieces
   Ok (record { place = piece.place; meaning = meaning } ∷ others)

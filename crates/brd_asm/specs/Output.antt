@@ -3,13 +3,14 @@
 use Rattle.std.specs.Prelude.{◌≡◌, ℕ, ◌+◌, ◌==◌, if◌then◌else◌, List, [], ◌∷◌, ◌++◌, length, Result, Ok}
 use Rattle.brd_text.specs.Faults.{◌>>=◌}
 use Rattle.brd_asm.specs.declared.fault.AsmFault.{AsmFault}
+use Rattle.brd_word.specs.declared.order.Order.{Order}
 use Rattle.brd_mem.specs.declared.image.Segment.{Segment}
 use Rattle.brd_asm.specs.Meaning.{Meaning, Placed}
 use Rattle.brd_asm.specs.Image.{HasBytes, AreSpelled}
 
 -- the bytes that spell a meaning stand behind these
-abbrev pub Adds : Meaning → List ℕ → List ℕ → Type 0
-Adds meaning before after = (bytes : List ℕ) × HasBytes meaning bytes × (after ≡ before ++ bytes)
+abbrev pub Adds : Order → Meaning → List ℕ → List ℕ → Type 0
+Adds order meaning before after = (bytes : List ℕ) × HasBytes order meaning bytes × (after ≡ before ++ bytes)
 
 -- bytes, if there are some, behind these
 abbrev pub behind : List ℕ → Result (List ℕ) AsmFault → Result (List ℕ) AsmFault
@@ -20,9 +21,9 @@ all_bytes [] = []
 all_bytes (s ∷ ss) = s.bytes ++ all_bytes ss
 
 -- the output is the bytes of all contents, one behind the other
-pub record IsOutput (contents : List Placed) (output : List ℕ) : Type 0 where
+pub record IsOutput (order : Order) (contents : List Placed) (output : List ℕ) : Type 0 where
   pub spelled : List Segment
-  pub are_spelled : AreSpelled contents spelled
+  pub are_spelled : AreSpelled order contents spelled
   pub output_is : output ≡ all_bytes spelled
 
 -- a last stretch with some bytes

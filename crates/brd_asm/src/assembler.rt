@@ -8,7 +8,7 @@ ghost use Rattle.brd_asm.specs.Image.{program_of, IsImage, entry_by};
 ghost use Rattle.brd_asm.specs.Laws.{HasLines, HasLabels, HasInstructions};
 
 use crate::fault::AsmFault;
-use crate::layout::Layout;
+use crate::layout::{Layout, order_by};
 use crate::names::Names;
 use crate::output::output_of;
 use crate::stretches::segments_of;
@@ -41,14 +41,17 @@ pub fn assemble(alloc: Global, text: &[u8]) -> Result<Image, AsmFault>
     ensures instructions { IfOk result (HasInstructions text.now) }
 {
     let Layout {
+        order,
         place: _,
         names,
         pieces,
     } = place_all(alloc, text)?;
-    let output = output_of(alloc, &names, pieces.as_slice())?;
+    let order = order_by(order);
+    let output = output_of(alloc, order, &names, pieces.as_slice())?;
     let segments = segments_of(alloc, pieces, output.as_slice())?;
     let symbols = names.symbols(alloc)?;
     Ok(Image {
+        order,
         entry: entry_of(&names),
         segments,
         symbols,

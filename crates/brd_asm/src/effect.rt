@@ -37,6 +37,8 @@ pub fn effect_of<'a>(
 {
     Ok(match statement {
         Statement::Nothing => Effect::Stays,
+        Statement::WithoutEffect => Effect::Stays,
+        Statement::ByteOrder(_) => Effect::Stays,
         Statement::Instruction(instruction) => Effect::Fills(Content::Code(instruction)),
         Statement::Org(e) => {
             let v = known(line, value_of(names, e))?;
@@ -74,6 +76,8 @@ pub fn own_name<'a>(statement: &Statement<'a>) -> Option<&'a [u8]>
 {
     match statement {
         Statement::Nothing => None,
+        Statement::WithoutEffect => None,
+        Statement::ByteOrder(_) => None,
         Statement::Instruction(_) => None,
         Statement::Org(_) => None,
         Statement::Align(_) => None,

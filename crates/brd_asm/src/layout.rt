@@ -4,7 +4,7 @@ ghost use Rattle.std.specs.Prelude.{◌≡◌, ◌+◌, ◌<◌, ◌≤◌, ◌^
 ghost use Rattle.brd_source.specs.View as source;
 ghost use Rattle.brd_source.specs.Lines.{line_of};
 ghost use Rattle.brd_asm.specs.Faults.{Gives};
-ghost use Rattle.brd_asm.specs.Layout.{nothing, read, check_is_new, happened, filled, placed, are_in_ram};
+ghost use Rattle.brd_asm.specs.Layout.{nothing, read, order_by, settled, check_is_new, happened, filled, placed, are_in_ram};
 ghost use Rattle.brd_asm.specs.View as view;
 ghost use Rattle.brd_asm.specs.LayoutView.{layout};
 
@@ -14,12 +14,15 @@ use crate::names::Names;
 use crate::piece::{Content, Piece};
 use crate::pieces::Pieces;
 use brd_base::{BASE, TOP};
-use brd_source::{Line, LineFault, parse_line};
+use brd_source::{Line, LineFault, Statement, parse_line};
+use brd_word::Order;
 use std::alloc::Global;
 
 /// What the lines so far have placed and named.
 #[derive(Drop)]
 pub struct Layout<'a> {
+    /// The byte order, once a line has settled it.
+    pub order: Option<Order>,
     /// Where the next statement stands.
     pub place: u32,
     /// The names so far.
@@ -34,6 +37,7 @@ impl<'a> Layout<'a> {
         ensures { layout result ≡ nothing }
     {
         Layout {
+            order: None,
             place: BASE,
             names: Names::new(alloc, text),
             pieces: Pieces::new(alloc),
@@ -45,7 +49,9 @@ impl<'a> Layout<'a> {
     pub fn place(&mut self, alloc: Global, line: usize, bytes: &'a [u8]) -> Result<(), AsmFault>
         ensures { Gives (λ _. layout self.new) result (placed line bytes.now (layout self.old)) }
     {
-        let Line { labels, statement } = read(alloc, line, bytes)?;
+        let said = read(alloc, line, bytes)?;
+        self.order = settled(line, &said, self.order)?;
+        let Line { labels, statement } = said;
         let own = own_name(&statement);
         // By the names of earlier lines; a name that is defined twice comes before its faults.
         let effect = effect_of(line, self.place, &self.names, statement);
@@ -98,6 +104,36 @@ impl<'a> Layout<'a> {
         self.place = place + size;
         Ok(())
     }
+}
+
+/// The byte order once a line is read that says this: the first line that says anything settles it, and no other may
+/// name it.
+#[tactic(auto, unfolding(crate::specs::Layout::settled))]
+fn settled(line: usize, said: &Line, order: Option<Order>) -> Result<Option<Order>, AsmFault>
+    ensures { Gives (λ order. order) result (settled line (source.line_value said.now) order) }
+{
+    let is_labelled = said.labels.len() != 0;
+    match &said.statement {
+        Statement::ByteOrder(named) => {
+            if is_labelled || order.is_some() {
+                return Err(AsmFault::Syntax { line });
+            }
+            Ok(Some(*named))
+        }
+        Statement::Nothing => Ok(if is_labelled {
+            Some(order_by(order))
+        } else {
+            order
+        }),
+        _ => Ok(Some(order_by(order))),
+    }
+}
+
+/// The byte order of a source in which it was settled so, or not at all.
+pub fn order_by(order: Option<Order>) -> Order
+    ensures { result ≡ order_by order }
+{
+    order.unwrap_or(Order::Big)
 }
 
 /// Whether as many addresses as this from a place on can all be filled.

@@ -16,34 +16,45 @@ use crate::value::{known, modulo, value_of, within};
 use brd_base::{List, NoMemory};
 use brd_isa::encode;
 use brd_source::{Expression, Width};
-use brd_word::{bytes_of, half_bytes_of};
+use brd_word::{Order, bytes_of, half_bytes_of};
 use std::alloc::Global;
 
-/// The bytes of all pieces.
-pub fn output_of(alloc: Global, names: &Names, pieces: &[Piece]) -> Result<Vec<u8>, AsmFault>
-    ensures { Meets (λ output contents. IsOutput contents output.items) result (meanings names.now (map seen.piece pieces.now)) }
+/// The bytes of all pieces, in an order.
+pub fn output_of(
+    alloc: Global,
+    order: Order,
+    names: &Names,
+    pieces: &[Piece],
+) -> Result<Vec<u8>, AsmFault>
+    ensures { Meets (λ output contents. IsOutput order contents output.items) result (meanings order names.now (map seen.piece pieces.now)) }
 {
     let mut output = Vec::new(alloc);
     for piece in pieces {
-        put(alloc, &mut output, names, piece)?;
+        put(alloc, order, &mut output, names, piece)?;
     }
     Ok(output)
 }
 
 /// Puts the bytes of a piece behind those of others.
 #[tactic(auto, unfolding(crate::specs::Meaning::content_meaning))]
-fn put(alloc: Global, output: &mut Vec<u8>, names: &Names, piece: &Piece) -> Result<(), AsmFault>
-    ensures { Meets (λ _ meaning. Adds meaning output.old.items output.new.items) result (content_meaning piece.now.line piece.now.place names.now (seen.content piece.now.content)) }
+fn put(
+    alloc: Global,
+    order: Order,
+    output: &mut Vec<u8>,
+    names: &Names,
+    piece: &Piece,
+) -> Result<(), AsmFault>
+    ensures { Meets (λ _ meaning. Adds order meaning output.old.items output.new.items) result (content_meaning order piece.now.line piece.now.place names.now (seen.content piece.now.content)) }
 {
     match &piece.content {
         Content::Code(instruction) => {
             let insn = instruction_of(piece.line, piece.place, names, instruction)?;
-            put_bytes(output, &bytes_of(encode(insn)))?;
+            put_bytes(output, &bytes_of(encode(insn), order))?;
             Ok(())
         }
         Content::Values(width, values) => {
             let numbers = values_of(alloc, piece.line, names, values.as_slice())?;
-            let bytes = data_of(alloc, piece.line, *width, numbers.as_slice())?;
+            let bytes = data_of(alloc, order, piece.line, *width, numbers.as_slice())?;
             put_bytes(output, bytes.as_slice())?;
             Ok(())
         }
@@ -92,31 +103,42 @@ fn values_of(
 
 /// The bytes of values of a width.
 #[tactic(auto, using(crate::proofs::OutputLemmas::behind_more))]
-fn data_of(alloc: Global, line: usize, width: Width, values: &[i128]) -> Result<List<u8>, AsmFault>
-    ensures { Gives (λ bytes. bytes) result (data_of line width values.now) }
+fn data_of(
+    alloc: Global,
+    order: Order,
+    line: usize,
+    width: Width,
+    values: &[i128],
+) -> Result<List<u8>, AsmFault>
+    ensures { Gives (λ bytes. bytes) result (data_of order line width values.now) }
 {
     let mut data = List::new(alloc);
     for value in values {
         let value = ranged(line, width, *value)?;
-        put_value(&mut data, width, value)?;
+        put_value(&mut data, order, width, value)?;
     }
     Ok(data)
 }
 
 /// Puts the bytes of a value behind others.
-fn put_value(output: &mut List<u8>, width: Width, value: i64) -> Result<(), NoMemory>
-    ensures { OnOk result (output.new ≡ output.old ++ bytes_of width value) }
+fn put_value(
+    output: &mut List<u8>,
+    order: Order,
+    width: Width,
+    value: i64,
+) -> Result<(), NoMemory>
+    ensures { OnOk result (output.new ≡ output.old ++ bytes_of order width value) }
 {
     let value = value as i128;
     match width {
         Width::Byte => output.push(modulo(value, 0x100) as u8)?,
         Width::Half => {
             let half = modulo(value, 0x1_0000) as u16;
-            output.append(&half_bytes_of(half))?;
+            output.append(&half_bytes_of(half, order))?;
         }
         Width::Word => {
             let word = modulo(value, 0x1_0000_0000) as u32;
-            output.append(&bytes_of(word))?;
+            output.append(&bytes_of(word, order))?;
         }
     }
     Ok(())

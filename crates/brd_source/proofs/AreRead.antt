@@ -17,7 +17,7 @@ use Rattle.brd_source.specs.Grammar.OperandIs.{register, value, offset, no_offse
 use Rattle.brd_source.specs.Grammar.OperandsAre.{none, one, two, three}
 use Rattle.brd_source.specs.Grammar.ValuesAre.{one as one_value, many}
 use Rattle.brd_source.specs.Grammar.IsSetting.{noreorder, noat, nomacro}
-use Rattle.brd_source.specs.Grammar.Says.{instructs, shortens, org, align, space, values, ascii, asciiz, equ, globl, set}
+use Rattle.brd_source.specs.Grammar.Says.{instructs, shortens, org, align, space, values, ascii, asciiz, equ, globl, set, byteorder}
 use Rattle.brd_source.specs.Grammar.StatementIs.{left_out, begins}
 use Rattle.brd_source.specs.Grammar.LineIs.{statement, label}
 use Rattle.brd_source.specs.Lines.{labels_of, behind_labels, with_labels, line_from}
@@ -25,8 +25,8 @@ use Rattle.brd_source.specs.Reading.{number_from, addend_from, expression_from, 
 use Rattle.brd_source.specs.Registers.{register_of}
 use Rattle.brd_source.specs.Statement.{Expression, Immediate, Operand, Operands, Statement, Line}
 use Rattle.brd_source.specs.Statement.Immediate.{Whole}
-use Rattle.brd_source.specs.Statement.Statement.{Nothing}
-use Rattle.brd_source.specs.Statements.{text_from, equal_from, global_from, setting_from, instruction_from, said_from, statement_from}
+use Rattle.brd_source.specs.Statement.Statement.{Nothing, WithoutEffect}
+use Rattle.brd_source.specs.Statements.{text_from, equal_from, global_from, setting_from, order_from, instruction_from, said_from, statement_from}
 use Rattle.brd_source.specs.Tokens.{Token}
 use Rattle.brd_source.specs.Tokens.Token.{Run, Percent, Mark}
 use Rattle.brd_source.proofs.OptionLemmas.{mapped}
@@ -242,14 +242,14 @@ values_read _ _ (many tokens others e es is are) = rw (part_and_more tokens othe
 
 -- ---- statements
 
-set_read : (setting : List ℕ) → IsSetting setting → setting_from (Run setting ∷ []) ≡ Some Nothing
+set_read : (setting : List ℕ) → IsSetting setting → setting_from (Run setting ∷ []) ≡ Some WithoutEffect
 unfolding setting_from
 set_read _ noreorder = refl
 set_read _ noat = refl
 set_read _ nomacro = refl
 
 said_read : (operation : Operation) (tokens : List Token) (s : Statement) → Says operation tokens s → said_from operation tokens ≡ Some s
-unfolding instruction_from text_from equal_from global_from
+unfolding instruction_from text_from equal_from global_from order_from
 said_read _ _ _ (instructs m tokens written operands are takes) = rw (operands_read tokens written are, takes) refl
 said_read _ _ _ (shortens s tokens written operands are takes) = rw (operands_read tokens written are, takes) refl
 said_read _ _ _ (org tokens e is) = rw (expression_read tokens e is) refl
@@ -261,6 +261,7 @@ said_read _ _ _ (asciiz text bytes is) = rw is refl
 said_read _ _ _ (equ given tokens e h is) = rw (h, expression_read tokens e is) refl
 said_read _ _ _ (globl given h) = rw h refl
 said_read _ _ _ (set setting is) = set_read setting is
+said_read _ _ _ (byteorder given order is) = rw is refl
 
 statement_read : (tokens : List Token) (s : Statement) → StatementIs tokens s → statement_from tokens ≡ Some s
 unfolding statement_from
@@ -309,6 +310,7 @@ said_no_colon _ _ _ (asciiz text bytes is) = refl
 said_no_colon _ _ _ (equ given tokens e h is) = refl
 said_no_colon _ _ _ (globl given h) = refl
 said_no_colon _ _ _ (set setting is) = refl
+said_no_colon _ _ _ (byteorder given order is) = refl
 
 no_label : (run : List ℕ) (tokens : List Token) → no_colon tokens ≡ true → (labels_of (Run run ∷ tokens) ≡ []) × (behind_labels (Run run ∷ tokens) ≡ Run run ∷ tokens)
 unfolding no_colon

@@ -24,7 +24,7 @@ use Rattle.brd_source.specs.Grammar.OperandIs.{register, value, offset, no_offse
 use Rattle.brd_source.specs.Grammar.OperandsAre.{none, one, two, three}
 use Rattle.brd_source.specs.Grammar.ValuesAre.{one as one_value, many}
 use Rattle.brd_source.specs.Grammar.IsSetting.{noreorder, noat, nomacro}
-use Rattle.brd_source.specs.Grammar.Says.{instructs, shortens, org, align, space, values, ascii, asciiz, equ, globl, set}
+use Rattle.brd_source.specs.Grammar.Says.{instructs, shortens, org, align, space, values, ascii, asciiz, equ, globl, set, byteorder}
 use Rattle.brd_source.specs.Grammar.StatementIs.{left_out, begins}
 use Rattle.brd_source.specs.Grammar.LineIs.{statement, label}
 use Rattle.brd_source.specs.Lines.{is_label, labels_of, behind_labels, with_labels, line_from}
@@ -33,12 +33,12 @@ use Rattle.brd_source.specs.Registers.{register_of}
 use Rattle.brd_source.specs.Statement.{Expression, Immediate, Operand, Operands, Instruction, Statement, Line, zero_expression}
 use Rattle.brd_source.specs.Statement.Immediate.{Whole, High, Low}
 use Rattle.brd_source.specs.Statement.Operand.{Absent, Register, Value, Address}
-use Rattle.brd_source.specs.Statement.Statement.{Nothing, Instruct, Org, Align, Space, Data, Text, Equal}
-use Rattle.brd_source.specs.Statements.{text_from, equal_from, global_from, is_setting, setting_from, directive_from, instruction_from, said_from, statement_from}
+use Rattle.brd_source.specs.Statement.Statement.{Nothing, WithoutEffect, ByteOrder, Instruct, Org, Align, Space, Data, Text, Equal}
+use Rattle.brd_source.specs.Statements.{text_from, equal_from, global_from, is_setting, setting_from, order_from, directive_from, instruction_from, said_from, statement_from}
 use Rattle.brd_source.specs.Texts.{text_of}
 use Rattle.brd_source.specs.Tokens.{Token}
 use Rattle.brd_source.specs.Tokens.Token.{Run, Percent, Quoted, Mark}
-use Rattle.brd_source.specs.Operations.{operation_named}
+use Rattle.brd_source.specs.Operations.{operation_named, order_named}
 use Rattle.brd_source.proofs.OptionLemmas.{some_is, mapped, bound, tested}
 
 -- a mark by its code
@@ -252,8 +252,8 @@ equal_is _ s h = absurd (cc)
 global_is : (tokens : List Token) (s : Statement) → global_from tokens ≡ Some s → Says (Directs directives.Globl) tokens s
 unfolding global_from
 global_is (Run given ∷ []) s h =
-    let t = tested (is_name given) (Some Nothing) s h in
-    subst (λ (p : Statement). Says (Directs directives.Globl) (Run given ∷ []) p) (some_is Nothing s t.1) (globl given t.0)
+    let t = tested (is_name given) (Some WithoutEffect) s h in
+    subst (λ (p : Statement). Says (Directs directives.Globl) (Run given ∷ []) p) (some_is WithoutEffect s t.1) (globl given t.0)
 global_is _ s h = absurd (cc)
 
 setting_is : (run : List ℕ) → is_setting run ≡ true → IsSetting run
@@ -270,9 +270,16 @@ setting_is run h =
 set_is : (tokens : List Token) (s : Statement) → setting_from tokens ≡ Some s → Says (Directs directives.Set) tokens s
 unfolding setting_from
 set_is (Run run ∷ []) s h =
-    let t = tested (is_setting run) (Some Nothing) s h in
-    subst (λ (p : Statement). Says (Directs directives.Set) (Run run ∷ []) p) (some_is Nothing s t.1) (set run (setting_is run t.0))
+    let t = tested (is_setting run) (Some WithoutEffect) s h in
+    subst (λ (p : Statement). Says (Directs directives.Set) (Run run ∷ []) p) (some_is WithoutEffect s t.1) (set run (setting_is run t.0))
 set_is _ s h = absurd (cc)
+
+order_is : (tokens : List Token) (s : Statement) → order_from tokens ≡ Some s → Says (Directs directives.ByteOrder) tokens s
+unfolding order_from
+order_is (Run given ∷ []) s h =
+    let o = mapped (λ order. ByteOrder order) (order_named given) s h in
+    subst (λ (p : Statement). Says (Directs directives.ByteOrder) (Run given ∷ []) p) o.2 (byteorder given o.0 o.1)
+order_is _ s h = absurd (cc)
 
 directive_is : (d : Directive) (tokens : List Token) (s : Statement) → directive_from d tokens ≡ Some s → Says (Directs d) tokens s
 directive_is directives.Org tokens s h = with_expression (Directs directives.Org) tokens s (λ e. Org e) (λ e is. org tokens e is) h
@@ -286,6 +293,7 @@ directive_is directives.Asciiz tokens s h = text_is (Directs directives.Asciiz) 
 directive_is directives.Equ tokens s h = equal_is tokens s h
 directive_is directives.Globl tokens s h = global_is tokens s h
 directive_is directives.Set tokens s h = set_is tokens s h
+directive_is directives.ByteOrder tokens s h = order_is tokens s h
 
 -- ---- statements and lines
 

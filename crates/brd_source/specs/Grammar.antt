@@ -8,6 +8,7 @@ use Rattle.brd_isa.specs.declared.mnemonic.Mnemonic as mnemonics
 use Rattle.brd_isa.specs.Names.{lowered}
 use Rattle.brd_text.specs.Bytes.{is_name}
 use Rattle.brd_text.specs.Numbers.{number_of}
+use Rattle.brd_word.specs.declared.order.Order.{Order}
 use Rattle.brd_source.specs.declared.statement.Width.{Width}
 use Rattle.brd_source.specs.declared.operations.Shorthand as shorthands
 use Rattle.brd_source.specs.declared.operations.Directive.TheVariants as directive
@@ -18,11 +19,11 @@ use Rattle.brd_source.specs.Registers.{register_of}
 use Rattle.brd_source.specs.Statement.{Expression, Immediate, Operand, Operands, Statement, Line, zero_expression}
 use Rattle.brd_source.specs.Statement.Immediate.{Whole, High, Low}
 use Rattle.brd_source.specs.Statement.Operand.{Absent, Register, Value, Address}
-use Rattle.brd_source.specs.Statement.Statement.{Nothing, Instruct, Org, Align, Space, Data, Text, Equal}
+use Rattle.brd_source.specs.Statement.Statement.{Nothing, WithoutEffect, ByteOrder, Instruct, Org, Align, Space, Data, Text, Equal}
 use Rattle.brd_source.specs.Texts.{text_of}
 use Rattle.brd_source.specs.Tokens.{Token, closing_byte, colon_byte, comma_byte, minus_byte, opening_byte, plus_byte}
 use Rattle.brd_source.specs.Tokens.Token.{Run, Percent, Quoted, Mark}
-use Rattle.brd_source.specs.Operations.{operation_named}
+use Rattle.brd_source.specs.Operations.{operation_named, order_named}
 
 -- the marks , : + - ( )
 abbrev pub comma : Token
@@ -96,7 +97,7 @@ pub data IsSetting : List ℕ → Type 0 where
   nomacro : IsSetting (codes "nomacro")
 
 -- What stands behind an operation, and the statement that it says: operands of the operation's form, or those of a
--- directive. .globl and .set say nothing.
+-- directive. .globl and .set have no effect.
 pub data Says : Operation → List Token → Statement → Type 0 where
   instructs : (m : mnemonics.Mnemonic) (tokens : List Token) (written operands : Operands) → OperandsAre tokens written
       → taken (form_of m) written ≡ Some operands → Says (Mnemonic m) tokens (Instruct (instruction m operands))
@@ -110,8 +111,9 @@ pub data Says : Operation → List Token → Statement → Type 0 where
   asciiz : (text bytes : List ℕ) → text_of text ≡ Some bytes → Says (Directive directive.Asciiz) (Quoted text ∷ []) (Text (bytes ++ 0 ∷ []))
   equ : (name : List ℕ) (tokens : List Token) (e : Expression) → is_name name ≡ true → ExpressionIs tokens e
       → Says (Directive directive.Equ) (Run name ∷ comma ∷ tokens) (Equal name e)
-  globl : (name : List ℕ) → is_name name ≡ true → Says (Directive directive.Globl) (Run name ∷ []) Nothing
-  set : (setting : List ℕ) → IsSetting setting → Says (Directive directive.Set) (Run setting ∷ []) Nothing
+  globl : (name : List ℕ) → is_name name ≡ true → Says (Directive directive.Globl) (Run name ∷ []) WithoutEffect
+  set : (setting : List ℕ) → IsSetting setting → Says (Directive directive.Set) (Run setting ∷ []) WithoutEffect
+  byteorder : (name : List ℕ) (order : Order) → order_named name ≡ Some order → Says (Directive directive.ByteOrder) (Run name ∷ []) (ByteOrder order)
 
 -- a mnemonic, a shorthand or a directive, in whatever case, and what stands behind it; or nothing
 pub data StatementIs : List Token → Statement → Type 0 where

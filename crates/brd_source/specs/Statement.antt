@@ -2,6 +2,7 @@
 -- are those of the code's types.
 use Rattle.std.specs.Prelude.{ℕ, ◌%◌, ◌^◌, ℤ, pos, List, Option, None}
 use Rattle.brd_isa.specs.declared.mnemonic.Mnemonic.{Mnemonic}
+use Rattle.brd_word.specs.declared.order.Order.{Order}
 use Rattle.brd_source.specs.declared.statement.Width.{Width}
 
 -- the value of a name, if there is one, plus a number
@@ -49,9 +50,12 @@ pub record Instruction : Type 0 where
   pub mnemonic : Mnemonic
   pub operands : Operands
 
--- what stands behind a line's labels; Instruct is an instruction
+-- What stands behind a line's labels: nothing at all, what has no effect, the byte order of the source, an instruction,
+-- and so on.
 pub data Statement : Type 0 where
   Nothing : Statement
+  WithoutEffect : Statement
+  ByteOrder : Order → Statement
   Instruct : Instruction → Statement
   Org : Expression → Statement
   Align : Expression → Statement

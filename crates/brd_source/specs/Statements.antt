@@ -12,11 +12,11 @@ use Rattle.brd_source.specs.Faults.{◌>>=◌}
 use Rattle.brd_source.specs.Forms.{form_of, short_form_of, taken, instruction, stands_for}
 use Rattle.brd_source.specs.Reading.{expression_from, operands_from, parts, values_of}
 use Rattle.brd_source.specs.Statement.{Operands, Instruction, Statement}
-use Rattle.brd_source.specs.Statement.Statement.{Nothing, Instruct, Org, Align, Space, Data, Text, Equal}
+use Rattle.brd_source.specs.Statement.Statement.{Nothing, WithoutEffect, ByteOrder, Instruct, Org, Align, Space, Data, Text, Equal}
 use Rattle.brd_source.specs.Texts.{text_of}
 use Rattle.brd_source.specs.Tokens.{Token, comma_byte}
 use Rattle.brd_source.specs.Tokens.Token.{Run, Quoted, Mark}
-use Rattle.brd_source.specs.Operations.{operation_named}
+use Rattle.brd_source.specs.Operations.{operation_named, order_named}
 
 -- ---- directives
 
@@ -32,7 +32,7 @@ equal_from _ = None
 
 -- a name, without effect
 unfoldable pub global_from : List Token → Option Statement
-global_from (Run name ∷ []) = if is_name name then Some Nothing else None
+global_from (Run name ∷ []) = if is_name name then Some WithoutEffect else None
 global_from _ = None
 
 abbrev pub is_setting : List ℕ → Bool
@@ -40,8 +40,13 @@ is_setting run = bytes_eq run (codes "noreorder") || bytes_eq run (codes "noat")
 
 -- noreorder, noat or nomacro, without effect
 unfoldable pub setting_from : List Token → Option Statement
-setting_from (Run run ∷ []) = if is_setting run then Some Nothing else None
+setting_from (Run run ∷ []) = if is_setting run then Some WithoutEffect else None
 setting_from _ = None
+
+-- a byte order
+unfoldable pub order_from : List Token → Option Statement
+order_from (Run name ∷ []) = option_map (λ order. ByteOrder order) (order_named name)
+order_from _ = None
 
 -- what stands behind a directive
 abbrev pub directive_from : Directive → List Token → Option Statement
@@ -54,6 +59,7 @@ directive_from directives.Asciiz tokens = option_map (λ text. Text (text ++ 0 �
 directive_from directives.Equ tokens = equal_from tokens
 directive_from directives.Globl tokens = global_from tokens
 directive_from directives.Set tokens = setting_from tokens
+directive_from directives.ByteOrder tokens = order_from tokens
 
 -- ---- statements
 

@@ -12,7 +12,7 @@ use Rattle.brd_source.specs.declared.statement.Line as lines
 use Rattle.brd_source.specs.Statement.{Expression, Immediate, Operand, Operands, Instruction, Statement, Line}
 use Rattle.brd_source.specs.Statement.Immediate.{Whole, High, Low}
 use Rattle.brd_source.specs.Statement.Operand.{Absent, Register, Value, Address}
-use Rattle.brd_source.specs.Statement.Statement.{Nothing, Instruct, Org, Align, Space, Data, Text, Equal}
+use Rattle.brd_source.specs.Statement.Statement.{Nothing, WithoutEffect, ByteOrder, Instruct, Org, Align, Space, Data, Text, Equal}
 
 abbrev pub expression_value : expressions.Expression → Expression
 expression_value e = record { name = option_map (λ n. n.now) e.name; number = e.number }
@@ -36,6 +36,8 @@ instruction_value i = record { mnemonic = i.mnemonic; operands = operands_value 
 
 abbrev pub statement_value : statements.Statement → Statement
 statement_value statement.Nothing = Nothing
+statement_value statement.WithoutEffect = WithoutEffect
+statement_value (statement.ByteOrder order) = ByteOrder order
 statement_value (statement.Instruction i) = Instruct (instruction_value i)
 statement_value (statement.Org place) = Org (expression_value place)
 statement_value (statement.Align n) = Align (expression_value n)

@@ -6,6 +6,7 @@ ghost use Rattle.brd_source.specs.Operations as operations;
 
 use crate::statement::Width;
 use brd_isa::{Mnemonic, is_same_name, mnemonic_named};
+use brd_word::Order;
 
 /// Names for instructions that another mnemonic has too.
 #[derive(Clone, Copy)]
@@ -30,6 +31,7 @@ pub(crate) enum Directive {
     Equ,
     Globl,
     Set,
+    ByteOrder,
 }
 
 /// What a statement begins with.
@@ -68,6 +70,7 @@ const NAMES: &[(&[u8], Operation)] = &[
     (b".equ", Operation::Directive(Directive::Equ)),
     (b".globl", Operation::Directive(Directive::Globl)),
     (b".set", Operation::Directive(Directive::Set)),
+    (b".byteorder", Operation::Directive(Directive::ByteOrder)),
 ];
 
 /// What a table has for a name, without regard to case.
@@ -90,4 +93,18 @@ pub(crate) fn operation_named(name: &[u8]) -> Option<Operation>
         return Some(Operation::Mnemonic(mnemonic));
     }
     find(NAMES, name)
+}
+
+/// The byte order of this name.
+#[tactic(auto, unfolding(crate::specs::Operations::order_named))]
+pub(crate) fn order_named(name: &[u8]) -> Option<Order>
+    ensures { result ≡ operations.order_named name.now }
+{
+    if name == b"big".as_slice() {
+        return Some(Order::Big);
+    }
+    if name == b"little".as_slice() {
+        return Some(Order::Little);
+    }
+    None
 }

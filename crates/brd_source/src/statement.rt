@@ -6,6 +6,7 @@ ghost use Rattle.brd_source.specs.View.{expression_value, immediate_value, opera
 
 use brd_base::List;
 use brd_isa::{Mnemonic, Register};
+use brd_word::Order;
 
 /// A whole number with sign: the value of a name, if there is one, plus a number.
 #[derive(Clone, Copy)]
@@ -107,8 +108,12 @@ pub enum Width {
 /// What stands behind a line's labels.
 #[derive(Drop)]
 pub enum Statement<'a> {
-    /// Nothing, or a directive without effect: `.globl name`, `.set noreorder`, `.set noat`, `.set nomacro`.
+    /// Nothing at all.
     Nothing,
+    /// A directive without effect: `.globl name`, `.set noreorder`, `.set noat`, `.set nomacro`.
+    WithoutEffect,
+    /// `.byteorder order`: the byte order of the source.
+    ByteOrder(Order),
     /// An instruction.
     Instruction(Instruction<'a>),
     /// `.org place`: what follows stands at this address.

@@ -10,7 +10,7 @@ ghost use Rattle.brd_source.specs.View.{expression_value, operands_value, statem
 
 use crate::fault::LineFault;
 use crate::forms::{Kind, form_of, short_form_of, stands_for, taken};
-use crate::operations::{Directive, Operation, Shorthand, operation_named};
+use crate::operations::{Directive, Operation, Shorthand, operation_named, order_named};
 use crate::reading::{expression, first_part, operands};
 use crate::statement::{Expression, Instruction, Operands, Statement};
 use crate::text::text;
@@ -69,7 +69,7 @@ fn global<'a>(tokens: &[Token<'a>]) -> Option<Statement<'a>>
     ensures { option_map statement_value result ≡ statements.global_from (map seen tokens.now) }
 {
     match tokens {
-        [Token::Run(name)] if brd_text::is_name(name) => Some(Statement::Nothing),
+        [Token::Run(name)] if brd_text::is_name(name) => Some(Statement::WithoutEffect),
         _ => None,
     }
 }
@@ -87,7 +87,18 @@ fn setting<'a>(tokens: &[Token<'a>]) -> Option<Statement<'a>>
     ensures { option_map statement_value result ≡ statements.setting_from (map seen tokens.now) }
 {
     match tokens {
-        [Token::Run(run)] if is_setting(run) => Some(Statement::Nothing),
+        [Token::Run(run)] if is_setting(run) => Some(Statement::WithoutEffect),
+        _ => None,
+    }
+}
+
+/// A byte order, behind `.byteorder`.
+#[tactic(auto, unfolding(crate::specs::Statements::order_from))]
+fn order<'a>(tokens: &[Token<'a>]) -> Option<Statement<'a>>
+    ensures { option_map statement_value result ≡ statements.order_from (map seen tokens.now) }
+{
+    match tokens {
+        [Token::Run(name)] => Some(Statement::ByteOrder(order_named(name)?)),
         _ => None,
     }
 }
@@ -110,6 +121,7 @@ fn behind_directive<'a>(
         Directive::Equ => equal(tokens).ok_or(LineFault::Syntax),
         Directive::Globl => global(tokens).ok_or(LineFault::Syntax),
         Directive::Set => setting(tokens).ok_or(LineFault::Syntax),
+        Directive::ByteOrder => order(tokens).ok_or(LineFault::Syntax),
     }
 }
 

@@ -8,13 +8,13 @@ use Rattle.brd_asm.proofs.assembler.assemble.Goals as goal
 
 pub segments_of-requires : goal.segments_of-requires
 segments_of-requires c =
-    output_length c.in_ok-names.field-0.names c.in_ok-names.field-0.pieces c.in_ok-output.output c.as_slice-2.result.now c.as_slice-2.ensures.value (rw (← c.as_slice.ensures) c.in_ok-output.ensures)
+    output_length c.order_by-order.result c.in_ok-order.field-0.names c.in_ok-order.field-0.pieces c.in_ok-output.output c.as_slice-2.result.now c.as_slice-2.ensures.value (rw (← c.as_slice.ensures) c.in_ok-output.ensures)
 
 pub returns : goal.returns
 returns c =
-    let image : Image = record { entry = c.entry_of.result; segments = c.in_ok-segments.segments; symbols = c.in_ok-symbols.symbols } in
-    let meaning = image_is c.args.text.now (layout c.in_ok-names.field-0) c.in_ok-output.output c.as_slice-2.result.now image c.in_ok-names.ensures c.as_slice-2.ensures.value (rw (← c.as_slice.ensures) c.in_ok-output.ensures)
-    c.in_ok-segments.ensures c.in_ok-symbols.ensures c.entry_of.ensures in
+    let image : Image = record { order = c.order_by-order.result; entry = c.entry_of.result; segments = c.in_ok-segments.segments; symbols = c.in_ok-symbols.symbols } in
+    let meaning = image_is c.args.text.now (layout c.in_ok-order.field-0) c.in_ok-output.output c.as_slice-2.result.now image c.in_ok-order.ensures c.as_slice-2.ensures.value (rw (← c.order_by-order.ensures, ← c.as_slice.ensures) c.in_ok-output.ensures)
+    c.in_ok-segments.ensures c.in_ok-symbols.ensures c.order_by-order.ensures c.entry_of.ensures in
     let known = meets_ok (λ (image : Image) (program : Program). IsImage program image) image (program_of c.args.text.now) meaning in
     record {
       meaning = meaning;

@@ -5,4 +5,4 @@ use Rattle.brd_asm.proofs.output.data_of.Given as goal
 
 -- the bytes so far and those of what is left are those of all
 abbrev pub invariant-loop-value : goal.invariant-loop-value
-invariant-loop-value l = behind l.data (data_of l.line l.width (drop l.value-index l.values)) ≡ data_of l.line l.width l.values
+invariant-loop-value l = behind l.data (data_of l.order l.line l.width (drop l.value-index l.values)) ≡ data_of l.order l.line l.width l.values

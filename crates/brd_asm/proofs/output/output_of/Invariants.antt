@@ -4,4 +4,4 @@ use Rattle.brd_asm.proofs.OutputLemmas.{Progress}
 use Rattle.brd_asm.proofs.output.output_of.Given as goal
 
 abbrev pub invariant-loop-piece : goal.invariant-loop-piece
-invariant-loop-piece l = Progress l.names (map seen.piece l.pieces) (map seen.piece (drop l.piece-index l.pieces)) l.output.items
+invariant-loop-piece l = Progress l.order l.names (map seen.piece l.pieces) (map seen.piece (drop l.piece-index l.pieces)) l.output.items
