@@ -3,9 +3,9 @@
  *   mips-linux-gnu-as -EB -mips32 -o firmware.o examples/firmware.s
  *   mips-linux-gnu-ld -EB -n -T examples/firmware.ld -o firmware.elf firmware.o
  *
- * RAM is 16 MiB at most; LENGTH is what the configuration's BOARD line gives. docs/ELF.md says which files load.
+ * With -EL in the place of -EB the file is little-endian. RAM is 16 MiB at most; LENGTH is what the configuration's BOARD line gives. docs/ELF.md says which files load.
  */
-OUTPUT_FORMAT("elf32-tradbigmips")
+OUTPUT_FORMAT("elf32-tradbigmips", "elf32-tradbigmips", "elf32-tradlittlemips")
 OUTPUT_ARCH(mips)
 ENTRY(_start)
 

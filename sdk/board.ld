@@ -1,6 +1,6 @@
 /* Linker script of the board: everything that is loaded lies from 0x80000000 on, where RAM begins. start.S gives the
  * size of RAM and of the tasks' stacks, which the board lays from the end of RAM down. */
-OUTPUT_FORMAT("elf32-tradbigmips")
+OUTPUT_FORMAT("elf32-tradbigmips", "elf32-tradbigmips", "elf32-tradlittlemips")
 OUTPUT_ARCH(mips)
 
 MEMORY

@@ -14,11 +14,13 @@
 #   make hunt           does the steps of JOURNAL in TRIES other orders, and keeps the first with another console
 #   make clean
 #
-# STACK_CHECK=1 with any of these: each function looks whether the stack has room for it.
+# STACK_CHECK=1 with any of these: each function looks whether the stack has room for it. ORDER=little: the program is
+# little-endian, and its journals are taken for it.
 SOURCES ?= firmware.c
 OPTIMIZE ?= -O2
 HANDLER_STACK ?= 1024
 STACK_CHECK ?=
+ORDER ?= big
 JOURNAL ?= firmware.journal
 TRIES ?= 200
 SEED ?= 1
@@ -29,13 +31,16 @@ export CROSS ?= mips-linux-gnu-
 CC = $(CROSS)gcc
 LD = $(CROSS)ld
 
-# Big-endian code of MIPS32 Release 1 that stays where it is linked: no code of Release 2, which Debian's GCC makes by
-# itself; no library, no floating point, no small data, which needs $gp.
-MACHINE = -EB -march=mips32 -mabi=32 -msoft-float -mno-abicalls -fno-pic -G0
+ENDIAN := $(or $(and $(filter big,$(ORDER)),-EB),$(and $(filter little,$(ORDER)),-EL),\
+    $(error ORDER is big or little, and not '$(ORDER)'))
+
+# Code of MIPS32 Release 1 that stays where it is linked: no code of Release 2, which Debian's GCC makes by itself; no
+# library, no floating point, no small data, which needs $gp.
+MACHINE = $(ENDIAN) -march=mips32 -mabi=32 -msoft-float -mno-abicalls -fno-pic -G0
 COMPILE = $(CC) $(MACHINE) -ffreestanding -fno-stack-protector -fno-asynchronous-unwind-tables -std=gnu11 -g \
     $(OPTIMIZE) -Wall -Wextra $(if $(STACK_CHECK),-finstrument-functions) -isystem $(SDK)/include -I. $(CFLAGS)
 ASSEMBLE = $(CC) $(MACHINE) -g -DHANDLER_STACK=$(HANDLER_STACK) -I$(BUILD)
-LINK = $(LD) -EB -n -z noexecstack -e 0x80000000 -T $(SDK)/board.ld
+LINK = $(LD) $(ENDIAN) -n -z noexecstack -e 0x80000000 -T $(SDK)/board.ld
 CONFIGURE = $(CC) -E -x c -undef -nostdinc -D__ASSEMBLER__ -I. -isystem $(SDK)/include
 
 KIT = $(BUILD)/kit
@@ -87,10 +92,12 @@ accept: all
 	@$(SDK)/test --accept $(BOARD) $(IMAGE) $(CONFIGURATION) $(wildcard *.journal)
 
 run: all
-	@$(BOARD) run $(IMAGE) $(CONFIGURATION) $(JOURNAL)
+	@$(SDK)/ordered $(IMAGE) $(JOURNAL) > $(BUILD)/run.journal
+	@$(BOARD) run $(IMAGE) $(CONFIGURATION) $(BUILD)/run.journal
 
 debug: all
-	@$(SDK)/debug $(BOARD) $(IMAGE) $(CONFIGURATION) $(JOURNAL)
+	@$(SDK)/ordered $(IMAGE) $(JOURNAL) > $(BUILD)/debug.journal
+	@$(SDK)/debug $(BOARD) $(IMAGE) $(CONFIGURATION) $(BUILD)/debug.journal
 
 hunt: all
 	@$(SDK)/hunt $(BOARD) $(IMAGE) $(CONFIGURATION) $(JOURNAL) $(TRIES) $(SEED) $(BUILD)/hunt.journal

@@ -1,11 +1,11 @@
 #!/bin/sh
-# Assembles one source with the board's assembler and with GNU as and ld (Debian: binutils-mips-linux-gnu), and
-# compares the bytes. It is the source of crates/input_tests/src/tests/asm/every.rt, of every mnemonic, one-word form
-# and directive.
+# Assembles one source with the board's assembler and with GNU as and ld (Debian: binutils-mips-linux-gnu), in both byte
+# orders, and compares the bytes. It is the source of crates/input_tests/src/tests/asm/every.rt, of every mnemonic,
+# one-word form and directive.
 #
 #   tests/asm_binutils.sh [BOARD]       BOARD: the program, by default build/board
 #
-# One line; the status is 1 if the bytes differ. Without the package it is skipped, which it says.
+# One line for each byte order; the status is 1 if the bytes differ. Without the package it is skipped, which it says.
 set -u
 top=$(cd "$(dirname "$0")/.." && pwd)
 board=${1:-$top/build/board}
@@ -45,27 +45,46 @@ s/^(bgtz .*), 0x80000124$/\1, first+0x124/
 s/^\.org 0x80000800$/.org 0x800/
 END
 sed -E -f "$work/gnu.sed" "$work/every.s" > "$work/gnu.s"
-mips-linux-gnu-as -EB -mips32 -mabi=32 -o "$work/gnu.o" "$work/gnu.s" || fail "as"
-mips-linux-gnu-ld -EB -e _start -Ttext 0x80000000 -o "$work/gnu.elf" "$work/gnu.o" || fail "ld"
-mips-linux-gnu-objcopy -O binary -j .text "$work/gnu.elf" "$work/gnu" || fail "objcopy"
 
-"$board" asm "$work/every.s" "$work/object" || fail "board asm"
-# number AT BYTES: a number of the object file
+# number AT BYTES: a number of the object file, which is in the byte order of $order
 number() {
-  echo $((0x$(od -An -v -tx1 -j "$1" -N "$2" "$work/object" | tr -d ' \n')))
+  bytes=$(od -An -v -tx1 -w1 -j "$1" -N "$2" "$work/object" | tr -d ' ')
+  if [ "$order" = little ]; then
+    bytes=$(echo "$bytes" | tac)
+  fi
+  echo $((0x$(echo "$bytes" | tr -d '\n')))
 }
-# The segments at their addresses from 0x80000000 on, with zeros in the gaps, as the section of GNU as has them.
-segments=$(number 44 2)
-[ "$segments" = 2 ] || fail "$segments segments, not 2"
-: > "$work/board"
-for header in 52 84; do
-  gap=$(($(number $((header + 8)) 4) - 0x80000000 - $(wc -c < "$work/board")))
-  head -c "$gap" /dev/zero >> "$work/board"
-  tail -c +$(($(number $((header + 4)) 4) + 1)) "$work/object" | head -c "$(number $((header + 16)) 4)" >> "$work/board"
-done
-size=$(wc -c < "$work/board")
-# The linker may put zeros behind the section's end.
-head -c "$size" "$work/gnu" > "$work/wanted"
-cmp "$work/board" "$work/wanted" || fail "other bytes than GNU as"
-[ -z "$(tail -c +$((size + 1)) "$work/gnu" | tr -d '\000')" ] || fail "GNU as has more bytes"
-echo "ok: asm_binutils: $lines lines, $size bytes, as GNU as and ld make them"
+
+# compare ORDER FLAG: assembles in a byte order, which is a flag of the GNU tools
+compare() {
+  order=$1
+  mips-linux-gnu-as "$2" -mips32 -mabi=32 -o "$work/gnu.o" "$work/gnu.s" || fail "$order: as"
+  mips-linux-gnu-ld "$2" -e _start -Ttext 0x80000000 -o "$work/gnu.elf" "$work/gnu.o" || fail "$order: ld"
+  mips-linux-gnu-objcopy -O binary -j .text "$work/gnu.elf" "$work/gnu" || fail "$order: objcopy"
+
+  { echo ".byteorder $order"; cat "$work/every.s"; } > "$work/source.s"
+  "$board" asm "$work/source.s" "$work/object" || fail "$order: board asm"
+  # The segments at their addresses from 0x80000000 on, with zeros in the gaps, as the section of GNU as has them.
+  segments=$(number 44 2)
+  [ "$segments" = 2 ] || fail "$order: $segments segments, not 2"
+  : > "$work/board"
+  for header in 52 84; do
+    gap=$(($(number $((header + 8)) 4) - 0x80000000 - $(wc -c < "$work/board")))
+    head -c "$gap" /dev/zero >> "$work/board"
+    tail -c +$(($(number $((header + 4)) 4) + 1)) "$work/object" | head -c "$(number $((header + 16)) 4)" >> "$work/board"
+  done
+  size=$(wc -c < "$work/board")
+  # The linker may put zeros behind the section's end.
+  head -c "$size" "$work/gnu" > "$work/wanted"
+  cmp "$work/board" "$work/wanted" || fail "$order: other bytes than GNU as"
+  [ -z "$(tail -c +$((size + 1)) "$work/gnu" | tr -d '\000')" ] || fail "$order: GNU as has more bytes"
+  echo "ok: asm_binutils: $order-endian: $lines lines, $size bytes, as GNU as and ld make them"
+}
+compare big -EB
+compare little -EL
+
+# Without .byteorder the source is big-endian.
+"$board" asm "$work/every.s" "$work/silent" || fail "board asm without .byteorder"
+{ echo ".byteorder big"; cat "$work/every.s"; } > "$work/source.s"
+"$board" asm "$work/source.s" "$work/object" || fail "board asm with .byteorder big"
+cmp "$work/silent" "$work/object" || fail "another file without .byteorder"

@@ -59,7 +59,8 @@ build mips-linux-gnu-as -EL -mips32 -o little.o "$top/examples/firmware.s"
 build mips-linux-gnu-ld -EB -n -z noexecstack -T "$top/examples/firmware.ld" -o small.elf big.o
 build mips-linux-gnu-ld -EB -T "$top/examples/firmware.ld" -o pages.elf big.o
 build mips-linux-gnu-ld -EB -s -T "$top/examples/firmware.ld" -o stripped.elf big.o
-build mips-linux-gnu-ld -EL -e _start -Ttext=0x80000000 -o little.elf little.o
+build mips-linux-gnu-ld -EL -n -z noexecstack -T "$top/examples/firmware.ld" -o little.elf little.o
+build mips-linux-gnu-ld -EL -T "$top/examples/firmware.ld" -o little_pages.elf little.o
 build mips-linux-gnu-ld -EB -e _start -Ttext=0x80000000 -o default.elf big.o
 
 expect 'linked by the script, with a PT_GNU_STACK' 0 "$image
@@ -67,8 +68,23 @@ $symbols" small.elf
 expect 'linked by the script, with segments from a page on' 0 "$image
 $symbols" pages.elf
 expect 'stripped' 0 "$image" stripped.elf
-expect 'little-endian' 1 'Error: little.elf: offset 5: a value that isn'"'"'t supported; wanted is a static big-endian ELF32 executable for MIPS' little.elf
-expect 'not linked' 1 'Error: big.o: offset 16: a value that isn'"'"'t supported; wanted is a static big-endian ELF32 executable for MIPS' big.o
+expect 'little-endian' 0 "little-endian
+$image
+$symbols" little.elf
+expect 'little-endian, with segments from a page on' 0 "little-endian
+$image
+$symbols" little_pages.elf
+# The byte order of a file is that of its fields: with the other one in its place its type is another.
+other() {
+  { head -c 5 "$1"; printf "$2"; tail -c +7 "$1"; } > "$3"
+}
+wrong='offset 16: a value that isn'"'"'t supported; wanted is a static ELF32 executable for MIPS'
+other small.elf '\001' small_as_little.elf
+other little.elf '\002' little_as_big.elf
+expect 'big-endian, said to be little-endian' 1 "Error: small_as_little.elf: $wrong" small_as_little.elf
+expect 'little-endian, said to be big-endian' 1 "Error: little_as_big.elf: $wrong" little_as_big.elf
+expect 'not linked' 1 "Error: big.o: $wrong" big.o
+expect 'not linked, little-endian' 1 "Error: little.o: $wrong" little.o
 case $("$program" default.elf 2>&1) in
   *"isn't within 0x80000000 to 0x80ffffff") echo "ok: elf_binutils: linked without the script: outside" ;;
   *) echo "failed: elf_binutils: linked without the script" >&2; failed=1 ;;

@@ -6,6 +6,7 @@ use Rattle.std.specs.Str.{bytes_eq}
 use Rattle.std.proofs.lemmas.Bool.{and_cases, or_parts, eqb-false, eqb-true, leb-true, ltb-false, not-false, true≢false}
 use Rattle.std.proofs.lemmas.List.{length-append, length-take, length-drop, length-replicate}
 use Rattle.std.proofs.lemmas.Slice.Eq.{bytes_eq-Decides}
+use Rattle.brd_word.specs.declared.order.Order.{Order}
 use Rattle.brd_text.specs.Faults.{◌>>=◌}
 use Rattle.brd_text.proofs.FaultLemmas.{ok_is, bind_ok}
 use Rattle.brd_mem.specs.declared.image.Image.{Image}
@@ -119,25 +120,25 @@ loaded_is file at header segments more are is =
           })
     ]
 
-loaded_from_is : (file : List ℕ) (at count : ℕ) (segments all : List Segment) → AreLoadable segments → loaded_from file at count segments ≡ Ok all → AreLoadable all
+loaded_from_is : (order : Order) (file : List ℕ) (at count : ℕ) (segments all : List Segment) → AreLoadable segments → loaded_from order file at count segments ≡ Ok all → AreLoadable all
 unfolding loaded_from
-loaded_from_is file at zero segments all are is = subst AreLoadable (ok_is segments all is) are
-loaded_from_is file at (suc count) segments all are is =
-    let step = bind_ok (loaded file at (program_header_at (drop at file)) segments) (λ more. loaded_from file (at + 32) count more) all is in
-    loaded_from_is file (at + 32) count step.0 all (loaded_is file at (program_header_at (drop at file)) segments step.0 are step.1) step.2
+loaded_from_is order file at zero segments all are is = subst AreLoadable (ok_is segments all is) are
+loaded_from_is order file at (suc count) segments all are is =
+    let step = bind_ok (loaded file at (program_header_at order (drop at file)) segments) (λ more. loaded_from order file (at + 32) count more) all is in
+    loaded_from_is order file (at + 32) count step.0 all (loaded_is file at (program_header_at order (drop at file)) segments step.0 are step.1) step.2
 
 none_loadable : AreLoadable []
 none_loadable = record { filled = tt; apart = tt }
 
-segments_are : (file : List ℕ) (table : Table) (segments : List Segment) → segments_of file table ≡ Ok segments → AreLoadable segments
+segments_are : (order : Order) (file : List ℕ) (table : Table) (segments : List Segment) → segments_of order file table ≡ Ok segments → AreLoadable segments
 unfolding segments_of
-segments_are file table segments is =
+segments_are order file table segments is =
     elim (at_once (eqb table.count 0) [] _ segments is) [
       | inl none ↦ subst AreLoadable none none_loadable
       | inr some ↦
           let sized = not_refused (not (eqb table.entry_size 32)) (fault.Sizes 42) _ segments some.1 in
           let whole = not_refused (not (has_bytes file table.offset (32 * table.count))) (fault.Truncated 28) _ segments sized.1 in
-          loaded_from_is file table.offset table.count [] segments none_loadable whole.1
+          loaded_from_is order file table.offset table.count [] segments none_loadable whole.1
     ]
 
 -- ---- symbols
@@ -162,29 +163,29 @@ kept_is strings at entry symbols more distinct is =
       | inr new ↦ named_is (string_of (drop entry.name strings)) entry.value at symbols more distinct new.1
     ]
 
-kept_from_is : (file strings : List ℕ) (at count : ℕ) (symbols all : List Symbol) → AreDistinct symbols → kept_from file strings at count symbols ≡ Ok all → AreDistinct all
+kept_from_is : (order : Order) (file strings : List ℕ) (at count : ℕ) (symbols all : List Symbol) → AreDistinct symbols → kept_from order file strings at count symbols ≡ Ok all → AreDistinct all
 unfolding kept_from
-kept_from_is file strings at zero symbols all distinct is = subst AreDistinct (ok_is symbols all is) distinct
-kept_from_is file strings at (suc count) symbols all distinct is =
-    let step = bind_ok (kept strings at (entry_at (drop at file)) symbols) (λ more. kept_from file strings (at + 16) count more) all is in
-    kept_from_is file strings (at + 16) count step.0 all (kept_is strings at (entry_at (drop at file)) symbols step.0 distinct step.1) step.2
+kept_from_is order file strings at zero symbols all distinct is = subst AreDistinct (ok_is symbols all is) distinct
+kept_from_is order file strings at (suc count) symbols all distinct is =
+    let step = bind_ok (kept strings at (entry_at order (drop at file)) symbols) (λ more. kept_from order file strings (at + 16) count more) all is in
+    kept_from_is order file strings (at + 16) count step.0 all (kept_is strings at (entry_at order (drop at file)) symbols step.0 distinct step.1) step.2
 
-symbols_by_are : (file : List ℕ) (table : Table) (place : Option ℕ) (symbols : List Symbol) → symbols_by file table place ≡ Ok symbols → AreDistinct symbols
+symbols_by_are : (order : Order) (file : List ℕ) (table : Table) (place : Option ℕ) (symbols : List Symbol) → symbols_by order file table place ≡ Ok symbols → AreDistinct symbols
 unfolding symbols_by
-symbols_by_are file table None symbols is = subst AreDistinct (ok_is [] symbols is) tt
-symbols_by_are file table (Some at) symbols is =
-    let step = bind_ok (strings_of file table at) (λ strings. kept_from file strings (section_at (drop at file)).offset ((section_at (drop at file)).size / 16) []) symbols is in
-    kept_from_is file step.0 _ _ [] symbols tt step.2
+symbols_by_are order file table None symbols is = subst AreDistinct (ok_is [] symbols is) tt
+symbols_by_are order file table (Some at) symbols is =
+    let step = bind_ok (strings_of order file table at) (λ strings. kept_from order file strings (section_at order (drop at file)).offset ((section_at order (drop at file)).size / 16) []) symbols is in
+    kept_from_is order file step.0 _ _ [] symbols tt step.2
 
-symbols_are : (file : List ℕ) (table : Table) (symbols : List Symbol) → symbols_of file table ≡ Ok symbols → AreDistinct symbols
+symbols_are : (order : Order) (file : List ℕ) (table : Table) (symbols : List Symbol) → symbols_of order file table ≡ Ok symbols → AreDistinct symbols
 unfolding symbols_of
-symbols_are file table symbols is =
+symbols_are order file table symbols is =
     elim (at_once (eqb table.offset 0 || eqb table.count 0) [] _ symbols is) [
       | inl none ↦ subst AreDistinct none tt
       | inr some ↦
           let sized = not_refused (not (eqb table.entry_size 40)) (fault.Sizes 46) _ symbols some.1 in
           let whole = not_refused (not (has_bytes file table.offset (40 * table.count))) (fault.Truncated 32) _ symbols sized.1 in
-          symbols_by_are file table (symbol_table_from file table.offset table.count) symbols whole.1
+          symbols_by_are order file table (symbol_table_from order file table.offset table.count) symbols whole.1
     ]
 
 -- ---- the image
@@ -192,14 +193,14 @@ symbols_are file table symbols is =
 pub can_be_loaded : (bytes : List ℕ) (image : Image) → meaning bytes ≡ Ok image → IsLoadable image
 unfolding meaning
 can_be_loaded bytes image is =
-    let header = bind_ok (header_of bytes) (λ header. segments_of bytes header.programs >>= λ segments. symbols_of bytes header.sections >>= λ symbols. Ok (record { entry = header.entry; segments = segments; symbols = symbols })) image is in
-    let segments = bind_ok (segments_of bytes header.0.programs) (λ segments. symbols_of bytes header.0.sections >>= λ symbols. Ok (record { entry = header.0.entry; segments = segments; symbols = symbols })) image header.2 in
-    let symbols = bind_ok (symbols_of bytes header.0.sections) (λ symbols. Ok (record { entry = header.0.entry; segments = segments.0; symbols = symbols })) image segments.2 in
-    let are = segments_are bytes header.0.programs segments.0 segments.1 in
-    let made : Image = record { entry = header.0.entry; segments = segments.0; symbols = symbols.0 } in
+    let header = bind_ok (header_of bytes) (λ header. segments_of header.order bytes header.programs >>= λ segments. symbols_of header.order bytes header.sections >>= λ symbols. Ok (record { order = header.order; entry = header.entry; segments = segments; symbols = symbols })) image is in
+    let segments = bind_ok (segments_of header.0.order bytes header.0.programs) (λ segments. symbols_of header.0.order bytes header.0.sections >>= λ symbols. Ok (record { order = header.0.order; entry = header.0.entry; segments = segments; symbols = symbols })) image header.2 in
+    let symbols = bind_ok (symbols_of header.0.order bytes header.0.sections) (λ symbols. Ok (record { order = header.0.order; entry = header.0.entry; segments = segments.0; symbols = symbols })) image segments.2 in
+    let are = segments_are header.0.order bytes header.0.programs segments.0 segments.1 in
+    let made : Image = record { order = header.0.order; entry = header.0.entry; segments = segments.0; symbols = symbols.0 } in
     let loadable : IsLoadable made = record {
       filled = are.filled;
       apart = are.apart;
-      distinct = symbols_are bytes header.0.sections symbols.0 symbols.1;
+      distinct = symbols_are header.0.order bytes header.0.sections symbols.0 symbols.1;
     } in
     subst IsLoadable (ok_is made image symbols.2) loadable

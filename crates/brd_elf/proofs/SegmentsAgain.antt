@@ -3,6 +3,7 @@ use Rattle.std.proofs.Common.{◌≡◌, ℕ, zero, suc, ◌+◌, ◌-◌, ◌^�
 use Rattle.std.specs.Prelude.{◌&&◌}
 use Rattle.std.proofs.lemmas.Bool.{le-ltb, le-leb, ne_eqb, or_from, and_right}
 use Rattle.std.proofs.lemmas.List.{append-nil, take_at, drop_at, nil_from_length}
+use Rattle.brd_word.specs.declared.order.Order.{Order}
 use Rattle.brd_base.specs.Space.{base, top}
 use Rattle.brd_mem.specs.Image.{AreAscending}
 use Rattle.brd_mem.specs.declared.image.Segment.{Segment}
@@ -82,41 +83,41 @@ pub nothing_yet : (low : ℕ) → NothingFrom low []
 unfolding NothingFrom
 nothing_yet low = λ from high above. refl
 
-pub segments_again : (file : List ℕ) (at offset low : ℕ) (segments before : List Segment) (front post data_front back : List ℕ)
-    → file ≡ front ++ (program_headers_from offset segments ++ post) → length front ≡ at
+pub segments_again : (order : Order) (file : List ℕ) (at offset low : ℕ) (segments before : List Segment) (front post data_front back : List ℕ)
+    → file ≡ front ++ (program_headers_from order offset segments ++ post) → length front ≡ at
     → file ≡ data_front ++ (data_of segments ++ back) → length data_front ≡ offset
     → length file < 2 ^ 32 → AreAscending low segments → base ≤ low → NothingFrom low before
-    → loaded_from file at (length segments) before ≡ Ok (before ++ segments)
+    → loaded_from order file at (length segments) before ≡ Ok (before ++ segments)
 unfolding loaded_from program_headers_from NothingFrom
-segments_again file at offset low [] before front post data_front back headers_lie at_is data_lies offset_is short ascending above nothing =
+segments_again order file at offset low [] before front post data_front back headers_lie at_is data_lies offset_is short ascending above nothing =
     ap (λ (list : List Segment). done list) (sym (append-nil before))
   where
     done : List Segment → Result (List Segment) ElfFault
     done list = Ok list
-segments_again file at offset low (segment ∷ segments) before front post data_front back headers_lie at_is data_lies offset_is short ascending above nothing =
-    ap (λ (header : ProgramHeader). loaded file at header before >>= λ more. loaded_from file (at + 32) (length segments) more) header_is
-    ∙ ap (λ (step : Result (List Segment) ElfFault). step >>= λ more. loaded_from file (at + 32) (length segments) more) step_is
-    ∙ segments_again file (at + 32) (offset + length (padded segment.bytes)) (segment.address + length segment.bytes) segments (before ++ segment ∷ []) (front ++ program_header offset segment) post (data_front ++ padded segment.bytes) back
-    next_headers (length-append front (program_header offset segment) ∙ sum_is at_is (length-program_header offset segment)) next_data (length-append data_front (padded segment.bytes) ∙ ap (λ (n : ℕ). n + length (padded segment.bytes)) offset_is) short ascending.3 (omega (arith, ascending.0)) (nothing_more low before segment nothing (omega (arith, ascending.0)))
+segments_again order file at offset low (segment ∷ segments) before front post data_front back headers_lie at_is data_lies offset_is short ascending above nothing =
+    ap (λ (header : ProgramHeader). loaded file at header before >>= λ more. loaded_from order file (at + 32) (length segments) more) header_is
+    ∙ ap (λ (step : Result (List Segment) ElfFault). step >>= λ more. loaded_from order file (at + 32) (length segments) more) step_is
+    ∙ segments_again order file (at + 32) (offset + length (padded segment.bytes)) (segment.address + length segment.bytes) segments (before ++ segment ∷ []) (front ++ program_header order offset segment) post (data_front ++ padded segment.bytes) back
+    next_headers (length-append front (program_header order offset segment) ∙ sum_is at_is (length-program_header order offset segment)) next_data (length-append data_front (padded segment.bytes) ∙ ap (λ (n : ℕ). n + length (padded segment.bytes)) offset_is) short ascending.3 (omega (arith, ascending.0)) (nothing_more low before segment nothing (omega (arith, ascending.0)))
     ∙ ap (λ (list : List Segment). done list) (append_assoc before (segment ∷ []) segments)
   where
     done : List Segment → Result (List Segment) ElfFault
     done list = Ok list
 
     others : List ℕ
-    others = program_headers_from (offset + length (padded segment.bytes)) segments
+    others = program_headers_from order (offset + length (padded segment.bytes)) segments
 
-    sum_is : length front ≡ at → length (program_header offset segment) ≡ 32 → length front + length (program_header offset segment) ≡ at + 32
+    sum_is : length front ≡ at → length (program_header order offset segment) ≡ 32 → length front + length (program_header order offset segment) ≡ at + 32
     sum_is p q = omega arith
 
-    next_headers : file ≡ (front ++ program_header offset segment) ++ (others ++ post)
-    next_headers = headers_lie ∙ ap (λ (list : List ℕ). front ++ list) (append_assoc (program_header offset segment) others post) ∙ sym (append_assoc front (program_header offset segment) (others ++ post))
+    next_headers : file ≡ (front ++ program_header order offset segment) ++ (others ++ post)
+    next_headers = headers_lie ∙ ap (λ (list : List ℕ). front ++ list) (append_assoc (program_header order offset segment) others post) ∙ sym (append_assoc front (program_header order offset segment) (others ++ post))
 
     next_data : file ≡ (data_front ++ padded segment.bytes) ++ (data_of segments ++ back)
     next_data = data_lies ∙ ap (λ (list : List ℕ). data_front ++ list) (append_assoc (padded segment.bytes) (data_of segments) back) ∙ sym (append_assoc data_front (padded segment.bytes) (data_of segments ++ back))
 
-    here : drop at file ≡ program_header offset segment ++ (others ++ post)
-    here = behind file front (program_header offset segment) (others ++ post) at (next_headers ∙ append_assoc front (program_header offset segment) (others ++ post)) at_is
+    here : drop at file ≡ program_header order offset segment ++ (others ++ post)
+    here = behind file front (program_header order offset segment) (others ++ post) at (next_headers ∙ append_assoc front (program_header order offset segment) (others ++ post)) at_is
 
     bytes_here : drop offset file ≡ padded segment.bytes ++ (data_of segments ++ back)
     bytes_here = behind file data_front (padded segment.bytes) (data_of segments ++ back) offset (next_data ∙ append_assoc data_front (padded segment.bytes) (data_of segments ++ back)) offset_is
@@ -133,8 +134,8 @@ segments_again file at offset low (segment ∷ segments) before front post data_
         filled zero h = absurd (h refl)
         filled (suc n) h = omega arith
 
-    header_is : program_header_at (drop at file) ≡ header_for offset segment
-    header_is = program_again (drop at file) offset segment (others ++ post) here (omega (arith, long)) (omega (arith, ascending.2)) (omega (arith, long))
+    header_is : program_header_at order (drop at file) ≡ header_for offset segment
+    header_is = program_again order (drop at file) offset segment (others ++ post) here (omega (arith, long)) (omega (arith, ascending.2)) (omega (arith, long))
 
     step_is : loaded file at (header_for offset segment) before ≡ Ok (before ++ segment ∷ [])
     step_is = load_again file at offset segment before (data_of segments ++ back) bytes_here long some (omega (arith, ascending.0)) ascending.2 (nothing segment.address (segment.address + length segment.bytes) ascending.0)

@@ -20,7 +20,7 @@ length-file_by_parts image =
     let texts_len : length (strings image.symbols ++ section_names) ≡ length (strings image.symbols) + 27 = length-append (strings image.symbols) section_names in
     let all = length-padded (strings image.symbols ++ section_names) in
     let gap : padding (length (strings image.symbols ++ section_names)) ≡ padding (length (strings image.symbols) + 27) = ap (λ (n : ℕ). padding n) texts_len in
-    omega (arith, length-file image, length-symbol_entries_from 1 image.symbols, texts_len, all, gap)
+    omega (arith, length-file image, length-symbol_entries_from image.order 1 image.symbols, texts_len, all, gap)
 
 -- The length of a file, by the lengths of its segments' bytes and of its strings, each cut off at a limit.
 pub file_is : (image : Image) (limit bytes texts : ℕ) → bytes ≡ min (length (data_of image.segments)) limit → texts ≡ min (length (strings image.symbols)) limit

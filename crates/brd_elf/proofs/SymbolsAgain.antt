@@ -6,6 +6,8 @@ use Rattle.std.specs.Str.{bytes_eq}
 use Rattle.std.proofs.lemmas.Bool.{ne_eqb, or_from, false_from_ne_true}
 use Rattle.std.proofs.lemmas.List.{append-nil}
 use Rattle.std.proofs.lemmas.Slice.Eq.{bytes_eq-Decides}
+use Rattle.brd_word.specs.declared.order.Order.{Order}
+use Rattle.brd_word.specs.declared.order.Order.TheVariants.{Big, Little}
 use Rattle.brd_mem.specs.Image.{AreNamed, IsName}
 use Rattle.brd_mem.specs.declared.image.Symbol.{Symbol}
 use Rattle.brd_elf.specs.declared.fault.ElfFault.{ElfFault}
@@ -21,17 +23,18 @@ use Rattle.brd_elf.proofs.SegmentsAgain.{behind}
 abbrev pub with_zero : Symbol → List ℕ
 with_zero symbol = symbol.name ++ 0 ∷ []
 
-pub length-symbol_entry : (name value : ℕ) → length (symbol_entry name value) ≡ 16
+pub length-symbol_entry : (order : Order) (name value : ℕ) → length (symbol_entry order name value) ≡ 16
 unfolding word half
-length-symbol_entry name value = refl
+length-symbol_entry Big name value = refl
+length-symbol_entry Little name value = refl
 
-pub length-symbol_entries_from : (name : ℕ) (symbols : List Symbol) → length (symbol_entries_from name symbols) ≡ 16 * length symbols
+pub length-symbol_entries_from : (order : Order) (name : ℕ) (symbols : List Symbol) → length (symbol_entries_from order name symbols) ≡ 16 * length symbols
 unfolding symbol_entries_from
-length-symbol_entries_from name [] = refl
-length-symbol_entries_from name (symbol ∷ symbols) =
-    let one = length-symbol_entry name symbol.value in
-    let others = length-symbol_entries_from (name + length symbol.name + 1) symbols in
-    let both = length-append (symbol_entry name symbol.value) (symbol_entries_from (name + length symbol.name + 1) symbols) in
+length-symbol_entries_from order name [] = refl
+length-symbol_entries_from order name (symbol ∷ symbols) =
+    let one = length-symbol_entry order name symbol.value in
+    let others = length-symbol_entries_from order (name + length symbol.name + 1) symbols in
+    let both = length-append (symbol_entry order name symbol.value) (symbol_entries_from order (name + length symbol.name + 1) symbols) in
     omega (arith, one, others, both)
 
 -- a string without a byte 0 ends at the byte 0 behind it
@@ -68,35 +71,35 @@ pub none_named : (symbols : List Symbol) → AllByRecursion (λ symbol. is_named
 none_named [] = tt
 none_named (symbol ∷ symbols) = (refl, none_named symbols)
 
-pub symbols_again : (file strings : List ℕ) (at name : ℕ) (symbols before : List Symbol) (front post strings_front back : List ℕ)
-    → file ≡ front ++ (symbol_entries_from name symbols ++ post) → length front ≡ at
+pub symbols_again : (order : Order) (file strings : List ℕ) (at name : ℕ) (symbols before : List Symbol) (front post strings_front back : List ℕ)
+    → file ≡ front ++ (symbol_entries_from order name symbols ++ post) → length front ≡ at
     → strings ≡ strings_front ++ (flat_map with_zero symbols ++ back) → length strings_front ≡ name
     → length strings < 2 ^ 32 → AllByRecursion (λ symbol. symbol.value < 2 ^ 32) symbols → AreNamed symbols → AllByRecursion (λ symbol. is_named before symbol.name ≡ false) symbols
-    → kept_from file strings at (length symbols) before ≡ Ok (before ++ symbols)
+    → kept_from order file strings at (length symbols) before ≡ Ok (before ++ symbols)
 unfolding kept_from symbol_entries_from
-symbols_again file strings at name [] before front post strings_front back entries_lie at_is strings_lie name_is short values are_named new =
+symbols_again order file strings at name [] before front post strings_front back entries_lie at_is strings_lie name_is short values are_named new =
     ap (λ (list : List Symbol). done list) (sym (append-nil before))
   where
     done : List Symbol → Result (List Symbol) ElfFault
     done list = Ok list
-symbols_again file strings at name (symbol ∷ symbols) before front post strings_front back entries_lie at_is strings_lie name_is short values are_named new =
-    ap (λ (entry : Entry). kept strings at entry before >>= λ more. kept_from file strings (at + 16) (length symbols) more) entry_is
-    ∙ ap (λ (step : Result (List Symbol) ElfFault). step >>= λ more. kept_from file strings (at + 16) (length symbols) more) step_is
-    ∙ symbols_again file strings (at + 16) (name + length symbol.name + 1) symbols (before ++ symbol ∷ []) (front ++ symbol_entry name symbol.value) post (strings_front ++ with_zero symbol) back
-    next_entries (length-append front (symbol_entry name symbol.value) ∙ sum_is at_is (length-symbol_entry name symbol.value)) next_strings next_name short values.1 are_named.2 (still_new before symbol symbols new.1 are_named.1)
+symbols_again order file strings at name (symbol ∷ symbols) before front post strings_front back entries_lie at_is strings_lie name_is short values are_named new =
+    ap (λ (entry : Entry). kept strings at entry before >>= λ more. kept_from order file strings (at + 16) (length symbols) more) entry_is
+    ∙ ap (λ (step : Result (List Symbol) ElfFault). step >>= λ more. kept_from order file strings (at + 16) (length symbols) more) step_is
+    ∙ symbols_again order file strings (at + 16) (name + length symbol.name + 1) symbols (before ++ symbol ∷ []) (front ++ symbol_entry order name symbol.value) post (strings_front ++ with_zero symbol) back
+    next_entries (length-append front (symbol_entry order name symbol.value) ∙ sum_is at_is (length-symbol_entry order name symbol.value)) next_strings next_name short values.1 are_named.2 (still_new before symbol symbols new.1 are_named.1)
     ∙ ap (λ (list : List Symbol). done list) (append_assoc before (symbol ∷ []) symbols)
   where
     done : List Symbol → Result (List Symbol) ElfFault
     done list = Ok list
 
     others : List ℕ
-    others = symbol_entries_from (name + length symbol.name + 1) symbols
+    others = symbol_entries_from order (name + length symbol.name + 1) symbols
 
-    sum_is : length front ≡ at → length (symbol_entry name symbol.value) ≡ 16 → length front + length (symbol_entry name symbol.value) ≡ at + 16
+    sum_is : length front ≡ at → length (symbol_entry order name symbol.value) ≡ 16 → length front + length (symbol_entry order name symbol.value) ≡ at + 16
     sum_is p q = omega arith
 
-    next_entries : file ≡ (front ++ symbol_entry name symbol.value) ++ (others ++ post)
-    next_entries = entries_lie ∙ ap (λ (list : List ℕ). front ++ list) (append_assoc (symbol_entry name symbol.value) others post) ∙ sym (append_assoc front (symbol_entry name symbol.value) (others ++ post))
+    next_entries : file ≡ (front ++ symbol_entry order name symbol.value) ++ (others ++ post)
+    next_entries = entries_lie ∙ ap (λ (list : List ℕ). front ++ list) (append_assoc (symbol_entry order name symbol.value) others post) ∙ sym (append_assoc front (symbol_entry order name symbol.value) (others ++ post))
 
     next_strings : strings ≡ (strings_front ++ with_zero symbol) ++ (flat_map with_zero symbols ++ back)
     next_strings = strings_lie ∙ ap (λ (list : List ℕ). strings_front ++ list) (append_assoc (with_zero symbol) (flat_map with_zero symbols) back) ∙ sym (append_assoc strings_front (with_zero symbol) (flat_map with_zero symbols ++ back))
@@ -104,8 +107,8 @@ symbols_again file strings at name (symbol ∷ symbols) before front post string
     next_name : length (strings_front ++ with_zero symbol) ≡ name + length symbol.name + 1
     next_name = omega (arith, name_is, length-append strings_front (with_zero symbol), length-append symbol.name (0 ∷ []))
 
-    here : drop at file ≡ symbol_entry name symbol.value ++ (others ++ post)
-    here = behind file front (symbol_entry name symbol.value) (others ++ post) at (next_entries ∙ append_assoc front (symbol_entry name symbol.value) (others ++ post)) at_is
+    here : drop at file ≡ symbol_entry order name symbol.value ++ (others ++ post)
+    here = behind file front (symbol_entry order name symbol.value) (others ++ post) at (next_entries ∙ append_assoc front (symbol_entry order name symbol.value) (others ++ post)) at_is
 
     name_here : drop name strings ≡ symbol.name ++ 0 ∷ (flat_map with_zero symbols ++ back)
     name_here = behind strings strings_front (with_zero symbol) (flat_map with_zero symbols ++ back) name (next_strings ∙ append_assoc strings_front (with_zero symbol) (flat_map with_zero symbols ++ back)) name_is ∙ append_assoc symbol.name (0 ∷ []) (flat_map with_zero symbols ++ back)
@@ -115,8 +118,8 @@ symbols_again file strings at name (symbol ∷ symbols) before front post string
         let whole : length strings ≡ length (strings_front ++ (flat_map with_zero (symbol ∷ symbols) ++ back)) = ap (λ (list : List ℕ). length list) strings_lie in
         omega (arith, whole, name_is, length-append strings_front (flat_map with_zero (symbol ∷ symbols) ++ back))
 
-    entry_is : entry_at (drop at file) ≡ record { name = name; value = symbol.value; section = 0xFFF1 }
-    entry_is = entry_again (drop at file) name symbol.value (others ++ post) here name_fits values.0
+    entry_is : entry_at order (drop at file) ≡ record { name = name; value = symbol.value; section = 0xFFF1 }
+    entry_is = entry_again order (drop at file) name symbol.value (others ++ post) here name_fits values.0
 
     step_is : kept strings at (record { name = name; value = symbol.value; section = 0xFFF1 }) before ≡ Ok (before ++ symbol ∷ [])
     step_is = kept_again strings at name symbol before (flat_map with_zero symbols ++ back) name_here are_named.0 new.0

@@ -7,10 +7,10 @@ use Rattle.brd_elf.specs.Header.{header_of}
 use Rattle.brd_elf.specs.Segments.{segments_of}
 use Rattle.brd_elf.specs.Symbols.{symbols_of}
 
--- The header is read first, then all program headers, then the symbols.
+-- The header is read first, then all program headers, then the symbols. The image has the file's byte order.
 unfoldable pub meaning : List ℕ → Result Image ElfFault
 meaning file = do
   header ← header_of file
-  segments ← segments_of file header.programs
-  symbols ← symbols_of file header.sections
-  Ok (record { entry = header.entry; segments = segments; symbols = symbols })
+  segments ← segments_of header.order file header.programs
+  symbols ← symbols_of header.order file header.sections
+  Ok (record { order = header.order; entry = header.entry; segments = segments; symbols = symbols })

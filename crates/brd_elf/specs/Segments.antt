@@ -1,6 +1,7 @@
 -- Program headers, 32 bytes each (System V ABI, "Program Header"), and the segments that they load.
 use Rattle.std.specs.Prelude.{ℕ, zero, suc, ◌+◌, ◌-◌, ◌*◌, ◌^◌, Bool, not, ◌&&◌, ◌||◌, ◌==◌, nat_lt, if◌then◌else◌, List, [], ◌∷◌, ◌++◌, length, take, drop, replicate, Option, None, Some, Result, Ok, Err}
 use Rattle.std.specs.List.{list_any}
+use Rattle.brd_word.specs.declared.order.Order.{Order}
 use Rattle.brd_base.specs.Space.{base, top}
 use Rattle.brd_mem.specs.declared.image.Segment.{Segment}
 use Rattle.brd_elf.specs.declared.fault.ElfFault.{ElfFault}
@@ -11,13 +12,13 @@ use Rattle.brd_text.specs.Faults.{◌>>=◌}
 use Rattle.brd_elf.specs.Fields.{word_at, has_bytes}
 
 -- the program header that bytes begin with
-abbrev pub program_header_at : List ℕ → ProgramHeader
-program_header_at bytes = record {
-  kind = word_at bytes 0;
-  offset = word_at bytes 4;
-  address = word_at bytes 8;
-  file_size = word_at bytes 16;
-  memory_size = word_at bytes 20;
+abbrev pub program_header_at : Order → List ℕ → ProgramHeader
+program_header_at order bytes = record {
+  kind = word_at order bytes 0;
+  offset = word_at order bytes 4;
+  address = word_at order bytes 8;
+  file_size = word_at order bytes 16;
+  memory_size = word_at order bytes 20;
 }
 
 -- some segment has bytes at addresses from low up to, not including, high
@@ -73,17 +74,17 @@ loaded file at header segments =
     else loaded_unless (load_fault file at header segments) file header segments)
 
 -- these segments, and behind them those of the next headers, as many as count, from an offset on
-unfoldable pub loaded_from : List ℕ → ℕ → ℕ → List Segment → Result (List Segment) ElfFault
-loaded_from file at zero segments = Ok segments
-loaded_from file at (suc count) segments = do
-  more ← loaded file at (program_header_at (drop at file)) segments
-  loaded_from file (at + 32) count more
+unfoldable pub loaded_from : Order → List ℕ → ℕ → ℕ → List Segment → Result (List Segment) ElfFault
+loaded_from order file at zero segments = Ok segments
+loaded_from order file at (suc count) segments = do
+  more ← loaded file at (program_header_at order (drop at file)) segments
+  loaded_from order file (at + 32) count more
 
 -- The segments of a table of program headers, in the file's order. A fault of the table is one of e_phentsize (at
 -- 42) or e_phoff (at 28).
-unfoldable pub segments_of : List ℕ → Table → Result (List Segment) ElfFault
-segments_of file table =
+unfoldable pub segments_of : Order → List ℕ → Table → Result (List Segment) ElfFault
+segments_of order file table =
     if table.count == 0 then Ok []
     else (if not (table.entry_size == 32) then Err (fault.Sizes 42)
     else (if not (has_bytes file table.offset (32 * table.count)) then Err (fault.Truncated 28)
-    else loaded_from file table.offset table.count []))
+    else loaded_from order file table.offset table.count []))

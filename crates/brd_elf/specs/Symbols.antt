@@ -3,6 +3,7 @@
 use Rattle.std.specs.Prelude.{ℕ, zero, suc, ◌+◌, ◌*◌, ◌/◌, ◌%◌, Bool, not, ◌&&◌, ◌||◌, ◌==◌, nat_le, if◌then◌else◌, List, [], ◌∷◌, ◌++◌, take, drop, Option, None, Some, option_map, Result, Ok, Err}
 use Rattle.std.specs.List.{list_any}
 use Rattle.std.specs.Str.{bytes_eq}
+use Rattle.brd_word.specs.declared.order.Order.{Order}
 use Rattle.brd_mem.specs.declared.image.Symbol.{Symbol}
 use Rattle.brd_elf.specs.declared.fault.ElfFault.{ElfFault}
 use Rattle.brd_elf.specs.declared.fault.ElfFault.TheVariants as fault
@@ -13,13 +14,13 @@ use Rattle.brd_text.specs.Faults.{◌>>=◌}
 use Rattle.brd_elf.specs.Fields.{half_at, word_at, has_bytes}
 
 -- the section header that bytes begin with
-abbrev pub section_at : List ℕ → Section
-section_at bytes = record {
-  kind = word_at bytes 4;
-  offset = word_at bytes 16;
-  size = word_at bytes 20;
-  link = word_at bytes 24;
-  entry_size = word_at bytes 36;
+abbrev pub section_at : Order → List ℕ → Section
+section_at order bytes = record {
+  kind = word_at order bytes 4;
+  offset = word_at order bytes 16;
+  size = word_at order bytes 20;
+  link = word_at order bytes 24;
+  entry_size = word_at order bytes 36;
 }
 
 -- all its bytes lie in the file
@@ -31,10 +32,10 @@ abbrev pub section_bytes : List ℕ → Section → List ℕ
 section_bytes file section = take section.size (drop section.offset file)
 
 -- the offset of the first header of a symbol table (SHT_SYMTAB) among the next, as many as count, from an offset on
-unfoldable pub symbol_table_from : List ℕ → ℕ → ℕ → Option ℕ
-symbol_table_from file at zero = None
-symbol_table_from file at (suc count) =
-    if (section_at (drop at file)).kind == 2 then Some at else symbol_table_from file (at + 40) count
+unfoldable pub symbol_table_from : Order → List ℕ → ℕ → ℕ → Option ℕ
+symbol_table_from order file at zero = None
+symbol_table_from order file at (suc count) =
+    if (section_at order (drop at file)).kind == 2 then Some at else symbol_table_from order file (at + 40) count
 
 -- a symbol table as it is read here: whole symbols of 16 bytes, all in the file, linked to a section that there is
 abbrev pub is_symbol_table : List ℕ → Table → Section → Bool
@@ -46,20 +47,20 @@ abbrev pub is_string_table : List ℕ → Section → Bool
 is_string_table file section = section.kind == 3 && is_whole file section
 
 -- the section that a section is linked to
-abbrev pub linked : List ℕ → Table → Section → Section
-linked file table section = section_at (drop (table.offset + 40 * section.link) file)
+abbrev pub linked : Order → List ℕ → Table → Section → Section
+linked order file table section = section_at order (drop (table.offset + 40 * section.link) file)
 
 -- the strings that go with the symbol table whose section header lies at an offset
-unfoldable pub strings_of : List ℕ → Table → ℕ → Result (List ℕ) ElfFault
-strings_of file table at =
-    let section = section_at (drop at file) in
+unfoldable pub strings_of : Order → List ℕ → Table → ℕ → Result (List ℕ) ElfFault
+strings_of order file table at =
+    let section = section_at order (drop at file) in
     if not (is_symbol_table file table section) then Err (fault.Symbols at)
-    else (if not (is_string_table file (linked file table section)) then Err (fault.Symbols at)
-    else Ok (section_bytes file (linked file table section)))
+    else (if not (is_string_table file (linked order file table section)) then Err (fault.Symbols at)
+    else Ok (section_bytes file (linked order file table section)))
 
 -- the symbol that bytes begin with
-abbrev pub entry_at : List ℕ → Entry
-entry_at bytes = record { name = word_at bytes 0; value = word_at bytes 4; section = half_at bytes 14 }
+abbrev pub entry_at : Order → List ℕ → Entry
+entry_at order bytes = record { name = word_at order bytes 0; value = word_at order bytes 4; section = half_at order bytes 14 }
 
 -- the string that bytes begin with: those before the first byte 0
 abbrev pub string_of : List ℕ → Option (List ℕ)
@@ -87,24 +88,24 @@ kept strings at entry symbols =
     else named (string_of (drop entry.name strings)) entry.value at symbols
 
 -- these symbols, and behind them those of the next entries, as many as count, from an offset on
-unfoldable pub kept_from : List ℕ → List ℕ → ℕ → ℕ → List Symbol → Result (List Symbol) ElfFault
-kept_from file strings at zero symbols = Ok symbols
-kept_from file strings at (suc count) symbols = do
-  more ← kept strings at (entry_at (drop at file)) symbols
-  kept_from file strings (at + 16) count more
+unfoldable pub kept_from : Order → List ℕ → List ℕ → ℕ → ℕ → List Symbol → Result (List Symbol) ElfFault
+kept_from order file strings at zero symbols = Ok symbols
+kept_from order file strings at (suc count) symbols = do
+  more ← kept strings at (entry_at order (drop at file)) symbols
+  kept_from order file strings (at + 16) count more
 
 -- the symbols of the symbol table whose section header lies at an offset; without one there are none
-unfoldable pub symbols_by : List ℕ → Table → Option ℕ → Result (List Symbol) ElfFault
-symbols_by file table None = Ok []
-symbols_by file table (Some at) = do
-  strings ← strings_of file table at
-  kept_from file strings (section_at (drop at file)).offset ((section_at (drop at file)).size / 16) []
+unfoldable pub symbols_by : Order → List ℕ → Table → Option ℕ → Result (List Symbol) ElfFault
+symbols_by order file table None = Ok []
+symbols_by order file table (Some at) = do
+  strings ← strings_of order file table at
+  kept_from order file strings (section_at order (drop at file)).offset ((section_at order (drop at file)).size / 16) []
 
 -- The symbols by a table of section headers: those of its first symbol table. A fault of the table is one of
 -- e_shentsize (at 46) or e_shoff (at 32).
-unfoldable pub symbols_of : List ℕ → Table → Result (List Symbol) ElfFault
-symbols_of file table =
+unfoldable pub symbols_of : Order → List ℕ → Table → Result (List Symbol) ElfFault
+symbols_of order file table =
     if table.offset == 0 || table.count == 0 then Ok []
     else (if not (table.entry_size == 40) then Err (fault.Sizes 46)
     else (if not (has_bytes file table.offset (40 * table.count)) then Err (fault.Truncated 32)
-    else symbols_by file table (symbol_table_from file table.offset table.count)))
+    else symbols_by order file table (symbol_table_from order file table.offset table.count)))

@@ -15,8 +15,8 @@ pub enum ElfFault {
     /// The file doesn't begin with 7F 45 4C 46.
     #[error("no ELF file: it doesn't begin with the bytes 7F 45 4C 46")]
     NotElf,
-    /// It isn't a big-endian ELF32 executable for MIPS, or asks for a dynamic linker or extended numbering.
-    #[error("offset {at}: a value that isn't supported; wanted is a static big-endian ELF32 executable for MIPS")]
+    /// It isn't an ELF32 executable for MIPS, or asks for a dynamic linker or extended numbering.
+    #[error("offset {at}: a value that isn't supported; wanted is a static ELF32 executable for MIPS")]
     Unsupported {
         /// The offset of the field or program header.
         at: usize,

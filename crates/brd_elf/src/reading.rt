@@ -20,9 +20,10 @@ pub fn read(alloc: Global, bytes: &[u8]) -> Result<Image, ElfFault>
     ensures loadable { IfOk result IsLoadable }
 {
     let header = header_of(bytes)?;
-    let segments = segments_of(alloc, bytes, header.programs)?;
-    let symbols = symbols_of(alloc, bytes, header.sections)?;
+    let segments = segments_of(alloc, bytes, header.order, header.programs)?;
+    let symbols = symbols_of(alloc, bytes, header.order, header.sections)?;
     Ok(Image {
+        order: header.order,
         entry: header.entry,
         segments,
         symbols,

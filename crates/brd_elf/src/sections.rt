@@ -7,6 +7,7 @@ ghost use Rattle.brd_elf.specs.Symbols.{section_at, is_whole, section_bytes, sym
 use crate::fault::ElfFault;
 use crate::fields::{has_bytes, word_at};
 use crate::header::Table;
+use brd_word::Order;
 
 /// How many bytes a section header has.
 pub const LEN: usize = 40;
@@ -27,28 +28,33 @@ pub struct Section {
 }
 
 /// The section header that bytes begin with.
-pub fn section_at(bytes: &[u8]) -> Section
+pub fn section_at(bytes: &[u8], order: Order) -> Section
     requires { 40 ≤ length bytes.now }
-    ensures { result ≡ section_at bytes.now }
+    ensures { result ≡ section_at order bytes.now }
 {
     Section {
-        kind: word_at(bytes, 4),
-        offset: word_at(bytes, 16),
-        size: word_at(bytes, 20),
-        link: word_at(bytes, 24),
-        entry_size: word_at(bytes, 36),
+        kind: word_at(bytes, 4, order),
+        offset: word_at(bytes, 16, order),
+        size: word_at(bytes, 20, order),
+        link: word_at(bytes, 24, order),
+        entry_size: word_at(bytes, 36, order),
     }
 }
 
 /// The offset of the first header of a symbol table, among as many as `count` from an offset on.
-pub fn symbol_table_from(file: &[u8], start: usize, count: usize) -> Option<usize>
+pub fn symbol_table_from(
+    file: &[u8],
+    order: Order,
+    start: usize,
+    count: usize,
+) -> Option<usize>
     requires { start + 40 * count ≤ length file.now }
-    ensures first { result ≡ symbol_table_from file.now start count }
+    ensures first { result ≡ symbol_table_from order file.now start count }
     ensures within { IfSome result (λ at. at + 40 ≤ length file.now) }
 {
     let mut at = start;
     for _ in 0..count {
-        if section_at(&file[at..]).kind == 2 {
+        if section_at(&file[at..], order).kind == 2 {
             return Some(at);
         }
         at += LEN;
@@ -58,18 +64,18 @@ pub fn symbol_table_from(file: &[u8], start: usize, count: usize) -> Option<usiz
 
 /// The strings that go with the symbol table whose section header lies at an offset.
 #[tactic(auto, unfolding(crate::specs::Symbols::strings_of))]
-pub fn strings_of(file: &[u8], table: Table, at: usize) -> Result<&[u8], ElfFault>
+pub fn strings_of(file: &[u8], order: Order, table: Table, at: usize) -> Result<&[u8], ElfFault>
     requires table { table.offset + 40 * table.count ≤ length file.now }
     requires section { at + 40 ≤ length file.now }
-    ensures strings { Gives (λ strings. strings.now) result (strings_of file.now table at) }
+    ensures strings { Gives (λ strings. strings.now) result (strings_of order file.now table at) }
     ensures short { IfOk result (λ strings. length strings.now < 2 ^ 32) }
-    ensures whole { IsOk result → is_symbol_table file.now table (section_at (drop at file.now)) ≡ true }
+    ensures whole { IsOk result → is_symbol_table file.now table (section_at order (drop at file.now)) ≡ true }
 {
-    let symbols = section_at(&file[at..]);
+    let symbols = section_at(&file[at..], order);
     if !is_symbol_table(file, table, symbols) {
         return Err(ElfFault::Symbols { at });
     }
-    let strings = linked(file, table, symbols);
+    let strings = linked(file, order, table, symbols);
     if !is_string_table(file, strings) {
         return Err(ElfFault::Symbols { at });
     }
@@ -101,13 +107,13 @@ fn is_whole(file: &[u8], section: Section) -> bool
 }
 
 /// The section that a section is linked to.
-fn linked(file: &[u8], table: Table, section: Section) -> Section
+fn linked(file: &[u8], order: Order, table: Table, section: Section) -> Section
     requires table { table.offset + 40 * table.count ≤ length file.now }
     requires link { section.link < table.count }
-    ensures { result ≡ linked file.now table section }
+    ensures { result ≡ linked order file.now table section }
 {
     let at = table.offset as usize + LEN * section.link as usize;
-    section_at(&file[at..])
+    section_at(&file[at..], order)
 }
 
 /// The bytes of a section that lie in the file.

@@ -10,6 +10,7 @@ use crate::header::Table;
 use crate::loaded::Loaded;
 use brd_base::{BASE, NoMemory, TOP};
 use brd_mem::{Bytes, Segment, Segments};
+use brd_word::Order;
 use std::alloc::Global;
 
 /// How many bytes a program header has.
@@ -32,8 +33,13 @@ pub struct ProgramHeader {
 
 /// The segments of a table of program headers, in the file's order, or its first fault.
 #[tactic(auto, unfolding(crate::specs::Segments::segments_of))]
-pub fn segments_of(alloc: Global, file: &[u8], table: Table) -> Result<Segments, ElfFault>
-    ensures { Gives (λ segments. segments) result (segments_of file.now table) }
+pub fn segments_of(
+    alloc: Global,
+    file: &[u8],
+    order: Order,
+    table: Table,
+) -> Result<Segments, ElfFault>
+    ensures { Gives (λ segments. segments) result (segments_of order file.now table) }
 {
     if table.count == 0 {
         return Ok(Segments::new(alloc));
@@ -46,18 +52,24 @@ pub fn segments_of(alloc: Global, file: &[u8], table: Table) -> Result<Segments,
     if !has_bytes(file, start, LEN * count) {
         return Err(ElfFault::Truncated { at: 28 });
     }
-    load_all(alloc, file, start, count)
+    load_all(alloc, file, order, start, count)
 }
 
 /// The segments of as many program headers as `count`, from an offset on.
-fn load_all(alloc: Global, file: &[u8], start: usize, count: usize) -> Result<Segments, ElfFault>
+fn load_all(
+    alloc: Global,
+    file: &[u8],
+    order: Order,
+    start: usize,
+    count: usize,
+) -> Result<Segments, ElfFault>
     requires { start + 32 * count ≤ length file.now }
-    ensures { Gives (λ segments. segments) result (loaded_from file.now start count []) }
+    ensures { Gives (λ segments. segments) result (loaded_from order file.now start count []) }
 {
     let mut segments = Loaded::new(alloc);
     let mut at = start;
     for _ in 0..count {
-        load(alloc, file, at, &mut segments)?;
+        load(alloc, file, order, at, &mut segments)?;
         at += LEN;
     }
     Ok(segments.into_segments())
@@ -65,11 +77,17 @@ fn load_all(alloc: Global, file: &[u8], start: usize, count: usize) -> Result<Se
 
 /// Puts the segment of the program header at an offset behind the others, if it has one.
 #[tactic(auto, unfolding(crate::specs::Segments::loaded))]
-fn load(alloc: Global, file: &[u8], at: usize, segments: &mut Loaded) -> Result<(), ElfFault>
+fn load(
+    alloc: Global,
+    file: &[u8],
+    order: Order,
+    at: usize,
+    segments: &mut Loaded,
+) -> Result<(), ElfFault>
     requires { at + 32 ≤ length file.now }
-    ensures { Gives (λ _. segments.new) result (loaded file.now at (program_header_at (drop at file.now)) segments.old) }
+    ensures { Gives (λ _. segments.new) result (loaded file.now at (program_header_at order (drop at file.now)) segments.old) }
 {
-    let header = program_header_at(&file[at..]);
+    let header = program_header_at(&file[at..], order);
     if is_dynamic(header) {
         return Err(ElfFault::Unsupported { at });
     }
@@ -106,16 +124,16 @@ fn load_segment(
 }
 
 /// The program header that bytes begin with.
-fn program_header_at(bytes: &[u8]) -> ProgramHeader
+fn program_header_at(bytes: &[u8], order: Order) -> ProgramHeader
     requires { 32 ≤ length bytes.now }
-    ensures { result ≡ program_header_at bytes.now }
+    ensures { result ≡ program_header_at order bytes.now }
 {
     ProgramHeader {
-        kind: word_at(bytes, 0),
-        offset: word_at(bytes, 4),
-        address: word_at(bytes, 8),
-        file_size: word_at(bytes, 16),
-        memory_size: word_at(bytes, 20),
+        kind: word_at(bytes, 0, order),
+        offset: word_at(bytes, 4, order),
+        address: word_at(bytes, 8, order),
+        file_size: word_at(bytes, 16, order),
+        memory_size: word_at(bytes, 20, order),
     }
 }
 

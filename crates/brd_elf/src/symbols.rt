@@ -10,6 +10,7 @@ use crate::header::Table;
 use crate::named::Named;
 use crate::sections::{section_at, strings_of, symbol_table_from};
 use brd_mem::Symbols;
+use brd_word::Order;
 use std::alloc::Global;
 
 /// How many bytes a symbol has.
@@ -28,8 +29,13 @@ pub struct Entry {
 
 /// The symbols of the first symbol table of a table of section headers, or their first fault.
 #[tactic(auto, unfolding(crate::specs::Symbols::symbols_of, crate::specs::Symbols::symbols_by))]
-pub fn symbols_of(alloc: Global, file: &[u8], table: Table) -> Result<Symbols, ElfFault>
-    ensures { Gives (λ symbols. symbols) result (symbols_of file.now table) }
+pub fn symbols_of(
+    alloc: Global,
+    file: &[u8],
+    order: Order,
+    table: Table,
+) -> Result<Symbols, ElfFault>
+    ensures { Gives (λ symbols. symbols) result (symbols_of order file.now table) }
 {
     if table.offset == 0 || table.count == 0 {
         return Ok(Symbols::new(alloc));
@@ -42,54 +48,61 @@ pub fn symbols_of(alloc: Global, file: &[u8], table: Table) -> Result<Symbols, E
     if !has_bytes(file, start, crate::sections::LEN * count) {
         return Err(ElfFault::Truncated { at: 32 });
     }
-    match symbol_table_from(file, start, count) {
+    match symbol_table_from(file, order, start, count) {
         None => Ok(Symbols::new(alloc)),
-        Some(at) => symbols_by(alloc, file, table, at),
+        Some(at) => symbols_by(alloc, file, order, table, at),
     }
 }
 
 /// The symbols of the symbol table whose section header lies at an offset.
 #[tactic(auto, unfolding(crate::specs::Symbols::symbols_by))]
-fn symbols_by(alloc: Global, file: &[u8], table: Table, at: usize) -> Result<Symbols, ElfFault>
+fn symbols_by(
+    alloc: Global,
+    file: &[u8],
+    order: Order,
+    table: Table,
+    at: usize,
+) -> Result<Symbols, ElfFault>
     requires table { table.offset + 40 * table.count ≤ length file.now }
     requires section { at + 40 ≤ length file.now }
-    ensures { Gives (λ symbols. symbols) result (symbols_by file.now table (Some at)) }
+    ensures { Gives (λ symbols. symbols) result (symbols_by order file.now table (Some at)) }
 {
-    let strings = strings_of(file, table, at)?;
-    let section = section_at(&file[at..]);
+    let strings = strings_of(file, order, table, at)?;
+    let section = section_at(&file[at..], order);
     let count = section.size as usize / LEN;
-    keep_all(alloc, file, strings, section.offset as usize, count)
+    keep_all(alloc, file, order, strings, section.offset as usize, count)
 }
 
 /// The symbols of as many entries as `count`, from an offset on.
 fn keep_all(
     alloc: Global,
     file: &[u8],
+    order: Order,
     strings: &[u8],
     start: usize,
     count: usize,
 ) -> Result<Symbols, ElfFault>
     requires file { 0 < count → start + 16 * count ≤ length file.now }
     requires strings { length strings.now < 2 ^ 32 }
-    ensures { Gives (λ symbols. symbols) result (kept_from file.now strings.now start count []) }
+    ensures { Gives (λ symbols. symbols) result (kept_from order file.now strings.now start count []) }
 {
     let mut symbols = Named::new(alloc, strings)?;
     let mut at = start;
     for _ in 0..count {
-        symbols.keep(alloc, at, entry_at(&file[at..]))?;
+        symbols.keep(alloc, at, entry_at(&file[at..], order))?;
         at += LEN;
     }
     Ok(symbols.into_symbols())
 }
 
 /// The symbol that bytes begin with.
-fn entry_at(bytes: &[u8]) -> Entry
+fn entry_at(bytes: &[u8], order: Order) -> Entry
     requires { 16 ≤ length bytes.now }
-    ensures { result ≡ entry_at bytes.now }
+    ensures { result ≡ entry_at order bytes.now }
 {
     Entry {
-        name: word_at(bytes, 0),
-        value: word_at(bytes, 4),
-        section: half_at(bytes, 14),
+        name: word_at(bytes, 0, order),
+        value: word_at(bytes, 4, order),
+        section: half_at(bytes, 14, order),
     }
 }

@@ -12,6 +12,7 @@ use crate::parts::{
 };
 use brd_base::NoMemory;
 use brd_mem::{Image, Segment};
+use brd_word::Order;
 use std::alloc::Global;
 
 /// What lies between the header and the section headers of a file, and where its parts lie in the file.
@@ -48,6 +49,7 @@ fn file_of(alloc: Global, image: &Image) -> Result<Vec<u8>, NoMemory>
     let mut out = Vec::new(alloc);
     put_header(
         &mut out,
+        image.order,
         image.entry,
         programs_at,
         sections_at,
@@ -56,6 +58,7 @@ fn file_of(alloc: Global, image: &Image) -> Result<Vec<u8>, NoMemory>
     out.extend_from_slice(&body.bytes)?;
     put_section_headers(
         &mut out,
+        image.order,
         body.symbols_at,
         body.symbols_size,
         body.strings_at,
@@ -66,12 +69,12 @@ fn file_of(alloc: Global, image: &Image) -> Result<Vec<u8>, NoMemory>
 }
 
 /// The program headers of segments, and behind them the bytes of the segments.
-fn with_data(alloc: Global, segments: &[Segment]) -> Result<Vec<u8>, NoMemory>
+fn with_data(alloc: Global, order: Order, segments: &[Segment]) -> Result<Vec<u8>, NoMemory>
     requires { length segments.now ≤ 2 ^ 24 }
     ensures { IfOk result (λ bytes. bytes.items
-        ≡ program_headers_from (52 + 32 * length segments.now) segments.now ++ data_of segments.now) }
+        ≡ program_headers_from order (52 + 32 * length segments.now) segments.now ++ data_of segments.now) }
 {
-    let (mut bytes, data) = lay_out_segments(alloc, segments)?;
+    let (mut bytes, data) = lay_out_segments(alloc, order, segments)?;
     bytes.extend_from_slice(&data)?;
     Ok(bytes)
 }
@@ -81,15 +84,15 @@ fn body_of(alloc: Global, image: &Image) -> Result<Body, NoMemory>
     requires { IsPlain image.now }
     ensures bytes { IfOk result (λ body. body.bytes.items ≡ body_of image.now) }
     ensures symbols_at { IfOk result (λ body. body.symbols_at ≡ symbols_at image.now) }
-    ensures symbols_size { IfOk result (λ body. body.symbols_size ≡ length (symbol_table image.now.symbols)) }
+    ensures symbols_size { IfOk result (λ body. body.symbols_size ≡ length (symbol_table image.now.order image.now.symbols)) }
     ensures strings_at { IfOk result (λ body. body.strings_at ≡ strings_at image.now) }
     ensures strings_size { IfOk result (λ body. body.strings_size ≡ length (strings image.now.symbols)) }
     ensures names_at { IfOk result (λ body. body.names_at ≡ names_at image.now) }
     ensures sections_at { IfOk result (λ body. 52 + length body.bytes.items ≡ sections_at image.now) }
     ensures words { IfOk result (λ _. AllByRecursion (λ symbol. symbol.value < 2 ^ 32) image.now.symbols) }
 {
-    let mut bytes = with_data(alloc, image.segments.as_slice())?;
-    let (table, strings) = lay_out_symbols(alloc, image.symbols.as_slice())?;
+    let mut bytes = with_data(alloc, image.order, image.segments.as_slice())?;
+    let (table, strings) = lay_out_symbols(alloc, image.order, image.symbols.as_slice())?;
     let symbols_at = HEADER_LEN + bytes.len();
     bytes.extend_from_slice(&table)?;
     let strings_at = HEADER_LEN + bytes.len();

@@ -2,10 +2,14 @@
 
 use brd_elf::ElfFault;
 use brd_mem::{Image, Segment};
+use brd_word::Order;
 use std::io;
 
-/// The entry, each segment and each symbol.
+/// That it is little-endian, if it is; the entry, each segment and each symbol.
 pub fn image(rt: &impl Print, image: &Image) -> io::Result<()> {
+    if image.order == Order::Little {
+        println!(rt; "little-endian")?;
+    }
     let entry = image.entry;
     println!(rt; "entry {entry:08x}")?;
     for segment in image.segments.as_slice() {

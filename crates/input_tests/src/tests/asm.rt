@@ -10,6 +10,7 @@ mod changed;
 mod every;
 mod faults;
 mod large;
+mod order;
 
 /// A source, and its answer: the fault, or what its image holds.
 type Row = (&'static str, &'static str);
@@ -90,4 +91,49 @@ fn every_statement(rt: HostRuntime) {
     let mut answer = String::new(rt.alloc());
     let is_put = put_every(&mut answer).is_ok();
     assert!(rt; is_put && has_answer(rt.alloc(), every::SOURCE, answer.as_str()));
+}
+
+/// What stands at a word of `every::WORDS` where the source is little-endian, most significant byte first.
+fn little_word(number: usize, word: u32) -> u32 {
+    let [a, b, c, d] = word.to_be_bytes();
+    if number < every::HALVES_AT {
+        u32::from_be_bytes([d, c, b, a])
+    } else if number < every::BYTES_AT {
+        u32::from_be_bytes([b, a, d, c])
+    } else {
+        word
+    }
+}
+
+/// Puts what each word is where the source is little-endian at the end, as eight digits.
+fn put_little_words(text: &mut String, words: &[u32]) -> Result<(), AllocError> {
+    for (number, word) in words.iter().enumerate() {
+        let word = little_word(number, *word);
+        write!(text, "{word:08x}")?;
+    }
+    Ok(())
+}
+
+/// Puts what the image of `every::SOURCE` holds at the end, where it is little-endian.
+fn put_little_every(text: &mut String) -> Result<(), AllocError> {
+    text.push_str("little 80000800 80000000:")?;
+    put_little_words(text, &every::WORDS)?;
+    text.push_str(" 80000800:")?;
+    put_little_words(text, &every::FAR)?;
+    text.push_str(every::SYMBOLS)
+}
+
+/// Puts `every::SOURCE` at the end, behind a line that says that it is little-endian.
+fn put_little_source(text: &mut String) -> Result<(), AllocError> {
+    text.push_str(".byteorder little\n")?;
+    text.push_str(every::SOURCE)
+}
+
+/// The same of a little-endian source.
+#[test]
+fn every_little_statement(rt: HostRuntime) {
+    let mut source = String::new(rt.alloc());
+    let mut answer = String::new(rt.alloc());
+    let is_put = put_little_source(&mut source).is_ok() && put_little_every(&mut answer).is_ok();
+    assert!(rt; is_put && has_answer(rt.alloc(), source.as_str(), answer.as_str()));
 }

@@ -1,6 +1,6 @@
 //! Object files.
 
-use super::shown::{is_called, shows};
+use super::shown::{is_called, shows, shows_little};
 use brd_elf::read;
 use brd_mem::{Bytes, Segment, Segments};
 use std::alloc::Global;
@@ -11,6 +11,7 @@ mod accepted;
 mod changed;
 mod faults;
 mod large;
+mod little;
 mod written;
 
 /// A header, a program header that loads three bytes to eight at 0x80000100, one of type 0x70000003
@@ -82,12 +83,71 @@ fn is_read_as(alloc: Global, file: &[u8], expected: &str) -> bool {
     }
 }
 
-/// Whether that is read from a file with a change.
+/// The place of a byte of a field in `SHORT`, or else in `ASSEMBLED`, where the fields are in the other byte order. Each
+/// field begins at a multiple of its size.
+fn turned_place(is_short: bool, place: usize) -> usize {
+    let is_half = (16 <= place && place < 20) || (40 <= place && place < 52);
+    let in_symbol = place % 16;
+    let is_in_symbols = !is_short && 100 <= place && place < 148;
+    let is_word_of_header = (20 <= place && place < 40) || (52 <= place && place < 84);
+    let is_word_of_one = if is_short {
+        84 <= place && place < 116
+    } else {
+        188 <= place && place < 348
+    };
+    if is_word_of_header || is_word_of_one || (is_in_symbols && in_symbol >= 4) {
+        place ^ 3
+    } else if is_half || (is_in_symbols && (in_symbol == 2 || in_symbol == 3)) {
+        place ^ 1
+    } else {
+        place
+    }
+}
+
+/// The other data encoding; what is none stays.
+fn turned_encoding(byte: u8) -> u8 {
+    match byte {
+        1 => 2,
+        2 => 1,
+        _ => byte,
+    }
+}
+
+/// Puts each byte of a file where it lies with the other byte order. `out` is a copy of the file.
+fn turn(file: &[u8], out: &mut [u8]) {
+    let is_short = file.len() == SHORT.len();
+    for (place, byte) in file.iter().enumerate() {
+        let byte = if place == 5 { turned_encoding(*byte) } else { *byte };
+        put_byte(out, turned_place(is_short, place), byte);
+    }
+}
+
+/// Whether that is read from a file in the other byte order. An image is little-endian then.
+fn is_turned_read_as(alloc: Global, file: &[u8], expected: &str) -> bool {
+    match Vec::from_slice(alloc, file) {
+        Ok(mut copy) => {
+            turn(file, copy.as_mut_slice());
+            is_read_as_little(alloc, copy.as_slice(), expected)
+        }
+        Err(_) => false,
+    }
+}
+
+/// Whether that is read from a file, and an image is little-endian.
+fn is_read_as_little(alloc: Global, file: &[u8], expected: &str) -> bool {
+    match read(alloc, file) {
+        Ok(image) => shows_little(alloc, &image, expected),
+        Err(fault) => is_called(alloc, &fault, expected),
+    }
+}
+
+/// Whether that is read from a file with a change, and from the same in the other byte order.
 fn is_changed_read_as(alloc: Global, file: &[u8], changes: &[(usize, u8)], expected: &str) -> bool {
     match Vec::from_slice(alloc, file) {
         Ok(mut copy) => {
             put_changes(copy.as_mut_slice(), changes);
             is_read_as(alloc, copy.as_slice(), expected)
+                && is_turned_read_as(alloc, copy.as_slice(), expected)
         }
         Err(_) => false,
     }
@@ -119,10 +179,12 @@ const FILES: &[(&[u8], &str)] = &[
     (b"", "NotElf"),
 ];
 
-/// The first of `FILES` from which something else is read.
+/// The first of `FILES` from which something else is read, or from the same in the other byte order.
 fn first_wrong_file(alloc: Global) -> Option<usize> {
     for (row, (file, expected)) in FILES.iter().enumerate() {
-        if !is_read_as(alloc, *file, *expected) {
+        let is_right = is_read_as(alloc, *file, *expected)
+            && is_turned_read_as(alloc, *file, *expected);
+        if !is_right {
             return Some(row);
         }
     }

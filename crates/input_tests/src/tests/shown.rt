@@ -1,6 +1,7 @@
 //! What an image holds, as a line of text, and what faults are called.
 
 use brd_mem::{Image, Segment, Symbol};
+use brd_word::Order;
 use std::alloc::{AllocError, Global};
 use std::fmt::Debug;
 
@@ -41,6 +42,14 @@ fn put_symbols(text: &mut String, symbols: &[Symbol]) -> Result<(), AllocError> 
     Ok(())
 }
 
+/// Puts the byte order at the end, unless it is big-endian.
+fn put_order(text: &mut String, order: Order) -> Result<(), AllocError> {
+    match order {
+        Order::Big => Ok(()),
+        Order::Little => text.push_str("little "),
+    }
+}
+
 /// Puts what an image holds at the end.
 fn put_image(text: &mut String, image: &Image) -> Result<(), AllocError> {
     let entry = image.entry;
@@ -49,11 +58,21 @@ fn put_image(text: &mut String, image: &Image) -> Result<(), AllocError> {
     put_symbols(text, image.symbols.as_slice())
 }
 
-/// Whether an image holds what this says: the entry, each segment's address and bytes, and each symbol with its value;
-/// numbers are hexadecimal.
+/// Whether an image holds what this says: `little` where it is little-endian, the entry, each segment's address and
+/// bytes, and each symbol with its value; numbers are hexadecimal.
 pub fn shows(alloc: Global, image: &Image, wanted: &str) -> bool {
     let mut text = String::new(alloc);
-    put_image(&mut text, image).is_ok() && text.as_str() == wanted
+    put_order(&mut text, image.order).is_ok()
+        && put_image(&mut text, image).is_ok()
+        && text.as_str() == wanted
+}
+
+/// Whether an image is little-endian, and else holds what this says.
+pub fn shows_little(alloc: Global, image: &Image, wanted: &str) -> bool {
+    let mut text = String::new(alloc);
+    image.order == Order::Little
+        && put_image(&mut text, image).is_ok()
+        && text.as_str() == wanted
 }
 
 /// Whether a fault is called so, as `Range { line: 2 }`.

@@ -7,7 +7,7 @@ use Rattle.brd_elf.proofs.parts.put_all_named.Given as goal
 
 abbrev pub invariant-loop-symbol : goal.invariant-loop-symbol
 invariant-loop-symbol l = record {
-  entries : l.table.items ++ symbol_entries_from (length l.strings.items) (drop l.symbol-index l.symbols) ≡ l.fn.table.items ++ symbol_entries_from (length l.fn.strings.items) l.symbols;
+  entries : l.table.items ++ symbol_entries_from l.order (length l.strings.items) (drop l.symbol-index l.symbols) ≡ l.fn.table.items ++ symbol_entries_from l.order (length l.fn.strings.items) l.symbols;
   strings : l.strings.items ++ flat_map (λ symbol. symbol.name ++ 0 ∷ []) (drop l.symbol-index l.symbols) ≡ l.fn.strings.items ++ flat_map (λ symbol. symbol.name ++ 0 ∷ []) l.symbols;
   words : AllByRecursion (λ symbol. symbol.value < 2 ^ 32) (take l.symbol-index l.symbols);
 }

@@ -6,16 +6,16 @@ use Rattle.brd_elf.proofs.sections.symbol_table_from.Goals as goal
 
 pub returns-then-section_at-eq2-clause-first : goal.returns-then-section_at-eq2-clause-first
 returns-then-section_at-eq2-clause-first c =
-    let read : c.section_at.result ≡ section_at (drop c.loop.at c.args.file.now) = rw take_rest at c.section_at.ensures in
-    ends c.args.file.now c.loop.at c.args.count c.loop.counter (symbol_table_from c.args.file.now c.args.start c.args.count) c.loop-test.true (is_kind _ _ read c.if-section_at-eq2.true) c.loop.invariant.same
+    let read : c.section_at.result ≡ section_at c.args.order (drop c.loop.at c.args.file.now) = rw take_rest at c.section_at.ensures in
+    ends c.args.order c.args.file.now c.loop.at c.args.count c.loop.counter (symbol_table_from c.args.order c.args.file.now c.args.start c.args.count) c.loop-test.true (is_kind _ _ read c.if-section_at-eq2.true) c.loop.invariant.same
 
 pub loop-preserved : goal.loop-preserved
 loop-preserved c =
-    let read : c.section_at.result ≡ section_at (drop c.loop.at c.args.file.now) = rw take_rest at c.section_at.ensures in
+    let read : c.section_at.result ≡ section_at c.args.order (drop c.loop.at c.args.file.now) = rw take_rest at c.section_at.ensures in
     record {
       place = omega arith;
-      same = goes_on c.args.file.now c.loop.at c.args.count c.loop.counter (symbol_table_from c.args.file.now c.args.start c.args.count) c.loop-test.true (is_other_kind _ _ read c.if-section_at-eq2.false) c.loop.invariant.same;
+      same = goes_on c.args.order c.args.file.now c.loop.at c.args.count c.loop.counter (symbol_table_from c.args.order c.args.file.now c.args.start c.args.count) c.loop-test.true (is_other_kind _ _ read c.if-section_at-eq2.false) c.loop.invariant.same;
     }
 
 pub returns-clause-first : goal.returns-clause-first
-returns-clause-first c = is_done c.args.file.now c.loop.at c.args.count c.loop.counter (symbol_table_from c.args.file.now c.args.start c.args.count) c.loop-test.false c.loop.invariant.same
+returns-clause-first c = is_done c.args.order c.args.file.now c.loop.at c.args.count c.loop.counter (symbol_table_from c.args.order c.args.file.now c.args.start c.args.count) c.loop-test.false c.loop.invariant.same

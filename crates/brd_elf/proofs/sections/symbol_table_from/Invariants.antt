@@ -6,5 +6,5 @@ use Rattle.brd_elf.proofs.sections.symbol_table_from.Given as goal
 abbrev pub invariant-loop : goal.invariant-loop
 invariant-loop l = record {
   place : l.at ≡ l.start + 40 * l.counter;
-  same : symbol_table_from l.file l.at (l.count - l.counter) ≡ symbol_table_from l.file l.start l.count;
+  same : symbol_table_from l.order l.file l.at (l.count - l.counter) ≡ symbol_table_from l.order l.file l.start l.count;
 }

@@ -6,5 +6,5 @@ use Rattle.brd_elf.proofs.segments.load_all.Given as goal
 abbrev pub invariant-loop : goal.invariant-loop
 invariant-loop l = record {
   place : l.at ≡ l.start + 32 * l.counter;
-  same : loaded_from l.file l.at (l.count - l.counter) l.segments ≡ loaded_from l.file l.start l.count [];
+  same : loaded_from l.order l.file l.at (l.count - l.counter) l.segments ≡ loaded_from l.order l.file l.start l.count [];
 }

@@ -7,5 +7,5 @@ abbrev pub invariant-loop : goal.invariant-loop
 invariant-loop l = record {
   place : l.at ≡ l.start + 16 * l.counter;
   strings : l.symbols.strings ≡ l.strings;
-  same : kept_from l.file l.strings l.at (l.count - l.counter) l.symbols.symbols ≡ kept_from l.file l.strings l.start l.count [];
+  same : kept_from l.order l.file l.strings l.at (l.count - l.counter) l.symbols.symbols ≡ kept_from l.order l.file l.strings l.start l.count [];
 }

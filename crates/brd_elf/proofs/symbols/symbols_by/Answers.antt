@@ -6,5 +6,5 @@ use Rattle.brd_elf.proofs.symbols.symbols_by.Goals as goal
 
 pub keep_all-requires-clause-file : goal.keep_all-requires-clause-file
 keep_all-requires-clause-file c =
-    let read : c.section_at-section.result ≡ section_at (drop c.args.at c.args.file.now) = rw take_rest at c.section_at-section.ensures in
+    let read : c.section_at-section.result ≡ section_at c.args.order (drop c.args.at c.args.file.now) = rw take_rest at c.section_at-section.ensures in
     λ some. symbols_fit c.args.file.now c.args.table c.section_at-section.result (rw read (c.in_ok-strings.ensures.whole refl)) some

@@ -13,7 +13,7 @@ pub returns : goal.returns
 returns c =
     let names : c.put_section_names.new.out.items ≡ c.extend_from_slice-2.new.self.items ++ section_names ++ replicate (padding (length c.in_ok-table.strings.items + length section_names)) 0 =
     rw c.deref-3.ensures.value at c.in_ok-put_section_names.ensures in
-    let laid = laid_out c.args.image.now (program_headers_from (data_at c.args.image.now) c.args.image.now.segments) (data_of c.args.image.now.segments) c.in_ok-table.table.items c.in_ok-table.strings.items
+    let laid = laid_out c.args.image.now (program_headers_from c.args.image.now.order (data_at c.args.image.now) c.args.image.now.segments) (data_of c.args.image.now.segments) c.in_ok-table.table.items c.in_ok-table.strings.items
     c.in_ok-bytes.bytes.items c.extend_from_slice.new.self.items c.extend_from_slice-2.new.self.items c.put_section_names.new.out.items
     refl refl
     (rw c.as_slice-2.ensures at c.in_ok-table.ensures.table) (rw c.as_slice-2.ensures at c.in_ok-table.ensures.strings)

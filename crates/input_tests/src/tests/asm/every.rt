@@ -148,6 +148,10 @@ value2:another: .space 4 // zeros\n\
 _start:\n\
 .word value, _start\n";
 
+/// Where in `WORDS` the halfwords begin, and the bytes behind them; before them there are words.
+pub const HALVES_AT: usize = 127;
+pub const BYTES_AT: usize = 130;
+
 /// What stands from 0x80000000 on.
 pub const WORDS: [u32; 139] = [
     0x000940c0, 0x000317c2, 0x00031143, 0x00c52004, 0x01283806, 0x018b5007, 0x03e00008, 0x01c06809,

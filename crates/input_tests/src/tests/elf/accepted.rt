@@ -58,26 +58,36 @@ const ASSEMBLED_ACCEPTED: &[Row] = &[
         &[(195, 3), (207, 0x94), (211, 10), (255, 0)],
         ASSEMBLED_SHOWN,
     ),
-    // The strings begin where the symbols do: all names lie behind the symbols, and one among them.
+    // The strings begin where the symbols do, and all names lie behind the symbols.
     (
         &[(287, 0x64), (291, 0x3a), (119, 0x31), (135, 0x38)],
         ASSEMBLED_SHOWN,
-    ),
-    (
-        &[
-            (287, 0x64),
-            (291, 0x3a),
-            (119, 28),
-            (128, b'x'),
-            (135, 0x38),
-        ],
-        "80000000 80000000:3c0880008d09000c0000000000000007 x=80000000 d=8000000c",
     ),
 ];
 
 #[test]
 fn changes_of_the_assembled_file(rt: HostRuntime) -> Result<(), Fail> {
     none_wrong(first_wrong(rt.alloc(), &ASSEMBLED, ASSEMBLED_ACCEPTED))
+}
+
+/// The strings begin where the symbols do, and a name lies among the symbols.
+const AMONG_SYMBOLS: &[(usize, u8)] = &[
+    (287, 0x64),
+    (291, 0x3a),
+    (119, 28),
+    (128, b'x'),
+    (135, 0x38),
+];
+
+#[test]
+fn a_name_among_the_symbols(rt: HostRuntime) {
+    let mut file = ASSEMBLED;
+    put_changes(&mut file, AMONG_SYMBOLS);
+    assert!(rt; is_read_as(
+        rt.alloc(),
+        &file,
+        "80000000 80000000:3c0880008d09000c0000000000000007 x=80000000 d=8000000c",
+    ));
 }
 
 /// The strings `ab`, `xab` and again `ab` in the place of those of `ASSEMBLED`.

@@ -1,6 +1,9 @@
 //! The files cut off anywhere, and with any byte changed.
 
-use super::{ASSEMBLED, ASSEMBLED_SHOWN, SHORT, SHORT_SHOWN, is_read_as, shows};
+use super::{
+    ASSEMBLED, ASSEMBLED_SHOWN, SHORT, SHORT_SHOWN, is_read_as, shows,
+    shows_little, turn,
+};
 use brd_elf::{ElfFault, read};
 use brd_mem::Image;
 use std::alloc::Global;
@@ -87,7 +90,34 @@ fn digit(alloc: Global, file: &[u8], same: &str) -> u8 {
     }
 }
 
-/// The first place of a file where this byte isn't answered by the digit of the place. The file is left as it was.
+/// The same of a file in the other byte order.
+fn turned_digit(alloc: Global, file: &[u8], same: &str) -> Option<u8> {
+    let mut copy = Vec::from_slice(alloc, file).ok()?;
+    turn(file, copy.as_mut_slice());
+    Some(match read(alloc, copy.as_slice()) {
+        Ok(image) => {
+            if shows_little(alloc, &image, same) {
+                b'0'
+            } else {
+                b'9'
+            }
+        }
+        Err(fault) => digit_of(fault),
+    })
+}
+
+/// The digit that a file in the other byte order has. With 0x7F at 287 the strings begin among the symbols, whose bytes
+/// lie in that order, and names end there.
+fn wanted_turned(byte: u8, place: usize, wanted: u8) -> u8 {
+    if byte == 0x7f && place == 287 {
+        b'9'
+    } else {
+        wanted
+    }
+}
+
+/// The first place of a file where this byte isn't answered by the digit of the place, in both byte orders. The file is
+/// left as it was.
 fn first_wrong_digit(
     alloc: Global,
     file: &mut [u8],
@@ -101,8 +131,9 @@ fn first_wrong_digit(
         };
         put_byte(file, place, byte);
         let found = digit(alloc, file, same);
+        let turned = turned_digit(alloc, file, same);
         put_byte(file, place, before);
-        if found != *wanted {
+        if found != *wanted || turned != Some(wanted_turned(byte, place, *wanted)) {
             return Some(place);
         }
     }
@@ -171,4 +202,15 @@ fn first_wrong_cut(alloc: Global, file: &[u8], table: usize, segment: usize) -> 
 fn cut_files(rt: HostRuntime) -> Result<(), Fail> {
     none_wrong(first_wrong_cut(rt.alloc(), &SHORT, 116, 119))?;
     none_wrong(first_wrong_cut(rt.alloc(), &ASSEMBLED, 84, 100))
+}
+
+/// The same in the other byte order.
+#[test]
+fn cut_little_files(rt: HostRuntime) -> Result<(), Fail> {
+    let mut short = SHORT;
+    turn(&SHORT, &mut short);
+    none_wrong(first_wrong_cut(rt.alloc(), &short, 116, 119))?;
+    let mut assembled = ASSEMBLED;
+    turn(&ASSEMBLED, &mut assembled);
+    none_wrong(first_wrong_cut(rt.alloc(), &assembled, 84, 100))
 }

@@ -8,7 +8,14 @@ use test_help::{first_wrong_text, none_wrong, put_byte};
 /// A change of `SHORT`, and what is read then.
 const SHORT_FAULTS: &[Row] = &[
     (&[(4, 2)], "Unsupported { at: 4 }"),
-    (&[(5, 1)], "Unsupported { at: 5 }"),
+    (&[(5, 0)], "Unsupported { at: 5 }"),
+    (&[(5, 3)], "Unsupported { at: 5 }"),
+    (&[(5, 0xff)], "Unsupported { at: 5 }"),
+    // The fields are in the other order: e_type is 0x0200. No flag says otherwise.
+    (&[(5, 1)], "Unsupported { at: 16 }"),
+    (&[(5, 1), (36, 1), (39, 1)], "Unsupported { at: 16 }"),
+    (&[(4, 2), (5, 3)], "Unsupported { at: 4 }"),
+    (&[(5, 3), (6, 0)], "Unsupported { at: 5 }"),
     (&[(6, 0)], "Unsupported { at: 6 }"),
     (&[(17, 1)], "Unsupported { at: 16 }"),
     (&[(19, 9)], "Unsupported { at: 18 }"),
@@ -153,7 +160,7 @@ const TEXTS: &[(ElfFault, &str)] = &[
     ),
     (
         ElfFault::Unsupported { at: 18 },
-        "offset 18: a value that isn't supported; wanted is a static big-endian ELF32 executable for MIPS",
+        "offset 18: a value that isn't supported; wanted is a static ELF32 executable for MIPS",
     ),
     (
         ElfFault::Truncated { at: 52 },
