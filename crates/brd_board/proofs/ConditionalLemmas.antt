@@ -376,7 +376,7 @@ unlinked-by config (Ok m) (Ok s) (Ok l) = refl
 unlinked : (image : Image) (config : Configuration) → IsUnlinked (boot image config)
 unfolding boot
 unlinked image config =
-    unlinked-by config (loaded config.ram image.segments) (setups_of config.ram image.symbols config.tasks)
+    unlinked-by config (loaded image.order config.ram image.segments) (setups_of config.ram image.symbols config.tasks)
     (handlers_of config.ram image.symbols config.handlers)
 
 pub boot-conditional : (image : Image) (config : Configuration) (board : BoardState) (events : List Event) → boot image config ≡ Ok board →

@@ -5,6 +5,8 @@ use Rattle.std.specs.Prelude.{true, false, None, Some, Ok, replicate}
 use Rattle.std.proofs.lemmas.Bool.{false≢true}
 use Rattle.brd_base.specs.Space.{base}
 use Rattle.brd_isa.specs.Decoding.{decoded}
+use Rattle.brd_word.specs.declared.order.Order.{Order}
+use Rattle.brd_mem.specs.Memory.{memory_of_bytes}
 use Rattle.brd_mem.specs.Access.{loaded32}
 use Rattle.brd_link.specs.LinkSet.{is_linked}
 use Rattle.brd_exec.specs.State.{State}
@@ -44,7 +46,7 @@ program =
     0xC0 ∷ 0x22 ∷ 0x00 ∷ 0x08 ∷ 0xE0 ∷ 0x22 ∷ 0x00 ∷ 0x08 ∷ 0x00 ∷ 0x00 ∷ 0x00 ∷ 0x07 ∷ 0xAC ∷ 0x22 ∷ 0x00 ∷ 0x08 ∷ []
 
 abbrev pub board : BoardState
-board = record { kernel = kernel; memory = record { bytes = program }; links = []; faults = [] }
+board = record { kernel = kernel; memory = memory_of_bytes Order.Big program; links = []; faults = [] }
 
 -- the LL
 abbrev pub one : List Event

@@ -107,7 +107,7 @@ booted-by config (Ok m) (Ok s) (Ok l) = dispatch-settles (with_tasks (made_kerne
 booted : (image : Image) (config : Configuration) → IsBooted (boot image config)
 unfolding boot
 booted image config =
-    booted-by config (loaded config.ram image.segments) (setups_of config.ram image.symbols config.tasks) (handlers_of config.ram image.symbols config.handlers)
+    booted-by config (loaded image.order config.ram image.segments) (setups_of config.ram image.symbols config.tasks) (handlers_of config.ram image.symbols config.handlers)
 
 pub boot-settled : (image : Image) (config : Configuration) (b : BoardState) (events : List Event) → boot image config ≡ Ok b → IsSettled (after b events).kernel
 boot-settled image config b events is = after-settled b events (subst IsBooted is (booted image config))

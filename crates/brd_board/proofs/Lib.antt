@@ -12,6 +12,6 @@ pub mod OffLemmas
 pub mod GateLemmas
 pub mod RunningLemmas
 pub mod OwnLemmas
-pub mod SizeLemmas
+pub mod FormLemmas
 pub mod RowLemmas
 mod LeaseLemmas

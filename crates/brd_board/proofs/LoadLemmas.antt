@@ -8,7 +8,8 @@ use Rattle.std.proofs.lemmas.List.{get_or-drop, get_or-take, get_or_append_left,
 use Rattle.std.proofs.lemmas.Option.{slice_get-get_or}
 use Rattle.std.proofs.lemmas.List.FromFn.{fill_by_all}
 use Rattle.brd_base.specs.Space.{base}
-use Rattle.brd_mem.specs.Memory.{Memory, size_of, zeros, contains, copied}
+use Rattle.brd_word.specs.declared.order.Order.{Order}
+use Rattle.brd_mem.specs.Memory.{Memory, memory_of_bytes, size_of, zeros, contains, copied}
 use Rattle.brd_mem.specs.Image.{byte_in, IsApart, AreApart}
 use Rattle.brd_mem.specs.declared.image.Segment.{Segment}
 use Rattle.brd_board.proofs.SetupLemmas.{next}
@@ -105,11 +106,12 @@ turn size segment others memory at long inside apart = go (holds segment (base +
         rw held (ap (λ byte. unwrap_or (byte_in others (base + at)) byte) (untouched memory.bytes segment.bytes (segment.address - base) at high out))
 
 -- memory that has at each place what boot puts there is as boot leaves it
-pub all_loaded : (size : ℕ) (segments : List Segment) (memory : Memory) → size_of memory ≡ size →
-    ((at : ℕ) → get_or memory.bytes at 0 ≡ unwrap_or (byte_in segments (base + at)) 0) → memory ≡ memory_of size segments
+pub all_loaded : (order : Order) (size : ℕ) (segments : List Segment) (memory : Memory) → memory.order ≡ order → size_of memory ≡ size →
+    ((at : ℕ) → get_or memory.bytes at 0 ≡ unwrap_or (byte_in segments (base + at)) 0) → memory ≡ memory_of order size segments
 unfolding memory_of
-all_loaded size segments memory long has =
-    ap (λ (bytes : List ℕ). record { bytes = bytes }) (fill_by_all (λ at. unwrap_or (byte_in segments (base + at)) 0) memory.bytes size 0 long (λ at below. has at))
+all_loaded order size segments memory same long has =
+    ap (memory_of_bytes memory.order) (fill_by_all (λ at. unwrap_or (byte_in segments (base + at)) 0) memory.bytes size 0 long (λ at below. has at))
+    ∙ ap (λ it. memory_of it size segments) same
 
 -- bytes that are all zero
 pub zero_bytes : (count at : ℕ) → ◌≡◌ {A = ℕ} (get_or (replicate count 0) at 0) 0
@@ -118,54 +120,57 @@ zero_bytes (suc count) zero = refl
 zero_bytes (suc count) (suc at) = zero_bytes count at
 
 -- of what is still to be loaded, and of the memory so far
-pub record IsUnderWay (size : ℕ) (segments rest : List Segment) (memory : Memory) : Type 0 where
+pub record IsUnderWay (order : Order) (size : ℕ) (segments rest : List Segment) (memory : Memory) : Type 0 where
   pub inside : are_inside size rest ≡ are_inside size segments
+  pub order_is : memory.order ≡ order
   pub long : size_of memory ≡ size
   pub apart : AreApart rest
   pub bytes : (at : ℕ) → unwrap_or (byte_in rest (base + at)) (get_or memory.bytes at 0) ≡ unwrap_or (byte_in segments (base + at)) 0
 
-pub begins : (size : ℕ) (segments : List Segment) (memory : Memory) → memory ≡ zeros size → AreApart segments → IsUnderWay size segments segments memory
-begins size segments memory empty apart =
+pub begins : (order : Order) (size : ℕ) (segments : List Segment) (memory : Memory) → memory ≡ zeros order size → AreApart segments → IsUnderWay order size segments segments memory
+begins order size segments memory empty apart =
     let zero : ℕ = 0 in
     record {
       inside = refl;
+      order_is = ap (λ (it : Memory). it.order) empty;
       long = rw empty (length-replicate size zero);
       apart = apart;
       bytes = λ at. rw empty (ap (λ byte. unwrap_or (byte_in segments (base + at)) byte) (zero_bytes size at));
     }
 
-goes_on : (size : ℕ) (segments : List Segment) (segment : Segment) (others : List Segment) (memory : Memory) → IsUnderWay size segments (segment ∷ others) memory →
-    contains size segment.address (length segment.bytes) ≡ true → IsUnderWay size segments others (copied memory segment.address segment.bytes)
-goes_on size segments segment others memory so_far inside = record {
+goes_on : (order : Order) (size : ℕ) (segments : List Segment) (segment : Segment) (others : List Segment) (memory : Memory) → IsUnderWay order size segments (segment ∷ others) memory →
+    contains size segment.address (length segment.bytes) ≡ true → IsUnderWay order size segments others (copied memory segment.address segment.bytes)
+goes_on order size segments segment others memory so_far inside = record {
   inside = rw inside at so_far.inside;
+  order_is = so_far.order_is;
   long = copied-size size segment memory so_far.long inside ∙ so_far.long;
   apart = so_far.apart.1;
   bytes = λ at. turn size segment others memory at so_far.long inside so_far.apart.0 ∙ so_far.bytes at;
 }
 
-pub next_begins : (size : ℕ) (segments : List Segment) (i : ℕ) (segment : Segment) (memory : Memory) → i < length segments →
-    segment ≡ get_or segments i segment → IsUnderWay size segments (drop i segments) memory →
+pub next_begins : (order : Order) (size : ℕ) (segments : List Segment) (i : ℕ) (segment : Segment) (memory : Memory) → i < length segments →
+    segment ≡ get_or segments i segment → IsUnderWay order size segments (drop i segments) memory →
     contains size segment.address (length segment.bytes) ≡ true →
-    IsUnderWay size segments (drop (i + 1) segments) (copied memory segment.address segment.bytes)
-next_begins size segments i segment memory below is so_far inside =
-    goes_on size segments segment (drop (i + 1) segments) memory
-    (subst (λ (rest : List Segment). IsUnderWay size segments rest memory) (next segments i segment below is) so_far) inside
+    IsUnderWay order size segments (drop (i + 1) segments) (copied memory segment.address segment.bytes)
+next_begins order size segments i segment memory below is so_far inside =
+    goes_on order size segments segment (drop (i + 1) segments) memory
+    (subst (λ (rest : List Segment). IsUnderWay order size segments rest memory) (next segments i segment below is) so_far) inside
 
 -- a segment that isn't inside is one of all that aren't
-pub stops : (size : ℕ) (segments : List Segment) (i : ℕ) (segment : Segment) (memory : Memory) → i < length segments →
-    segment ≡ get_or segments i segment → IsUnderWay size segments (drop i segments) memory →
+pub stops : (order : Order) (size : ℕ) (segments : List Segment) (i : ℕ) (segment : Segment) (memory : Memory) → i < length segments →
+    segment ≡ get_or segments i segment → IsUnderWay order size segments (drop i segments) memory →
     contains size segment.address (length segment.bytes) ≡ false → are_inside size segments ≡ false
-stops size segments i segment memory below is so_far outside =
+stops order size segments i segment memory below is so_far outside =
     sym so_far.inside ∙ ap (are_inside size) (next segments i segment below is)
     ∙ ap (λ (inside : Bool). inside && are_inside size (drop (i + 1) segments)) outside
 
-pub ends : (size : ℕ) (segments : List Segment) (i : ℕ) (memory : Memory) → length segments ≤ i → IsUnderWay size segments (drop i segments) memory →
-    memory ≡ memory_of size segments
-ends size segments i memory past so_far =
-    all_loaded size segments memory so_far.long
+pub ends : (order : Order) (size : ℕ) (segments : List Segment) (i : ℕ) (memory : Memory) → length segments ≤ i → IsUnderWay order size segments (drop i segments) memory →
+    memory ≡ memory_of order size segments
+ends order size segments i memory past so_far =
+    all_loaded order size segments memory so_far.order_is so_far.long
     (λ at. subst (λ (rest : List Segment). unwrap_or (byte_in rest (base + at)) (get_or memory.bytes at 0) ≡ unwrap_or (byte_in segments (base + at)) 0)
     (drop_all i segments past) (so_far.bytes at))
 
-pub all_inside : (size : ℕ) (segments : List Segment) (i : ℕ) (memory : Memory) → length segments ≤ i → IsUnderWay size segments (drop i segments) memory →
+pub all_inside : (order : Order) (size : ℕ) (segments : List Segment) (i : ℕ) (memory : Memory) → length segments ≤ i → IsUnderWay order size segments (drop i segments) memory →
     are_inside size segments ≡ true
-all_inside size segments i memory past so_far = sym so_far.inside ∙ ap (are_inside size) (drop_all i segments past)
+all_inside order size segments i memory past so_far = sym so_far.inside ∙ ap (are_inside size) (drop_all i segments past)

@@ -283,7 +283,7 @@ booted-by config (Ok m) (Ok s) (Ok l) good =
 booted : (image : Image) (config : Configuration) → IsConfiguration config → IsBooted (boot image config)
 unfolding boot
 booted image config valid =
-    booted-by config (loaded config.ram image.segments) (setups_of config.ram image.symbols config.tasks)
+    booted-by config (loaded image.order config.ram image.segments) (setups_of config.ram image.symbols config.tasks)
     (handlers_of config.ram image.symbols config.handlers)
     (setups-good config.ram image.symbols config.tasks (base + config.ram) (within config valid))
 

@@ -141,7 +141,7 @@ booted-by config (Ok m) (Ok s) (Ok l) =
 booted : (image : Image) (config : Configuration) → IsBooted (boot image config)
 unfolding boot
 booted image config =
-    booted-by config (loaded config.ram image.segments) (setups_of config.ram image.symbols config.tasks)
+    booted-by config (loaded image.order config.ram image.segments) (setups_of config.ram image.symbols config.tasks)
     (handlers_of config.ram image.symbols config.handlers)
 
 pub boot-keeps : (image : Image) (config : Configuration) (b : BoardState) (events : List Event) → boot image config ≡ Ok b →

@@ -3,10 +3,11 @@ use Rattle.std.specs.Prelude.{ℕ, ◌+◌, ◌-◌, ◌*◌, ◌^◌, nat_le, B
 use Rattle.std.specs.List.{range_with_len}
 use Rattle.brd_base.specs.Space.{base}
 use Rattle.brd_text.specs.Faults.{◌>>=◌}
+use Rattle.brd_word.specs.declared.order.Order.{Order}
 use Rattle.brd_word.specs.Words.{bytes_of_word}
 use Rattle.brd_mem.specs.declared.image.Image.{Image}
 use Rattle.brd_mem.specs.declared.image.Segment.{Segment}
-use Rattle.brd_mem.specs.Memory.{Memory, contains}
+use Rattle.brd_mem.specs.Memory.{Memory, memory_of_bytes, contains}
 use Rattle.brd_mem.specs.Image.{byte_in}
 use Rattle.brd_config.specs.declared.objects.Operand.TheVariants.{Number}
 use Rattle.brd_config.specs.declared.objects.Stack.TheVariants.{Automatic}
@@ -27,13 +28,15 @@ abbrev pub are_inside : ℕ → List Segment → Bool
 are_inside size [] = true
 are_inside size (segment ∷ others) = contains size segment.address (length segment.bytes) && are_inside size others
 
--- RAM of that size as boot leaves it: at each address the byte of the segment that holds it, and 0 where none does
-unfoldable pub memory_of : ℕ → List Segment → Memory
-memory_of size segments = record { bytes = map (λ at. unwrap_or (byte_in segments (base + at)) 0) (range_with_len 0 size) }
+-- RAM of that order and size as boot leaves it: at each address the byte of the segment that holds it, and 0 where none
+-- does
+unfoldable pub memory_of : Order → ℕ → List Segment → Memory
+memory_of order size segments =
+    memory_of_bytes order (map (λ at. unwrap_or (byte_in segments (base + at)) 0) (range_with_len 0 size))
 
 -- the same, where all segments lie inside
-unfoldable pub loaded : ℕ → List Segment → Result Memory BootFault
-loaded size segments = if are_inside size segments then Ok (memory_of size segments) else Err Outside
+unfoldable pub loaded : Order → ℕ → List Segment → Result Memory BootFault
+loaded order size segments = if are_inside size segments then Ok (memory_of order size segments) else Err Outside
 
 -- the kernel at count 0: its objects and the handlers of its lines are as configured, its tasks with TA_ACT have been
 -- started, and each processor runs its first ready task
@@ -47,10 +50,11 @@ abbrev pub booted_board : KernelState → Memory → BoardState
 booted_board kernel memory = record { kernel = kernel; memory = memory; links = []; faults = replicate 9 None }
 
 -- The board that an image and a configuration make, or the first fault: of the segments, of the tasks, of the handlers.
+-- Its byte order is the image's.
 -- Tasks start where the configuration says, whatever entry the image names.
 unfoldable pub boot : Image → Configuration → Result BoardState BootFault
 boot image config = do
-  memory ← loaded config.ram image.segments
+  memory ← loaded image.order config.ram image.segments
   setups ← setups_of config.ram image.symbols config.tasks
   lines ← handlers_of config.ram image.symbols config.handlers
   Ok (booted_board (booted_kernel setups lines config) memory)
@@ -80,9 +84,10 @@ words_config = record { processors = 1; ram = words_ram; tasks = words_task ∷ 
 abbrev pub words_setup : TaskSetup
 words_setup = record { id = 1; cpu = 1; priority = 1; exinf = 0; address = base; sp = base + words_ram }
 
--- the memory of a list of words: they lie from its start on, and zeros after them
+-- the memory of a list of words: it is big-endian, they lie from its start on, and zeros after them
 abbrev pub memory_of_words : List ℕ → Memory
-memory_of_words words = record { bytes = flat_map bytes_of_word words ++ replicate (words_ram - 4 * length words) 0 }
+memory_of_words words =
+    memory_of_bytes Order.Big (flat_map (bytes_of_word Order.Big) words ++ replicate (words_ram - 4 * length words) 0)
 
 -- the board of a list of words, of which 16,384 fit into RAM
 abbrev pub boot_words : List ℕ → Result BoardState BootFault

@@ -41,6 +41,7 @@ use brd_kernel::{Ended, Kernel, LineSetup, Standing, TaskId, TaskSetup, TaskView
 use brd_link::Links;
 use brd_mem::{Image, Ram};
 use brd_sysgate::call;
+use brd_word::Order;
 use std::alloc::Global;
 use std::marker::Model;
 
@@ -79,7 +80,7 @@ impl Drop for Board {
 }
 
 impl Board {
-    /// The board that an image and a configuration make. Its tasks with TA_ACT have been started, and no interrupt is
+    /// The board that an image and a configuration make, in the image's byte order. Its tasks with TA_ACT have been started, and no interrupt is
     /// pending. A fault is the first one: of the segments, of the tasks in the order of their statements, of the
     /// handlers in theirs.
     #[tactic(auto, unfolding(crate::specs::Boot::boot))]
@@ -87,7 +88,7 @@ impl Board {
         requires { IsLoadable image.now }
         ensures { Boots (boot image.now (view config.now)) result }
     {
-        let ram = loaded(alloc, config.ram, image.segments.as_slice())?;
+        let ram = loaded(alloc, config.ram, image.order, image.segments.as_slice())?;
         let symbols = image.symbols.as_slice();
         let tasks = config.tasks.as_slice();
         let setups = setups_of(alloc, &ram, symbols, tasks)?;
@@ -100,7 +101,7 @@ impl Board {
         })
     }
 
-    /// The board of these words: they lie from 0x80000000 on in 64 KiB of RAM, and task 1 is about to run at the first
+    /// The big-endian board of these words: they lie from 0x80000000 on in 64 KiB of RAM, and task 1 is about to run at the first
     /// of them, with its stack at the end of RAM. More than 16,384 words are `Outside`.
     pub fn from_words(alloc: Global, words: &[u32]) -> Result<Board, BootFault>
         ensures image { Boots (boot (image_of_words words.now) words_config) result }
@@ -133,9 +134,10 @@ impl Board {
             && same_slices(self.faults.as_slice(), other.faults.as_slice())
     }
 
-    /// A snapshot over a boot whose RAM has the same size.
+    /// A snapshot over a boot whose RAM has the same size and byte order.
     pub fn snapshot(&self, boot: &Board) -> Result<Snapshot, NoMemory>
         requires sizes { size_of self.now.memory ≡ size_of boot.now.memory }
+        requires orders { self.now.memory.order ≡ boot.now.memory.order }
         ensures is { IfOk result (λ snapshot. snapshot ≡ snapshot_of boot.now self.now) }
         ensures fits { IfOk result (Fits boot.now) }
         ensures back { IfOk result (λ snapshot. restored boot.now snapshot ≡ self.now) }
@@ -337,6 +339,13 @@ impl Board {
         ensures { result ≡ byte_at self.now.memory address }
     {
         self.ram.byte(address)
+    }
+
+    /// In which order the bytes of halfwords and words lie in its memory.
+    pub fn order(&self) -> Order
+        ensures { result ≡ self.now.memory.order }
+    {
+        self.ram.order()
     }
 
     /// A task as it stands, where there is one of that number.

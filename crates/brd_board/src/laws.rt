@@ -131,6 +131,11 @@ pub fn ram_keeps_its_size()
         size_of (after board events).memory ≡ size_of board.memory }
 {}
 
+/// No event changes a board's byte order.
+pub fn the_byte_order_stays()
+    ensures { (board : BoardState) (events : List EventOf) → (after board events).memory.order ≡ board.memory.order }
+{}
+
 /// On a board that is on, where somebody executes on a processor and no interrupt is deliverable to it: n steps of that
 /// processor that go on, so long as no SYSCALL and no exception comes, change the context in which they are executed,
 /// memory and links, as the definition of one instruction says of each, and nothing else of the board.

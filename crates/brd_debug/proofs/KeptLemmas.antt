@@ -9,7 +9,7 @@ use Rattle.brd_mem.specs.Memory.{size_of}
 use Rattle.brd_board.specs.declared.event.Event.{Event}
 use Rattle.brd_board.specs.Board.{BoardState}
 use Rattle.brd_debug.specs.declared.snapshots.Kept.{Kept}
-use Rattle.brd_board.proofs.SizeLemmas.{size-after}
+use Rattle.brd_board.proofs.FormLemmas.{size-after, order-after}
 use Rattle.brd_debug.specs.declared.playback.Playback.{Playback}
 use Rattle.brd_debug.specs.Kept.{IsPlayed, AreKept, DoFit, SnapshotsState, plan_of, last_of, noted}
 
@@ -18,6 +18,9 @@ kept-fit boot events kept are k d within = (are k d within).fits
 
 pub size-played : (boot : BoardState) (events : List Event) (p : Playback) → IsPlayed boot events p → size_of p.board.memory ≡ size_of boot.memory
 size-played boot events p is = ap (λ (b : BoardState). size_of b.memory) is.board ∙ size-after boot (take p.at events)
+
+pub order-played : (boot : BoardState) (events : List Event) (p : Playback) → IsPlayed boot events p → p.board.memory.order ≡ boot.memory.order
+order-played boot events p is = ap (λ (b : BoardState). b.memory.order) is.board ∙ order-after boot (take p.at events)
 
 -- a multiple behind 0
 pub least-multiple : (n at : ℕ) → at % n ≡ 0 → 0 < at → n ≤ at

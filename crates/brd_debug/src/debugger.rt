@@ -52,8 +52,9 @@ impl Drop for Debugger {
 }
 
 impl Debugger {
-    /// A debugger of this boot and journal, before the first event and without stops.
+    /// A debugger of this boot and journal, which have the same byte order, before the first event and without stops.
     pub fn new(alloc: Global, boot: Board, journal: Journal) -> Result<Debugger, NoMemory>
+        requires orders { boot.memory.order ≡ journal.order }
         ensures { IfOk result (λ d. d ≡ record { boot = boot; events = journal.events; position = 0; stops = record { breaks = []; watches = [] } }) }
     {
         let board = boot.try_copy()?;

@@ -87,6 +87,7 @@ impl Snapshots {
     /// up.
     pub fn note(&mut self, boot: &Board, playback: &Playback) -> Result<(), NoMemory>
         requires sizes { size_of playback.now.board.memory ≡ size_of boot.now.memory }
+        requires orders { playback.now.board.memory.order ≡ boot.now.memory.order }
         requires few { playback.now.at < 2 ^ 59 }
         ensures kept { (events : ListOf EventOf) → IsPlayed boot.now events playback.now
             → AreKept boot.now events self.old.kept → AreKept boot.now events self.new.kept }

@@ -3,15 +3,16 @@ use Rattle.std.proofs.Common.{◌≡◌, ℕ, ◌+◌, ◌-◌, ◌*◌, ◌/◌
 use Rattle.std.specs.Prelude.{Bool, true, false, ◌==◌, if◌then◌else◌, Result, Ok, Err, is_ok}
 use Rattle.std.proofs.lemmas.Bool.Decides.{nat_tests}
 use Rattle.std.proofs.lemmas.Bool.{cases_lt, false≢true}
-use Rattle.std.proofs.lemmas.List.{length-take-le, length-drop, take-append-le, drop-take, take-take}
+use Rattle.std.proofs.lemmas.List.{length-take-le, take-append-le, drop-take, take-take}
 use Rattle.brd_base.specs.Space.{base}
 use Rattle.brd_word.specs.Words.{bytes_of_half, bytes_of_word, word_of_bytes}
+use Rattle.brd_word.proofs.BytesLemmas.{four_of-word, two_of-half}
 use Rattle.brd_isa.specs.declared.instruction.StoreOp.{StoreOp}
 use Rattle.brd_mem.specs.declared.fault.Exc.{Exc}
 use Rattle.brd_mem.specs.Memory.{Memory, size_of, contains, with_bytes, word_at, put_byte, put_half, put_word}
 use Rattle.brd_mem.specs.Access.{at_place, loaded32}
 use Rattle.brd_link.specs.LinkSet.{is_same_block}
-use Rattle.brd_exec.specs.Unaligned.{aligned}
+use Rattle.brd_exec.specs.Unaligned.{aligned, aligned_place, bytes_above, left_stored, right_stored, part_stored}
 use Rattle.brd_exec.specs.Step.{store_gives}
 use Rattle.brd_exec.proofs.UnalignedLemmas.{put, drop-put, length-put}
 
@@ -65,10 +66,10 @@ put-frame memory start bytes address from to low high other apart =
     let multiple : other % 4 ≡ 0 = grind (arith, nat_tests, whole) in
     let above : base ≤ other = grind (arith, nat_tests, inside) in
     elim (cases_lt (other / 16) (address / 16)) [
-      | inl lt ↦ ap word_of_bytes (before-put memory.bytes (start - base) (other - base) bytes fits (omega (arith, lt, multiple, above, low, from)))
+      | inl lt ↦ ap (word_of_bytes memory.order) (before-put memory.bytes (start - base) (other - base) bytes fits (omega (arith, lt, multiple, above, low, from)))
       | inr ge ↦
           let gt : address / 16 < other / 16 = grind (arith, nat_tests, apart, ge) in
-          ap word_of_bytes (behind-put memory.bytes (start - base) (other - base) bytes fits (omega (arith, gt, above, high, from)))
+          ap (word_of_bytes memory.order) (behind-put memory.bytes (start - base) (other - base) bytes fits (omega (arith, gt, above, high, from)))
     ])
 
 -- A store that gives a memory found a place, and gave what it puts there.
@@ -93,10 +94,11 @@ inside-placed : (inside : Bool) (there new : Memory) (outside : Exc) → (if ins
 inside-placed true there new outside is = record { is_whole = refl; is_inside = refl; gives = sym (ap (λ r. unwrap_ok r there) is) }
 inside-placed false there new outside is = absurd (false≢true (ap is_ok is))
 
--- a memory after a store into the block of an address
+-- a memory after a store into the block of an address, with the same size and order
 pub record IsStored (address : ℕ) (old new : Memory) : Type 0 where
   pub others : SameOutside address old new
   pub size : size_of new ≡ size_of old
+  pub order : new.order ≡ old.order
 
 -- what is put where it fits leaves the words of other blocks
 put-same : (memory new : Memory) (start : ℕ) (bytes : List ℕ) (address : ℕ) → new ≡ with_bytes memory (start - base) bytes →
@@ -105,7 +107,21 @@ put-same : (memory new : Memory) (start : ℕ) (bytes : List ℕ) (address : ℕ
 put-same memory new start bytes address is from to low high = record {
   others = subst (SameOutside address memory) (sym is) (put-frame memory start bytes address from to low high);
   size = ap size_of is ∙ length-put memory.bytes (start - base) bytes (omega (arith, from, to));
+  order = ap (λ (it : Memory). it.order) is;
 }
+
+-- a store of a part of an unaligned word
+part-stored : (of_words : ℕ → ℕ → ℕ → ℕ) (memory : Memory) (address register : ℕ) (new : Memory) →
+    part_stored of_words memory address register ≡ Ok new → IsStored address memory new
+part-stored of_words memory address register new is =
+    let at : ℕ = aligned_place address in
+    let word : ℕ = of_words (bytes_above memory.order address) (word_at memory at) register in
+    let it = inside-placed (contains (size_of memory) (aligned address) 4) (put_word memory at word) new Exc.DBE is in
+    let from : base ≤ aligned address = grind (arith, nat_tests, it.is_inside) in
+    let to : aligned address + 4 ≤ base + size_of memory = grind (arith, nat_tests, it.is_inside) in
+    let wide : length (bytes_of_word memory.order word) ≡ 4 = four_of-word memory.order word in
+    put-same memory new (aligned address) (bytes_of_word memory.order word) address it.gives from (omega (arith, to, wide)) (omega arith)
+    (omega (arith, wide))
 
 pub is-stored : (op : StoreOp) (memory : Memory) (address word : ℕ) (new : Memory) → store_gives op memory address word ≡ Ok new →
     IsStored address memory new
@@ -121,25 +137,17 @@ is-stored StoreOp.Sh memory address word new is =
     let from : base ≤ address = grind (arith, nat_tests, it.is_inside) in
     let to : address + 2 ≤ base + size_of memory = grind (arith, nat_tests, it.is_inside) in
     let multiple : address % 2 ≡ 0 = grind (arith, nat_tests, it.is_whole) in
-    put-same memory new address (bytes_of_half (word % 2 ^ 16)) address it.gives from to (omega arith) (omega arith)
+    let wide : length (bytes_of_half memory.order (word % 2 ^ 16)) ≡ 2 = two_of-half memory.order (word % 2 ^ 16) in
+    put-same memory new address (bytes_of_half memory.order (word % 2 ^ 16)) address it.gives from (omega (arith, to, wide)) (omega arith)
+    (omega (arith, wide))
 is-stored StoreOp.Sw memory address word new is =
     let at : ℕ = address - base in
     let it = placed (address % 4 == 0) (contains (size_of memory) address 4) (λ at. put_word memory at word) at Exc.DBE Exc.AdES new is in
     let from : base ≤ address = grind (arith, nat_tests, it.is_inside) in
     let to : address + 4 ≤ base + size_of memory = grind (arith, nat_tests, it.is_inside) in
     let multiple : address % 4 ≡ 0 = grind (arith, nat_tests, it.is_whole) in
-    put-same memory new address (bytes_of_word word) address it.gives from to (omega arith) (omega arith)
-is-stored StoreOp.Swl memory address word new is =
-    let bytes : List ℕ = take (4 - address % 4) (bytes_of_word word) in
-    let it = inside-placed (contains (size_of memory) (aligned address) 4) (with_bytes memory (address - base) bytes) new Exc.DBE is in
-    let from : base ≤ aligned address = grind (arith, nat_tests, it.is_inside) in
-    let to : aligned address + 4 ≤ base + size_of memory = grind (arith, nat_tests, it.is_inside) in
-    let wide : length bytes ≡ 4 - address % 4 = length-take-le (4 - address % 4) (bytes_of_word word) (omega arith) in
-    put-same memory new address bytes address it.gives (omega (arith, from)) (omega (arith, to, wide)) (omega arith) (omega (arith, wide))
-is-stored StoreOp.Swr memory address word new is =
-    let bytes : List ℕ = drop (3 - address % 4) (bytes_of_word word) in
-    let it = inside-placed (contains (size_of memory) (aligned address) 4) (with_bytes memory (aligned address - base) bytes) new Exc.DBE is in
-    let from : base ≤ aligned address = grind (arith, nat_tests, it.is_inside) in
-    let to : aligned address + 4 ≤ base + size_of memory = grind (arith, nat_tests, it.is_inside) in
-    let wide : length bytes ≡ 4 - (3 - address % 4) = length-drop (3 - address % 4) (bytes_of_word word) in
-    put-same memory new (aligned address) bytes address it.gives from (omega (arith, to, wide)) (omega arith) (omega (arith, wide))
+    let wide : length (bytes_of_word memory.order word) ≡ 4 = four_of-word memory.order word in
+    put-same memory new address (bytes_of_word memory.order word) address it.gives from (omega (arith, to, wide)) (omega arith)
+    (omega (arith, wide))
+is-stored StoreOp.Swl memory address word new is = part-stored left_stored memory address word new is
+is-stored StoreOp.Swr memory address word new is = part-stored right_stored memory address word new is

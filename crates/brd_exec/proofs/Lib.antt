@@ -5,4 +5,4 @@ pub mod FrameLemmas
 pub mod StepLemmas
 pub mod KeptLemmas
 pub mod ZeroLemmas
-pub mod SizeLemmas
+pub mod FormLemmas

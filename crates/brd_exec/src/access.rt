@@ -1,13 +1,15 @@
 //! Loads and stores.
 
-ghost use Rattle.std.specs.Prelude.{◌≡◌, ◌+◌, ◌-◌, ◌<◌, ◌≤◌, ◌++◌, length, take, drop};
-ghost use Rattle.brd_word.specs.Words.{bytes_of_word, word_of_bytes};
-ghost use Rattle.brd_mem.specs.Memory.{copied};
+ghost use Rattle.std.specs.Prelude.{◌≡◌, ◌<◌};
 ghost use Rattle.brd_mem.specs.Access.{Stores};
 ghost use Rattle.brd_exec.specs.Step.{load_gives, store_gives};
 ghost use Rattle.brd_exec.specs.Unaligned.{
   aligned,
-  if_inside,
+  bytes_above,
+  left_loaded,
+  right_loaded,
+  left_stored,
+  right_stored,
   loaded_left,
   loaded_right,
   stored_left,
@@ -16,7 +18,7 @@ ghost use Rattle.brd_exec.specs.Unaligned.{
 
 use brd_isa::{LoadOp, StoreOp};
 use brd_mem::{Exc, Ram};
-use brd_word::{bytes_of, sign8, sign16};
+use brd_word::{Order, sign8, sign16};
 
 /// What a load finds, for a register that was `old`.
 pub fn load(op: LoadOp, ram: &Ram, address: u32, old: u32) -> Result<u32, Exc>
@@ -40,13 +42,23 @@ fn aligned(address: u32) -> u32
     address - address % 4
 }
 
+/// How many bytes of the aligned word that holds an address are more significant than the one at the address.
+fn bytes_above(order: Order, address: u32) -> u32
+    ensures is { result ≡ bytes_above order address }
+    ensures few { result < 4 }
+{
+    match order {
+        Order::Big => address % 4,
+        Order::Little => 3 - address % 4,
+    }
+}
+
 /// What LWL finds.
-#[tactic(auto, using(crate::proofs::UnalignedLemmas::left_bytes))]
 fn load_left(ram: &Ram, address: u32, old: u32) -> Result<u32, Exc>
     ensures { result ≡ loaded_left ram.now address old }
 {
     let word = ram.load32(aligned(address))?;
-    Ok(merge_left(word, old, address % 4))
+    Ok(left_loaded(bytes_above(ram.order(), address), word, old))
 }
 
 /// What LWR finds.
@@ -54,15 +66,15 @@ fn load_right(ram: &Ram, address: u32, old: u32) -> Result<u32, Exc>
     ensures { result ≡ loaded_right ram.now address old }
 {
     let word = ram.load32(aligned(address))?;
-    Ok(merge_right(word, old, address % 4))
+    Ok(right_loaded(bytes_above(ram.order(), address), word, old))
 }
 
-/// The bytes of a word from this one on, followed by the low ones of `old`.
-fn merge_left(word: u32, old: u32, byte: u32) -> u32
-    requires { byte < 4 }
-    ensures { result ≡ word_of_bytes (drop byte (bytes_of_word word) ++ drop (4 - byte) (bytes_of_word old)) }
+/// A word without its `above` high bytes, followed by as many low bytes of `old`.
+fn left_loaded(above: u32, word: u32, old: u32) -> u32
+    requires { above < 4 }
+    ensures { result ≡ left_loaded above word old }
 {
-    match byte {
+    match above {
         0 => word,
         1 => (word << 8) + old % 0x100,
         2 => (word << 16) + old % 0x1_0000,
@@ -70,12 +82,12 @@ fn merge_left(word: u32, old: u32, byte: u32) -> u32
     }
 }
 
-/// The bytes of a word up to this one, behind the high ones of `old`.
-fn merge_right(word: u32, old: u32, byte: u32) -> u32
-    requires { byte < 4 }
-    ensures { result ≡ word_of_bytes (take (3 - byte) (bytes_of_word old) ++ take (byte + 1) (bytes_of_word word)) }
+/// The `above` + 1 high bytes of a word, after the other high ones of `old`.
+fn right_loaded(above: u32, word: u32, old: u32) -> u32
+    requires { above < 4 }
+    ensures { result ≡ right_loaded above word old }
 {
-    match byte {
+    match above {
         0 => (word >> 24) + ((old >> 8) << 8),
         1 => (word >> 16) + ((old >> 16) << 16),
         2 => (word >> 8) + ((old >> 24) << 24),
@@ -97,30 +109,47 @@ pub fn store(op: StoreOp, ram: &mut Ram, address: u32, word: u32) -> Result<(), 
 }
 
 /// Does an SWL.
-fn store_left(ram: &mut Ram, address: u32, word: u32) -> Result<(), Exc>
-    ensures { Stores (stored_left ram.old address word) ram.old result ram.new }
+fn store_left(ram: &mut Ram, address: u32, register: u32) -> Result<(), Exc>
+    ensures { Stores (stored_left ram.old address register) ram.old result ram.new }
 {
-    let byte = (address % 4) as usize;
-    store_part(ram, address, address, &bytes_of(word)[..4 - byte])
+    let start = aligned(address);
+    let word = ram.load32(start)?;
+    let stored = left_stored(bytes_above(ram.order(), address), word, register);
+    ram.store32(start, stored)
 }
 
 /// Does an SWR.
-fn store_right(ram: &mut Ram, address: u32, word: u32) -> Result<(), Exc>
-    ensures { Stores (stored_right ram.old address word) ram.old result ram.new }
+fn store_right(ram: &mut Ram, address: u32, register: u32) -> Result<(), Exc>
+    ensures { Stores (stored_right ram.old address register) ram.old result ram.new }
 {
-    let byte = (address % 4) as usize;
-    store_part(ram, address, aligned(address), &bytes_of(word)[3 - byte..])
+    let start = aligned(address);
+    let word = ram.load32(start)?;
+    let stored = right_stored(bytes_above(ram.order(), address), word, register);
+    ram.store32(start, stored)
 }
 
-/// Writes a part of the aligned word that holds an address, from `start` on: DBE where RAM doesn't have that word.
-fn store_part(ram: &mut Ram, address: u32, start: u32, part: &[u8]) -> Result<(), Exc>
-    requires first { aligned address ≤ start }
-    requires last { start + length part.now ≤ aligned address + 4 }
-    ensures { Stores (if_inside ram.old address (copied ram.old start part.now)) ram.old result ram.new }
+/// A word's `above` high bytes, followed by the high ones of the register.
+fn left_stored(above: u32, word: u32, register: u32) -> u32
+    requires { above < 4 }
+    ensures { result ≡ left_stored above word register }
 {
-    if !ram.contains(aligned(address), 4) {
-        return Err(Exc::DBE);
+    match above {
+        0 => register,
+        1 => (register >> 8) + ((word >> 24) << 24),
+        2 => (register >> 16) + ((word >> 16) << 16),
+        _ => (register >> 24) + ((word >> 8) << 8),
     }
-    ram.copy_in(start, part);
-    Ok(())
+}
+
+/// The `above` + 1 low bytes of the register, followed by a word's other low ones.
+fn right_stored(above: u32, word: u32, register: u32) -> u32
+    requires { above < 4 }
+    ensures { result ≡ right_stored above word register }
+{
+    match above {
+        0 => (register << 24) + word % 0x100_0000,
+        1 => (register << 16) + word % 0x1_0000,
+        2 => (register << 8) + word % 0x100,
+        _ => register,
+    }
 }

@@ -1,6 +1,6 @@
 //! Laws of the definitions.
 
-ghost use Rattle.std.specs.Prelude.{◌≡◌, ℕ, ◌+◌, ◌-◌, ◌≤◌, List, Ok, Some, IsOkAnd, is_some};
+ghost use Rattle.std.specs.Prelude.{◌≡◌, ℕ, ◌+◌, ◌-◌, ◌^◌, ◌<◌, ◌≤◌, List, Ok, Some, IsOkAnd, is_some};
 ghost use Rattle.brd_isa.specs.declared.instruction.Insn.{Insn};
 ghost use Rattle.brd_isa.specs.Local.{is_local};
 ghost use Rattle.brd_word.specs.Words.{bytes_of_word, AreBytes};
@@ -15,7 +15,7 @@ ghost use Rattle.brd_exec.specs.Went.{went};
 ghost use Rattle.brd_exec.specs.Lent.{lent};
 ghost use Rattle.brd_exec.specs.Kept.{KeepsUnlessDone};
 ghost use Rattle.brd_exec.specs.Step.Effect.{Goes};
-ghost use Rattle.brd_exec.specs.Unaligned.{loaded_left, loaded_right, stored_left, stored_right};
+ghost use Rattle.brd_exec.specs.Unaligned.{loaded_left, loaded_right, stored_left, stored_right, high_end, low_end};
 
 /// A local instruction leads to the context that `local_meaning` says, for each processor and over each memory and
 /// links, which stay.
@@ -43,22 +43,23 @@ pub fn lent_steps_are_steps()
         ≡ Some (record { state = after; memory = memory; links = links }) }
 {}
 
-/// An LWL at an address, and then an LWR three bytes on, give the word of the four bytes from the address on, whatever
-/// the register was.
+/// An LWL at the most significant byte of four that lie one after the other, and then an LWR at the least significant
+/// one, give the word of these bytes, whatever the register was.
 pub fn unaligned_word_is_loaded()
     ensures { (memory : Memory) (address old : ℕ) → AreBytes memory.bytes → IsRamSize (size_of memory) →
         base ≤ address → address + 4 ≤ base + size_of memory →
-        IsOkAnd (loaded_left memory address old)
-        (λ part. loaded_right memory (address + 3) part ≡ Ok (word_at memory (address - base))) }
+        IsOkAnd (loaded_left memory (high_end memory.order address) old)
+        (λ part. loaded_right memory (low_end memory.order address) part ≡ Ok (word_at memory (address - base))) }
 {}
 
-/// An SWL at an address, and then an SWR three bytes on, put the register's four bytes there, and leave all other
-/// bytes.
+/// An SWL at the most significant byte of four that lie one after the other, and then an SWR at the least significant
+/// one, put the register's four bytes there, and leave all other bytes.
 pub fn unaligned_word_is_stored()
-    ensures { (memory : Memory) (address word : ℕ) → IsRamSize (size_of memory) →
-        base ≤ address → address + 4 ≤ base + size_of memory →
-        IsOkAnd (stored_left memory address word)
-        (λ part. stored_right part (address + 3) word ≡ Ok (copied memory address (bytes_of_word word))) }
+    ensures { (memory : Memory) (address word : ℕ) → AreBytes memory.bytes → IsRamSize (size_of memory) →
+        base ≤ address → address + 4 ≤ base + size_of memory → word < 2 ^ 32 →
+        IsOkAnd (stored_left memory (high_end memory.order address) word)
+        (λ part. stored_right part (low_end memory.order address) word
+        ≡ Ok (copied memory address (bytes_of_word memory.order word))) }
 {}
 
 /// An instruction that ends at a SYSCALL or by an exception leaves context and memory as they were, and the links too,
@@ -78,4 +79,10 @@ pub fn register_0_stays_0()
 pub fn ram_keeps_its_size()
     ensures { (cpu : ℕ) (s : State) (memory : Memory) (links : LinkSet) →
         size_of (ran cpu s memory links).memory ≡ size_of memory }
+{}
+
+/// No instruction changes the byte order of RAM.
+pub fn ram_keeps_its_order()
+    ensures { (cpu : ℕ) (s : State) (memory : Memory) (links : LinkSet) →
+        (ran cpu s memory links).memory.order ≡ memory.order }
 {}

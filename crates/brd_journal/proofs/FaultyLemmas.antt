@@ -2,26 +2,25 @@
 use Rattle.std.proofs.Common.{◌≡◌, ℕ, ◌+◌, ◌≤◌, ◌<◌, eqb, leb, true, false, List, [], ◌∷◌, ◌++◌, length, refl, sym, ap, subst, ◌∙◌, inl, inr, arith, add-zero}
 use Rattle.std.specs.Prelude.{Option, Some, None, Result, Ok, Err}
 use Rattle.std.specs.List.{list_all, AllByRecursion, join_with_byte}
-use Rattle.std.specs.Str.{bytes_eq}
 use Rattle.std.proofs.lemmas.Bool.{cases_Bool, and_parts, lt-leb, leb-false}
 use Rattle.std.proofs.lemmas.List.{append_assoc, append-nil}
-use Rattle.std.proofs.lemmas.Slice.Eq.{bytes_eq-Decides}
 use Rattle.brd_text.specs.Faults.{◌>>=◌, or_fault}
 use Rattle.brd_text.specs.Lines.{lines_of, stays_on}
 use Rattle.brd_text.proofs.LineLemmas.{joined, apart}
+use Rattle.brd_word.specs.declared.order.Order.{Order}
 use Rattle.brd_board.specs.declared.event.Event.{Event}
 use Rattle.brd_journal.specs.declared.fault.JournalFault.{JournalFault}
 use Rattle.brd_journal.specs.declared.fault.JournalFault.TheVariants.{NoMemory, Full, Syntax}
 use Rattle.brd_journal.specs.declared.run.Run.{Run}
 use Rattle.brd_journal.specs.Runs.{copies, events_of, runs_of}
 use Rattle.brd_journal.specs.Journal.{JournalState, appended}
-use Rattle.brd_journal.specs.Text.{first_line, line_text, lines_of_runs, CanBeSpelled, SpellsRun}
-use Rattle.brd_journal.specs.Reading.{run_of_line, lines_read, journal_by_lines, journal_of}
+use Rattle.brd_journal.specs.Text.{line_text, lines_of_runs, CanBeSpelled, SpellsRun}
+use Rattle.brd_journal.specs.Reading.{order_of_line, run_of_line, lines_read, journal_by_lines, journal_of}
 use Rattle.brd_journal.specs.Meaning.{HasNoRun, IsWrong, FailsBehind, HasNoFirstLine, IsFirstFault}
 use Rattle.brd_journal.proofs.EventLemmas.{events-append}
 use Rattle.brd_journal.proofs.LineLemmas.{one_line, behind_first}
 use Rattle.brd_journal.proofs.FieldLemmas.{line_again, line_is}
-use Rattle.brd_journal.proofs.GrammarLemmas.{more_runs, lines_front, line_stays, first_stays, fits, appended_is, empty_is, no_runs}
+use Rattle.brd_journal.proofs.GrammarLemmas.{more_runs, lines_front, line_stays, first_stays, order_again, order_is, fits, appended_is, empty_is, no_runs}
 
 -- all lines of a text are so
 abbrev AreApart : List (List ℕ) → Type 0
@@ -69,7 +68,7 @@ record FailsFrom (j : JournalState) (n : ℕ) (text : List ℕ) (fault : Journal
   why : WrongFrom j n front rest fault
 
 -- one good line in front
-wrong_further : (j k : JournalState) (n : ℕ) (run : Run) (front : List Run) (rest : List ℕ) (fault : JournalFault) → k ≡ record { limit = j.limit; events = j.events ++ copies run.event run.count }
+wrong_further : (j k : JournalState) (n : ℕ) (run : Run) (front : List Run) (rest : List ℕ) (fault : JournalFault) → k ≡ record { limit = j.limit; order = j.order; events = j.events ++ copies run.event run.count }
     → WrongFrom k (n + 1) front rest fault → WrongFrom j n (run ∷ front) rest fault
 wrong_further j k n run front rest NoMemory same why = why
 wrong_further j k n run front rest (Syntax line) same why = (omega (arith, why.0), why.1, why.2)
@@ -83,7 +82,7 @@ wrong_further j k n run front rest Full same why =
 append_fails : (j : JournalState) (more : List Event) (fault : JournalFault) → appended j more ≡ Err fault → (fault ≡ Full) × (j.limit < length (runs_of (j.events ++ more)))
 append_fails j more fault h =
     elim (cases_Bool (leb (length (runs_of (j.events ++ more))) j.limit)) [
-      | inl fits ↦ let q : Ok (record { limit = j.limit; events = j.events ++ more }) ≡ Err fault = rw fits at h in absurd (cc)
+      | inl fits ↦ let q : Ok (record { limit = j.limit; order = j.order; events = j.events ++ more }) ≡ Err fault = rw fits at h in absurd (cc)
       | inr full ↦ let q : Err Full ≡ Err fault = rw full at h in (cc, leb-false (length (runs_of (j.events ++ more))) j.limit full)
     ]
 
@@ -115,7 +114,7 @@ full_here j n rest behind run within can text over = record {
 }
 
 -- a good line in front of those that fail
-one_further : (j k : JournalState) (n : ℕ) (line behind : List ℕ) (run : Run) (fault : JournalFault) → SpellsRun line run → k ≡ record { limit = j.limit; events = j.events ++ copies run.event run.count }
+one_further : (j k : JournalState) (n : ℕ) (line behind : List ℕ) (run : Run) (fault : JournalFault) → SpellsRun line run → k ≡ record { limit = j.limit; order = j.order; events = j.events ++ copies run.event run.count }
     → FailsFrom k (n + 1) behind fault → FailsFrom j n (line ++ 10 ∷ behind) fault
 one_further j k n line behind run fault spelled same rest = record {
   front = run ∷ rest.front;
@@ -174,10 +173,10 @@ lines_fail (line ∷ next ∷ lines) j n fault all some within h =
     (λ k le failed. lines_fail (next ∷ lines) k (n + 1) fault all.1 (λ e. cc) le failed) h
 
 -- the first line, and those behind it
-wrong_behind : (limit : ℕ) (front : List Run) (rest : List ℕ) (fault : JournalFault) → WrongFrom (record { limit = limit; events = [] }) 2 front rest fault → IsWrong limit front rest fault
-wrong_behind limit front rest NoMemory why = why
-wrong_behind limit front rest (Syntax line) why = (omega (arith, why.0), why.1, why.2)
-wrong_behind limit front rest Full why =
+wrong_behind : (limit : ℕ) (order : Order) (front : List Run) (rest : List ℕ) (fault : JournalFault) → WrongFrom (record { limit = limit; order = order; events = [] }) 2 front rest fault → IsWrong limit front rest fault
+wrong_behind limit order front rest NoMemory why = why
+wrong_behind limit order front rest (Syntax line) why = (omega (arith, why.0), why.1, why.2)
+wrong_behind limit order front rest Full why =
     let all : events_of (front ++ why.0 ∷ []) ≡ events_of front ++ copies why.0.event why.0.count =
     events-append front (why.0 ∷ []) ∙ ap (λ (es : List Event). events_of front ++ es) (append-nil (copies why.0.event why.0.count)) in
     (why.0, why.1, why.2, why.3, rw all why.4)
@@ -186,32 +185,34 @@ starts : (limit : ℕ) → length (runs_of []) ≤ limit
 starts limit = omega (arith, no_runs)
 
 text_fails : (limit : ℕ) (lines : List (List ℕ)) (fault : JournalFault) → AreApart lines → journal_by_lines limit lines ≡ Err fault → IsFirstFault limit (join_with_byte 10 lines) fault
-text_fails limit [] fault all h = inl (cc, (λ behind same. cc))
+text_fails limit [] fault all h = inl (cc, (λ order first behind is same. not_empty first behind (sym same)))
 text_fails limit (line ∷ []) fault all h =
-    inl (cc, (λ behind same. let t : list_all stays_on (first_line ++ 10 ∷ behind) ≡ true = rw same at all.0 in no_newline first_line behind t))
-text_fails limit (line ∷ next ∷ lines) fault all h =
-    elim (cases_Bool (bytes_eq line first_line)) [
-      | inl right ↦
-          let q : lines_read (record { limit = limit; events = [] }) 2 (next ∷ lines) ≡ Err fault = rw right at h in
-          let first : line ≡ first_line = (bytes_eq-Decides line first_line).0 right in
-          let behind = lines_fail (next ∷ lines) (record { limit = limit; events = [] }) 2 fault all.1 (λ e. cc) (starts limit) q in
-          inr (record {
-            front = behind.front;
-            rest = behind.rest;
-            lines = ap (λ (xs : List ℕ). xs ++ 10 ∷ join_with_byte 10 (next ∷ lines)) first ∙ ap (λ (xs : List ℕ). first_line ++ 10 ∷ xs) behind.lines;
-            each = behind.each;
-            within = behind.within;
-            why = wrong_behind limit behind.front behind.rest fault behind.why;
-          })
-      | inr wrong ↦
-          let q : Err (Syntax 1) ≡ Err fault = rw wrong at h in
-          inl (
-            cc,
-            (λ behind same.
-                let e = same_line line first_line (join_with_byte 10 (next ∷ lines)) behind all.0 first_stays same in
-                let t : bytes_eq line first_line ≡ true = (bytes_eq-Decides line first_line).1 e in cc),
-          )
-    ]
+    inl (cc, (λ order first behind is same. let t : list_all stays_on (first ++ 10 ∷ behind) ≡ true = rw same at all.0 in no_newline first behind t))
+text_fails limit (line ∷ next ∷ lines) fault all h = by_order (order_of_line line) refl h
+  where
+    by_order : (o : Option Order) → order_of_line line ≡ o
+        → (or_fault (Syntax 1) o >>= λ order. lines_read (record { limit = limit; order = order; events = [] }) 2 (next ∷ lines)) ≡ Err fault
+        → IsFirstFault limit (join_with_byte 10 (line ∷ next ∷ lines)) fault
+    by_order None is failed =
+        inl (
+          cc,
+          (λ order first behind is_first same.
+              let e = same_line line first (join_with_byte 10 (next ∷ lines)) behind all.0 (first_stays first order is_first) same in
+              let q : None ≡ Some order = sym is ∙ ap order_of_line e ∙ order_again first order is_first in cc),
+        )
+    by_order (Some order) is failed =
+        let behind = lines_fail (next ∷ lines) (record { limit = limit; order = order; events = [] }) 2 fault all.1 (λ e. cc) (starts limit) failed in
+        inr (record {
+          front = behind.front;
+          rest = behind.rest;
+          order = order;
+          first = line;
+          is_first = order_is line order is;
+          lines = ap (λ (xs : List ℕ). line ++ 10 ∷ xs) behind.lines;
+          each = behind.each;
+          within = behind.within;
+          why = wrong_behind limit order behind.front behind.rest fault behind.why;
+        })
 
 pub fails : (limit : ℕ) (text : List ℕ) (fault : JournalFault) → journal_of limit text ≡ Err fault → IsFirstFault limit text fault
 unfolding journal_of
@@ -221,11 +222,11 @@ fails limit text fault h = let P : List ℕ → Type 0 = λ xs. IsFirstFault lim
 
 -- good lines are read
 lines_past : (front : List Run) (j : JournalState) (n : ℕ) (rest : List ℕ) → AllByRecursion CanBeSpelled front → length (runs_of (j.events ++ events_of front)) ≤ j.limit
-    → lines_read j n (lines_of (lines_of_runs front ++ rest)) ≡ lines_read (record { limit = j.limit; events = j.events ++ events_of front }) (n + length front) (lines_of rest)
+    → lines_read j n (lines_of (lines_of_runs front ++ rest)) ≡ lines_read (record { limit = j.limit; order = j.order; events = j.events ++ events_of front }) (n + length front) (lines_of rest)
 lines_past [] j n rest each within = rw (append-nil, add-zero) refl
 lines_past (run ∷ front) j n rest each within =
     let es : List Event = copies run.event run.count in
-    let next : JournalState = record { limit = j.limit; events = j.events ++ es } in
+    let next : JournalState = record { limit = j.limit; order = j.order; events = j.events ++ es } in
     let regroup : (j.events ++ es) ++ events_of front ≡ j.events ++ (es ++ events_of front) = append_assoc j.events es (events_of front) in
     let le_all : length (runs_of ((j.events ++ es) ++ events_of front)) ≤ j.limit = rw regroup within in
     let le_next : length (runs_of (j.events ++ es)) ≤ j.limit = omega (arith, more_runs (j.events ++ es) (events_of front), le_all) in
@@ -236,8 +237,8 @@ lines_past (run ∷ front) j n rest each within =
     one_line j n (line_text run) (lines_of_runs front ++ rest) ∙ rw (line_again run each.0, fits j es le_next) refl in
     let count : (n + 1) + length front ≡ n + length (run ∷ front) = omega arith in
     ap (lines_read j n) lines ∙ step ∙ lines_past front next (n + 1) rest each.1 le_all
-    ∙ ap (λ (xs : List Event). lines_read (record { limit = j.limit; events = xs }) ((n + 1) + length front) (lines_of rest)) regroup
-    ∙ ap (λ (m : ℕ). lines_read (record { limit = j.limit; events = j.events ++ (es ++ events_of front) }) m (lines_of rest)) count
+    ∙ ap (λ (xs : List Event). lines_read (record { limit = j.limit; order = j.order; events = xs }) ((n + 1) + length front) (lines_of rest)) regroup
+    ∙ ap (λ (m : ℕ). lines_read (record { limit = j.limit; order = j.order; events = j.events ++ (es ++ events_of front) }) m (lines_of rest)) count
 
 syntax_line : (j : JournalState) (n : ℕ) (rest : List ℕ) (lines : List (List ℕ)) → join_with_byte 10 lines ≡ rest → (rest ≡ [] → ⊥) → HasNoRun rest → lines_read j n lines ≡ Err (Syntax n)
 syntax_line j n rest [] text some none = refl
@@ -260,33 +261,34 @@ full_line j n rest behind run can text over =
     let full : appended j (copies run.event run.count) ≡ Err Full = rw (lt-leb (length (runs_of (j.events ++ copies run.event run.count))) j.limit over) refl in
     ap (lines_read j n) (ap lines_of text ∙ lines_front (line_text run) behind (line_stays run can)) ∙ one_line j n (line_text run) behind ∙ rw (line_again run can, full) refl
 
-wrong_is : (limit : ℕ) (front : List Run) (rest : List ℕ) (fault : JournalFault) → IsWrong limit front rest fault → lines_read (record { limit = limit; events = events_of front }) (2 + length front) (lines_of rest) ≡ Err fault
-wrong_is limit front rest NoMemory why = absurd why
-wrong_is limit front rest (Syntax line) why =
+wrong_is : (limit : ℕ) (order : Order) (front : List Run) (rest : List ℕ) (fault : JournalFault) → IsWrong limit front rest fault → lines_read (record { limit = limit; order = order; events = events_of front }) (2 + length front) (lines_of rest) ≡ Err fault
+wrong_is limit order front rest NoMemory why = absurd why
+wrong_is limit order front rest (Syntax line) why =
     let number : 2 + length front ≡ line = omega (arith, why.0) in
-    syntax_line (record { limit = limit; events = events_of front }) (2 + length front) rest (lines_of rest) (joined rest) why.1 why.2 ∙ ap (λ (m : ℕ). Err (Syntax m)) number
-wrong_is limit front rest Full why =
+    syntax_line (record { limit = limit; order = order; events = events_of front }) (2 + length front) rest (lines_of rest) (joined rest) why.1 why.2 ∙ ap (λ (m : ℕ). Err (Syntax m)) number
+wrong_is limit order front rest Full why =
     let all : events_of (front ++ why.0 ∷ []) ≡ events_of front ++ copies why.0.event why.0.count =
     events-append front (why.0 ∷ []) ∙ ap (λ (es : List Event). events_of front ++ es) (append-nil (copies why.0.event why.0.count)) in
-    full_line (record { limit = limit; events = events_of front }) (2 + length front) rest why.1 why.0 why.2 why.3 (rw all at why.4)
+    full_line (record { limit = limit; order = order; events = events_of front }) (2 + length front) rest why.1 why.0 why.2 why.3 (rw all at why.4)
 
 failed_behind : (limit : ℕ) (text : List ℕ) (fault : JournalFault) → FailsBehind limit text fault → journal_of limit text ≡ Err fault
 failed_behind limit text fault h =
-    let lines : lines_of text ≡ first_line ∷ lines_of (lines_of_runs h.front ++ h.rest) = ap lines_of h.lines ∙ lines_front first_line (lines_of_runs h.front ++ h.rest) first_stays in
-    behind_first limit text first_line (lines_of_runs h.front ++ h.rest) (Some (lines_of_runs h.front ++ h.rest)) lines refl refl
-    ∙ lines_past h.front (record { limit = limit; events = [] }) 2 h.rest h.each h.within
-    ∙ wrong_is limit h.front h.rest fault h.why
+    let behind : List ℕ = lines_of_runs h.front ++ h.rest in
+    let lines : lines_of text ≡ h.first ∷ lines_of behind =
+    ap lines_of h.lines ∙ lines_front h.first behind (first_stays h.first h.order h.is_first) in
+    behind_first limit h.order text h.first behind (Some behind) lines refl (order_again h.first h.order h.is_first)
+    ∙ lines_past h.front (record { limit = limit; order = h.order; events = [] }) 2 h.rest h.each h.within
+    ∙ wrong_is limit h.order h.front h.rest fault h.why
 
 no_first_line : (limit : ℕ) (lines : List (List ℕ)) → HasNoFirstLine (join_with_byte 10 lines) → journal_by_lines limit lines ≡ Err (Syntax 1)
 no_first_line limit [] none = refl
 no_first_line limit (line ∷ []) none = refl
-no_first_line limit (line ∷ next ∷ lines) none =
-    elim (cases_Bool (bytes_eq line first_line)) [
-      | inl right ↦
-          let first : line ≡ first_line = (bytes_eq-Decides line first_line).0 right in
-          absurd (none (join_with_byte 10 (next ∷ lines)) (ap (λ (xs : List ℕ). xs ++ 10 ∷ join_with_byte 10 (next ∷ lines)) first))
-      | inr wrong ↦ rw wrong refl
-    ]
+no_first_line limit (line ∷ next ∷ lines) none = by_order (order_of_line line) refl
+  where
+    by_order : (o : Option Order) → order_of_line line ≡ o
+        → (or_fault (Syntax 1) o >>= λ order. lines_read (record { limit = limit; order = order; events = [] }) 2 (next ∷ lines)) ≡ Err (Syntax 1)
+    by_order None is = refl
+    by_order (Some order) is = absurd (none order line (join_with_byte 10 (next ∷ lines)) (order_is line order is) refl)
 
 pub failed : (limit : ℕ) (text : List ℕ) (fault : JournalFault) → IsFirstFault limit text fault → journal_of limit text ≡ Err fault
 unfolding journal_of

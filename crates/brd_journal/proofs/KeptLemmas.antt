@@ -3,6 +3,7 @@ use Rattle.std.proofs.Common.{◌≡◌, ℕ, ◌+◌, ◌*◌, ◌≤◌, ◌<�
 use Rattle.std.specs.Prelude.{Ok, Err}
 use Rattle.std.proofs.lemmas.Bool.{cases_Bool, leb-true}
 use Rattle.std.proofs.lemmas.List.{length-append}
+use Rattle.brd_word.specs.declared.order.Order.{Order}
 use Rattle.brd_board.specs.declared.event.Event.{Event}
 use Rattle.brd_text.specs.Faults.{Fails}
 use Rattle.brd_text.proofs.FaultLemmas.{passed_on}
@@ -25,8 +26,8 @@ pub kept_few : (limit : ℕ) (rs : List Run) (len : ℕ) → IsKept limit rs len
 kept_few limit rs len kept = omega (arith, events_few rs kept.cut, kept.counted, kept.within, kept.most)
 
 -- the journal of runs
-abbrev pub journal_with : ℕ → List Run → JournalState
-journal_with limit rs = record { limit = limit; events = events_of rs }
+abbrev pub journal_with : ℕ → Order → List Run → JournalState
+journal_with limit order rs = record { limit = limit; order = order; events = events_of rs }
 
 pub within_gives : (limit : ℕ) (rs ys : List Run) (e : Event) (n : ℕ) → added_within limit rs e n ≡ Ok ys → (ys ≡ added rs e n) × (length ys ≤ limit)
 within_gives limit rs ys e n h =
@@ -35,24 +36,24 @@ within_gives limit rs ys e n h =
       | inr full ↦ let q : Err Full ≡ Ok ys = rw full at h in absurd (cc)
     ]
 
-pub appended_ok : (limit : ℕ) (rs ys : List Run) (e : Event) (n : ℕ) → AreCut rs → n ≤ most_count → added_within limit rs e n ≡ Ok ys → appended (journal_with limit rs) (copies e n) ≡ Ok (journal_with limit ys)
-appended_ok limit rs ys e n cut small h =
+pub appended_ok : (limit : ℕ) (order : Order) (rs ys : List Run) (e : Event) (n : ℕ) → AreCut rs → n ≤ most_count → added_within limit rs e n ≡ Ok ys → appended (journal_with limit order rs) (copies e n) ≡ Ok (journal_with limit order ys)
+appended_ok limit order rs ys e n cut small h =
     elim (cases_Bool (leb (length (added rs e n)) limit)) [
       | inl fits ↦
           let same = (within_gives limit rs ys e n h).0 in
-          rw (added_runs rs e n cut small, fits) (ap (λ (es : List Event). Ok (record { limit = limit; events = es })) (sym (events_added rs e n) ∙ ap events_of (sym same)))
+          rw (added_runs rs e n cut small, fits) (ap (λ (es : List Event). Ok (record { limit = limit; order = order; events = es })) (sym (events_added rs e n) ∙ ap events_of (sym same)))
       | inr full ↦ let q : Err Full ≡ Ok ys = rw full at h in absurd (cc)
     ]
 
-pub appended_err : (limit : ℕ) (rs : List Run) (e : Event) (n : ℕ) (f : JournalFault) → AreCut rs → n ≤ most_count → added_within limit rs e n ≡ Err f → appended (journal_with limit rs) (copies e n) ≡ Err f
-appended_err limit rs e n f cut small h =
+pub appended_err : (limit : ℕ) (order : Order) (rs : List Run) (e : Event) (n : ℕ) (f : JournalFault) → AreCut rs → n ≤ most_count → added_within limit rs e n ≡ Err f → appended (journal_with limit order rs) (copies e n) ≡ Err f
+appended_err limit order rs e n f cut small h =
     elim (cases_Bool (leb (length (added rs e n)) limit)) [
       | inl fits ↦ let q : Ok (added rs e n) ≡ Err f = rw fits at h in absurd (cc)
       | inr full ↦ let q : Err Full ≡ Err f = rw full at h in rw (added_runs rs e n cut small, full) (ap Err (let same : Full ≡ f = cc in same))
     ]
 
-pub appended_fails : (limit : ℕ) (rs : List Run) (e : Event) (n : ℕ) (f : JournalFault) → AreCut rs → n ≤ most_count → Fails is_no_memory f (added_within limit rs e n) → Fails is_no_memory f (appended (journal_with limit rs) (copies e n))
-appended_fails limit rs e n f cut small h = passed_on is_no_memory f (added_within limit rs e n) (appended (journal_with limit rs) (copies e n)) h (appended_err limit rs e n f cut small)
+pub appended_fails : (limit : ℕ) (order : Order) (rs : List Run) (e : Event) (n : ℕ) (f : JournalFault) → AreCut rs → n ≤ most_count → Fails is_no_memory f (added_within limit rs e n) → Fails is_no_memory f (appended (journal_with limit order rs) (copies e n))
+appended_fails limit order rs e n f cut small h = passed_on is_no_memory f (added_within limit rs e n) (appended (journal_with limit order rs) (copies e n)) h (appended_err limit order rs e n f cut small)
 
 pub kept_more : (limit : ℕ) (rs ys : List Run) (len : ℕ) (e : Event) (n : ℕ) → IsKept limit rs len → n ≤ most_count → added_within limit rs e n ≡ Ok ys → IsKept limit ys (len + n)
 kept_more limit rs ys len e n kept small h =

@@ -1,9 +1,8 @@
 -- One line on in a text.
-use Rattle.std.proofs.Common.{◌≡◌, ℕ, ◌+◌, eqb, Bool, true, false, not, List, [], ◌∷◌, ◌++◌, length, refl, sym, ap, ◌∙◌}
+use Rattle.std.proofs.Common.{◌≡◌, ℕ, ◌+◌, eqb, true, false, List, [], ◌∷◌, ◌++◌, length, refl, sym, ap, ◌∙◌}
 use Rattle.std.specs.Prelude.{Option, Some, None, Result, Ok, Err}
 use Rattle.std.specs.List.{join_with_byte}
-use Rattle.std.specs.Str.{bytes_eq}
-use Rattle.brd_journal.specs.Text.{first_line}
+use Rattle.brd_word.specs.declared.order.Order.{Order}
 use Rattle.brd_text.specs.Faults.{◌>>=◌, or_fault, Fails}
 use Rattle.brd_text.specs.Lines.{lines_of, lines_behind}
 use Rattle.brd_text.proofs.FaultLemmas.{passed_on}
@@ -14,7 +13,7 @@ use Rattle.brd_journal.specs.declared.run.Run.{Run}
 use Rattle.brd_journal.specs.Faults.{is_no_memory}
 use Rattle.brd_journal.specs.Runs.{copies}
 use Rattle.brd_journal.specs.Journal.{JournalState, appended}
-use Rattle.brd_journal.specs.Reading.{run_of_line, lines_read, journal_of}
+use Rattle.brd_journal.specs.Reading.{order_of_line, run_of_line, lines_read, journal_of}
 
 -- a text is its first line, a newline and the text behind it
 pub behind_line : (text line behind : List ℕ) → lines_of text ≡ line ∷ lines_of behind → text ≡ line ++ 10 ∷ behind
@@ -71,13 +70,17 @@ run_fails j n rest line after behind run e total step more some fails =
     sym (by_line j n rest line after behind total step more) ∙ f)
 
 -- a text whose first line is right
-pub behind_first : (limit : ℕ) (text line rest : List ℕ) (behind : Option (List ℕ)) → lines_of text ≡ line ∷ lines_behind behind → behind ≡ Some rest → bytes_eq line first_line ≡ true
-    → journal_of limit text ≡ lines_read (record { limit = limit; events = [] }) 2 (lines_of rest)
+pub behind_first : (limit : ℕ) (order : Order) (text line rest : List ℕ) (behind : Option (List ℕ)) → lines_of text ≡ line ∷ lines_behind behind → behind ≡ Some rest → order_of_line line ≡ Some order
+    → journal_of limit text ≡ lines_read (record { limit = limit; order = order; events = [] }) 2 (lines_of rest)
 unfolding journal_of
-behind_first limit text line rest behind lines more right =
+behind_first limit order text line rest behind lines more right =
     let some = some_line rest in
     rw (lines, more, some.2, right) refl
 
-pub isnt_other : (b : Bool) → false ≡ not b → b ≡ true
-isnt_other true h = refl
-isnt_other false h = cc
+-- a text whose first line is none
+pub no_order : (limit : ℕ) (text line rest : List ℕ) (behind : Option (List ℕ)) → lines_of text ≡ line ∷ lines_behind behind → behind ≡ Some rest → order_of_line line ≡ None
+    → journal_of limit text ≡ Err (Syntax 1)
+unfolding journal_of
+no_order limit text line rest behind lines more none =
+    let some = some_line rest in
+    rw (lines, more, some.2, none) refl

@@ -1,5 +1,6 @@
--- A journal: a list of events, and how many runs it may have at most.
+-- A journal: the byte order of the boards that it is for, a list of events, and how many runs it may have at most.
 use Rattle.std.specs.Prelude.{◌≡◌, ℕ, ◌≤◌, nat_le, if◌then◌else◌, List, ◌++◌, length, Result, Ok, Err}
+use Rattle.brd_word.specs.declared.order.Order.{Order}
 use Rattle.brd_board.specs.declared.event.Event.{Event}
 use Rattle.brd_journal.specs.declared.fault.JournalFault.{JournalFault}
 use Rattle.brd_journal.specs.declared.fault.JournalFault.TheVariants.{Full}
@@ -8,6 +9,7 @@ use Rattle.brd_journal.specs.Runs.{runs_of, events_of, AreCut}
 
 pub record JournalState : Type 0 where
   pub limit : ℕ
+  pub order : Order
   pub events : List Event
 
 -- the greatest limit (own choice)

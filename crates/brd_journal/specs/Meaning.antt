@@ -4,18 +4,20 @@ use Rattle.std.specs.Prelude.{◌≡◌, ◌⊎◌, ℕ, ◌+◌, ◌<◌, ◌�
 use Rattle.std.specs.List.{AllByRecursion}
 use Rattle.brd_journal.specs.declared.fault.JournalFault.{JournalFault}
 use Rattle.brd_journal.specs.declared.fault.JournalFault.TheVariants.{NoMemory, Full, Syntax}
+use Rattle.brd_word.specs.declared.order.Order.{Order}
 use Rattle.brd_journal.specs.declared.run.Run.{Run}
 use Rattle.brd_journal.specs.Runs.{events_of, runs_of}
 use Rattle.brd_journal.specs.Journal.{JournalState}
-use Rattle.brd_journal.specs.Text.{first_line, line_text, text_of_runs, CanBeSpelled, SpellsRuns}
+use Rattle.brd_journal.specs.Text.{IsFirstLine, line_text, lines_of_runs, CanBeSpelled, SpellsRuns}
 
--- A text says a journal of this limit: it spells runs, whose events are the journal's and don't need more runs than the
--- limit.
+-- A text says a journal of this limit: it spells the journal's byte order, and runs, whose events are the journal's and
+-- don't need more runs than the limit.
 pub record Says (limit : ℕ) (text : List ℕ) (journal : JournalState) : Type 0 where
   pub runs : List Run
-  pub spelled : SpellsRuns text runs
+  pub order : Order
+  pub spelled : SpellsRuns text order runs
   pub within : length (runs_of (events_of runs)) ≤ limit
-  pub same : journal ≡ record { limit = limit; events = events_of runs }
+  pub same : journal ≡ record { limit = limit; order = order; events = events_of runs }
 
 -- bytes begin with no line of a run
 abbrev pub HasNoRun : List ℕ → Type 0
@@ -30,18 +32,22 @@ IsWrong limit front rest (Syntax line) = (line ≡ length front + 2) × (rest �
 IsWrong limit front rest Full =
     (run : Run) × (behind : List ℕ) × CanBeSpelled run × (rest ≡ line_text run ++ 10 ∷ behind) × (limit < length (runs_of (events_of (front ++ run ∷ []))))
 
--- A text says no journal: behind a front of good lines, for which the limit suffices, stands a line with this fault.
+-- A text says no journal: behind a first line and a front of good lines, for which the limit suffices, stands a line with this fault.
 pub record FailsBehind (limit : ℕ) (text : List ℕ) (fault : JournalFault) : Type 0 where
   pub front : List Run
   pub rest : List ℕ
-  pub lines : text ≡ text_of_runs front ++ rest
+  pub order : Order
+  pub first : List ℕ
+  pub is_first : IsFirstLine first order
+  pub lines : text ≡ first ++ 10 ∷ (lines_of_runs front ++ rest)
   pub each : AllByRecursion CanBeSpelled front
   pub within : length (runs_of (events_of front)) ≤ limit
   pub why : IsWrong limit front rest fault
 
 -- the first line isn't that of a journal
 abbrev pub HasNoFirstLine : List ℕ → Type 0
-HasNoFirstLine text = (behind : List ℕ) → text ≡ first_line ++ 10 ∷ behind → ⊥
+HasNoFirstLine text =
+    (order : Order) (first behind : List ℕ) → IsFirstLine first order → text ≡ first ++ 10 ∷ behind → ⊥
 
 -- a text's first fault, other than lack of memory
 abbrev pub IsFirstFault : ℕ → List ℕ → JournalFault → Type 0

@@ -7,13 +7,14 @@ use Rattle.std.specs.Str.{bytes_eq}
 use Rattle.brd_text.specs.Faults.{◌>>=◌, or_fault}
 use Rattle.brd_text.specs.Lines.{lines_of}
 use Rattle.brd_text.specs.Numbers.{plain_decimal_of}
+use Rattle.brd_word.specs.declared.order.Order.{Order}
 use Rattle.brd_board.specs.declared.event.Event.TheVariants.{Step, Tick, Raise}
 use Rattle.brd_journal.specs.declared.fault.JournalFault.{JournalFault}
 use Rattle.brd_journal.specs.declared.fault.JournalFault.TheVariants.{Syntax}
 use Rattle.brd_journal.specs.declared.run.Run.{Run}
 use Rattle.brd_journal.specs.Runs.{most_count, copies}
 use Rattle.brd_journal.specs.Journal.{JournalState, appended}
-use Rattle.brd_journal.specs.Text.{first_line}
+use Rattle.brd_journal.specs.Text.{first_line, first_line_1}
 
 -- a byte of a field: a space ends it
 unfoldable pub in_field : ℕ → Bool
@@ -66,12 +67,20 @@ lines_read journal number (line ∷ next ∷ lines) = do
   more ← appended journal (copies run.event run.count)
   lines_read more (number + 1) (next ∷ lines)
 
+-- the byte order that a first line says
+abbrev pub order_of_line : List ℕ → Option Order
+order_of_line line =
+    if bytes_eq line (first_line Order.Big) then Some Order.Big
+    else (if bytes_eq line (first_line Order.Little) then Some Order.Little
+    else (if bytes_eq line first_line_1 then Some Order.Big else None))
+
 -- a text's lines: the first line, with a newline, and then those of the runs
 abbrev pub journal_by_lines : ℕ → List (List ℕ) → Result JournalState JournalFault
 journal_by_lines limit [] = Err (Syntax 1)
 journal_by_lines limit (line ∷ []) = Err (Syntax 1)
-journal_by_lines limit (line ∷ next ∷ lines) =
-    if bytes_eq line first_line then lines_read (record { limit = limit; events = [] }) 2 (next ∷ lines) else Err (Syntax 1)
+journal_by_lines limit (line ∷ next ∷ lines) = do
+  order ← or_fault (Syntax 1) (order_of_line line)
+  lines_read (record { limit = limit; order = order; events = [] }) 2 (next ∷ lines)
 
 -- the journal of this limit that a text says, or the text's first fault
 unfoldable pub journal_of : ℕ → List ℕ → Result JournalState JournalFault

@@ -1,15 +1,25 @@
--- The text of a journal (own choice): a first line, and a line for each run.
-use Rattle.std.specs.Prelude.{◌≡◌, ℕ, ◌≤◌, List, [], ◌∷◌, ◌++◌, codes}
+-- The text of a journal (own choice): a first line, which names the byte order, and a line for each run.
+use Rattle.std.specs.Prelude.{◌≡◌, ◌⊎◌, ℕ, ◌≤◌, List, [], ◌∷◌, ◌++◌, codes}
 use Rattle.std.specs.Fmt.{decimal}
 use Rattle.std.specs.List.{flat_map, AllByRecursion}
+use Rattle.brd_word.specs.declared.order.Order.{Order}
 use Rattle.brd_board.specs.declared.event.Event.{Event}
 use Rattle.brd_board.specs.declared.event.Event.TheVariants.{Step, Tick, Raise}
 use Rattle.brd_journal.specs.declared.run.Run.{Run}
 use Rattle.brd_journal.specs.Runs.{most_count, runs_of}
 
 -- the first line
-abbrev pub first_line : List ℕ
-first_line = codes "board-journal 1"
+abbrev pub first_line : Order → List ℕ
+first_line Order.Big = codes "board-journal 2 big"
+first_line Order.Little = codes "board-journal 2 little"
+
+-- the first line of version 1, which names no byte order, as its boards were all big-endian
+abbrev pub first_line_1 : List ℕ
+first_line_1 = codes "board-journal 1"
+
+-- a first line is that of a journal of this byte order
+abbrev pub IsFirstLine : List ℕ → Order → Type 0
+IsFirstLine line order = (line ≡ first_line order) ⊎ ((line ≡ first_line_1) × (order ≡ Order.Big))
 
 -- an event: S and the processor's number, T, or R and the line's number; decimal, without leading zeros
 abbrev pub event_text : Event → List ℕ
@@ -26,12 +36,12 @@ abbrev pub lines_of_runs : List Run → List ℕ
 lines_of_runs runs = flat_map (λ run. line_text run ++ 10 ∷ []) runs
 
 -- a text: the first line, ended by a newline too, and the lines of runs
-abbrev pub text_of_runs : List Run → List ℕ
-text_of_runs runs = first_line ++ 10 ∷ lines_of_runs runs
+abbrev pub text_of_runs : Order → List Run → List ℕ
+text_of_runs order runs = first_line order ++ 10 ∷ lines_of_runs runs
 
--- the text of a list of events
-abbrev pub text_of : List Event → List ℕ
-text_of events = text_of_runs (runs_of events)
+-- the text of a byte order and a list of events
+abbrev pub text_of : Order → List Event → List ℕ
+text_of order events = text_of_runs order (runs_of events)
 
 -- processors and lines have numbers from 0 to 255 in a text, as in `Event`
 abbrev pub IsNumbered : Event → Type 0
@@ -53,7 +63,9 @@ pub record SpellsRun (line : List ℕ) (run : Run) : Type 0 where
   pub text : line ≡ line_text run
   pub can : CanBeSpelled run
 
--- a text spells runs, line by line; neighbours may have the same event
-pub record SpellsRuns (text : List ℕ) (runs : List Run) : Type 0 where
-  pub lines : text ≡ text_of_runs runs
+-- a text spells a byte order and runs, line by line; neighbours may have the same event
+pub record SpellsRuns (text : List ℕ) (order : Order) (runs : List Run) : Type 0 where
+  pub first : List ℕ
+  pub is_first : IsFirstLine first order
+  pub lines : text ≡ first ++ 10 ∷ lines_of_runs runs
   pub each : AllByRecursion CanBeSpelled runs

@@ -14,15 +14,18 @@ use crate::runs::RunTable;
 use crate::writing::written;
 use brd_base::NoMemory;
 use brd_board::{Board, Event};
+use brd_word::Order;
 use std::alloc::Global;
 use std::marker::Model;
 
 /// The greatest limit of a journal.
 pub const MOST_RUNS: u32 = 4_194_304;
 
-/// A list of events that has at most so many runs. It is kept as its runs and where each begins.
+/// A list of events that has at most so many runs, for boards of a byte order. It is kept as its runs and where each
+/// begins.
 pub struct Journal {
     limit: u32,
+    order: Order,
     runs: RunTable,
     len: u64,
 }
@@ -33,7 +36,7 @@ impl Model for Journal {
 
     ghost Value = { JournalState };
 
-    ghost view = { λ journal. record { limit = journal.limit; events = events_of journal.runs } };
+    ghost view = { λ journal. record { limit = journal.limit; order = journal.order; events = events_of journal.runs } };
 
     ghost invariant = { λ journal. IsKept journal.limit journal.runs journal.len };
 }
@@ -43,6 +46,7 @@ impl Drop for Journal {
     fn drop(self) {
         let Journal {
             limit: _,
+            order: _,
             runs: _,
             len: _,
         } = self;
@@ -50,13 +54,14 @@ impl Drop for Journal {
 }
 
 impl Journal {
-    /// A journal without events, which may have so many runs. It takes no memory.
-    pub fn new(alloc: Global, limit: u32) -> Self
+    /// A journal without events, which may have so many runs, for boards of this byte order. It takes no memory.
+    pub fn new(alloc: Global, limit: u32, order: Order) -> Self
         requires { limit ≤ most_runs }
-        ensures { result ≡ record { limit = limit; events = [] } }
+        ensures { result ≡ record { limit = limit; order = order; events = [] } }
     {
         Journal {
             limit,
+            order,
             runs: RunTable::new(alloc),
             len: 0,
         }
@@ -80,6 +85,13 @@ impl Journal {
         self.runs.add(self.limit as usize, event, count, self.len)?;
         self.len += count as u64;
         Ok(())
+    }
+
+    /// The byte order of the boards that it is for.
+    pub fn order(&self) -> Order
+        ensures { result ≡ self.now.order }
+    {
+        self.order
     }
 
     /// How many events there are.
@@ -134,10 +146,10 @@ impl Journal {
 
     /// The text: a first line, and a line for each run. It is read as this journal again, where the limit suffices.
     pub fn write_text(&self, alloc: Global) -> Result<Vec<u8>, NoMemory>
-        ensures is { IfOk result (λ text. text.items ≡ text_of self.now.events) }
+        ensures is { IfOk result (λ text. text.items ≡ text_of self.now.order self.now.events) }
         ensures again { IfOk result (λ text. (limit : ℕ) → length (runs_of self.now.events) ≤ limit
-            → journal_of limit text.items ≡ Ok (record { limit = limit; events = self.now.events })) }
+            → journal_of limit text.items ≡ Ok (record { limit = limit; order = self.now.order; events = self.now.events })) }
     {
-        written(alloc, self.runs.as_slice())
+        written(alloc, self.order, self.runs.as_slice())
     }
 }

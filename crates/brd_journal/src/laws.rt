@@ -2,6 +2,7 @@
 
 ghost use Rattle.std.specs.Prelude.{◌≡◌, ◌↔◌, ◌≤◌, ℕ, true, List, length, Some, Ok, Err};
 ghost use Rattle.std.specs.List.{AllByRecursion};
+ghost use Rattle.brd_word.specs.declared.order.Order.{Order};
 ghost use Rattle.brd_board.specs.declared.event.Event.{Event};
 ghost use Rattle.brd_board.specs.Board.{BoardState, happens, after};
 ghost use Rattle.brd_journal.specs.declared.fault.JournalFault.{JournalFault};
@@ -35,10 +36,10 @@ pub fn the_first_wrong_line_decides()
     ensures { (limit : ℕ) (text : List ℕ) (fault : JournalFault) → (journal_of limit text ≡ Err fault) ↔ IsFirstFault limit text fault }
 {}
 
-/// The text of a list of events is read as that list, where the limit suffices.
+/// The text of a byte order and a list of events is read as these, where the limit suffices.
 pub fn written_texts_are_read()
-    ensures { (limit : ℕ) (events : List Event) → AllByRecursion IsNumbered events → length (runs_of events) ≤ limit
-        → journal_of limit (text_of events) ≡ Ok (record { limit = limit; events = events }) }
+    ensures { (limit : ℕ) (order : Order) (events : List Event) → AllByRecursion IsNumbered events → length (runs_of events) ≤ limit
+        → journal_of limit (text_of order events) ≡ Ok (record { limit = limit; order = order; events = events }) }
 {}
 
 /// An event that reports Off, NoSuch, Stopped, Idle or TimeOver has left the board as it was. After it, and after a line

@@ -8,9 +8,32 @@ ghost use Rattle.brd_journal.specs.Reading as reading;
 use crate::run::Run;
 use brd_board::Event;
 use brd_text::{behind, plain_decimal};
+use brd_word::Order;
 
-/// The first line.
-pub(crate) const FIRST_LINE: &[u8] = b"board-journal 1";
+/// The first line of a journal for big-endian boards.
+pub(crate) const BIG_LINE: &[u8] = b"board-journal 2 big";
+
+/// The first line of a journal for little-endian boards.
+pub(crate) const LITTLE_LINE: &[u8] = b"board-journal 2 little";
+
+/// The first line of version 1, whose boards were all big-endian.
+const OLD_LINE: &[u8] = b"board-journal 1";
+
+/// The byte order that a first line says. The line stands without its newline.
+pub(crate) fn order_of_line(line: &[u8]) -> Option<Order>
+    ensures { result ≡ reading.order_of_line line.now }
+{
+    if line == BIG_LINE {
+        return Some(Order::Big);
+    }
+    if line == LITTLE_LINE {
+        return Some(Order::Little);
+    }
+    if line == OLD_LINE {
+        return Some(Order::Big);
+    }
+    None
+}
 
 /// The run that a line spells. The line stands without its newline.
 pub fn run_of_line(line: &[u8]) -> Option<Run>

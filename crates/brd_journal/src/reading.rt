@@ -8,7 +8,7 @@ ghost use Rattle.brd_journal.specs.Reading.{journal_of, lines_read};
 
 use crate::fault::JournalFault;
 use crate::journal::Journal;
-use crate::line::{FIRST_LINE, run_of_line};
+use crate::line::{order_of_line, run_of_line};
 use brd_text::split_line;
 use std::alloc::Global;
 
@@ -22,10 +22,10 @@ pub fn read_text(alloc: Global, text: &[u8], limit: u32) -> Result<Journal, Jour
     let Some(rest) = behind else {
         return Err(JournalFault::Syntax { line: 1 });
     };
-    if first != FIRST_LINE {
+    let Some(order) = order_of_line(first) else {
         return Err(JournalFault::Syntax { line: 1 });
-    }
-    let mut journal = Journal::new(alloc, limit);
+    };
+    let mut journal = Journal::new(alloc, limit, order);
     read_lines(&mut journal, rest)?;
     Ok(journal)
 }

@@ -3,31 +3,43 @@
 ghost use Rattle.std.specs.Prelude.{◌≡◌, ◌≤◌, ◌++◌, ◌∷◌, [], length, OnOk, IfOk};
 ghost use Rattle.std.specs.Fmt.{decimal};
 ghost use Rattle.brd_journal.specs.Journal.{most_runs};
-ghost use Rattle.brd_journal.specs.Text.{event_text, line_text, text_of_runs, IsNumbered, AreNumbered};
+ghost use Rattle.brd_journal.specs.Text.{first_line, event_text, line_text, text_of_runs, IsNumbered, AreNumbered};
 
-use crate::line::FIRST_LINE;
+use crate::line::{BIG_LINE, LITTLE_LINE};
 use crate::run::Run;
 use brd_base::NoMemory;
 use brd_board::Event;
+use brd_word::Order;
 use std::alloc::Global;
 
 /// The most bytes that the line of a run can have, with its newline.
 const LONGEST_LINE: usize = b"R 255 4294967295\n".len();
 
-/// The text of runs.
-pub(crate) fn written(alloc: Global, runs: &[Run]) -> Result<Vec<u8>, NoMemory>
+/// The text of runs, for boards of this byte order.
+pub(crate) fn written(alloc: Global, order: Order, runs: &[Run]) -> Result<Vec<u8>, NoMemory>
     requires { length runs.now ≤ most_runs }
-    ensures is { IfOk result (λ text. text.items ≡ text_of_runs runs.now) }
+    ensures is { IfOk result (λ text. text.items ≡ text_of_runs order runs.now) }
     ensures numbered { IfOk result (λ _. AreNumbered runs.now) }
 {
-    let most = FIRST_LINE.len() + 1 + LONGEST_LINE * runs.len();
+    let most = LITTLE_LINE.len() + 1 + LONGEST_LINE * runs.len();
     let mut text = Vec::with_capacity(alloc, most)?;
-    text.extend_from_slice(FIRST_LINE)?;
+    put_first_line(&mut text, order)?;
     text.push(b'\n')?;
     for run in runs {
         put_line(&mut text, run)?;
     }
     Ok(text)
+}
+
+/// Puts the first line at the end, without its newline.
+fn put_first_line(text: &mut Vec<u8>, order: Order) -> Result<(), NoMemory>
+    ensures { OnOk result (text.new.items ≡ text.old.items ++ first_line order) }
+{
+    match order {
+        Order::Big => text.extend_from_slice(BIG_LINE)?,
+        Order::Little => text.extend_from_slice(LITTLE_LINE)?,
+    }
+    Ok(())
 }
 
 /// Puts the line of a run at the end.

@@ -4,4 +4,4 @@ use Rattle.brd_board.proofs.LoadLemmas.{IsUnderWay}
 use Rattle.brd_board.proofs.load.loaded.Given as goal
 
 abbrev pub invariant-loop-segment : goal.invariant-loop-segment
-invariant-loop-segment l = IsUnderWay l.size l.segments (drop l.segment-index l.segments) l.ram
+invariant-loop-segment l = IsUnderWay l.fn.order l.size l.segments (drop l.segment-index l.segments) l.ram

@@ -1,6 +1,6 @@
 use Rattle.std.proofs.Common.{◌<◌, arith}
 use Rattle.brd_debug.specs.Kept.{plan_of}
-use Rattle.brd_debug.proofs.KeptLemmas.{size-played}
+use Rattle.brd_debug.proofs.KeptLemmas.{size-played, order-played}
 use Rattle.brd_debug.proofs.NotedLemmas.{noted-on, noted-both, noted-nowhere}
 use Rattle.brd_debug.proofs.search.play_on.Goals as goal
 
@@ -15,6 +15,9 @@ loop-playback-init c = record {
 
 pub note-requires-clause-sizes : goal.note-requires-clause-sizes
 note-requires-clause-sizes c = size-played c.args.boot.now c.args.journal.now.events c.loop-playback.playback c.loop-playback.invariant.played
+
+pub note-requires-clause-orders : goal.note-requires-clause-orders
+note-requires-clause-orders c = order-played c.args.boot.now c.args.journal.now.events c.loop-playback.playback c.loop-playback.invariant.played
 
 pub loop-playback-preserved : goal.loop-playback-preserved
 loop-playback-preserved c =

@@ -1,13 +1,16 @@
 use Rattle.std.proofs.Common.{◌<◌, ◌≤◌, length, sym, ◌∙◌, arith}
 use Rattle.brd_debug.specs.Kept.{plan_of}
 use Rattle.brd_debug.specs.Stops.{IsStop}
-use Rattle.brd_debug.proofs.KeptLemmas.{size-played}
+use Rattle.brd_debug.proofs.KeptLemmas.{size-played, order-played}
 use Rattle.brd_debug.proofs.SearchLemmas.{found-least, found-more, none-of, none-least, none-both}
 use Rattle.brd_debug.proofs.NotedLemmas.{noted-on, noted-both, noted-nowhere}
 use Rattle.brd_debug.proofs.search.stop_from.Goals as goal
 
 pub note-requires-clause-sizes : goal.note-requires-clause-sizes
 note-requires-clause-sizes c = size-played c.args.boot.now c.args.journal.now.events c.loop-playback.playback c.loop-playback.invariant.played
+
+pub note-requires-clause-orders : goal.note-requires-clause-orders
+note-requires-clause-orders c = order-played c.args.boot.now c.args.journal.now.events c.loop-playback.playback c.loop-playback.invariant.played
 
 pub loop-playback-init : goal.loop-playback-init
 loop-playback-init c = record {

@@ -1,5 +1,5 @@
-use Rattle.brd_exec.proofs.SizeLemmas.{size-ran}
+use Rattle.brd_exec.proofs.FormLemmas.{form-ran}
 use Rattle.brd_exec.proofs.laws.ram_keeps_its_size.Goals as goal
 
 pub returns : goal.returns
-returns c = size-ran
+returns c = λ cpu s memory links. (form-ran cpu s memory links).0
