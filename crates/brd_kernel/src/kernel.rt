@@ -31,6 +31,7 @@ ghost use Rattle.brd_kernel.specs.Lending.{LendsContext};
 mod interrupts;
 mod objects;
 mod processors;
+mod saved;
 mod serve;
 mod waits;
 
@@ -46,6 +47,8 @@ use brd_tasks::{Request, TaskId, TaskSetup, TaskView, Tasks};
 use brd_time::Timeouts;
 use std::alloc::Global;
 use std::marker::Model;
+
+pub use saved::SavedKernel;
 
 /// How many bytes the console holds.
 const CONSOLE_SIZE: usize = 65_536;
