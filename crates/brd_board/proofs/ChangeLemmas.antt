@@ -16,13 +16,11 @@ use Rattle.brd_kernel.specs.declared.processor.Processor.{Processor}
 use Rattle.brd_kernel.specs.declared.processor.Executor.{Executor}
 use Rattle.brd_kernel.specs.declared.processor.Executor.TheVariants as executor
 use Rattle.brd_kernel.specs.declared.call.Call.{Call}
-use Rattle.brd_kernel.specs.declared.call.Call.TheVariants as call
 use Rattle.brd_kernel.specs.declared.call.Ercd.{Ercd}
-use Rattle.brd_kernel.specs.declared.call.Ercd.TheVariants.{Id, Par, Iluse, Obj, Qovr, Rlwai, Tmout}
 use Rattle.brd_kernel.specs.Kernel.{KernelState, with_tasks, processor_at, running_in, running_on, unmarked, executor_on, context_of, with_context_of, context_on, handles, accepted_line, deliverable, line_at, with_pending, Executed, executed_in, executed}
 use Rattle.brd_kernel.specs.Dispatch.{dispatched, is_same_task, has_changed, changed_processors}
-use Rattle.brd_kernel.specs.Row.{Row, Served, refused, served_object, served, or_refused}
-use Rattle.brd_kernel.specs.Services as table
+use Rattle.brd_kernel.specs.Row.{Served}
+use Rattle.brd_kernel.proofs.WalkLemmas.{Law, in_semaphore, in_flag, in_senders, in_receivers, serve-always}
 use Rattle.brd_tasks.specs.declared.status.WaitReason.{WaitReason}
 use Rattle.brd_tasks.specs.declared.status.WaitReason.TheVariants as reason
 use Rattle.brd_tasks.specs.Status.{waiting_of, blocked}
@@ -30,17 +28,16 @@ use Rattle.brd_tasks.specs.Tasks.{task_at, through, changed, with_priority, note
 use Rattle.brd_time.specs.Time.{with_due, last_count, advanced as time_advanced, due_from}
 use Rattle.brd_objects.specs.declared.semaphore.Semaphore.{Semaphore}
 use Rattle.brd_objects.specs.declared.flag.Flag.{Flag}
-use Rattle.brd_objects.specs.declared.want.Want.{Want}
 use Rattle.brd_objects.specs.declared.sent.Sent.{Sent}
 use Rattle.brd_objects.specs.declared.sent.Sent.TheVariants.{Handed, Stored, Full}
 use Rattle.brd_objects.specs.declared.sent.Received.{Received}
 use Rattle.brd_objects.specs.Table.{object_at, object_changed}
-use Rattle.brd_objects.specs.Semaphores.{returned, first_waiter, has_one, semaphore_awaited}
-use Rattle.brd_objects.specs.Flags.{joined, pattern_for, flag_awaited, all_released, with_all_released}
-use Rattle.brd_objects.specs.DataQueues.{DataQueueState, outcome, forced, forced_outcome, received, receipt, awaited_by_sender, awaited_by_receiver}
-use Rattle.brd_kernel.specs.Answer.{e_ok, code_of}
-use Rattle.brd_kernel.specs.Waits.{due_after, due_by, can_wait, released_in, reason_of, unlisted_from, broken_off, ended_in, reordered_in, answer_by, timed_out, all_timed_out, ticked_on, faulted_task, faulted_in}
-use Rattle.brd_kernel.specs.Services.{named, unmarked_on, serve_by, caller_on, or_waits, callers_priority, with_released, with_all_released_in, with_satisfied_of, handed_over, flag_got, queue_sent, queue_received}
+use Rattle.brd_objects.specs.Semaphores.{returned, first_waiter}
+use Rattle.brd_objects.specs.Flags.{joined, all_released, with_all_released}
+use Rattle.brd_objects.specs.DataQueues.{DataQueueState, sent, outcome, forced, forced_outcome, received}
+use Rattle.brd_kernel.specs.Answer.{e_ok}
+use Rattle.brd_kernel.specs.Waits.{can_wait, with_wait, released_in, reason_of, unlisted_from, broken_off, ended_in, reordered_in, answer_by, timed_out, all_timed_out, ticked_on, faulted_task, faulted_in}
+use Rattle.brd_kernel.specs.Services.{unmarked_on, caller_on, with_released, with_all_released_in, with_satisfied_of, handed_over}
 use Rattle.brd_sysgate.specs.Gate.{changed_in, with_changed_context, served_call, called_in, called, caller_of, read_of, written}
 use Rattle.brd_sysgate.specs.declared.gate.Caller.{Caller}
 use Rattle.brd_board.specs.declared.event.Event.{Event}
@@ -126,118 +123,60 @@ keeps-unmarked : (k : KernelState) (cpu : ℕ) (found : Option Processor) → pr
 keeps-unmarked k cpu None is = λ at. refl
 keeps-unmarked k cpu (Some p) is = λ at. runners-set k.processors cpu at p (unmarked p) is refl
 
-abbrev Keeps : KernelState → Result Served Ercd → Type 0
-Keeps old (Ok done) = KeepsRunners done.kernel old
-Keeps old (Err code) = Unit {0}
-
-keeps-refused : (test : Bool) (code : Ercd) (old : KernelState) (otherwise : Result Served Ercd) → Keeps old otherwise → Keeps old (refused test code otherwise)
-keeps-refused true code old otherwise keeps = tt
-keeps-refused false code old otherwise keeps = keeps
-
-keeps-object : {X : Type 0} (old : KernelState) (row : Row X) (found : Option X) → ((x : X) → Keeps old (row.does x)) → Keeps old (served_object row found)
-keeps-object old row None does = tt
-keeps-object old row (Some x) does =
-    keeps-refused (row.iluse x) Iluse old _ (keeps-refused (row.obj x) Obj old _ (keeps-refused (row.qovr x) Qovr old _ (does x)))
-
-keeps-row : {X : Type 0} (old : KernelState) (row : Row X) → ((x : X) → Keeps old (row.does x)) → Keeps old (served row)
-keeps-row old row does = keeps-refused row.bad_id Id old _ (keeps-refused row.bad_par Par old _ (keeps-object old row row.object does))
-
--- the same, of an object that is there
-keeps-there : {X : Type 0} (old : KernelState) (row : Row X) (found : Option X) → row.object ≡ found → ((x : X) → row.object ≡ Some x → Keeps old (row.does x)) → Keeps old (served_object row found)
-keeps-there old row None is does = tt
-keeps-there old row (Some x) is does =
-    keeps-refused (row.iluse x) Iluse old _ (keeps-refused (row.obj x) Obj old _ (keeps-refused (row.qovr x) Qovr old _ (does x is)))
-
-keeps-known : {X : Type 0} (old : KernelState) (row : Row X) → ((x : X) → row.object ≡ Some x → Keeps old (row.does x)) → Keeps old (served row)
-keeps-known old row does = keeps-refused row.bad_id Id old _ (keeps-refused row.bad_par Par old _ (keeps-there old row row.object refl does))
-
-keeps-if : (test : Bool) (old : KernelState) (one other : Result Served Ercd) → Keeps old one → Keeps old other → Keeps old (if test then one else other)
-keeps-if true old one other first second = first
-keeps-if false old one other first second = second
-
-keeps-waits : (k : KernelState) (caller : ℕ) (why : WaitReason) (timeout : ℕ) (entered : KernelState) → Same entered k → Keeps k (or_waits k caller why timeout entered)
-keeps-waits k caller why timeout entered same =
-    keeps-if (timeout == 0) k (Err Tmout) _ tt (keeps-by (same-wait-if (can_wait (task_at k.tasks caller))
-    (record entered { tasks = through (blocked why) k.tasks caller; time = with_due k.time caller (due_by k timeout) }) k same))
-
-keeps-got : (k : KernelState) (caller id : ℕ) (want : Want) (timeout : ℕ) (got : Option ℕ) → Keeps k (flag_got k caller id want timeout got)
-keeps-got k caller id want timeout (Some pattern) = λ at. refl
-keeps-got k caller id want timeout None =
-    keeps-waits k caller (reason.Flag id) timeout (record k { flags = object_changed (flag_awaited caller (callers_priority k caller) want) k.flags id }) refl
-
-keeps-sent : (k : KernelState) (caller id datum timeout : ℕ) (what : Sent) → Keeps k (queue_sent k caller id datum timeout what)
-keeps-sent k caller id datum timeout (Handed task) = λ at. refl
-keeps-sent k caller id datum timeout Stored = λ at. refl
-keeps-sent k caller id datum timeout Full =
-    keeps-waits k caller (reason.Send id) timeout (record k { queues = object_changed (awaited_by_sender caller (callers_priority k caller) datum) k.queues id }) refl
-
-keeps-received : (k : KernelState) (caller id timeout : ℕ) (it : Option Received) → Keeps k (queue_received k caller id timeout it)
-keeps-received k caller id timeout (Some it) =
-    let taken : KernelState = record k { queues = object_changed received k.queues id } in
-    runs (with_released taken it.sender) k (same-released taken it.sender)
-keeps-received k caller id timeout None =
-    keeps-waits k caller (reason.Receive id) timeout (record k { queues = object_changed (awaited_by_receiver caller (callers_priority k caller)) k.queues id }) refl
-
 keeps-exit : (k : KernelState) (cpu caller : ℕ) → KeepsRunners (unmarked_on (ended_in k caller) cpu (processor_at k cpu)) k
 keeps-exit k cpu caller =
     let out : KernelState = ended_in k caller in
     λ at. keeps-unmarked out cpu (processor_at k cpu) (ap (λ ps. slice_index_or ps cpu None) (same-ended k caller)) at ∙ runs out k (same-ended k caller) at
 
-keeps-serve : (k : KernelState) (cpu caller : ℕ) (c : Call) → Keeps k (serve_by k cpu caller c)
-keeps-serve k cpu caller (call.ActTsk t) = keeps-row k (table.act_tsk k (named caller t)) (λ task at. refl)
-keeps-serve k cpu caller (call.IactTsk t) = keeps-row k (table.act_tsk k t) (λ task at. refl)
-keeps-serve k cpu caller (call.MactTsk t to) = keeps-row k (table.mact_tsk k (named caller t) to) (λ task at. refl)
-keeps-serve k cpu caller (call.ImactTsk t to) = keeps-row k (table.mact_tsk k t to) (λ task at. refl)
-keeps-serve k cpu caller (call.MigTsk t to) = keeps-row k (table.mig_tsk k cpu (named caller t) to) (λ task at. refl)
-keeps-serve k cpu caller (call.RotRdq priority) = keeps-row k (table.rot_rdq k cpu caller priority) (λ p at. refl)
-keeps-serve k cpu caller (call.IrotRdq priority) = keeps-row k (table.irot_rdq k cpu priority) (λ p at. refl)
-keeps-serve k cpu caller call.DisDsp = keeps-known k (table.mark_dsp k cpu true) (λ (p : Processor) is at. runners-set k.processors cpu at p (record p { disabled = true }) is refl)
-keeps-serve k cpu caller call.EnaDsp = keeps-known k (table.mark_dsp k cpu false) (λ (p : Processor) is at. runners-set k.processors cpu at p (record p { disabled = false }) is refl)
-keeps-serve k cpu caller call.LocCpu = keeps-known k (table.mark_cpu k cpu true) (λ (p : Processor) is at. runners-set k.processors cpu at p (record p { locked = true }) is refl)
-keeps-serve k cpu caller call.UnlCpu = keeps-known k (table.mark_cpu k cpu false) (λ (p : Processor) is at. runners-set k.processors cpu at p (record p { locked = false }) is refl)
-keeps-serve k cpu caller call.RetInt = keeps-known k (table.ret_int k cpu) (λ (p : Processor) is at. runners-set k.processors cpu at p (record p { handling = None }) is refl)
-keeps-serve k cpu caller (call.IwupTsk t) = keeps-row k (table.wup_tsk k t) (λ (task : Task). keeps-if (table.is_asleep task.status) k _ _ (λ at. refl) (λ at. refl))
-keeps-serve k cpu caller (call.CanAct t) = keeps-row k (table.can_act k (named caller t)) (λ task at. refl)
-keeps-serve k cpu caller call.ExtTsk = keeps-row k (table.ext_tsk k cpu caller) (λ task. keeps-exit k cpu caller)
-keeps-serve k cpu caller (call.TerTsk t) = keeps-row k (table.ter_tsk k cpu caller t) (λ task. keeps-by (same-ended k t))
-keeps-serve k cpu caller (call.ChgPri t priority) = keeps-row k (table.chg_pri k (named caller t) priority)
-    (λ (task : Task). keeps-by (same-reordered (with_tasks k (changed (with_priority (table.priority_or_initial priority task)) k.tasks (named caller t))) (named caller t) (table.priority_or_initial priority task) (waiting_of task.status)))
-keeps-serve k cpu caller (call.GetPri t) = keeps-row k (table.get_pri k (named caller t)) (λ task at. refl)
-keeps-serve k cpu caller call.GetPid = keeps-row k (table.get_pid k cpu) (λ x at. refl)
-keeps-serve k cpu caller call.GetTid = keeps-row k (table.get_tid k caller) (λ x at. refl)
-keeps-serve k cpu caller (call.TslpTsk timeout) = keeps-row k (table.tslp_tsk k caller timeout) (λ (task : Task). keeps-if task.wakeup k _ _ (λ at. refl) (keeps-waits k caller reason.Sleep timeout k refl))
-keeps-serve k cpu caller (call.WupTsk t) = keeps-row k (table.wup_tsk k (named caller t)) (λ (task : Task). keeps-if (table.is_asleep task.status) k _ _ (λ at. refl) (λ at. refl))
-keeps-serve k cpu caller (call.CanWup t) = keeps-row k (table.can_wup k (named caller t)) (λ task at. refl)
-keeps-serve k cpu caller (call.RelWai t) = keeps-row k (table.rel_wai k t) (λ task. keeps-by (same-broken k t (code_of Rlwai)))
-keeps-serve k cpu caller (call.SusTsk t) = keeps-row k (table.sus_tsk k cpu (named caller t)) (λ task at. refl)
-keeps-serve k cpu caller (call.RsmTsk t) = keeps-row k (table.rsm_tsk k t) (λ task at. refl)
-keeps-serve k cpu caller (call.DlyTsk time) = keeps-row k (table.dly_tsk k caller time)
-    (λ task. keeps-by (same-wait-if (can_wait (task_at k.tasks caller)) (record k { tasks = through (blocked reason.Delay) k.tasks caller; time = with_due k.time caller (Some (due_after k time)) }) k refl))
-keeps-serve k cpu caller (call.SigSem id) = keeps-row k (table.sig_sem k id)
-    (λ (s : Semaphore). keeps-by (same-released (record k { semaphores = object_changed returned k.semaphores id }) (first_waiter s)))
-keeps-serve k cpu caller (call.TwaiSem id timeout) = keeps-row k (table.twai_sem k caller id timeout)
-    (λ (s : Semaphore). keeps-if (has_one s) k _ _ (λ at. refl)
-    (keeps-waits k caller (reason.Semaphore id) timeout (record k { semaphores = object_changed (semaphore_awaited caller (callers_priority k caller)) k.semaphores id }) refl))
-keeps-serve k cpu caller (call.SetFlg id bits) = keeps-row k (table.set_flg k id bits)
-    (λ f. let set : KernelState = record k { flags = object_changed (joined bits) k.flags id } in keeps-by (same-satisfied set id (object_at set.flags id)))
-keeps-serve k cpu caller (call.ClrFlg id bits) = keeps-row k (table.clr_flg k id bits) (λ f at. refl)
-keeps-serve k cpu caller (call.TwaiFlg id bits mode timeout) = keeps-row k (table.twai_flg k caller id bits mode timeout)
-    (λ (f : Flag). keeps-got k caller id (table.want_of bits mode) timeout (pattern_for (table.want_of bits mode) f))
-keeps-serve k cpu caller (call.TsndDtq id datum timeout) = keeps-row k (table.tsnd_dtq k caller id datum timeout)
-    (λ (q : DataQueueState). keeps-sent k caller id datum timeout (outcome q))
-keeps-serve k cpu caller (call.FsndDtq id datum) = keeps-row k (table.fsnd_dtq k id datum)
-    (λ (q : DataQueueState). keeps-by (same-handed (record k { queues = object_changed (forced datum) k.queues id }) datum (forced_outcome q)))
-keeps-serve k cpu caller (call.TrcvDtq id timeout) = keeps-row k (table.trcv_dtq k caller id timeout)
-    (λ (q : DataQueueState). keeps-received k caller id timeout (receipt q))
-keeps-serve k cpu caller (call.PutChr word) = keeps-row k (table.put_chr k word) (λ x at. refl)
-keeps-serve k cpu caller call.ExtKer = keeps-row k (table.ext_ker k) (λ x at. refl)
+keeps-wait : (k : KernelState) (caller : ℕ) (why : WaitReason) (due : Option ℕ) (entered : KernelState) → Same entered k →
+    KeepsRunners (with_wait k caller why due entered) k
+keeps-wait k caller why due entered same =
+    keeps-by (same-wait-if (can_wait (task_at k.tasks caller))
+    (record entered { tasks = through (blocked why) k.tasks caller; time = with_due k.time caller due }) k same)
 
-keeps-or_refused : (k : KernelState) (says : Result Served Ercd) → Keeps k says → KeepsRunners (or_refused k says).kernel k
-keeps-or_refused k (Ok done) keeps = keeps
-keeps-or_refused k (Err code) keeps = λ at. refl
+runners-law : (k : KernelState) (cpu caller : ℕ) → Law (Unit {0}) (Unit {0}) (λ new. KeepsRunners new k) k cpu caller
+runners-law k cpu caller = record {
+  stays = λ at. refl;
+  activates = λ id request of at. refl;
+  cancels = λ id at. refl;
+  wakes = λ id task there awake at. refl;
+  unwakes = λ id at. refl;
+  exits = λ may. keeps-exit k cpu caller;
+  ends = λ id task there held other. keeps-by (same-ended k id);
+  prioritizes = λ id priority (task : Task) there.
+      keeps-by (same-reordered (with_tasks k (changed (with_priority priority) k.tasks id)) id priority (waiting_of task.status));
+  migrates = λ id to task there held absent may at. refl;
+  suspends = λ id task there held may at. refl;
+  resumes = λ id at. refl;
+  rouses = λ id task there asleep at. refl;
+  breaks = λ id answer. keeps-by (same-broken k id answer);
+  sleeps = λ due task there none may. keeps-wait k caller reason.Sleep due k refl;
+  delays = λ due may. keeps-wait k caller reason.Delay (Some due) k refl;
+  rotates = λ priority p there at. refl;
+  marks = λ p q there same at. runners-set k.processors cpu at p q there same;
+  returns = λ (p : Processor) there at. runners-set k.processors cpu at p (record p { handling = None }) there refl;
+  signals = λ id (s : Semaphore) there.
+      keeps-by (same-released (record k { semaphores = object_changed returned k.semaphores id }) (first_waiter s));
+  takes = λ id s there at. refl;
+  awaits_semaphore = λ id due s there none may. keeps-wait k caller (reason.Semaphore id) due (in_semaphore k caller id) refl;
+  sets = λ id bits f there. let set : KernelState = record k { flags = object_changed (joined bits) k.flags id } in
+      keeps-by (same-satisfied set id (object_at set.flags id));
+  clears = λ id bits f there at. refl;
+  gets = λ id want f there at. refl;
+  awaits_flag = λ id want due f there none some may. keeps-wait k caller (reason.Flag id) due (in_flag k caller id want) refl;
+  sends = λ id datum (q : DataQueueState) there.
+      keeps-by (same-handed (record k { queues = object_changed (sent datum) k.queues id }) datum (outcome q));
+  awaits_send = λ id datum due q there full may. keeps-wait k caller (reason.Send id) due (in_senders k caller id datum) refl;
+  forces = λ id datum (q : DataQueueState) there.
+      keeps-by (same-handed (record k { queues = object_changed (forced datum) k.queues id }) datum (forced_outcome q));
+  receives = λ id q (it : Received) there is. keeps-by (same-released (record k { queues = object_changed received k.queues id }) it.sender);
+  awaits_receive = λ id due q there none may. keeps-wait k caller (reason.Receive id) due (in_receivers k caller id) refl;
+  writes = λ word at. refl;
+  ends_all = λ at. refl;
+}
 
 keeps-call : (k : KernelState) (cpu : ℕ) (asked : Result Call Ercd) → KeepsRunners (served_call k cpu asked).kernel k
-keeps-call k cpu (Ok c) = keeps-or_refused k (serve_by k cpu (caller_on k cpu) c) (keeps-serve k cpu (caller_on k cpu) c)
+keeps-call k cpu (Ok c) = serve-always (λ new. KeepsRunners new k) k cpu (runners-law k cpu (caller_on k cpu)) c
 keeps-call k cpu (Err code) = λ at. refl
 
 keeps-context : (k : KernelState) (cpu : ℕ) (who : Executor) (s : State) → KeepsRunners (with_context_of k cpu who s) k

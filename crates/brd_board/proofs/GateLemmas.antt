@@ -1,6 +1,6 @@
 -- What the gate has shown of a call that it lets through.
-use Rattle.std.proofs.Common.{◌≡◌, ℕ, List, [], ◌∷◌, refl, ap, arith}
-use Rattle.std.specs.Prelude.{Bool, true, false, not, ◌==◌, ◌&&◌, if◌then◌else◌, find, Option, None, Some, is_some, unwrap_or, Result, Ok, Err}
+use Rattle.std.proofs.Common.{◌≡◌, ℕ, List, [], ◌∷◌, map, drop, refl, sym, ap, subst, ◌∙◌, arith}
+use Rattle.std.specs.Prelude.{Bool, true, false, not, ◌==◌, ◌&&◌, if◌then◌else◌, find, slice_index_or, Option, None, Some, is_some, unwrap_or, Result, Ok, Err}
 use Rattle.std.specs.Option.{option_map}
 use Rattle.std.proofs.lemmas.Bool.{false≢true, true≢false}
 use Rattle.std.proofs.lemmas.Bool.Decides.{nat_tests}
@@ -11,15 +11,50 @@ use Rattle.brd_kernel.specs.declared.call.Ercd.{Ercd}
 use Rattle.brd_kernel.specs.Kernel.{executor_by}
 use Rattle.brd_kernel.specs.Services.{named}
 use Rattle.brd_kernel.proofs.RunningCallLemmas.{IsFree, MayServe, IsTaskOf, none-held}
+use Rattle.brd_kernel.proofs.ThereLemmas.{first-of, second-of}
+use Rattle.brd_kernel.proofs.WalkLemmas.{Stop, GoesOn, MayWait, Waits, Names, Ends, stop_of, MayStop}
 use Rattle.brd_sysgate.specs.declared.gate.Caller.{Caller}
 use Rattle.brd_sysgate.specs.declared.gate.Caller.TheVariants.{Task, Handler}
+use Rattle.brd_sysgate.specs.declared.place.Place.{Place}
+use Rattle.brd_sysgate.specs.declared.place.Place.TheVariants as place
 use Rattle.brd_sysgate.specs.Gate.{Service, table, a0, is_oneself, may_call, arguments_of, allowed, read_of, caller_by}
 
--- of each row of a table: where its call may come from the caller, it may be served
-abbrev EachMay : Processor → ℕ → Caller → List ℕ → List Service → Type 0
-EachMay p id caller a [] = Unit {0}
-EachMay p id caller a (s ∷ services) =
-    (may_call caller s.place (a0 a) ≡ true → MayServe p id (s.call a)) × EachMay p id caller a services
+-- Of each row of the table: from where a call may come by what it may do to its caller; and one that may be about its
+-- caller names it by its first argument. Both are computed over the whole table.
+
+abbrev fits : Stop → Place → Bool
+fits GoesOn from = true
+fits (MayWait timeout) place.Waiting = true
+fits (MayWait timeout) _ = timeout == 0
+fits Waits place.Waiting = true
+fits Waits _ = false
+fits (Names t) place.OnTask = true
+fits (Names t) _ = false
+fits Ends place.LockedTask = true
+fits Ends _ = false
+
+abbrev named_by : Stop → ℕ → ℕ
+named_by (Names t) first = t
+named_by _ first = first
+
+abbrev all_fit : List ℕ → List Service → Bool
+all_fit a [] = true
+all_fit a (s ∷ services) = fits (stop_of (s.call a)) s.place && all_fit a services
+
+table-fits : (a : List ℕ) → all_fit a table ≡ true
+table-fits a = refl
+
+abbrev names : List ℕ → List Service → List ℕ
+names a services = map (λ s. named_by (stop_of (s.call a)) (a0 a)) services
+
+table-names : (a : List ℕ) → names a table ≡ map (λ s. a0 a) table
+table-names a = refl
+
+-- so a call that comes from where it may, may be served
+abbrev PlacesMay : Processor → ℕ → Caller → ℕ → Type 0
+PlacesMay p id caller first =
+    (stop : Stop) (from : Place) → fits stop from ≡ true → named_by stop first ≡ first → may_call caller from first ≡ true →
+    MayStop (IsFree p id) (IsTaskOf p id) id stop
 
 abbrev pub MayBe : Processor → ℕ → Result Call Ercd → Type 0
 MayBe p id (Ok c) = MayServe p id c
@@ -38,38 +73,31 @@ found-by : (here : Bool) (p : Processor) (id number : ℕ) (caller : Caller) (a 
 found-by true p id number caller a s services first rest = passed (may_call caller s.place (a0 a)) p id (s.call a) _ first
 found-by false p id number caller a s services first rest = rest
 
-found : (p : Processor) (id number : ℕ) (caller : Caller) (a : List ℕ) (services : List Service) → EachMay p id caller a services →
+found : (p : Processor) (id number : ℕ) (caller : Caller) (a : List ℕ) (services : List Service) → PlacesMay p id caller (a0 a) →
+    all_fit a services ≡ true → names a services ≡ map (λ s. a0 a) services →
     MayBe p id (allowed caller (a0 a) (option_map (λ x. record { place = x.place; call = x.call a }) (find (λ x. x.number == number) services)))
-found p id number caller a [] each = tt
-found p id number caller a (s ∷ services) each =
-    found-by (s.number == number) p id number caller a s services each.0 (found p id number caller a services each.1)
-
--- The rows, in the order of the table: `no`, it may not come from there; `any`, nothing is asked of it; `polls`, it
--- doesn't wait.
-
-infixr 10 ◌&◌
-◌&◌ : {A B : Type 0} → A → B → A × B
-one & rest = (one, rest)
-
-no : {X : Type 0} → false ≡ true → X
-no ok = absurd (false≢true ok)
-
-any : {X : Type 0} → X → Unit {0}
-any ok = tt
-
-polls : {X Y : Type 0} → X → true ≡ false → Y
-polls ok waits = absurd (true≢false waits)
-
-timed : {A B X : Type 0} → (A → B) → A → X → B
-timed f ok waits = f ok
+found p id number caller a [] may fit name = tt
+found p id number caller a (s ∷ services) may fit name =
+    let stop : Stop = stop_of (s.call a) in
+    found-by (s.number == number) p id number caller a s services
+    (may stop s.place (first-of (fits stop s.place) (all_fit a services) fit) (ap (λ l. slice_index_or l 0 (a0 a)) name))
+    (found p id number caller a services may (second-of (fits stop s.place) (all_fit a services) fit) (ap (drop 1) name))
 
 -- A handler only polls.
 
-handler-may : (p : Processor) (id : ℕ) (a : List ℕ) → EachMay p id Handler a table
-handler-may p id a =
-    no & no & no & no & no & no & no & no & no & no & no & no & no & no & no & no & no & no & no & no & no & no
-    & no & no & no & no & no & no & no & no & no & no & no & no & no & no & no & no & no & no & no & any
-    & any & any & any & any & polls & any & any & any & any & any & tt
+polls : {X : Type 0} (timeout : ℕ) → (timeout == 0) ≡ true → (timeout == 0) ≡ false → X
+polls timeout poll waits = absurd (true≢false (sym poll ∙ waits))
+
+handler-may : (p : Processor) (id first : ℕ) → PlacesMay p id Handler first
+handler-may p id first GoesOn from fit name ok = tt
+handler-may p id first (MayWait timeout) place.Waiting fit name ok = absurd (false≢true ok)
+handler-may p id first (MayWait timeout) _ fit name ok = polls timeout fit
+handler-may p id first Waits place.Waiting fit name ok = absurd (false≢true ok)
+handler-may p id first Waits _ fit name ok = absurd (false≢true fit)
+handler-may p id first (Names t) place.OnTask fit name ok = absurd (false≢true ok)
+handler-may p id first (Names t) _ fit name ok = absurd (false≢true fit)
+handler-may p id first Ends place.LockedTask fit name ok = absurd (false≢true ok)
+handler-may p id first Ends _ fit name ok = absurd (false≢true fit)
 
 -- A task that may wait, and one that may name itself, has a processor that isn't held.
 
@@ -95,23 +123,34 @@ task-names p id t runs handling stopped ok names =
     let own : is_oneself id t ≡ true = oneself id t names in
     free-task p id runs handling stopped (grind (arith, ok)) (grind (arith, ok, own))
 
-task-rows : (p : Processor) (id : ℕ) (a : List ℕ) → ((not p.locked && not p.disabled) ≡ true → IsFree p id) →
-    ((not p.locked && not (p.disabled && is_oneself id (a0 a))) ≡ true → (named id (a0 a) == id) ≡ true → IsFree p id) →
-    (true ≡ true → IsTaskOf p id) → EachMay p id (Task id p.locked p.disabled) a table
-task-rows p id a waits names leaves =
-    any & any & leaves & any & any & any & any & names & any & any & any & any & any & any & any
-    & timed waits & timed waits & any & any & any & names & any & waits & any & timed waits & polls
-    & timed waits & any & any & timed waits & polls & timed waits & timed waits & polls & timed waits
-    & any & timed waits & polls & timed waits & any & any & no & no & no & no & no & no & no & no & no & no
-    & no & tt
+-- what the gate says of a task
+record Gated (p : Processor) (id first : ℕ) : Type 0 where
+  waits : (not p.locked && not p.disabled) ≡ true → IsFree p id
+  named : (t : ℕ) → t ≡ first → (not p.locked && not (p.disabled && is_oneself id first)) ≡ true → (named id t == id) ≡ true → IsFree p id
+  leaves : IsTaskOf p id
 
-task-may : (p : Processor) (id : ℕ) (a : List ℕ) → p.running ≡ Some id → is_some p.handling ≡ false → p.stopped ≡ false →
-    EachMay p id (Task id p.locked p.disabled) a table
-task-may p id a runs handling stopped =
-    task-rows p id a (task-waits p id runs handling stopped) (task-names p id (a0 a) runs handling stopped)
-    (λ ok. record {
-      running = runs;
-      unmarked_free = none-held (is_some p.handling) false false p.stopped handling refl refl stopped;
+gated : (p : Processor) (id first : ℕ) → Gated p id first → PlacesMay p id (Task id p.locked p.disabled) first
+gated p id first is GoesOn from fit name ok = tt
+gated p id first is (MayWait timeout) place.Waiting fit name ok = λ waits. is.waits ok
+gated p id first is (MayWait timeout) _ fit name ok = polls timeout fit
+gated p id first is Waits place.Waiting fit name ok = is.waits ok
+gated p id first is Waits _ fit name ok = absurd (false≢true fit)
+gated p id first is (Names t) place.OnTask fit name ok = is.named t name ok
+gated p id first is (Names t) _ fit name ok = absurd (false≢true fit)
+gated p id first is Ends place.LockedTask fit name ok = is.leaves
+gated p id first is Ends _ fit name ok = absurd (false≢true fit)
+
+task-may : (p : Processor) (id first : ℕ) → p.running ≡ Some id → is_some p.handling ≡ false → p.stopped ≡ false →
+    PlacesMay p id (Task id p.locked p.disabled) first
+task-may p id first runs handling stopped =
+    gated p id first (record {
+      waits = task-waits p id runs handling stopped;
+      named = λ t is ok own. task-names p id t runs handling stopped
+          (subst (λ n. (not p.locked && not (p.disabled && is_oneself id n)) ≡ true) (sym is) ok) own;
+      leaves = record {
+        running = runs;
+        unmarked_free = none-held (is_some p.handling) false false p.stopped handling refl refl stopped;
+      };
     })
 
 -- who executes where no interrupt is handled is the running task
@@ -119,16 +158,16 @@ running-task : (running : Option ℕ) → is_some (executor_by running None) ≡
 running-task None is = absurd (false≢true is)
 running-task (Some id) is = refl
 
-may-by : (handling : Option ℕ) (p : Processor) (a : List ℕ) → p.handling ≡ handling → p.stopped ≡ false →
+may-by : (handling : Option ℕ) (p : Processor) (first : ℕ) → p.handling ≡ handling → p.stopped ≡ false →
     is_some (executor_by p.running handling) ≡ true →
-    EachMay p (unwrap_or p.running 0) (caller_by (unwrap_or p.running 0) p handling) a table
-may-by (Some line) p a is stopped executes = handler-may p (unwrap_or p.running 0) a
-may-by None p a is stopped executes =
-    task-may p (unwrap_or p.running 0) a (running-task p.running executes) (ap is_some is) stopped
+    PlacesMay p (unwrap_or p.running 0) (caller_by (unwrap_or p.running 0) p handling) first
+may-by (Some line) p first is stopped executes = handler-may p (unwrap_or p.running 0) first
+may-by None p first is stopped executes =
+    task-may p (unwrap_or p.running 0) first (running-task p.running executes) (ap is_some is) stopped
 
 -- the call that is read from a context of a processor on which somebody executes
 pub read-may : (p : Processor) (s : State) → p.stopped ≡ false → is_some (executor_by p.running p.handling) ≡ true →
     MayBe p (unwrap_or p.running 0) (read_of s (caller_by (unwrap_or p.running 0) p p.handling))
 read-may p s stopped executes =
     found p (unwrap_or p.running 0) (read s 2) (caller_by (unwrap_or p.running 0) p p.handling) (arguments_of s) table
-    (may-by p.handling p (arguments_of s) refl stopped executes)
+    (may-by p.handling p (a0 (arguments_of s)) refl stopped executes) (table-fits (arguments_of s)) (table-names (arguments_of s))

@@ -1,6 +1,6 @@
 -- What the service calls on objects make of waits.
-use Rattle.std.proofs.Common.{◌≡◌, ◌<◌, ℕ, List, [], ◌∷◌, drop, refl, sym, ap, subst, ◌∙◌}
-use Rattle.std.specs.Prelude.{Bool, true, false, ◌==◌, nat_lt, if◌then◌else◌, Option, None, Some, Result, Err}
+use Rattle.std.proofs.Common.{◌≡◌, ℕ, List, [], ◌∷◌, drop, refl, sym, ap, subst, ◌∙◌}
+use Rattle.std.specs.Prelude.{Bool, true, false, nat_lt, if◌then◌else◌, Option, None, Some, IfSome}
 use Rattle.std.specs.Option.{option_map}
 use Rattle.std.proofs.lemmas.Bool.{false≢true}
 use Rattle.brd_queue.specs.declared.entry.Entry.{Entry}
@@ -11,48 +11,25 @@ use Rattle.brd_objects.specs.declared.semaphore.Semaphore.{Semaphore}
 use Rattle.brd_objects.specs.declared.flag.Flag.{Flag}
 use Rattle.brd_objects.specs.declared.want.Want.{Want}
 use Rattle.brd_objects.specs.declared.sent.Sent.{Sent}
-use Rattle.brd_objects.specs.declared.sent.Sent.TheVariants.{Handed, Stored, Full}
+use Rattle.brd_objects.specs.declared.sent.Sent.TheVariants.{Stored, Full}
+use Rattle.brd_objects.specs.declared.sent.Received.{Received}
 use Rattle.brd_objects.specs.Waiters.{satisfies}
 use Rattle.brd_objects.specs.Table.{object_at, object_changed}
 use Rattle.brd_objects.specs.Semaphores.{returned_to, returned}
-use Rattle.brd_objects.specs.Flags.{pattern_left, taken_for, flag_awaited, all_released, with_all_released}
-use Rattle.brd_objects.specs.DataQueues.{DataQueueState, has_room, sent_to, sent, outcome_to, outcome, with_room_for, with_room, forced, forced_outcome, received_by, received, receipt_by, awaited_by_sender, awaited_by_receiver}
-use Rattle.brd_kernel.specs.declared.call.Ercd.{Ercd}
-use Rattle.brd_kernel.specs.declared.call.Ercd.TheVariants.{Tmout}
+use Rattle.brd_objects.specs.Flags.{pattern_left, taken_for, all_released, with_all_released}
+use Rattle.brd_objects.specs.DataQueues.{DataQueueState, has_room, sent_to, sent, outcome_to, outcome, with_room_for, with_room, forced, forced_outcome, received_by, received, receipt_by, receipt}
 use Rattle.brd_kernel.specs.Answer.{e_ok}
 use Rattle.brd_kernel.specs.Kernel.{KernelState}
-use Rattle.brd_kernel.specs.Row.{Row, Served, served}
-use Rattle.brd_kernel.specs.Waits.{due_by, released_in}
-use Rattle.brd_kernel.specs.Services.{or_waits, callers_priority, with_released, with_all_released_in, with_satisfied_of, handed_over, flag_got, queue_sent, queue_received}
+use Rattle.brd_kernel.specs.Waits.{released_in}
+use Rattle.brd_kernel.specs.Services.{with_released, with_all_released_in, with_satisfied_of, handed_over}
 use Rattle.brd_kernel.specs.Waiting.{plain, semaphore_waiters, flag_waiters, senders, receivers, standing_for}
 use Rattle.brd_kernel.proofs.ListLemmas.{either, among, apart-plain, apart-wanting, apart-kept, has-plain, priority_in-plain, priority_in-kept, released-there}
-use Rattle.brd_kernel.proofs.ServedLemmas.{Leaves, leaves-row, leaves-if}
-use Rattle.brd_kernel.proofs.StandingLemmas.{stands_in, IsTimedBy, StandsIn}
-use Rattle.brd_kernel.proofs.KeepingLemmas.{IsEntered, by-leaving-one}
+use Rattle.brd_kernel.proofs.StandingLemmas.{stands_in, StandsIn}
+use Rattle.brd_kernel.proofs.KeepingLemmas.{by-leaving-one}
 use Rattle.brd_kernel.proofs.WaitersLemmas.{semaphore-rewrites, flag-rewrites, sender-rewrites, receiver-rewrites}
-use Rattle.brd_kernel.proofs.WaitingLemmas.{released-keep, first-out, unchanged-keeps, wait-keeps, enters-flag, enters-sender, enters-receiver}
+use Rattle.brd_kernel.proofs.WaitingLemmas.{released-keep, first-out, unchanged-keeps}
 
--- A row of the service table keeps it, if what it does keeps it.
-
-abbrev pub Keeps : Result Served Ercd → Type 0
-Keeps says = Leaves (StandsIn []) says
-
-pub keeps-row : {X : Type 0} (row : Row X) → ((x : X) → row.object ≡ Some x → Keeps (row.does x)) → Keeps (served row)
-keeps-row row does = leaves-row (StandsIn []) row (λ x passes. does x passes.there)
-
-pub keeps-if : (test : Bool) (one other : Result Served Ercd) → (test ≡ true → Keeps one) → Keeps other → Keeps (if test then one else other)
-keeps-if test one other first second = leaves-if (StandsIn []) test one other first (λ is. second)
-
--- Waits that begin.
-
-abbrev pub HasTime : WaitReason → Type 0
-HasTime why = (due : Option ℕ) → IsTimedBy why due
-
-pub waits-keep : (k : KernelState) (caller : ℕ) (why : WaitReason) (timeout : ℕ) (entered : KernelState) → HasTime why →
-    (caller < 256 → IsEntered caller why (callers_priority k caller) (standing_for k) (standing_for entered)) → StandsIn [] k →
-    Keeps (or_waits k caller why timeout entered)
-waits-keep k caller why timeout entered timed stood was =
-    keeps-if (timeout == 0) (Err Tmout) _ (λ is. tt) (wait-keeps k caller why (due_by k timeout) entered (timed (due_by k timeout)) stood was)
+-- A wait for time has no list.
 
 pub sleep-none : (other : WaitReason) → stands_in reason.Sleep other ≡ false
 sleep-none other = refl
@@ -102,15 +79,10 @@ pattern-by : (test : Bool) (f : Flag) (pattern : ℕ) → (if test then record f
 pattern-by true f pattern = refl
 pattern-by false f pattern = refl
 
-pub keeps-got : (k : KernelState) (caller id : ℕ) (want : Want) (timeout : ℕ) (f : Flag) (got : Option ℕ) → object_at k.flags id ≡ Some f →
-    StandsIn [] k →
-    Keeps (flag_got k caller id want timeout got)
-keeps-got k caller id want timeout f (Some pattern) there was =
+pub taken-keeps : (k : KernelState) (id : ℕ) (want : Want) (f : Flag) → object_at k.flags id ≡ Some f → StandsIn [] k →
+    StandsIn [] (record k { flags = object_changed (taken_for want) k.flags id })
+taken-keeps k id want f there was =
     flag-stays (taken_for want) k id f there (pattern-by (satisfies f.pattern want) f (pattern_left f.clears f.pattern)) was
-keeps-got k caller id want timeout f None there was =
-    waits-keep k caller (reason.Flag id) timeout
-    (record k { flags = object_changed (flag_awaited caller (callers_priority k caller) want) k.flags id }) (λ due. tt)
-    (enters-flag k caller (callers_priority k caller) id want f there was) was
 
 all-released-keep : (k : KernelState) (ids : List ℕ) (second : ℕ) → StandsIn ids k → StandsIn [] (with_all_released_in k ids second)
 all-released-keep k [] second was = was
@@ -166,16 +138,6 @@ handed-keep f k id datum q w (first ∷ others) there is same also some was =
     ∙ ap (λ x. if stands_in (reason.Receive id) other then x.receivers else standing_for k other) is)
     (ap receivers there ∙ some) was)
 
-pub keeps-sent : (k : KernelState) (caller id datum timeout : ℕ) (q : DataQueueState) (what : Sent) → object_at k.queues id ≡ Some q → StandsIn [] k →
-    StandsIn [] (handed_over (record k { queues = object_changed (sent datum) k.queues id }) datum what) →
-    Keeps (queue_sent k caller id datum timeout what)
-keeps-sent k caller id datum timeout q (Handed task) there was handed = handed
-keeps-sent k caller id datum timeout q Stored there was handed = handed
-keeps-sent k caller id datum timeout q Full there was handed =
-    waits-keep k caller (reason.Send id) timeout
-    (record k { queues = object_changed (awaited_by_sender caller (callers_priority k caller) datum) k.queues id }) (λ due. tt)
-    (enters-sender k caller (callers_priority k caller) id datum q there was) was
-
 pub sent-keeps : (k : KernelState) (id datum : ℕ) (q : DataQueueState) → object_at k.queues id ≡ Some q → StandsIn [] k →
     StandsIn [] (handed_over (record k { queues = object_changed (sent datum) k.queues id }) datum (outcome q))
 sent-keeps k id datum q there was = handed-keep (sent datum) k id datum q q q.receivers there refl refl refl refl was
@@ -219,17 +181,19 @@ sender-leaves k id q stored first others there stored_is senders_are left same w
     ∙ ap (λ l. if stands_in (reason.Send id) other then plain l else standing_for k other) (ap (λ x. x.senders) is ∙ left))
     (ap senders there ∙ ap plain senders_are) was)
 
-pub received-keep : (k : KernelState) (caller id timeout : ℕ) (q : DataQueueState) (stored : List ℕ) (ss : List (Entry ℕ)) →
+taken-from : (k : KernelState) (id : ℕ) (q : DataQueueState) (stored : List ℕ) (ss : List (Entry ℕ)) →
     object_at k.queues id ≡ Some q → q.stored ≡ stored → q.senders ≡ ss → StandsIn [] k →
-    Keeps (queue_received k caller id timeout (receipt_by stored ss))
-received-keep k caller id timeout q [] [] there stored_is senders_are was =
-    waits-keep k caller (reason.Receive id) timeout
-    (record k { queues = object_changed (awaited_by_receiver caller (callers_priority k caller)) k.queues id }) (λ due. tt)
-    (enters-receiver k caller (callers_priority k caller) id q there was) was
-received-keep k caller id timeout q [] (first ∷ others) there stored_is senders_are was =
-    sender-leaves k id q [] first others there stored_is senders_are refl refl was
-received-keep k caller id timeout q (oldest ∷ newer) [] there stored_is senders_are was =
+    IfSome (receipt_by stored ss) (λ it. StandsIn [] (with_released (record k { queues = object_changed received k.queues id }) it.sender))
+taken-from k id q [] [] there stored_is senders_are was = tt
+taken-from k id q [] (first ∷ others) there stored_is senders_are was = sender-leaves k id q [] first others there stored_is senders_are refl refl was
+taken-from k id q (oldest ∷ newer) [] there stored_is senders_are was =
     queue-stays received k id q there (ap (λ x. x.senders) (both-are q (oldest ∷ newer) [] stored_is senders_are))
     (ap (λ x. x.receivers) (both-are q (oldest ∷ newer) [] stored_is senders_are)) was
-received-keep k caller id timeout q (oldest ∷ newer) (first ∷ others) there stored_is senders_are was =
+taken-from k id q (oldest ∷ newer) (first ∷ others) there stored_is senders_are was =
     sender-leaves k id q (oldest ∷ newer) first others there stored_is senders_are refl refl was
+
+pub received-keeps : (k : KernelState) (id : ℕ) (q : DataQueueState) (it : Received) → object_at k.queues id ≡ Some q → receipt q ≡ Some it → StandsIn [] k →
+    StandsIn [] (with_released (record k { queues = object_changed received k.queues id }) it.sender)
+received-keeps k id q it there is was =
+    subst (λ what. IfSome what (λ (x : Received). StandsIn [] (with_released (record k { queues = object_changed received k.queues id }) x.sender))) is
+    (taken-from k id q q.stored q.senders there refl refl was)

@@ -1,7 +1,7 @@
 -- A change of an object or a task, a wait that begins or ends, a tick and an exception leave nobody waiting for what is
 -- there, and the waiters of each object in order.
 use Rattle.std.proofs.Common.{◌≡◌, ℕ, List, [], ◌∷◌, refl, sym, subst, ◌∙◌}
-use Rattle.std.specs.Prelude.{true, false, ◌==◌, is_some, Option, None, Some, IfSome, Err}
+use Rattle.std.specs.Prelude.{true, false, is_some, Option, None, Some, IfSome}
 use Rattle.std.proofs.lemmas.Bool.{false≢true}
 use Rattle.brd_tasks.specs.declared.status.WaitReason.{WaitReason}
 use Rattle.brd_tasks.specs.declared.status.WaitReason.TheVariants as reason
@@ -17,10 +17,9 @@ use Rattle.brd_objects.specs.Semaphores.{semaphore_left, semaphore_reordered}
 use Rattle.brd_objects.specs.Flags.{joined, flag_left, flag_reordered, all_released, with_all_released}
 use Rattle.brd_objects.specs.DataQueues.{DataQueueState, data_queue_left, data_queue_reordered}
 use Rattle.brd_kernel.specs.declared.processor.Processor.{Processor}
-use Rattle.brd_kernel.specs.declared.call.Ercd.TheVariants.{Tmout}
 use Rattle.brd_kernel.specs.Answer.{e_ok}
 use Rattle.brd_kernel.specs.Kernel.{KernelState, with_tasks, with_processor, processor_at, unmarked}
-use Rattle.brd_kernel.specs.Waits.{due_by, can_wait, with_wait, released_in, reason_of, unlisted_from, unlisted, broken_off, ended_in, reordered_in, answer_by, timed_out, all_timed_out, ticked_on, faulted_task, faulted_in, ended_by_fault}
+use Rattle.brd_kernel.specs.Waits.{can_wait, with_wait, released_in, reason_of, unlisted_from, unlisted, broken_off, ended_in, reordered_in, answer_by, timed_out, all_timed_out, ticked_on, faulted_task, faulted_in, ended_by_fault}
 use Rattle.brd_kernel.specs.Services as table
 use Rattle.brd_kernel.specs.Services.{is_sleep, or_waits, with_released, with_all_released_in, with_satisfied_of, handed_over}
 use Rattle.brd_kernel.specs.Waiting.{SemaphoreIsKept, FlagIsKept, QueueIsKept, EachIsKept}
@@ -29,7 +28,6 @@ use Rattle.brd_kernel.proofs.TableLemmas.{one-keeps, all-keep, changed-twice, ch
 use Rattle.brd_kernel.proofs.ObjectLemmas.{semaphore-left, semaphore-reordered, flag-left, flag-reordered, set-kept, queue-left, queue-reordered}
 use Rattle.brd_kernel.proofs.SleeperLemmas.{AreKept}
 use Rattle.brd_kernel.proofs.SleeperLemmas as sleeper
-use Rattle.brd_kernel.proofs.ServedLemmas.{Leaves, leaves-if}
 
 -- Objects and tasks that are changed.
 
@@ -155,12 +153,6 @@ pub wait-kept : (k : KernelState) (id : ℕ) (why : WaitReason) (due : Option �
 wait-kept k id why due entered may was now =
     either EachIsKept (can_wait (task_at k.tasks id)) _ k
     (others-kept entered _ refl refl refl (sleeper.blocked-kept why k.tasks id may was.sleepers) now) was
-
-pub waits-kept : (k : KernelState) (caller : ℕ) (why : WaitReason) (timeout : ℕ) (entered : KernelState) → MaySleep k caller why → EachIsKept k →
-    EachIsKept entered →
-    Leaves EachIsKept (or_waits k caller why timeout entered)
-waits-kept k caller why timeout entered may was now =
-    leaves-if EachIsKept (timeout == 0) (Err Tmout) _ (λ is. tt) (λ is. wait-kept k caller why (due_by k timeout) entered may was now)
 
 pub no-sleep : (k : KernelState) (id : ℕ) (why : WaitReason) → is_sleep (Some why) ≡ false → MaySleep k id why
 no-sleep k id why other = λ task there asleep. absurd (false≢true (sym other ∙ asleep))

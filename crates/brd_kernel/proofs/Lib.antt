@@ -7,6 +7,7 @@ pub mod MakingLemmas
 pub mod WaitLemmas
 pub mod ListLemmas
 pub mod ServedLemmas
+pub mod WalkLemmas
 pub mod TableLemmas
 pub mod OrderLemmas
 pub mod WantLemmas

@@ -6,39 +6,35 @@ use Rattle.brd_exec.specs.State.{State}
 use Rattle.brd_tasks.specs.declared.status.WaitReason.{WaitReason}
 use Rattle.brd_tasks.specs.declared.status.WaitReason.TheVariants as reason
 use Rattle.brd_tasks.specs.declared.task.Task.{Task}
-use Rattle.brd_tasks.specs.declared.task.Request.TheVariants.{Assigned, On}
 use Rattle.brd_tasks.specs.Status.{waiting_of, suspended, resumed}
 use Rattle.brd_tasks.specs.Tasks.{task_at, activated, through, changed, on_processor, with_context, noted, with_wakeup, without_activation, turned}
 use Rattle.brd_time.specs.Time.{Time, last_count, advanced, due_from}
 use Rattle.brd_objects.specs.declared.semaphore.Semaphore.{Semaphore}
-use Rattle.brd_objects.specs.declared.flag.Flag.{Flag}
 use Rattle.brd_objects.specs.Table.{object_at, object_changed}
-use Rattle.brd_objects.specs.Semaphores.{has_one, taken, semaphore_awaited}
-use Rattle.brd_objects.specs.Flags.{joined, masked, pattern_for}
-use Rattle.brd_objects.specs.DataQueues.{DataQueueState, outcome}
+use Rattle.brd_objects.specs.Semaphores.{taken}
+use Rattle.brd_objects.specs.Flags.{joined, masked}
+use Rattle.brd_objects.specs.DataQueues.{DataQueueState}
 use Rattle.brd_kernel.specs.declared.processor.Processor.{Processor}
 use Rattle.brd_kernel.specs.declared.call.Call.{Call}
-use Rattle.brd_kernel.specs.declared.call.Call.TheVariants as call
-use Rattle.brd_kernel.specs.declared.call.Ercd.TheVariants.{Rlwai}
-use Rattle.brd_kernel.specs.Answer.{e_ok, code_of}
+use Rattle.brd_kernel.specs.Answer.{e_ok}
 use Rattle.brd_kernel.specs.declared.processor.Executor.{Executor}
 use Rattle.brd_kernel.specs.declared.processor.Executor.TheVariants as executor
 use Rattle.brd_kernel.specs.Dispatch.{dispatched}
 use Rattle.brd_kernel.specs.Kernel.{KernelState, with_tasks, processor_at, unmarked, with_context_of, with_pending, handles, accepted_line}
-use Rattle.brd_kernel.specs.Waits.{due_after, reason_of, ended_in, answer_by, timed_out, all_timed_out, ticked_on, ticked, faulted_task, faulted_in, ended_by_fault}
+use Rattle.brd_kernel.specs.Waits.{reason_of, ended_in, answer_by, timed_out, all_timed_out, ticked_on, ticked, faulted_task, faulted_in, ended_by_fault}
 use Rattle.brd_kernel.specs.Services as table
 use Rattle.brd_kernel.specs.Services.{named, unmarked_on, handler_ended, serve_by, serve_of, caller_on, or_waits, callers_priority, with_released, with_all_released_in, with_satisfied_of, handed_over, flag_got, queue_sent, queue_received}
 use Rattle.brd_kernel.specs.Waiting.{standing_for, WaitsAreKept}
 use Rattle.brd_kernel.proofs.ListLemmas.{either}
-use Rattle.brd_kernel.proofs.ServedLemmas.{leaves-or_refused}
+use Rattle.brd_kernel.proofs.WalkLemmas.{Law, in_semaphore, in_flag, in_senders, in_receivers, serve-always}
 use Rattle.brd_kernel.proofs.SleeperLemmas.{AreKept}
 use Rattle.brd_kernel.proofs.EachLemmas.{others-kept, tasks-kept, ticked-kept, fault-kept}
 use Rattle.brd_kernel.proofs.EachCallLemmas.{serve-kept}
 use Rattle.brd_kernel.proofs.StandingLemmas.{waits_by, waits, StandsIn, stands, kept}
 use Rattle.brd_kernel.proofs.KeepingLemmas.{by-lists, by-count}
 use Rattle.brd_kernel.proofs.RowLemmas.{noted-before, activated-before, migrated-before, turned-before, suspended-keeps, resumed-keeps, through-before}
-use Rattle.brd_kernel.proofs.WaitingLemmas.{lists-by, parts-keep, processor-keeps, tasks-keep, released-keep, broken-keeps, ended-keeps, asleep-out, wait-keeps, enters-none, enters-semaphore, priority-keeps}
-use Rattle.brd_kernel.proofs.CallLemmas.{Keeps, keeps-row, keeps-if, waits-keep, sleep-none, delay-none, taken-by, semaphore-stays, returned-keeps, flag-stays, keeps-got, satisfied-keep, keeps-sent, sent-keeps, forced-keeps, received-keep}
+use Rattle.brd_kernel.proofs.WaitingLemmas.{lists-by, parts-keep, processor-keeps, tasks-keep, released-keep, broken-keeps, ended-keeps, asleep-out, wait-keeps, enters-none, enters-semaphore, enters-flag, enters-sender, enters-receiver, priority-keeps}
+use Rattle.brd_kernel.proofs.CallLemmas.{sleep-none, delay-none, taken-by, semaphore-stays, returned-keeps, flag-stays, taken-keeps, satisfied-keep, sent-keeps, forced-keeps, received-keeps}
 
 -- Service calls.
 
@@ -58,97 +54,53 @@ asleep-by k id task (Some (reason.Flag object)) there waiting asleep was = absur
 asleep-by k id task (Some (reason.Send object)) there waiting asleep was = absurd (false≢true asleep)
 asleep-by k id task (Some (reason.Receive object)) there waiting asleep was = absurd (false≢true asleep)
 
-turned-keeps : (k : KernelState) (cpu priority : ℕ) → StandsIn [] k → StandsIn [] (with_tasks k (turned k.tasks cpu priority))
-turned-keeps k cpu priority was = tasks-keep k (turned k.tasks cpu priority) (turned-before k.tasks cpu priority) was
-
-keeps-serve : (k : KernelState) (cpu caller : ℕ) (c : Call) → StandsIn [] k → Keeps (serve_by k cpu caller c)
-keeps-serve k cpu caller (call.ActTsk t) was = keeps-row (table.act_tsk k (named caller t))
-    (λ task there. tasks-keep k (activated k.tasks (named caller t) Assigned) (activated-before k.tasks (named caller t) Assigned) was)
-keeps-serve k cpu caller (call.IactTsk t) was =
-    keeps-row (table.act_tsk k t) (λ task there. tasks-keep k (activated k.tasks t Assigned) (activated-before k.tasks t Assigned) was)
-keeps-serve k cpu caller (call.MactTsk t to) was = keeps-row (table.mact_tsk k (named caller t) to)
-    (λ task there. tasks-keep k (activated k.tasks (named caller t) (On to)) (activated-before k.tasks (named caller t) (On to)) was)
-keeps-serve k cpu caller (call.ImactTsk t to) was =
-    keeps-row (table.mact_tsk k t to) (λ task there. tasks-keep k (activated k.tasks t (On to)) (activated-before k.tasks t (On to)) was)
-keeps-serve k cpu caller (call.MigTsk t to) was = keeps-row (table.mig_tsk k cpu (named caller t) to)
-    (λ task there. tasks-keep k (changed (on_processor to) k.tasks (named caller t)) (migrated-before k.tasks (named caller t) to) was)
-keeps-serve k cpu caller (call.RotRdq priority) was = keeps-row (table.rot_rdq k cpu caller priority)
-    (λ p there. turned-keeps k cpu (table.priority_or_callers priority (callers_priority k caller)) was)
-keeps-serve k cpu caller (call.IrotRdq priority) was = keeps-row (table.irot_rdq k cpu priority) (λ p there. turned-keeps k cpu priority was)
-keeps-serve k cpu caller call.DisDsp was = keeps-row (table.mark_dsp k cpu true)
-    (λ (p : Processor) there. processor-keeps k cpu (record p { disabled = true }) was)
-keeps-serve k cpu caller call.EnaDsp was = keeps-row (table.mark_dsp k cpu false)
-    (λ (p : Processor) there. processor-keeps k cpu (record p { disabled = false }) was)
-keeps-serve k cpu caller call.LocCpu was = keeps-row (table.mark_cpu k cpu true)
-    (λ (p : Processor) there. processor-keeps k cpu (record p { locked = true }) was)
-keeps-serve k cpu caller call.UnlCpu was = keeps-row (table.mark_cpu k cpu false)
-    (λ (p : Processor) there. processor-keeps k cpu (record p { locked = false }) was)
-keeps-serve k cpu caller (call.CanAct t) was = keeps-row (table.can_act k (named caller t))
-    (λ task there. tasks-keep k (noted without_activation k.tasks (named caller t))
-    (noted-before without_activation k.tasks (named caller t) (λ x. refl)) was)
-keeps-serve k cpu caller call.ExtTsk was =
-    keeps-row (table.ext_tsk k cpu caller) (λ task there. exit-keeps (ended_in k caller) cpu (processor_at k cpu) (ended-keeps k caller was))
-keeps-serve k cpu caller (call.TerTsk t) was = keeps-row (table.ter_tsk k cpu caller t) (λ task there. ended-keeps k t was)
-keeps-serve k cpu caller (call.ChgPri t priority) was = keeps-row (table.chg_pri k (named caller t) priority)
-    (λ (task : Task) there. priority-keeps k (named caller t) (table.priority_or_initial priority task) task (waiting_of task.status) there refl was)
-keeps-serve k cpu caller (call.GetPri t) was = keeps-row (table.get_pri k (named caller t)) (λ task there. was)
-keeps-serve k cpu caller call.GetPid was = keeps-row (table.get_pid k cpu) (λ x there. was)
-keeps-serve k cpu caller call.GetTid was = keeps-row (table.get_tid k caller) (λ x there. was)
-keeps-serve k cpu caller (call.TslpTsk timeout) was = keeps-row (table.tslp_tsk k caller timeout)
-    (λ (task : Task) there. keeps-if task.wakeup _ _
-    (λ is. tasks-keep k (noted (with_wakeup false) k.tasks caller) (noted-before (with_wakeup false) k.tasks caller (λ x. refl)) was)
-    (waits-keep k caller reason.Sleep timeout k (λ due. tt)
-    (λ small. enters-none caller (callers_priority k caller) reason.Sleep (standing_for k) sleep-none was.apart) was))
-keeps-serve k cpu caller (call.WupTsk t) was = keeps-row (table.wup_tsk k (named caller t))
-    (λ (task : Task) there. keeps-if (table.is_asleep task.status) _ _
-    (λ asleep. released-keep k (named caller t) e_ok None [] (asleep-by k (named caller t) task (waiting_of task.status) there refl asleep was))
-    (tasks-keep k (noted (with_wakeup true) k.tasks (named caller t)) (noted-before (with_wakeup true) k.tasks (named caller t) (λ x. refl)) was))
-keeps-serve k cpu caller (call.IwupTsk t) was = keeps-row (table.wup_tsk k t)
-    (λ (task : Task) there. keeps-if (table.is_asleep task.status) _ _
-    (λ asleep. released-keep k t e_ok None [] (asleep-by k t task (waiting_of task.status) there refl asleep was))
-    (tasks-keep k (noted (with_wakeup true) k.tasks t) (noted-before (with_wakeup true) k.tasks t (λ x. refl)) was))
-keeps-serve k cpu caller (call.CanWup t) was = keeps-row (table.can_wup k (named caller t))
-    (λ task there. tasks-keep k (noted (with_wakeup false) k.tasks (named caller t))
-    (noted-before (with_wakeup false) k.tasks (named caller t) (λ x. refl)) was)
-keeps-serve k cpu caller (call.RelWai t) was = keeps-row (table.rel_wai k t) (λ task there. broken-keeps k t (code_of Rlwai) was)
-keeps-serve k cpu caller (call.SusTsk t) was = keeps-row (table.sus_tsk k cpu (named caller t))
-    (λ task there. tasks-keep k (through suspended k.tasks (named caller t)) (through-before suspended k.tasks (named caller t) suspended-keeps) was)
-keeps-serve k cpu caller (call.RsmTsk t) was = keeps-row (table.rsm_tsk k t)
-    (λ task there. tasks-keep k (through resumed k.tasks t) (through-before resumed k.tasks t resumed-keeps) was)
-keeps-serve k cpu caller (call.DlyTsk time) was = keeps-row (table.dly_tsk k caller time)
-    (λ task there. wait-keeps k caller reason.Delay (Some (due_after k time)) k refl
-    (λ small. enters-none caller (callers_priority k caller) reason.Delay (standing_for k) delay-none was.apart) was)
-keeps-serve k cpu caller (call.SigSem id) was =
-    keeps-row (table.sig_sem k id) (λ (s : Semaphore) there. returned-keeps k id s s.waiters there refl was)
-keeps-serve k cpu caller (call.TwaiSem id timeout) was = keeps-row (table.twai_sem k caller id timeout)
-    (λ (s : Semaphore) there. keeps-if (has_one s) _ _ (λ is. semaphore-stays taken k id s there (taken-by (s.count == 0) s _) was)
-    (waits-keep k caller (reason.Semaphore id) timeout
-    (record k { semaphores = object_changed (semaphore_awaited caller (callers_priority k caller)) k.semaphores id }) (λ due. tt)
-    (enters-semaphore k caller (callers_priority k caller) id s there was) was))
-keeps-serve k cpu caller (call.SetFlg id bits) was = keeps-row (table.set_flg k id bits)
-    (λ (f : Flag) there. let set : KernelState = record k { flags = object_changed (joined bits) k.flags id } in
-    satisfied-keep set id (object_at set.flags id) refl (flag-stays (joined bits) k id f there refl was))
-keeps-serve k cpu caller (call.ClrFlg id bits) was =
-    keeps-row (table.clr_flg k id bits) (λ (f : Flag) there. flag-stays (masked bits) k id f there refl was)
-keeps-serve k cpu caller (call.TwaiFlg id bits mode timeout) was = keeps-row (table.twai_flg k caller id bits mode timeout)
-    (λ (f : Flag) there. keeps-got k caller id (table.want_of bits mode) timeout f (pattern_for (table.want_of bits mode) f) there was)
-keeps-serve k cpu caller (call.TsndDtq id datum timeout) was = keeps-row (table.tsnd_dtq k caller id datum timeout)
-    (λ (q : DataQueueState) there. keeps-sent k caller id datum timeout q (outcome q) there was (sent-keeps k id datum q there was))
-keeps-serve k cpu caller (call.FsndDtq id datum) was =
-    keeps-row (table.fsnd_dtq k id datum) (λ (q : DataQueueState) there. forced-keeps k id datum q there was)
-keeps-serve k cpu caller (call.TrcvDtq id timeout) was = keeps-row (table.trcv_dtq k caller id timeout)
-    (λ (q : DataQueueState) there. received-keep k caller id timeout q q.stored q.senders there refl refl was)
-keeps-serve k cpu caller (call.PutChr word) was =
-    keeps-row (table.put_chr k word) (λ x there. parts-keep k (record k { console = k.console ++ word % 2 ^ 8 ∷ [] }) refl refl refl refl refl was)
-keeps-serve k cpu caller call.ExtKer was =
-    keeps-row (table.ext_ker k) (λ x there. parts-keep k (record k { off = true }) refl refl refl refl refl was)
-keeps-serve k cpu caller call.RetInt was =
-    keeps-row (table.ret_int k cpu) (λ (p : Processor) there. parts-keep k (handler_ended k cpu p) refl refl refl refl refl was)
+-- what each effect makes of it
+stands-law : (k : KernelState) (cpu caller : ℕ) → StandsIn [] k → Law (Unit {0}) (Unit {0}) (StandsIn []) k cpu caller
+stands-law k cpu caller was = record {
+  stays = was;
+  activates = λ id request of. tasks-keep k (activated k.tasks id request) (activated-before k.tasks id request) was;
+  cancels = λ id. tasks-keep k (noted without_activation k.tasks id) (noted-before without_activation k.tasks id (λ x. refl)) was;
+  wakes = λ id task there awake. tasks-keep k (noted (with_wakeup true) k.tasks id) (noted-before (with_wakeup true) k.tasks id (λ x. refl)) was;
+  unwakes = λ id. tasks-keep k (noted (with_wakeup false) k.tasks id) (noted-before (with_wakeup false) k.tasks id (λ x. refl)) was;
+  exits = λ may. exit-keeps (ended_in k caller) cpu (processor_at k cpu) (ended-keeps k caller was);
+  ends = λ id task there held other. ended-keeps k id was;
+  prioritizes = λ id priority (task : Task) there. priority-keeps k id priority task (waiting_of task.status) there refl was;
+  migrates = λ id to task there held absent may. tasks-keep k (changed (on_processor to) k.tasks id) (migrated-before k.tasks id to) was;
+  suspends = λ id task there held may. tasks-keep k (through suspended k.tasks id) (through-before suspended k.tasks id suspended-keeps) was;
+  resumes = λ id. tasks-keep k (through resumed k.tasks id) (through-before resumed k.tasks id resumed-keeps) was;
+  rouses = λ id (task : Task) there asleep. released-keep k id e_ok None [] (asleep-by k id task (waiting_of task.status) there refl asleep was);
+  breaks = λ id answer. broken-keeps k id answer was;
+  sleeps = λ due task there none may. wait-keeps k caller reason.Sleep due k tt
+      (λ small. enters-none caller (callers_priority k caller) reason.Sleep (standing_for k) sleep-none was.apart) was;
+  delays = λ due may. wait-keeps k caller reason.Delay (Some due) k refl
+      (λ small. enters-none caller (callers_priority k caller) reason.Delay (standing_for k) delay-none was.apart) was;
+  rotates = λ priority p there. tasks-keep k (turned k.tasks cpu priority) (turned-before k.tasks cpu priority) was;
+  marks = λ p q there same. processor-keeps k cpu q was;
+  returns = λ p there. parts-keep k (handler_ended k cpu p) refl refl refl refl refl was;
+  signals = λ id (s : Semaphore) there. returned-keeps k id s s.waiters there refl was;
+  takes = λ id (s : Semaphore) there. semaphore-stays taken k id s there (taken-by (s.count == 0) s _) was;
+  awaits_semaphore = λ id due s there none may. wait-keeps k caller (reason.Semaphore id) due (in_semaphore k caller id) tt
+      (enters-semaphore k caller (callers_priority k caller) id s there was) was;
+  sets = λ id bits f there. let set : KernelState = record k { flags = object_changed (joined bits) k.flags id } in
+      satisfied-keep set id (object_at set.flags id) refl (flag-stays (joined bits) k id f there refl was);
+  clears = λ id bits f there. flag-stays (masked bits) k id f there refl was;
+  gets = λ id want f there. taken-keeps k id want f there was;
+  awaits_flag = λ id want due f there none some may. wait-keeps k caller (reason.Flag id) due (in_flag k caller id want) tt
+      (enters-flag k caller (callers_priority k caller) id want f there was) was;
+  sends = λ id datum q there. sent-keeps k id datum q there was;
+  awaits_send = λ id datum due q there full may. wait-keeps k caller (reason.Send id) due (in_senders k caller id datum) tt
+      (enters-sender k caller (callers_priority k caller) id datum q there was) was;
+  forces = λ id datum q there. forced-keeps k id datum q there was;
+  receives = λ id (q : DataQueueState) it there is. received-keeps k id q it there is was;
+  awaits_receive = λ id due q there none may. wait-keeps k caller (reason.Receive id) due (in_receivers k caller id) tt
+      (enters-receiver k caller (callers_priority k caller) id q there was) was;
+  writes = λ word. parts-keep k (record k { console = k.console ++ word % 2 ^ 8 ∷ [] }) refl refl refl refl refl was;
+  ends_all = parts-keep k (record k { off = true }) refl refl refl refl refl was;
+}
 
 pub serve-keeps : (k : KernelState) (cpu : ℕ) (c : Call) → WaitsAreKept k → WaitsAreKept (serve_of k cpu c).kernel
 serve-keeps k cpu c was =
-    kept (serve_of k cpu c).kernel
-    (leaves-or_refused (StandsIn []) k (serve_by k cpu (caller_on k cpu) c) (stands k was) (keeps-serve k cpu (caller_on k cpu) c (stands k was)))
+    kept (serve_of k cpu c).kernel (serve-always (StandsIn []) k cpu (stands-law k cpu (caller_on k cpu) (stands k was)) c)
     (serve-kept k cpu c was.each)
 
 -- Ticks.

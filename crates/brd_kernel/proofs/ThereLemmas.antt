@@ -12,11 +12,11 @@ pub both : (one other : Bool) → one ≡ true → other ≡ true → (one && ot
 both true other first second = second
 both false other first second = first
 
-first-of : (one other : Bool) → (one && other) ≡ true → one ≡ true
+pub first-of : (one other : Bool) → (one && other) ≡ true → one ≡ true
 first-of true other is = refl
 first-of false other is = is
 
-second-of : (one other : Bool) → (one && other) ≡ true → other ≡ true
+pub second-of : (one other : Bool) → (one && other) ≡ true → other ≡ true
 second-of true other is = is
 second-of false other is = let wrong : ⊥ = cc in absurd wrong
 

@@ -1,0 +1,292 @@
+-- One walk over the service table, for every law of what a service call leaves. A law says what holds after each effect
+-- that a call can have (`Law`); the walk says of each call which effect it has. A call that has an effect which others
+-- have already is one case here, and nothing in any law.
+use Rattle.std.proofs.Common.{◌≡◌, ◌≢◌, ℕ, ◌%◌, ◌^◌, [], ◌∷◌, ◌++◌, refl, subst, arith}
+use Rattle.std.specs.Prelude.{Bool, true, false, ◌==◌, ◌||◌, nat_lt, Option, None, Some, Err}
+use Rattle.std.proofs.lemmas.Bool.{or_parts}
+use Rattle.std.proofs.lemmas.Bool.Decides.{nat_tests}
+use Rattle.brd_tasks.specs.declared.status.WaitReason.{WaitReason}
+use Rattle.brd_tasks.specs.declared.status.WaitReason.TheVariants as reason
+use Rattle.brd_tasks.specs.declared.task.Task.{Task}
+use Rattle.brd_tasks.specs.declared.task.Request.{Request}
+use Rattle.brd_tasks.specs.declared.task.Request.TheVariants.{Assigned, On}
+use Rattle.brd_tasks.specs.Status.{waiting_of, is_dormant, suspended, resumed}
+use Rattle.brd_tasks.specs.Tasks.{task_at, activated, through, changed, on_processor, noted, with_wakeup, without_activation, turned}
+use Rattle.brd_objects.specs.declared.semaphore.Semaphore.{Semaphore}
+use Rattle.brd_objects.specs.declared.flag.Flag.{Flag}
+use Rattle.brd_objects.specs.declared.want.Want.{Want}
+use Rattle.brd_objects.specs.declared.sent.Sent.{Sent}
+use Rattle.brd_objects.specs.declared.sent.Sent.TheVariants.{Handed, Stored, Full}
+use Rattle.brd_objects.specs.declared.sent.Received.{Received}
+use Rattle.brd_objects.specs.Table.{object_at, object_changed}
+use Rattle.brd_objects.specs.Semaphores.{returned, first_waiter, has_one, taken, semaphore_awaited}
+use Rattle.brd_objects.specs.Flags.{joined, masked, pattern_for, taken_for, flag_awaited}
+use Rattle.brd_objects.specs.DataQueues.{DataQueueState, sent, outcome, forced, forced_outcome, received, receipt, awaited_by_sender, awaited_by_receiver}
+use Rattle.brd_kernel.specs.declared.processor.Processor.{Processor}
+use Rattle.brd_kernel.specs.declared.call.Call.{Call}
+use Rattle.brd_kernel.specs.declared.call.Call.TheVariants as call
+use Rattle.brd_kernel.specs.declared.call.Ercd.TheVariants.{Rlwai, Tmout}
+use Rattle.brd_kernel.specs.Answer.{e_ok, code_of}
+use Rattle.brd_kernel.specs.Kernel.{KernelState, with_tasks, with_processor, processor_at}
+use Rattle.brd_kernel.specs.Waits.{is_bad_timeout, due_by, due_after, with_wait, released_in, broken_off, ended_in}
+use Rattle.brd_kernel.specs.Row.{served}
+use Rattle.brd_kernel.specs.Services as table
+use Rattle.brd_kernel.specs.Services.{named, is_asleep, is_bad_want, is_held_elsewhere, is_no_processor, or_waits, callers_priority, with_released, with_satisfied_released, handed_over, with_priority_in, flag_got, queue_sent, queue_received, unmarked_on, handler_ended, serve_by, serve_of, caller_on}
+use Rattle.brd_kernel.proofs.ServedLemmas.{Leaves, leaves-row, leaves-if, leaves-or_refused}
+
+-- a request names a processor of the board, if it names one
+abbrev pub IsOfBoard : KernelState → Request → Type 0
+IsOfBoard k Assigned = Unit {0}
+IsOfBoard k (On to) = is_no_processor k to ≡ false
+
+-- the caller stands in the list of what it begins to wait for
+
+abbrev pub in_semaphore : KernelState → ℕ → ℕ → KernelState
+in_semaphore k caller id = record k { semaphores = object_changed (semaphore_awaited caller (callers_priority k caller)) k.semaphores id }
+
+abbrev pub in_flag : KernelState → ℕ → ℕ → Want → KernelState
+in_flag k caller id want = record k { flags = object_changed (flag_awaited caller (callers_priority k caller) want) k.flags id }
+
+abbrev pub in_senders : KernelState → ℕ → ℕ → ℕ → KernelState
+in_senders k caller id datum = record k { queues = object_changed (awaited_by_sender caller (callers_priority k caller) datum) k.queues id }
+
+abbrev pub in_receivers : KernelState → ℕ → ℕ → KernelState
+in_receivers k caller id = record k { queues = object_changed (awaited_by_receiver caller (callers_priority k caller)) k.queues id }
+
+-- What a law says of each effect that a call of a caller on a processor can have: `Q` is what holds after it. `Free` is
+-- what is known where the caller stops running (it waits, or suspends or migrates itself), `End` where it ends.
+pub record Law (Free End : Type 0) (Q : KernelState → Type 0) (k : KernelState) (cpu caller : ℕ) : Type 0 where
+  -- nothing changes
+  pub stays : Q k
+  -- of a task
+  pub activates : (id : ℕ) (request : Request) → IsOfBoard k request → Q (with_tasks k (activated k.tasks id request))
+  pub cancels : (id : ℕ) → Q (with_tasks k (noted without_activation k.tasks id))
+  pub wakes : (id : ℕ) (task : Task) → task_at k.tasks id ≡ Some task → is_asleep task.status ≡ false →
+      Q (with_tasks k (noted (with_wakeup true) k.tasks id))
+  pub unwakes : (id : ℕ) → Q (with_tasks k (noted (with_wakeup false) k.tasks id))
+  pub exits : End → Q (unmarked_on (ended_in k caller) cpu (processor_at k cpu))
+  pub ends : (id : ℕ) (task : Task) → task_at k.tasks id ≡ Some task → is_held_elsewhere k cpu id task ≡ false → (id == caller) ≡ false →
+      Q (ended_in k id)
+  pub prioritizes : (id priority : ℕ) (task : Task) → task_at k.tasks id ≡ Some task → Q (with_priority_in k id priority (waiting_of task.status))
+  pub migrates : (id to : ℕ) (task : Task) → task_at k.tasks id ≡ Some task → is_held_elsewhere k cpu id task ≡ false →
+      is_no_processor k to ≡ false → ((id == caller) ≡ true → Free) →
+      Q (with_tasks k (changed (on_processor to) k.tasks id))
+  pub suspends : (id : ℕ) (task : Task) → task_at k.tasks id ≡ Some task → is_held_elsewhere k cpu id task ≡ false →
+      ((id == caller) ≡ true → Free) →
+      Q (with_tasks k (through suspended k.tasks id))
+  pub resumes : (id : ℕ) → Q (with_tasks k (through resumed k.tasks id))
+  -- of a wait for time
+  pub rouses : (id : ℕ) (task : Task) → task_at k.tasks id ≡ Some task → is_asleep task.status ≡ true → Q (released_in k id e_ok None)
+  pub breaks : (id answer : ℕ) → Q (broken_off k id answer)
+  pub sleeps : (due : Option ℕ) (task : Task) → task_at k.tasks caller ≡ Some task → task.wakeup ≡ false → Free →
+      Q (with_wait k caller reason.Sleep due k)
+  pub delays : (due : ℕ) → Free → Q (with_wait k caller reason.Delay (Some due) k)
+  -- of a processor
+  pub rotates : (priority : ℕ) (p : Processor) → processor_at k cpu ≡ Some p → Q (with_tasks k (turned k.tasks cpu priority))
+  pub marks : (p q : Processor) → processor_at k cpu ≡ Some p → q.running ≡ p.running → Q (with_processor k cpu q)
+  pub returns : (p : Processor) → processor_at k cpu ≡ Some p → Q (handler_ended k cpu p)
+  -- of a semaphore
+  pub signals : (id : ℕ) (s : Semaphore) → object_at k.semaphores id ≡ Some s →
+      Q (with_released (record k { semaphores = object_changed returned k.semaphores id }) (first_waiter s))
+  pub takes : (id : ℕ) (s : Semaphore) → object_at k.semaphores id ≡ Some s → Q (record k { semaphores = object_changed taken k.semaphores id })
+  pub awaits_semaphore : (id : ℕ) (due : Option ℕ) (s : Semaphore) → object_at k.semaphores id ≡ Some s → has_one s ≡ false → Free →
+      Q (with_wait k caller (reason.Semaphore id) due (in_semaphore k caller id))
+  -- of an event flag
+  pub sets : (id bits : ℕ) (f : Flag) → object_at k.flags id ≡ Some f →
+      Q (with_satisfied_released (record k { flags = object_changed (joined bits) k.flags id }) id)
+  pub clears : (id bits : ℕ) (f : Flag) → object_at k.flags id ≡ Some f → Q (record k { flags = object_changed (masked bits) k.flags id })
+  pub gets : (id : ℕ) (want : Want) (f : Flag) → object_at k.flags id ≡ Some f → Q (record k { flags = object_changed (taken_for want) k.flags id })
+  pub awaits_flag : (id : ℕ) (want : Want) (due : Option ℕ) (f : Flag) → object_at k.flags id ≡ Some f → pattern_for want f ≡ None → want.bits ≢ 0 →
+      Free →
+      Q (with_wait k caller (reason.Flag id) due (in_flag k caller id want))
+  -- of a data queue
+  pub sends : (id datum : ℕ) (q : DataQueueState) → object_at k.queues id ≡ Some q →
+      Q (handed_over (record k { queues = object_changed (sent datum) k.queues id }) datum (outcome q))
+  pub awaits_send : (id datum : ℕ) (due : Option ℕ) (q : DataQueueState) → object_at k.queues id ≡ Some q → outcome q ≡ Full → Free →
+      Q (with_wait k caller (reason.Send id) due (in_senders k caller id datum))
+  pub forces : (id datum : ℕ) (q : DataQueueState) → object_at k.queues id ≡ Some q →
+      Q (handed_over (record k { queues = object_changed (forced datum) k.queues id }) datum (forced_outcome q))
+  pub receives : (id : ℕ) (q : DataQueueState) (it : Received) → object_at k.queues id ≡ Some q → receipt q ≡ Some it →
+      Q (with_released (record k { queues = object_changed received k.queues id }) it.sender)
+  pub awaits_receive : (id : ℕ) (due : Option ℕ) (q : DataQueueState) → object_at k.queues id ≡ Some q → receipt q ≡ None → Free →
+      Q (with_wait k caller (reason.Receive id) due (in_receivers k caller id))
+  -- of the board
+  pub writes : (word : ℕ) → Q (record k { console = k.console ++ word % 2 ^ 8 ∷ [] })
+  pub ends_all : Q (record k { off = true })
+
+-- What a call may do to its caller: it goes on; it may wait for so long, or for 0 only polls; it waits; it names the task
+-- that is to stop, which may be itself; or it ends.
+pub data Stop : Type 0 where
+  GoesOn : Stop
+  MayWait : ℕ → Stop
+  Waits : Stop
+  Names : ℕ → Stop
+  Ends : Stop
+
+abbrev pub stop_of : Call → Stop
+stop_of call.ExtTsk = Ends
+stop_of (call.MigTsk t to) = Names t
+stop_of (call.SusTsk t) = Names t
+stop_of (call.TslpTsk timeout) = MayWait timeout
+stop_of (call.DlyTsk time) = Waits
+stop_of (call.TwaiSem s timeout) = MayWait timeout
+stop_of (call.TwaiFlg f bits mode timeout) = MayWait timeout
+stop_of (call.TsndDtq q datum timeout) = MayWait timeout
+stop_of (call.TrcvDtq q timeout) = MayWait timeout
+stop_of _ = GoesOn
+
+-- What has to be known of a call by that: where its caller stops running, `Free`, and where it ends, `End`.
+abbrev pub MayStop : Type 0 → Type 0 → ℕ → Stop → Type 0
+MayStop Free End caller GoesOn = Unit {0}
+MayStop Free End caller (MayWait timeout) = (timeout == 0) ≡ false → Free
+MayStop Free End caller Waits = Free
+MayStop Free End caller (Names t) = (named caller t == caller) ≡ true → Free
+MayStop Free End caller Ends = End
+
+abbrev pub May : Type 0 → Type 0 → ℕ → Call → Type 0
+May Free End caller c = MayStop Free End caller (stop_of c)
+
+-- where nothing needs to be known, every call may be
+any-may : (caller : ℕ) (stop : Stop) → MayStop (Unit {0}) (Unit {0}) caller stop
+any-may caller GoesOn = tt
+any-may caller (MayWait timeout) = λ waits. tt
+any-may caller Waits = tt
+any-may caller (Names t) = λ own. tt
+any-may caller Ends = tt
+
+-- What tests have shown.
+
+or-right : (one other : Bool) → (one || other) ≡ false → other ≡ false
+or-right one other none = grind (arith, none)
+
+last-false : (one two three : Bool) → (one || two || three) ≡ false → three ≡ false
+last-false one two three none = grind (arith, none)
+
+some-bits : (bits mode timeout : ℕ) → (is_bad_want bits mode || is_bad_timeout timeout) ≡ false → bits ≢ 0
+unfolding is_bad_want
+some-bits bits mode timeout good =
+    let want = or_parts (bits == 0 || nat_lt 1 mode) (is_bad_timeout timeout) good in
+    let bits_test = or_parts (bits == 0) (nat_lt 1 mode) want.0 in
+    grind (arith, nat_tests, bits_test.0)
+
+-- Calls that may wait.
+
+waits : (Q : KernelState → Type 0) (k : KernelState) (caller : ℕ) (why : WaitReason) (timeout : ℕ) (entered : KernelState) →
+    ((timeout == 0) ≡ false → Q (with_wait k caller why (due_by k timeout) entered)) → Leaves Q (or_waits k caller why timeout entered)
+waits Q k caller why timeout entered leaves = leaves-if Q (timeout == 0) (Err Tmout) _ (λ polls. tt) leaves
+
+got : {Free End : Type 0} (Q : KernelState → Type 0) (k : KernelState) (cpu caller : ℕ) (law : Law Free End Q k cpu caller) (id : ℕ) (want : Want)
+    (timeout : ℕ) (f : Flag) (pattern : Option ℕ) → object_at k.flags id ≡ Some f → pattern_for want f ≡ pattern → want.bits ≢ 0 →
+    ((timeout == 0) ≡ false → Free) →
+    Leaves Q (flag_got k caller id want timeout pattern)
+got Q k cpu caller law id want timeout f (Some pattern) there is some may = law.gets id want f there
+got Q k cpu caller law id want timeout f None there is some may =
+    waits Q k caller (reason.Flag id) timeout (in_flag k caller id want) (λ wait. law.awaits_flag id want (due_by k timeout) f there is some (may wait))
+
+sent-to : {Free End : Type 0} (Q : KernelState → Type 0) (k : KernelState) (cpu caller : ℕ) (law : Law Free End Q k cpu caller) (id datum timeout : ℕ)
+    (q : DataQueueState) (what : Sent) → object_at k.queues id ≡ Some q → outcome q ≡ what → ((timeout == 0) ≡ false → Free) →
+    Leaves Q (queue_sent k caller id datum timeout what)
+sent-to Q k cpu caller law id datum timeout q (Handed task) there is may =
+    subst (λ what. Q (handed_over (record k { queues = object_changed (sent datum) k.queues id }) datum what)) is (law.sends id datum q there)
+sent-to Q k cpu caller law id datum timeout q Stored there is may =
+    subst (λ what. Q (handed_over (record k { queues = object_changed (sent datum) k.queues id }) datum what)) is (law.sends id datum q there)
+sent-to Q k cpu caller law id datum timeout q Full there is may =
+    waits Q k caller (reason.Send id) timeout (in_senders k caller id datum) (λ wait. law.awaits_send id datum (due_by k timeout) q there is (may wait))
+
+received-by : {Free End : Type 0} (Q : KernelState → Type 0) (k : KernelState) (cpu caller : ℕ) (law : Law Free End Q k cpu caller) (id timeout : ℕ)
+    (q : DataQueueState) (what : Option Received) → object_at k.queues id ≡ Some q → receipt q ≡ what → ((timeout == 0) ≡ false → Free) →
+    Leaves Q (queue_received k caller id timeout what)
+received-by Q k cpu caller law id timeout q (Some it) there is may = law.receives id q it there is
+received-by Q k cpu caller law id timeout q None there is may =
+    waits Q k caller (reason.Receive id) timeout (in_receivers k caller id) (λ wait. law.awaits_receive id (due_by k timeout) q there is (may wait))
+
+woken : {Free End : Type 0} (Q : KernelState → Type 0) (k : KernelState) (cpu caller : ℕ) (law : Law Free End Q k cpu caller) (id : ℕ) →
+    Leaves Q (served (table.wup_tsk k id))
+woken Q k cpu caller law id =
+    leaves-row Q (table.wup_tsk k id)
+    (λ (task : Task) passes. leaves-if Q (is_asleep task.status) _ _ (law.rouses id task passes.there) (law.wakes id task passes.there))
+
+-- The walk.
+
+walk : {Free End : Type 0} (Q : KernelState → Type 0) (k : KernelState) (cpu caller : ℕ) (law : Law Free End Q k cpu caller) (c : Call) →
+    May Free End caller c → Leaves Q (serve_by k cpu caller c)
+walk Q k cpu caller law (call.ActTsk t) may = leaves-row Q (table.act_tsk k (named caller t)) (λ task passes. law.activates (named caller t) Assigned tt)
+walk Q k cpu caller law (call.IactTsk t) may = leaves-row Q (table.act_tsk k t) (λ task passes. law.activates t Assigned tt)
+walk Q k cpu caller law (call.MactTsk t to) may =
+    leaves-row Q (table.mact_tsk k (named caller t) to) (λ task passes. law.activates (named caller t) (On to) passes.par)
+walk Q k cpu caller law (call.ImactTsk t to) may = leaves-row Q (table.mact_tsk k t to) (λ task passes. law.activates t (On to) passes.par)
+walk Q k cpu caller law (call.CanAct t) may = leaves-row Q (table.can_act k (named caller t)) (λ task passes. law.cancels (named caller t))
+walk Q k cpu caller law call.ExtTsk may = leaves-row Q (table.ext_tsk k cpu caller) (λ task passes. law.exits may)
+walk Q k cpu caller law (call.TerTsk t) may =
+    leaves-row Q (table.ter_tsk k cpu caller t)
+    (λ (task : Task) passes. law.ends t task passes.there (or-right (is_dormant task.status) (is_held_elsewhere k cpu t task) passes.obj) passes.iluse)
+walk Q k cpu caller law (call.ChgPri t priority) may =
+    leaves-row Q (table.chg_pri k (named caller t) priority)
+    (λ (task : Task) passes. law.prioritizes (named caller t) (table.priority_or_initial priority task) task passes.there)
+walk Q k cpu caller law (call.GetPri t) may = leaves-row Q (table.get_pri k (named caller t)) (λ task passes. law.stays)
+walk Q k cpu caller law (call.MigTsk t to) may =
+    leaves-row Q (table.mig_tsk k cpu (named caller t) to)
+    (λ (task : Task) passes. law.migrates (named caller t) to task passes.there
+    (last-false (is_dormant task.status) (task.cpu == to) (is_held_elsewhere k cpu (named caller t) task) passes.obj) passes.par may)
+walk Q k cpu caller law call.GetPid may = leaves-row Q (table.get_pid k cpu) (λ x passes. law.stays)
+walk Q k cpu caller law (call.RotRdq priority) may =
+    leaves-row Q (table.rot_rdq k cpu caller priority)
+    (λ p passes. law.rotates (table.priority_or_callers priority (callers_priority k caller)) p passes.there)
+walk Q k cpu caller law (call.IrotRdq priority) may = leaves-row Q (table.irot_rdq k cpu priority) (λ p passes. law.rotates priority p passes.there)
+walk Q k cpu caller law call.GetTid may = leaves-row Q (table.get_tid k caller) (λ x passes. law.stays)
+walk Q k cpu caller law call.DisDsp may =
+    leaves-row Q (table.mark_dsp k cpu true) (λ (p : Processor) passes. law.marks p (record p { disabled = true }) passes.there refl)
+walk Q k cpu caller law call.EnaDsp may =
+    leaves-row Q (table.mark_dsp k cpu false) (λ (p : Processor) passes. law.marks p (record p { disabled = false }) passes.there refl)
+walk Q k cpu caller law call.LocCpu may =
+    leaves-row Q (table.mark_cpu k cpu true) (λ (p : Processor) passes. law.marks p (record p { locked = true }) passes.there refl)
+walk Q k cpu caller law call.UnlCpu may =
+    leaves-row Q (table.mark_cpu k cpu false) (λ (p : Processor) passes. law.marks p (record p { locked = false }) passes.there refl)
+walk Q k cpu caller law (call.TslpTsk timeout) may =
+    leaves-row Q (table.tslp_tsk k caller timeout)
+    (λ (task : Task) passes. leaves-if Q task.wakeup _ _ (λ queued. law.unwakes caller)
+    (λ none. waits Q k caller reason.Sleep timeout k (λ wait. law.sleeps (due_by k timeout) task passes.there none (may wait))))
+walk Q k cpu caller law (call.WupTsk t) may = woken Q k cpu caller law (named caller t)
+walk Q k cpu caller law (call.IwupTsk t) may = woken Q k cpu caller law t
+walk Q k cpu caller law (call.CanWup t) may = leaves-row Q (table.can_wup k (named caller t)) (λ task passes. law.unwakes (named caller t))
+walk Q k cpu caller law (call.RelWai t) may = leaves-row Q (table.rel_wai k t) (λ task passes. law.breaks t (code_of Rlwai))
+walk Q k cpu caller law (call.SusTsk t) may =
+    leaves-row Q (table.sus_tsk k cpu (named caller t))
+    (λ (task : Task) passes. law.suspends (named caller t) task passes.there
+    (or-right (is_dormant task.status) (is_held_elsewhere k cpu (named caller t) task) passes.obj) may)
+walk Q k cpu caller law (call.RsmTsk t) may = leaves-row Q (table.rsm_tsk k t) (λ task passes. law.resumes t)
+walk Q k cpu caller law (call.DlyTsk time) may = leaves-row Q (table.dly_tsk k caller time) (λ task passes. law.delays (due_after k time) may)
+walk Q k cpu caller law (call.SigSem id) may = leaves-row Q (table.sig_sem k id) (λ (s : Semaphore) passes. law.signals id s passes.there)
+walk Q k cpu caller law (call.TwaiSem id timeout) may =
+    leaves-row Q (table.twai_sem k caller id timeout)
+    (λ (s : Semaphore) passes. leaves-if Q (has_one s) _ _ (λ one. law.takes id s passes.there)
+    (λ none. waits Q k caller (reason.Semaphore id) timeout (in_semaphore k caller id)
+    (λ wait. law.awaits_semaphore id (due_by k timeout) s passes.there none (may wait))))
+walk Q k cpu caller law (call.SetFlg id bits) may = leaves-row Q (table.set_flg k id bits) (λ (f : Flag) passes. law.sets id bits f passes.there)
+walk Q k cpu caller law (call.ClrFlg id bits) may = leaves-row Q (table.clr_flg k id bits) (λ (f : Flag) passes. law.clears id bits f passes.there)
+walk Q k cpu caller law (call.TwaiFlg id bits mode timeout) may =
+    leaves-row Q (table.twai_flg k caller id bits mode timeout)
+    (λ (f : Flag) passes. got Q k cpu caller law id (table.want_of bits mode) timeout f (pattern_for (table.want_of bits mode) f) passes.there refl
+    (some-bits bits mode timeout passes.par) may)
+walk Q k cpu caller law (call.TsndDtq id datum timeout) may =
+    leaves-row Q (table.tsnd_dtq k caller id datum timeout)
+    (λ (q : DataQueueState) passes. sent-to Q k cpu caller law id datum timeout q (outcome q) passes.there refl may)
+walk Q k cpu caller law (call.FsndDtq id datum) may =
+    leaves-row Q (table.fsnd_dtq k id datum) (λ (q : DataQueueState) passes. law.forces id datum q passes.there)
+walk Q k cpu caller law (call.TrcvDtq id timeout) may =
+    leaves-row Q (table.trcv_dtq k caller id timeout)
+    (λ (q : DataQueueState) passes. received-by Q k cpu caller law id timeout q (receipt q) passes.there refl may)
+walk Q k cpu caller law (call.PutChr word) may = leaves-row Q (table.put_chr k word) (λ x passes. law.writes word)
+walk Q k cpu caller law call.ExtKer may = leaves-row Q (table.ext_ker k) (λ x passes. law.ends_all)
+walk Q k cpu caller law call.RetInt may = leaves-row Q (table.ret_int k cpu) (λ (p : Processor) passes. law.returns p passes.there)
+
+-- what a call leaves, refused or not
+pub serve-leaves : {Free End : Type 0} (Q : KernelState → Type 0) (k : KernelState) (cpu : ℕ) (law : Law Free End Q k cpu (caller_on k cpu))
+    (c : Call) → May Free End (caller_on k cpu) c → Q (serve_of k cpu c).kernel
+serve-leaves Q k cpu law c may =
+    leaves-or_refused Q k (serve_by k cpu (caller_on k cpu) c) law.stays (walk Q k cpu (caller_on k cpu) law c may)
+
+-- the same, where a law needs to know nothing of the caller
+pub serve-always : (Q : KernelState → Type 0) (k : KernelState) (cpu : ℕ) → Law (Unit {0}) (Unit {0}) Q k cpu (caller_on k cpu) → (c : Call) →
+    Q (serve_of k cpu c).kernel
+serve-always Q k cpu law c = serve-leaves Q k cpu law c (any-may (caller_on k cpu) (stop_of c))
