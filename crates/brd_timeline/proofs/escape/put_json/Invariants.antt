@@ -6,4 +6,4 @@ use Rattle.brd_timeline.proofs.escape.put_json.Given as goal
 
 abbrev pub invariant-loop-byte : goal.invariant-loop-byte
 invariant-loop-byte l =
-    l.to.items ++ flat_map json_byte (drop l.byte-index l.text) ≡ l.to-start.items ++ 34 ∷ flat_map json_byte l.text
+    l.to.items ++ flat_map json_byte (drop l.byte-index l.text) ≡ l.fn.to.items ++ 34 ∷ flat_map json_byte l.text
