@@ -144,5 +144,5 @@ pub(crate) fn jump_target(address: u32, words: u32) -> u32
     requires { words < 2 ^ 26 }
 {
     let slot = address.wrapping_add(4);
-    slot - slot % 0x1000_0000 + 4 * words
+    (slot / 0x1000_0000) * 0x1000_0000 + 4 * words
 }

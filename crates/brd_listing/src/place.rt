@@ -1,5 +1,8 @@
 //! Addresses by the symbols of an image.
 
+ghost use Rattle.std.specs.Prelude.{◌≡◌, option_map};
+ghost use Rattle.brd_listing.specs.Places as places;
+
 use crate::number::put_hex;
 use brd_base::{BASE, NoMemory, TOP};
 use brd_mem::Symbol;
@@ -7,26 +10,32 @@ use brd_text::hex_digits;
 
 /// The symbol by which an address goes: of those with a value from the first address of RAM to this one, that with the
 /// greatest value; of equal ones the last. None for an address outside the space that RAM can fill.
-pub fn nearest(symbols: &[Symbol], address: u32) -> Option<&Symbol> {
-    if address < BASE || TOP <= address {
+pub fn nearest(symbols: &[Symbol], address: u32) -> Option<&Symbol>
+    ensures { option_map (λ s. s.now) result ≡ places.nearest_of symbols.now address }
+{
+    if TOP <= address {
         return None;
     }
     let mut best: Option<&Symbol> = None;
     for symbol in symbols {
-        if is_better(best, symbol, address) {
+        if is_nearer(best, symbol, address) {
             best = Some(symbol);
         }
     }
     best
 }
 
-/// Whether a symbol is at least as near below an address as what was found before it.
-fn is_better(best: Option<&Symbol>, symbol: &Symbol, address: u32) -> bool {
-    let least = match best {
-        None => BASE,
-        Some(found) => found.value,
-    };
-    least <= symbol.value && symbol.value <= address
+/// Whether a symbol lies below an address, at least as near as the one that was found before it.
+fn is_nearer(found: Option<&Symbol>, symbol: &Symbol, address: u32) -> bool
+    ensures { result ≡ places.is_nearer address (option_map (λ s. s.now) found.entry) symbol.now }
+{
+    if symbol.value < BASE || address < symbol.value {
+        return false;
+    }
+    match found {
+        None => true,
+        Some(found) => found.value <= symbol.value,
+    }
 }
 
 /// Puts an address at the end: its nearest symbol and the distance from it, as `main+0x1c`, without a distance of 0;

@@ -1,5 +1,7 @@
 //! The two axes of a picture: events and ticks.
 
+ghost use Rattle.std.specs.Prelude.{◌≤◌};
+
 use crate::layout::{LEFT, SPAN, TOP, bottom_of, x_of};
 use crate::number::{put, put_attribute, put_decimal};
 use crate::timeline::Timeline;
@@ -31,7 +33,9 @@ pub(crate) fn put_events(to: &mut Vec<u8>, timeline: &Timeline) -> Result<(), No
 }
 
 /// Puts a label of the axis of events at the end, and its line.
-fn put_event(to: &mut Vec<u8>, timeline: &Timeline, at: u64, bottom: u32) -> Result<(), NoMemory> {
+fn put_event(to: &mut Vec<u8>, timeline: &Timeline, at: u64, bottom: u32) -> Result<(), NoMemory>
+    requires { bottom ≤ 3000000 }
+{
     let x = x_of(timeline, at);
     put_line(to, "#d0d0d0", (x, TOP - 40), (x, bottom + 40))?;
     put_number(to, at, x, bottom + 160)

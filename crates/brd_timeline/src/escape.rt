@@ -1,22 +1,32 @@
 //! Bytes of names and labels in texts that give some bytes a meaning of their own.
 
+ghost use Rattle.std.specs.Prelude.{◌≡◌, ◌++◌, OnOk};
+ghost use Rattle.brd_timeline.specs.Escapes as escapes;
+
 use brd_base::NoMemory;
 use brd_text::hex_digits;
 
 /// The two hexadecimal digits of a byte.
-fn two_digits(byte: u8) -> [u8; 2] {
+#[tactic(auto, unfolding(brd_text::specs::Hex::hex_of))]
+fn two_digits(byte: u8) -> [u8; 2]
+    ensures { result ≡ escapes.two_digits byte }
+{
     let [.., high, low] = hex_digits(byte as u32);
     [high, low]
 }
 
 /// Whether a byte is a printable character of ASCII.
-fn is_printable(byte: u8) -> bool {
+fn is_printable(byte: u8) -> bool
+    ensures { result ≡ escapes.is_printable byte }
+{
     b' ' <= byte && byte <= b'~'
 }
 
 /// Puts bytes at the end as a string of JSON, with its quotes: printable ASCII as it is, but for the quote and the
 /// backslash, and any other byte as the character of its number, `\u00XX`.
-pub(crate) fn put_json(to: &mut Vec<u8>, text: &[u8]) -> Result<(), NoMemory> {
+pub(crate) fn put_json(to: &mut Vec<u8>, text: &[u8]) -> Result<(), NoMemory>
+    ensures { OnOk result (to.new.items ≡ to.old.items ++ escapes.json_string text.now) }
+{
     to.push(b'"')?;
     for byte in text {
         put_json_byte(to, *byte)?;
@@ -26,7 +36,9 @@ pub(crate) fn put_json(to: &mut Vec<u8>, text: &[u8]) -> Result<(), NoMemory> {
 }
 
 /// Puts a byte at the end as it stands in a string of JSON.
-fn put_json_byte(to: &mut Vec<u8>, byte: u8) -> Result<(), NoMemory> {
+fn put_json_byte(to: &mut Vec<u8>, byte: u8) -> Result<(), NoMemory>
+    ensures { OnOk result (to.new.items ≡ to.old.items ++ escapes.json_byte byte) }
+{
     if byte == b'"' || byte == b'\\' {
         to.push(b'\\')?;
         to.push(byte)?;
@@ -43,7 +55,9 @@ fn put_json_byte(to: &mut Vec<u8>, byte: u8) -> Result<(), NoMemory> {
 
 /// Puts bytes at the end as text of XML: printable ASCII as it is, but for the five characters that have a meaning
 /// there, and any other byte as `\xXX`, since XML has no way to write control characters.
-pub(crate) fn put_xml(to: &mut Vec<u8>, text: &[u8]) -> Result<(), NoMemory> {
+pub(crate) fn put_xml(to: &mut Vec<u8>, text: &[u8]) -> Result<(), NoMemory>
+    ensures { OnOk result (to.new.items ≡ to.old.items ++ escapes.xml_text text.now) }
+{
     for byte in text {
         put_xml_byte(to, *byte)?;
     }
@@ -51,7 +65,9 @@ pub(crate) fn put_xml(to: &mut Vec<u8>, text: &[u8]) -> Result<(), NoMemory> {
 }
 
 /// Puts a byte at the end as it stands in text of XML.
-fn put_xml_byte(to: &mut Vec<u8>, byte: u8) -> Result<(), NoMemory> {
+fn put_xml_byte(to: &mut Vec<u8>, byte: u8) -> Result<(), NoMemory>
+    ensures { OnOk result (to.new.items ≡ to.old.items ++ escapes.xml_byte byte) }
+{
     match byte {
         b'&' => to.extend_from_slice(b"&amp;")?,
         b'<' => to.extend_from_slice(b"&lt;")?,

@@ -1,5 +1,8 @@
 //! Why there is no picture.
 
+ghost use Rattle.std.specs.Prelude.{◌≡◌};
+ghost use Rattle.brd_timeline.specs.declared.fault.PictureFault.TheVariants.{NoMemory as no_memory};
+
 use brd_base::NoMemory;
 use thiserror::Error;
 
@@ -15,6 +18,8 @@ pub enum PictureFault {
 }
 
 impl From<NoMemory> for PictureFault {
+    ghost from_gives = { λ _ fault. fault ≡ no_memory };
+
     fn from(_e: NoMemory) -> Self {
         PictureFault::NoMemory
     }

@@ -1,5 +1,7 @@
 //! Where things stand in a picture, in tenths of a pixel.
 
+ghost use Rattle.std.specs.Prelude.{◌≤◌};
+
 use crate::timeline::{Group, Timeline};
 
 /// How wide the picture is.
@@ -27,14 +29,19 @@ const GAP: u32 = 120;
 pub(crate) const AXES: u32 = 600;
 
 /// Where a position is. One before the picture's first is there, and one after its last is at the end.
-pub(crate) fn x_of(timeline: &Timeline, position: u64) -> u32 {
+pub(crate) fn x_of(timeline: &Timeline, position: u64) -> u32
+    ensures left { 1400 ≤ result }
+    ensures right { result ≤ 11800 }
+{
     let length = timeline.to.saturating_sub(timeline.from);
     let done = position.saturating_sub(timeline.from).min(length);
     LEFT + share_of(done, length)
 }
 
 /// Which part of `SPAN` a part of a length is.
-fn share_of(part: u64, whole: u64) -> u32 {
+fn share_of(part: u64, whole: u64) -> u32
+    ensures { result ≤ 10400 }
+{
     if whole == 0 {
         return 0;
     }
@@ -43,7 +50,9 @@ fn share_of(part: u64, whole: u64) -> u32 {
 }
 
 /// Where the lane at a place of the list is.
-pub(crate) fn y_of(place: usize, group: Group) -> u32 {
+pub(crate) fn y_of(place: usize, group: Group) -> u32
+    ensures { result ≤ 3000000 }
+{
     let gap = match group {
         Group::Processor => 0,
         Group::Task => GAP,
@@ -52,6 +61,8 @@ pub(crate) fn y_of(place: usize, group: Group) -> u32 {
 }
 
 /// Where the lanes end.
-pub(crate) fn bottom_of(timeline: &Timeline) -> u32 {
+pub(crate) fn bottom_of(timeline: &Timeline) -> u32
+    ensures { result ≤ 3000000 }
+{
     y_of(timeline.lanes.len(), Group::Task)
 }

@@ -117,8 +117,8 @@ fn put_swatch(to: &mut Vec<u8>, kind: Kind, x: u32) -> Result<(), NoMemory> {
 /// Puts the name of an entry at the end.
 fn put_name(to: &mut Vec<u8>, name: &str, x: u32, row: u32) -> Result<(), NoMemory> {
     put(to, "<text")?;
-    put_attribute(to, "x", x + 170)?;
-    put_attribute(to, "y", row + 40)?;
+    put_attribute(to, "x", x.saturating_add(170))?;
+    put_attribute(to, "y", row.saturating_add(40))?;
     put(to, ">")?;
     put(to, name)?;
     put(to, "</text>\n")

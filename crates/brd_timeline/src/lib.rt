@@ -5,16 +5,16 @@
 mod axis;
 mod escape;
 mod fault;
-mod json;
 mod layout;
 mod legend;
 mod mark;
 mod number;
+mod picture;
 mod slice;
-mod svg;
 mod timeline;
+mod trace_events;
 
 pub use fault::PictureFault;
-pub use json::json;
-pub use svg::{MOST_DRAWN, svg};
+pub use picture::{MOST_DRAWN, svg};
 pub use timeline::{Group, Kind, Lane, Mark, MarkKind, Slice, Timeline};
+pub use trace_events::json;

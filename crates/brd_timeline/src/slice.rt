@@ -1,5 +1,7 @@
 //! Slices in a picture.
 
+ghost use Rattle.std.specs.Prelude.{◌≤◌};
+
 use crate::escape::put_xml;
 use crate::layout::{HEIGHT, x_of, y_of};
 use crate::number::{put, put_attribute, put_decimal};
@@ -42,7 +44,9 @@ fn ink_of(kind: Kind) -> &'static str {
 }
 
 /// How high a kind's slices are: those of a dormant task are a thin line.
-pub(crate) fn height_of(kind: Kind) -> u32 {
+pub(crate) fn height_of(kind: Kind) -> u32
+    ensures { result ≤ 200 }
+{
     match kind {
         Kind::Dormant => HEIGHT / 5,
         _ => HEIGHT,
@@ -69,7 +73,10 @@ pub(crate) fn put_slice(
 }
 
 /// Puts the bar of a slice at the end, with what a browser shows of it under the pointer.
-fn put_bar(to: &mut Vec<u8>, slice: &Slice, x: u32, y: u32, width: u32) -> Result<(), NoMemory> {
+fn put_bar(to: &mut Vec<u8>, slice: &Slice, x: u32, y: u32, width: u32) -> Result<(), NoMemory>
+    requires across { x ≤ 11800 }
+    requires down { y ≤ 3000000 }
+{
     let gap = if width < PARTED { 0 } else { 5 };
     let height = height_of(slice.kind);
     put(to, "<rect")?;
@@ -91,7 +98,10 @@ fn put_bar(to: &mut Vec<u8>, slice: &Slice, x: u32, y: u32, width: u32) -> Resul
 }
 
 /// Puts the label of a slice at the end, where its bar has room for it.
-fn put_label(to: &mut Vec<u8>, slice: &Slice, x: u32, y: u32, width: u32) -> Result<(), NoMemory> {
+fn put_label(to: &mut Vec<u8>, slice: &Slice, x: u32, y: u32, width: u32) -> Result<(), NoMemory>
+    requires across { x ≤ 11800 }
+    requires down { y ≤ 3000000 }
+{
     let label = label_or(&slice.label, kind_name(slice.kind));
     let letters = width.saturating_sub(MARGIN) / LETTER;
     if height_of(slice.kind) < HEIGHT || label.len() > letters as usize {

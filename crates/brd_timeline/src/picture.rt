@@ -1,5 +1,9 @@
 //! A timeline as a picture in SVG.
 
+ghost use Rattle.std.specs.Prelude.{◌≡◌, ◌↔◌, IsTrue, Err};
+ghost use Rattle.brd_timeline.specs.Picture.{IsTooMuch};
+ghost use Rattle.brd_timeline.specs.declared.fault.PictureFault.TheVariants.{TooMuch};
+
 use crate::axis::{put_events, put_ticks};
 use crate::escape::put_xml;
 use crate::fault::PictureFault;
@@ -21,7 +25,10 @@ pub const MOST_DRAWN: usize = 5_000;
 ///
 /// `TooMuch` where there are more than `MOST_DRAWN` lanes, slices and marks; then nothing is put. `NoMemory` where
 /// memory runs out.
-pub fn svg(timeline: &Timeline, to: &mut Vec<u8>) -> Result<(), PictureFault> {
+pub fn svg(timeline: &Timeline, to: &mut Vec<u8>) -> Result<(), PictureFault>
+    ensures much { (result ≡ Err TooMuch) ↔ IsTooMuch timeline.now }
+    ensures same { result ≡ Err TooMuch → to.new ≡ to.old }
+{
     if is_too_much(timeline) {
         return Err(PictureFault::TooMuch);
     }
@@ -30,7 +37,9 @@ pub fn svg(timeline: &Timeline, to: &mut Vec<u8>) -> Result<(), PictureFault> {
 }
 
 /// Whether there is more than a picture can show.
-fn is_too_much(timeline: &Timeline) -> bool {
+fn is_too_much(timeline: &Timeline) -> bool
+    ensures { IsTrue result ↔ IsTooMuch timeline.now }
+{
     let lanes = timeline.lanes.len() as u128;
     let slices = timeline.slices.len() as u128;
     let marks = timeline.marks.len() as u128;
