@@ -10,7 +10,7 @@ ghost use Rattle.brd_cli.specs.Usage.{inputs, race_files};
 use crate::end::Stop;
 use crate::usage::board_command;
 use brd_base::NoMemory;
-use brd_command::Request;
+use brd_command::{Request, TraceFormat, TraceOptions};
 use clap::error::ErrorKind;
 use clap::{ArgMatches, Command};
 use std::alloc::Global;
@@ -83,7 +83,37 @@ fn request_named<'a>(name: &str, arguments: &ArgMatches<'a>) -> Option<Request<'
                 journal,
             })
         }
+        "trace" => {
+            let (image, config, journal) = inputs_of(arguments)?;
+            Some(Request::Trace {
+                image,
+                config,
+                journal,
+                options: trace_options_of(arguments),
+            })
+        }
         _ => None,
+    }
+}
+
+/// The options of `trace`.
+fn trace_options_of(arguments: &ArgMatches) -> TraceOptions {
+    TraceOptions {
+        from: arguments.get_one::<u64>("from"),
+        to: arguments.get_one::<u64>("to"),
+        cpu: arguments.get_one::<u8>("cpu"),
+        instructions: arguments.get_flag("instructions"),
+        summary: arguments.get_flag("summary"),
+        format: format_of(arguments.get_str("format")),
+    }
+}
+
+/// The form of a trace of that name; lines where none is given.
+fn format_of(name: Option<&str>) -> TraceFormat {
+    match name {
+        Some("json") => TraceFormat::Json,
+        Some("svg") => TraceFormat::Svg,
+        _ => TraceFormat::Text,
     }
 }
 

@@ -71,6 +71,19 @@ N and C are decimal numbers, X is an address of eight hexadecimal digits.
 Example:
   board debug hello.elf hello.cfg hello.journal";
 
+/// What the help of `trace` says of its options.
+const TRACE: &str = "\
+A line has the event's position, the processor, who executes, where, and what happens. Position n
+is the board after n events, as `board debug` counts.
+
+Example:
+  board trace hello.elf hello.cfg hello.journal
+  board trace --summary hello.elf hello.cfg hello.journal
+  board trace --format svg --to 500 hello.elf hello.cfg hello.journal > hello.svg";
+
+/// The names of the forms of a trace.
+const FORMATS: &[&str] = &["text", "json", "svg"];
+
 /// What the program takes: a command and its arguments.
 pub fn board_command<'a>(alloc: Global) -> Result<Command<'a>, NoMemory>
     ensures { IfOk result (λ command. app_of command ≡ board) }
@@ -83,7 +96,8 @@ pub fn board_command<'a>(alloc: Global) -> Result<Command<'a>, NoMemory>
         .subcommand(asm_command(alloc)?)?
         .subcommand(run_command(alloc)?)?
         .subcommand(race_command(alloc)?)?
-        .subcommand(debug_command(alloc)?)?;
+        .subcommand(debug_command(alloc)?)?
+        .subcommand(trace_command(alloc)?)?;
     Ok(board)
 }
 
@@ -170,6 +184,93 @@ fn debug_command<'a>(alloc: Global) -> Result<Command<'a>, NoMemory>
         "Shows a board after any number of a journal's events, by commands from standard input",
         DEBUG,
     )
+}
+
+/// What `trace` takes.
+fn trace_command<'a>(alloc: Global) -> Result<Command<'a>, NoMemory>
+    ensures { IfOk result (AddsForm usage.trace) }
+{
+    let command = Command::new(alloc, "trace")
+        .about("Says what happens on a board under a journal, a line for each event that matters")
+        .after_help(TRACE)
+        .arg(needed(alloc, "IMAGE", "An object file, an ELF32 executable"))?
+        .arg(needed(alloc, "CONFIG", "A file of the kernel's configuration"))?
+        .arg(needed(
+            alloc,
+            "JOURNAL",
+            "A journal: the events that the board does",
+        ))?
+        .arg(position(alloc, "from", "Begins with the event of position N"))?
+        .arg(position(alloc, "to", "Ends before the event of position N"))?
+        .arg(processor(alloc))?
+        .arg(flag(
+            alloc,
+            "instructions",
+            "Shows each instruction, with what it changed",
+        ))?
+        .arg(flag(
+            alloc,
+            "summary",
+            "Shows only what stands at the end, and where it went wrong",
+        ))?
+        .arg(format(alloc))?;
+    Ok(command)
+}
+
+/// An option whose value is a position.
+fn position<'a>(alloc: Global, name: &'a str, help: &'a str) -> Arg<'a>
+    ensures rule { rule_of result ≡ usage.position name.entry.now }
+    ensures own { result.global ≡ false }
+{
+    option(alloc, name, help)
+        .value_name("N")
+        .value_parser(clap::value_parser!(u64))
+}
+
+/// The option whose value is a processor.
+fn processor<'a>(alloc: Global) -> Arg<'a>
+    ensures rule { rule_of result ≡ usage.processor }
+    ensures own { result.global ≡ false }
+{
+    option(alloc, "cpu", "Shows only what concerns processor C")
+        .value_name("C")
+        .value_parser(clap::value_parser!(u8))
+}
+
+/// The option whose value is the form of a trace.
+fn format<'a>(alloc: Global) -> Arg<'a>
+    ensures rule { IsFormat (rule_of result) }
+    ensures own { result.global ≡ false }
+{
+    option(
+        alloc,
+        "format",
+        "Lines, a timeline for Perfetto and chrome://tracing, or its picture",
+    )
+    .value_name("FORMAT")
+    .value_parser(FORMATS)
+}
+
+/// An option with one value.
+fn option<'a>(alloc: Global, name: &'a str, help: &'a str) -> Arg<'a>
+    ensures rule { rule_of result ≡ usage.option name.entry.now }
+    ensures own { result.global ≡ false }
+{
+    Arg::new(alloc, name)
+        .long(name)
+        .action(ArgAction::Set)
+        .help(help)
+}
+
+/// An option without a value.
+fn flag<'a>(alloc: Global, name: &'a str, help: &'a str) -> Arg<'a>
+    ensures rule { rule_of result ≡ usage.flag name.entry.now }
+    ensures own { result.global ≡ false }
+{
+    Arg::new(alloc, name)
+        .long(name)
+        .action(ArgAction::SetTrue)
+        .help(help)
 }
 
 /// A command that takes IMAGE, CONFIG and JOURNAL.

@@ -183,7 +183,7 @@ impl<'a> Traced<'a> {
         requires within { to ≤ length self.now.journal.now.events }
     {
         let mut out = Vec::new(self.alloc);
-        tracer.show(self.alloc, &mut out)?;
+        tracer.show(self.alloc, self.names, &mut out)?;
         written(writer, &out)?;
         self.play(tracer, to, writer)?;
         let mut rest = Vec::new(self.alloc);

@@ -24,9 +24,3 @@ pub use line::HEAD;
 pub use names::Names;
 pub use playback::{Moved, Playback};
 pub use tracer::{Options, Tracer};
-
-#[cfg(test)]
-mod tests {
-    #[test]
-    fn nothing() {}
-}

@@ -208,6 +208,18 @@ impl Standings {
         false
     }
 
+    /// Puts at the end what each processor does, before an event.
+    pub(crate) fn put_all(&self, alloc: Global, out: &mut Vec<u8>) -> Result<(), NoMemory> {
+        put(out, "begins:")?;
+        for cpu in 1..9u8 {
+            if self.at(cpu).is_some() {
+                put(out, if cpu == 1 { " " } else { ", " })?;
+                put_standing(alloc, out, cpu, self.at(cpu))?;
+            }
+        }
+        Ok(())
+    }
+
     /// Puts at the end what processors do now that did something else before. Answers whether this one does.
     pub(crate) fn put_changes(
         &self,

@@ -55,7 +55,8 @@ pub(crate) struct LastFault {
 /// A board that plays a journal, and what is known of it.
 #[derive(Drop)]
 pub struct Tracer {
-    pub(crate) playback: Playback,
+    /// The board, and how many events it has played.
+    pub playback: Playback,
     pub(crate) tasks: Vec<TaskSeen>,
     pub(crate) standings: Standings,
     pub(crate) pending: [bool; 32],
@@ -156,7 +157,10 @@ impl Tracer {
         ensures played { (boot : BoardOf) → IsPlayed boot journal.now.events self.old.playback
             → IsPlayed boot journal.now.events self.new.playback }
     {
-        while out.len() < ENOUGH {
+        for _ in 0..u64::MAX {
+            if out.len() >= ENOUGH {
+                return Ok(true);
+            }
             if !self.advance(alloc, names, journal, to, out)? {
                 return Ok(false);
             }
@@ -658,13 +662,23 @@ impl Tracer {
         line.put(alloc, names, out)
     }
 
-    /// From here on the trace shows lines. The first one says what each processor does.
-    pub fn show(&mut self, alloc: Global, out: &mut Vec<u8>) -> Result<(), NoMemory>
+    /// From here on the trace shows lines. Before them the names of the columns are put at the end, and what each
+    /// processor does.
+    pub fn show(&mut self, alloc: Global, names: Names, out: &mut Vec<u8>) -> Result<(), NoMemory>
         ensures { self.new.playback ≡ self.old.playback }
     {
         self.options.shown = true;
         put(out, HEAD)?;
-        Ok(())
+        let mut what = Vec::new(alloc);
+        self.standings.put_all(alloc, &mut what)?;
+        let line = Line {
+            position: self.playback.at,
+            cpu: None,
+            who: None,
+            place: None,
+            what: &what,
+        };
+        line.put(alloc, names, out)
     }
 }
 
