@@ -108,13 +108,11 @@ all-queues f k keeps was = record {
 -- Waits that begin and end, and priorities.
 
 unlisted-by : (k : KernelState) (id : ℕ) (why : Option WaitReason) → EachIsKept k → EachIsKept (unlisted_from k id why)
-unlisted-by k id None was = was
-unlisted-by k id (Some reason.Sleep) was = was
-unlisted-by k id (Some reason.Delay) was = was
 unlisted-by k id (Some (reason.Semaphore object)) was = all-semaphores (semaphore_left id) k (semaphore-left id) was
 unlisted-by k id (Some (reason.Flag object)) was = all-flags (flag_left id) k (flag-left id) was
 unlisted-by k id (Some (reason.Send object)) was = all-queues (data_queue_left id) k (queue-left id) was
 unlisted-by k id (Some (reason.Receive object)) was = all-queues (data_queue_left id) k (queue-left id) was
+unlisted-by k id _ was = was
 
 unlisted-kept : (k : KernelState) (id : ℕ) → EachIsKept k → EachIsKept (unlisted k id)
 unlisted-kept k id was = unlisted-by k id (reason_of k id) was
@@ -131,9 +129,6 @@ ended-kept k id was =
     others-kept (unlisted k id) (ended_in k id) refl refl refl (sleeper.ended-kept k.tasks id was.sleepers) (unlisted-kept k id was)
 
 pub reordered-by : (k : KernelState) (id priority : ℕ) (why : Option WaitReason) → EachIsKept k → EachIsKept (reordered_in k id priority why)
-reordered-by k id priority None was = was
-reordered-by k id priority (Some reason.Sleep) was = was
-reordered-by k id priority (Some reason.Delay) was = was
 reordered-by k id priority (Some (reason.Semaphore object)) was =
     all-semaphores (semaphore_reordered id priority) k (semaphore-reordered id priority) was
 reordered-by k id priority (Some (reason.Flag object)) was =
@@ -142,6 +137,7 @@ reordered-by k id priority (Some (reason.Send object)) was =
     all-queues (data_queue_reordered id priority) k (queue-reordered id priority) was
 reordered-by k id priority (Some (reason.Receive object)) was =
     all-queues (data_queue_reordered id priority) k (queue-reordered id priority) was
+reordered-by k id priority _ was = was
 
 -- a wait begins: of who begins to sleep no wake-up is queued
 abbrev MaySleep : KernelState → ℕ → WaitReason → Type 0

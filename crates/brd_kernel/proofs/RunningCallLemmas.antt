@@ -26,11 +26,12 @@ use Rattle.brd_kernel.specs.declared.call.Call.{Call}
 use Rattle.brd_kernel.specs.Answer.{e_ok}
 use Rattle.brd_kernel.specs.Kernel.{KernelState, with_tasks, with_processor, processor_at, is_held, running_in, running_on, unmarked, with_pending, handles, accepted_line}
 use Rattle.brd_kernel.specs.Row.{is_absent}
-use Rattle.brd_kernel.specs.Waits.{can_wait, with_wait, released_in, reason_of, unlisted_from, unlisted, broken_off, ended_in, reordered_in, answer_by, timed_out, all_timed_out, ticked_on, faulted_task, faulted_in, ended_by_fault}
+use Rattle.brd_kernel.specs.Waits.{can_wait, with_wait, released_in, reason_of, unlisted, broken_off, ended_in, reordered_in, answer_by, timed_out, all_timed_out, ticked_on, faulted_task, faulted_in, ended_by_fault}
 use Rattle.brd_kernel.specs.Dispatch.{is_same_task}
 use Rattle.brd_kernel.specs.Services.{runs_held, is_held_elsewhere, is_no_processor, with_released, with_all_released_in, with_satisfied_of, with_satisfied_released, handed_over, with_priority_in, unmarked_on, handler_ended, serve_of, caller_on}
 use Rattle.brd_kernel.specs.Running.{is_ready_on, IsRunning}
 use Rattle.brd_kernel.proofs.ListLemmas.{same-number}
+use Rattle.brd_kernel.proofs.WaitLemmas.{unlisted-only, reordered-only}
 use Rattle.brd_kernel.proofs.WalkLemmas.{IsOfBoard, May, Law, in_semaphore, in_flag, in_senders, in_receivers, serve-leaves}
 use Rattle.brd_kernel.proofs.ReadyLemmas.{KeepsReady, activated-keeps, ended-others, wakeup-keeps, cleared-keeps, blocked-active, suspended-active, through-others, resumed-keeps, released-keeps, priority-keeps, migrated-others, turned-keeps}
 use Rattle.brd_kernel.proofs.RunningLemmas.{held_in, HoldsReady, IsntHeld, runs-hold, tasks-run, parts-run, marked-runs, others-hold, free-isnt_held, exit-holds, number-there}
@@ -41,26 +42,13 @@ pub released-runs : (k : KernelState) (id answer : ℕ) (second : Option ℕ) �
 released-runs k id answer second was =
     tasks-run k (released_in k id answer second) refl (released-keeps k.tasks id answer second was.tasks) was
 
-unlisted-by : (k : KernelState) (id : ℕ) (why : Option WaitReason) → IsRunning k → IsRunning (unlisted_from k id why)
-unlisted-by k id None was = was
-unlisted-by k id (Some reason.Sleep) was = was
-unlisted-by k id (Some reason.Delay) was = was
-unlisted-by k id (Some (reason.Semaphore object)) was = parts-run k (unlisted_from k id (Some (reason.Semaphore object))) refl refl was
-unlisted-by k id (Some (reason.Flag object)) was = parts-run k (unlisted_from k id (Some (reason.Flag object))) refl refl was
-unlisted-by k id (Some (reason.Send object)) was = parts-run k (unlisted_from k id (Some (reason.Send object))) refl refl was
-unlisted-by k id (Some (reason.Receive object)) was = parts-run k (unlisted_from k id (Some (reason.Receive object))) refl refl was
-
-unlisted-processors : (k : KernelState) (id : ℕ) (why : Option WaitReason) → (unlisted_from k id why).processors ≡ k.processors
-unlisted-processors k id None = refl
-unlisted-processors k id (Some reason.Sleep) = refl
-unlisted-processors k id (Some reason.Delay) = refl
-unlisted-processors k id (Some (reason.Semaphore object)) = refl
-unlisted-processors k id (Some (reason.Flag object)) = refl
-unlisted-processors k id (Some (reason.Send object)) = refl
-unlisted-processors k id (Some (reason.Receive object)) = refl
+unlisted-runs : (k : KernelState) (id : ℕ) → IsRunning k → IsRunning (unlisted k id)
+unlisted-runs k id was =
+    let only = unlisted-only k id (reason_of k id) in
+    parts-run k (unlisted k id) only.processors only.tasks was
 
 pub broken-runs : (k : KernelState) (id answer : ℕ) → IsRunning k → IsRunning (broken_off k id answer)
-broken-runs k id answer was = released-runs (unlisted k id) id answer None (unlisted-by k id (reason_of k id) was)
+broken-runs k id answer was = released-runs (unlisted k id) id answer None (unlisted-runs k id was)
 
 all-timed-run : (k : KernelState) (ids : List ℕ) → IsRunning k → IsRunning (all_timed_out k ids)
 all-timed-run k [] was = was
@@ -72,15 +60,9 @@ ticked-runs k was =
     all-timed-run (record k { time = time }) (due_from time 0) (parts-run k (record k { time = time }) refl refl was)
 
 reordered-runs : (k : KernelState) (id priority : ℕ) (why : Option WaitReason) → IsRunning k → IsRunning (reordered_in k id priority why)
-reordered-runs k id priority None was = was
-reordered-runs k id priority (Some reason.Sleep) was = was
-reordered-runs k id priority (Some reason.Delay) was = was
-reordered-runs k id priority (Some (reason.Semaphore object)) was =
-    parts-run k (reordered_in k id priority (Some (reason.Semaphore object))) refl refl was
-reordered-runs k id priority (Some (reason.Flag object)) was = parts-run k (reordered_in k id priority (Some (reason.Flag object))) refl refl was
-reordered-runs k id priority (Some (reason.Send object)) was = parts-run k (reordered_in k id priority (Some (reason.Send object))) refl refl was
-reordered-runs k id priority (Some (reason.Receive object)) was =
-    parts-run k (reordered_in k id priority (Some (reason.Receive object))) refl refl was
+reordered-runs k id priority why was =
+    let only = reordered-only k id priority why in
+    parts-run k (reordered_in k id priority why) only.processors only.tasks was
 
 prioritized-runs : (k : KernelState) (id priority : ℕ) (why : Option WaitReason) → IsRunning k → IsRunning (with_priority_in k id priority why)
 prioritized-runs k id priority why was =
@@ -125,7 +107,7 @@ accepted-runs k cpu line was = handles-run k cpu line (processor_at k cpu) refl 
 -- Exceptions.
 
 ended-processors : (k : KernelState) (id : ℕ) → (ended_in k id).processors ≡ k.processors
-ended-processors k id = unlisted-processors k id (reason_of k id)
+ended-processors k id = (unlisted-only k id (reason_of k id)).processors
 
 pub none-held : (handling locked disabled stopped : Bool) → handling ≡ false → locked ≡ false → disabled ≡ false → stopped ≡ false →
     (handling || locked || disabled || stopped) ≡ false

@@ -47,12 +47,7 @@ asleep-by : (k : KernelState) (id : ℕ) (task : Task) (waiting : Option WaitRea
     StandsIn (id ∷ []) k
 asleep-by k id task (Some reason.Sleep) there waiting asleep was =
     asleep-out k id task.priority (ap waits there ∙ ap (λ w. waits_by w task.priority) waiting) was
-asleep-by k id task None there waiting asleep was = absurd (false≢true asleep)
-asleep-by k id task (Some reason.Delay) there waiting asleep was = absurd (false≢true asleep)
-asleep-by k id task (Some (reason.Semaphore object)) there waiting asleep was = absurd (false≢true asleep)
-asleep-by k id task (Some (reason.Flag object)) there waiting asleep was = absurd (false≢true asleep)
-asleep-by k id task (Some (reason.Send object)) there waiting asleep was = absurd (false≢true asleep)
-asleep-by k id task (Some (reason.Receive object)) there waiting asleep was = absurd (false≢true asleep)
+asleep-by k id task _ there waiting asleep was = absurd (false≢true asleep)
 
 -- what each effect makes of it
 stands-law : (k : KernelState) (cpu caller : ℕ) → StandsIn [] k → Law (Unit {0}) (Unit {0}) (StandsIn []) k cpu caller

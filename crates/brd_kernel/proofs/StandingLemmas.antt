@@ -59,11 +59,7 @@ wanted (Some wait) why = if stands_in wait.0 why then Some wait.1 else None
 -- who waits for nothing has no tick at which that ends, and who waits for time alone has one
 abbrev pub IsTimedBy : WaitReason → Option ℕ → Type 0
 IsTimedBy reason.Delay due = is_some due ≡ true
-IsTimedBy reason.Sleep due = Unit {0}
-IsTimedBy (reason.Semaphore object) due = Unit {0}
-IsTimedBy (reason.Flag object) due = Unit {0}
-IsTimedBy (reason.Send object) due = Unit {0}
-IsTimedBy (reason.Receive object) due = Unit {0}
+IsTimedBy _ due = Unit {0}
 
 abbrev pub IsTimed : Option (WaitReason × ℕ) → Option ℕ → Type 0
 IsTimed None due = due ≡ None
@@ -82,10 +78,7 @@ pub record Stands (but : List ℕ) (t : TaskTable) (time : Time) (lists : WaitRe
 nothing-in : (k : KernelState) (why : WaitReason) → has_list why ≡ false → standing_for k why ≡ []
 nothing-in k reason.Sleep none = refl
 nothing-in k reason.Delay none = refl
-nothing-in k (reason.Semaphore object) none = absurd (true≢false none)
-nothing-in k (reason.Flag object) none = absurd (true≢false none)
-nothing-in k (reason.Send object) none = absurd (true≢false none)
-nothing-in k (reason.Receive object) none = absurd (true≢false none)
+nothing-in k _ none = absurd (true≢false none)
 
 list-there : (list : Bool) (k : KernelState) (id : ℕ) (why : WaitReason) → has_list why ≡ list → has id (standing_for k why) ≡ true →
     has_list why ≡ true
@@ -134,11 +127,7 @@ timed-waiting : (k : KernelState) (id : ℕ) (waiting : Option WaitReason) (prio
     IsTimed (waits_by waiting priority) (due_of k.time id)
 timed-waiting k id None priority was is = was.timed id is
 timed-waiting k id (Some reason.Delay) priority was is = was.delayed id is
-timed-waiting k id (Some reason.Sleep) priority was is = tt
-timed-waiting k id (Some (reason.Semaphore object)) priority was is = tt
-timed-waiting k id (Some (reason.Flag object)) priority was is = tt
-timed-waiting k id (Some (reason.Send object)) priority was is = tt
-timed-waiting k id (Some (reason.Receive object)) priority was is = tt
+timed-waiting k id (Some _) priority was is = tt
 
 timed-row : (k : KernelState) (id : ℕ) (row : Option Task) → WaitsAreKept k → task_at k.tasks id ≡ row → IsTimed (waits row) (due_of k.time id)
 timed-row k id None was is = was.timed id (ap reason_in is)

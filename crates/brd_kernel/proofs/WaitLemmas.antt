@@ -18,22 +18,30 @@ use Rattle.brd_objects.specs.Flags.{all_released, with_all_released, released_to
 use Rattle.brd_objects.proofs.LawLemmas.{turn, ended, second, shorter}
 use Rattle.brd_kernel.specs.Answer.{e_ok}
 use Rattle.brd_kernel.specs.Kernel.{KernelState}
-use Rattle.brd_kernel.specs.Waits.{released_in, reason_of, unlisted_from, timed_out, all_timed_out}
+use Rattle.brd_kernel.specs.Waits.{released_in, reason_of, unlisted_from, reordered_in, timed_out, all_timed_out}
 use Rattle.brd_kernel.specs.Services.{with_all_released_in, with_satisfied_of, with_satisfied_released}
+
+-- A task that leaves the list of what it waits for, or gets another place there, changes nothing but lists.
+
+pub record OnlyLists (k new : KernelState) : Type 0 where
+  pub tasks : new.tasks ≡ k.tasks
+  pub time : new.time ≡ k.time
+  pub processors : new.processors ≡ k.processors
+
+pub unlisted-only : (k : KernelState) (id : ℕ) (why : Option WaitReason) → OnlyLists k (unlisted_from k id why)
+unlisted-only k id None = record { tasks = refl; time = refl; processors = refl }
+unlisted-only k id (Some reason.Sleep) = record { tasks = refl; time = refl; processors = refl }
+unlisted-only k id (Some _) = record { tasks = refl; time = refl; processors = refl }
+
+pub reordered-only : (k : KernelState) (id priority : ℕ) (why : Option WaitReason) → OnlyLists k (reordered_in k id priority why)
+reordered-only k id priority None = record { tasks = refl; time = refl; processors = refl }
+reordered-only k id priority (Some reason.Sleep) = record { tasks = refl; time = refl; processors = refl }
+reordered-only k id priority (Some _) = record { tasks = refl; time = refl; processors = refl }
 
 -- Waits that end by time.
 
-pub time-unlisted : (k : KernelState) (id : ℕ) (why : Option WaitReason) → (unlisted_from k id why).time ≡ k.time
-time-unlisted k id None = refl
-time-unlisted k id (Some reason.Sleep) = refl
-time-unlisted k id (Some reason.Delay) = refl
-time-unlisted k id (Some (reason.Semaphore object)) = refl
-time-unlisted k id (Some (reason.Flag object)) = refl
-time-unlisted k id (Some (reason.Send object)) = refl
-time-unlisted k id (Some (reason.Receive object)) = refl
-
 time-out : (k : KernelState) (id : ℕ) → (timed_out k id).time ≡ with_due k.time id None
-time-out k id = ap (λ (t : Time). with_due t id None) (time-unlisted k id (reason_of k id))
+time-out k id = ap (λ (t : Time). with_due t id None) (unlisted-only k id (reason_of k id)).time
 
 -- the wait of the next one has ended
 pub timed-turn : (k new : KernelState) (from id : ℕ) → next_due_of k.time from ≡ Some id → new ≡ timed_out k id →

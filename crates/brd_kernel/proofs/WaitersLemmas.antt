@@ -26,25 +26,17 @@ pub semaphore-rewrites : (f : Semaphore → Semaphore) (k : KernelState) (id : �
     (other : WaitReason) →
     standing_for (record k { semaphores = object_changed f k.semaphores id }) other ≡
     (if stands_in (reason.Semaphore id) other then (f s).waiters else standing_for k other)
-semaphore-rewrites f k id s there reason.Sleep = refl
-semaphore-rewrites f k id s there reason.Delay = refl
 semaphore-rewrites f k id s there (reason.Semaphore object) =
     ap semaphore_waiters (object-changed f k.semaphores id object s there)
     ∙ if-lift semaphore_waiters (id == object) (Some (f s)) (object_at k.semaphores object)
-semaphore-rewrites f k id s there (reason.Flag object) = refl
-semaphore-rewrites f k id s there (reason.Send object) = refl
-semaphore-rewrites f k id s there (reason.Receive object) = refl
+semaphore-rewrites f k id s there _ = refl
 
 pub flag-rewrites : (f : Flag → Flag) (k : KernelState) (id : ℕ) (g : Flag) → object_at k.flags id ≡ Some g → (other : WaitReason) →
     standing_for (record k { flags = object_changed f k.flags id }) other ≡
     (if stands_in (reason.Flag id) other then plain (f g).waiters else standing_for k other)
-flag-rewrites f k id g there reason.Sleep = refl
-flag-rewrites f k id g there reason.Delay = refl
-flag-rewrites f k id g there (reason.Semaphore object) = refl
 flag-rewrites f k id g there (reason.Flag object) =
     ap flag_waiters (object-changed f k.flags id object g there) ∙ if-lift flag_waiters (id == object) (Some (f g)) (object_at k.flags object)
-flag-rewrites f k id g there (reason.Send object) = refl
-flag-rewrites f k id g there (reason.Receive object) = refl
+flag-rewrites f k id g there _ = refl
 
 -- of a queue one list stays
 
@@ -58,27 +50,21 @@ pub sender-rewrites : (f : DataQueueState → DataQueueState) (k : KernelState) 
     (f q).receivers ≡ q.receivers → (other : WaitReason) →
     standing_for (record k { queues = object_changed f k.queues id }) other ≡
     (if stands_in (reason.Send id) other then plain (f q).senders else standing_for k other)
-sender-rewrites f k id q there same reason.Sleep = refl
-sender-rewrites f k id q there same reason.Delay = refl
-sender-rewrites f k id q there same (reason.Semaphore object) = refl
-sender-rewrites f k id q there same (reason.Flag object) = refl
 sender-rewrites f k id q there same (reason.Send object) =
     ap senders (object-changed f k.queues id object q there) ∙ if-lift senders (id == object) (Some (f q)) (object_at k.queues object)
 sender-rewrites f k id q there same (reason.Receive object) =
     ap receivers (object-changed f k.queues id object q there) ∙ list-stays (id == object) receivers k.queues id object q (f q) refl there same
+sender-rewrites f k id q there same _ = refl
 
 pub receiver-rewrites : (f : DataQueueState → DataQueueState) (k : KernelState) (id : ℕ) (q : DataQueueState) → object_at k.queues id ≡ Some q →
     (f q).senders ≡ q.senders → (other : WaitReason) →
     standing_for (record k { queues = object_changed f k.queues id }) other ≡
     (if stands_in (reason.Receive id) other then (f q).receivers else standing_for k other)
-receiver-rewrites f k id q there same reason.Sleep = refl
-receiver-rewrites f k id q there same reason.Delay = refl
-receiver-rewrites f k id q there same (reason.Semaphore object) = refl
-receiver-rewrites f k id q there same (reason.Flag object) = refl
 receiver-rewrites f k id q there same (reason.Send object) =
     ap senders (object-changed f k.queues id object q there) ∙ list-stays (id == object) senders k.queues id object q (f q) refl there (ap plain same)
 receiver-rewrites f k id q there same (reason.Receive object) =
     ap receivers (object-changed f k.queues id object q there) ∙ if-lift receivers (id == object) (Some (f q)) (object_at k.queues object)
+receiver-rewrites f k id q there same _ = refl
 
 -- All objects of a kind are changed: what a change makes of each list it makes of all of that kind.
 
@@ -94,11 +80,7 @@ pub semaphores-all : (R : List Plain → List Plain → Type 0) (f : Semaphore �
 semaphores-all R f k object p own rest (reason.Semaphore at) =
     subst (λ x. R (semaphore_waiters x) (semaphore_waiters (object_at k.semaphores at))) (sym (mapped-at f k.semaphores at))
     (own (object_at k.semaphores at))
-semaphores-all R f k object p own rest reason.Sleep = rest reason.Sleep refl
-semaphores-all R f k object p own rest reason.Delay = rest reason.Delay refl
-semaphores-all R f k object p own rest (reason.Flag at) = rest (reason.Flag at) refl
-semaphores-all R f k object p own rest (reason.Send at) = rest (reason.Send at) refl
-semaphores-all R f k object p own rest (reason.Receive at) = rest (reason.Receive at) refl
+semaphores-all R f k object p own rest other = rest other refl
 
 pub flags-all : (R : List Plain → List Plain → Type 0) (f : Flag → Flag) (k : KernelState) (object p : ℕ) →
     ((found : Option Flag) → R (flag_waiters (option_map f found)) (flag_waiters found)) →
@@ -106,19 +88,12 @@ pub flags-all : (R : List Plain → List Plain → Type 0) (f : Flag → Flag) (
     (other : WaitReason) → R (standing_for (record k { flags = objects_changed f k.flags }) other) (standing_for k other)
 flags-all R f k object p own rest (reason.Flag at) =
     subst (λ x. R (flag_waiters x) (flag_waiters (object_at k.flags at))) (sym (mapped-at f k.flags at)) (own (object_at k.flags at))
-flags-all R f k object p own rest reason.Sleep = rest reason.Sleep refl
-flags-all R f k object p own rest reason.Delay = rest reason.Delay refl
-flags-all R f k object p own rest (reason.Semaphore at) = rest (reason.Semaphore at) refl
-flags-all R f k object p own rest (reason.Send at) = rest (reason.Send at) refl
-flags-all R f k object p own rest (reason.Receive at) = rest (reason.Receive at) refl
+flags-all R f k object p own rest other = rest other refl
 
 abbrev pub of_queue : WaitReason → Bool
-of_queue reason.Sleep = false
-of_queue reason.Delay = false
-of_queue (reason.Semaphore object) = false
-of_queue (reason.Flag object) = false
 of_queue (reason.Send object) = true
 of_queue (reason.Receive object) = true
+of_queue _ = false
 
 pub queues-all : (R : List Plain → List Plain → Type 0) (f : DataQueueState → DataQueueState) (k : KernelState) →
     ((found : Option DataQueueState) → R (senders (option_map f found)) (senders found)) →
@@ -129,26 +104,15 @@ queues-all R f k own-senders own-receivers rest (reason.Send at) =
     subst (λ x. R (senders x) (senders (object_at k.queues at))) (sym (mapped-at f k.queues at)) (own-senders (object_at k.queues at))
 queues-all R f k own-senders own-receivers rest (reason.Receive at) =
     subst (λ x. R (receivers x) (receivers (object_at k.queues at))) (sym (mapped-at f k.queues at)) (own-receivers (object_at k.queues at))
-queues-all R f k own-senders own-receivers rest reason.Sleep = rest reason.Sleep refl
-queues-all R f k own-senders own-receivers rest reason.Delay = rest reason.Delay refl
-queues-all R f k own-senders own-receivers rest (reason.Semaphore at) = rest (reason.Semaphore at) refl
-queues-all R f k own-senders own-receivers rest (reason.Flag at) = rest (reason.Flag at) refl
+queues-all R f k own-senders own-receivers rest other = rest other refl
 
 pub send-elsewhere : (object p : ℕ) (other : WaitReason) → of_queue other ≡ false → wanted (Some (reason.Send object, p)) other ≡ None
-send-elsewhere object p reason.Sleep not_queue = refl
-send-elsewhere object p reason.Delay not_queue = refl
-send-elsewhere object p (reason.Semaphore at) not_queue = refl
-send-elsewhere object p (reason.Flag at) not_queue = refl
 send-elsewhere object p (reason.Send at) not_queue = absurd (true≢false not_queue)
-send-elsewhere object p (reason.Receive at) not_queue = refl
+send-elsewhere object p _ not_queue = refl
 
 pub receive-elsewhere : (object p : ℕ) (other : WaitReason) → of_queue other ≡ false → wanted (Some (reason.Receive object, p)) other ≡ None
-receive-elsewhere object p reason.Sleep not_queue = refl
-receive-elsewhere object p reason.Delay not_queue = refl
-receive-elsewhere object p (reason.Semaphore at) not_queue = refl
-receive-elsewhere object p (reason.Flag at) not_queue = refl
-receive-elsewhere object p (reason.Send at) not_queue = refl
 receive-elsewhere object p (reason.Receive at) not_queue = absurd (true≢false not_queue)
+receive-elsewhere object p _ not_queue = refl
 
 -- none stands twice in a list that none stood in twice
 abbrev pub StaysApart : List Plain → List Plain → Type 0

@@ -23,11 +23,11 @@ use Rattle.brd_objects.specs.Flags.{flag_awaited}
 use Rattle.brd_objects.specs.DataQueues.{DataQueueState, awaited_by_sender, awaited_by_receiver}
 use Rattle.brd_kernel.specs.declared.processor.Processor.{Processor}
 use Rattle.brd_kernel.specs.Kernel.{KernelState, with_tasks, with_processor}
-use Rattle.brd_kernel.specs.Waits.{priority_of, can_wait, with_wait, released_in, reason_of, unlisted_from, unlisted, broken_off, ended_in, reordered_in}
+use Rattle.brd_kernel.specs.Waits.{priority_of, can_wait, with_wait, released_in, reason_of, unlisted, broken_off, ended_in, reordered_in}
 use Rattle.brd_kernel.specs.Services.{callers_priority, with_priority_in}
 use Rattle.brd_kernel.specs.Waiting.{plain, semaphore_waiters, flag_waiters, senders, receivers, standing_for}
 use Rattle.brd_kernel.proofs.ListLemmas.{priority_in-plain, priority_in-placed, priority_in-first, apart-plain, apart-wanting, apart-placed}
-use Rattle.brd_kernel.proofs.WaitLemmas.{time-unlisted}
+use Rattle.brd_kernel.proofs.WaitLemmas.{unlisted-only, reordered-only}
 use Rattle.brd_kernel.proofs.StandingLemmas.{stands_in, stands-same, waits_by, waits, IsTimedBy, Stands, StandsIn}
 use Rattle.brd_kernel.proofs.KeepingLemmas.{IsEntered, Rewrites, by-lists, by-rows, by-ending, by-beginning, by-priority, by-leaving-one, apart-rewritten}
 use Rattle.brd_kernel.proofs.RowLemmas.{IsAsBefore, changed-before, ended-made, released-made, blocked-made, changed-made, row-small}
@@ -71,20 +71,11 @@ released-keep k id answer second but was =
     (lists-by k (released_in k id answer second) refl refl refl)
     (by-ending id but k.tasks (released_with k.tasks id answer second) k.time (standing_for k) made.long made.now was)
 
-tasks-unlisted : (k : KernelState) (id : ℕ) (why : Option WaitReason) → (unlisted_from k id why).tasks ≡ k.tasks
-tasks-unlisted k id None = refl
-tasks-unlisted k id (Some reason.Sleep) = refl
-tasks-unlisted k id (Some reason.Delay) = refl
-tasks-unlisted k id (Some (reason.Semaphore object)) = refl
-tasks-unlisted k id (Some (reason.Flag object)) = refl
-tasks-unlisted k id (Some (reason.Send object)) = refl
-tasks-unlisted k id (Some (reason.Receive object)) = refl
-
 unlisted-stands : (k : KernelState) (id : ℕ) → StandsIn [] k → StandsIn (id ∷ []) (unlisted k id)
 unlisted-stands k id was =
     let out : KernelState = unlisted k id in
-    subst (λ t. Stands (id ∷ []) t out.time (standing_for out)) (sym (tasks-unlisted k id (reason_of k id)))
-    (subst (λ m. Stands (id ∷ []) k.tasks m (standing_for out)) (sym (time-unlisted k id (reason_of k id))) (unlisted-out k id was))
+    subst (λ t. Stands (id ∷ []) t out.time (standing_for out)) (sym (unlisted-only k id (reason_of k id)).tasks)
+    (subst (λ m. Stands (id ∷ []) k.tasks m (standing_for out)) (sym (unlisted-only k id (reason_of k id)).time) (unlisted-out k id was))
 
 pub broken-keeps : (k : KernelState) (id answer : ℕ) → StandsIn [] k → StandsIn [] (broken_off k id answer)
 broken-keeps k id answer was = released-keep (unlisted k id) id answer None [] (unlisted-stands k id was)
@@ -260,22 +251,6 @@ enters-receiver k id p object q there was small =
 
 -- Another priority.
 
-tasks-reordered : (k : KernelState) (id p : ℕ) (why : WaitReason) → (reordered_in k id p (Some why)).tasks ≡ k.tasks
-tasks-reordered k id p reason.Sleep = refl
-tasks-reordered k id p reason.Delay = refl
-tasks-reordered k id p (reason.Semaphore object) = refl
-tasks-reordered k id p (reason.Flag object) = refl
-tasks-reordered k id p (reason.Send object) = refl
-tasks-reordered k id p (reason.Receive object) = refl
-
-time-reordered : (k : KernelState) (id p : ℕ) (why : WaitReason) → (reordered_in k id p (Some why)).time ≡ k.time
-time-reordered k id p reason.Sleep = refl
-time-reordered k id p reason.Delay = refl
-time-reordered k id p (reason.Semaphore object) = refl
-time-reordered k id p (reason.Flag object) = refl
-time-reordered k id p (reason.Send object) = refl
-time-reordered k id p (reason.Receive object) = refl
-
 pub priority-keeps : (k : KernelState) (id p : ℕ) (task : Task) (why : Option WaitReason) → task_at k.tasks id ≡ Some task →
     waiting_of task.status ≡ why → StandsIn [] k →
     StandsIn [] (with_priority_in k id p why)
@@ -291,7 +266,7 @@ priority-keeps k id p task (Some why) there waiting was =
     let stood : Stands [] k.tasks k.time (standing_for on) =
     by-lists [] k.tasks k.time (standing_for k) (standing_for on) (lists-by k on refl refl refl) was in
     let moved : IsMoved id p (standing_for on) (standing_for new) = moved-by-reason on k.tasks k.time id p task.priority why is stood in
-    subst (λ x. Stands [] x new.time (standing_for new)) (sym (tasks-reordered on id p why))
-    (subst (λ m. Stands [] t m (standing_for new)) (sym (time-reordered on id p why))
+    subst (λ x. Stands [] x new.time (standing_for new)) (sym (reordered-only on id p (Some why)).tasks)
+    (subst (λ m. Stands [] t m (standing_for new)) (sym (reordered-only on id p (Some why)).time)
     (by-priority id p (why, task.priority) k.tasks t k.time (standing_for on)
     (standing_for new) made.long is made.now moved.apart moved.listed stood))
