@@ -1,5 +1,5 @@
 -- What is there, with the bytes that are left as they stand in a string, is what there was, a quote, and all of them.
-use Rattle.std.proofs.Common.{◌≡◌, [], ◌∷◌, ◌++◌, drop}
+use Rattle.std.proofs.Common.{◌≡◌, ◌∷◌, ◌++◌, drop}
 use Rattle.std.specs.List.{flat_map}
 use Rattle.brd_timeline.specs.Escapes.{json_byte}
 use Rattle.brd_timeline.proofs.escape.put_json.Given as goal
