@@ -1,8 +1,8 @@
 #!/bin/bash
 # The tests of libraries by themselves, by the programs of other crates that `rt ci` leaves: each growth that is refused
 # to the readers of configurations, journals and object files, to boot, build and load, to journals, debuggers, stations
-# and races; how often a station asks for memory; and object files of GNU ld. tests/libraries.sh PROGRAM (which it
-# doesn't run).
+# and races, and to pictures of timelines; how often a station asks for memory; what these pictures hold; and object
+# files of GNU ld. tests/libraries.sh PROGRAM (which it doesn't run).
 . "$(dirname "$0")/check.sh"
 . tests/growths.sh
 rows=crates/config_rows/out/config_rows
@@ -12,6 +12,7 @@ elf=crates/elf_bench/out/elf_bench
 builds=crates/image_rows/out/image_rows
 debuggers=crates/debug_rows/out/debug_rows
 threads=crates/thread_rows/out/thread_rows
+timelines=crates/timeline_rows/out/timeline_rows
 
 # built PROGRAM: whether `rt ci` has left it; a line says that its tests are skipped where it hasn't.
 built() {
@@ -56,6 +57,16 @@ if built "$threads"; then
     cp crates/thread_rows/stdin "$work/in"
     "$threads" < "$work/in" > "$work/wanted"
     refuse_each "stations and races" 1 "*[Mm]emory*" "$threads"
+fi
+
+# Pictures of timelines, which are also read back.
+if built "$timelines"; then
+    cp crates/timeline_rows/stdin "$work/in"
+    "$timelines" < "$work/in" > "$work/wanted"
+    refuse_each "pictures of timelines" 1 "*[Mm]emory*" "$timelines"
+    if have python3 "timelines read back"; then
+        check_script "timelines read back" tests/timelines "$timelines"
+    fi
 fi
 
 # The events of a station's board take no memory: some by steps, scripts and leases, or 100,000 and more, ask for it

@@ -1,7 +1,8 @@
--- Which symbol an address goes by.
-use Rattle.std.specs.Prelude.{ℕ, Bool, ◌&&◌, nat_le, nat_lt, if◌then◌else◌, List, Option, Some, None}
+-- Which symbol an address goes by, and how that is written.
+use Rattle.std.specs.Prelude.{ℕ, ◌-◌, Bool, ◌&&◌, ◌==◌, nat_le, nat_lt, if◌then◌else◌, List, [], ◌∷◌, ◌++◌, Option, Some, None, codes}
 use Rattle.std.specs.List.{fold}
 use Rattle.brd_base.specs.Space.{base, top}
+use Rattle.brd_text.specs.Hex.{hex_of}
 use Rattle.brd_mem.specs.declared.image.Symbol.{Symbol}
 
 -- a value from the first address of RAM to this address; other values are numbers, or addresses of something else
@@ -20,3 +21,24 @@ nearer address found s = if is_nearer address found s then Some s else found
 -- RAM has
 abbrev pub nearest_of : List Symbol → ℕ → Option Symbol
 nearest_of symbols address = if nat_lt address top then fold (nearer address) None symbols else None
+
+-- digits without the zeros before them; the last digit stays
+abbrev pub without_zeros : List ℕ → List ℕ
+without_zeros [] = []
+without_zeros (d ∷ []) = d ∷ []
+without_zeros (d ∷ e ∷ ds) = if d == 48 then without_zeros (e ∷ ds) else d ∷ e ∷ ds
+
+-- 0x, and hexadecimal digits without leading zeros
+abbrev pub short_hex : ℕ → List ℕ
+short_hex n = codes "0x" ++ without_zeros (hex_of n)
+
+abbrev pub distance_text : ℕ → List ℕ
+distance_text distance = if distance == 0 then [] else 43 ∷ short_hex distance
+
+-- a symbol's name and the distance from it; an address that has no symbol, as eight digits
+abbrev pub text_by : Option Symbol → ℕ → List ℕ
+text_by None address = hex_of address
+text_by (Some s) address = s.name ++ distance_text (address - s.value)
+
+abbrev pub place_text : List Symbol → ℕ → List ℕ
+place_text symbols address = text_by (nearest_of symbols address) address

@@ -5,6 +5,7 @@
 #![tactic(auto)]
 
 mod instruction;
+pub mod laws;
 mod name;
 mod number;
 mod operand;

@@ -1,6 +1,6 @@
 //! Addresses by the symbols of an image.
 
-ghost use Rattle.std.specs.Prelude.{◌≡◌, option_map};
+ghost use Rattle.std.specs.Prelude.{◌≡◌, ◌++◌, option_map, OnOk};
 ghost use Rattle.brd_listing.specs.Places as places;
 
 use crate::number::put_hex;
@@ -40,13 +40,21 @@ fn is_nearer(found: Option<&Symbol>, symbol: &Symbol, address: u32) -> bool
 
 /// Puts an address at the end: its nearest symbol and the distance from it, as `main+0x1c`, without a distance of 0;
 /// eight hexadecimal digits where it has no symbol. Where memory runs out, a front of it may be there.
-pub fn write_place(symbols: &[Symbol], address: u32, to: &mut Vec<u8>) -> Result<(), NoMemory> {
+pub fn write_place(symbols: &[Symbol], address: u32, to: &mut Vec<u8>) -> Result<(), NoMemory>
+    ensures { OnOk result (to.new.items ≡ to.old.items ++ places.place_text symbols.now address) }
+{
     let Some(symbol) = nearest(symbols, address) else {
         to.extend_from_slice(&hex_digits(address))?;
         return Ok(());
     };
     to.extend_from_slice(symbol.name.as_slice())?;
-    let distance = address.wrapping_sub(symbol.value);
+    put_distance(to, address.saturating_sub(symbol.value))
+}
+
+/// Puts the distance from a symbol at the end, where it isn't 0.
+fn put_distance(to: &mut Vec<u8>, distance: u32) -> Result<(), NoMemory>
+    ensures { OnOk result (to.new.items ≡ to.old.items ++ places.distance_text distance) }
+{
     if distance == 0 {
         return Ok(());
     }

@@ -7,17 +7,27 @@ use crate::number::{put, put_attribute, put_decimal};
 use crate::timeline::Timeline;
 use brd_base::NoMemory;
 
-/// The most labels of an axis, about, and the most lines of ticks.
+/// The most labels of an axis, about, fewer where the numbers are long; and the most lines of ticks.
 const LABELS: u64 = 12;
 
+const LONG_LABELS: u64 = 5;
+
+const LONG: u64 = 1_000_000_000;
+
 const LINES: u64 = 260;
+
+/// How far the number of a tick is from the next at least: ticks may be close together.
+const ROOM: u32 = 500;
 
 /// Puts the axis of events at the end, with a line through all lanes at each label.
 pub(crate) fn put_events(to: &mut Vec<u8>, timeline: &Timeline) -> Result<(), NoMemory> {
     let bottom = bottom_of(timeline);
     put_line(to, "#999999", (LEFT, bottom), (LEFT + SPAN, bottom))?;
     put_title(to, "events", bottom + 160)?;
-    let step = step_of(timeline.to.saturating_sub(timeline.from), LABELS);
+    let step = step_of(
+        timeline.to.saturating_sub(timeline.from),
+        labels_for(timeline.to),
+    );
     let mut at = multiple_from(timeline.from, step);
     for _ in 0..2 * LABELS {
         if at > timeline.to {
@@ -41,24 +51,35 @@ fn put_event(to: &mut Vec<u8>, timeline: &Timeline, at: u64, bottom: u32) -> Res
     put_number(to, at, x, bottom + 160)
 }
 
-/// Puts the axis of ticks at the end. Where there are many ticks, only some have a line, and fewer a number.
+/// Puts the axis of ticks at the end. Where there are many ticks, only some have a line, and fewer a number; of those
+/// that are close together, only some have a number.
 pub(crate) fn put_ticks(to: &mut Vec<u8>, timeline: &Timeline) -> Result<(), NoMemory> {
     let bottom = bottom_of(timeline) + 260;
     put_line(to, "#999999", (LEFT, bottom), (LEFT + SPAN, bottom))?;
     put_title(to, "ticks", bottom + 160)?;
     let count = timeline.ticks.len() as u64;
-    let (lines, labels) = (step_of(count, LINES), step_of(count, LABELS));
+    let (lines, labels) = (
+        step_of(count, LINES),
+        step_of(count, labels_for(timeline.first_tick.saturating_add(count))),
+    );
+    let mut free = 0;
     for (place, at) in timeline.ticks.iter().enumerate() {
         let number = timeline.first_tick.saturating_add(place as u64);
         let x = x_of(timeline, *at);
         if number.checked_rem(lines) == Some(0) {
             put_line(to, "#000000", (x, bottom - 40), (x, bottom))?;
         }
-        if number.checked_rem(labels) == Some(0) {
+        if number.checked_rem(labels) == Some(0) && free <= x {
             put_number(to, number, x, bottom + 160)?;
+            free = x.saturating_add(ROOM);
         }
     }
     Ok(())
+}
+
+/// How many labels an axis has at most, about, whose greatest number is this one.
+fn labels_for(greatest: u64) -> u64 {
+    if greatest < LONG { LABELS } else { LONG_LABELS }
 }
 
 /// The least of 1, 2, 5, 10, 20, 50 and so on of which at most so many make up a length.

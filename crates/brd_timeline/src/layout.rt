@@ -10,8 +10,8 @@ pub(crate) const WIDTH: u32 = 12_000;
 /// Where the lanes begin: the names stand before.
 pub(crate) const LEFT: u32 = 1_400;
 
-/// How wide the lanes are.
-pub(crate) const SPAN: u32 = 10_400;
+/// How wide the lanes are. The last number of an axis needs some room after them.
+pub(crate) const SPAN: u32 = 10_000;
 
 /// Where the first lane is: the legend stands above.
 pub(crate) const TOP: u32 = 600;
@@ -31,7 +31,7 @@ pub(crate) const AXES: u32 = 600;
 /// Where a position is. One before the picture's first is there, and one after its last is at the end.
 pub(crate) fn x_of(timeline: &Timeline, position: u64) -> u32
     ensures left { 1400 ≤ result }
-    ensures right { result ≤ 11800 }
+    ensures right { result ≤ 11400 }
 {
     let length = timeline.to.saturating_sub(timeline.from);
     let done = position.saturating_sub(timeline.from).min(length);
@@ -40,7 +40,7 @@ pub(crate) fn x_of(timeline: &Timeline, position: u64) -> u32
 
 /// Which part of `SPAN` a part of a length is.
 fn share_of(part: u64, whole: u64) -> u32
-    ensures { result ≤ 10400 }
+    ensures { result ≤ 10000 }
 {
     if whole == 0 {
         return 0;

@@ -58,7 +58,7 @@ fn put_marks(to: &mut Vec<u8>, timeline: &Timeline) -> Result<(), NoMemory> {
     let mut x = LEFT;
     for kind in MARKS {
         if has_mark(timeline, kind) {
-            put_shape(to, kind, x + 60, mark_top(kind))?;
+            put_shape(to, kind, x.saturating_add(60), mark_top(kind))?;
             put(to, "</path>\n")?;
             put_name(to, mark_name(kind), x, MARK_ROW)?;
             x = after(x, mark_name(kind));

@@ -74,7 +74,7 @@ pub(crate) fn put_slice(
 
 /// Puts the bar of a slice at the end, with what a browser shows of it under the pointer.
 fn put_bar(to: &mut Vec<u8>, slice: &Slice, x: u32, y: u32, width: u32) -> Result<(), NoMemory>
-    requires across { x ≤ 11800 }
+    requires across { x ≤ 11400 }
     requires down { y ≤ 3000000 }
 {
     let gap = if width < PARTED { 0 } else { 5 };
@@ -99,7 +99,7 @@ fn put_bar(to: &mut Vec<u8>, slice: &Slice, x: u32, y: u32, width: u32) -> Resul
 
 /// Puts the label of a slice at the end, where its bar has room for it.
 fn put_label(to: &mut Vec<u8>, slice: &Slice, x: u32, y: u32, width: u32) -> Result<(), NoMemory>
-    requires across { x ≤ 11800 }
+    requires across { x ≤ 11400 }
     requires down { y ≤ 3000000 }
 {
     let label = label_or(&slice.label, kind_name(slice.kind));

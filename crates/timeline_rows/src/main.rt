@@ -44,7 +44,7 @@ const MARKS: [MarkKind; 4] = [
 fn bytes_of(alloc: Global, text: &str) -> Result<Vec<u8>, AllocError> {
     let mut bytes = Vec::new(alloc);
     let mut rest = text.as_bytes();
-    while let [byte, after @ ..] = rest {
+    while let Some((byte, after)) = rest.split_first() {
         rest = after;
         match after {
             [high, low, behind @ ..] if *byte == b'~' => {
