@@ -1,9 +1,9 @@
 -- What the program takes: its commands, and the arguments of each in the order in which they are given.
 use Rattle.std.specs.Prelude.{◌≡◌, ◌∷◌, List, [], Some, codes, fold, map, pos, true}
 use Rattle.clap.specs.Words.{AddsSubcommand, App, Rule, Text, app_of, new_app, new_rule, with_rule, with_subcommand}
-use Rattle.clap.specs.declared.builder.action.ArgAction.TheVariants.{Set}
+use Rattle.clap.specs.declared.builder.action.ArgAction.TheVariants.{Set, SetTrue}
 use Rattle.clap.specs.declared.builder.command.Command.{Command}
-use Rattle.clap.specs.declared.builder.value_parser.ValueParser.TheVariants.{Signed}
+use Rattle.clap.specs.declared.builder.value_parser.ValueParser.TheVariants.{Signed, Unsigned}
 
 -- an argument that has to be given, with one value
 abbrev pub needed : Text → Rule
@@ -13,7 +13,21 @@ needed name = record (new_rule name) { required = true; action = Some Set }
 abbrev pub number : Text → Rule
 number name = record (needed name) { parser = Some (Signed (pos 0) (pos 1000000)) }
 
--- the files that `asm` takes, those that `run` and `debug` take, and those that `race` takes beside its quota
+-- an option with one value, and one without
+abbrev pub option : Text → Rule
+option name = record (new_rule name) { long = Some name; action = Some Set }
+
+abbrev pub flag : Text → Rule
+flag name = record (new_rule name) { long = Some name; action = Some SetTrue }
+
+-- an option whose value is a position, below 2 to the 64th, and one whose value is a processor, up to 255
+abbrev pub position : Text → Rule
+position name = record (option name) { parser = Some (Unsigned 0 18446744073709551615) }
+
+abbrev pub processor : Text → Rule
+processor name = record (option name) { parser = Some (Signed (pos 0) (pos 255)) }
+
+-- the files that `asm` takes, those that `run`, `debug` and `trace` take, and those that `race` takes beside its quota
 abbrev pub source_and_out : List Text
 source_and_out = codes "SOURCE" ∷ codes "OUT" ∷ []
 
@@ -52,8 +66,15 @@ race = command_with (codes "race")
 abbrev pub debug : App
 debug = command_with (codes "debug") (map needed inputs)
 
+-- `trace` takes its options before, between or after its files
+abbrev pub trace : App
+trace = command_with (codes "trace")
+    (needed (codes "IMAGE") ∷ needed (codes "CONFIG") ∷ needed (codes "JOURNAL")
+    ∷ position (codes "from") ∷ position (codes "to") ∷ processor (codes "cpu")
+    ∷ flag (codes "instructions") ∷ flag (codes "summary") ∷ option (codes "format") ∷ [])
+
 abbrev pub board : App
-board = program_with (codes "board") (words ∷ asm ∷ run ∷ race ∷ debug ∷ [])
+board = program_with (codes "board") (words ∷ asm ∷ run ∷ race ∷ debug ∷ trace ∷ [])
 
 -- where the command is added to another, a command of this form is
 abbrev pub AddsForm : App → Command → Type 0

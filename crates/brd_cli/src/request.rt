@@ -108,12 +108,13 @@ fn trace_options_of(arguments: &ArgMatches) -> TraceOptions {
     }
 }
 
-/// The form of a trace of that name; lines where none is given.
-fn format_of(name: Option<&str>) -> TraceFormat {
+/// The form of a trace of that name; lines where none is given, and none where there is no such form.
+fn format_of(name: Option<&str>) -> Option<TraceFormat> {
     match name {
-        Some("json") => TraceFormat::Json,
-        Some("svg") => TraceFormat::Svg,
-        _ => TraceFormat::Text,
+        None | Some("text") => Some(TraceFormat::Text),
+        Some("json") => Some(TraceFormat::Json),
+        Some("svg") => Some(TraceFormat::Svg),
+        Some(_) => None,
     }
 }
 

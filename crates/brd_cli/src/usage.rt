@@ -81,9 +81,6 @@ Example:
   board trace --summary hello.elf hello.cfg hello.journal
   board trace --format svg --to 500 hello.elf hello.cfg hello.journal > hello.svg";
 
-/// The names of the forms of a trace.
-const FORMATS: &[&str] = &["text", "json", "svg"];
-
 /// What the program takes: a command and its arguments.
 pub fn board_command<'a>(alloc: Global) -> Result<Command<'a>, NoMemory>
     ensures { IfOk result (λ command. app_of command ≡ board) }
@@ -202,7 +199,7 @@ fn trace_command<'a>(alloc: Global) -> Result<Command<'a>, NoMemory>
         ))?
         .arg(position(alloc, "from", "Begins with the event of position N"))?
         .arg(position(alloc, "to", "Ends before the event of position N"))?
-        .arg(processor(alloc))?
+        .arg(processor(alloc, "cpu", "Shows only what concerns processor C"))?
         .arg(flag(
             alloc,
             "instructions",
@@ -213,7 +210,11 @@ fn trace_command<'a>(alloc: Global) -> Result<Command<'a>, NoMemory>
             "summary",
             "Shows only what stands at the end, and where it went wrong",
         ))?
-        .arg(format(alloc))?;
+        .arg(option(
+            alloc,
+            "format",
+            "text, as if it weren't given; json, a timeline for Perfetto; svg, a picture of it",
+        ))?;
     Ok(command)
 }
 
@@ -227,28 +228,14 @@ fn position<'a>(alloc: Global, name: &'a str, help: &'a str) -> Arg<'a>
         .value_parser(clap::value_parser!(u64))
 }
 
-/// The option whose value is a processor.
-fn processor<'a>(alloc: Global) -> Arg<'a>
-    ensures rule { rule_of result ≡ usage.processor }
+/// An option whose value is a processor.
+fn processor<'a>(alloc: Global, name: &'a str, help: &'a str) -> Arg<'a>
+    ensures rule { rule_of result ≡ usage.processor name.entry.now }
     ensures own { result.global ≡ false }
 {
-    option(alloc, "cpu", "Shows only what concerns processor C")
+    option(alloc, name, help)
         .value_name("C")
         .value_parser(clap::value_parser!(u8))
-}
-
-/// The option whose value is the form of a trace.
-fn format<'a>(alloc: Global) -> Arg<'a>
-    ensures rule { IsFormat (rule_of result) }
-    ensures own { result.global ≡ false }
-{
-    option(
-        alloc,
-        "format",
-        "Lines, a timeline for Perfetto and chrome://tracing, or its picture",
-    )
-    .value_name("FORMAT")
-    .value_parser(FORMATS)
 }
 
 /// An option with one value.

@@ -106,6 +106,9 @@ fn write_trace<W: Write>(
         start: Start { board, journal },
         image,
     } = start;
+    let Some(format) = options.format else {
+        return Err(CommandFault::Trace(TraceFault::NoSuchFormat));
+    };
     let names = Names::new(image.symbols.as_slice());
     let from = options.from.unwrap_or(0);
     let to = options.to.unwrap_or(journal.len()).min(journal.len());
@@ -128,7 +131,7 @@ fn write_trace<W: Write>(
         return traced.write_summary(&tracer, writer);
     }
     traced.play(&mut tracer, from, writer)?;
-    match options.format {
+    match format {
         TraceFormat::Text => traced.write_lines(&mut tracer, to, writer),
         TraceFormat::Json => {
             let timeline = traced.timeline(tracer, to, writer)?;

@@ -164,6 +164,22 @@ impl Recording {
         Ok(())
     }
 
+    /// A mark in the lane of a task, by its place in the list of tasks: a tick released it.
+    pub(crate) fn mark_release(
+        &mut self,
+        alloc: Global,
+        task: usize,
+        at: u64,
+    ) -> Result<(), NoMemory> {
+        self.timeline.marks.push(Mark {
+            lane: self.processors.len().saturating_add(task),
+            at,
+            kind: MarkKind::Tick,
+            label: Vec::new(alloc),
+        })?;
+        Ok(())
+    }
+
     /// A tick: its position, and its number.
     pub(crate) fn tick(&mut self, at: u64, number: u64) -> Result<(), NoMemory> {
         if self.timeline.ticks.is_empty() {

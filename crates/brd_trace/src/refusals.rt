@@ -42,7 +42,7 @@ impl Refusals {
         put(out, " at event ")?;
         put_number(alloc, out, self.position)?;
         put(out, ", at ")?;
-        names.put_place(out, self.place)?;
+        names.put_both(out, self.place)?;
         if self.count > 1 {
             put(out, ", and ")?;
             put_count(alloc, out, self.count - 1, "time")?;

@@ -4,7 +4,8 @@ use crate::line::put_who;
 use crate::names::Names;
 use crate::tasks::{TaskSeen, put_standing};
 use crate::text::{put, put_named, put_number};
-use crate::tracer::{LastFault, Tracer};
+use crate::teller::LastFault;
+use crate::tracer::Tracer;
 use crate::waits::{put_wait, state_name};
 use brd_base::NoMemory;
 use brd_board::{Standing, TaskState};
@@ -22,7 +23,7 @@ impl Tracer {
     ) -> Result<(), NoMemory> {
         self.put_end(alloc, out)?;
         self.put_processors(alloc, names, out)?;
-        for task in self.tasks.as_slice() {
+        for task in self.teller.tasks.as_slice() {
             self.put_task(alloc, names, out, *task)?;
         }
         if self.is_stuck() {
@@ -31,7 +32,7 @@ impl Tracer {
                 "deadlock: no task is ready, and no tick and no pending interrupt releases one that waits\n",
             )?;
         }
-        for refusals in self.refusals.as_slice() {
+        for refusals in self.teller.refusals.as_slice() {
             refusals.put(alloc, names, out)?;
         }
         Ok(())
@@ -42,7 +43,7 @@ impl Tracer {
         put_named(alloc, out, "after event", self.playback.at)?;
         put(out, ", ")?;
         put_named(alloc, out, "tick", self.playback.board.now())?;
-        match self.off {
+        match self.teller.off {
             Some(position) => put_named(alloc, out, ": off since event", position)?,
             None => put(out, ": on")?,
         }
@@ -57,7 +58,7 @@ impl Tracer {
         out: &mut Vec<u8>,
     ) -> Result<(), NoMemory> {
         for cpu in 1..9u8 {
-            let standing = self.standings.at(cpu);
+            let standing = self.teller.standings.at(cpu);
             if standing.is_some() {
                 put_standing(alloc, out, cpu, standing)?;
                 put(out, "\n")?;
@@ -75,7 +76,7 @@ impl Tracer {
         out: &mut Vec<u8>,
         cpu: u8,
     ) -> Result<(), NoMemory> {
-        for fault in self.faults.as_slice() {
+        for fault in self.teller.faults.as_slice() {
             if fault.cpu == cpu {
                 put_fault(alloc, names, out, fault)?;
             }
@@ -99,7 +100,7 @@ impl Tracer {
             None => put(out, " since the start")?,
         }
         put(out, ", at ")?;
-        names.put_place(out, self.place_of(task))?;
+        names.put_both(out, self.place_of(task))?;
         if let Some(reason) = task.waiting {
             put(out, ", ")?;
             task.asked.put(alloc, out)?;
@@ -123,19 +124,19 @@ impl Tracer {
     /// Whether tasks wait, none is ready, no handler runs, no line is pending, and no tick ends a wait.
     fn is_stuck(&self) -> bool {
         let mut waits = false;
-        for task in self.tasks.as_slice() {
+        for task in self.teller.tasks.as_slice() {
             if task.state == TaskState::Ready || task.due.is_some() {
                 return false;
             }
             waits = waits || task.waiting.is_some();
         }
-        waits && self.off.is_none() && self.is_quiet() && !self.handles()
+        waits && self.teller.off.is_none() && self.teller.is_quiet() && !self.handles()
     }
 
     /// Whether a processor runs a handler.
     fn handles(&self) -> bool {
         for cpu in 1..9u8 {
-            if matches!(self.standings.at(cpu), Some(Standing::Handler(_))) {
+            if matches!(self.teller.standings.at(cpu), Some(Standing::Handler(_))) {
                 return true;
             }
         }
@@ -155,7 +156,7 @@ fn put_fault(
     put(out, ", of ")?;
     put_who(alloc, out, fault.who)?;
     put(out, " at ")?;
-    names.put_place(out, fault.place)?;
+    names.put_both(out, fault.place)?;
     put(out, ": ")?;
     out.extend_from_slice(fault.what.as_slice())?;
     put(out, "\n")

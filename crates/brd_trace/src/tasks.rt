@@ -70,6 +70,13 @@ pub(crate) fn tasks_seen(alloc: Global, board: &Board) -> Result<Vec<TaskSeen>, 
     Ok(tasks)
 }
 
+/// Writes a task anew, by its place in the list of tasks.
+pub(crate) fn put_task_seen(tasks: &mut Vec<TaskSeen>, i: usize, task: TaskSeen) {
+    if i < tasks.len() {
+        tasks[i] = task;
+    }
+}
+
 /// What an event was that may have changed tasks.
 #[derive(Clone, Copy)]
 pub(crate) struct Cause {
@@ -81,6 +88,8 @@ pub(crate) struct Cause {
     pub address: u32,
     /// Whether it may end a task that starts again then: `ext_tsk` and `ter_tsk`.
     pub restarts: bool,
+    /// Whether it is a tick.
+    pub ticks: bool,
 }
 
 impl TaskSeen {

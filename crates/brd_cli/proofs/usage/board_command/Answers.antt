@@ -1,7 +1,7 @@
 use Rattle.std.proofs.Common.{◌∙◌, ◌≡◌, ap, codes}
 use Rattle.clap.specs.Words.{AddsSubcommand, App, app_of, new_app, with_subcommand}
 use Rattle.clap.specs.declared.builder.command.Command.{Command}
-use Rattle.brd_cli.specs.Usage.{AddsForm, asm, debug, race, run, wants_command, words}
+use Rattle.brd_cli.specs.Usage.{AddsForm, asm, debug, race, run, trace, wants_command, words}
 use Rattle.brd_cli.proofs.usage.board_command.Goals as goal
 
 -- one command more
@@ -17,4 +17,5 @@ returns c =
     let two = adds asm _ _ _ _ c.in_ok-asm_command.ensures c.in_ok-subcommand-2.ensures one in
     let three = adds run _ _ _ _ c.in_ok-run_command.ensures c.in_ok-subcommand-3.ensures two in
     let four = adds race _ _ _ _ c.in_ok-race_command.ensures c.in_ok-subcommand-4.ensures three in
-    adds debug _ _ _ _ c.in_ok-debug_command.ensures c.in_ok-board.ensures four
+    let five = adds debug _ _ _ _ c.in_ok-debug_command.ensures c.in_ok-subcommand-5.ensures four in
+    adds trace _ _ _ _ c.in_ok-trace_command.ensures c.in_ok-board.ensures five
