@@ -3,6 +3,7 @@ mod changed;
 mod faults;
 mod files;
 mod large;
+mod order;
 mod runs;
 
 use brd_board::{Board, Event, Report, Standing, TaskState, TaskView};
