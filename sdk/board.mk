@@ -31,8 +31,9 @@ export CROSS ?= mips-linux-gnu-
 CC = $(CROSS)gcc
 LD = $(CROSS)ld
 
-ENDIAN := $(or $(and $(filter big,$(ORDER)),-EB),$(and $(filter little,$(ORDER)),-EL),\
-    $(error ORDER is big or little, and not '$(ORDER)'))
+ENDIAN_big = -EB
+ENDIAN_little = -EL
+ENDIAN := $(or $(ENDIAN_$(ORDER)),$(error ORDER is big or little, and not '$(ORDER)'))
 
 # Code of MIPS32 Release 1 that stays where it is linked: no code of Release 2, which Debian's GCC makes by itself; no
 # library, no floating point, no small data, which needs $gp.

@@ -76,11 +76,11 @@ $image
 $symbols" little_pages.elf
 # The byte order of a file is that of its fields: with the other one in its place its type is another.
 other() {
-  { head -c 5 "$1"; printf "$2"; tail -c +7 "$1"; } > "$3"
+  { head -c 5 "$1"; printf '%b' "$2"; tail -c +7 "$1"; } > "$3"
 }
 wrong='offset 16: a value that isn'"'"'t supported; wanted is a static ELF32 executable for MIPS'
-other small.elf '\001' small_as_little.elf
-other little.elf '\002' little_as_big.elf
+other small.elf '\0001' small_as_little.elf
+other little.elf '\0002' little_as_big.elf
 expect 'big-endian, said to be little-endian' 1 "Error: small_as_little.elf: $wrong" small_as_little.elf
 expect 'little-endian, said to be big-endian' 1 "Error: little_as_big.elf: $wrong" little_as_big.elf
 expect 'not linked' 1 "Error: big.o: $wrong" big.o

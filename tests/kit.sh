@@ -26,6 +26,13 @@ says "sdk/new with an option" 2 "use: sdk/new FOLDER" sdk/new --help
 says "sdk/new where something is" 1 "sdk/new: $work is there already" sdk/new "$work"
 says "sdk/test without a program" 2 "use: sdk/test [--accept] BOARD IMAGE CONFIG NAME.journal.." sdk/test
 says "sdk/test without a journal" 1 "FAILED: there is no journal, a file NAME.journal" sdk/test "$board" image config
+says "sdk/ordered without a program" 2 "use: sdk/ordered IMAGE JOURNAL" sdk/ordered
+printf '\177ELF\1\1\1' > "$work/little"
+printf '\177ELF\1\2\1' > "$work/big"
+printf 'board-journal 1\nS 1 2\n' > "$work/journal"
+verdict "kit: a journal for a little-endian program" \
+    "$(sdk/ordered "$work/little" "$work/journal" | diff <(printf 'board-journal 2 little\nS 1 2\n') -)"
+verdict "kit: a journal for a big-endian program" "$(sdk/ordered "$work/big" "$work/journal" | diff "$work/journal" -)"
 says "sdk/hunt without a program" 2 "use: sdk/hunt BOARD IMAGE CONFIG JOURNAL TRIES SEED OUT" sdk/hunt
 printf '%s\n' '# 0 "a.cfg"' '# 1 "<command-line>"' '#define' '# 1 "a.cfg"' '# 1 "ids.h" 1' 'CRE_SEM(2);' \
     '# 2 "a.cfg" 2' '' 'BOARD(1);' '# 7 "a.cfg"' 'CRE_SEM(1);' > "$work/marked"
@@ -74,7 +81,12 @@ for folder in "${projects[@]}"; do
         says "$name, $level" 0 "ok: firmware.journal" project "$folder" test OPTIMIZE=$level
     done
     says "$name, with STACK_CHECK" 0 "ok: firmware.journal" project "$folder" test OPTIMIZE=-O0 STACK_CHECK=1
+    for level in -O0 -O2; do
+        says "$name, little-endian, $level" 0 "ok: firmware.journal" project "$folder" test OPTIMIZE=$level ORDER=little
+    done
 done
+
+says "another byte order" 2 "*" project examples/c_program ORDER=middle
 
 # Other orders: a right program shows the same, and one with a race doesn't.
 shared=$work/kit/shared
@@ -95,6 +107,9 @@ steps() {
 order=$work/build/hunt.journal
 verdict "kit: an order has the same steps" "$(diff <(steps "$shared/firmware.journal") <(steps "$order"))"
 verdict "kit: an order is another one" "$(cmp -s "$shared/firmware.journal" "$order" && echo "it is the same")"
+says "orders of two processors, little-endian" 0 \
+    "ok: 5 orders, from seed 7 on, with the console of firmware.journal" \
+    project examples/c_two_processors hunt TRIES=5 SEED=7 ORDER=little
 says "orders of two processors" 0 "ok: 5 orders, from seed 7 on, with the console of firmware.journal" \
     project examples/c_two_processors hunt TRIES=5 SEED=7
 

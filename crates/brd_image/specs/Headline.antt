@@ -16,16 +16,16 @@ use Rattle.brd_image.specs.Building.{Builds, IsBuilt}
 use Rattle.brd_image.specs.declared.fault.BuildFault.{BuildFault}
 use Rattle.brd_image.specs.declared.running.Played.{Played}
 
--- In the image that an object file means, at the address of each line of the source with an instruction, lies a word
--- that the instruction table relates to that instruction, its operands computed with the values of all the source's
--- names.
+-- In the image that an object file means, at the address of each line of the source with an instruction, lie the bytes,
+-- in the image's byte order, of a word that the instruction table relates to that instruction, its operands computed
+-- with the values of all the source's names.
 pub record WordsDecode (source elf : List ℕ) : Type 0 where
   pub image : Image
   pub is_read : meaning elf ≡ Ok image
   pub instructions : HasInstructions source image
 
 -- The board at the start is the one that `boot` makes of the image that an object file means, and of what the
--- configuration says: its memory has the image's bytes at their addresses, and 0 elsewhere.
+-- configuration says: its memory has the image's bytes at their addresses, and 0 elsewhere, and the image's byte order.
 pub record MemoryStarts (elf config : List ℕ) (start : BoardState) : Type 0 where
   pub image : Image
   pub is_read : meaning elf ≡ Ok image

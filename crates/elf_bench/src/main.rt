@@ -1,13 +1,13 @@
 //! Reads ELF files, and measures files that are made to take long.
 //!
-//!     elf_bench         reads `firmware.elf` of the current directory, then a small file of each kind
+//!     elf_bench         reads `firmware.elf` and `little.elf` of the current directory, then a small file of each kind
 //!     elf_bench FILE    reads that file
 //!     elf_bench time    reads a large file of each kind, and says how long each takes
 //!
 //! Of a file that is an image it prints `little-endian` if it is, the entry, each segment with its size and the sum of its bytes, and each
 //! symbol. `firmware.elf` was made by GNU as and ld with `examples/firmware.ld` from a program of a few lines: it loads
 //! 112 bytes, of which the last 16 aren't in the file, and has the program headers PT_MIPS_ABIFLAGS, PT_MIPS_REGINFO
-//! and PT_GNU_STACK.
+//! and PT_GNU_STACK. `little.elf` is the same with `-EL`.
 #![tactic(auto)]
 
 mod kinds;
@@ -24,6 +24,7 @@ fn main(rt: HostRuntime) -> Result<()> {
     match args.next() {
         None => {
             show_file(&rt, "firmware.elf")?;
+            show_file(&rt, "little.elf")?;
             show_kinds(&rt)
         }
         Some(word) if word.as_str() == "time" => time_kinds(&rt),

@@ -117,7 +117,11 @@ fn turned_encoding(byte: u8) -> u8 {
 fn turn(file: &[u8], out: &mut [u8]) {
     let is_short = file.len() == SHORT.len();
     for (place, byte) in file.iter().enumerate() {
-        let byte = if place == 5 { turned_encoding(*byte) } else { *byte };
+        let byte = if place == 5 {
+            turned_encoding(*byte)
+        } else {
+            *byte
+        };
         put_byte(out, turned_place(is_short, place), byte);
     }
 }

@@ -58,9 +58,22 @@ fn put_image(text: &mut String, image: &Image) -> Result<(), AllocError> {
     put_symbols(text, image.symbols.as_slice())
 }
 
+/// Whether a segment has more bytes than that, so that a text as long as this doesn't show it. Large ones take long.
+fn has_more_bytes(image: &Image, len: usize) -> bool {
+    for segment in image.segments.as_slice() {
+        if segment.bytes.len() > len {
+            return true;
+        }
+    }
+    false
+}
+
 /// Whether an image holds what this says: `little` where it is little-endian, the entry, each segment's address and
 /// bytes, and each symbol with its value; numbers are hexadecimal.
 pub fn shows(alloc: Global, image: &Image, wanted: &str) -> bool {
+    if has_more_bytes(image, wanted.len()) {
+        return false;
+    }
     let mut text = String::new(alloc);
     put_order(&mut text, image.order).is_ok()
         && put_image(&mut text, image).is_ok()
@@ -69,10 +82,11 @@ pub fn shows(alloc: Global, image: &Image, wanted: &str) -> bool {
 
 /// Whether an image is little-endian, and else holds what this says.
 pub fn shows_little(alloc: Global, image: &Image, wanted: &str) -> bool {
+    if image.order == Order::Big || has_more_bytes(image, wanted.len()) {
+        return false;
+    }
     let mut text = String::new(alloc);
-    image.order == Order::Little
-        && put_image(&mut text, image).is_ok()
-        && text.as_str() == wanted
+    put_image(&mut text, image).is_ok() && text.as_str() == wanted
 }
 
 /// Whether a fault is called so, as `Range { line: 2 }`.

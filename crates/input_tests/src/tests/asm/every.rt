@@ -150,6 +150,7 @@ _start:\n\
 
 /// Where in `WORDS` the halfwords begin, and the bytes behind them; before them there are words.
 pub const HALVES_AT: usize = 127;
+
 pub const BYTES_AT: usize = 130;
 
 /// What stands from 0x80000000 on.

@@ -19,7 +19,7 @@ const SAID: &[Row] = &[
         "little 80000000 80000000:0100feff008001fe44332211feffffff616263",
     ),
     (
-        ".byteorder little\n.org 0x80000004\na: .word a, b\n.org 0x80000000\nb: .space 2\n.half b-a\n",
+        ".byteorder little\n.org 0x80000004\na: .word a, b\n.org 0x80000000\nb: .space 2\n.half b-0x80000004\n",
         "little 80000000 80000000:0000fcff0400008000000080 a=80000004 b=80000000",
     ),
     (".byteorder little", "little 80000000"),

@@ -83,11 +83,13 @@ const AMONG_SYMBOLS: &[(usize, u8)] = &[
 fn a_name_among_the_symbols(rt: HostRuntime) {
     let mut file = ASSEMBLED;
     put_changes(&mut file, AMONG_SYMBOLS);
-    assert!(rt; is_read_as(
-        rt.alloc(),
-        &file,
-        "80000000 80000000:3c0880008d09000c0000000000000007 x=80000000 d=8000000c",
-    ));
+    assert!(rt;
+        is_read_as(
+            rt.alloc(),
+            &file,
+            "80000000 80000000:3c0880008d09000c0000000000000007 x=80000000 d=8000000c",
+        )
+    );
 }
 
 /// The strings `ab`, `xab` and again `ab` in the place of those of `ASSEMBLED`.

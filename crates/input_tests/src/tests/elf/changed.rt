@@ -1,8 +1,7 @@
 //! The files cut off anywhere, and with any byte changed.
 
 use super::{
-    ASSEMBLED, ASSEMBLED_SHOWN, SHORT, SHORT_SHOWN, is_read_as, shows,
-    shows_little, turn,
+    ASSEMBLED, ASSEMBLED_SHOWN, SHORT, SHORT_SHOWN, is_read_as, shows, shows_little, turn,
 };
 use brd_elf::{ElfFault, read};
 use brd_mem::Image;

@@ -1,12 +1,12 @@
 //! The file of a little-endian source.
 
+use super::super::shown::shows;
 use super::{ASSEMBLED, turn};
 use brd_asm::assemble;
 use brd_elf::{read, write};
 use brd_mem::is_plain;
 use std::alloc::Global;
 use test_help::put_byte;
-use super::super::shown::shows;
 
 /// The source of `ASSEMBLED`, behind a line that says that it is little-endian.
 const SOURCE: &str =
