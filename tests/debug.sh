@@ -81,7 +81,7 @@ debug "a journal for CONFIG" 1 "$work/nothing" \
     "board: the configuration: line 1: found what no statement has here, expected one in the form of its kind; it looks like a journal" \
     "$work/five" $journal $config
 debug "an object file for JOURNAL" 1 "$work/nothing" \
-    "board: the journal: line 1: expected \`board-journal 1\` first, then lines \`S CPU COUNT\`, \`T COUNT\` and \`R LINE COUNT\`; it looks like an object file" \
+    "board: the journal: line 1: expected \`board-journal 2 big\` or \`board-journal 2 little\` first, then lines \`S CPU COUNT\`, \`T COUNT\` and \`R LINE COUNT\`; it looks like an object file" \
     "$work/five" $config "$work/five"
 head -c 134217729 /dev/zero > "$work/long"
 debug "a journal that is too long" 4 "$work/nothing" "board: the journal is longer than 134,217,728 bytes" \

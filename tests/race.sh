@@ -150,7 +150,7 @@ END
 printf 'T 4\n' > "$work/text"
 "$board" run "$work/loop" "$work/one" "$work/text" > "$work/out" 2> "$work/err"
 check "a script as a journal" 1 "$work/nothing" \
-    "board: the journal: line 1: expected \`board-journal 1\` first, then lines \`S CPU COUNT\`, \`T COUNT\` and \`R LINE COUNT\`; it looks like a script" $?
+    "board: the journal: line 1: expected \`board-journal 2 big\` or \`board-journal 2 little\` first, then lines \`S CPU COUNT\`, \`T COUNT\` and \`R LINE COUNT\`; it looks like a script" $?
 
 # Writing fails.
 journal=/dev/full

@@ -54,7 +54,7 @@ run "JOURNAL is a folder" 4 "$work/nothing" "board: can't read the journal: $is_
 # another kind than it should be of, or that it is empty.
 faults=("the object file: no ELF file: it doesn't begin with the bytes 7F 45 4C 46"
     "the configuration: line 1: found what no statement has here, expected one in the form of its kind"
-    "the journal: line 1: expected \`board-journal 1\` first, then lines \`S CPU COUNT\`, \`T COUNT\` and \`R LINE COUNT\`")
+    "the journal: line 1: expected \`board-journal 2 big\` or \`board-journal 2 little\` first, then lines \`S CPU COUNT\`, \`T COUNT\` and \`R LINE COUNT\`")
 printf 'nop\0' > "$work/bytes"
 printf '{ BOARD(1, 0x10000);\n' > "$work/brace"
 printf 'BOARD (2;\n' > "$work/board"

@@ -13,9 +13,10 @@ use std::alloc::Global;
 const FILES: &str = "\
 Files:
   source         text in the assembler's language: an instruction or a directive a line
-  object file    a big-endian ELF32 executable for MIPS, as `board asm` writes it
+  object file    an ELF32 executable for MIPS in either byte order, as `board asm` writes it
   configuration  text of statements: BOARD(..); first, then CRE_TSK(..); and so on
-  journal        text: `board-journal 1` first, then lines as `S 1 6`, six steps of processor 1
+  journal        text: `board-journal 2 big` or `board-journal 2 little` first, then lines
+                 as `S 1 6`, six steps of processor 1
   script         text: lines as `T 5`, five ticks, or `R 4 1`, interrupt line 4 raised once
 
 Example:
@@ -39,7 +40,8 @@ Example:
 /// What the help of `run` says of its files.
 const RUN: &str = "\
 `board asm` makes an object file of a source. A configuration begins with BOARD(..); and a journal
-with the line `board-journal 1`.
+with the line `board-journal 2 big`, or `board-journal 2 little` where the object file is
+little-endian.
 
 Example:
   board asm hello.s hello.elf

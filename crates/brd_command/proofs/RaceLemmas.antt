@@ -8,7 +8,7 @@ use Rattle.brd_command.specs.RaceCommand.{KeepsFromRacing, RaceEnds, ShowsStatio
 use Rattle.brd_command.specs.RaceCommand.WritesRaceFront.{in_journal, in_report}
 use Rattle.brd_command.specs.Start.{AreWithin, IsRaceStart}
 use Rattle.brd_command.specs.declared.fault.CommandFault.{CommandFault}
-use Rattle.brd_command.specs.declared.fault.CommandFault.TheVariants.{NoMemory, Argument, Words, Source, ImageTooLarge, Open, Read, TooLong, TooManyReads, Build, Journal, Script, Race, Write}
+use Rattle.brd_command.specs.declared.fault.CommandFault.TheVariants.{NoMemory, Argument, Words, Source, ImageTooLarge, Open, Read, TooLong, TooManyReads, Build, Journal, OtherOrder, Script, Race, Write}
 use Rattle.brd_command.specs.declared.start.RaceStart.{RaceStart}
 
 -- what isn't written on stays as it was
@@ -71,6 +71,7 @@ module _ (quota : â„•) (start : RaceStart) (out_old out old new : Option (List â
   of_fault i c t (TooManyReads input) keeps out_same same begins = absurd keeps
   of_fault i c t (Build fault kind) keeps out_same same begins = absurd keeps
   of_fault i c t (Journal fault kind) keeps out_same same begins = absurd keeps
+  of_fault i c t (OtherOrder order) keeps out_same same begins = absurd keeps
   of_fault i c t (Script fault kind) keeps out_same same begins = absurd keeps
   of_fault i c t (Race fault) keeps out_same same begins =
       (record { start = start; within = begins.0; is_start = begins.1; is_own = keeps }, out_same, same)

@@ -4,7 +4,7 @@ use Rattle.std.specs.Prelude.{Option, Some, None, IfSome, Result, Ok, Err, Match
 use Rattle.brd_command.specs.Input.{IsWhole, most_bytes}
 use Rattle.brd_command.specs.Start.{AreWithin, KeepsFromMaking, KeepsFromStarting}
 use Rattle.brd_command.specs.declared.fault.CommandFault.{CommandFault}
-use Rattle.brd_command.specs.declared.fault.CommandFault.TheVariants.{NoMemory, Argument, Words, Source, ImageTooLarge, Open, Read, TooLong, TooManyReads, Build, Journal, Script, Race, Write}
+use Rattle.brd_command.specs.declared.fault.CommandFault.TheVariants.{NoMemory, Argument, Words, Source, ImageTooLarge, Open, Read, TooLong, TooManyReads, Build, Journal, OtherOrder, Script, Race, Write}
 use Rattle.brd_command.specs.declared.input_name.InputName.{InputName}
 
 module _ {S : Type 0} (Is : List ℕ → List ℕ → List ℕ → S → Type 0) (last : InputName) where
@@ -21,6 +21,7 @@ module _ {S : Type 0} (Is : List ℕ → List ℕ → List ℕ → S → Type 0)
     keeps_from (TooManyReads input) keeps = absurd keeps
     keeps_from (Build fault kind) keeps = (within, keeps)
     keeps_from (Journal fault kind) keeps = (within, keeps)
+    keeps_from (OtherOrder order) keeps = (within, keeps)
     keeps_from (Script fault kind) keeps = (within, keeps)
     keeps_from (Race fault) keeps = keeps
     keeps_from (Write error) keeps = keeps

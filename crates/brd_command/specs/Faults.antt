@@ -15,7 +15,7 @@ use Rattle.brd_command.specs.Excerpt.{name_excerpt}
 use Rattle.brd_command.specs.FileKinds.{build_looks_like, journal_looks_like, script_looks_like}
 use Rattle.brd_command.specs.declared.input_name.InputName.{InputName}
 use Rattle.brd_command.specs.declared.fault.CommandFault.{CommandFault}
-use Rattle.brd_command.specs.declared.fault.CommandFault.TheVariants.{NoMemory, Argument, Words, Source, ImageTooLarge, Open, Read, TooLong, TooManyReads, Build, Journal, Script, Race, Write}
+use Rattle.brd_command.specs.declared.fault.CommandFault.TheVariants.{NoMemory, Argument, Words, Source, ImageTooLarge, Open, Read, TooLong, TooManyReads, Build, Journal, OtherOrder, Script, Race, Write}
 
 -- the status that the program ends with
 abbrev pub status_of : CommandFault → ℕ
@@ -30,6 +30,7 @@ status_of (TooLong input) = 4
 status_of (TooManyReads input) = 4
 status_of (Build fault kind) = 1
 status_of (Journal fault kind) = 1
+status_of (OtherOrder order) = 1
 status_of (Script fault kind) = 1
 status_of (Race fault) = 1
 status_of (Write error) = 4

@@ -18,10 +18,10 @@ use Rattle.brd_command.specs.declared.fault.CommandFault.TheVariants.{NoMemory, 
 use Rattle.brd_command.specs.declared.input_name.InputName.TheVariants as input_name
 use Rattle.brd_command.specs.declared.start.RaceStart.{RaceStart}
 
--- the text of a station's journal, which is read as these events again, and the report of its board
+-- the text of a station's journal, which is read as this byte order and these events again, and the report of its board
 pub record IsShown (station : StationState) (journal report : List ℕ) : Type 0 where
-  pub is_text : journal ≡ text_of station.journal.events
-  pub is_read : journal_of most_runs journal ≡ Ok (record { limit = most_runs; events = station.journal.events })
+  pub is_text : journal ≡ text_of station.journal.order station.journal.events
+  pub is_read : journal_of most_runs journal ≡ Ok (record { limit = most_runs; order = station.journal.order; events = station.journal.events })
   pub is_reported : report ≡ report_of (length station.journal.events) (board_of station)
 
 -- what is shown of the station left by a race of a board with a script, with this quota for each processor

@@ -3,10 +3,11 @@
 use Rattle.std.specs.Prelude.{◌≡◌, ◌≢◌, ℕ, ◌<◌, ◌≤◌, List, length, Ok, Err}
 use Rattle.std.specs.IoError.{error_kind}
 use Rattle.std.specs.declared.io.ErrorKind.TheVariants.{OutOfMemory}
+use Rattle.brd_word.specs.declared.order.Order.{Order}
 use Rattle.brd_board.specs.Board.{BoardState}
 use Rattle.brd_image.specs.Building.{loaded}
 use Rattle.brd_image.specs.declared.fault.BuildFault.TheVariants as build_fault
-use Rattle.brd_journal.specs.Journal.{most_runs}
+use Rattle.brd_journal.specs.Journal.{JournalState, most_runs}
 use Rattle.brd_journal.specs.Reading.{journal_of}
 use Rattle.brd_journal.specs.declared.fault.JournalFault.TheVariants as journal_fault
 use Rattle.brd_threads.specs.Script.{script_of}
@@ -14,16 +15,26 @@ use Rattle.brd_threads.specs.declared.fault.ScriptFault.TheVariants as script_fa
 use Rattle.brd_command.specs.FileKinds.{build_looks_like, journal_looks_like, script_looks_like}
 use Rattle.brd_command.specs.Input.{most_bytes}
 use Rattle.brd_command.specs.declared.fault.CommandFault.{CommandFault}
-use Rattle.brd_command.specs.declared.fault.CommandFault.TheVariants.{NoMemory, Argument, Words, Source, ImageTooLarge, Open, Read, TooLong, TooManyReads, Build, Journal, Script, Race, Write}
+use Rattle.brd_command.specs.declared.fault.CommandFault.TheVariants.{NoMemory, Argument, Words, Source, ImageTooLarge, Open, Read, TooLong, TooManyReads, Build, Journal, OtherOrder, Script, Race, Write}
 use Rattle.brd_command.specs.declared.input_name.InputName.{InputName}
 use Rattle.brd_command.specs.declared.input_name.InputName.TheVariants as input_name
 use Rattle.brd_command.specs.declared.start.Start.{Start}
 use Rattle.brd_command.specs.declared.start.RaceStart.{RaceStart}
 
--- the board of an object file and a configuration, and the journal of a text
+-- the board of an object file and a configuration, and the journal of a text, which has the board's byte order
 pub record IsStart (image config text : List ℕ) (start : Start) : Type 0 where
   pub loads : loaded image config ≡ Ok start.board
   pub reads : journal_of most_runs text ≡ Ok start.journal
+  pub orders : start.journal.order ≡ start.board.memory.order
+
+-- the journal of a text has another byte order than the board of an object file and a configuration, which has this one
+pub record AreOfOtherOrders (image config text : List ℕ) (order : Order) : Type 0 where
+  pub board : BoardState
+  pub journal : JournalState
+  pub loads : loaded image config ≡ Ok board
+  pub reads : journal_of most_runs text ≡ Ok journal
+  pub board_order : board.memory.order ≡ order
+  pub differs : journal.order ≢ order
 
 -- the board of an object file and a configuration, and the script of a text
 pub record IsRaceStart (image config text : List ℕ) (start : RaceStart) : Type 0 where
@@ -35,14 +46,16 @@ abbrev pub AreWithin : List ℕ → List ℕ → List ℕ → Type 0
 AreWithin image config text = (length image ≤ most_bytes) × (length config ≤ most_bytes) × (length text ≤ most_bytes)
 
 -- Why an object file, a configuration and a text that were read give no start: the first fault of the object file and
--- the configuration; or these make a board, and it is the first of the text, which should be a journal or a script.
--- With it stands the other kind of which the faulty one looks.
+-- the configuration; or these make a board, and it is the first of the text, which should be a journal or a script; or
+-- the text is a journal of another byte order. With a fault of a form stands the other kind of which the faulty one looks.
 abbrev pub KeepsFromMaking : InputName → List ℕ → List ℕ → List ℕ → CommandFault → Type 0
 KeepsFromMaking last image config text NoMemory = Unit {0}
 KeepsFromMaking last image config text (Build fault kind) = (loaded image config ≡ Err fault) × (fault ≢ build_fault.NoMemory) × (kind ≡ build_looks_like image config fault)
 KeepsFromMaking last image config text (Journal fault kind) =
     (last ≡ input_name.Journal) × (board : BoardState) × (loaded image config ≡ Ok board) × (journal_of most_runs text ≡ Err fault) × (fault ≢ journal_fault.NoMemory)
     × (kind ≡ journal_looks_like text fault)
+KeepsFromMaking last image config text (OtherOrder order) =
+    (last ≡ input_name.Journal) × AreOfOtherOrders image config text order
 KeepsFromMaking last image config text (Script fault kind) =
     (last ≡ input_name.Script) × (board : BoardState) × (loaded image config ≡ Ok board) × (script_of text ≡ Err fault) × (fault ≢ script_fault.NoMemory)
     × (kind ≡ script_looks_like text fault)
@@ -81,6 +94,7 @@ KeepsFromStarting last image config text (TooLong input) = IsTooLong last image 
 KeepsFromStarting last image config text (TooManyReads input) = IsReached last image config input
 KeepsFromStarting last image config text (Build fault kind) = AreWithin image config text × KeepsFromMaking last image config text (Build fault kind)
 KeepsFromStarting last image config text (Journal fault kind) = AreWithin image config text × KeepsFromMaking last image config text (Journal fault kind)
+KeepsFromStarting last image config text (OtherOrder order) = AreWithin image config text × KeepsFromMaking last image config text (OtherOrder order)
 KeepsFromStarting last image config text (Script fault kind) = AreWithin image config text × KeepsFromMaking last image config text (Script fault kind)
 KeepsFromStarting last image config text (Race fault) = ⊥
 KeepsFromStarting last image config text (Write error) = ⊥

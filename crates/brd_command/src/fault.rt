@@ -15,6 +15,7 @@ use brd_elf::ElfFault;
 use brd_image::BuildFault;
 use brd_journal::JournalFault;
 use brd_threads::{RaceFault, ScriptFault};
+use brd_word::Order;
 use std::alloc::Global;
 use std::io::{self, ErrorKind};
 use thiserror::Error;
@@ -55,6 +56,9 @@ pub enum CommandFault {
     /// The journal's text has a fault. It looks like a file of this kind.
     #[error("the journal: {0}{hint}", hint = hint(*.1))]
     Journal(JournalFault, Option<FileKind>),
+    /// The journal is for boards of the other byte order than that of the object file, which is this.
+    #[error("the journal: {orders}", orders = orders(*.0))]
+    OtherOrder(Order),
     /// The script's text has a fault. It looks like a file of this kind.
     #[error("the script: {0}{hint}", hint = hint(*.1))]
     Script(ScriptFault, Option<FileKind>),
@@ -158,6 +162,7 @@ impl CommandFault {
             | CommandFault::ImageTooLarge
             | CommandFault::Build(_, _)
             | CommandFault::Journal(_, _)
+            | CommandFault::OtherOrder(_)
             | CommandFault::Script(_, _)
             | CommandFault::Race(_) => 1,
             CommandFault::Argument => 2,
@@ -176,6 +181,16 @@ impl From<NoMemory> for CommandFault {
 
     fn from(_e: NoMemory) -> Self {
         CommandFault::NoMemory
+    }
+}
+
+/// What is said of a journal where the object file has this byte order, and the journal the other one.
+fn orders(image: Order) -> &'static str {
+    match image {
+        Order::Big => "it is for little-endian boards, and the object file is big-endian",
+        Order::Little => {
+            "it is for big-endian boards, as all with the first line `board-journal 1` are, and the object file is little-endian"
+        }
     }
 }
 

@@ -1,6 +1,6 @@
 //! What the commands over a board start with.
 
-ghost use Rattle.std.specs.Prelude.{IfSome, MatchResult};
+ghost use Rattle.std.specs.Prelude.{◌≡◌, IfOk, IfSome, MatchResult};
 ghost use Rattle.brd_command.specs.Start.{AreWithin, IsRaceStart, IsStart, KeepsFromMaking, KeepsFromStarting};
 ghost use Rattle.brd_command.specs.declared.input_name.InputName.TheVariants as input_name;
 
@@ -33,17 +33,18 @@ pub struct RaceStart {
 }
 
 /// Reads an object file, a configuration and a journal to their ends, in this order. The first two make the board, to
-/// which nothing has happened yet.
+/// which nothing has happened yet, and the journal has its byte order.
 pub fn read_start<R: Read>(
     alloc: Global,
     image: &mut R,
     config: &mut R,
     journal: &mut R,
 ) -> Result<Start, CommandFault>
-    ensures { IfSome (R.remaining image.old) (λ file. IfSome (R.remaining config.old) (λ statements.
+    ensures starts { IfSome (R.remaining image.old) (λ file. IfSome (R.remaining config.old) (λ statements.
         IfSome (R.remaining journal.old) (λ events.
         MatchResult result (λ start. AreWithin file statements events × IsStart file statements events start)
         (KeepsFromStarting input_name.Journal file statements events)))) }
+    ensures orders { IfOk result (λ start. start.journal.order ≡ start.board.memory.order) }
 {
     let file = match read_whole(alloc, InputName::Image, image) {
         Ok(file) => file,
@@ -60,7 +61,7 @@ pub fn read_start<R: Read>(
     make_start(alloc, &file, &statements, &events)
 }
 
-/// The board that an object file and a configuration make, and a journal.
+/// The board that an object file and a configuration make, and a journal, which has its byte order.
 fn make_start(
     alloc: Global,
     image: &[u8],
@@ -74,10 +75,14 @@ fn make_start(
         Ok(board) => board,
         Err(fault) => return Err(CommandFault::of_build(fault, image, config)),
     };
-    match read_text(alloc, journal, MOST_RUNS) {
-        Ok(journal) => Ok(Start { board, journal }),
-        Err(fault) => Err(CommandFault::of_journal(fault, journal)),
+    let journal = match read_text(alloc, journal, MOST_RUNS) {
+        Ok(journal) => journal,
+        Err(fault) => return Err(CommandFault::of_journal(fault, journal)),
+    };
+    if journal.order() != board.order() {
+        return Err(CommandFault::OtherOrder(board.order()));
     }
+    Ok(Start { board, journal })
 }
 
 /// Reads an object file, a configuration and a script to their ends, in this order. The first two make the board, to

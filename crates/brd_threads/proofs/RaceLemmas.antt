@@ -53,12 +53,13 @@ next_looked R quotas events before worked len is all here more =
 
 -- what is known of a station behind the joins
 pub has_raced : {boot : BoardState} {script : List Outer} {quotas : List ℕ} {limit : ℕ} {station : StationState} → (station.boot ≡ boot) × (station.script ≡ script)
-    → length (runs_of station.journal.events) ≤ limit → outers station.journal.events ≡ take station.taken station.script → AreWithin quotas station
+    → station.journal.order ≡ station.boot.memory.order → length (runs_of station.journal.events) ≤ limit → outers station.journal.events ≡ take station.taken station.script → AreWithin quotas station
     → ((board_of station).kernel.off ≡ false → outers station.journal.events ≡ station.script) → ((board_of station).kernel.off ≡ false → AreMet quotas station)
     → HasRaced boot script quotas limit station
-has_raced {station = station} same room taken within whole met = record {
+has_raced {station = station} same order room taken within whole met = record {
   boot_is = same.0;
   script_is = same.1;
+  order = order ∙ ap (λ (b : BoardState). b.memory.order) same.0;
   room = room;
   taken = taken ∙ ap (take station.taken) same.1;
   within = within;

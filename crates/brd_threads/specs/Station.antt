@@ -18,14 +18,15 @@ pub record StationState : Type 0 where
   pub script : List Outer
   pub taken : ℕ  -- how many entries of the script have happened
 
--- What a station's type says. The board is what the journal's events make of the boot; of what comes from outside, the
--- journal has the entries of the script that were taken, in their order; and the books have the steps of each
--- processor.
-pub record IsReplay (boot board : BoardState) (events : List Event) (script : List Outer) (taken : ℕ) (books : List ℕ) : Type 0 where
-  pub replay : board ≡ after boot events
+-- What a station's type says. The board is what the journal's events make of the boot, and the journal has the boot's byte
+-- order; of what comes from outside, the journal has the entries of the script that were taken, in their order; and the
+-- books have the steps of each processor.
+pub record IsReplay (boot board : BoardState) (journal : JournalState) (script : List Outer) (taken : ℕ) (books : List ℕ) : Type 0 where
+  pub replay : board ≡ after boot journal.events
+  pub order : journal.order ≡ boot.memory.order
   pub within : taken ≤ length script
-  pub script_taken : outers events ≡ take taken script
-  pub counted : (cpu : ℕ) → slice_index_or books cpu 0 ≡ steps cpu events
+  pub script_taken : outers journal.events ≡ take taken script
+  pub counted : (cpu : ℕ) → slice_index_or books cpu 0 ≡ steps cpu journal.events
 
 -- the board of a station
 abbrev pub board_of : StationState → BoardState
@@ -33,7 +34,8 @@ board_of station = after station.boot station.journal.events
 
 -- a station to which nothing has happened
 abbrev pub begun : BoardState → List Outer → ℕ → StationState
-begun boot script limit = record { boot = boot; journal = record { limit = limit; events = [] }; script = script; taken = 0 }
+begun boot script limit =
+    record { boot = boot; journal = record { limit = limit; order = boot.memory.order; events = [] }; script = script; taken = 0 }
 
 -- whether the journal's limit suffices for more events after its own
 abbrev pub has_room : JournalState → List Event → Bool

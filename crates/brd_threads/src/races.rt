@@ -84,6 +84,7 @@ fn is_over<K: Race>(station: &Station<K>, met: bool) -> bool
     ensures met { result ≡ true → (board_of station.now).kernel.off ≡ false → met ≡ true }
     ensures whole { result ≡ true → (board_of station.now).kernel.off ≡ false → outers station.now.journal.events ≡ station.now.script }
     ensures taken { outers station.now.journal.events ≡ take station.now.taken station.now.script }
+    ensures order { station.now.journal.order ≡ station.now.boot.memory.order }
 {
     let _ = station.journal();
     station.board().is_off() || (met && station.is_done())

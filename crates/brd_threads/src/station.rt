@@ -52,7 +52,7 @@ impl<K: Race> Model for Station<K> {
 
     ghost view = { λ s. record { boot = s.boot; journal = s.journal; script = s.script.items; taken = s.taken } };
 
-    ghost invariant = { λ s. IsReplay s.boot s.board s.journal.events s.script.items s.taken s.books };
+    ghost invariant = { λ s. IsReplay s.boot s.board s.journal s.script.items s.taken s.books };
 }
 
 /// Written out, so that a function that lets one go is proved with a call, and not with the end of each part.
@@ -94,7 +94,7 @@ fn record(journal: &mut Journal, event: Event, count: u32) -> Result<(), Station
 
 impl<K: Race> Station<K> {
     /// A station of this boot and script, to which nothing has happened, and a share for each processor. The journal
-    /// may have up to `limit` runs.
+    /// has the boot's byte order, and may have up to `limit` runs.
     pub fn new(
         alloc: Global,
         boot: &Board,
@@ -113,7 +113,7 @@ impl<K: Race> Station<K> {
         let station = Station {
             boot: boot.try_copy()?,
             board: boot.try_copy()?,
-            journal: Journal::new(alloc, limit),
+            journal: Journal::new(alloc, limit, boot.order()),
             script: Vec::from_slice(alloc, script)?,
             taken: 0,
             books,
@@ -219,6 +219,7 @@ impl<K: Race> Station<K> {
         ensures is { result.now ≡ self.now.journal }
         ensures taken { outers result.now.events ≡ take self.now.taken self.now.script }
         ensures within { self.now.taken ≤ length self.now.script }
+        ensures order { result.now.order ≡ self.now.boot.memory.order }
     {
         &self.journal
     }

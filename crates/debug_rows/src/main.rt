@@ -8,6 +8,7 @@ use brd_board::{Board, Event};
 use brd_debug::{DebugFault, Debugger};
 use brd_image::build;
 use brd_journal::{Journal, JournalFault, Run};
+use brd_word::Order;
 use std::alloc::Global;
 use std::io;
 
@@ -73,7 +74,7 @@ fn appended(journal: &mut Journal, event: Event, count: u32) -> Result<()> {
 
 /// A journal of steps of three processors, ticks and interrupts.
 fn journal_of_all(alloc: Global) -> Result<Journal> {
-    let mut journal = Journal::new(alloc, 4096);
+    let mut journal = Journal::new(alloc, 4096, Order::Big);
     for _ in 0..700u16 {
         appended(&mut journal, Event::Step(1), 20)?;
         appended(&mut journal, Event::Step(2), 15)?;

@@ -1,11 +1,12 @@
 //! Prints what the texts of a table say: for each line `| LIMIT TEXT` of standard input its answer and the line, every
 //! other line as it is. In a text `/` stands for a newline, `~` for a carriage return, `_` for a tab and `^` for the
-//! byte 0. A text that says a journal is answered by its runs, each behind a comma and a space but the first; the
+//! byte 0. A text that says a journal is answered by its byte order and its runs, each behind a comma and a space; the
 //! journal is also written and read again, and made once more event by event and run by run.
 #![tactic(auto)]
 
 use brd_board::Event;
 use brd_journal::{Journal, JournalFault, MOST_RUNS, Run, read_text};
+use brd_word::Order;
 use std::alloc::{AllocError, Global};
 use std::io;
 use std::io::{BufRead, BufReader};
@@ -38,9 +39,17 @@ fn shown_run(alloc: Global, run: Run) -> Result<String, AllocError> {
     }
 }
 
-/// The runs of a journal as the table has them.
+/// A byte order as the table has it.
+fn shown_order(order: Order) -> &'static str {
+    match order {
+        Order::Big => "big",
+        Order::Little => "little",
+    }
+}
+
+/// The byte order and the runs of a journal as the table has them.
 fn shown(alloc: Global, journal: &Journal) -> Result<String, AllocError> {
-    let mut text = String::from_str(alloc, "ok")?;
+    let mut text = String::from_str(alloc, shown_order(journal.order()))?;
     for run in journal.runs() {
         let run = shown_run(alloc, *run)?;
         text.push_str(", ")?;
@@ -77,16 +86,16 @@ fn append_all(journal: &mut Journal, runs: &[Run]) -> Result<(), JournalFault> {
     Ok(())
 }
 
-/// What the journal is that is made of a journal's events: its runs, or the fault.
+/// What the journal is that is made of a journal's byte order and events, or the fault.
 fn made_again(alloc: Global, journal: &Journal, limit: u32) -> Result<String, AllocError> {
-    let mut made = Journal::new(alloc, limit.min(MOST_RUNS));
+    let mut made = Journal::new(alloc, limit.min(MOST_RUNS), journal.order());
     match append_all(&mut made, journal.runs()) {
         Ok(()) => shown(alloc, &made),
         Err(fault) => shown_fault(alloc, fault),
     }
 }
 
-/// What the journal is that is read of a journal's text: its runs, or the fault.
+/// What the journal is that is read of a journal's text, or the fault.
 fn read_again(alloc: Global, journal: &Journal, limit: u32) -> Result<String, AllocError> {
     let Ok(text) = journal.write_text(alloc) else {
         return Err(AllocError);
@@ -97,8 +106,8 @@ fn read_again(alloc: Global, journal: &Journal, limit: u32) -> Result<String, Al
     }
 }
 
-/// What a text is answered: the runs, where the journal that is read again and the one that is made again have the
-/// same; or the fault.
+/// What a text is answered: the byte order and the runs, where the journal that is read again and the one that is made
+/// again have the same; or the fault.
 fn answer(alloc: Global, text: &[u8], limit: u32) -> Result<String, AllocError> {
     let journal = match read_text(alloc, text, limit.min(MOST_RUNS)) {
         Ok(journal) => journal,

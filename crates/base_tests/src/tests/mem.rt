@@ -2,6 +2,7 @@
 
 use brd_base::{NoMemory, is_ram_size};
 use brd_mem::*;
+use brd_word::Order;
 use std::alloc::Global;
 use std::test::Fail;
 use test_help::none_wrong;
@@ -21,7 +22,7 @@ const SIZES: &[(u32, bool)] = &[
 /// The first size that isn't as it says.
 fn first_wrong_size(alloc: Global) -> Option<u32> {
     for (size, fits) in SIZES {
-        if is_ram_size(*size) != *fits || Ram::new(alloc, *size).is_ok() != *fits {
+        if is_ram_size(*size) != *fits || Ram::new(alloc, *size, Order::Big).is_ok() != *fits {
             return Some(*size);
         }
     }
@@ -118,9 +119,85 @@ fn takes_bytes(ram: &mut Ram) -> bool {
 
 #[test]
 fn accesses(rt: HostRuntime) -> Result<(), Fail> {
-    let mut ram = Ram::new(rt.alloc(), 65_536)?;
+    let mut ram = Ram::new(rt.alloc(), 65_536, Order::Big)?;
     let is_kept = keeps_a_word(&mut ram) && has_bytes(&ram) && refuses(&mut ram);
     assert!(rt; is_kept && has_ranges(&ram) && takes_bytes(&mut ram));
+    Ok(())
+}
+
+/// How the bytes of a halfword and of a word lie, from the lowest address on: the order, the halfword 0x1234 at
+/// 0x80000200 and the word 0x12345678 at 0x80000204, byte by byte.
+const ORDERS: &[(Order, [u8; 2], [u8; 4])] = &[
+    (Order::Big, [0x12, 0x34], [0x12, 0x34, 0x56, 0x78]),
+    (Order::Little, [0x34, 0x12], [0x78, 0x56, 0x34, 0x12]),
+];
+
+/// Whether these bytes lie from an address on.
+fn lie_at(ram: &Ram, address: u32, bytes: &[u8]) -> bool {
+    let mut at = address;
+    for byte in bytes {
+        if ram.byte(at) != Some(*byte) {
+            return false;
+        }
+        at = at.saturating_add(1);
+    }
+    true
+}
+
+/// Whether a halfword and a word are kept in a RAM of this order with these bytes, and read again, also as an
+/// instruction and in a window.
+fn keeps_in_order(ram: &mut Ram, half: &[u8], word: &[u8]) -> bool {
+    let window = match (
+        ram.store16(0x8000_0200, 0x1234),
+        ram.store32(0x8000_0204, 0x1234_5678),
+    ) {
+        (Ok(()), Ok(())) => ram.window(0x8000_02ff),
+        _ => return false,
+    };
+    lie_at(ram, 0x8000_0200, half)
+        && lie_at(ram, 0x8000_0204, word)
+        && ram.load16(0x8000_0200) == Ok(0x1234)
+        && ram.load32(0x8000_0204) == Ok(0x1234_5678)
+        && ram.fetch(0x8000_0204) == Ok(0x1234_5678)
+        && window.is_some_and(|words| words[1] == 0x1234_5678)
+}
+
+/// Whether bytes that were copied to an address make this halfword and this word.
+fn reads_in_order(ram: &mut Ram, half: &[u8], word: &[u8]) -> bool {
+    if !ram.contains(0x8000_0300, half.len()) || !ram.contains(0x8000_0304, word.len()) {
+        return false;
+    }
+    ram.copy_in(0x8000_0300, half);
+    ram.copy_in(0x8000_0304, word);
+    ram.load16(0x8000_0300) == Ok(0x1234) && ram.load32(0x8000_0304) == Ok(0x1234_5678)
+}
+
+/// The first of `ORDERS` that a RAM doesn't keep.
+fn first_wrong_order(alloc: Global) -> Result<Option<usize>, RamFault> {
+    for (row, (order, half, word)) in ORDERS.iter().enumerate() {
+        let mut ram = Ram::new(alloc, 65_536, *order)?;
+        if ram.order() != *order
+            || !keeps_in_order(&mut ram, half, word)
+            || !reads_in_order(&mut ram, half, word)
+        {
+            return Ok(Some(row));
+        }
+    }
+    Ok(None)
+}
+
+#[test]
+fn orders(rt: HostRuntime) -> Result<(), Fail> {
+    none_wrong(first_wrong_order(rt.alloc())?)
+}
+
+/// Two RAMs of the same bytes are the same only where they have the same order, and a copy has its order.
+#[test]
+fn same_in_order(rt: HostRuntime) -> Result<(), Fail> {
+    let big = Ram::new(rt.alloc(), 65_536, Order::Big)?;
+    let little = Ram::new(rt.alloc(), 65_536, Order::Little)?;
+    let copy = little.try_copy()?;
+    assert!(rt; !big.same(&little) && !little.same(&big) && little.same(&copy));
     Ok(())
 }
 
@@ -169,7 +246,7 @@ fn has_pages(pages: &[Page]) -> bool {
 
 /// Whether a RAM differs from a blank one in the pages that were written; the one that got only zeros is none of them.
 fn differs_in_five(ram: &Ram, blank: &Ram) -> Result<bool, NoMemory> {
-    if ram.size() != blank.size() {
+    if ram.size() != blank.size() || ram.order() != blank.order() {
         return Ok(false);
     }
     let pages = ram.pages(blank)?;
@@ -178,7 +255,7 @@ fn differs_in_five(ram: &Ram, blank: &Ram) -> Result<bool, NoMemory> {
 
 #[test]
 fn pages(rt: HostRuntime) -> Result<(), Fail> {
-    let blank = Ram::new(rt.alloc(), 1_048_576)?;
+    let blank = Ram::new(rt.alloc(), 1_048_576, Order::Big)?;
     let mut ram = blank.try_copy()?;
     assert!(rt; write_to_five(&mut ram) && differs_in_five(&ram, &blank)?);
     Ok(())
@@ -209,7 +286,7 @@ fn are_all_pages(pages: &[Page]) -> bool {
 
 /// Whether a RAM differs from a blank one in all pages.
 fn differs_in_all(ram: &Ram, blank: &Ram) -> Result<bool, NoMemory> {
-    if ram.size() != blank.size() {
+    if ram.size() != blank.size() || ram.order() != blank.order() {
         return Ok(false);
     }
     let pages = ram.pages(blank)?;
@@ -218,7 +295,7 @@ fn differs_in_all(ram: &Ram, blank: &Ram) -> Result<bool, NoMemory> {
 
 #[test]
 fn all_pages(rt: HostRuntime) -> Result<(), Fail> {
-    let blank = Ram::new(rt.alloc(), 16_777_216)?;
+    let blank = Ram::new(rt.alloc(), 16_777_216, Order::Big)?;
     let mut ram = blank.try_copy()?;
     assert!(rt; write_to_all(&mut ram) && differs_in_all(&ram, &blank)?);
     Ok(())

@@ -1,7 +1,7 @@
 //! The command `debug` over readers and writers that fail, and the lines that it reads.
 
 use super::fakes::{Busy, Bytewise, Taking};
-use super::run::{CONFIG, JOURNAL, UNREAD, image};
+use super::run::{CONFIG, JOURNAL, OTHER_ORDERS, UNREAD, image, little_image};
 use super::{UNWRITTEN, is_fault};
 use brd_command::{CommandFault, debug};
 use std::alloc::Global;
@@ -301,4 +301,50 @@ fn first_wrong_answer(alloc: Global, image: &[u8]) -> Option<usize> {
 fn lines_of_debug(rt: HostRuntime) -> Result<(), Fail> {
     let image = image(rt.alloc())?;
     none_wrong(first_wrong_answer(rt.alloc(), image.as_slice()))
+}
+
+/// Whether an object file and a journal are refused with this fault, and nothing is written.
+fn are_refused(alloc: Global, image: &[u8], journal: &[u8], text: &str) -> bool {
+    let mut commands = Bytewise::new(COMMANDS);
+    let mut writer = Taking::new(alloc);
+    let inputs = [image, CONFIG, journal];
+    let ended = debug_failing(alloc, inputs, 0, 0, &mut commands, &mut writer);
+    is_fault(alloc, &ended, text, 1) && writer.writes == 0
+}
+
+/// Whether commands are answered over a little-endian object file and its journal: a word lies the other way round.
+fn answers_little(alloc: Global, image: &[u8]) -> bool {
+    let mut commands = Bytewise::new(b"mem 80000000\nmem 80000003\ngoto 1\nregs 1\n");
+    let mut writer = Taking::new(alloc);
+    let inputs = [image, CONFIG, b"board-journal 2 little\nS 1 3\n".as_slice()];
+    let ended = debug_failing(alloc, inputs, 0, 0, &mut commands, &mut writer);
+    let answers = b"28\n24\nat 1\npc 80000004\n$2 00000028\n$29 80010000\n".as_slice();
+    ended.is_ok() && writer.taken.as_slice() == answers
+}
+
+/// A journal of the other byte order than the object file's is refused; one of its own isn't.
+#[test]
+fn debuggers_of_both_orders(rt: HostRuntime) -> Result<(), Fail> {
+    let [of_big, of_little] = OTHER_ORDERS;
+    let big = image(rt.alloc())?;
+    assert!(rt;
+        are_refused(
+            rt.alloc(),
+            big.as_slice(),
+            b"board-journal 2 little\n",
+            of_big
+        )
+    );
+    let little = little_image(rt.alloc())?;
+    assert!(rt;
+        are_refused(
+            rt.alloc(),
+            little.as_slice(),
+            b"board-journal 1\n",
+            of_little
+        )
+    );
+    assert!(rt; are_refused(rt.alloc(), little.as_slice(), JOURNAL, of_little));
+    assert!(rt; answers_little(rt.alloc(), little.as_slice()));
+    Ok(())
 }

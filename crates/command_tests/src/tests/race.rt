@@ -1,7 +1,7 @@
 //! The command `race` over readers and writers that fail, and the order of its faults.
 
 use super::fakes::{Bytewise, Taking};
-use super::run::{CONFIG, REPORT, image};
+use super::run::{CONFIG, REPORT, image, little_image};
 use super::{UNWRITTEN, is_fault};
 use brd_command::{Blanks, CommandFault, race};
 use brd_threads::RaceFault;
@@ -13,7 +13,7 @@ use std::thread::Threads;
 use test_help::none_wrong;
 
 /// The journal of three steps on one processor.
-const JOURNAL: &[u8] = b"board-journal 1\nS 1 3\n";
+const JOURNAL: &[u8] = b"board-journal 2 big\nS 1 3\n";
 
 /// A script in which nothing happens.
 const SCRIPT: &[u8] = b"";
@@ -205,6 +205,21 @@ fn each_write_of_race_fails(rt: HostRuntime) -> Result<(), Fail> {
     none_wrong(first_wrong_in_the_journal(&rt, rt.alloc(), image.as_slice()))?;
     none_wrong(first_wrong_in_the_report(&rt, rt.alloc(), image.as_slice()))?;
     assert!(rt; writes_both(&rt, rt.alloc(), image.as_slice()));
+    Ok(())
+}
+
+/// The journal of a race on a little-endian board.
+const LITTLE_JOURNAL: &[u8] = b"board-journal 2 little\nS 1 3\n";
+
+/// The journal has the board's byte order.
+#[test]
+fn journal_of_a_little_endian_race(rt: HostRuntime) -> Result<(), Fail> {
+    let image = little_image(rt.alloc())?;
+    let mut outputs = Outputs::new(rt.alloc());
+    let inputs = [image.as_slice(), CONFIG, SCRIPT];
+    let ended = race_failing(&rt, rt.alloc(), inputs, 0, 0, &mut outputs);
+    assert!(rt; ended.is_ok() && outputs.journal.has_flushed(LITTLE_JOURNAL));
+    assert!(rt; outputs.report.has_flushed(REPORT));
     Ok(())
 }
 

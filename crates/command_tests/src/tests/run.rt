@@ -10,9 +10,13 @@ use test_help::none_wrong;
 
 const SOURCE: &[u8] = b"_start: addiu $v0, $0, 40\naddiu $a0, $0, 72\nsyscall\n";
 
+/// `SOURCE` on a little-endian board.
+const LITTLE_SOURCE: &[u8] =
+    b".byteorder little\n_start: addiu $v0, $0, 40\naddiu $a0, $0, 72\nsyscall\n";
+
 pub const CONFIG: &[u8] = b"BOARD(1, 0x10000); CRE_TSK(1, {TA_ACT, 0, _start, 1, 256, NULL});";
 
-pub const JOURNAL: &[u8] = b"board-journal 1\nS 1 3\n";
+pub const JOURNAL: &[u8] = b"board-journal 2 big\nS 1 3\n";
 
 pub const REPORT: &[u8] =
     b"events 3\ntick 0\noff 0\ncpu 1 task 1 pc 8000000c\ntask 1 ready pri 1 cpu 1\nconsole 1\nH\n";
@@ -20,6 +24,12 @@ pub const REPORT: &[u8] =
 /// The object file of `SOURCE`.
 pub fn image(alloc: Global) -> Result<Vec<u8>, Fail> {
     let image = assemble(alloc, SOURCE)?;
+    Ok(brd_elf::write(alloc, &image)?)
+}
+
+/// The object file of `LITTLE_SOURCE`.
+pub fn little_image(alloc: Global) -> Result<Vec<u8>, Fail> {
+    let image = assemble(alloc, LITTLE_SOURCE)?;
     Ok(brd_elf::write(alloc, &image)?)
 }
 
@@ -196,8 +206,8 @@ const FAULTS: &[(&[u8], &[u8], &str)] = &[
     ),
     (
         CONFIG,
-        b"board-journal 1\nS 1 3\nS 1 03\n",
-        "the journal: line 3: expected `board-journal 1` first, then lines `S CPU COUNT`, `T COUNT` and `R LINE COUNT`",
+        b"board-journal 2 big\nS 1 3\nS 1 03\n",
+        "the journal: line 3: expected `board-journal 2 big` or `board-journal 2 little` first, then lines `S CPU COUNT`, `T COUNT` and `R LINE COUNT`",
     ),
 ];
 
@@ -217,6 +227,74 @@ fn faults_of_run(rt: HostRuntime) -> Result<(), Fail> {
     assert!(rt; are_refused(rt.alloc(), [b"\x7fEL", b"", b""], OBJECT_FILE_FAULT));
     let image = image(rt.alloc())?;
     none_wrong(first_wrong_fault(rt.alloc(), image.as_slice()))
+}
+
+/// The fault of a journal for the other boards than those of a big-endian object file, and of a little-endian one.
+pub const OTHER_ORDERS: [&str; 2] = [
+    "the journal: it is for little-endian boards, and the object file is big-endian",
+    "the journal: it is for big-endian boards, as all with the first line `board-journal 1` are, and the object file is little-endian",
+];
+
+/// A journal, and which of the object files it is for: the big-endian one, or the little-endian one.
+const ORDERS: &[(&[u8], usize)] = &[
+    (b"board-journal 1\nS 1 3\n", 0),
+    (b"board-journal 2 big\nS 1 3\n", 0),
+    (b"board-journal 2 little\nS 1 3\n", 1),
+];
+
+/// Journals without events, likewise.
+const EMPTY_ORDERS: &[(&[u8], usize)] = &[
+    (b"board-journal 1\n", 0),
+    (b"board-journal 2 big\n", 0),
+    (b"board-journal 2 little\n", 1),
+];
+
+/// Whether the report of three steps is written.
+fn reports(alloc: Global, inputs: [&[u8]; 3]) -> bool {
+    let mut writer = Taking::new(alloc);
+    run_failing(alloc, inputs, 0, 0, &mut writer).is_ok() && writer.has_flushed(REPORT)
+}
+
+/// The first journal that isn't refused with the object file of the other order, or that isn't run with its own.
+fn first_wrong_order(alloc: Global, images: [&[u8]; 2]) -> Option<usize> {
+    for (row, (journal, own)) in ORDERS.iter().enumerate() {
+        let other = 1 - *own;
+        if !reports(alloc, [images[*own], CONFIG, *journal])
+            || !are_refused(
+                alloc,
+                [images[other], CONFIG, *journal],
+                OTHER_ORDERS[other],
+            )
+        {
+            return Some(row);
+        }
+    }
+    None
+}
+
+/// The first journal without events that isn't refused with the object file of the other order.
+fn first_taken(alloc: Global, images: [&[u8]; 2]) -> Option<usize> {
+    for (row, (journal, own)) in EMPTY_ORDERS.iter().enumerate() {
+        let other = 1 - *own;
+        if !are_refused(
+            alloc,
+            [images[other], CONFIG, *journal],
+            OTHER_ORDERS[other],
+        ) {
+            return Some(row);
+        }
+    }
+    None
+}
+
+/// A journal runs with an object file of its byte order alone; one of version 1 is big-endian.
+#[test]
+fn journals_of_both_orders(rt: HostRuntime) -> Result<(), Fail> {
+    let big = image(rt.alloc())?;
+    let little = little_image(rt.alloc())?;
+    let images = [big.as_slice(), little.as_slice()];
+    assert!(rt; first_taken(rt.alloc(), images).is_none());
+    none_wrong(first_wrong_order(rt.alloc(), images))
 }
 
 /// A file in the place of another: the place, the file, which is the object file of `SOURCE` where it isn't said, and
@@ -253,7 +331,7 @@ fn fault_in(place: usize) -> &'static str {
             "the configuration: line 1: found what no statement has here, expected one in the form of its kind"
         }
         _ => {
-            "the journal: line 1: expected `board-journal 1` first, then lines `S CPU COUNT`, `T COUNT` and `R LINE COUNT`"
+            "the journal: line 1: expected `board-journal 2 big` or `board-journal 2 little` first, then lines `S CPU COUNT`, `T COUNT` and `R LINE COUNT`"
         }
     }
 }

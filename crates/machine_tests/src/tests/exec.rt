@@ -1,12 +1,15 @@
-//! LL and SC by several processors, with values that were worked out by hand.
+//! LL and SC by several processors, and the parts of unaligned words, with values that were worked out by hand.
 
 ghost use Rattle.std.specs.Prelude.{◌≤◌};
 
 use brd_exec::{Context, ExceptionCode, Outcome, run};
 use brd_isa::Register;
 use brd_link::Links;
-use brd_mem::Ram;
+use brd_mem::{Ram, RamFault};
+use brd_word::Order;
+use std::alloc::Global;
 use std::test::Fail;
+use test_help::none_wrong;
 
 /// Where each instruction stands.
 const CODE: u32 = 0x8000_0000;
@@ -178,7 +181,7 @@ fn first_wrong_store(ram: &mut Ram, cpu: u8) -> Option<usize> {
 /// The SC of processor 1 stores, unless another processor has stored into the block since its LL.
 #[test]
 fn stores_of_another(rt: HostRuntime) -> Result<(), Fail> {
-    let mut ram = Ram::new(rt.alloc(), 0x1_0000)?;
+    let mut ram = Ram::new(rt.alloc(), 0x1_0000, Order::Big)?;
     assert!(rt;
         first_wrong_store(&mut ram, 2).is_none() && first_wrong_store(&mut ram, 8).is_none()
     );
@@ -237,7 +240,7 @@ const OF_EXCEPTIONS: &[Case] = &[
 /// what it raises, may end it.
 #[test]
 fn what_ends_a_link(rt: HostRuntime) -> Result<(), Fail> {
-    let mut ram = Ram::new(rt.alloc(), 0x1_0000)?;
+    let mut ram = Ram::new(rt.alloc(), 0x1_0000, Order::Big)?;
     assert!(rt;
         first_wrong(&mut ram, OF_ANOTHER).is_none()
             && first_wrong(&mut ram, OF_ONESELF).is_none()
@@ -280,7 +283,143 @@ fn stores_zero(ram: &mut Ram) -> bool {
 
 #[test]
 fn what_is_raised(rt: HostRuntime) -> Result<(), Fail> {
-    let mut ram = Ram::new(rt.alloc(), 0x1_0000)?;
+    let mut ram = Ram::new(rt.alloc(), 0x1_0000, Order::Big)?;
     assert!(rt; first_other_raised(&mut ram).is_none() && stores_zero(&mut ram));
     Ok(())
+}
+
+const LWL: u32 = 0x889d_0000;
+
+const LWR: u32 = 0x989d_0000;
+
+/// What $sp holds before an LWL, LWR, SWL or SWR.
+const OLD: u32 = 0xaabb_ccdd;
+
+/// The bytes of the aligned word before it, from the lowest address on.
+const WORD: [u8; 4] = [0x11, 0x22, 0x33, 0x44];
+
+/// What a load of a part of the word leaves in $sp, by the order and the place of its address in the word.
+const PARTS_LOADED: &[(Order, u32, [u32; 4])] = &[
+    (
+        Order::Big,
+        LWL,
+        [0x1122_3344, 0x2233_44dd, 0x3344_ccdd, 0x44bb_ccdd],
+    ),
+    (
+        Order::Big,
+        LWR,
+        [0xaabb_cc11, 0xaabb_1122, 0xaa11_2233, 0x1122_3344],
+    ),
+    (
+        Order::Little,
+        LWL,
+        [0x11bb_ccdd, 0x2211_ccdd, 0x3322_11dd, 0x4433_2211],
+    ),
+    (
+        Order::Little,
+        LWR,
+        [0x4433_2211, 0xaa44_3322, 0xaabb_4433, 0xaabb_cc44],
+    ),
+];
+
+/// The bytes that a store of a part of $sp leaves, likewise.
+const PARTS_STORED: &[(Order, u32, [[u8; 4]; 4])] = &[
+    (
+        Order::Big,
+        SWL,
+        [
+            [0xaa, 0xbb, 0xcc, 0xdd],
+            [0x11, 0xaa, 0xbb, 0xcc],
+            [0x11, 0x22, 0xaa, 0xbb],
+            [0x11, 0x22, 0x33, 0xaa],
+        ],
+    ),
+    (
+        Order::Big,
+        SWR,
+        [
+            [0xdd, 0x22, 0x33, 0x44],
+            [0xcc, 0xdd, 0x33, 0x44],
+            [0xbb, 0xcc, 0xdd, 0x44],
+            [0xaa, 0xbb, 0xcc, 0xdd],
+        ],
+    ),
+    (
+        Order::Little,
+        SWL,
+        [
+            [0xaa, 0x22, 0x33, 0x44],
+            [0xbb, 0xaa, 0x33, 0x44],
+            [0xcc, 0xbb, 0xaa, 0x44],
+            [0xdd, 0xcc, 0xbb, 0xaa],
+        ],
+    ),
+    (
+        Order::Little,
+        SWR,
+        [
+            [0xdd, 0xcc, 0xbb, 0xaa],
+            [0x11, 0xdd, 0xcc, 0xbb],
+            [0x11, 0x22, 0xdd, 0xcc],
+            [0x11, 0x22, 0x33, 0xdd],
+        ],
+    ),
+];
+
+/// Whether these bytes lie at `BLOCK`.
+fn has_bytes(ram: &Ram, bytes: &[u8; 4]) -> bool {
+    for (place, byte) in bytes.iter().enumerate() {
+        if ram.byte(BLOCK + place as u32) != Some(*byte) {
+            return false;
+        }
+    }
+    true
+}
+
+/// Whether an instruction leaves this in $sp and these bytes of the word, which holds `WORD` before.
+fn does_part(ram: &mut Ram, word: u32, register: u32, bytes: &[u8; 4]) -> bool {
+    if !ram.contains(BLOCK, 4) {
+        return false;
+    }
+    ram.copy_in(BLOCK, &WORD);
+    let mut links = Links::new();
+    done(ram, &mut links, 1, word, OLD, Outcome::Done) == Some(register) && has_bytes(ram, bytes)
+}
+
+/// The first row and place of `PARTS_LOADED` that is another one.
+fn first_wrong_load(alloc: Global) -> Result<Option<(usize, usize)>, RamFault> {
+    for (row, (order, word, parts)) in PARTS_LOADED.iter().enumerate() {
+        let mut ram = Ram::new(alloc, 0x1_0000, *order)?;
+        for (place, part) in parts.iter().enumerate() {
+            if !does_part(&mut ram, *word + place as u32, *part, &WORD) {
+                return Ok(Some((row, place)));
+            }
+        }
+    }
+    Ok(None)
+}
+
+/// The first row and place of `PARTS_STORED` that is another one.
+fn first_wrong_part(alloc: Global) -> Result<Option<(usize, usize)>, RamFault> {
+    for (row, (order, word, parts)) in PARTS_STORED.iter().enumerate() {
+        let mut ram = Ram::new(alloc, 0x1_0000, *order)?;
+        for (place, part) in parts.iter().enumerate() {
+            if !does_part(&mut ram, *word + place as u32, OLD, part) {
+                return Ok(Some((row, place)));
+            }
+        }
+    }
+    Ok(None)
+}
+
+/// LWL and LWR at each place of a word, in both byte orders.
+#[test]
+fn parts_loaded(rt: HostRuntime) -> Result<(), Fail> {
+    none_wrong(first_wrong_load(rt.alloc())?)
+}
+
+/// SWL and SWR at each place of a word, in both byte orders.
+#[test]
+fn parts_stored(rt: HostRuntime) -> Result<(), Fail> {
+    none_wrong(first_wrong_part(rt.alloc())?)
 }

@@ -6,6 +6,7 @@ use brd_kernel::{Call, Handler, Kernel, LineSetup, Reply, Standing, TaskState};
 use brd_link::Links;
 use brd_mem::Ram;
 use brd_tasks::are_setups;
+use brd_word::Order;
 use std::alloc::Global;
 
 /// A kernel of two processors with these objects, of which these tasks have been started. Tasks 1 and 2 are of
@@ -580,7 +581,7 @@ fn idles(kernel: &mut Kernel, ram: &mut Ram) -> bool {
 
 /// Whether processor 1 does one instruction, and an idle processor 2 none.
 fn runs_well(alloc: Global, kernel: &mut Kernel) -> bool {
-    match Ram::new(alloc, 65_536) {
+    match Ram::new(alloc, 65_536, Order::Big) {
         Ok(mut ram) => {
             runs_the_first(kernel, 1, &mut ram) && goes_on(kernel) && idles(kernel, &mut ram)
         }

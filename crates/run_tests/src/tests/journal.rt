@@ -3,6 +3,7 @@ mod large;
 
 use brd_board::Event;
 use brd_journal::{Journal, JournalFault, Run};
+use brd_word::Order;
 use std::alloc::Global;
 use std::test::Fail;
 use test_help::{first_wrong_text, none_wrong};
@@ -53,8 +54,8 @@ fn is_written(alloc: Global, journal: &Journal, text: &[u8]) -> bool {
 
 #[test]
 fn appended(rt: HostRuntime) {
-    let mut journal = Journal::new(rt.alloc(), 4);
-    let text = b"board-journal 1\nS 1 3\nT 1\nS 2 1\nR 4 1\n";
+    let mut journal = Journal::new(rt.alloc(), 4, Order::Big);
+    let text = b"board-journal 2 big\nS 1 3\nT 1\nS 2 1\nR 4 1\n";
     assert!(rt;
         has_events(&journal, &[])
             && push_all(&mut journal, EVENTS) == 6
@@ -85,7 +86,7 @@ const FOUR: &[Run] = &[
 
 #[test]
 fn appended_up_to_the_limit(rt: HostRuntime) {
-    let mut journal = Journal::new(rt.alloc(), 2);
+    let mut journal = Journal::new(rt.alloc(), 2, Order::Big);
     assert!(rt;
         push_all(&mut journal, EVENTS) == 4
             && is_answer(journal.push(Event::Raise(4)), true)
@@ -148,7 +149,7 @@ fn ends_with_a_tick(journal: &Journal, len: u64) -> bool {
 /// A run that has no room left, and what goes behind it.
 #[test]
 fn full_runs(rt: HostRuntime) {
-    let mut journal = Journal::new(rt.alloc(), 2);
+    let mut journal = Journal::new(rt.alloc(), 2, Order::Big);
     assert!(rt;
         first_other(&mut journal, FULL_RUNS).is_none() && ends_with_a_tick(&journal, 8_589_934_589)
     );
@@ -183,7 +184,7 @@ const RUNS_ACROSS: &[Appended] = &[
 /// A run that goes past the room of the last one.
 #[test]
 fn runs_across(rt: HostRuntime) -> Result<(), Fail> {
-    let mut journal = Journal::new(rt.alloc(), 3);
+    let mut journal = Journal::new(rt.alloc(), 3, Order::Big);
     none_wrong(first_other(&mut journal, RUNS_ACROSS))
 }
 
@@ -192,10 +193,10 @@ const NO_RUNS: &[Appended] = &[(Event::Tick, 1, true, &[]), (Event::Tick, 0, fal
 /// A journal that takes nothing.
 #[test]
 fn no_runs(rt: HostRuntime) {
-    let mut journal = Journal::new(rt.alloc(), 0);
+    let mut journal = Journal::new(rt.alloc(), 0, Order::Little);
     assert!(rt;
         first_other(&mut journal, NO_RUNS).is_none()
-            && is_written(rt.alloc(), &journal, b"board-journal 1\n")
+            && is_written(rt.alloc(), &journal, b"board-journal 2 little\n")
     );
 }
 
@@ -208,7 +209,7 @@ const TEXTS: &[(JournalFault, &str)] = &[
     ),
     (
         JournalFault::Syntax { line: 3 },
-        "line 3: expected `board-journal 1` first, then lines `S CPU COUNT`, `T COUNT` and `R LINE COUNT`",
+        "line 3: expected `board-journal 2 big` or `board-journal 2 little` first, then lines `S CPU COUNT`, `T COUNT` and `R LINE COUNT`",
     ),
 ];
 

@@ -5,4 +5,4 @@ pub returns : goal.returns
 returns g c =
     debugs c.in-Ok.start c.in_ok-debugger.debugger _ _ _ _ _ _ c.in_ok-debugger.ensures
     (g.R.Read.remaining c.args.image.now) (g.R.Read.remaining c.args.config.now) (g.R.Read.remaining c.args.journal.now)
-    c.in-Ok.ensures c.answer_all.ensures
+    c.in-Ok.ensures.starts c.answer_all.ensures

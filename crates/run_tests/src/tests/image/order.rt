@@ -4,7 +4,7 @@ use super::files::file_of;
 use super::runs::{REPORTS as OF_A_LETTER, SHOWN as AFTER_A_LETTER};
 use super::{ONE_TASK, Shown, shows, tells};
 use brd_board::{Board, Event, Report};
-use brd_image::{build, load};
+use brd_image::{BuildFault, build, load};
 use brd_word::Order;
 use std::alloc::Global;
 use std::test::Fail;
@@ -204,5 +204,42 @@ fn of_a_file(rt: HostRuntime) -> Result<(), Fail> {
         Report::Ran(0x8000_0004),
         Report::Ran(0x8000_0008),
     ], &SHOWN));
+    Ok(())
+}
+
+/// The board of a source without instructions.
+fn empty_board(alloc: Global, source: &str) -> Result<Board, BuildFault> {
+    let config = "BOARD(1, 0x10000); CRE_TSK(1, {TA_ACT, 0, 0x80000000, 1, 256, NULL});";
+    build(alloc, source.as_bytes(), config.as_bytes())
+}
+
+/// Boards that differ in nothing but the order are not the same.
+#[test]
+fn same_in_order(rt: HostRuntime) -> Result<(), Fail> {
+    let big = empty_board(rt.alloc(), "")?;
+    let little = empty_board(rt.alloc(), ".byteorder little\n")?;
+    let copy = little.try_copy()?;
+    assert!(rt; !big.same(&little) && !little.same(&big) && little.same(&copy));
+    Ok(())
+}
+
+/// The board of `LITTLE_LETTER`.
+fn letter_board(alloc: Global) -> Result<Board, BuildFault> {
+    build(alloc, LITTLE_LETTER.as_bytes(), ONE_TASK.as_bytes())
+}
+
+/// Two steps under a lease are two steps.
+#[test]
+fn lent_steps(rt: HostRuntime) -> Result<(), Fail> {
+    let mut lending = letter_board(rt.alloc())?;
+    let mut stepping = letter_board(rt.alloc())?;
+    stepping.play(&[Event::Step(1), Event::Step(1)]);
+    let Some(mut lease) = lending.lend(1) else {
+        assert!(rt; false);
+        return Ok(());
+    };
+    let done = lease.run(64);
+    let committed = lending.commit(lease);
+    assert!(rt; done == 2 && committed == Ok(2) && lending.same(&stepping));
     Ok(())
 }

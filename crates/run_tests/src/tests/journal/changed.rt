@@ -3,7 +3,7 @@ use std::alloc::Global;
 use std::test::Fail;
 use test_help::{has_line, none_wrong, put_byte};
 
-const TEXT: &[u8] = b"board-journal 1\nS 1 10\nT 1\nT 4294967295\nR 255 7\nS 0 9\n";
+const TEXT: &[u8] = b"board-journal 2 little\nS 1 10\nT 1\nT 4294967295\nR 255 7\nS 0 9\n";
 
 /// Whether a text is read as a journal.
 fn is_journal(alloc: Global, text: &[u8]) -> bool {

@@ -1,5 +1,6 @@
 use brd_board::Event;
 use brd_journal::{Journal, JournalFault, MOST_RUNS, read_text};
+use brd_word::Order;
 use std::alloc::Global;
 use std::test::Fail;
 
@@ -46,7 +47,7 @@ fn is_full(journal: &mut Journal) -> bool {
 #[test]
 fn large(rt: HostRuntime) -> Result<(), Fail> {
     let alloc = rt.alloc();
-    let mut journal = Journal::new(alloc, MOST_RUNS);
+    let mut journal = Journal::new(alloc, MOST_RUNS, Order::Big);
     fill(&mut journal)?;
     let text = journal.write_text(alloc)?;
     assert!(rt;
