@@ -1,12 +1,10 @@
 -- The byte order of an image is the one that a line of its source names, or big-endian.
-use Rattle.std.proofs.Common.{◌≡◌, ℕ, ◌+◌, Bool, true, false, not, eqb, List, [], ◌∷◌, ◌++◌, length, Option, Some, Ok, refl, sym, ap, ◌∙◌, subst, inl, inr}
+use Rattle.std.proofs.Common.{◌≡◌, ℕ, ◌+◌, Bool, true, false, not, eqb, List, [], ◌∷◌, ◌++◌, length, Option, Some, Ok, refl, sym, ap, ◌∙◌, inl, inr}
 use Rattle.std.specs.Prelude.{is_some, ◌||◌}
 use Rattle.std.specs.List.{AllByRecursion}
-use Rattle.brd_text.specs.Faults.{◌>>=◌}
 use Rattle.brd_text.specs.Lines.{lines_of}
 use Rattle.brd_text.proofs.FaultLemmas.{bind_ok}
 use Rattle.brd_word.specs.declared.order.Order.{Order}
-use Rattle.brd_word.specs.declared.order.Order.TheVariants.{Big}
 use Rattle.brd_mem.specs.declared.image.Image.{Image}
 use Rattle.brd_source.specs.Statement.{Statement, Line}
 use Rattle.brd_source.specs.Statement.Statement.{Nothing, WithoutEffect, ByteOrder, Instruct, Org, Align, Space, Data, Text, Equal}
