@@ -13,5 +13,6 @@ pub mod GateLemmas
 pub mod RunningLemmas
 pub mod OwnLemmas
 pub mod FormLemmas
+pub mod StoringLemmas
 pub mod RowLemmas
 mod LeaseLemmas

@@ -7,6 +7,7 @@ pub mod Runs
 pub mod Conditional
 pub mod InARow
 pub mod Lease
+pub mod Storing
 pub use Rattle.brd_exec.specs.State
 pub use Rattle.brd_exec.specs.Step
 pub use Rattle.brd_exec.specs.Went

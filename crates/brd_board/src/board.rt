@@ -26,6 +26,8 @@ ghost use Rattle.brd_mem.specs.Memory.{byte_at, size_of};
 ghost use Rattle.brd_mem.specs.Image.{image_of_words, IsLoadable};
 
 mod lending;
+mod saving;
+mod storing;
 
 use crate::boot::BootFault;
 use crate::event::{Event, Report};
@@ -143,7 +145,7 @@ impl Board {
         ensures back { IfOk result (λ snapshot. restored boot.now snapshot ≡ self.now) }
     {
         Ok(Snapshot {
-            kernel: self.kernel.try_copy()?,
+            kernel: self.kernel.save()?,
             pages: self.ram.pages(&boot.ram)?,
             links: self.links,
             faults: copy_with_room(&self.faults, 0)?,
@@ -158,7 +160,7 @@ impl Board {
         let mut ram = boot.ram.try_copy()?;
         ram.put_back(&boot.ram, &snapshot.pages);
         Ok(Board {
-            kernel: snapshot.kernel.try_copy()?,
+            kernel: snapshot.kernel.restore()?,
             ram,
             links: snapshot.links,
             faults: copy_with_room(&snapshot.faults, 0)?,

@@ -1,6 +1,6 @@
 //! What is true of every board, whatever happened to it.
 
-ghost use Rattle.std.specs.Prelude.{◌≡◌, ◌≤◌, ℕ, true, List, replicate, None, Some, Ok};
+ghost use Rattle.std.specs.Prelude.{◌≡◌, ◌≤◌, ℕ, true, false, List, replicate, None, Some, Ok};
 ghost use Rattle.brd_link.specs.LinkSet.{linked_address};
 ghost use Rattle.brd_mem.specs.declared.image.Image.{Image as ImageOf};
 ghost use Rattle.brd_mem.specs.Memory.{size_of};
@@ -24,6 +24,7 @@ ghost use Rattle.brd_board.specs.Boot.{boot};
 ghost use Rattle.brd_board.specs.Runs.{ChangesOnlyItsOwn};
 ghost use Rattle.brd_board.specs.InARow.{GoesOn, machine_of, with_machine};
 ghost use Rattle.brd_board.specs.Conditional.{ConditionalLaw, WordLaw};
+ghost use Rattle.brd_board.specs.Storing.{may_store};
 
 /// After every list of events from a boot each processor that isn't held runs the first of its ready tasks, or none
 /// where none is ready. No event ends this.
@@ -152,4 +153,10 @@ pub fn lent_steps_change_the_context_alone()
         GoesOn board cpu who → window_at board.memory address ≡ Some window →
         lent count (context_of board.kernel cpu who) window (window_start address) ≡ Some left →
         after board (replicate count (Step cpu)) ≡ record board { kernel = with_context_of board.kernel cpu who left } }
+{}
+
+/// No event changes memory but a step whose instruction is a store.
+pub fn only_stores_change_memory()
+    ensures { (board : BoardState) (event : EventOf) → may_store board event ≡ false →
+        (happens board event).board.memory ≡ board.memory }
 {}

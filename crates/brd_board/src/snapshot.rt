@@ -1,7 +1,7 @@
 //! Snapshots.
 
 use crate::view::Fault;
-use brd_kernel::Kernel;
+use brd_kernel::SavedKernel;
 use brd_link::Links;
 use brd_mem::Pages;
 use std::marker::Model;
@@ -9,7 +9,7 @@ use std::marker::Model;
 /// What is kept of a board so that it can be had again from the boot: the pages of RAM in which they differ, and the
 /// rest whole.
 pub struct Snapshot {
-    pub(crate) kernel: Kernel,
+    pub(crate) kernel: SavedKernel,
     pub(crate) pages: Pages,
     pub(crate) links: Links,
     pub(crate) faults: Vec<Option<Fault>>,
