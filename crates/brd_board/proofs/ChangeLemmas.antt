@@ -20,6 +20,7 @@ use Rattle.brd_kernel.specs.declared.call.Ercd.{Ercd}
 use Rattle.brd_kernel.specs.Kernel.{KernelState, with_tasks, processor_at, running_in, running_on, unmarked, executor_on, context_of, with_context_of, context_on, handles, accepted_line, deliverable, line_at, with_pending, Executed, executed_in, executed}
 use Rattle.brd_kernel.specs.Dispatch.{dispatched, is_same_task, has_changed, changed_processors}
 use Rattle.brd_kernel.specs.Row.{Served}
+use Rattle.brd_kernel.proofs.WaitLemmas.{unlisted-only, reordered-only}
 use Rattle.brd_kernel.proofs.WalkLemmas.{Law, in_semaphore, in_flag, in_senders, in_receivers, serve-always}
 use Rattle.brd_tasks.specs.declared.status.WaitReason.{WaitReason}
 use Rattle.brd_tasks.specs.declared.status.WaitReason.TheVariants as reason
@@ -36,7 +37,7 @@ use Rattle.brd_objects.specs.Semaphores.{returned, first_waiter}
 use Rattle.brd_objects.specs.Flags.{joined, all_released, with_all_released}
 use Rattle.brd_objects.specs.DataQueues.{DataQueueState, sent, outcome, forced, forced_outcome, received}
 use Rattle.brd_kernel.specs.Answer.{e_ok}
-use Rattle.brd_kernel.specs.Waits.{can_wait, with_wait, released_in, reason_of, unlisted_from, broken_off, ended_in, reordered_in, answer_by, timed_out, all_timed_out, ticked_on, faulted_task, faulted_in}
+use Rattle.brd_kernel.specs.Waits.{can_wait, with_wait, released_in, reason_of, broken_off, ended_in, answer_by, timed_out, all_timed_out, ticked_on, faulted_task, faulted_in}
 use Rattle.brd_kernel.specs.Services.{unmarked_on, caller_on, with_released, with_all_released_in, with_satisfied_of, handed_over}
 use Rattle.brd_sysgate.specs.Gate.{changed_in, with_changed_context, served_call, called_in, called, caller_of, read_of, written}
 use Rattle.brd_sysgate.specs.declared.gate.Caller.{Caller}
@@ -68,29 +69,11 @@ runs new old same = λ at. ap (λ ps. running_in (slice_index_or ps at None)) sa
 keeps-by : {new old : List (Option Processor)} → new ≡ old → (at : ℕ) → running_in (slice_index_or new at None) ≡ running_in (slice_index_or old at None)
 keeps-by same at = ap (λ ps. running_in (slice_index_or ps at None)) same
 
-same-unlisted : (k : KernelState) (id : ℕ) (why : Option WaitReason) → Same (unlisted_from k id why) k
-same-unlisted k id None = refl
-same-unlisted k id (Some reason.Sleep) = refl
-same-unlisted k id (Some reason.Delay) = refl
-same-unlisted k id (Some (reason.Semaphore object)) = refl
-same-unlisted k id (Some (reason.Flag object)) = refl
-same-unlisted k id (Some (reason.Send object)) = refl
-same-unlisted k id (Some (reason.Receive object)) = refl
-
-same-reordered : (k : KernelState) (id priority : ℕ) (why : Option WaitReason) → Same (reordered_in k id priority why) k
-same-reordered k id priority None = refl
-same-reordered k id priority (Some reason.Sleep) = refl
-same-reordered k id priority (Some reason.Delay) = refl
-same-reordered k id priority (Some (reason.Semaphore object)) = refl
-same-reordered k id priority (Some (reason.Flag object)) = refl
-same-reordered k id priority (Some (reason.Send object)) = refl
-same-reordered k id priority (Some (reason.Receive object)) = refl
-
 same-ended : (k : KernelState) (id : ℕ) → Same (ended_in k id) k
-same-ended k id = same-unlisted k id (reason_of k id)
+same-ended k id = (unlisted-only k id (reason_of k id)).processors
 
 same-broken : (k : KernelState) (id answer : ℕ) → Same (broken_off k id answer) k
-same-broken k id answer = same-unlisted k id (reason_of k id)
+same-broken k id answer = (unlisted-only k id (reason_of k id)).processors
 
 same-timed : (k : KernelState) (ids : List ℕ) → Same (all_timed_out k ids) k
 same-timed k [] = refl
@@ -144,7 +127,7 @@ runners-law k cpu caller = record {
   exits = λ may. keeps-exit k cpu caller;
   ends = λ id task there held other. keeps-by (same-ended k id);
   prioritizes = λ id priority (task : Task) there.
-      keeps-by (same-reordered (with_tasks k (changed (with_priority priority) k.tasks id)) id priority (waiting_of task.status));
+      keeps-by (reordered-only (with_tasks k (changed (with_priority priority) k.tasks id)) id priority (waiting_of task.status)).processors;
   migrates = λ id to task there held absent may at. refl;
   suspends = λ id task there held may at. refl;
   resumes = λ id at. refl;

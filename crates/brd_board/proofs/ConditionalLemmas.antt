@@ -21,25 +21,21 @@ use Rattle.brd_exec.specs.Kept.{KeepsUnlessDone, links_behind, links_left}
 use Rattle.brd_exec.specs.Did.{Did, Conditional, Ended, did_conditional, did}
 use Rattle.brd_exec.proofs.KeptLemmas.{keeps-ran}
 use Rattle.brd_exec.proofs.StepLemmas.{Moved, ran-does, ran-next, did-known}
-use Rattle.brd_text.specs.Faults.{◌>>=◌}
 use Rattle.brd_time.specs.Time.{last_count, advanced}
 use Rattle.brd_tasks.specs.Tasks.{no_context}
-use Rattle.brd_tasks.specs.declared.task.TaskSetup.{TaskSetup}
 use Rattle.brd_config.specs.Configuration.{Configuration}
-use Rattle.brd_kernel.specs.declared.processor.LineSetup.{LineSetup}
 use Rattle.brd_kernel.specs.declared.processor.Processor.{Processor}
 use Rattle.brd_kernel.specs.declared.processor.Executor.{Executor}
 use Rattle.brd_kernel.specs.declared.processor.Executor.TheVariants as executor
 use Rattle.brd_kernel.specs.Kernel.{KernelState, processor_at, executor_on, context_of, with_context_of, context_on, executed_by, executed_in, accepted_line, deliverable, line_at}
 use Rattle.brd_kernel.specs.Waits.{ticked_on}
 use Rattle.brd_kernel.specs.Dispatch.{dispatched, changed_processors}
+use Rattle.brd_board.proofs.EventLemmas.{boot-begins}
 use Rattle.brd_board.specs.declared.event.Event.{Event}
 use Rattle.brd_board.specs.declared.event.Event.TheVariants.{Step, Tick, Raise}
 use Rattle.brd_board.specs.declared.event.Report.{Report}
 use Rattle.brd_board.specs.declared.event.Report.TheVariants as report
-use Rattle.brd_board.specs.declared.boot.BootFault.{BootFault}
-use Rattle.brd_board.specs.Setup.{setups_of, handlers_of}
-use Rattle.brd_board.specs.Boot.{loaded, booted_kernel, booted_board, boot}
+use Rattle.brd_board.specs.Boot.{boot}
 use Rattle.brd_board.specs.Board.{BoardState, Happened, with_executed, with_call, with_fault, instruction_done, executes_in, accepts_or_executes, stepped_in, happens_on, happens, after, registers_of}
 use Rattle.brd_board.specs.History.{Move, ends_of, moves_done, moves_executing, moves_accepting, moves_stepping, moves_on, moves, history, HasReserved}
 use Rattle.brd_board.specs.Conditional.{DoesConditional, Leaves, ConditionalLaw, WordLaw}
@@ -360,28 +356,9 @@ word-from b events cpu address word reserved untouched =
     word-reserved b.memory b.links (history b events) (after b events).memory (after b events).links cpu address word
     (history-run b events) reserved untouched
 
--- what boot answers where it answers a board
-abbrev IsUnlinked : Result BoardState BootFault → Type 0
-IsUnlinked (Ok b) = b.links ≡ []
-IsUnlinked (Err fault) = Unit {0}
-
-unlinked-by : (config : Configuration) (memory : Result Memory BootFault) (setups : Result (List TaskSetup) BootFault)
-    (lines : Result (List LineSetup) BootFault) →
-    IsUnlinked (memory >>= (λ m. setups >>= (λ s. lines >>= (λ l. Ok (booted_board (booted_kernel s l config) m)))))
-unlinked-by config (Err fault) setups lines = tt
-unlinked-by config (Ok m) (Err fault) lines = tt
-unlinked-by config (Ok m) (Ok s) (Err fault) = tt
-unlinked-by config (Ok m) (Ok s) (Ok l) = refl
-
-unlinked : (image : Image) (config : Configuration) → IsUnlinked (boot image config)
-unfolding boot
-unlinked image config =
-    unlinked-by config (loaded image.order config.ram image.segments) (setups_of config.ram image.symbols config.tasks)
-    (handlers_of config.ram image.symbols config.handlers)
-
 pub boot-conditional : (image : Image) (config : Configuration) (board : BoardState) (events : List Event) → boot image config ≡ Ok board →
     ConditionalLaw board events
-boot-conditional image config board events is = conditional-from board events (subst IsUnlinked is (unlinked image config))
+boot-conditional image config board events is = conditional-from board events (boot-begins (λ b. b.links ≡ []) image config board (λ s l m good. refl) is)
 
 pub boot-word : (image : Image) (config : Configuration) (board : BoardState) (events : List Event) → boot image config ≡ Ok board →
     WordLaw board events

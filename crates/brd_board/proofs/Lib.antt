@@ -2,6 +2,7 @@ pub mod LoadLemmas
 pub mod BootLemmas
 pub mod LinkLemmas
 pub mod SetupLemmas
+pub mod EventLemmas
 pub mod LawLemmas
 pub mod RunLemmas
 pub mod ConditionalLemmas

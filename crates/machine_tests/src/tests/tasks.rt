@@ -181,6 +181,9 @@ fn starts_on_3(tasks: &mut Tasks) -> bool {
     tasks.activate(1, Request::On(3));
     tasks.set_priority(1, 9);
     tasks.set_wakeup(1, true);
+    if tasks.task(1).is_none() {
+        return false;
+    }
     tasks.put_context(1, Context::opening(0x8000_2000, 77, 0));
     let was_so = is_so(tasks, 1, TaskState::Ready, (9, 1, 1, 1));
     tasks.end(1);
