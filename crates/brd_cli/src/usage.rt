@@ -190,13 +190,9 @@ fn trace_command<'a>(alloc: Global) -> Result<Command<'a>, NoMemory>
     let command = Command::new(alloc, "trace")
         .about("Says what happens on a board under a journal, a line for each event that matters")
         .after_help(TRACE)
-        .arg(needed(alloc, "IMAGE", "An object file, an ELF32 executable"))?
-        .arg(needed(alloc, "CONFIG", "A file of the kernel's configuration"))?
-        .arg(needed(
-            alloc,
-            "JOURNAL",
-            "A journal: the events that the board does",
-        ))?
+        .arg(needed(alloc, "IMAGE", "The board's object file"))?
+        .arg(needed(alloc, "CONFIG", "Its kernel's configuration"))?
+        .arg(needed(alloc, "JOURNAL", "The events that it does"))?
         .arg(position(alloc, "from", "Begins with the event of position N"))?
         .arg(position(alloc, "to", "Ends before the event of position N"))?
         .arg(processor(alloc, "cpu", "Shows only what concerns processor C"))?
