@@ -15,7 +15,7 @@ number name = record (needed name) { parser = Some (Signed (pos 0) (pos 1000000)
 
 -- an option with one value, and one without
 abbrev pub option : Text → Rule
-option name = record (new_rule name) { long = Some name; action = Some Set }
+option name = record (new_rule name) { long = Some name; action = Some Set; value_names = 1 }
 
 abbrev pub flag : Text → Rule
 flag name = record (new_rule name) { long = Some name; action = Some SetTrue }

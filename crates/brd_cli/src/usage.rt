@@ -209,6 +209,7 @@ fn trace_command<'a>(alloc: Global) -> Result<Command<'a>, NoMemory>
         .arg(option(
             alloc,
             "format",
+            "FORMAT",
             "text, as if it weren't given; json, a timeline for Perfetto; svg, a picture of it",
         ))?;
     Ok(command)
@@ -219,9 +220,7 @@ fn position<'a>(alloc: Global, name: &'a str, help: &'a str) -> Arg<'a>
     ensures rule { rule_of result ≡ usage.position name.entry.now }
     ensures own { result.global ≡ false }
 {
-    option(alloc, name, help)
-        .value_name("N")
-        .value_parser(clap::value_parser!(u64))
+    option(alloc, name, "N", help).value_parser(clap::value_parser!(u64))
 }
 
 /// An option whose value is a processor.
@@ -229,19 +228,18 @@ fn processor<'a>(alloc: Global, name: &'a str, help: &'a str) -> Arg<'a>
     ensures rule { rule_of result ≡ usage.processor name.entry.now }
     ensures own { result.global ≡ false }
 {
-    option(alloc, name, help)
-        .value_name("C")
-        .value_parser(clap::value_parser!(u8))
+    option(alloc, name, "C", help).value_parser(clap::value_parser!(u8))
 }
 
 /// An option with one value.
-fn option<'a>(alloc: Global, name: &'a str, help: &'a str) -> Arg<'a>
+fn option<'a>(alloc: Global, name: &'a str, value: &'a str, help: &'a str) -> Arg<'a>
     ensures rule { rule_of result ≡ usage.option name.entry.now }
     ensures own { result.global ≡ false }
 {
     Arg::new(alloc, name)
         .long(name)
         .action(ArgAction::Set)
+        .value_name(value)
         .help(help)
 }
 
