@@ -206,7 +206,7 @@ fn trace_command<'a>(alloc: Global) -> Result<Command<'a>, NoMemory>
             "summary",
             "Shows only what stands at the end, and where it went wrong",
         ))?
-        .arg(option(
+        .arg(valued(
             alloc,
             "format",
             "FORMAT",
@@ -220,7 +220,7 @@ fn position<'a>(alloc: Global, name: &'a str, help: &'a str) -> Arg<'a>
     ensures rule { rule_of result ≡ usage.position name.entry.now }
     ensures own { result.global ≡ false }
 {
-    option(alloc, name, "N", help).value_parser(clap::value_parser!(u64))
+    valued(alloc, name, "N", help).value_parser(clap::value_parser!(u64))
 }
 
 /// An option whose value is a processor.
@@ -228,12 +228,12 @@ fn processor<'a>(alloc: Global, name: &'a str, help: &'a str) -> Arg<'a>
     ensures rule { rule_of result ≡ usage.processor name.entry.now }
     ensures own { result.global ≡ false }
 {
-    option(alloc, name, "C", help).value_parser(clap::value_parser!(u8))
+    valued(alloc, name, "C", help).value_parser(clap::value_parser!(u8))
 }
 
 /// An option with one value.
-fn option<'a>(alloc: Global, name: &'a str, value: &'a str, help: &'a str) -> Arg<'a>
-    ensures rule { rule_of result ≡ usage.option name.entry.now }
+fn valued<'a>(alloc: Global, name: &'a str, value: &'a str, help: &'a str) -> Arg<'a>
+    ensures rule { rule_of result ≡ usage.valued name.entry.now }
     ensures own { result.global ≡ false }
 {
     Arg::new(alloc, name)
