@@ -121,9 +121,14 @@ impl Raised {
     /// Puts the code of a BREAK at the end.
     fn put_break(&self, alloc: Global, out: &mut Vec<u8>) -> Result<(), NoMemory> {
         put(out, "break ")?;
-        match self.instruction() {
-            Some(Insn::Break(code)) => put_number(alloc, out, u64::from(code.code())),
-            _ => Ok(()),
+        put_number(alloc, out, u64::from(self.break_code().unwrap_or(0)))
+    }
+
+    /// The code of a BREAK.
+    fn break_code(&self) -> Option<u32> {
+        match self.instruction()? {
+            Insn::Break(code) => Some(code.code()),
+            _ => None,
         }
     }
 
