@@ -14,18 +14,18 @@ abbrev pub number : Text → Rule
 number name = record (needed name) { parser = Some (Signed (pos 0) (pos 1000000)) }
 
 -- an option with one value, and one without
-abbrev pub option : Text → Rule
-option name = record (new_rule name) { long = Some name; action = Some Set }
+abbrev pub valued : Text → Rule
+valued name = record (new_rule name) { long = Some name; action = Some Set; value_names = 1 }
 
 abbrev pub flag : Text → Rule
 flag name = record (new_rule name) { long = Some name; action = Some SetTrue }
 
 -- an option whose value is a position, below 2 to the 64th, and one whose value is a processor, up to 255
 abbrev pub position : Text → Rule
-position name = record (option name) { parser = Some (Unsigned 0 18446744073709551615) }
+position name = record (valued name) { parser = Some (Unsigned 0 18446744073709551615) }
 
 abbrev pub processor : Text → Rule
-processor name = record (option name) { parser = Some (Signed (pos 0) (pos 255)) }
+processor name = record (valued name) { parser = Some (Signed (pos 0) (pos 255)) }
 
 -- the files that `asm` takes, those that `run`, `debug` and `trace` take, and those that `race` takes beside its quota
 abbrev pub source_and_out : List Text
@@ -71,7 +71,7 @@ abbrev pub trace : App
 trace = command_with (codes "trace")
     (needed (codes "IMAGE") ∷ needed (codes "CONFIG") ∷ needed (codes "JOURNAL")
     ∷ position (codes "from") ∷ position (codes "to") ∷ processor (codes "cpu")
-    ∷ flag (codes "instructions") ∷ flag (codes "summary") ∷ option (codes "format") ∷ [])
+    ∷ flag (codes "instructions") ∷ flag (codes "summary") ∷ valued (codes "format") ∷ [])
 
 abbrev pub board : App
 board = program_with (codes "board") (words ∷ asm ∷ run ∷ race ∷ debug ∷ trace ∷ [])

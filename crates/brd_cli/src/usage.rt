@@ -192,13 +192,9 @@ fn trace_command<'a>(alloc: Global) -> Result<Command<'a>, NoMemory>
     let command = Command::new(alloc, "trace")
         .about("Says what happens on a board under a journal, a line for each event that matters")
         .after_help(TRACE)
-        .arg(needed(alloc, "IMAGE", "An object file, an ELF32 executable"))?
-        .arg(needed(alloc, "CONFIG", "A file of the kernel's configuration"))?
-        .arg(needed(
-            alloc,
-            "JOURNAL",
-            "A journal: the events that the board does",
-        ))?
+        .arg(needed(alloc, "IMAGE", "The board's object file"))?
+        .arg(needed(alloc, "CONFIG", "Its kernel's configuration"))?
+        .arg(needed(alloc, "JOURNAL", "The events that it does"))?
         .arg(position(alloc, "from", "Begins with the event of position N"))?
         .arg(position(alloc, "to", "Ends before the event of position N"))?
         .arg(processor(alloc, "cpu", "Shows only what concerns processor C"))?
@@ -212,9 +208,10 @@ fn trace_command<'a>(alloc: Global) -> Result<Command<'a>, NoMemory>
             "summary",
             "Shows only what stands at the end, and where it went wrong",
         ))?
-        .arg(option(
+        .arg(valued(
             alloc,
             "format",
+            "FORMAT",
             "text, as if it weren't given; json, a timeline for Perfetto; svg, a picture of it",
         ))?;
     Ok(command)
@@ -225,9 +222,7 @@ fn position<'a>(alloc: Global, name: &'a str, help: &'a str) -> Arg<'a>
     ensures rule { rule_of result ≡ usage.position name.entry.now }
     ensures own { result.global ≡ false }
 {
-    option(alloc, name, help)
-        .value_name("N")
-        .value_parser(clap::value_parser!(u64))
+    valued(alloc, name, "N", help).value_parser(clap::value_parser!(u64))
 }
 
 /// An option whose value is a processor.
@@ -235,19 +230,18 @@ fn processor<'a>(alloc: Global, name: &'a str, help: &'a str) -> Arg<'a>
     ensures rule { rule_of result ≡ usage.processor name.entry.now }
     ensures own { result.global ≡ false }
 {
-    option(alloc, name, help)
-        .value_name("C")
-        .value_parser(clap::value_parser!(u8))
+    valued(alloc, name, "C", help).value_parser(clap::value_parser!(u8))
 }
 
 /// An option with one value.
-fn option<'a>(alloc: Global, name: &'a str, help: &'a str) -> Arg<'a>
-    ensures rule { rule_of result ≡ usage.option name.entry.now }
+fn valued<'a>(alloc: Global, name: &'a str, value: &'a str, help: &'a str) -> Arg<'a>
+    ensures rule { rule_of result ≡ usage.valued name.entry.now }
     ensures own { result.global ≡ false }
 {
     Arg::new(alloc, name)
         .long(name)
         .action(ArgAction::Set)
+        .value_name(value)
         .help(help)
 }
 

@@ -6,7 +6,7 @@ use crate::text::{put, put_number, put_word};
 use brd_base::NoMemory;
 use brd_board::{Board, Fault};
 use brd_exec::{Context, ExceptionCode};
-use brd_isa::{ImmediateOp, Insn, LinkedOp, Register, RegisterOp, decode};
+use brd_isa::{Insn, LinkedOp, Register, RegisterOp, decode};
 use std::alloc::Global;
 
 /// The word at an address, where RAM has its four bytes.
@@ -121,9 +121,14 @@ impl Raised {
     /// Puts the code of a BREAK at the end.
     fn put_break(&self, alloc: Global, out: &mut Vec<u8>) -> Result<(), NoMemory> {
         put(out, "break ")?;
-        match self.instruction() {
-            Some(Insn::Break(code)) => put_number(alloc, out, u64::from(code.code())),
-            _ => Ok(()),
+        put_number(alloc, out, u64::from(self.break_code().unwrap_or(0)))
+    }
+
+    /// The code of a BREAK.
+    fn break_code(&self) -> Option<u32> {
+        match self.instruction()? {
+            Insn::Break(code) => Some(code.code()),
+            _ => None,
         }
     }
 
@@ -141,43 +146,80 @@ impl Raised {
     fn put_overflow(&self, out: &mut Vec<u8>) -> Result<(), NoMemory> {
         put_instruction(out, self.context.pc(), self.word)?;
         put(out, ", ")?;
-        match self.instruction() {
-            Some(Insn::ThreeRegisters(RegisterOp::Sub, _, rs, rt)) => {
-                self.put_words(out, self.context.read(rs), " - ", self.context.read(rt))?;
-            }
-            Some(Insn::ThreeRegisters(_, _, rs, rt)) => {
-                self.put_words(out, self.context.read(rs), " + ", self.context.read(rt))?;
-            }
-            Some(Insn::WithImmediate(ImmediateOp::Addi, _, rs, immediate)) => {
-                self.put_words(out, self.context.read(rs), " + ", sign_extended(immediate))?;
-            }
-            _ => (),
-        }
+        let Some(words) = self.computed() else {
+            return Ok(());
+        };
+        put_words(out, words, if words.subtracts { " - " } else { " + " })?;
         put(out, " is no signed word")
+    }
+
+    /// The words that an instruction adds or subtracts.
+    fn computed(&self) -> Option<Words> {
+        match self.instruction()? {
+            Insn::ThreeRegisters(op, _, rs, rt) => Some(Words {
+                one: self.context.read(rs),
+                other: self.context.read(rt),
+                subtracts: is_sub(op),
+            }),
+            Insn::WithImmediate(_, _, rs, immediate) => Some(Words {
+                one: self.context.read(rs),
+                other: sign_extended(immediate),
+                subtracts: false,
+            }),
+            _ => None,
+        }
     }
 
     /// Puts at the end the trap, and which words it compared.
     fn put_trap(&self, out: &mut Vec<u8>) -> Result<(), NoMemory> {
         put_instruction(out, self.context.pc(), self.word)?;
+        let Some(words) = self.compared() else {
+            return Ok(());
+        };
         put(out, ", of ")?;
-        match self.instruction() {
-            Some(Insn::Trap(_, rs, rt, _)) => {
-                self.put_words(out, self.context.read(rs), " and ", self.context.read(rt))?;
-            }
-            Some(Insn::TrapImmediate(_, rs, immediate)) => {
-                self.put_words(out, self.context.read(rs), " and ", sign_extended(immediate))?;
-            }
-            _ => (),
-        }
-        Ok(())
+        put_words(out, words, " and ")
     }
 
-    /// Puts two words at the end.
-    fn put_words(&self, out: &mut Vec<u8>, one: u32, between: &str, other: u32) -> Result<(), NoMemory> {
-        put_word(out, one)?;
-        put(out, between)?;
-        put_word(out, other)
+    /// The words that a trap compares.
+    fn compared(&self) -> Option<Words> {
+        match self.instruction()? {
+            Insn::Trap(_, rs, rt, _) => Some(Words {
+                one: self.context.read(rs),
+                other: self.context.read(rt),
+                subtracts: false,
+            }),
+            Insn::TrapImmediate(_, rs, immediate) => Some(Words {
+                one: self.context.read(rs),
+                other: sign_extended(immediate),
+                subtracts: false,
+            }),
+            _ => None,
+        }
     }
+}
+
+/// Two words that an instruction computes with.
+#[derive(Clone, Copy)]
+struct Words {
+    one: u32,
+    other: u32,
+    /// Whether it subtracts them.
+    subtracts: bool,
+}
+
+/// Whether an operation is SUB.
+fn is_sub(op: RegisterOp) -> bool {
+    match op {
+        RegisterOp::Sub => true,
+        _ => false,
+    }
+}
+
+/// Puts two words at the end.
+fn put_words(out: &mut Vec<u8>, words: Words, between: &str) -> Result<(), NoMemory> {
+    put_word(out, words.one)?;
+    put(out, between)?;
+    put_word(out, words.other)
 }
 
 /// An immediate with its sign extended.

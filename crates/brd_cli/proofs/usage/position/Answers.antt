@@ -10,4 +10,4 @@ returns-clause-rule c =
     let given = c.value_parser-2.ensures.given in
     let parser = given.1 ∙ ap Some (given.2 ∙ c.value_parser.ensures) in
     ap rule_of c.value_parser-2.ensures.others
-    ∙ ap₂ (λ (rule : Rule) (parser : Option ValueParser). record rule { parser = parser }) (ap rule_of c.value_name.ensures ∙ c.option.ensures.rule) parser
+    ∙ ap₂ (λ (rule : Rule) (parser : Option ValueParser). record rule { parser = parser }) c.valued.ensures.rule parser

@@ -13,10 +13,10 @@ returns c = λ old new adds.
     let six = c.in_ok-arg-6.ensures.shape c.processor.ensures.own ∙ ap₂ with_rule five c.processor.ensures.rule in
     let seven = c.in_ok-arg-7.ensures.shape c.flag.ensures.own ∙ ap₂ with_rule six c.flag.ensures.rule in
     let eight = c.in_ok-arg-8.ensures.shape c.flag-2.ensures.own ∙ ap₂ with_rule seven c.flag-2.ensures.rule in
-    let nine = c.in_ok-command.ensures.shape c.option.ensures.own ∙ ap₂ with_rule eight c.option.ensures.rule in
+    let nine = c.in_ok-command.ensures.shape c.valued.ensures.own ∙ ap₂ with_rule eight c.valued.ensures.rule in
     adds.shape (rw (
       c.in_ok-command.ensures.globals,
-      c.option.ensures.own,
+      c.valued.ensures.own,
       c.in_ok-arg-8.ensures.globals,
       c.flag-2.ensures.own,
       c.in_ok-arg-7.ensures.globals,
