@@ -1,0 +1,121 @@
+//! What a diagnosis has found.
+
+use crate::hint::{Hint, MOST_OF_ADVICE, MOST_OF_NAME};
+
+/// What is wrong at a place of a line. In the template `~` stands for the word, `^` for the other word, `?` for the
+/// number in decimal, `&` for the second one, and `@` for the
+/// address.
+#[derive(Clone, Copy)]
+pub(crate) struct Finding<'a> {
+    /// How many bytes the line has from this place on.
+    pub rest: usize,
+    /// What is said.
+    pub template: &'a [u8],
+    /// A word of the line.
+    pub word: &'a [u8],
+    /// Another word.
+    pub other: &'a [u8],
+    /// A number, as that of a line.
+    pub number: u64,
+    /// Another number.
+    pub second: u64,
+    /// An address.
+    pub address: u64,
+}
+
+impl<'a> Finding<'a> {
+    /// What is wrong at the place from which on the line has these bytes.
+    pub(crate) fn at(rest: &[u8], template: &'a [u8], word: &'a [u8]) -> Self {
+        Finding {
+            rest: rest.len(),
+            template,
+            word,
+            other: &[],
+            number: 0,
+            second: 0,
+            address: 0,
+        }
+    }
+
+    /// With so many bytes less behind the place.
+    pub(crate) fn shortened(self, by: usize) -> Self {
+        Finding {
+            rest: self.rest.saturating_sub(by),
+            ..self
+        }
+    }
+
+    /// With another word.
+    pub(crate) fn with_other(self, other: &'a [u8]) -> Self {
+        Finding { other, ..self }
+    }
+
+    /// With a number.
+    pub(crate) fn with_number(self, number: u64) -> Self {
+        Finding { number, ..self }
+    }
+
+    /// With another number.
+    pub(crate) fn with_second(self, second: u64) -> Self {
+        Finding { second, ..self }
+    }
+
+    /// With an address.
+    pub(crate) fn with_address(self, address: u64) -> Self {
+        Finding { address, ..self }
+    }
+
+    /// Puts what is said at the end of a text.
+    pub(crate) fn put_on(&self, hint: &mut Hint) {
+        for byte in self.template {
+            match *byte {
+                b'~' => hint.put_front(self.word, MOST_OF_NAME),
+                b'^' => hint.put_front(self.other, MOST_OF_ADVICE),
+                b'?' => hint.put_number(self.number),
+                b'&' => hint.put_number(self.second),
+                b'@' => hint.put_address(self.address),
+                other => hint.put(other),
+            }
+        }
+    }
+}
+
+/// The text of what was found in a line of that number and of so many bytes, of the input that is called so. No text
+/// where nothing was found.
+pub(crate) fn told(input: &[u8], line: usize, len: usize, found: Option<Finding>) -> Hint {
+    let mut hint = Hint::none();
+    if let Some(finding) = found {
+        hint.put_all(input);
+        hint.put_all(b": line ");
+        hint.put_number(line as u64);
+        hint.put_all(b", column ");
+        hint.put_number((len.saturating_sub(finding.rest) as u64).saturating_add(1));
+        hint.put_all(b": ");
+        finding.put_on(&mut hint);
+    }
+    hint
+}
+
+/// The text of what was found, where no column is told.
+pub(crate) fn told_of_line(input: &[u8], line: usize, found: Option<Finding>) -> Hint {
+    let mut hint = Hint::none();
+    if let Some(finding) = found {
+        hint.put_all(input);
+        hint.put_all(b": line ");
+        hint.put_number(line as u64);
+        hint.put_all(b": ");
+        finding.put_on(&mut hint);
+    }
+    hint
+}
+
+/// The text of what was found, where no line is told.
+pub(crate) fn told_of_input(input: &[u8], found: Option<Finding>) -> Hint {
+    let mut hint = Hint::none();
+    if let Some(finding) = found {
+        hint.put_all(input);
+        hint.put_all(b": ");
+        finding.put_on(&mut hint);
+    }
+    hint
+}

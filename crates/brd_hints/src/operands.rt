@@ -1,0 +1,238 @@
+//! What is wrong with the operands of a statement.
+
+use crate::finding::Finding;
+use crate::names::has_name;
+use crate::scan::{
+    before_comma, behind, behind_commas, count, first, place_of, run, skip_blanks, token, trim_end,
+};
+use crate::values::{is_numeric_label, is_register, is_register_name};
+use brd_text::{is_digit, is_name, is_run_byte, number};
+
+/// What is wrong with the operands of a word that takes those of a form, and so many at least.
+pub(crate) fn operand_fault<'a>(
+    word: &'a [u8],
+    form: &'a [u8],
+    least: usize,
+    operands: &'a [u8],
+) -> Option<Finding<'a>> {
+    let most = if form.is_empty() {
+        0
+    } else {
+        count(form, b',').saturating_add(1)
+    };
+    let have = if operands.is_empty() {
+        0
+    } else {
+        count(operands, b',').saturating_add(1)
+    };
+    if let Some(found) = comma_fault(operands) {
+        return Some(found);
+    }
+    if have < least || have > most {
+        return Some(counted(word, form, have, operands));
+    }
+    for place in 0..have {
+        let kind = before_comma(behind_commas(form, place)?);
+        let rest = behind_commas(operands, place)?;
+        if let Some(found) = kind_fault(kind, rest) {
+            return Some(found);
+        }
+    }
+    None
+}
+
+/// Too few operands, or too many.
+fn counted<'a>(word: &'a [u8], form: &'a [u8], have: usize, operands: &'a [u8]) -> Finding<'a> {
+    let template = match (form.is_empty(), have) {
+        (_, 3) if has_name(b"div divu", word) => {
+            b"~ takes ^, found 3 operands (mflo has the quotient, mfhi the rest)".as_slice()
+        }
+        (true, _) => b"~ takes no operands, found ?".as_slice(),
+        (_, 0) => b"~ takes ^, found no operand".as_slice(),
+        (_, 1) => b"~ takes ^, found 1 operand".as_slice(),
+        _ => b"~ takes ^, found ? operands".as_slice(),
+    };
+    Finding::at(operands, template, word)
+        .with_other(form)
+        .with_number(have as u64)
+}
+
+/// A comma that is missing, or one too many.
+pub(crate) fn comma_fault(operands: &[u8]) -> Option<Finding<'_>> {
+    let pieces = count(operands, b',').saturating_add(1);
+    let mut rest = skip_blanks(operands);
+    for place in 0..pieces {
+        let piece = before_comma(rest);
+        if piece.is_empty() && pieces > 1 {
+            let template = if place.saturating_add(1) == pieces {
+                b"an operand is missing after the last comma".as_slice()
+            } else {
+                b"an operand is missing before this comma".as_slice()
+            };
+            return Some(Finding::at(rest, template, &[]));
+        }
+        if let Some(found) = joined(rest, piece) {
+            return Some(found);
+        }
+        rest = behind_commas(rest, 1).unwrap_or(&[]);
+    }
+    None
+}
+
+/// Two runs in a piece with nothing but blanks between them.
+fn joined<'a>(rest: &'a [u8], piece: &'a [u8]) -> Option<Finding<'a>> {
+    let (word, after) = run(piece);
+    let next = skip_blanks(after);
+    if word.is_empty() || next.is_empty() || !is_run_byte(first(next)) {
+        return None;
+    }
+    let skipped = piece.len().saturating_sub(next.len());
+    Some(Finding::at(
+        behind(rest, skipped),
+        b"a comma is missing before ~",
+        token(next),
+    ))
+}
+
+/// What is wrong with an operand of this kind, which stands at the front.
+fn kind_fault<'a>(kind: &'a [u8], rest: &'a [u8]) -> Option<Finding<'a>> {
+    let operand = before_comma(rest);
+    let template = match first(kind) {
+        b'r' => register_fault(operand),
+        b'o' => base_fault(operand),
+        _ => value_fault(operand),
+    }?;
+    let shown = if first(operand) == b'%' || first(operand) == b'-' {
+        operand
+    } else {
+        token(operand)
+    };
+    Some(Finding::at(rest, template, shown).with_other(kind))
+}
+
+/// What is wrong with an operand that should be a register.
+fn register_fault(operand: &[u8]) -> Option<&'static [u8]> {
+    let (name, after) = run(operand);
+    if is_register(name) {
+        return if after.is_empty() {
+            None
+        } else {
+            Some(b"behind the register ~ a comma or the line's end is wanted")
+        };
+    }
+    if first(name) == b'$' {
+        return Some(
+            b"~ is no register: there are $0 to $31, and $zero $at $v0 $v1 $a0-$a3 $t0-$t9 $s0-$s8 $k0 $k1 $gp $sp $fp $ra",
+        );
+    }
+    if is_register_name(name) {
+        return Some(b"a register is written with $: $~");
+    }
+    if first(name) == b'r' || is_digit(first(name)) {
+        return Some(
+            b"found ~ where the register ^ is wanted (registers are $0 to $31, or by name, as $t0)",
+        );
+    }
+    Some(b"found ~ where the register ^ is wanted, as $t0")
+}
+
+/// What is wrong with an operand that should be an offset and a base.
+fn base_fault(operand: &[u8]) -> Option<&'static [u8]> {
+    let Some(open) = place_of(operand, b'(') else {
+        return Some(b"found ~ without a base: write offset(base), as 0($t0)");
+    };
+    let inside = skip_blanks(behind(operand, open.saturating_add(1)));
+    let inside = if first(operand) == b'%' {
+        let behind_value = place_of(inside, b'(');
+        skip_blanks(behind(inside, behind_value?.saturating_add(1)))
+    } else {
+        inside
+    };
+    let (name, after) = run(inside);
+    if first(skip_blanks(after)) != b')' {
+        return Some(b"a ) is missing behind the base: write offset(base), as 0($t0)");
+    }
+    if !is_register(name) {
+        return Some(b"the base in ( ) isn't a register: write offset(base), as 0($t0)");
+    }
+    if first(operand) == b'(' {
+        return None;
+    }
+    value_fault(operand)
+}
+
+/// What is wrong with an operand that should be a value.
+fn value_fault(operand: &[u8]) -> Option<&'static [u8]> {
+    let value = skip_blanks(without_minus(operand));
+    let (name, after) = run(value);
+    let next = first(skip_blanks(after));
+    if first(operand) == b'%' {
+        let known = operand.starts_with(b"%hi".as_slice())
+            || operand.starts_with(b"%lo".as_slice());
+        return if known {
+            Some(b"~ can't stand here: %hi and %lo are for immediates and offsets, as %lo(name)")
+        } else {
+            Some(b"~ isn't there: of such words only %hi and %lo")
+        };
+    }
+    if first(name) == b'$' {
+        return Some(b"the register ~ stands where ^ is wanted, a number or a name");
+    }
+    if is_numeric_label(name) {
+        return Some(b"no numeric labels: for ~ give the label a name");
+    }
+    if is_digit(first(name)) && number(name).is_none() {
+        return Some(
+            b"~ is no number: decimal digits, or 0x and hexadecimal digits, below 2 to the 32nd",
+        );
+    }
+    if is_digit(first(name)) && (next == b'+' || next == b'-') {
+        return Some(b"the name comes first: name + number, or name - number");
+    }
+    sum_fault(name, next, skip_blanks(after))
+}
+
+/// What is wrong with a sum, of which the name or number at the front is right.
+fn sum_fault(name: &[u8], next: u8, after: &[u8]) -> Option<&'static [u8]> {
+    if next == b'(' && name.is_empty() {
+        return Some(
+            b"no parentheses in expressions: a number, a name, name + number or name - number",
+        );
+    }
+    if next != b'+' && next != b'-' {
+        return None;
+    }
+    let second = skip_blanks(without_minus(skip_blanks(behind(after, 1))));
+    let (term, more) = run(second);
+    let end = trim_end(more);
+    if is_name(term) {
+        return Some(b"only a number can be added to ~, no second name");
+    }
+    if !end.is_empty() && first(skip_blanks(end)) != b'(' {
+        return Some(b"only one number can be added to ~: name + number, or name - number");
+    }
+    None
+}
+
+/// The text behind a `-` at its front.
+fn without_minus(text: &[u8]) -> &[u8] {
+    if first(text) == b'-' {
+        behind(text, 1)
+    } else {
+        text
+    }
+}
+
+/// What is wrong with a list of values.
+pub(crate) fn values_fault(operands: &[u8]) -> Option<Finding<'_>> {
+    if let Some(found) = comma_fault(operands) {
+        return Some(found);
+    }
+    for place in 0..count(operands, b',').saturating_add(1) {
+        let rest = behind_commas(operands, place)?;
+        if let Some(found) = kind_fault(b"value", rest) {
+            return Some(found);
+        }
+    }
+    None
+}

@@ -1,0 +1,66 @@
+//! Journals of plans.
+
+ghost use Rattle.std.specs.Prelude.{◌≡◌, ◌≤◌, ◌<◌, ◌^◌, IfOk};
+ghost use Rattle.brd_schedule.specs.Schedule.{IsMade, IsPlanned, fixed, raised};
+
+use crate::chooser::Chooser;
+use crate::plan::{Plan, Raise};
+use brd_board::Event;
+use brd_journal::{Journal, JournalFault, MOST_RUNS};
+use std::alloc::Global;
+
+/// The journal of a plan: its events in order, each a raise or a tick where the plan says so, and else the step of one
+/// of its processors. The fault is that memory ran out, or that the events need more runs than a journal may have.
+pub fn make(alloc: Global, plan: &Plan) -> Result<Journal, JournalFault>
+    requires { 1 ≤ plan.now.cpus }
+    ensures { IfOk result (λ journal. IsMade plan.now journal.events) }
+{
+    let mut chooser = Chooser::new(alloc, plan)?;
+    let mut journal = Journal::new(alloc, MOST_RUNS);
+    let mut steps = 0u32;
+    for before in 0..plan.events {
+        let event = next_event(plan, &mut chooser, &mut steps, before + 1);
+        journal.push(event)?;
+    }
+    Ok(journal)
+}
+
+/// The event of this number, counted from 1, behind so many steps. A step that it is gets counted.
+fn next_event(plan: &Plan, chooser: &mut Chooser, steps: &mut u32, number: u32) -> Event
+    requires { 1 ≤ plan.now.cpus }
+    ensures { IsPlanned plan.now number result }
+{
+    match fixed_event(plan, number) {
+        Some(event) => event,
+        None => {
+            let cpu = chooser.next(plan.cpus, *steps);
+            *steps = steps.saturating_add(1);
+            Event::Step(cpu)
+        }
+    }
+}
+
+/// The event of this number, counted from 1, where it is no step.
+fn fixed_event(plan: &Plan, number: u32) -> Option<Event>
+    ensures { result ≡ fixed plan.now number }
+{
+    if let Some(line) = raised_line(plan.raises, number) {
+        return Some(Event::Raise(line));
+    }
+    if plan.tick_every > 0 && number % plan.tick_every == 0 {
+        return Some(Event::Tick);
+    }
+    None
+}
+
+/// The line that is raised as the event of this number.
+fn raised_line(raises: &[Raise], number: u32) -> Option<u8>
+    ensures { result ≡ raised raises.now number }
+{
+    for raise in raises {
+        if raise.at == number {
+            return Some(raise.line);
+        }
+    }
+    None
+}
