@@ -139,7 +139,15 @@ _start: addiu $v0, $0, 40
 /// A little-endian board does what a big-endian one does.
 #[test]
 fn a_letter(rt: HostRuntime) {
-    assert!(rt; tells(rt.alloc(), LITTLE_LETTER, ONE_TASK, OF_A_LETTER, &AFTER_A_LETTER));
+    assert!(rt;
+        tells(
+            rt.alloc(),
+            LITTLE_LETTER,
+            ONE_TASK,
+            OF_A_LETTER,
+            &AFTER_A_LETTER
+        )
+    );
 }
 
 /// Whether a source makes a board of this byte order.
@@ -199,11 +207,19 @@ fn of_a_file(rt: HostRuntime) -> Result<(), Fail> {
     let alloc = rt.alloc();
     let file = file_of(alloc, FOUR_WORDS)?;
     assert!(rt; has_little_words(file.as_slice()) && is_loaded(alloc, file.as_slice()));
-    assert!(rt; tells(alloc, FOUR_WORDS, ONE_TASK, &[
-        Report::Ran(0x8000_0000),
-        Report::Ran(0x8000_0004),
-        Report::Ran(0x8000_0008),
-    ], &SHOWN));
+    assert!(rt;
+        tells(
+            alloc,
+            FOUR_WORDS,
+            ONE_TASK,
+            &[
+                Report::Ran(0x8000_0000),
+                Report::Ran(0x8000_0004),
+                Report::Ran(0x8000_0008),
+            ],
+            &SHOWN
+        )
+    );
     Ok(())
 }
 
