@@ -11,11 +11,12 @@ race() {
     check "race: $1" "$2" "$3" "$4" $?
 }
 
-# records NAME LINE..: whether $journal has these lines after its first.
+# records NAME LINE..: whether $journal has these lines after its first, which names the byte order in $order.
+order=big
 records() {
     local name=$1
     shift
-    { echo "board-journal 1"; [ $# = 0 ] || printf '%s\n' "$@"; } > "$work/lines"
+    { echo "board-journal 2 $order"; [ $# = 0 ] || printf '%s\n' "$@"; } > "$work/lines"
     verdict "race: $name" "$(cmp -s "$journal" "$work/lines" || echo "the journal has $(head -n 5 "$journal" | tr '\n' ';')")"
 }
 
@@ -53,6 +54,13 @@ records "no steps and an empty script"
 report 1001 0 80000004
 race "an endless loop" 0 "$work/report" "" "$work/loop" "$work/one" "$work/nothing" 1001
 records "an endless loop" "S 1 1001"
+printf '.byteorder little\n_start: b _start\n nop\n' > "$work/little.s"
+"$board" asm "$work/little.s" "$work/little"
+race "a little-endian board" 0 "$work/report" "" "$work/little" "$work/one" "$work/nothing" 1001
+order=little
+records "a little-endian board" "S 1 1001"
+order=big
+verdict "race: a little-endian board: its journal" "$(replays "$work/little" "$work/one" "$work/nothing" 10)"
 report 6 3 80000000
 race "a script alone" 0 "$work/report" "" "$work/loop" "$work/one" "$work/script" 0
 records "a script alone" "T 2" "R 31 3" "T 1"

@@ -22,7 +22,7 @@ unwritten="board: can't write the output: $is_closed"
 printf 'pc 80000004\n$29 80010000\n' > "$work/registers"
 echo 'at 3' > "$work/answers"
 "$board" run "$work/image" "$work/config" "$work/journal" > "$work/report"
-printf 'board-journal 1\nS 1 10\n' > "$work/raced"
+printf 'board-journal 2 big\nS 1 10\n' > "$work/raced"
 
 # closed STREAMS STATUS OUTPUT-FILE ERROR INPUT ARGUMENT..: runs the program without these streams, `0`, `1` or `2` or
 # several, in the folder of its files. What is on a stream that is open is as it has to be, and no file has changed.

@@ -82,9 +82,9 @@ impl Drop for Board {
 }
 
 impl Board {
-    /// The board that an image and a configuration make, in the image's byte order. Its tasks with TA_ACT have been started, and no interrupt is
-    /// pending. A fault is the first one: of the segments, of the tasks in the order of their statements, of the
-    /// handlers in theirs.
+    /// The board that an image and a configuration make, in the image's byte order. Its tasks with TA_ACT have been
+    /// started, and no interrupt is pending. A fault is the first one: of the segments, of the tasks in the order of
+    /// their statements, of the handlers in theirs.
     #[tactic(auto, unfolding(crate::specs::Boot::boot))]
     pub fn boot(alloc: Global, image: &Image, config: &Config) -> Result<Board, BootFault>
         requires { IsLoadable image.now }
@@ -103,8 +103,8 @@ impl Board {
         })
     }
 
-    /// The big-endian board of these words: they lie from 0x80000000 on in 64 KiB of RAM, and task 1 is about to run at the first
-    /// of them, with its stack at the end of RAM. More than 16,384 words are `Outside`.
+    /// The big-endian board of these words: they lie from 0x80000000 on in 64 KiB of RAM, and task 1 is about to run at
+    /// the first of them, with its stack at the end of RAM. More than 16,384 words are `Outside`.
     pub fn from_words(alloc: Global, words: &[u32]) -> Result<Board, BootFault>
         ensures image { Boots (boot (image_of_words words.now) words_config) result }
         ensures words { Boots (boot_words words.now) result }

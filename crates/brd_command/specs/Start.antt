@@ -47,7 +47,8 @@ AreWithin image config text = (length image ≤ most_bytes) × (length config �
 
 -- Why an object file, a configuration and a text that were read give no start: the first fault of the object file and
 -- the configuration; or these make a board, and it is the first of the text, which should be a journal or a script; or
--- the text is a journal of another byte order. With a fault of a form stands the other kind of which the faulty one looks.
+-- the text is a journal of another byte order. With a fault of a form stands the other kind of which the faulty one
+-- looks.
 abbrev pub KeepsFromMaking : InputName → List ℕ → List ℕ → List ℕ → CommandFault → Type 0
 KeepsFromMaking last image config text NoMemory = Unit {0}
 KeepsFromMaking last image config text (Build fault kind) = (loaded image config ≡ Err fault) × (fault ≢ build_fault.NoMemory) × (kind ≡ build_looks_like image config fault)

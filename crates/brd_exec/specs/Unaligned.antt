@@ -1,8 +1,8 @@
--- The loads and stores of the parts of an unaligned word (MD00086, the entries LWL, LWR, SWL and SWR). They load or store
--- the aligned word that holds the address, so they raise no address error. The left ones speak of the bytes of this word
--- from the one at the address down to its least significant one, and of the most significant ones of the register; the
--- right ones of the bytes from the most significant one down to that at the address, and of the least significant ones of
--- the register.
+-- The loads and stores of the parts of an unaligned word (MD00086, the entries LWL, LWR, SWL and SWR). They load or
+-- store the aligned word that holds the address, so they raise no address error. The left ones speak of the bytes of
+-- this word from the one at the address down to the least significant one, and of the register's most significant ones;
+-- the right ones of the bytes from the most significant one down to the one at the address, and of the register's least
+-- significant ones.
 use Rattle.std.specs.Prelude.{ℕ, ◌+◌, ◌-◌, ◌*◌, ◌/◌, ◌%◌, ◌^◌, if◌then◌else◌, Result, Ok, Err}
 use Rattle.brd_base.specs.Space.{base}
 use Rattle.brd_word.specs.declared.order.Order.{Order}

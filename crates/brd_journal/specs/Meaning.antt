@@ -32,7 +32,8 @@ IsWrong limit front rest (Syntax line) = (line ≡ length front + 2) × (rest �
 IsWrong limit front rest Full =
     (run : Run) × (behind : List ℕ) × CanBeSpelled run × (rest ≡ line_text run ++ 10 ∷ behind) × (limit < length (runs_of (events_of (front ++ run ∷ []))))
 
--- A text says no journal: behind a first line and a front of good lines, for which the limit suffices, stands a line with this fault.
+-- A text says no journal: behind a first line and a front of good lines, for which the limit suffices, stands a line
+-- with this fault.
 pub record FailsBehind (limit : ℕ) (text : List ℕ) (fault : JournalFault) : Type 0 where
   pub front : List Run
   pub rest : List ℕ

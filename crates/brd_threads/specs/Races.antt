@@ -58,9 +58,10 @@ AreWithin quotas station = (i : ℕ) → i < length quotas → steps (i + 1) sta
 abbrev pub AreMet : List ℕ → StationState → Type 0
 AreMet quotas station = (i : ℕ) → i < length quotas → steps (i + 1) station.journal.events ≡ slice_index_or quotas i 0
 
--- What a race answers: a station of this boot and script, whose journal has the boot's byte order. What came from outside is what was taken of the script, all
--- of it unless the board is off. No processor has done more steps than its quota, and each as many, unless the board is
--- off. The journal has no more runs than `limit`. Of numbers that no processor has it says nothing.
+-- What a race answers: a station of this boot and script, whose journal has the boot's byte order. What came from
+-- outside is what was taken of the script, all of it unless the board is off. No processor has done more steps than its
+-- quota, and each as many, unless the board is off. The journal has no more runs than `limit`. Of numbers that no
+-- processor has it says nothing.
 pub record HasRaced (boot : BoardState) (script : List Outer) (quotas : List ℕ) (limit : ℕ) (station : StationState) : Type 0 where
   pub boot_is : station.boot ≡ boot
   pub script_is : station.script ≡ script

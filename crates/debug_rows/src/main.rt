@@ -72,7 +72,7 @@ fn appended(journal: &mut Journal, event: Event, count: u32) -> Result<()> {
     Ok(append(journal, event, count)?)
 }
 
-/// A journal of steps of three processors, ticks and interrupts.
+/// A big-endian journal of steps of three processors, ticks and interrupts.
 fn journal_of_all(alloc: Global) -> Result<Journal> {
     let mut journal = Journal::new(alloc, 4096, Order::Big);
     for _ in 0..700u16 {
@@ -128,6 +128,9 @@ fn told_of_moves(alloc: Global, debugger: &mut Debugger) -> Result<String> {
 fn told_of(alloc: Global, board: Board) -> Result<String> {
     let journal = journal_of_all(alloc)?;
     let mut text = format!(in alloc; "runs {}\n", journal.runs().len())?;
+    if board.order() != journal.order() {
+        bail!("the source isn't big-endian");
+    }
     let mut debugger = Debugger::new(alloc, board, journal)?;
     let _ = debugger.add_break(0x8000_001c);
     let _ = debugger.add_watch(0x8000_8003);
