@@ -73,20 +73,9 @@ impl Raised {
 
     /// The load or the store that it is.
     fn access(&self) -> Option<Access> {
-        match self.instruction()? {
-            Insn::Load(_, _, base, offset) | Insn::Linked(LinkedOp::Ll, _, base, offset) => {
-                Some(Access {
-                    stores: false,
-                    address: self.context.address(base, offset),
-                })
-            }
-            Insn::Store(_, _, base, offset) | Insn::Linked(LinkedOp::Sc, _, base, offset) => {
-                Some(Access {
-                    stores: true,
-                    address: self.context.address(base, offset),
-                })
-            }
-            _ => None,
+        match self.instruction() {
+            Some(insn) => access_of(&self.context, &insn),
+            None => None,
         }
     }
 
@@ -126,9 +115,9 @@ impl Raised {
 
     /// The code of a BREAK.
     fn break_code(&self) -> Option<u32> {
-        match self.instruction()? {
-            Insn::Break(code) => Some(code.code()),
-            _ => None,
+        match self.instruction() {
+            Some(insn) => break_code_of(&insn),
+            None => None,
         }
     }
 
@@ -146,55 +135,29 @@ impl Raised {
     fn put_overflow(&self, out: &mut Vec<u8>) -> Result<(), NoMemory> {
         put_instruction(out, self.context.pc(), self.word)?;
         put(out, ", ")?;
-        let Some(words) = self.computed() else {
+        let Some(words) = self.words() else {
             return Ok(());
         };
         put_words(out, words, if words.subtracts { " - " } else { " + " })?;
         put(out, " is no signed word")
     }
 
-    /// The words that an instruction adds or subtracts.
-    fn computed(&self) -> Option<Words> {
-        match self.instruction()? {
-            Insn::ThreeRegisters(op, _, rs, rt) => Some(Words {
-                one: self.context.read(rs),
-                other: self.context.read(rt),
-                subtracts: is_sub(op),
-            }),
-            Insn::WithImmediate(_, _, rs, immediate) => Some(Words {
-                one: self.context.read(rs),
-                other: sign_extended(immediate),
-                subtracts: false,
-            }),
-            _ => None,
+    /// The words that it adds, subtracts or compares.
+    fn words(&self) -> Option<Words> {
+        match self.instruction() {
+            Some(insn) => words_of(&self.context, &insn),
+            None => None,
         }
     }
 
     /// Puts at the end the trap, and which words it compared.
     fn put_trap(&self, out: &mut Vec<u8>) -> Result<(), NoMemory> {
         put_instruction(out, self.context.pc(), self.word)?;
-        let Some(words) = self.compared() else {
+        let Some(words) = self.words() else {
             return Ok(());
         };
         put(out, ", of ")?;
         put_words(out, words, " and ")
-    }
-
-    /// The words that a trap compares.
-    fn compared(&self) -> Option<Words> {
-        match self.instruction()? {
-            Insn::Trap(_, rs, rt, _) => Some(Words {
-                one: self.context.read(rs),
-                other: self.context.read(rt),
-                subtracts: false,
-            }),
-            Insn::TrapImmediate(_, rs, immediate) => Some(Words {
-                one: self.context.read(rs),
-                other: sign_extended(immediate),
-                subtracts: false,
-            }),
-            _ => None,
-        }
     }
 }
 
@@ -212,6 +175,68 @@ fn is_sub(op: RegisterOp) -> bool {
     match op {
         RegisterOp::Sub => true,
         _ => false,
+    }
+}
+
+/// The load or the store that an instruction is.
+fn access_of(context: &Context, insn: &Insn) -> Option<Access> {
+    match *insn {
+        Insn::Load(_, _, base, offset) => Some(Access {
+            stores: false,
+            address: context.address(base, offset),
+        }),
+        Insn::Store(_, _, base, offset) => Some(Access {
+            stores: true,
+            address: context.address(base, offset),
+        }),
+        Insn::Linked(op, _, base, offset) => Some(Access {
+            stores: is_sc(op),
+            address: context.address(base, offset),
+        }),
+        _ => None,
+    }
+}
+
+/// Whether an operation is SC.
+pub(crate) fn is_sc(op: LinkedOp) -> bool {
+    match op {
+        LinkedOp::Ll => false,
+        LinkedOp::Sc => true,
+    }
+}
+
+/// The code of a BREAK.
+fn break_code_of(insn: &Insn) -> Option<u32> {
+    match *insn {
+        Insn::Break(code) => Some(code.code()),
+        _ => None,
+    }
+}
+
+/// The words that an instruction adds, subtracts or compares.
+fn words_of(context: &Context, insn: &Insn) -> Option<Words> {
+    match *insn {
+        Insn::ThreeRegisters(op, _, rs, rt) => Some(Words {
+            one: context.read(rs),
+            other: context.read(rt),
+            subtracts: is_sub(op),
+        }),
+        Insn::WithImmediate(_, _, rs, immediate) => Some(Words {
+            one: context.read(rs),
+            other: sign_extended(immediate),
+            subtracts: false,
+        }),
+        Insn::Trap(_, rs, rt, _) => Some(Words {
+            one: context.read(rs),
+            other: context.read(rt),
+            subtracts: false,
+        }),
+        Insn::TrapImmediate(_, rs, immediate) => Some(Words {
+            one: context.read(rs),
+            other: sign_extended(immediate),
+            subtracts: false,
+        }),
+        _ => None,
     }
 }
 

@@ -1,11 +1,11 @@
 //! What an ordinary instruction was, and what it changed.
 
-use crate::cause::word_at;
+use crate::cause::{is_sc, word_at};
 use crate::text::{put, put_word};
 use brd_base::NoMemory;
 use brd_board::Board;
 use brd_exec::Context;
-use brd_isa::{Insn, LinkedOp, Register, decode};
+use brd_isa::{Insn, Register, decode};
 use brd_listing::{register_name, write_instruction};
 
 /// Puts an instruction at the end, or its word, where that stands for none.
@@ -76,10 +76,18 @@ fn put_stored(
 
 /// The address that an instruction stores to, if it is a store.
 fn stored_at(before: &Context, word: Option<u32>) -> Option<u32> {
-    match decode(word?)? {
-        Insn::Store(_, _, base, offset) | Insn::Linked(LinkedOp::Sc, _, base, offset) => {
-            Some(before.address(base, offset))
-        }
+    let word = word?;
+    match decode(word) {
+        Some(insn) => stored_by(before, &insn),
+        None => None,
+    }
+}
+
+/// The address that an instruction stores to, if it is a store.
+fn stored_by(before: &Context, insn: &Insn) -> Option<u32> {
+    match *insn {
+        Insn::Store(_, _, base, offset) => Some(before.address(base, offset)),
+        Insn::Linked(op, _, base, offset) if is_sc(op) => Some(before.address(base, offset)),
         _ => None,
     }
 }
