@@ -46,7 +46,7 @@ pub record IsLaidOut (text : List ℕ) (program : Program) (s : Layout) : Type 0
   pub names : program.names ≡ s.names
   pub means : meanings (order_by s.order) s.names s.pieces ≡ Ok program.contents
 
-laid_out : (text : List ℕ) (program : Program) → program_of text ≡ Ok program → (s : Layout) × IsLaidOut text program s
+pub laid_out : (text : List ℕ) (program : Program) → program_of text ≡ Ok program → (s : Layout) × IsLaidOut text program s
 unfolding program_of
 laid_out text program e =
     let s = bind_ok (all_placed 1 (lines_of text) nothing) (λ s. meanings (order_by s.order) s.names s.pieces >>= λ contents. Ok (record { order = order_by s.order; names = s.names; contents = contents })) program e in
@@ -163,7 +163,7 @@ goes text number before behind bytes so_far s lines number_is front whole =
     let b = bind_ok (placed number bytes so_far) (all_placed (number + 1) behind) s rest in
     record { next = b.0; one = one_line number bytes so_far b.0 b.1; on = lines_go_on (number + 1) behind b.0 s b.2 }
 
-said_is : (bytes : List ℕ) (said other : Line) → line_of bytes ≡ Some said → line_of bytes ≡ Some other → other ≡ said
+pub said_is : (bytes : List ℕ) (said other : Line) → line_of bytes ≡ Some said → line_of bytes ≡ Some other → other ≡ said
 said_is bytes said other e f = some_is other said (sym f ∙ e)
 
 pub labels : (text : List ℕ) (program : Program) (image : Image) → program_of text ≡ Ok program → IsImage program image → HasLabels text image

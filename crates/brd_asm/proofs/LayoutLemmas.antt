@@ -195,6 +195,7 @@ none_over (p ∷ pieces) line content place e =
 pub record Filled (line : ℕ) (content : Content) (s t : Layout) : Type 0 where
   pub in_ram : InRam (piece_at s.place line content)
   pub apart : AllByRecursion (λ p. Apart p (piece_at s.place line content)) s.pieces
+  pub order_is : t.order ≡ s.order
   pub place_is : t.place ≡ s.place + size_of content
   pub names_are : t.names ≡ s.names
   pub pieces_are : t.pieces ≡ s.pieces ++ piece_at s.place line content ∷ []
@@ -216,6 +217,7 @@ fills line content s t e =
       | inr more ↦ inr (subst (λ (u : Layout). Filled line content s u) more.2 (record {
         in_ram = more.0;
         apart = none_over s.pieces line content s.place more.1;
+        order_is = refl;
         place_is = refl;
         names_are = refl;
         pieces_are = refl;
@@ -238,7 +240,7 @@ pub record GoesOn (s t : Layout) : Type 0 where
   pub pieces : t.pieces ≡ s.pieces ++ more
   pub sound : IsSound s → IsSound t
 
-abbrev layout : Option Order → ℕ → List Name → List Piece → Layout
+abbrev pub layout : Option Order → ℕ → List Name → List Piece → Layout
 layout order place names pieces = record { order = order; place = place; names = names; pieces = pieces }
 
 stays : (s : Layout) → GoesOn s s

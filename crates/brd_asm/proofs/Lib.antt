@@ -10,5 +10,6 @@ mod AscendingLemmas
 mod PairLemmas
 mod LayoutLemmas
 mod LawLemmas
+mod OrderLemmas
 mod OneImage
 mod HalfLemmas

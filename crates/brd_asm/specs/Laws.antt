@@ -7,7 +7,9 @@ use Rattle.brd_mem.specs.Image.{byte_in, symbol_value}
 use Rattle.brd_mem.specs.declared.image.Image.{Image}
 use Rattle.brd_mem.specs.declared.image.Segment.{Segment}
 use Rattle.brd_source.specs.Statement.{Instruction, Line}
-use Rattle.brd_source.specs.Statement.Statement.{Instruct}
+use Rattle.brd_word.specs.declared.order.Order.{Order}
+use Rattle.brd_word.specs.declared.order.Order.TheVariants.{Big}
+use Rattle.brd_source.specs.Statement.Statement.{ByteOrder, Instruct}
 use Rattle.brd_source.specs.Lines.{line_of}
 use Rattle.brd_asm.specs.Layout.{Layout, all_placed, nothing}
 use Rattle.brd_asm.specs.Meaning.{instruction_of}
@@ -47,3 +49,12 @@ abbrev pub HasInstructions : List ℕ → Image → Type 0
 HasInstructions text image =
     (program : Program) (number address : ℕ) (said : Line) (instruction : Instruction) → program_of text ≡ Ok program → IsLine text number address said → said.statement ≡ Instruct instruction
     → (insn : Insn) × (instruction_of number address program.names instruction ≡ Ok insn) × (bytes : List ℕ) × HasBytes image.order (Means insn) bytes × Lies image.segments address bytes
+
+-- a line that names no byte order
+abbrev pub NamesNoOrder : List ℕ → Type 0
+NamesNoOrder bytes = (said : Line) (order : Order) → line_of bytes ≡ Some said → said.statement ≡ ByteOrder order → ⊥
+
+-- A line with .byteorder names the image's byte order. Where there is none, the image is big-endian.
+pub record HasOrder (text : List ℕ) (image : Image) : Type 0 where
+  pub named : (number address : ℕ) (said : Line) (order : Order) → IsLine text number address said → said.statement ≡ ByteOrder order → image.order ≡ order
+  pub unnamed : AllByRecursion (λ bytes. NamesNoOrder bytes) (lines_of text) → image.order ≡ Big

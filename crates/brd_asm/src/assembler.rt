@@ -5,7 +5,7 @@ ghost use Rattle.brd_mem.specs.Image.{IsPlain};
 ghost use Rattle.brd_asm.specs.Faults.{Meets};
 ghost use Rattle.brd_asm.specs.Values.{named, modulo};
 ghost use Rattle.brd_asm.specs.Image.{program_of, IsImage, entry_by};
-ghost use Rattle.brd_asm.specs.Laws.{HasLines, HasLabels, HasInstructions};
+ghost use Rattle.brd_asm.specs.Laws.{HasLines, HasLabels, HasInstructions, HasOrder};
 
 use crate::fault::AsmFault;
 use crate::layout::{Layout, order_by};
@@ -37,6 +37,8 @@ pub fn assemble(alloc: Global, text: &[u8]) -> Result<Image, AsmFault>
     ensures lines { IfOk result (λ _. HasLines text.now) }
     // Every label's value is the address of its line.
     ensures labels { IfOk result (HasLabels text.now) }
+    // The byte order is the one that a line names, or big-endian.
+    ensures order { IfOk result (HasOrder text.now) }
     // At the address of each line with an instruction lies a word that stands for that instruction.
     ensures instructions { IfOk result (HasInstructions text.now) }
 {

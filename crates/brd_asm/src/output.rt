@@ -121,12 +121,7 @@ fn data_of(
 }
 
 /// Puts the bytes of a value behind others.
-fn put_value(
-    output: &mut List<u8>,
-    order: Order,
-    width: Width,
-    value: i64,
-) -> Result<(), NoMemory>
+fn put_value(output: &mut List<u8>, order: Order, width: Width, value: i64) -> Result<(), NoMemory>
     ensures { OnOk result (output.new ≡ output.old ++ bytes_of order width value) }
 {
     let value = value as i128;

@@ -91,7 +91,11 @@ pub fn put_header(
 {
     put_ident(out, order)?;
     put_halves(out, &[2, 8], order)?;
-    put_words(out, &[1, entry as usize, programs_at, sections_at, 0], order)?;
+    put_words(
+        out,
+        &[1, entry as usize, programs_at, sections_at, 0],
+        order,
+    )?;
     put_halves(out, &[52, 32, count, 40, 4, 3], order)
 }
 
@@ -234,12 +238,7 @@ fn put_named(
 }
 
 /// Puts a symbol whose name lies at a place in the strings at the end.
-fn put_symbol(
-    out: &mut Vec<u8>,
-    order: Order,
-    name: usize,
-    value: u32,
-) -> Result<(), NoMemory>
+fn put_symbol(out: &mut Vec<u8>, order: Order, name: usize, value: u32) -> Result<(), NoMemory>
     ensures put { OnOk result (out.new.items ≡ out.old.items ++ symbol_entry order name value) }
     ensures word { value < 2 ^ 32 }
 {
@@ -263,8 +262,16 @@ pub fn put_section_headers(
         ≡ out.old.items ++ section_headers order symbols_at symbols_size strings_at strings_size names_at) }
 {
     put_zeros(out, 40)?;
-    put_words(out, &[1, 2, 0, 0, symbols_at, symbols_size, 2, 1, 4, 16], order)?;
-    put_words(out, &[9, 3, 0, 0, strings_at, strings_size, 0, 0, 1, 0], order)?;
+    put_words(
+        out,
+        &[1, 2, 0, 0, symbols_at, symbols_size, 2, 1, 4, 16],
+        order,
+    )?;
+    put_words(
+        out,
+        &[9, 3, 0, 0, strings_at, strings_size, 0, 0, 1, 0],
+        order,
+    )?;
     put_words(
         out,
         &[17, 3, 0, 0, names_at, SECTION_NAMES.len(), 0, 0, 1, 0],

@@ -42,12 +42,7 @@ pub fn section_at(bytes: &[u8], order: Order) -> Section
 }
 
 /// The offset of the first header of a symbol table, among as many as `count` from an offset on.
-pub fn symbol_table_from(
-    file: &[u8],
-    order: Order,
-    start: usize,
-    count: usize,
-) -> Option<usize>
+pub fn symbol_table_from(file: &[u8], order: Order, start: usize, count: usize) -> Option<usize>
     requires { start + 40 * count ≤ length file.now }
     ensures first { result ≡ symbol_table_from order file.now start count }
     ensures within { IfSome result (λ at. at + 40 ≤ length file.now) }

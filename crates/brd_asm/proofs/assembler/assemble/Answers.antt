@@ -2,6 +2,7 @@ use Rattle.brd_mem.specs.declared.image.Image.{Image}
 use Rattle.brd_asm.specs.Image.{Program, program_of, IsImage}
 use Rattle.brd_asm.proofs.OutputLemmas.{meets_ok}
 use Rattle.brd_asm.proofs.LawLemmas.{plain, lines, labels, instructions}
+use Rattle.brd_asm.proofs.OrderLemmas.{orders}
 use Rattle.brd_asm.specs.LayoutView.{layout}
 use Rattle.brd_asm.proofs.AssembleLemmas.{output_length, image_is}
 use Rattle.brd_asm.proofs.assembler.assemble.Goals as goal
@@ -21,5 +22,6 @@ returns c =
       plain = plain c.args.text.now known.0 image known.1 known.2;
       lines = lines c.args.text.now known.0 known.1;
       labels = labels c.args.text.now known.0 image known.1 known.2;
+      order = orders c.args.text.now known.0 image known.1 known.2;
       instructions = instructions c.args.text.now known.0 image known.1 known.2;
     }
