@@ -309,6 +309,23 @@ debug "16 MiB of RAM" 0 "$work/wanted" "" "$work/five" "$work/large.cfg" $five/j
 (ulimit -v 100000; exec "$board" debug "$work/five" "$work/large.cfg" $five/journal) < "$work/in" > "$work/out" 2> "$work/err"
 check "debug: 16 MiB of RAM in 100,000 KiB" 0 "$work/wanted" "" $?
 
+# Snapshots share the pages that they have alike, and have no room in their tables: of a board that writes to all of 16
+# MiB and has 255 objects of each kind, 97 of them would take 1.8 GiB if each were a whole copy.
+printf '%s\n' 'lui $t0, 0x8000' 'lui $t2, 0x8100' 'ori $t1, $t0, 0x1000' 'more: sw $t1, 0($t1)' 'addiu $t1, $t1, 0x1000' \
+    'bne $t1, $t2, more' nop 'b more' 'ori $t1, $t0, 0x1000' > "$work/fill.s"
+assembled "all of 16 MiB" "$work/fill.s"
+{
+    echo 'BOARD(1, 0x1000000); CRE_TSK(1, {TA_ACT, 0, 0x80000000, 1, 256, NULL});'
+    for n in $(seq 255); do
+        echo "CRE_SEM($n, {TA_TFIFO, 1, 1}); CRE_FLG($n, {TA_TFIFO, 0}); CRE_DTQ($n, {TA_TFIFO, 256, NULL});"
+    done
+} > "$work/large.cfg"
+printf '%s\n' 'board-journal 1' 'S 1 400000' > "$work/journal"
+printf '%s\n' 'goto 400000' 'goto 399999' 'goto 3' 'regs 1' > "$work/in"
+printf '%s\n' 'at 400000' 'at 399999' 'at 3' 'pc 8000000c' '$8 80000000' '$9 80001000' '$10 81000000' '$29 81000000' > "$work/wanted"
+(ulimit -v 160000; exec "$board" debug "$work/image" "$work/large.cfg" "$work/journal") < "$work/in" > "$work/out" 2> "$work/err"
+check "debug: 97 snapshots in 160,000 KiB" 0 "$work/wanted" "" $?
+
 # Moves over a long journal, far apart: without snapshots each would do 2,500,000 events. The limit is one of processor
 # seconds, so it doesn't depend on how busy the machine is.
 long=tests/debugging/long_run

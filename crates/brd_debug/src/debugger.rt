@@ -9,7 +9,7 @@ ghost use Rattle.brd_debug.specs.Stops.{IsStop, IsLeast, IsGreatest};
 
 use crate::fault::DebugFault;
 use crate::playback::Playback;
-use crate::search::{next_stop, play_near, played_to, stop_before};
+use crate::search::{go_back, next_stop, play_near, played_to, stop_before};
 use crate::snapshots::Snapshots;
 use crate::stops::Stops;
 use brd_base::NoMemory;
@@ -155,7 +155,7 @@ impl Debugger {
         Ok(found)
     }
 
-    /// Shows the board after so many events. It plays on in place where no snapshot may be due on the way.
+    /// Shows the board after so many events. It goes on or back in place where no snapshot may be due on the way.
     fn show_at(&mut self, position: u64) -> Result<(), NoMemory>
         requires { position ≤ length self.old.events }
         ensures ok { OnOk result (self.new ≡ record self.old { position = position }) }
@@ -174,6 +174,15 @@ impl Debugger {
                 position,
             );
         }
+        if position < self.shown.at && self.is_near_snapshot(position) {
+            return go_back(
+                &self.boot,
+                &self.journal,
+                &self.snapshots,
+                &mut self.shown,
+                position,
+            );
+        }
         self.shown = played_to(
             &self.boot,
             &self.journal,
@@ -182,5 +191,13 @@ impl Debugger {
             position,
         )?;
         Ok(())
+    }
+
+    /// Whether no snapshot may be due between the last one at or before a position, or the boot, and the position.
+    fn is_near_snapshot(&self, position: u64) -> bool
+        requires { position ≤ length self.now.events }
+    {
+        let _ = self.journal.len();
+        position <= self.snapshots.next(self.snapshots.last_before(position))
     }
 }

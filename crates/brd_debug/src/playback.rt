@@ -1,12 +1,15 @@
 //! A board that plays a journal.
 
-ghost use Rattle.std.specs.Prelude.{◌≡◌, ◌+◌, ◌-◌, ◌≤◌, false, if◌then◌else◌, length, slice_get, IfOk, IfSome, None, Some};
+ghost use Rattle.std.specs.Prelude.{◌≡◌, ◌+◌, ◌-◌, ◌≤◌, false, if◌then◌else◌, List as ListOf, length, slice_get, OnOk, OnErr, IfOk, IfSome, None, Some};
+ghost use Rattle.brd_mem.specs.Memory.{size_of};
+ghost use Rattle.brd_board.specs.declared.event.Event.{Event as EventOf};
 ghost use Rattle.brd_board.specs.Board.{BoardState as BoardOf};
-ghost use Rattle.brd_debug.specs.Kept.{IsPlayed};
+ghost use Rattle.brd_debug.specs.Kept.{IsPlayed, AreKept, DoFit};
 ghost use Rattle.brd_debug.specs.Stops.{IsStop, IsLeast, IsGreatest};
 ghost use Rattle.brd_debug.specs.Playing.{IsLeft, AreStill};
 ghost use Rattle.brd_journal.specs.Still.{does_no_more};
 
+use crate::snapshots::Snapshots;
 use crate::stops::Stops;
 use brd_base::NoMemory;
 use brd_board::{Board, Event, Report};
@@ -30,6 +33,28 @@ impl Playback {
             board: self.board.try_copy()?,
             at: self.at,
         })
+    }
+
+    /// Goes back, in place, to the last snapshot at or before a position, or to the boot where there is none. A refusal
+    /// leaves it as it is.
+    pub fn go_back(&mut self, boot: &Board, snapshots: &Snapshots, to: u64) -> Result<(), NoMemory>
+        requires sizes { size_of self.old.board.memory ≡ size_of boot.now.memory }
+        requires fit { DoFit boot.now snapshots.now.kept }
+        ensures at { OnOk result (self.new.at ≤ to) }
+        ensures played { (events : ListOf EventOf) → AreKept boot.now events snapshots.now.kept → OnOk result (IsPlayed boot.now events self.new) }
+        ensures err { OnErr result (self.new ≡ self.old) }
+    {
+        match snapshots.nearest(to) {
+            Some(kept) => {
+                self.board.restore(boot, &kept.snapshot)?;
+                self.at = kept.at;
+            }
+            None => {
+                self.board.copy_from(boot)?;
+                self.at = 0;
+            }
+        }
+        Ok(())
     }
 
     /// Plays on up to a position, and past it, as far as the other one, while a run's events do nothing.
@@ -89,7 +114,8 @@ impl Playback {
     pub fn last_stop(&mut self, journal: &Journal, stops: &Stops, to: u64) -> Option<u64>
         requires on { self.old.at ≤ to }
         requires within { to ≤ length journal.now.events }
-        ensures { (boot : BoardOf) → IsPlayed boot journal.now.events self.old
+        ensures played { (boot : BoardOf) → IsPlayed boot journal.now.events self.old → IsPlayed boot journal.now.events self.new }
+        ensures greatest { (boot : BoardOf) → IsPlayed boot journal.now.events self.old
             → IsGreatest (IsStop stops.now boot journal.now.events) self.old.at to result }
     {
         let mut rest = nothing_left();

@@ -87,6 +87,28 @@ pub(crate) fn play_near(
     Ok(())
 }
 
+/// Lets the board that is shown go back in place, to a position that is no further behind the last snapshot before it
+/// than the next one may be. So no snapshot is due on the way. An `Err` leaves it as it is.
+pub(crate) fn go_back(
+    boot: &Board,
+    journal: &Journal,
+    snapshots: &Snapshots,
+    shown: &mut Playback,
+    to: u64,
+) -> Result<(), NoMemory>
+    requires shown { IsPlayed boot.now journal.now.events shown.old }
+    requires kept { AreKept boot.now journal.now.events snapshots.now.kept }
+    requires within { to ≤ length journal.now.events }
+    ensures played { IsPlayed boot.now journal.now.events shown.new }
+    ensures at { OnOk result (shown.new.at ≡ to) }
+    ensures err { OnErr result (shown.new ≡ shown.old) }
+{
+    let _ = journal.len();
+    shown.go_back(boot, snapshots, to)?;
+    shown.play_to(journal, to, to);
+    Ok(())
+}
+
 /// The first stop after the position of the board that is shown. It takes snapshots on its way.
 pub(crate) fn next_stop(
     boot: &Board,
@@ -150,8 +172,9 @@ pub(crate) fn stop_before(
     ensures { IfOk result (IsGreatest (IsStop stops.now boot.now journal.now.events) 0 shown.now.at) }
 {
     let mut to = shown.at;
+    let mut playback = shown.try_copy()?;
     while to > 0 {
-        let mut playback = from_snapshot(boot, snapshots, to - 1)?;
+        playback.go_back(boot, snapshots, to - 1)?;
         let from = playback.at;
         let found = playback.last_stop(journal, stops, to);
         if found.is_some() {
@@ -162,20 +185,8 @@ pub(crate) fn stop_before(
     Ok(None)
 }
 
-/// A board to play on from to a position: that of the last snapshot at or before it, or the boot.
-fn from_snapshot(boot: &Board, snapshots: &Snapshots, to: u64) -> Result<Playback, NoMemory>
-    requires { DoFit boot.now snapshots.now.kept }
-    ensures at { IfOk result (λ playback. playback.at ≤ to) }
-    ensures last { IfOk result (λ playback. IsLastUpTo snapshots.now.kept to playback.at) }
-    ensures played { (events : ListOf EventOf) → AreKept boot.now events snapshots.now.kept → IfOk result (IsPlayed boot.now events) }
-{
-    match snapshots.nearest(to) {
-        Some(kept) => from_kept(boot, kept),
-        None => from_boot(boot),
-    }
-}
-
-/// The same, or the one that is shown, where that is nearer.
+/// A board to play on from to a position: that of the last snapshot at or before it, the boot, or the one that is shown,
+/// whichever is nearest.
 fn nearest(
     boot: &Board,
     snapshots: &Snapshots,

@@ -1,9 +1,10 @@
 //! Snapshots of the boards that a journal makes.
 
-ghost use Rattle.std.specs.Prelude.{◌≡◌, ℕ, ◌+◌, ◌<◌, ◌≤◌, ◌^◌, ◌%◌, ◌==◌, List as ListOf, [], All, Contains, filter, map, OnOk, OnErr, IfSome, IfNone};
+ghost use Rattle.std.specs.Prelude.{◌≡◌, ℕ, ◌+◌, ◌<◌, ◌≤◌, ◌^◌, ◌%◌, ◌==◌, List as ListOf, [], All, Contains, filter, map, OnOk, OnErr, IfOk, IfSome, IfNone};
 ghost use Rattle.brd_mem.specs.Memory.{size_of};
 ghost use Rattle.brd_board.specs.declared.event.Event.{Event as EventOf};
 ghost use Rattle.brd_board.specs.Board.{BoardState as BoardOf};
+ghost use Rattle.brd_board.specs.Snapshot.{restored, Fits};
 ghost use Rattle.brd_debug.specs.Kept.{IsPlayed, AreKept, IsLastUpTo, first_interval, plan_of, last_of, next_multiple, noted};
 
 use crate::playback::Playback;
@@ -82,6 +83,28 @@ impl Snapshots {
         found
     }
 
+    /// A snapshot of a board. It shares the pages of RAM that the last one has too.
+    fn taken(&self, boot: &Board, board: &Board) -> Result<Snapshot, NoMemory>
+        requires sizes { size_of board.now.memory ≡ size_of boot.now.memory }
+        ensures fits { IfOk result (Fits boot.now) }
+        ensures back { IfOk result (λ snapshot. restored boot.now snapshot ≡ board.now) }
+    {
+        match self.kept.last() {
+            Some(last) => board.snapshot_after(boot, &last.snapshot),
+            None => board.snapshot(boot),
+        }
+    }
+
+    /// The position of the last snapshot that was taken at or before a position; 0 where there is none.
+    pub fn last_before(&self, at: u64) -> u64
+        ensures { result ≤ at }
+    {
+        match self.nearest(at) {
+            Some(kept) => kept.at,
+            None => 0,
+        }
+    }
+
     /// Takes a snapshot of a board that has played up to a multiple of the interval, behind all that are kept. Where
     /// there would be more than 1,024, the interval doubles instead, and those that are no multiples of it are given
     /// up.
@@ -98,7 +121,7 @@ impl Snapshots {
             return Ok(());
         }
         if self.kept.len() < MOST_KEPT {
-            let snapshot = playback.board.snapshot(boot)?;
+            let snapshot = self.taken(boot, &playback.board)?;
             self.kept.push(Kept {
                 at: playback.at,
                 snapshot,

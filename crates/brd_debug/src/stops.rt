@@ -1,7 +1,7 @@
 //! Where a debugger stops.
 
 ghost use Rattle.std.specs.Prelude.{◌≡◌, ◌≤◌, Decides, false, [], length};
-ghost use Rattle.brd_debug.specs.Watching.{AreBytesAt};
+ghost use Rattle.brd_debug.specs.Watching.{AreBytesAt, IsSameUnless};
 ghost use Rattle.brd_board.specs.Board.{happens};
 ghost use Rattle.brd_mem.specs.Memory.{Memory as MemoryOf};
 ghost use Rattle.brd_debug.specs.Marks.{most_marks};
@@ -64,12 +64,24 @@ impl Stops {
         ensures stops { Decides result.stop (StopsAt self.now board.old event) }
         ensures over { result.over ≡ does_no_more event (happens board.old event).report }
     {
+        let may_change = self.may_change(board, event);
         let report = board.event_apart(event);
-        let changed = renewed(self.watches.as_slice(), bytes, board);
+        let changed = renewed(self.watches.as_slice(), bytes, board, may_change);
         Seen {
             stop: self.is_break(report) || changed,
             over: does_no_more(event, report),
         }
+    }
+
+    /// Whether an event may change a watched byte: there is one, and the event may change memory.
+    #[inline(always)]
+    fn may_change(&self, board: &Board, event: Event) -> bool
+        ensures { IsSameUnless result self.now.watches board.now.memory (happens board.now event).board.memory }
+    {
+        if self.watches.as_slice().is_empty() {
+            return false;
+        }
+        board.may_store(event)
     }
 
     /// Whether an event with this report executed an instruction at a break.
@@ -97,14 +109,16 @@ fn watched(watches: &[u32], board: &Board) -> WatchedBytes
     WatchedBytes { bytes }
 }
 
-/// Whether one of them is another byte now. They are brought up to date.
-fn renewed(watches: &[u32], bytes: &mut WatchedBytes, board: &Board) -> bool
+/// Whether one of them is another byte now, which may be so or not be so. They are brought up to date.
+#[inline(always)]
+fn renewed(watches: &[u32], bytes: &mut WatchedBytes, board: &Board, may_differ: bool) -> bool
     requires { length watches.now ≤ most_marks }
-    ensures differ { (memory : MemoryOf) → AreBytesAt watches.now memory bytes.old.bytes
+    ensures differ { (memory : MemoryOf) → AreBytesAt watches.now memory bytes.old.bytes → IsSameUnless may_differ watches.now memory board.now.memory
         → Decides result (Differs watches.now memory board.now.memory) }
-    ensures bytes { AreBytesAt watches.now board.now.memory bytes.new.bytes }
+    ensures bytes { (memory : MemoryOf) → AreBytesAt watches.now memory bytes.old.bytes → IsSameUnless may_differ watches.now memory board.now.memory
+        → AreBytesAt watches.now board.now.memory bytes.new.bytes }
 {
-    if !differ(watches, bytes, board) {
+    if !may_differ || !differ(watches, bytes, board) {
         return false;
     }
     *bytes = watched(watches, board);

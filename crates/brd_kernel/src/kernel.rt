@@ -45,10 +45,9 @@ use brd_mem::Ram;
 use brd_objects::{Flags, Queues, Semaphores};
 use brd_tasks::{Request, TaskId, TaskSetup, TaskView, Tasks};
 use brd_time::Timeouts;
+pub use saved::SavedKernel;
 use std::alloc::Global;
 use std::marker::Model;
-
-pub use saved::SavedKernel;
 
 /// How many bytes the console holds.
 const CONSOLE_SIZE: usize = 65_536;

@@ -27,10 +27,9 @@ use bitflags::Flags;
 use brd_base::{NoMemory, Same, copy_with_room};
 use brd_config::{QueueAttributes, QueueConfig};
 use brd_queue::{Entry, Order, Queue};
+pub use saved::SavedDataQueue;
 use std::alloc::{AllocError, Global};
 use std::marker::Model;
-
-pub use saved::SavedDataQueue;
 
 /// A data queue (uITRON 4.0 specification, "Data Queues"). Only `new` takes memory.
 #[derive(Drop)]

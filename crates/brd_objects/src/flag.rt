@@ -26,9 +26,8 @@ use bitflags::Flags;
 use brd_base::{NoMemory, Same};
 use brd_config::{FlagAttributes, FlagConfig};
 use brd_queue::{Entry, Order};
-use std::alloc::Global;
-
 pub use saved::SavedFlag;
+use std::alloc::Global;
 
 /// An event flag (uITRON 4.0 specification, "Eventflags").
 #[derive(Clone, Drop)]

@@ -23,10 +23,9 @@ use crate::flag::Flag;
 use crate::want::Want;
 use brd_base::{NoMemory, same_slices};
 use brd_config::FlagConfig;
+pub use saved::SavedFlags;
 use std::alloc::Global;
 use std::marker::Model;
-
-pub use saved::SavedFlags;
 
 /// The event flags of a board by their IDs. Only `new` takes memory.
 pub struct Flags {

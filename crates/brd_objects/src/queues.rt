@@ -25,10 +25,9 @@ use crate::data_queue::DataQueue;
 use crate::sent::{Received, Sent};
 use brd_base::{NoMemory, same_slices};
 use brd_config::QueueConfig;
+pub use saved::SavedQueues;
 use std::alloc::Global;
 use std::marker::Model;
-
-pub use saved::SavedQueues;
 
 /// The data queues of a board by their IDs. Only `new` takes memory.
 pub struct Queues {

@@ -20,9 +20,8 @@ use bitflags::Flags;
 use brd_base::{NoMemory, Same};
 use brd_config::{SemaphoreAttributes, SemaphoreConfig};
 use brd_queue::{Entry, Order, Queue};
-use std::alloc::Global;
-
 pub use saved::SavedSemaphore;
+use std::alloc::Global;
 
 /// A semaphore (uITRON 4.0 specification, "Semaphores").
 #[derive(Clone, Drop)]

@@ -19,10 +19,9 @@ mod saved;
 use crate::semaphore::Semaphore;
 use brd_base::{NoMemory, same_slices};
 use brd_config::SemaphoreConfig;
+pub use saved::SavedSemaphores;
 use std::alloc::Global;
 use std::marker::Model;
-
-pub use saved::SavedSemaphores;
 
 /// The semaphores of a board by their IDs. Only `new` takes memory.
 pub struct Semaphores {

@@ -11,10 +11,9 @@ use crate::want::Want;
 use brd_base::{NoMemory, Same, copy_with_room};
 use brd_lanes::first_match;
 use brd_queue::{Entry, MOST_TASKS, Order, Queue, insert_within};
+pub use saved::SavedWaiters;
 use std::alloc::{AllocError, Global};
 use std::marker::Model;
-
-pub use saved::SavedWaiters;
 
 /// The tasks that wait for a flag, in their order, each with what it wants. What they want stands once more in columns,
 /// which are scanned.

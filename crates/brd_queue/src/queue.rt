@@ -9,10 +9,9 @@ mod saved;
 use crate::entry::{Entry, Order};
 use crate::room::{MOST_TASKS, insert_within};
 use brd_base::{NoMemory, Same, copy_with_room, same_slices};
+pub use saved::SavedQueue;
 use std::alloc::{AllocError, Global};
 use std::marker::Model;
-
-pub use saved::SavedQueue;
 
 /// Tasks in the order in which they are served, none of them twice, each with what it wants. It has room for every task
 /// that there can be, so only `new` takes memory.

@@ -3,7 +3,7 @@
 ghost use Rattle.std.specs.Prelude.{◌≡◌, IfOk};
 
 use super::Semaphores;
-use crate::semaphore::{Semaphore, SavedSemaphore};
+use crate::semaphore::{SavedSemaphore, Semaphore};
 use brd_base::NoMemory;
 use std::marker::Model;
 

@@ -1,11 +1,13 @@
--- There is no stop from here up to the position.
+-- A board has played some events, and there is no stop from here up to the position.
 use Rattle.std.proofs.Common.{◌≤◌}
+use Rattle.brd_debug.specs.Kept.{IsPlayed}
 use Rattle.brd_debug.specs.Stops.{IsStop}
 use Rattle.brd_debug.proofs.SearchLemmas.{NoneFrom}
 use Rattle.brd_debug.proofs.search.stop_before.Given as goal
 
 abbrev pub invariant-loop-to : goal.invariant-loop-to
 invariant-loop-to l = record {
+  played : IsPlayed l.boot l.journal.events l.playback;
   below : l.to ≤ l.shown.at;
   none : NoneFrom (IsStop l.stops l.boot l.journal.events) l.to l.shown.at;
 }

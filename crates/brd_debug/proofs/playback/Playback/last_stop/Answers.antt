@@ -17,8 +17,8 @@ loop-self-init c = record {
   greatest = λ boot is m above below. absurd (omega (arith, above, below));
 }
 
-pub returns-in_err-event : goal.returns-in_err-event
-returns-in_err-event c = λ boot is. absurd (there-is c.args.journal.now.events c.loop-self.self.at
+pub returns-in_err-event-clause-greatest : goal.returns-in_err-event-clause-greatest
+returns-in_err-event-clause-greatest c = λ boot is. absurd (there-is c.args.journal.now.events c.loop-self.self.at
     (omega (arith, c.loop-self-test.true, c.requires)) (sym c.next_event.ensures.event ∙ c.in_err-event.was))
 
 pub loop-self-preserved : goal.loop-self-preserved
@@ -51,8 +51,8 @@ loop-self-preserved c =
           c.happen-seen.result.over c.skipped.result (pass boot is));
     }
 
-pub returns : goal.returns
-returns c =
+pub returns-clause-greatest : goal.returns-clause-greatest
+returns-clause-greatest c =
     let whole : c.loop-self.self.at ≡ c.args.to = omega (arith, c.loop-self.invariant.on, c.loop-self-test.false) in
     λ boot is. subst (λ n. IsGreatest (IsStop c.args.stops.now boot c.args.journal.now.events) c.args.self.now.at n c.loop-self.last) whole
     (c.loop-self.invariant.greatest boot is)
