@@ -61,9 +61,11 @@ fi
 
 # Pictures of timelines, which are also read back.
 if built "$timelines"; then
-    cp crates/timeline_rows/stdin "$work/in"
-    "$timelines" < "$work/in" > "$work/wanted"
-    refuse_each "pictures of timelines" 1 "*[Mm]emory*" "$timelines"
+    for form in svg json; do
+        sed "1s/.*/$form/" crates/timeline_rows/stdin > "$work/in"
+        "$timelines" < "$work/in" > "$work/wanted"
+        refuse_each "timelines as $form" 1 "*[Mm]emory*" "$timelines"
+    done
     if have python3 "timelines read back"; then
         check_script "timelines read back" tests/timelines "$timelines"
     fi

@@ -1,6 +1,6 @@
 -- The symbol that a fold over all symbols finds has the greatest value of those below the address.
-use Rattle.std.proofs.Common.{◌≡◌, ℕ, ◌<◌, ◌≤◌, Bool, true, false, List, [], ◌∷◌, Option, Some, None, refl, sym, subst, ◌∙◌, le_refl, arith}
-use Rattle.std.specs.Prelude.{nat_lt, if◌then◌else◌, ◌&&◌}
+use Rattle.std.proofs.Common.{◌≡◌, ℕ, ◌<◌, ◌≤◌, Bool, true, false, List, [], ◌∷◌, Option, Some, None, refl, subst, le_refl, arith}
+use Rattle.std.specs.Prelude.{nat_lt, if◌then◌else◌}
 use Rattle.std.specs.List.{AllByRecursion, fold}
 use Rattle.std.proofs.lemmas.Bool.Decides.{nat_tests}
 use Rattle.brd_base.specs.Space.{top}
@@ -27,7 +27,7 @@ kept_by true address t s (Some f) e h = λ below. grind (arith, nat_tests, h bel
 
 new_by : (b : Bool) (address : ℕ) (s : Symbol) (found : Option Symbol) → is_nearer address found s ≡ b
     → Tops address s (if b then Some s else found)
-new_by true address s found e = λ below. le_refl
+new_by true address s found e = λ below. le_refl s.value
 new_by false address s None e = e
 new_by false address s (Some f) e = λ below. grind (arith, nat_tests, below, e)
 
@@ -66,8 +66,8 @@ some_by true found s e = e
 some_by false found s e = grind (arith, e)
 
 none_by : (b : Bool) (found : Option Symbol) → b ≡ true → (if b then found else None) ≡ None → found ≡ None
-none_by true found yes e = e
-none_by false found yes e = grind (arith, yes)
+none_by true found is e = e
+none_by false found is e = grind (arith, is)
 
 pub below : (symbols : List Symbol) (address : ℕ) (s : Symbol) → nearest_of symbols address ≡ Some s → is_below address s ≡ true
 below symbols address s e =
@@ -77,11 +77,11 @@ pub greatest : (symbols : List Symbol) (address : ℕ) (s : Symbol) → nearest_
     → AllByRecursion (λ t. is_below address t ≡ true → t.value ≤ s.value) symbols
 greatest symbols address s e =
     subst (λ (r : Option Symbol). AllByRecursion (λ t. Tops address t r) symbols)
-        (some_by (nat_lt address top) (fold (nearer address) None symbols) s e) (all_tops address None symbols)
+    (some_by (nat_lt address top) (fold (nearer address) None symbols) s e) (all_tops address None symbols)
 
 pub none : (symbols : List Symbol) (address : ℕ) → address < top → nearest_of symbols address ≡ None
     → AllByRecursion (λ t. is_below address t ≡ false) symbols
 none symbols address lt e =
-    let yes : nat_lt address top ≡ true = grind (arith, nat_tests, lt) in
+    let holds : nat_lt address top ≡ true = grind (arith, nat_tests, lt) in
     subst (λ (r : Option Symbol). AllByRecursion (λ t. Tops address t r) symbols)
-        (none_by (nat_lt address top) (fold (nearer address) None symbols) yes e) (all_tops address None symbols)
+    (none_by (nat_lt address top) (fold (nearer address) None symbols) holds e) (all_tops address None symbols)

@@ -106,10 +106,10 @@ fn multiple_from(position: u64, step: u64) -> u64 {
     whole.saturating_add(step)
 }
 
-/// Puts the name of an axis at the end.
+/// Puts the name of an axis at the end, so far to the left that the first number has room, however long it is.
 fn put_title(to: &mut Vec<u8>, name: &str, y: u32) -> Result<(), NoMemory> {
     put(to, "<text text-anchor=\"end\"")?;
-    put_attribute(to, "x", LEFT - 80)?;
+    put_attribute(to, "x", LEFT - 720)?;
     put_attribute(to, "y", y)?;
     put(to, ">")?;
     put(to, name)?;

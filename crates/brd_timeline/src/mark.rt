@@ -12,7 +12,8 @@ fn shape_of(kind: MarkKind) -> &'static str {
     match kind {
         MarkKind::Call => "l-3.5-6h7z\" fill=\"#000000",
         MarkKind::Fault => {
-            "m-5 5l10 10m0-10l-10 10\" fill=\"none\" stroke-width=\"3\" stroke=\"#d55e00"
+            "m0 7.5l3.5-3.5 2.5 2.5-3.5 3.5 3.5 3.5-2.5 2.5-3.5-3.5-3.5 3.5-2.5-2.5 3.5-3.5-3.5-3.5\
+             2.5-2.5z\" stroke=\"#ffffff\" fill=\"#d55e00"
         }
         MarkKind::Interrupt => "m0 4l4 6l-4 6l-4-6z\" stroke=\"#ffffff\" fill=\"#000000",
         MarkKind::Tick => "v20\" fill=\"none\" stroke-width=\"1.5\" stroke=\"#000000",

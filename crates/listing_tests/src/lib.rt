@@ -1,4 +1,4 @@
-//! Tests of instructions and addresses as text, and of timelines as pictures.
+//! Tests of instructions and addresses as text.
 //!
 //! A function answers the first row that isn't right, by its number from 0 on, and a test fails by `none_wrong`, which
 //! says it.
