@@ -69,11 +69,11 @@ files="$work/image examples/data_queue/data_queue.cfg examples/data_queue/data_q
     trace "no such processor" 0 <("$board" trace $files | head -n 2) "" --cpu 9 $files
     "$board" trace $files > /dev/full 2> "$work/err"
     : > "$work/out"
-    check "trace: a full disk" 4 "$work/nothing" "board: can't write the output: No space left on device (os error 28)" $?
+    check "trace: a full disk" 4 "$work/nothing" "board: can't write the output: $is_full" $?
     "$board" trace --format json $files > /dev/full 2> "$work/err"
-    check "trace: a full disk, json" 4 "$work/nothing" "board: can't write the output: No space left on device (os error 28)" $?
+    check "trace: a full disk, json" 4 "$work/nothing" "board: can't write the output: $is_full" $?
 }
-trace "no journal" 4 "$work/nothing" "board: can't open missing: No such file or directory (os error 2)" "$work/image" examples/data_queue/data_queue.cfg missing
+trace "no journal" 4 "$work/nothing" "board: can't open missing: $is_missing" "$work/image" examples/data_queue/data_queue.cfg missing
 trace "no object file" 1 "$work/nothing" "board: the object file: no ELF file: it doesn't begin with the bytes 7F 45 4C 46; it looks like a journal" \
     examples/data_queue/data_queue.journal examples/data_queue/data_queue.cfg examples/data_queue/data_queue.journal
 

@@ -7,5 +7,6 @@ pub mod LineLemmas
 pub mod AnswerLemmas
 pub mod StartLemmas
 pub mod RunLemmas
+pub mod TraceLemmas
 pub mod RaceLemmas
 pub mod DebugLineLemmas

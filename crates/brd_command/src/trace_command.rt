@@ -1,6 +1,6 @@
 //! The command `trace`.
 
-ghost use Rattle.std.specs.Prelude.{IfSome, MatchResult, IfOk, ◌≤◌, length};
+ghost use Rattle.std.specs.Prelude.{◌≡◌, ◌≤◌, length, IfOk, IfSome, MatchResult};
 ghost use Rattle.brd_command.specs.Start.{AreWithin, KeepsFromMaking, KeepsFromStarting};
 ghost use Rattle.brd_command.specs.TraceCommand.{IsTraceStart, TraceEnds};
 ghost use Rattle.brd_command.specs.declared.input_name.InputName.TheVariants as input_name;
@@ -208,13 +208,14 @@ impl<'a> Traced<'a> {
     /// The timeline of the events up to a position.
     fn timeline<W: Write>(
         &self,
-        mut tracer: Tracer,
+        tracer: Tracer,
         to: u64,
         writer: &mut W,
     ) -> Result<Timeline, CommandFault>
         requires on { tracer.playback.at ≤ to }
         requires within { to ≤ length self.now.journal.now.events }
     {
+        let mut tracer = tracer;
         tracer.record(self.alloc)?;
         self.play(&mut tracer, to, writer)?;
         match tracer.into_timeline(self.alloc)? {

@@ -99,7 +99,10 @@ impl Recording {
         at: u64,
     ) -> Result<(), NoMemory> {
         for i in 0..self.processors.len() {
-            let doing = of_processor(standings.at(self.processors[i]));
+            let Some(cpu) = self.processors.get(i).copied() else {
+                return Ok(());
+            };
+            let doing = of_processor(standings.at(cpu));
             self.turn(alloc, i, doing, at)?;
         }
         let first = self.processors.len();

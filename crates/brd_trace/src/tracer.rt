@@ -1,6 +1,6 @@
 //! Going through a journal.
 
-ghost use Rattle.std.specs.Prelude.{◌≡◌, ◌≤◌, false, length, Ok};
+ghost use Rattle.std.specs.Prelude.{◌≡◌, ◌≤◌, false, length, IfOk, Ok};
 ghost use Rattle.brd_board.specs.Board.{BoardState as BoardOf};
 ghost use Rattle.brd_trace.specs.Playing.{IsPlayed};
 
@@ -26,7 +26,9 @@ pub struct Tracer {
 
 impl Tracer {
     /// A board to which nothing has happened.
-    pub fn new(alloc: Global, board: Board, options: Options) -> Result<Tracer, NoMemory> {
+    pub fn new(alloc: Global, board: Board, options: Options) -> Result<Tracer, NoMemory>
+        ensures { IfOk result (λ tracer. tracer.playback ≡ record { board = board; at = 0 }) }
+    {
         let teller = Teller::new(alloc, &board, options)?;
         Ok(Tracer {
             playback: Playback { board, at: 0 },
