@@ -13,6 +13,13 @@ needed name = record (new_rule name) { required = true; action = Some Set }
 abbrev pub number : Text → Rule
 number name = record (needed name) { parser = Some (Signed (pos 0) (pos 1000000)) }
 
+-- an option with one value, and one whose value is a number of 32 bits
+abbrev pub option : Text → Text → Rule
+option name flag = record (new_rule name) { long = Some flag; action = Some Set }
+
+abbrev pub count : Text → Text → Rule
+count name flag = record (option name flag) { parser = Some (Signed (pos 0) (pos 4294967295)) }
+
 -- the files that `asm` takes, those that `run` and `debug` take, and those that `race` takes beside its quota
 abbrev pub source_and_out : List Text
 source_and_out = codes "SOURCE" ∷ codes "OUT" ∷ []
@@ -27,9 +34,9 @@ race_files = codes "IMAGE" ∷ codes "CONFIG" ∷ codes "SCRIPT" ∷ codes "OUT"
 abbrev pub command_with : Text → List Rule → App
 command_with name arguments = fold with_rule (new_app name) arguments
 
--- a program of which one of its commands has to be named
+-- a program of which one of its commands has to be named, and which says its version
 abbrev pub wants_command : App → App
-wants_command program = record program { top = record program.top { subcommand_required = true } }
+wants_command program = record program { top = record program.top { subcommand_required = true; has_version = true } }
 
 abbrev pub program_with : Text → List App → App
 program_with name commands =
@@ -52,8 +59,16 @@ race = command_with (codes "race")
 abbrev pub debug : App
 debug = command_with (codes "debug") (map needed inputs)
 
+abbrev pub journal : App
+journal = command_with (codes "journal")
+    (number (codes "CPUS") ∷ number (codes "EVENTS") ∷ count (codes "STEPS") (codes "turn")
+    ∷ count (codes "SEED") (codes "random") ∷ count (codes "CHANCE") (codes "switch")
+    ∷ option (codes "WEIGHTS") (codes "weights") ∷ count (codes "CHANGES") (codes "pct")
+    ∷ count (codes "INTERVAL") (codes "tick-every") ∷ option (codes "RAISES") (codes "raise") ∷ [])
+
+-- the commands in the order in which a newcomer meets them
 abbrev pub board : App
-board = program_with (codes "board") (words ∷ asm ∷ run ∷ race ∷ debug ∷ [])
+board = program_with (codes "board") (asm ∷ run ∷ debug ∷ race ∷ journal ∷ words ∷ [])
 
 -- where the command is added to another, a command of this form is
 abbrev pub AddsForm : App → Command → Type 0

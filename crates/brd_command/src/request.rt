@@ -4,6 +4,8 @@ ghost use Rattle.brd_command.specs.Request.{RequestEnds};
 
 use crate::fault::CommandFault;
 use crate::files::{Files, asm_files, debug_files, race_files, run_files};
+use crate::journal_command::journal;
+use crate::journal_options::JournalOptions;
 use crate::words_command::words;
 use std::alloc::Global;
 use std::io::{Read, Write};
@@ -44,10 +46,17 @@ pub enum Request<'a> {
         config: &'a str,
         journal: &'a str,
     },
+    /// A journal of so many events, of which each is a step of one of so many processors or what the options say, on
+    /// standard output.
+    Journal {
+        cpus: u32,
+        events: u32,
+        options: JournalOptions<'a>,
+    },
 }
 
-/// Does what was asked for, on files, standard input and standard output. `words` touches no file; `asm` neither reads
-/// standard input nor writes standard output; `run` and `race` don't read standard input. `debug` reads that only where
+/// Does what was asked for, on files, standard input and standard output. `words` and `journal` touch no file; `asm`
+/// neither reads standard input nor writes standard output; `run`, `race` and `journal` don't read standard input. `debug` reads that only where
 /// its files could be opened and make a debugger. Threads of the host are started only for `race`.
 pub fn perform<F: Files, R: Read, W: Write, T: Threads + Wait + Sync>(
     rt: &T,
@@ -80,5 +89,10 @@ pub fn perform<F: Files, R: Read, W: Write, T: Threads + Wait + Sync>(
             config,
             journal,
         } => debug_files(alloc, files, image, config, journal, input, output),
+        Request::Journal {
+            cpus,
+            events,
+            options,
+        } => journal(alloc, output, cpus, events, options),
     }
 }

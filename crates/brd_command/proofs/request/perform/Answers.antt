@@ -15,3 +15,6 @@ returns-in-Debug g c = rw c.in-Debug.is c.debug_files.ensures
 
 pub returns-in-Race : goal.returns-in-Race
 returns-in-Race g c = rw c.in-Race.is (c.race_files.ensures, refl)
+
+pub returns-in-Journal : goal.returns-in-Journal
+returns-in-Journal g c = rw c.in-Journal.is (c.journal.ensures, refl, refl)
