@@ -22,6 +22,7 @@ fi
 
 # What needs no compiler: wrong command lines, and the marks of lines that the C preprocessor leaves.
 says "sdk/new without a folder" 2 "use: sdk/new FOLDER" sdk/new
+says "sdk/new --version" 0 "board's kit for C 1.0" sdk/new --version
 says "sdk/new with an option" 2 "use: sdk/new FOLDER" sdk/new --help
 says "sdk/new where something is" 1 "sdk/new: $work is there already" sdk/new "$work"
 says "sdk/test without a program" 2 "use: sdk/test [--accept] BOARD IMAGE CONFIG NAME.journal.." sdk/test
@@ -150,7 +151,7 @@ mistake "another console" 2 "+Hullo, number 2 of 3" firmware.c 's/Hello/Hullo/' 
 mistake "a function that isn't there" 2 "(.text.start+0x8): undefined reference to \`greeet'" \
     firmware.cfg 's/greet/greeet/' all
 mistake "a wrong line of the configuration" 2 \
-    "board: the configuration: line 5: found what no statement has here, expected one in the form of its kind" \
+    "board: the configuration: line 5: this kernel hasn't CRE_MTX (no mutexes: use CRE_SEM with a maximum of 1)" \
     firmware.cfg 's/CRE_SEM/CRE_MTX/' test
 mkdir "$new/more"
 echo 'extern int twice(int n); int twice(int n) { return 2 * n; }' > "$new/more/print.c"

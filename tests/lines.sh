@@ -1,7 +1,7 @@
 #!/bin/bash
 # The tests of the lines of lines.table: tests/lines.sh PROGRAM.
 . "$(dirname "$0")/check.sh"
-no="board: the source: line 1: found what no line has, expected labels, then an instruction or a directive"
+no="board: the source: line 1"
 
 # assembles SOURCE OBJECT: assembles a source whose escapes are as printf's.
 assembles() {
@@ -17,7 +17,7 @@ while IFS='|' read -r kind source other before; do
         assembles "$source" "$work/object"
         got=$?
         [ "$got" = 1 ] || wrong="; status $got, wanted 1"
-        [[ "$(cat "$work/err")" == "$no"* ]] || wrong="$wrong; standard error is '$(cat "$work/err")'"
+        [[ "$(cat "$work/err")" == "$no"[,:]* ]] || wrong="$wrong; standard error is '$(cat "$work/err")'"
         verdict "lines: no '$source'" "$wrong"
         ;;
     =)

@@ -130,30 +130,28 @@ race "IMAGE is a folder" 4 "$work/nothing" "board: can't read the object file: $
 race "CONFIG is a folder" 4 "$work/nothing" "board: can't read the configuration: $is_directory" "$work/loop" / / 1
 race "SCRIPT is a folder" 4 "$work/nothing" "board: can't read the script: $is_directory" "$work/loop" "$work/one" / 1
 
-# Scripts that are none. Fields: the line that is at fault; the text, for printf.
-while IFS='|' read -r line text; do
+# Scripts that are none. Fields: the text, for printf; what is said of it.
+while IFS='|' read -r text said; do
     # shellcheck disable=SC2059
     printf "$text" > "$work/text"
-    race "the script $text" 1 "$work/nothing" \
-        "board: the script: line $line: expected \`T COUNT\` or \`R LINE COUNT\`, and at most 1,000,000 events in all" \
-        "$work/loop" "$work/one" "$work/text" 1
+    race "the script $text" 1 "$work/nothing" "board: the script: $said" "$work/loop" "$work/one" "$work/text" 1
 done << 'END'
-1|T 1
-2|T 1\nS 1 1\n
-1|T 0\n
-1|T 01\n
-1|T\n
-1|T 1 \n
-1|T  1\n
-1|T 1\r\n
-1|\n
-1|t 1\n
-1|R 4\n
-1|R 256 1\n
-1|R 4 4294967296\n
-1|T 1000001\n
-3|T 999999\nR 4 1\nT 1\n
-2|R 0 1\n\nT 1\n
+T 1|line 1, column 4: the last line has no newline at its end, so the text may be cut off
+T 1\nS 1 1\n|line 2, column 1: no steps in a script: each processor takes its own
+T 0\n|line 1, column 3: a count of 0: leave the line out, or count from 1
+T 01\n|line 1, column 3: 01 has leading zeros: leave them out
+T\n|line 1, column 2: COUNT is missing: the form is T COUNT
+T 1 \n|line 1, column 4: a space at the line's end
+T  1\n|line 1, column 3: a second space: one stands between two fields
+T 1\r\n|line 1, column 4: a carriage return: lines end with a newline alone (tr -d '\r' takes them out)
+\n|line 1, column 1: an empty line: leave it out
+t 1\n|line 1, column 1: t is written in upper case
+R 4\n|line 1, column 4: COUNT is missing: the form is R LINE COUNT
+R 256 1\n|line 1, column 3: 256 is too much: LINE is 0 to 255
+R 4 4294967296\n|line 1, column 5: 4294967296 is too much: COUNT is 1 to 4294967295 (write two lines)
+T 1000001\n|line 1, column 1: a script has at most 1000000 events, and this line makes more
+T 999999\nR 4 1\nT 1\n|line 3, column 1: a script has at most 1000000 events, and this line makes more
+R 0 1\n\nT 1\n|line 2, column 1: an empty line: leave it out
 END
 printf 'T 4\n' > "$work/text"
 "$board" run "$work/loop" "$work/one" "$work/text" > "$work/out" 2> "$work/err"

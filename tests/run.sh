@@ -51,7 +51,7 @@ run "IMAGE is a folder" 4 "$work/nothing" "board: can't read the object file: $i
 run "JOURNAL is a folder" 4 "$work/nothing" "board: can't read the journal: $is_directory" "$work/hello" $hello/config.cfg /
 
 # A file in the place of another. Fields: the argument, counted from 0; the file; what it looks like, where that is
-# another kind than it should be of, or that it is empty.
+# another kind than it should be of, or that it is empty; the fault where that is another one.
 faults=("the object file: no ELF file: it doesn't begin with the bytes 7F 45 4C 46"
     "the configuration: line 1: found what no statement has here, expected one in the form of its kind"
     "the journal: line 1: expected \`board-journal 2 big\` or \`board-journal 2 little\` first, then lines \`S CPU COUNT\`, \`T COUNT\` and \`R LINE COUNT\`")
@@ -64,10 +64,10 @@ printf '\x7fELF' > "$work/front"
 { printf '%01024d' 0; printf '\1'; } > "$work/text"
 { printf '%01023d' 0; printf '\1'; } > "$work/no_text"
 source='; it looks like assembler source, which "board asm" makes an object file of'
-while IFS='|' read -r place file looks; do
+while IFS='|' read -r place file looks fault; do
     arguments=("$work/hello" $hello/config.cfg $hello/journal)
     arguments[place]=$file
-    run "$(basename "$file") as argument $((place + 1))" 1 "$work/nothing" "board: ${faults[place]}$looks" "${arguments[@]}"
+    run "$(basename "$file") as argument $((place + 1))" 1 "$work/nothing" "board: ${fault:-${faults[place]}$looks}" "${arguments[@]}"
 done << END
 0|$hello/config.cfg|; it looks like a configuration
 0|$work/comments|; it looks like a configuration
@@ -80,17 +80,17 @@ done << END
 0|$work/nothing|; it is empty
 1|$work/hello|; it looks like an object file
 1|$hello/journal|; it looks like a journal
-1|$hello/source.s|
-1|$work/board|
-1|$work/bytes|
+1|$hello/source.s||the configuration: line 1: no lines with #: send the text through the C preprocessor first (cc -E -P)
+1|$work/board||the configuration: line 1: a comma or an operand is missing: the form is BOARD(processors, ram);
+1|$work/bytes||the configuration: line 1: this kernel hasn't nop (there are BOARD, CLASS, CRE_TSK, CRE_SEM, CRE_FLG, CRE_DTQ and DEF_INH)
 1|$work/nothing|; it is empty
 2|$work/hello|; it looks like an object file
 2|$work/front|; it looks like an object file
 2|$hello/config.cfg|; it looks like a configuration
 2|$work/board|; it looks like a configuration
-2|$hello/source.s|
-2|$work/version|
-2|$work/bytes|
+2|$hello/source.s||the journal: line 1, column 1: no comments: leave this out
+2|$work/version||the journal: line 1, column 1: the first line is \`board-journal 1\`, found board-journal 2
+2|$work/bytes||the journal: line 1, column 1: the first line is \`board-journal 1\`, found nop?
 2|$work/nothing|; it is empty
 END
 run "all three turned round" 1 "$work/nothing" "board: ${faults[0]}; it looks like a journal" $hello/journal "$work/hello" $hello/config.cfg
@@ -114,10 +114,10 @@ rm "$work/long"
 sed 's/^events 6$/events 4194304/; s/^tick 0$/tick 4/' $hello/report > "$work/wanted"
 run "4,194,304 runs" 0 "$work/wanted" "" "$work/hello" $hello/config.cfg "$work/journal"
 echo 'S 1 1' >> "$work/journal"
-run "4,194,305 runs" 1 "$work/nothing" "board: the journal: its events need more runs than its limit" \
+run "4,194,305 runs" 1 "$work/nothing" "board: the journal: line 4194306: with this line there are more than 4194304 runs, which is the limit" \
     "$work/hello" $hello/config.cfg "$work/journal"
 echo 'S 1 1 ' >> "$work/journal"
-run "a wrong line behind 4,194,305 runs" 1 "$work/nothing" "board: the journal: its events need more runs than its limit" \
+run "a wrong line behind 4,194,305 runs" 1 "$work/nothing" "board: the journal: line 4194306: with this line there are more than 4194304 runs, which is the limit" \
     "$work/hello" $hello/config.cfg "$work/journal"
 rm "$work/journal"
 

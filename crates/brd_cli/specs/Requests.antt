@@ -7,7 +7,7 @@ use Rattle.clap.specs.Words.{IsAmong, Row, Text, fault_of, first_of, kind_of, on
 use Rattle.clap.specs.declared.error.kind.ErrorKind.TheVariants.{MissingSubcommand}
 use Rattle.brd_command.specs.declared.fault.CommandFault.TheVariants.{NoMemory}
 use Rattle.brd_command.specs.declared.request.Request.{Request}
-use Rattle.brd_command.specs.declared.request.Request.TheVariants.{Words, Asm, Run, Race, Debug, Trace}
+use Rattle.brd_command.specs.declared.request.Request.TheVariants.{Words, Asm, Run, Race, Debug, Trace, Journal}
 use Rattle.brd_cli.specs.declared.end.Stop.{Stop}
 use Rattle.brd_cli.specs.declared.end.Stop.TheVariants.{Fault, Usage}
 use Rattle.brd_cli.specs.Usage.{board, inputs, race_files, source_and_out}
@@ -44,12 +44,19 @@ IsRace text names (Some (Race image config script quota out)) =
     (names ≡ Some (image.now ∷ config.now ∷ script.now ∷ out.now ∷ [])) × IsNumber text (Some quota)
 IsRace text names (Some other) = ⊥
 
--- a request, as its command and the names of its files; what the options of `trace` say, only tests show
+-- the request of `journal`: its numbers of processors and events are these texts
+abbrev pub IsJournal : Option Text → Option Text → Option Request → Type 0
+IsJournal cpus events None = IsNumber cpus None ⊎ IsNumber events None
+IsJournal cpus events (Some (Journal c e options)) = IsNumber cpus (Some c) × IsNumber events (Some e)
+IsJournal cpus events (Some other) = ⊥
+
+-- a request, as its command and the names of its files; what the options of `trace` and `journal` say, only tests show
 abbrev pub spoken : Request → Text × List Text
 spoken (Words steps) = (codes "words", [])
 spoken (Asm source out) = (codes "asm", source.now ∷ out.now ∷ [])
 spoken (Run image config journal) = (codes "run", image.now ∷ config.now ∷ journal.now ∷ [])
 spoken (Race image config script quota out) = (codes "race", image.now ∷ config.now ∷ script.now ∷ out.now ∷ [])
+spoken (Journal cpus events options) = (codes "journal", [])
 spoken (Debug image config journal) = (codes "debug", image.now ∷ config.now ∷ journal.now ∷ [])
 spoken (Trace image config journal options) = (codes "trace", image.now ∷ config.now ∷ journal.now ∷ [])
 
@@ -66,7 +73,8 @@ IsRequestOf name rows request =
     (MatchBool (bytes_eq name (codes "race")) (IsRace (one_of (codes "QUOTA") rows) (given race_files rows) request)
     (MatchBool (bytes_eq name (codes "debug")) (IsOfFiles (codes "debug") inputs rows request)
     (MatchBool (bytes_eq name (codes "trace")) (IsOfFiles (codes "trace") inputs rows request)
-    (request ≡ None))))))
+    (MatchBool (bytes_eq name (codes "journal")) (IsJournal (one_of (codes "CPUS") rows) (one_of (codes "EVENTS") rows) request)
+    (request ≡ None)))))))
 
 -- the request of a command with its rows; none where there is no command
 abbrev pub IsAsked : Option (Text × List Row) → Option Request → Type 0

@@ -27,6 +27,13 @@ position name = record (valued name) { parser = Some (Unsigned 0 184467440737095
 abbrev pub processor : Text → Rule
 processor name = record (valued name) { parser = Some (Signed (pos 0) (pos 255)) }
 
+-- an option with one value, of which the name is shown, and one whose value is a number of 32 bits
+abbrev pub option : Text → Text → Rule
+option name flag = record (new_rule name) { long = Some flag; action = Some Set }
+
+abbrev pub count : Text → Text → Rule
+count name flag = record (option name flag) { parser = Some (Signed (pos 0) (pos 4294967295)) }
+
 -- the files that `asm` takes, those that `run`, `debug` and `trace` take, and those that `race` takes beside its quota
 abbrev pub source_and_out : List Text
 source_and_out = codes "SOURCE" ∷ codes "OUT" ∷ []
@@ -41,9 +48,9 @@ race_files = codes "IMAGE" ∷ codes "CONFIG" ∷ codes "SCRIPT" ∷ codes "OUT"
 abbrev pub command_with : Text → List Rule → App
 command_with name arguments = fold with_rule (new_app name) arguments
 
--- a program of which one of its commands has to be named
+-- a program of which one of its commands has to be named, and which says its version
 abbrev pub wants_command : App → App
-wants_command program = record program { top = record program.top { subcommand_required = true } }
+wants_command program = record program { top = record program.top { subcommand_required = true; has_version = true } }
 
 abbrev pub program_with : Text → List App → App
 program_with name commands =
@@ -73,8 +80,16 @@ trace = command_with (codes "trace")
     ∷ position (codes "from") ∷ position (codes "to") ∷ processor (codes "cpu")
     ∷ flag (codes "instructions") ∷ flag (codes "summary") ∷ valued (codes "format") ∷ [])
 
+abbrev pub journal : App
+journal = command_with (codes "journal")
+    (number (codes "CPUS") ∷ number (codes "EVENTS") ∷ count (codes "STEPS") (codes "turn")
+    ∷ count (codes "SEED") (codes "random") ∷ count (codes "CHANCE") (codes "switch")
+    ∷ option (codes "WEIGHTS") (codes "weights") ∷ count (codes "CHANGES") (codes "pct")
+    ∷ count (codes "INTERVAL") (codes "tick-every") ∷ option (codes "RAISES") (codes "raise") ∷ [])
+
+-- the commands in the order in which a newcomer meets them
 abbrev pub board : App
-board = program_with (codes "board") (words ∷ asm ∷ run ∷ race ∷ debug ∷ trace ∷ [])
+board = program_with (codes "board") (asm ∷ run ∷ trace ∷ debug ∷ race ∷ journal ∷ words ∷ [])
 
 -- where the command is added to another, a command of this form is
 abbrev pub AddsForm : App → Command → Type 0

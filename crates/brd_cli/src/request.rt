@@ -3,14 +3,14 @@
 ghost use Rattle.std.specs.Prelude.{◌≡◌, ◌∷◌, [], IfOk, codes, map, option_map};
 ghost use Rattle.clap.specs.Words.{app_of, first_of, found_of, kind_of, one_of, rows_of, subcommand_rows_of};
 ghost use Rattle.clap.specs.declared.error.kind.ErrorKind.TheVariants.{MissingSubcommand};
-ghost use Rattle.brd_cli.specs.Requests.{IsAnswer, IsAsked, IsNumber, IsRace, IsRequestOf, given};
+ghost use Rattle.brd_cli.specs.Requests.{IsAnswer, IsAsked, IsJournal, IsNumber, IsRace, IsRequestOf, given};
 ghost use Rattle.brd_cli.specs.Usage as usage;
 ghost use Rattle.brd_cli.specs.Usage.{inputs, race_files};
 
 use crate::end::Stop;
 use crate::usage::board_command;
 use brd_base::NoMemory;
-use brd_command::{Request, TraceFormat, TraceOptions};
+use brd_command::{JournalOptions, Request, TraceFormat, TraceOptions};
 use clap::error::ErrorKind;
 use clap::{ArgMatches, Command};
 use std::alloc::Global;
@@ -92,6 +92,7 @@ fn request_named<'a>(name: &str, arguments: &ArgMatches<'a>) -> Option<Request<'
                 options: trace_options_of(arguments),
             })
         }
+        "journal" => journal_of(arguments),
         _ => None,
     }
 }
@@ -115,6 +116,34 @@ fn format_of(name: Option<&str>) -> Option<TraceFormat> {
         Some("json") => Some(TraceFormat::Json),
         Some("svg") => Some(TraceFormat::Svg),
         Some(_) => None,
+    }
+}
+
+/// The request of `journal`.
+fn journal_of<'a>(arguments: &ArgMatches<'a>) -> Option<Request<'a>>
+    ensures { IsJournal (one_of (codes "CPUS") (rows_of (found_of arguments.now)))
+        (one_of (codes "EVENTS") (rows_of (found_of arguments.now))) result }
+{
+    let cpus = number_of(arguments, "CPUS")?;
+    let events = number_of(arguments, "EVENTS")?;
+    let options = options_of(arguments);
+    Some(Request::Journal {
+        cpus,
+        events,
+        options,
+    })
+}
+
+/// The options of `journal`.
+fn options_of<'a>(arguments: &ArgMatches<'a>) -> JournalOptions<'a> {
+    JournalOptions {
+        turn: number_of(arguments, "STEPS"),
+        seed: number_of(arguments, "SEED"),
+        switch: number_of(arguments, "CHANCE"),
+        weights: text_of(arguments, "WEIGHTS"),
+        changes: number_of(arguments, "CHANGES"),
+        tick_every: number_of(arguments, "INTERVAL").unwrap_or(0),
+        raises: text_of(arguments, "RAISES"),
     }
 }
 

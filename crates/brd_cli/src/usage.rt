@@ -9,6 +9,9 @@ use brd_base::NoMemory;
 use clap::{Arg, ArgAction, Command};
 use std::alloc::Global;
 
+/// The version of the program.
+const VERSION: &str = "1.0";
+
 /// What help says of the files.
 const FILES: &str = "\
 Files:
@@ -19,9 +22,11 @@ Files:
                  as `S 1 6`, six steps of processor 1
   script         text: lines as `T 5`, five ticks, or `R 4 1`, interrupt line 4 raised once
 
-Example:
-  board asm hello.s hello.elf
-  board run hello.elf hello.cfg hello.journal";
+Where a file is read, `-` is standard input; only one may be.
+
+Example, from the top of the repository:
+  board asm examples/hello/hello.s build/hello.elf
+  board run build/hello.elf examples/hello/hello.cfg examples/hello/hello.journal";
 
 /// What the help of `words` says of its input.
 const WORDS: &str = "\
@@ -34,8 +39,8 @@ Example:
 const SOURCE: &str = "\
 A source is text: an instruction or a directive a line. OUT is created, or emptied if it is there.
 
-Example:
-  board asm hello.s hello.elf";
+Example, from the top of the repository:
+  board asm examples/hello/hello.s build/hello.elf";
 
 /// What the help of `run` says of its files.
 const RUN: &str = "\
@@ -43,9 +48,9 @@ const RUN: &str = "\
 with the line `board-journal 2 big`, or `board-journal 2 little` where the object file is
 little-endian.
 
-Example:
-  board asm hello.s hello.elf
-  board run hello.elf hello.cfg hello.journal";
+Example, from the top of the repository:
+  board asm examples/hello/hello.s build/hello.elf
+  board run build/hello.elf examples/hello/hello.cfg examples/hello/hello.journal";
 
 /// What the help of `race` says of its files.
 const RACE: &str = "\
@@ -53,9 +58,21 @@ Each processor of the board works in a thread of its own. SCRIPT has what comes 
 `T COUNT` for ticks, `R LINE COUNT` for an interrupt line that is raised; with an empty file
 nothing comes. OUT gets the journal of what happened. It is created, or emptied if it is there.
 
-Example:
-  board race hello.elf hello.cfg hello.script 1000 hello.journal
-  board run hello.elf hello.cfg hello.journal";
+Example, from the top of the repository:
+  board asm examples/hello/hello.s build/hello.elf
+  echo 'T 5' > build/hello.script
+  board race build/hello.elf examples/hello/hello.cfg build/hello.script 100 build/raced.journal
+  board run build/hello.elf examples/hello/hello.cfg build/raced.journal";
+
+/// What the help of `journal` says of its options.
+const JOURNAL: &str = "\
+Without options the processors take one step each in turn. Events are counted from 1, and those that
+are neither ticks nor raises are steps. The same arguments give the same journal.
+
+Example, from the top of the repository:
+  board journal 2 150 --random 7 > build/random.journal
+  board asm examples/lost_update/racy.s build/racy.elf
+  board run build/racy.elf examples/lost_update/racy.cfg build/random.journal";
 
 /// What the help of `debug` says of its commands.
 const DEBUG: &str = "\
@@ -70,18 +87,20 @@ Commands, one a line:
   quit     ends
 N and C are decimal numbers, X is an address of eight hexadecimal digits.
 
-Example:
-  board debug hello.elf hello.cfg hello.journal";
+Example, from the top of the repository:
+  board asm examples/hello/hello.s build/hello.elf
+  echo 'goto 10' | board debug build/hello.elf examples/hello/hello.cfg examples/hello/hello.journal";
 
 /// What the help of `trace` says of its options.
 const TRACE: &str = "\
 A line has the event's position, the processor, who executes, where, and what happens. Position n
 is the board after n events, as `board debug` counts.
 
-Example:
-  board trace hello.elf hello.cfg hello.journal
-  board trace --summary hello.elf hello.cfg hello.journal
-  board trace --format svg --to 500 hello.elf hello.cfg hello.journal > hello.svg";
+Examples, from the top of the repository:
+  board asm examples/hello/hello.s build/hello.elf
+  board trace build/hello.elf examples/hello/hello.cfg examples/hello/hello.journal
+  board trace --summary build/hello.elf examples/hello/hello.cfg examples/hello/hello.journal
+  board trace --format svg build/hello.elf examples/hello/hello.cfg examples/hello/hello.journal > build/hello.svg";
 
 /// What the program takes: a command and its arguments.
 pub fn board_command<'a>(alloc: Global) -> Result<Command<'a>, NoMemory>
@@ -91,12 +110,14 @@ pub fn board_command<'a>(alloc: Global) -> Result<Command<'a>, NoMemory>
         .about("An emulated MIPS32 board for real-time software")
         .after_help(FILES)
         .subcommand_required(true)
-        .subcommand(words_command(alloc)?)?
+        .version(VERSION)
         .subcommand(asm_command(alloc)?)?
         .subcommand(run_command(alloc)?)?
-        .subcommand(race_command(alloc)?)?
+        .subcommand(trace_command(alloc)?)?
         .subcommand(debug_command(alloc)?)?
-        .subcommand(trace_command(alloc)?)?;
+        .subcommand(race_command(alloc)?)?
+        .subcommand(journal_command(alloc)?)?
+        .subcommand(words_command(alloc)?)?;
     Ok(board)
 }
 
@@ -217,6 +238,60 @@ fn trace_command<'a>(alloc: Global) -> Result<Command<'a>, NoMemory>
     Ok(command)
 }
 
+/// What `journal` takes.
+fn journal_command<'a>(alloc: Global) -> Result<Command<'a>, NoMemory>
+    ensures { IfOk result (AddsForm usage.journal) }
+{
+    let command = Command::new(alloc, "journal")
+        .about("Writes a journal to standard output: in turns, or drawn at random")
+        .after_help(JOURNAL)
+        .arg(number(alloc, "CPUS", "How many processors take steps, 1 to 8"))?
+        .arg(number(alloc, "EVENTS", "How many events there are, 0 to 1,000,000"))?
+        .arg(count(
+            alloc,
+            "STEPS",
+            "turn",
+            "In turns, with so many steps each; 1 if left out",
+        ))?
+        .arg(count(
+            alloc,
+            "SEED",
+            "random",
+            "At random: the same seed gives the same journal",
+        ))?
+        .arg(count(
+            alloc,
+            "CHANCE",
+            "switch",
+            "How often in a thousand a processor is drawn before a step; 500 if left out",
+        ))?
+        .arg(option(
+            alloc,
+            "WEIGHTS",
+            "weights",
+            "With which weights processors are drawn, as 3,1,1",
+        ))?
+        .arg(count(
+            alloc,
+            "CHANGES",
+            "pct",
+            "By priorities that are drawn, with so many changes at random places",
+        ))?
+        .arg(count(
+            alloc,
+            "INTERVAL",
+            "tick-every",
+            "Each event whose number is a multiple of this is a tick",
+        ))?
+        .arg(option(
+            alloc,
+            "RAISES",
+            "raise",
+            "Which lines are raised as which events, LINE@EVENT, as 4@10,4@20",
+        ))?;
+    Ok(command)
+}
+
 /// An option whose value is a position.
 fn position<'a>(alloc: Global, name: &'a str, help: &'a str) -> Arg<'a>
     ensures rule { rule_of result ≡ usage.position name.entry.now }
@@ -284,6 +359,25 @@ fn number<'a>(alloc: Global, name: &'a str, help: &'a str) -> Arg<'a>
     ensures own { result.global ≡ false }
 {
     needed(alloc, name, help).value_parser(clap::value_parser!(u32).range(0..=1_000_000))
+}
+
+/// An option whose value is a number of 32 bits.
+fn count<'a>(alloc: Global, name: &'a str, flag: &'a str, help: &'a str) -> Arg<'a>
+    ensures rule { rule_of result ≡ usage.count name.entry.now flag.entry.now }
+    ensures own { result.global ≡ false }
+{
+    option(alloc, name, flag, help).value_parser(clap::value_parser!(u32).range(0..=4_294_967_295))
+}
+
+/// An option with one value.
+fn option<'a>(alloc: Global, name: &'a str, flag: &'a str, help: &'a str) -> Arg<'a>
+    ensures rule { rule_of result ≡ usage.option name.entry.now flag.entry.now }
+    ensures own { result.global ≡ false }
+{
+    Arg::new(alloc, name)
+        .long(flag)
+        .action(ArgAction::Set)
+        .help(help)
 }
 
 /// An argument that has to be given, with one value.

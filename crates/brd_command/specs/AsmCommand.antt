@@ -16,7 +16,7 @@ use Rattle.brd_command.specs.Input.{most_bytes}
 use Rattle.brd_command.specs.Output.{Writes, WritesFront}
 use Rattle.brd_command.specs.declared.fault.CommandFault.{CommandFault}
 use Rattle.brd_command.specs.declared.input_name.InputName.TheVariants as input_name
-use Rattle.brd_command.specs.declared.fault.CommandFault.TheVariants.{NoMemory, Argument, Words, Source, ImageTooLarge, Open, Read, TooLong, TooManyReads, Build, Journal, OtherOrder, Script, Race, Trace, Write}
+use Rattle.brd_command.specs.declared.fault.CommandFault.TheVariants.{NoMemory, Argument, Words, Source, ImageTooLarge, Open, Read, TooLong, TooManyReads, Build, Journal, OtherOrder, Script, Race, Trace, Schedule, Write}
 
 -- the object file of a source: the file of its image, which is read as that image again
 pub record IsObjectFile (source bytes : List ℕ) : Type 0 where
@@ -72,6 +72,7 @@ RefusesSource (OtherOrder order) source old new = ⊥
 RefusesSource (Script fault kind) source old new = ⊥
 RefusesSource (Race fault) source old new = ⊥
 RefusesSource (Trace fault) source old new = ⊥
+RefusesSource (Schedule fault) source old new = ⊥
 RefusesSource (Write error) source old new = (length source ≤ most_bytes) × WritesFront (IsObjectFile source) old new
 
 -- how `asm` ends: the source's object file was written, or it was refused

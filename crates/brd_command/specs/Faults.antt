@@ -15,7 +15,7 @@ use Rattle.brd_command.specs.Excerpt.{name_excerpt}
 use Rattle.brd_command.specs.FileKinds.{build_looks_like, journal_looks_like, script_looks_like}
 use Rattle.brd_command.specs.declared.input_name.InputName.{InputName}
 use Rattle.brd_command.specs.declared.fault.CommandFault.{CommandFault}
-use Rattle.brd_command.specs.declared.fault.CommandFault.TheVariants.{NoMemory, Argument, Words, Source, ImageTooLarge, Open, Read, TooLong, TooManyReads, Build, Journal, OtherOrder, Script, Race, Trace, Write}
+use Rattle.brd_command.specs.declared.fault.CommandFault.TheVariants.{NoMemory, Argument, Words, Source, ImageTooLarge, Open, Read, TooLong, TooManyReads, Build, Journal, OtherOrder, Script, Race, Trace, Schedule, Write}
 
 -- the status that the program ends with
 abbrev pub status_of : CommandFault → ℕ
@@ -34,6 +34,7 @@ status_of (OtherOrder order) = 1
 status_of (Script fault kind) = 1
 status_of (Race fault) = 1
 status_of (Trace fault) = 2
+status_of (Schedule fault) = 2
 status_of (Write error) = 4
 
 -- the fault of a read of an input that failed with this error: lack of memory where its kind says so, else the error

@@ -11,6 +11,7 @@ pub mod Report
 pub mod Start
 pub mod RunCommand
 pub mod RaceCommand
+pub mod JournalCommand
 pub mod DebugLine
 pub mod DebugGrammar
 pub mod Lines

@@ -4,17 +4,18 @@
 use Rattle.std.specs.Prelude.{◌≡◌, ℕ, List, Option, IfSome, Result}
 use Rattle.std.specs.declared.io.Error.{Error}
 use Rattle.brd_command.specs.Files.{AsmFilesEnd, RunFilesEnd, RaceFilesEnd, DebugFilesEnd, TraceFilesEnd}
+use Rattle.brd_command.specs.JournalCommand.{JournalEnds}
 use Rattle.brd_command.specs.WordsCommand.{WordsEnds}
 use Rattle.brd_command.specs.declared.fault.CommandFault.{CommandFault}
 use Rattle.brd_command.specs.declared.request.Request.{Request}
-use Rattle.brd_command.specs.declared.request.Request.TheVariants.{Words, Asm, Run, Race, Debug, Trace}
+use Rattle.brd_command.specs.declared.request.Request.TheVariants.{Words, Asm, Run, Race, Debug, Trace, Journal}
 
 module _ {F I O R W : Type 0}
     (opened : F → List ℕ → Result I Error → F → Type 0) (created : F → List ℕ → Result O Error → F → Type 0)
     (closed : F → O → F → Type 0) (remaining : I → Option (List ℕ)) (contents : O → Option (List ℕ))
     (unread : R → Option (List ℕ)) (written : W → Option (List ℕ)) where
-  -- `words` touches no file, `asm` neither reads standard input nor writes standard output, and `run`, `race` and
-  -- `trace` don't read standard input.
+  -- `words` and `journal` touch no file, `asm` neither reads standard input nor writes standard output, and `run`,
+  -- `race`, `trace` and `journal` don't read standard input.
   abbrev pub RequestEnds : Request → F → F → R → R → W → W → Result Unit CommandFault → Type 0
   RequestEnds (Words steps) files_old files input_old input output_old output result =
       IfSome (unread input_old) (λ text. WordsEnds result text steps (written output_old) (written output))
@@ -37,3 +38,6 @@ module _ {F I O R W : Type 0}
       TraceFilesEnd opened remaining files_old image.now config.now journal.now
       (written output_old) (written output) result files
       × (input ≡ input_old)
+  RequestEnds (Journal cpus events options) files_old files input_old input output_old output result =
+      JournalEnds result cpus events options (written output_old) (written output)
+      × (files ≡ files_old) × (input ≡ input_old)

@@ -15,7 +15,7 @@ use Rattle.brd_threads.specs.declared.fault.ScriptFault.TheVariants as script_fa
 use Rattle.brd_command.specs.FileKinds.{build_looks_like, journal_looks_like, script_looks_like}
 use Rattle.brd_command.specs.Input.{most_bytes}
 use Rattle.brd_command.specs.declared.fault.CommandFault.{CommandFault}
-use Rattle.brd_command.specs.declared.fault.CommandFault.TheVariants.{NoMemory, Argument, Words, Source, ImageTooLarge, Open, Read, TooLong, TooManyReads, Build, Journal, OtherOrder, Script, Race, Trace, Write}
+use Rattle.brd_command.specs.declared.fault.CommandFault.TheVariants.{NoMemory, Argument, Words, Source, ImageTooLarge, Open, Read, TooLong, TooManyReads, Build, Journal, OtherOrder, Script, Race, Trace, Schedule, Write}
 use Rattle.brd_command.specs.declared.input_name.InputName.{InputName}
 use Rattle.brd_command.specs.declared.input_name.InputName.TheVariants as input_name
 use Rattle.brd_command.specs.declared.start.Start.{Start}
@@ -99,4 +99,5 @@ KeepsFromStarting last image config text (OtherOrder order) = AreWithin image co
 KeepsFromStarting last image config text (Script fault kind) = AreWithin image config text × KeepsFromMaking last image config text (Script fault kind)
 KeepsFromStarting last image config text (Race fault) = ⊥
 KeepsFromStarting last image config text (Trace fault) = ⊥
+KeepsFromStarting last image config text (Schedule fault) = ⊥
 KeepsFromStarting last image config text (Write error) = ⊥

@@ -13,7 +13,7 @@ use Rattle.brd_command.specs.WordText.{words_of_text}
 use Rattle.brd_command.specs.declared.word_text.WordsFault.TheVariants as words_fault
 use Rattle.brd_command.specs.declared.fault.CommandFault.{CommandFault}
 use Rattle.brd_command.specs.declared.input_name.InputName.TheVariants.{StandardInput}
-use Rattle.brd_command.specs.declared.fault.CommandFault.TheVariants.{NoMemory, Argument, Words, Source, ImageTooLarge, Open, Read, TooLong, TooManyReads, Build, Journal, OtherOrder, Script, Race, Trace, Write}
+use Rattle.brd_command.specs.declared.fault.CommandFault.TheVariants.{NoMemory, Argument, Words, Source, ImageTooLarge, Open, Read, TooLong, TooManyReads, Build, Journal, OtherOrder, Script, Race, Trace, Schedule, Write}
 
 -- the bytes that show the board of these words after so many steps of processor 1
 pub record ShowsWords (words : List ℕ) (steps : ℕ) (bytes : List ℕ) : Type 0 where
@@ -46,6 +46,7 @@ RefusesWords (OtherOrder order) input steps old new = ⊥
 RefusesWords (Script fault kind) input steps old new = ⊥
 RefusesWords (Race fault) input steps old new = ⊥
 RefusesWords (Trace fault) input steps old new = ⊥
+RefusesWords (Schedule fault) input steps old new = ⊥
 RefusesWords (Write error) input steps old new = (length input ≤ most_bytes) × WritesFront (ShowsText input steps) old new
 
 -- how `words` ends: the board of the input was written, or it was refused

@@ -4,6 +4,8 @@ ghost use Rattle.std.specs.Prelude.{◌≡◌, IfSome, MatchResult};
 ghost use Rattle.brd_command.specs.AsmCommand.{AsmEnds, IsObjectFile, KeepsFromAssembling, faulty_line};
 ghost use Rattle.brd_command.specs.FileKinds.{source_looks_like};
 
+use crate::clue::Clue;
+use crate::diagnosis::source_fault_hint;
 use crate::excerpt::Excerpt;
 use crate::fault::CommandFault;
 use crate::file_kind::{FileKind, other_kind};
@@ -53,8 +55,8 @@ fn object_file(alloc: Global, source: &[u8]) -> Result<Vec<u8>, CommandFault>
         Err(AsmFault::NoMemory) => return Err(CommandFault::NoMemory),
         Err(fault) => {
             let excerpt = Excerpt::of_line(alloc, source, line_of(fault))?;
-            let kind = looks_like(fault, source);
-            return Err(CommandFault::Source(fault, excerpt, kind));
+            let clue = clue_of(fault, source);
+            return Err(CommandFault::Source(fault, excerpt, clue));
         }
     };
     if image.segments.len() >= EXTENDED {
@@ -90,4 +92,12 @@ fn looks_like(fault: AsmFault, source: &[u8]) -> Option<FileKind>
         AsmFault::Syntax { .. } => other_kind(FileKind::Source, source),
         _ => None,
     }
+}
+
+/// What is said beside the fault of a source: the other kind of which it looks, and the diagnosis of the faulty line.
+fn clue_of(fault: AsmFault, source: &[u8]) -> Clue
+    ensures { result ≡ source_looks_like source.now fault }
+{
+    let kind = looks_like(fault, source);
+    Clue::new(kind, source_fault_hint(fault, line_of(fault), source))
 }

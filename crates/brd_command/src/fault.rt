@@ -2,11 +2,15 @@
 
 ghost use Rattle.std.specs.Prelude.{◌≡◌};
 ghost use Rattle.brd_command.specs.FileKinds as kinds;
+ghost use Rattle.brd_command.specs.declared.file_kind.FileKind.TheVariants.{Script as script};
 ghost use Rattle.brd_command.specs.declared.fault.CommandFault.TheVariants.{NoMemory as no_memory};
 
+use crate::clue::{Clue, told_fault, told_of_line};
+use crate::diagnosis::{build_hint, journal_fault_hint, script_fault_hint};
 use crate::excerpt::Excerpt;
-use crate::file_kind::{FileKind, hint, other_kind};
+use crate::file_kind::{FileKind, other_kind};
 use crate::input_name::InputName;
+use crate::schedule_fault::ScheduleFault;
 use crate::trace_options::TraceFault;
 use crate::word_text::WordsFault;
 use brd_asm::AsmFault;
@@ -34,8 +38,8 @@ pub enum CommandFault {
     #[error("standard input: {0}")]
     Words(WordsFault),
     /// The assembler source has a fault, in the line of this excerpt. It looks like a file of this kind.
-    #[error("the source: {0}: {1}{hint}", hint = hint(*.2))]
-    Source(AsmFault, Excerpt, Option<FileKind>),
+    #[error("{text}", text = told_of_line(.0, .1, .2))]
+    Source(AsmFault, Excerpt, Clue),
     /// No object file can hold the image of the assembler source.
     #[error("the source: its image has more segments or bytes than an object file can hold")]
     ImageTooLarge,
@@ -52,23 +56,26 @@ pub enum CommandFault {
     #[error("{0} didn't end within 268,435,456 reads")]
     TooManyReads(InputName),
     /// There is no board of the object file and the configuration. The faulty one looks like a file of this kind.
-    #[error("{0}{hint}", hint = hint(*.1))]
-    Build(BuildFault, Option<FileKind>),
+    #[error("{text}", text = told_fault("", .0, .1))]
+    Build(BuildFault, Clue),
     /// The journal's text has a fault. It looks like a file of this kind.
-    #[error("the journal: {0}{hint}", hint = hint(*.1))]
-    Journal(JournalFault, Option<FileKind>),
+    #[error("{text}", text = told_fault("the journal: ", .0, .1))]
+    Journal(JournalFault, Clue),
     /// The journal is for boards of the other byte order than that of the object file, which is this.
     #[error("the journal: {orders}", orders = orders(*.0))]
     OtherOrder(Order),
     /// The script's text has a fault. It looks like a file of this kind.
-    #[error("the script: {0}{hint}", hint = hint(*.1))]
-    Script(ScriptFault, Option<FileKind>),
+    #[error("{text}", text = told_fault("the script: ", .0, .1))]
+    Script(ScriptFault, Clue),
     /// A race has no result.
     #[error("the race: {0}")]
     Race(RaceFault),
     /// There is no trace.
     #[error("the trace: {0}")]
     Trace(TraceFault),
+    /// No journal is made of the options of `journal`.
+    #[error("{0}")]
+    Schedule(ScheduleFault),
     /// Output couldn't be written.
     #[error("can't write the output: {0}")]
     Write(io::Error),
@@ -117,7 +124,7 @@ impl CommandFault {
     {
         match fault {
             BuildFault::NoMemory => CommandFault::NoMemory,
-            _ => CommandFault::Build(fault, build_looks_like(fault, image, config)),
+            _ => CommandFault::Build(fault, build_clue(fault, image, config)),
         }
     }
 
@@ -128,7 +135,7 @@ impl CommandFault {
     {
         match fault {
             JournalFault::NoMemory => CommandFault::NoMemory,
-            _ => CommandFault::Journal(fault, journal_looks_like(fault, text)),
+            _ => CommandFault::Journal(fault, journal_clue(fault, text)),
         }
     }
 
@@ -139,9 +146,7 @@ impl CommandFault {
     {
         match fault {
             ScriptFault::NoMemory => CommandFault::NoMemory,
-            ScriptFault::Syntax { .. } => {
-                CommandFault::Script(fault, other_kind(FileKind::Script, text))
-            }
+            ScriptFault::Syntax { .. } => { CommandFault::Script(fault, script_clue(fault, text)) }
         }
     }
 
@@ -169,7 +174,7 @@ impl CommandFault {
             | CommandFault::OtherOrder(_)
             | CommandFault::Script(_, _)
             | CommandFault::Race(_) => 1,
-            CommandFault::Argument | CommandFault::Trace(_) => 2,
+            CommandFault::Argument | CommandFault::Trace(_) | CommandFault::Schedule(_) => 2,
             CommandFault::NoMemory => 3,
             CommandFault::Open(_, _)
             | CommandFault::Read(_, _)
@@ -219,4 +224,29 @@ fn journal_looks_like(fault: JournalFault, text: &[u8]) -> Option<FileKind>
         JournalFault::Syntax { .. } => other_kind(FileKind::Journal, text),
         _ => None,
     }
+}
+
+/// What is said beside the fault of an object file and a configuration: the other kind of which the faulty one looks, and
+/// the diagnosis.
+fn build_clue(fault: BuildFault, image: &[u8], config: &[u8]) -> Clue
+    ensures { result ≡ kinds.build_looks_like image.now config.now fault }
+{
+    let kind = build_looks_like(fault, image, config);
+    Clue::new(kind, build_hint(fault, image, config))
+}
+
+/// What is said beside the fault of a journal, likewise.
+fn journal_clue(fault: JournalFault, text: &[u8]) -> Clue
+    ensures { result ≡ kinds.journal_looks_like text.now fault }
+{
+    let kind = journal_looks_like(fault, text);
+    Clue::new(kind, journal_fault_hint(fault, text))
+}
+
+/// What is said beside the fault of a script, likewise.
+fn script_clue(fault: ScriptFault, text: &[u8]) -> Clue
+    ensures { result ≡ kinds.other_kind script text.now }
+{
+    let kind = other_kind(FileKind::Script, text);
+    Clue::new(kind, script_fault_hint(fault, text))
 }

@@ -117,7 +117,7 @@ fn is_text_byte(byte: u8) -> bool
 }
 
 /// What a fault says behind itself of the kind of which its file looks.
-pub fn hint(kind: Option<FileKind>) -> &'static str {
+pub fn looks(kind: Option<FileKind>) -> &'static str {
     match kind {
         None => "",
         Some(FileKind::Empty) => "; it is empty",

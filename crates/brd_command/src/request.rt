@@ -4,6 +4,8 @@ ghost use Rattle.brd_command.specs.Request.{RequestEnds};
 
 use crate::fault::CommandFault;
 use crate::files::{Files, asm_files, debug_files, race_files, run_files, trace_files};
+use crate::journal_command::journal;
+use crate::journal_options::JournalOptions;
 use crate::trace_options::TraceOptions;
 use crate::words_command::words;
 use std::alloc::Global;
@@ -52,10 +54,17 @@ pub enum Request<'a> {
         journal: &'a str,
         options: TraceOptions,
     },
+    /// A journal of so many events, of which each is a step of one of so many processors or what the options say, on
+    /// standard output.
+    Journal {
+        cpus: u32,
+        events: u32,
+        options: JournalOptions<'a>,
+    },
 }
 
-/// Does what was asked for, on files, standard input and standard output. `words` touches no file; `asm` neither reads
-/// standard input nor writes standard output; `run`, `race` and `trace` don't read standard
+/// Does what was asked for, on files, standard input and standard output. `words` and `journal` touch no file; `asm`
+/// neither reads standard input nor writes standard output; `run`, `race`, `trace` and `journal` don't read standard
 /// input. `debug` reads that only where
 /// its files could be opened and make a debugger. Threads of the host are started only for `race`.
 pub fn perform<F: Files, R: Read, W: Write, T: Threads + Wait + Sync>(
@@ -95,5 +104,10 @@ pub fn perform<F: Files, R: Read, W: Write, T: Threads + Wait + Sync>(
             journal,
             options,
         } => trace_files(alloc, files, image, config, journal, options, output),
+        Request::Journal {
+            cpus,
+            events,
+            options,
+        } => journal(alloc, output, cpus, events, options),
     }
 }

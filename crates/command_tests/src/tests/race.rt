@@ -240,17 +240,17 @@ const FAULTS: &[(&[u8], &[u8], &str)] = &[
     (
         b"BOARD(9, 0x10000);",
         b"x",
-        "the configuration: line 1: found a processor out of range, expected 1 to 8 of BOARD, 1 to its number of CLASS",
+        "the configuration: line 1: a board has 1 to 8 processors, found 9",
     ),
     (
         b"BOARD(1, 0x10000); CRE_TSK(1, {0, 0, x, 1, 256, NULL});",
         b"x",
-        "the boot: the configuration names a symbol that the image doesn't have",
+        "the boot: task 1 (line 1) starts at x, which is no symbol of the object file (see nm)",
     ),
     (
         CONFIG,
         b"T 1\nS 1 3\n",
-        "the script: line 2: expected `T COUNT` or `R LINE COUNT`, and at most 1,000,000 events in all",
+        "the script: line 2, column 1: no steps in a script: each processor takes its own",
     ),
 ];
 

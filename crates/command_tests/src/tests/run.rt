@@ -197,17 +197,27 @@ const FAULTS: &[(&[u8], &[u8], &str)] = &[
     (
         b"BOARD(9, 0x10000);",
         b"",
-        "the configuration: line 1: found a processor out of range, expected 1 to 8 of BOARD, 1 to its number of CLASS",
+        "the configuration: line 1: a board has 1 to 8 processors, found 9",
     ),
     (
         b"BOARD(1, 0x10000); CRE_TSK(1, {0, 0, x, 1, 256, NULL});",
         b"",
-        "the boot: the configuration names a symbol that the image doesn't have",
+        "the boot: task 1 (line 1) starts at x, which is no symbol of the object file (see nm)",
     ),
     (
         CONFIG,
         b"board-journal 2 big\nS 1 3\nS 1 03\n",
-        "the journal: line 3: expected `board-journal 2 big` or `board-journal 2 little` first, then lines `S CPU COUNT`, `T COUNT` and `R LINE COUNT`",
+        "the journal: line 3, column 5: 03 has leading zeros: leave them out",
+    ),
+    (
+        b"BOARD",
+        b"",
+        "the configuration: line 1: a ( is missing behind BOARD: the form is BOARD(processors, ram);",
+    ),
+    (
+        CONFIG,
+        b"board-journal",
+        "the journal: line 1, column 1: the first line is `board-journal 2 big` or `board-journal 2 little`, found board-journal",
     ),
 ];
 
@@ -313,13 +323,9 @@ const MISPLACED: &[Misplaced] = &[
     (0, Some(b""), "; it is empty"),
     (1, None, "; it looks like an object file"),
     (1, Some(JOURNAL), "; it looks like a journal"),
-    (1, Some(SOURCE), ""),
-    (1, Some(b"BOARD"), ""),
     (1, Some(b""), "; it is empty"),
     (2, None, "; it looks like an object file"),
     (2, Some(CONFIG), "; it looks like a configuration"),
-    (2, Some(SOURCE), ""),
-    (2, Some(b"board-journal"), ""),
     (2, Some(b""), "; it is empty"),
 ];
 

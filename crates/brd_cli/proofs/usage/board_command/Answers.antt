@@ -1,7 +1,7 @@
 use Rattle.std.proofs.Common.{◌∙◌, ◌≡◌, ap, codes}
 use Rattle.clap.specs.Words.{AddsSubcommand, App, app_of, new_app, with_subcommand}
 use Rattle.clap.specs.declared.builder.command.Command.{Command}
-use Rattle.brd_cli.specs.Usage.{AddsForm, asm, debug, race, run, trace, wants_command, words}
+use Rattle.brd_cli.specs.Usage.{AddsForm, asm, debug, journal, race, run, trace, wants_command, words}
 use Rattle.brd_cli.proofs.usage.board_command.Goals as goal
 
 -- one command more
@@ -11,11 +11,12 @@ adds form before old command new is added so_far = is old new added ∙ ap (λ (
 
 pub returns : goal.returns
 returns c =
-    let none : app_of c.subcommand_required.result ≡ wants_command (new_app (codes "board")) =
-    rw c.subcommand_required.ensures (rw c.after_help.ensures (rw c.about.ensures (ap wants_command c.new.ensures.app))) in
-    let one = adds words _ _ _ _ c.in_ok-words_command.ensures c.in_ok-subcommand.ensures none in
-    let two = adds asm _ _ _ _ c.in_ok-asm_command.ensures c.in_ok-subcommand-2.ensures one in
-    let three = adds run _ _ _ _ c.in_ok-run_command.ensures c.in_ok-subcommand-3.ensures two in
-    let four = adds race _ _ _ _ c.in_ok-race_command.ensures c.in_ok-subcommand-4.ensures three in
-    let five = adds debug _ _ _ _ c.in_ok-debug_command.ensures c.in_ok-subcommand-5.ensures four in
-    adds trace _ _ _ _ c.in_ok-trace_command.ensures c.in_ok-board.ensures five
+    let none : app_of c.version.result ≡ wants_command (new_app (codes "board")) =
+    rw c.version.ensures (rw c.subcommand_required.ensures (rw c.after_help.ensures (rw c.about.ensures (ap wants_command c.new.ensures.app)))) in
+    let one = adds asm _ _ _ _ c.in_ok-asm_command.ensures c.in_ok-subcommand.ensures none in
+    let two = adds run _ _ _ _ c.in_ok-run_command.ensures c.in_ok-subcommand-2.ensures one in
+    let three = adds trace _ _ _ _ c.in_ok-trace_command.ensures c.in_ok-subcommand-3.ensures two in
+    let four = adds debug _ _ _ _ c.in_ok-debug_command.ensures c.in_ok-subcommand-4.ensures three in
+    let five = adds race _ _ _ _ c.in_ok-race_command.ensures c.in_ok-subcommand-5.ensures four in
+    let six = adds journal _ _ _ _ c.in_ok-journal_command.ensures c.in_ok-subcommand-6.ensures five in
+    adds words _ _ _ _ c.in_ok-words_command.ensures c.in_ok-board.ensures six

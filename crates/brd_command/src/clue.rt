@@ -1,0 +1,84 @@
+//! What is said beside a fault of an input.
+
+ghost use Rattle.std.specs.Prelude.{◌≡◌};
+
+use crate::excerpt::Excerpt;
+use crate::file_kind::{FileKind, looks};
+use brd_hints::Hint;
+use std::fmt;
+use std::marker::Model;
+
+/// What is said beside a fault: the other kind of file of which the input looks, or else the diagnosis of the place of
+/// the fault. Contracts see the kind alone.
+#[derive(Debug, Drop)]
+pub struct Clue {
+    kind: Option<FileKind>,
+    hint: Hint,
+}
+
+impl Model for Clue {
+    ghost use Rattle.std.specs.Prelude.{Option};
+    ghost use Rattle.brd_command.specs.declared.file_kind.FileKind.{FileKind};
+
+    ghost Value = { Option FileKind };
+
+    ghost view = { λ clue. clue.kind };
+}
+
+impl Clue {
+    /// The kind, and the diagnosis.
+    pub(crate) fn new(kind: Option<FileKind>, hint: Hint) -> Self
+        ensures { result ≡ kind }
+    {
+        Clue { kind, hint }
+    }
+}
+
+/// A fault as a message says it: by the diagnosis where there is one, else by itself, with the front of the faulty line
+/// where that is known, and with the kind of which the input looks.
+#[derive(Drop)]
+pub(crate) struct Told<'a, F> {
+    input: &'a str,
+    fault: &'a F,
+    excerpt: Option<&'a Excerpt>,
+    clue: &'a Clue,
+}
+
+/// The fault of the input that is called so.
+pub(crate) fn told_fault<'a, F>(input: &'a str, fault: &'a F, clue: &'a Clue) -> Told<'a, F> {
+    Told {
+        input,
+        fault,
+        excerpt: None,
+        clue,
+    }
+}
+
+/// The fault of a source, in the line of this excerpt.
+pub(crate) fn told_of_line<'a, F>(
+    fault: &'a F,
+    excerpt: &'a Excerpt,
+    clue: &'a Clue,
+) -> Told<'a, F> {
+    Told {
+        input: "the source: ",
+        fault,
+        excerpt: Some(excerpt),
+        clue,
+    }
+}
+
+impl<'a, F: fmt::Display> fmt::Display for Told<'a, F> {
+    fn fmt<W: fmt::Write>(&self, f: &mut fmt::Formatter<W>) -> fmt::Result {
+        if self.clue.kind.is_none() && !self.clue.hint.is_none() {
+            return self.clue.hint.fmt(f);
+        }
+        f.write_str(self.input)?;
+        self.fault.fmt(f)?;
+        if let Some(excerpt) = self.excerpt {
+            f.write_str(": ")?;
+            excerpt.fmt(f)?;
+        }
+        f.write_str(looks(self.clue.kind))
+    }
+}

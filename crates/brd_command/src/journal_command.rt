@@ -1,0 +1,96 @@
+//! The command `journal`.
+
+ghost use Rattle.std.specs.Prelude.{◌≡◌, ◌≤◌, IfSome, MatchResult};
+ghost use Rattle.brd_command.specs.JournalCommand.{JournalEnds, KeepsFromMakingOne, MakesJournal};
+ghost use Rattle.brd_schedule.specs.Schedule.{IsMade};
+
+use crate::fault::CommandFault;
+use crate::journal_options::{JournalOptions, raises_of, rule_of};
+use crate::output::write_whole;
+use crate::schedule_fault::ScheduleFault;
+use brd_journal::{Journal, JournalFault};
+use brd_schedule::{Plan, make};
+use std::alloc::Global;
+use std::io::Write;
+
+/// Writes the journal that is asked for: so many events, of which each is a raise, a tick or a step of one of so many
+/// processors. Nothing is written where the options have a fault.
+pub fn journal<W: Write>(
+    alloc: Global,
+    writer: &mut W,
+    cpus: u32,
+    events: u32,
+    options: JournalOptions<'_>,
+) -> Result<(), CommandFault>
+    ensures { JournalEnds result cpus events options (W.contents writer.old) (W.contents writer.new) }
+{
+    let text = match journal_text(alloc, cpus, events, options) {
+        Ok(text) => text,
+        Err(fault) => return Err(fault),
+    };
+    match write_whole(writer, &text) {
+        Ok(()) => Ok(()),
+        Err(error) => Err(CommandFault::Write(error)),
+    }
+}
+
+/// The text of the journal that is asked for.
+fn journal_text(
+    alloc: Global,
+    cpus: u32,
+    events: u32,
+    options: JournalOptions<'_>,
+) -> Result<Vec<u8>, CommandFault>
+    ensures { MatchResult result (λ text. MakesJournal cpus events options text.items) KeepsFromMakingOne }
+{
+    let Some(cpus) = processors(cpus) else {
+        return Err(CommandFault::Schedule(ScheduleFault::Processors));
+    };
+    let raises = match raises_of(alloc, options.raises) {
+        Ok(raises) => raises,
+        Err(ScheduleFault::NoMemory) => return Err(CommandFault::NoMemory),
+        Err(fault) => return Err(CommandFault::Schedule(fault)),
+    };
+    let rule = match rule_of(cpus, &options) {
+        Ok(rule) => rule,
+        Err(ScheduleFault::NoMemory) => return Err(CommandFault::NoMemory),
+        Err(fault) => return Err(CommandFault::Schedule(fault)),
+    };
+    let plan = Plan {
+        cpus,
+        events,
+        tick_every: options.tick_every,
+        raises: raises.as_slice(),
+        rule,
+    };
+    let journal = match made(alloc, &plan) {
+        Ok(journal) => journal,
+        Err(fault) => return Err(fault),
+    };
+    let text = journal.write_text(alloc)?;
+    Ok(text)
+}
+
+/// The number of processors, where it is 1 to 8.
+fn processors(cpus: u32) -> Option<u8>
+    ensures { IfSome result (λ count. (count ≡ cpus) × (1 ≤ count)) }
+{
+    match cpus {
+        1..=8 => Some(cpus as u8),
+        _ => None,
+    }
+}
+
+/// The journal of a plan.
+fn made(alloc: Global, plan: &Plan) -> Result<Journal, CommandFault>
+    requires { 1 ≤ plan.now.cpus }
+    ensures { MatchResult result (λ journal. IsMade plan.now journal.events) KeepsFromMakingOne }
+{
+    match make(alloc, plan) {
+        Ok(journal) => Ok(journal),
+        Err(JournalFault::NoMemory) => Err(CommandFault::NoMemory),
+        Err(JournalFault::Full | JournalFault::Syntax { .. }) => {
+            Err(CommandFault::Schedule(ScheduleFault::TooLong))
+        }
+    }
+}
