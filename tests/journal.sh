@@ -5,7 +5,7 @@
 # makes NAME WANTED ARGUMENT..: a journal, whose lines behind the first one are WANTED, with commas between them.
 makes() {
     local name=$1
-    { echo "board-journal 1"; printf '%s' "${2:+$2,}" | tr ',' '\n'; } > "$work/wanted"
+    { echo "board-journal 2 ${order:-big}"; printf '%s' "${2:+$2,}" | tr ',' '\n'; } > "$work/wanted"
     shift 2
     "$board" journal "$@" < /dev/null > "$work/out" 2> "$work/err"
     check "journal: $name" 0 "$work/wanted" "" $?
@@ -22,6 +22,8 @@ makes "a raise comes before a tick" "S 1 1,R 31 1,S 2 1,T 1" 2 4 --tick-every 2 
 makes "a raise past the end" "S 1 1" 2 1 --raise 0@2
 makes "one weight that isn't 0" "S 2 50" 2 50 --random 1 --weights 0,1 --switch 1000
 makes "no changes of priorities" "S 2 20" 2 20 --random 2 --pct 0
+makes "a big-endian board" "S 1 1,S 2 1" 2 2 --order big
+order=little makes "a little-endian board" "S 1 1,S 2 1" 2 2 --order little
 
 # refuses NAME WHAT ARGUMENT..: a line with status 2.
 refuses() {
@@ -36,6 +38,7 @@ no_seed="--switch, --weights and --pct are for a journal that is drawn: give --r
 both="--turn doesn't go with --random, nor --pct with --switch and --weights"
 refuses "no processor" "CPUS is 1 to 8" 0 1
 refuses "nine processors" "CPUS is 1 to 8" 9 1
+refuses "a middle-endian board" "--order is big or little" 2 9 --order middle
 for wrong in 4 4@ @4 4@0 256@1 4@1,4@1 4@1,,4@2 04@1 4@1000001 ''; do
     refuses "--raise '$wrong'" "$raise" 2 9 --raise "$wrong"
 done
@@ -66,7 +69,7 @@ for options in "" "--switch 1000" "--switch 10 --weights 3,1,1" "--pct 0" "--pct
         [ "$(events "$work/one")" = 2000 ] || wrong="$wrong; $(events "$work/one") events"
         [ "$(grep -c '^T 1$' "$work/one")" = 20 ] || wrong="$wrong; other ticks"
         [ "$(grep -c '^R' "$work/one")" = 1 ] || wrong="$wrong; other raises"
-        grep -v -x -E 'board-journal 1|S [123] [0-9]+|T 1|R 4 1' "$work/one" > "$work/others"
+        grep -v -x -E 'board-journal 2 big|S [123] [0-9]+|T 1|R 4 1' "$work/one" > "$work/others"
         [ ! -s "$work/others" ] || wrong="$wrong; other lines: $(head -n 2 "$work/others")"
         verdict "journal: seed $seed $options" "$wrong"
         cp "$work/one" "$work/seed$seed"
@@ -128,7 +131,7 @@ got=$?
 wrong=
 [ $got = 0 ] || wrong="status $got; $(head -c 300 "$work/err")"
 grep -qxE '[1-9][0-9]* of 40 journals lose an addition' "$work/out" || wrong="$wrong; $(head -n 1 "$work/out")"
-grep -qx 'board-journal 1' "$work/out" || wrong="$wrong; no journal is shown"
+grep -qx 'board-journal 2 big' "$work/out" || wrong="$wrong; no journal is shown"
 verdict "many schedules" "$wrong"
 
 summary

@@ -85,7 +85,8 @@ journal = command_with (codes "journal")
     (number (codes "CPUS") ∷ number (codes "EVENTS") ∷ count (codes "STEPS") (codes "turn")
     ∷ count (codes "SEED") (codes "random") ∷ count (codes "CHANCE") (codes "switch")
     ∷ option (codes "WEIGHTS") (codes "weights") ∷ count (codes "CHANGES") (codes "pct")
-    ∷ count (codes "INTERVAL") (codes "tick-every") ∷ option (codes "RAISES") (codes "raise") ∷ [])
+    ∷ count (codes "INTERVAL") (codes "tick-every") ∷ option (codes "RAISES") (codes "raise")
+    ∷ option (codes "ORDER") (codes "order") ∷ [])
 
 -- the commands in the order in which a newcomer meets them
 abbrev pub board : App

@@ -10,7 +10,7 @@ ghost use Rattle.brd_cli.specs.Usage.{inputs, race_files};
 use crate::end::Stop;
 use crate::usage::board_command;
 use brd_base::NoMemory;
-use brd_command::{JournalOptions, Request, TraceFormat, TraceOptions};
+use brd_command::{JournalOptions, Order, Request, TraceFormat, TraceOptions};
 use clap::error::ErrorKind;
 use clap::{ArgMatches, Command};
 use std::alloc::Global;
@@ -137,6 +137,7 @@ fn journal_of<'a>(arguments: &ArgMatches<'a>) -> Option<Request<'a>>
 /// The options of `journal`.
 fn options_of<'a>(arguments: &ArgMatches<'a>) -> JournalOptions<'a> {
     JournalOptions {
+        order: order_of(text_of(arguments, "ORDER")),
         turn: number_of(arguments, "STEPS"),
         seed: number_of(arguments, "SEED"),
         switch: number_of(arguments, "CHANCE"),
@@ -144,6 +145,15 @@ fn options_of<'a>(arguments: &ArgMatches<'a>) -> JournalOptions<'a> {
         changes: number_of(arguments, "CHANGES"),
         tick_every: number_of(arguments, "INTERVAL").unwrap_or(0),
         raises: text_of(arguments, "RAISES"),
+    }
+}
+
+/// The byte order of that name; big-endian where none is given, and none where there is no such order.
+fn order_of(name: Option<&str>) -> Option<Order> {
+    match name {
+        None | Some("big") => Some(Order::Big),
+        Some("little") => Some(Order::Little),
+        Some(_) => None,
     }
 }
 

@@ -288,6 +288,12 @@ fn journal_command<'a>(alloc: Global) -> Result<Command<'a>, NoMemory>
             "RAISES",
             "raise",
             "Which lines are raised as which events, LINE@EVENT, as 4@10,4@20",
+        ))?
+        .arg(option(
+            alloc,
+            "ORDER",
+            "order",
+            "The byte order of the boards that it is for: big, as if it weren't given, or little",
         ))?;
     Ok(command)
 }

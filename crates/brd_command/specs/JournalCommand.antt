@@ -1,7 +1,8 @@
 -- The command `journal`: what it writes for what it is asked, and how it ends where it doesn't.
-use Rattle.std.specs.Prelude.{◌≡◌, ℕ, List, Option, Result, Ok, Err}
+use Rattle.std.specs.Prelude.{◌≡◌, ℕ, List, Option, Some, Result, Ok, Err}
 use Rattle.std.specs.Io.KnownBytes.{Keeps}
 use Rattle.brd_board.specs.declared.event.Event.{Event}
+use Rattle.brd_word.specs.declared.order.Order.{Order}
 use Rattle.brd_journal.specs.Text.{text_of}
 use Rattle.brd_schedule.specs.Schedule.{IsMade}
 use Rattle.brd_schedule.specs.declared.plan.Plan.{Plan}
@@ -11,7 +12,7 @@ use Rattle.brd_command.specs.declared.fault.CommandFault.TheVariants.{NoMemory, 
 use Rattle.brd_command.specs.declared.journal_options.JournalOptions.{JournalOptions}
 
 -- the text of a journal of so many events, of which each is a raise, a tick where one is asked for, or a step of one of
--- so many processors
+-- so many processors, for boards of the byte order that is asked for
 pub record MakesJournal (cpus events : ℕ) (options : JournalOptions) (bytes : List ℕ) : Type 0 where
   pub plan : Plan
   pub made : List Event
@@ -19,7 +20,9 @@ pub record MakesJournal (cpus events : ℕ) (options : JournalOptions) (bytes : 
   pub of_events : plan.events ≡ events
   pub of_ticks : plan.tick_every ≡ options.tick_every
   pub is_made : IsMade plan made
-  pub shown : bytes ≡ text_of made
+  pub order : Order
+  pub of_order : options.order ≡ Some order
+  pub shown : bytes ≡ text_of order made
 
 -- what may keep a journal from being made: its options
 abbrev pub KeepsFromMakingOne : CommandFault → Type 0

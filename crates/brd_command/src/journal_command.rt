@@ -10,6 +10,7 @@ use crate::output::write_whole;
 use crate::schedule_fault::ScheduleFault;
 use brd_journal::{Journal, JournalFault};
 use brd_schedule::{Plan, make};
+use brd_word::Order;
 use std::alloc::Global;
 use std::io::Write;
 
@@ -46,6 +47,9 @@ fn journal_text(
     let Some(cpus) = processors(cpus) else {
         return Err(CommandFault::Schedule(ScheduleFault::Processors));
     };
+    let Some(order) = options.order else {
+        return Err(CommandFault::Schedule(ScheduleFault::Order));
+    };
     let raises = match raises_of(alloc, options.raises) {
         Ok(raises) => raises,
         Err(ScheduleFault::NoMemory) => return Err(CommandFault::NoMemory),
@@ -63,7 +67,7 @@ fn journal_text(
         raises: raises.as_slice(),
         rule,
     };
-    let journal = match made(alloc, &plan) {
+    let journal = match made(alloc, &plan, order) {
         Ok(journal) => journal,
         Err(fault) => return Err(fault),
     };
@@ -81,12 +85,12 @@ fn processors(cpus: u32) -> Option<u8>
     }
 }
 
-/// The journal of a plan.
-fn made(alloc: Global, plan: &Plan) -> Result<Journal, CommandFault>
+/// The journal of a plan, for boards of this byte order.
+fn made(alloc: Global, plan: &Plan, order: Order) -> Result<Journal, CommandFault>
     requires { 1 ≤ plan.now.cpus }
-    ensures { MatchResult result (λ journal. IsMade plan.now journal.events) KeepsFromMakingOne }
+    ensures { MatchResult result (λ journal. IsMade plan.now journal.events × (journal.order ≡ order)) KeepsFromMakingOne }
 {
-    match make(alloc, plan) {
+    match make(alloc, plan, order) {
         Ok(journal) => Ok(journal),
         Err(JournalFault::NoMemory) => Err(CommandFault::NoMemory),
         Err(JournalFault::Full | JournalFault::Syntax { .. }) => {

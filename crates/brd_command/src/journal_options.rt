@@ -3,6 +3,7 @@
 use crate::schedule_fault::ScheduleFault;
 use brd_schedule::{MOST_CHANGES, Raise, Rule};
 use brd_text::plain_decimal;
+use brd_word::Order;
 use std::alloc::Global;
 
 /// The greatest number of an event.
@@ -14,6 +15,8 @@ const MOST_WEIGHT: u64 = 1_000_000;
 /// Which journal is asked for, beside how many processors and events it has.
 #[derive(Clone, Copy)]
 pub struct JournalOptions<'a> {
+    /// The byte order of the boards that it is for; None where what was given names none.
+    pub order: Option<Order>,
     /// How many steps each processor takes in its turn.
     pub turn: Option<u32>,
     /// The seed of a journal that is drawn.

@@ -54,3 +54,5 @@ pub use trace_command::trace;
 pub use trace_options::{TraceFault, TraceFormat, TraceOptions};
 pub use word_text::WordsFault;
 pub use words_command::words;
+
+pub use brd_word::Order;

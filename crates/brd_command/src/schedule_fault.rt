@@ -12,6 +12,9 @@ pub enum ScheduleFault {
     /// The number of processors.
     #[error("CPUS is 1 to 8")]
     Processors,
+    /// The byte order.
+    #[error("--order is big or little")]
+    Order,
     /// A raise.
     #[error("--raise takes LINE@EVENT, with commas between several, as 4@10,4@20; a line is 0 to 255, an event 1 to 1000000, each once")]
     Raise,

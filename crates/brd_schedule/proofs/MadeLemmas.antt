@@ -33,3 +33,8 @@ one_more_of plan before journal next event is count are planned =
     rw (taken journal next event is)
     (omega (arith, length-append journal.events (event ∷ []), count),
     one_more plan 1 journal.events event are (subst (λ n. IsPlanned plan n event) (omega (arith, count)) planned))
+
+-- a journal that took an event has the byte order that it had
+pub same-order : (journal next : JournalState) (event : Event) → appended journal (event ∷ []) ≡ Ok next → next.order ≡ journal.order
+same-order journal next event is =
+    ap (λ (it : JournalState). it.order) (chosen (nat_le (length (runs_of (journal.events ++ event ∷ []))) journal.limit) _ next is)

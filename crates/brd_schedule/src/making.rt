@@ -7,16 +7,18 @@ use crate::chooser::Chooser;
 use crate::plan::{Plan, Raise};
 use brd_board::Event;
 use brd_journal::{Journal, JournalFault, MOST_RUNS};
+use brd_word::Order;
 use std::alloc::Global;
 
-/// The journal of a plan: its events in order, each a raise or a tick where the plan says so, and else the step of one
-/// of its processors. The fault is that memory ran out, or that the events need more runs than a journal may have.
-pub fn make(alloc: Global, plan: &Plan) -> Result<Journal, JournalFault>
+/// The journal of a plan, for boards of a byte order: its events in order, each a raise or a tick where the plan says so,
+/// and else the step of one of its processors. The fault is that memory ran out, or that the events need more runs than a journal may have.
+pub fn make(alloc: Global, plan: &Plan, order: Order) -> Result<Journal, JournalFault>
     requires { 1 ≤ plan.now.cpus }
-    ensures { IfOk result (λ journal. IsMade plan.now journal.events) }
+    ensures made { IfOk result (λ journal. IsMade plan.now journal.events) }
+    ensures order { IfOk result (λ journal. journal.order ≡ order) }
 {
     let mut chooser = Chooser::new(alloc, plan)?;
-    let mut journal = Journal::new(alloc, MOST_RUNS);
+    let mut journal = Journal::new(alloc, MOST_RUNS, order);
     let mut steps = 0u32;
     for before in 0..plan.events {
         let event = next_event(plan, &mut chooser, &mut steps, before + 1);
