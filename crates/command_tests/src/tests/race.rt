@@ -1,6 +1,6 @@
 //! The command `race` over readers and writers that fail, and the order of its faults.
 
-use super::fakes::{Bytewise, Taking};
+use super::fakes::{Busy, Bytewise, Taking};
 use super::run::{CONFIG, REPORT, image, little_image};
 use super::{UNWRITTEN, is_fault};
 use brd_command::{Blanks, CommandFault, race};
@@ -131,6 +131,61 @@ fn first_wrong_input<R: Threads + Wait + Sync>(
 fn each_read_of_race_fails(rt: HostRuntime) -> Result<(), Fail> {
     let image = image(rt.alloc())?;
     none_wrong(first_wrong_input(&rt, rt.alloc(), image.as_slice()))
+}
+
+/// Whether `race` gives up an input, by its place, after 268,435,456 reads, and names it.
+fn gives_up<R: Threads + Wait + Sync>(
+    rt: &R,
+    alloc: Global,
+    image: &[u8],
+    place: usize,
+    text: &str,
+) -> bool {
+    let mut image = Busy::new(image, place != 0);
+    let mut config = Busy::new(CONFIG, place != 1);
+    let mut script = Busy::new(SCRIPT, place != 2);
+    let mut outputs = Outputs::new(alloc);
+    let ended = race::<Brand, Busy<'_>, Taking, Taking, R>(
+        rt,
+        alloc,
+        &mut image,
+        &mut config,
+        &mut script,
+        3,
+        &mut outputs.journal,
+        &mut outputs.report,
+        Blanks::new(),
+    );
+    let reads = match place {
+        0 => image.reads,
+        1 => config.reads,
+        _ => script.reads,
+    };
+    is_fault(alloc, &ended, text, 4) && outputs.are_empty() && reads == 268_435_456
+}
+
+#[test]
+fn reads_of_the_object_file_end(rt: HostRuntime) -> Result<(), Fail> {
+    let image = image(rt.alloc())?;
+    let text = "the object file didn't end within 268,435,456 reads";
+    assert!(rt; gives_up(&rt, rt.alloc(), image.as_slice(), 0, text));
+    Ok(())
+}
+
+#[test]
+fn reads_of_the_configuration_end(rt: HostRuntime) -> Result<(), Fail> {
+    let image = image(rt.alloc())?;
+    let text = "the configuration didn't end within 268,435,456 reads";
+    assert!(rt; gives_up(&rt, rt.alloc(), image.as_slice(), 1, text));
+    Ok(())
+}
+
+#[test]
+fn reads_of_the_script_end(rt: HostRuntime) -> Result<(), Fail> {
+    let image = image(rt.alloc())?;
+    let text = "the script didn't end within 268,435,456 reads";
+    assert!(rt; gives_up(&rt, rt.alloc(), image.as_slice(), 2, text));
+    Ok(())
 }
 
 /// Whether the write after so many bytes of the journal fails, and is the last one.

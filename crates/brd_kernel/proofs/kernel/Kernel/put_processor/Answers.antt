@@ -12,8 +12,7 @@ invariant_of-self c =
     let known : is_task_or_none (are_there c.self.inside.tasks) c.args.processor.running ≡ true =
     subst (λ (k : KernelState). is_task_or_none (are_there k.tasks) c.args.processor.running ≡ true) (sym c.self.view_is) c.requires.known in
     let run : run_tasks (are_there c.self.inside.tasks) (slice_set c.self.inside.processors c.args.cpu (Some c.args.processor)) ≡ true =
-    run-set (are_there c.self.inside.tasks) c.self.inside.processors c.args.cpu c.args.processor known c.self.invariant.0.running in
-    (
+    run-set (are_there c.self.inside.tasks) c.self.inside.processors c.args.cpu c.args.processor known c.self.invariant.0.running in (
       search (rules, run),
       c.self.invariant.1,
       c.self.invariant.2,
