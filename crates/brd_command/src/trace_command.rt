@@ -195,11 +195,7 @@ impl<'a> Traced<'a> {
     }
 
     /// Writes what stands at the end.
-    fn write_summary<W: Write>(
-        &self,
-        tracer: &Tracer,
-        writer: &mut W,
-    ) -> Result<(), CommandFault> {
+    fn write_summary<W: Write>(&self, tracer: &Tracer, writer: &mut W) -> Result<(), CommandFault> {
         let mut out = Vec::new(self.alloc);
         tracer.put_summary(self.alloc, self.names, &mut out)?;
         written(writer, &out)

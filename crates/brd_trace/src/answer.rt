@@ -49,7 +49,12 @@ impl Answer {
     }
 
     /// Puts at the end what a call was answered.
-    pub(crate) fn put(self, alloc: Global, out: &mut Vec<u8>, asked: Asked) -> Result<(), NoMemory> {
+    pub(crate) fn put(
+        self,
+        alloc: Global,
+        out: &mut Vec<u8>,
+        asked: Asked,
+    ) -> Result<(), NoMemory> {
         put(out, " = ")?;
         if asked.counts() && !self.is_error() {
             return put_signed(alloc, out, self.code);

@@ -40,7 +40,12 @@ pub(crate) struct Raised {
 
 impl Raised {
     /// Puts at the end the exception's name and its cause.
-    pub(crate) fn put(&self, alloc: Global, names: Names, out: &mut Vec<u8>) -> Result<(), NoMemory> {
+    pub(crate) fn put(
+        &self,
+        alloc: Global,
+        names: Names,
+        out: &mut Vec<u8>,
+    ) -> Result<(), NoMemory> {
         put(out, exception_name(self.fault.code))?;
         put(out, ": ")?;
         match self.fault.code {
@@ -97,7 +102,14 @@ impl Raised {
         let Some(access) = self.access() else {
             return put(out, "no load and no store");
         };
-        put(out, if access.stores { "store to " } else { "load from " })?;
+        put(
+            out,
+            if access.stores {
+                "store to "
+            } else {
+                "load from "
+            },
+        )?;
         put_word(out, access.address)
     }
 

@@ -62,7 +62,11 @@ impl<'a> Line<'a> {
 }
 
 /// Puts at the end who executes.
-pub(crate) fn put_who(alloc: Global, out: &mut Vec<u8>, who: Option<Standing>) -> Result<(), NoMemory> {
+pub(crate) fn put_who(
+    alloc: Global,
+    out: &mut Vec<u8>,
+    who: Option<Standing>,
+) -> Result<(), NoMemory> {
     match who {
         Some(Standing::Task(id)) => put_named(alloc, out, "task", u64::from(id)),
         Some(Standing::Handler(line)) => put_named(alloc, out, "handler", u64::from(line)),

@@ -96,7 +96,12 @@ impl Stretch {
         if self.count == 1 {
             return put_named(alloc, out, "tick", self.tick);
         }
-        put_named(alloc, out, "ticks", self.tick.saturating_sub(self.count.saturating_sub(1)))?;
+        put_named(
+            alloc,
+            out,
+            "ticks",
+            self.tick.saturating_sub(self.count.saturating_sub(1)),
+        )?;
         put(out, " to ")?;
         put_number(alloc, out, self.tick)
     }

@@ -31,7 +31,12 @@ impl Refusals {
     }
 
     /// Puts a line at the end: the call, its answer, how often it came, and where the first time.
-    pub(crate) fn put(&self, alloc: Global, names: Names, out: &mut Vec<u8>) -> Result<(), NoMemory> {
+    pub(crate) fn put(
+        &self,
+        alloc: Global,
+        names: Names,
+        out: &mut Vec<u8>,
+    ) -> Result<(), NoMemory> {
         put(out, "refused: ")?;
         self.asked.put(alloc, out)?;
         put(out, " = ")?;

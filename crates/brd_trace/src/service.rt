@@ -174,7 +174,12 @@ fn counting(name: &'static str) -> Option<Service> {
 const NONE: [Shown; 4] = [Shown::Nothing; 4];
 
 /// A number.
-const ONE: [Shown; 4] = [Shown::Number, Shown::Nothing, Shown::Nothing, Shown::Nothing];
+const ONE: [Shown; 4] = [
+    Shown::Number,
+    Shown::Nothing,
+    Shown::Nothing,
+    Shown::Nothing,
+];
 
 /// Two numbers.
 const TWO: [Shown; 4] = [Shown::Number, Shown::Number, Shown::Nothing, Shown::Nothing];
@@ -189,7 +194,12 @@ const BITS_AND: [Shown; 4] = [Shown::Number, Shown::Bits, Shown::Number, Shown::
 const BITS_AND_TWO: [Shown; 4] = [Shown::Number, Shown::Bits, Shown::Number, Shown::Number];
 
 /// A character.
-const BYTE: [Shown; 4] = [Shown::Character, Shown::Nothing, Shown::Nothing, Shown::Nothing];
+const BYTE: [Shown; 4] = [
+    Shown::Character,
+    Shown::Nothing,
+    Shown::Nothing,
+    Shown::Nothing,
+];
 
 /// The service call of a number, where there is one.
 pub(crate) fn service_of(number: u32) -> Option<Service> {

@@ -3,8 +3,8 @@
 use crate::line::put_who;
 use crate::names::Names;
 use crate::tasks::{TaskSeen, put_standing};
-use crate::text::{put, put_named, put_number};
 use crate::teller::LastFault;
+use crate::text::{put, put_named, put_number};
 use crate::tracer::Tracer;
 use crate::waits::{put_wait, state_name};
 use brd_base::NoMemory;

@@ -338,7 +338,12 @@ impl Teller {
         }
         self.set_pending(line, true);
         let mut what = Vec::new(it.alloc);
-        put_named(it.alloc, &mut what, "the interrupt of line", u64::from(line))?;
+        put_named(
+            it.alloc,
+            &mut what,
+            "the interrupt of line",
+            u64::from(line),
+        )?;
         put(&mut what, " is raised")?;
         self.put_line(it, out, before, None, &what, false)?;
         let more = moved.count.saturating_sub(1);

@@ -15,9 +15,9 @@ returns-clause-played c = λ boot is.
     let few : c.min-count.result ≤ c.in_ok-rest.rest.count = omega (arith, c.min-count.ensures) in
     let on : c.args.self.now.at + c.min-count.result ≤ c.reach-far.result = omega (arith, c.min-count.ensures, c.reach-far.ensures.between) in
     played-run boot c.args.journal.now.events c.args.self.now c.event_apart-report.new.self c.play.new.board c.in_ok-rest.rest
-        c.min-count.result is c.in_ok-rest.ensures.comes.1 some few
-        (ap (λ (done : Happened). done.board) c.event_apart-report.ensures) c.play.ensures
-        (omega (arith, on, c.reach-far.ensures.between, c.requires.within))
+    c.min-count.result is c.in_ok-rest.ensures.comes.1 some few
+    (ap (λ (done : Happened). done.board) c.event_apart-report.ensures) c.play.ensures
+    (omega (arith, on, c.reach-far.ensures.between, c.requires.within))
 
 pub returns-clause-still : goal.returns-clause-still
 returns-clause-still c = λ boot is.
@@ -27,4 +27,4 @@ returns-clause-still c = λ boot is.
     let reaches : c.reach-far.result ≡ (if does_no_more c.in_ok-rest.rest.event (happens c.args.self.now.board c.in_ok-rest.rest.event).report then c.args.to else c.args.self.now.at + 1) =
     c.reach-far.ensures.is ∙ ap (λ (done : Happened). if does_no_more c.in_ok-rest.rest.event done.report then c.args.to else c.args.self.now.at + 1) c.event_apart-report.ensures in
     still-run boot c.args.journal.now.events c.args.self.now c.in_ok-rest.rest c.reach-far.result c.args.to c.min-count.result
-        is c.in_ok-rest.ensures.comes.1 c.in_ok-rest.ensures.comes.0 reaches some few on
+    is c.in_ok-rest.ensures.comes.1 c.in_ok-rest.ensures.comes.0 reaches some few on
