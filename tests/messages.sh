@@ -36,8 +36,8 @@ changed() {
 }
 changed "a file of 64 bits" 4 '\x02' \
     "it is ELF64, of 64 bits: wanted is ELF32, for MIPS32 (gcc: -march=mips32 -mabi=32)"
-changed "a little-endian file" 5 '\x01' \
-    "it is little-endian: wanted is big-endian, as mips-linux-gnu-gcc makes it (gcc: -EB)"
+changed "a file of neither byte order" 5 '\x03' \
+    "its byte order is neither big-endian (2) nor little-endian (1): byte 5 says neither"
 changed "a file that isn't linked" 16 '\x00\x01' \
     "it isn't linked (type REL): link it, as mips-linux-gnu-ld -T examples/firmware.ld does"
 changed "a shared object" 16 '\x00\x03' \

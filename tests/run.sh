@@ -89,8 +89,8 @@ done << END
 2|$hello/config.cfg|; it looks like a configuration
 2|$work/board|; it looks like a configuration
 2|$hello/source.s||the journal: line 1, column 1: no comments: leave this out
-2|$work/version||the journal: line 1, column 1: the first line is \`board-journal 1\`, found board-journal 2
-2|$work/bytes||the journal: line 1, column 1: the first line is \`board-journal 1\`, found nop?
+2|$work/version||the journal: line 1, column 1: the first line is \`board-journal 2 big\` or \`board-journal 2 little\`, found board-journal 2
+2|$work/bytes||the journal: line 1, column 1: the first line is \`board-journal 2 big\` or \`board-journal 2 little\`, found nop?
 2|$work/nothing|; it is empty
 END
 run "all three turned round" 1 "$work/nothing" "board: ${faults[0]}; it looks like a journal" $hello/journal "$work/hello" $hello/config.cfg

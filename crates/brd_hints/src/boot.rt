@@ -2,7 +2,7 @@
 
 use crate::finding::{Finding, told_of_input};
 use crate::hint::Hint;
-use crate::object_file::word_at;
+use crate::object_file::{half_at, word_at};
 use crate::values_of::{Valued, next_statement};
 use brd_text::Scanner;
 
@@ -140,7 +140,7 @@ fn is_outside(start: u64, len: u64, ram: u64) -> bool {
 
 /// The first segment of an object file that isn't in RAM.
 fn segment_outside<'a>(image: &[u8], ram: u64) -> Option<Finding<'a>> {
-    let count = word_at(image, 42) % 65_536;
+    let count = half_at(image, 44);
     let mut at = word_at(image, 28) as usize;
     for _ in 0..count.min(65_535) {
         let (start, len) = (

@@ -6,8 +6,12 @@ use crate::names::has_name;
 use crate::scan::{behind, cut, first, place_of};
 use brd_text::{is_digit, plain_decimal, split_line};
 
-/// The first line of a journal.
-const FIRST: &[u8] = b"board-journal 1";
+/// What the first line of a journal may be: the byte order of its boards stands in it, and without one it is big-endian.
+const FIRST: &[&[u8]] = &[
+    b"board-journal 2 big",
+    b"board-journal 2 little",
+    b"board-journal 1",
+];
 
 /// The greatest count of a run.
 const MOST_COUNT: u64 = 4_294_967_295;
@@ -53,23 +57,34 @@ fn first_line_fault(line: &[u8], is_ended: bool) -> Option<Finding<'_>> {
     if line.starts_with(b"\xef\xbb\xbf".as_slice()) {
         return Some(Finding::at(
             line,
-            b"a byte order mark stands before `board-journal 1`: save the text without it",
+            b"a byte order mark stands before the first line: save the text without it",
             &[],
         ));
     }
     if let Some(found) = byte_fault(line) {
         return Some(found);
     }
-    if line == FIRST {
+    if is_first_line(line) {
         return ending_fault(line, is_ended);
     }
     let template = match first(line) {
         b'S' | b'T' | b'R' => {
-            b"the first line is `board-journal 1`, before all lines as ~".as_slice()
+            b"the first line is `board-journal 2 big` or `board-journal 2 little`, before all lines as ~".as_slice()
         }
-        _ => b"the first line is `board-journal 1`, found ~".as_slice(),
+        _ =>
+            b"the first line is `board-journal 2 big` or `board-journal 2 little`, found ~".as_slice(),
     };
     Some(Finding::at(line, template, line))
+}
+
+/// Whether a line is one of the first lines.
+fn is_first_line(line: &[u8]) -> bool {
+    for known in FIRST {
+        if line == *known {
+            return true;
+        }
+    }
+    false
 }
 
 /// A line without a newline.
@@ -132,7 +147,7 @@ fn line_fault(line: &[u8], is_ended: bool, is_journal: bool) -> Option<Finding<'
 
 /// A line that begins with none of the letters.
 fn letter_fault<'a>(line: &'a [u8], letter: &'a [u8], is_journal: bool) -> Finding<'a> {
-    let template = if line == FIRST {
+    let template = if is_first_line(line) {
         b"~ is the first line alone: journals are joined without it".as_slice()
     } else if has_name(b"s t r", letter) {
         b"~ is written in upper case".as_slice()
@@ -141,7 +156,7 @@ fn letter_fault<'a>(line: &'a [u8], letter: &'a [u8], is_journal: bool) -> Findi
     } else {
         b"a line is `T COUNT` or `R LINE COUNT`, found ~".as_slice()
     };
-    let word = if line == FIRST { line } else { letter };
+    let word = if is_first_line(line) { line } else { letter };
     Finding::at(line, template, word)
 }
 

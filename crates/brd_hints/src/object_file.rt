@@ -25,18 +25,31 @@ fn byte_at(bytes: &[u8], at: usize) -> u8 {
     }
 }
 
-/// The big-endian halfword at an offset.
-fn half_at(bytes: &[u8], at: usize) -> u64 {
-    let high = byte_at(bytes, at) as u64;
-    let low = byte_at(bytes, at.saturating_add(1)) as u64;
-    high * 256 + low
+/// Whether the file is little-endian: whether its byte 5 is 1 (System V ABI, EI_DATA).
+fn is_little(bytes: &[u8]) -> bool {
+    byte_at(bytes, 5) == 1
 }
 
-/// The big-endian word at an offset.
+/// The halfword at an offset, in the file's byte order.
+pub(crate) fn half_at(bytes: &[u8], at: usize) -> u64 {
+    let first = byte_at(bytes, at) as u64;
+    let second = byte_at(bytes, at.saturating_add(1)) as u64;
+    if is_little(bytes) {
+        second * 256 + first
+    } else {
+        first * 256 + second
+    }
+}
+
+/// The word at an offset, in the file's byte order.
 pub(crate) fn word_at(bytes: &[u8], at: usize) -> u64 {
-    half_at(bytes, at)
-        .saturating_mul(65_536)
-        .saturating_add(half_at(bytes, at.saturating_add(2)))
+    let first = half_at(bytes, at);
+    let second = half_at(bytes, at.saturating_add(2));
+    if is_little(bytes) {
+        second.saturating_mul(65_536).saturating_add(first)
+    } else {
+        first.saturating_mul(65_536).saturating_add(second)
+    }
 }
 
 /// The machines that are often met, by their numbers.
@@ -69,8 +82,8 @@ fn unsupported<'a>(bytes: &[u8], at: usize) -> Option<Finding<'a>> {
             b"it is ELF64, of 64 bits: wanted is ELF32, for MIPS32 (gcc: -march=mips32 -mabi=32)".as_slice(),
             b"".as_slice(),
         ),
-        (5, 1, _) => (
-            b"it is little-endian: wanted is big-endian, as mips-linux-gnu-gcc makes it (gcc: -EB)".as_slice(),
+        (5, _, _) => (
+            b"its byte order is neither big-endian (2) nor little-endian (1): byte 5 says neither".as_slice(),
             b"".as_slice(),
         ),
         (16, _, 1) => (

@@ -131,7 +131,7 @@ struct Extent {
 fn extent_of(parts: &Parts, at: u64) -> Option<Extent> {
     let word = parts.word;
     let values = (count(parts.operands, b',') as u64).saturating_add(1);
-    let len = if word.is_empty() || has_name(b".equ .globl .set", word) {
+    let len = if word.is_empty() || has_name(b".equ .globl .set .byteorder", word) {
         0
     } else if has_name(b".word", word) {
         values.saturating_mul(4)

@@ -6,7 +6,7 @@ use crate::names::{advice, near_in};
 use crate::operands::{operand_fault, values_fault};
 use crate::places::{misaligned, overlapping, ranged, twice, unknown};
 use crate::scan::{behind, cut, first, run, skip_blanks, token};
-use crate::source_tables::{DIRECTIVES, FORMS, INSTRUCTIONS, OTHER_DIRECTIVES};
+use crate::source_tables::{BYTE_ORDERS, DIRECTIVES, FORMS, INSTRUCTIONS, OTHER_DIRECTIVES};
 use crate::statements::{Parts, directive_of, form_of, parts_of};
 use brd_text::{is_blank, is_name, line_at};
 
@@ -198,7 +198,7 @@ fn directive_fault<'a>(parts: &Parts<'a>) -> Option<Finding<'a>> {
     }
     Some(Finding::at(
         parts.statement,
-        b"unknown directive ~: there are .org .align .space .word .half .byte .ascii .asciiz .equ .globl .set",
+        b"unknown directive ~: there are .org .align .space .word .half .byte .ascii .asciiz .equ .globl .set .byteorder",
         parts.word,
     ))
 }
@@ -209,6 +209,9 @@ fn given_fault<'a>(parts: &Parts<'a>, form: &'a [u8], least: usize) -> Option<Fi
         return Some(Finding::at(parts.operands, b"~ takes ^, found nothing", parts.word).with_other(
             form,
         ));
+    }
+    if form == BYTE_ORDERS {
+        return Some(byteorder_fault(parts, form));
     }
     if first(form) == b'"' {
         let template = if first(parts.operands) == b'"' {
@@ -227,6 +230,20 @@ fn given_fault<'a>(parts: &Parts<'a>, form: &'a [u8], least: usize) -> Option<Fi
         return values_fault(parts.operands);
     }
     operand_fault(parts.word, form, least, parts.operands)
+}
+
+/// What is wrong with a `.byteorder`: its operand, or else its place.
+fn byteorder_fault<'a>(parts: &Parts<'a>, form: &'a [u8]) -> Finding<'a> {
+    let (word, after) = run(parts.operands);
+    let is_order = word == b"big".as_slice() || word == b"little".as_slice();
+    if is_order && skip_blanks(after).is_empty() {
+        return Finding::at(
+            parts.statement,
+            b"~ stands once, before all labels, instructions and other directives",
+            parts.word,
+        );
+    }
+    Finding::at(parts.operands, b"~ takes one word: ^", parts.word).with_other(form)
 }
 
 /// What is wrong with a statement that begins with no dot.

@@ -39,6 +39,9 @@ pub(crate) const FORMS: &[(&[u8], usize, &[u8])] = &[
     (b"hint, offset(base)", 2, b"pref"),
 ];
 
+/// The operand of `.byteorder`.
+pub(crate) const BYTE_ORDERS: &[u8] = b"big or little";
+
 /// The operands of the directives, likewise; a list of values goes on.
 pub(crate) const DIRECTIVES: &[(&[u8], usize, &[u8])] = &[
     (b"address", 1, b".org"),
@@ -49,6 +52,7 @@ pub(crate) const DIRECTIVES: &[(&[u8], usize, &[u8])] = &[
     (b"name, value", 2, b".equ"),
     (b"name", 1, b".globl"),
     (b"noreorder, noat or nomacro", 1, b".set"),
+    (BYTE_ORDERS, 1, b".byteorder"),
 ];
 
 /// The names of the registers behind `$`, beside their numbers.
