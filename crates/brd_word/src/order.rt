@@ -23,10 +23,12 @@ pub fn bytes_of(word: u32, order: Order) -> [u8; 4]
     ensures is { result ≡ bytes_of_word order word }
     ensures again { word_of_bytes order result ≡ word }
 {
-    match order {
-        Order::Big => word.to_be_bytes(),
-        Order::Little => word.to_le_bytes(),
-    }
+    // Not a `match` of two arrays: so the compiler makes one swap of it, and not four shifts.
+    let high_first = match order {
+        Order::Big => word,
+        Order::Little => word.swap_bytes(),
+    };
+    high_first.to_be_bytes()
 }
 
 /// The word of four bytes that lie in this order.
@@ -45,10 +47,11 @@ pub fn half_bytes_of(half: u16, order: Order) -> [u8; 2]
     ensures is { result ≡ bytes_of_half order half }
     ensures again { half_of_bytes order result ≡ half }
 {
-    match order {
-        Order::Big => half.to_be_bytes(),
-        Order::Little => half.to_le_bytes(),
-    }
+    let high_first = match order {
+        Order::Big => half,
+        Order::Little => half.swap_bytes(),
+    };
+    high_first.to_be_bytes()
 }
 
 /// The halfword of two bytes that lie in this order.
