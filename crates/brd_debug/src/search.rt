@@ -87,8 +87,9 @@ pub(crate) fn play_near(
     Ok(())
 }
 
-/// Lets the board that is shown go back in place, to a position that is no further behind the last snapshot before it
-/// than the next one may be. So no snapshot is due on the way. An `Err` leaves it as it is.
+/// Lets the board that is shown go back in place: to the last snapshot at or before a position, or to the boot, and from
+/// there on to the position. It takes no snapshots, so it is for positions up to the next multiple of the interval. An
+/// `Err` leaves it as it is.
 pub(crate) fn go_back(
     boot: &Board,
     journal: &Journal,
