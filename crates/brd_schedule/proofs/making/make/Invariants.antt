@@ -5,4 +5,4 @@ use Rattle.brd_schedule.proofs.making.make.Given as goal
 
 abbrev pub invariant-loop-before : goal.invariant-loop-before
 invariant-loop-before l =
-    (length l.journal.events ≡ l.before) × ArePlanned l.plan 1 l.journal.events × (l.journal.order ≡ l.order)
+    (length l.journal.events ≡ l.before) × ArePlanned l.plan 1 l.journal.events × (l.journal.order ≡ l.fn.order)
