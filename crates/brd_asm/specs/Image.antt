@@ -30,8 +30,8 @@ program_of text = do
   contents ← meanings (order_by s.order) s.names s.pieces
   Ok (record { order = order_by s.order; names = s.names; contents = contents })
 
--- An instruction is spelled by the bytes, in the source's order, of a word that stands for it, with 0 in a field that it
--- ignores.
+-- An instruction is spelled by the bytes, in the source's order, of a word that stands for it, with 0 in a field that
+-- it ignores.
 abbrev pub HasBytes : Order → Meaning → List ℕ → Type 0
 HasBytes order (Means insn) bytes =
     (word : ℕ) × StandsFor word insn × (IgnoresSa insn → sa_of word ≡ 0) × (bytes ≡ bytes_of_word order word)
@@ -63,8 +63,8 @@ abbrev pub entry_by : Option ℤ → ℕ
 entry_by None = base
 entry_by (Some v) = modulo v (2 ^ 32)
 
--- The image of a program: its byte order, its contents spelled at their places and joined to the longest stretches, its names in
--- order of definition, its entry. A program has one image (`laws::a_program_has_one_image`).
+-- The image of a program: its byte order, its contents spelled at their places and joined to the longest stretches, its
+-- names in order of definition, its entry. A program has one image (`laws::a_program_has_one_image`).
 pub record IsImage (program : Program) (image : Image) : Type 0 where
   pub order : image.order ≡ program.order
   pub entry : image.entry ≡ entry_by (named program.names (codes "_start"))

@@ -43,8 +43,8 @@ HasLabels text image =
 abbrev pub Lies : List Segment → ℕ → List ℕ → Type 0
 Lies segments address bytes = (i : ℕ) → i < length bytes → byte_in segments (address + i) ≡ slice_get bytes i
 
--- At the address of each line with an instruction lie the bytes, in the image's order, of a word that stands for that instruction, its
--- operands computed with the values of all the source's names.
+-- At the address of each line with an instruction lie the bytes, in the image's order, of a word that stands for that
+-- instruction, its operands computed with the values of all the source's names.
 abbrev pub HasInstructions : List ℕ → Image → Type 0
 HasInstructions text image =
     (program : Program) (number address : ℕ) (said : Line) (instruction : Instruction) → program_of text ≡ Ok program → IsLine text number address said → said.statement ≡ Instruct instruction

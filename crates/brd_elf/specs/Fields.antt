@@ -1,5 +1,5 @@
--- Numbers in an ELF file: with ELFDATA2MSB the most significant byte comes first, with ELFDATA2LSB the least significant
--- (System V ABI, "Data Encoding").
+-- Numbers in an ELF file: with ELFDATA2MSB the most significant byte comes first, with ELFDATA2LSB the least
+-- significant (System V ABI, "Data Encoding").
 use Rattle.std.specs.Prelude.{ℕ, ◌+◌, ◌^◌, ◌%◌, Bool, nat_le, List, length, drop}
 use Rattle.byteorder.specs.Endian.{big_number, little_number, big_bytes, little_bytes}
 use Rattle.brd_word.specs.declared.order.Order.{Order}

@@ -1,5 +1,5 @@
--- The file of an image, its numbers in the image's byte order: header, program headers, segments, symbol table, strings,
--- section names, section headers.
+-- The file of an image, its numbers in the image's byte order: header, program headers, segments, symbol table,
+-- strings, section names, section headers.
 use Rattle.std.specs.Prelude.{ℕ, ◌+◌, ◌-◌, ◌*◌, ◌%◌, ◌^◌, ◌<◌, ◌≤◌, List, [], ◌∷◌, ◌++◌, length, replicate, flat_map, codes}
 use Rattle.std.specs.List.{AllByRecursion}
 use Rattle.brd_word.specs.declared.order.Order.{Order}
@@ -102,7 +102,8 @@ data_encoding Little = 1
 abbrev pub ident : Order → List ℕ
 ident order = magic ++ 1 ∷ data_encoding order ∷ 1 ∷ replicate 9 0
 
--- e_ident, ET_EXEC, EM_MIPS, version 1, entry, phoff, shoff, flags, ehsize, phentsize, phnum, shentsize, shnum, shstrndx
+-- e_ident, ET_EXEC, EM_MIPS, version 1, entry, phoff, shoff, flags, ehsize, phentsize, phnum, shentsize, shnum,
+-- shstrndx
 abbrev pub header_bytes : Order → ℕ → ℕ → ℕ → ℕ → List ℕ
 header_bytes order entry programs_at sections_at count =
     ident order
