@@ -5,7 +5,7 @@ ghost use Rattle.std.specs.Prelude.{◌≡◌};
 use crate::excerpt::Excerpt;
 use crate::file_kind::{FileKind, looks};
 use brd_hints::Hint;
-use std::fmt;
+use std::fmt::{self, Display};
 use std::marker::Model;
 
 /// What is said beside a fault: the other kind of file of which the input looks, or else the diagnosis of the place of
@@ -83,7 +83,7 @@ pub(crate) fn told_of_line<'a, F>(
     }
 }
 
-impl<'a, F: fmt::Display> fmt::Display for Told<'a, F> {
+impl<'a, F: Display> Display for Told<'a, F> {
     fn fmt<W: fmt::Write>(&self, f: &mut fmt::Formatter<W>) -> fmt::Result {
         if self.clue.is_diagnosed() {
             return self.clue.write_hint(f);
