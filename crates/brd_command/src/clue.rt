@@ -5,7 +5,7 @@ ghost use Rattle.std.specs.Prelude.{◌≡◌};
 use crate::excerpt::Excerpt;
 use crate::file_kind::{FileKind, looks};
 use brd_hints::Hint;
-use std::fmt;
+use std::fmt::{self, Display};
 use std::marker::Model;
 
 /// What is said beside a fault: the other kind of file of which the input looks, or else the diagnosis of the place of
@@ -31,6 +31,21 @@ impl Clue {
         ensures { result ≡ kind }
     {
         Clue { kind, hint }
+    }
+
+    /// Whether the diagnosis is all that is told.
+    fn is_diagnosed(&self) -> bool {
+        self.kind.is_none() && !self.hint.is_none()
+    }
+
+    /// What is said of the kind of file, behind the fault.
+    fn likeness(&self) -> &'static str {
+        looks(self.kind)
+    }
+
+    /// Writes the diagnosis.
+    fn write_hint<W: fmt::Write>(&self, f: &mut fmt::Formatter<W>) -> fmt::Result {
+        self.hint.fmt(f)
     }
 }
 
@@ -68,10 +83,10 @@ pub(crate) fn told_of_line<'a, F>(
     }
 }
 
-impl<'a, F: fmt::Display> fmt::Display for Told<'a, F> {
+impl<'a, F: Display> Display for Told<'a, F> {
     fn fmt<W: fmt::Write>(&self, f: &mut fmt::Formatter<W>) -> fmt::Result {
-        if self.clue.kind.is_none() && !self.clue.hint.is_none() {
-            return self.clue.hint.fmt(f);
+        if self.clue.is_diagnosed() {
+            return self.clue.write_hint(f);
         }
         f.write_str(self.input)?;
         self.fault.fmt(f)?;
@@ -79,6 +94,6 @@ impl<'a, F: fmt::Display> fmt::Display for Told<'a, F> {
             f.write_str(": ")?;
             excerpt.fmt(f)?;
         }
-        f.write_str(looks(self.clue.kind))
+        f.write_str(self.clue.likeness())
     }
 }
