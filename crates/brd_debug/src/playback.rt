@@ -39,6 +39,7 @@ impl Playback {
     /// leaves it as it is.
     pub fn go_back(&mut self, boot: &Board, snapshots: &Snapshots, to: u64) -> Result<(), NoMemory>
         requires sizes { size_of self.old.board.memory ≡ size_of boot.now.memory }
+        requires orders { self.old.board.memory.order ≡ boot.now.memory.order }
         requires fit { DoFit boot.now snapshots.now.kept }
         ensures at { OnOk result (self.new.at ≤ to) }
         ensures played { (events : ListOf EventOf) → AreKept boot.now events snapshots.now.kept → OnOk result (IsPlayed boot.now events self.new) }

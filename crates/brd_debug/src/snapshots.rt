@@ -86,6 +86,7 @@ impl Snapshots {
     /// A snapshot of a board. It shares the pages of RAM that the last one has too.
     fn taken(&self, boot: &Board, board: &Board) -> Result<Snapshot, NoMemory>
         requires sizes { size_of board.now.memory ≡ size_of boot.now.memory }
+        requires orders { board.now.memory.order ≡ boot.now.memory.order }
         ensures fits { IfOk result (Fits boot.now) }
         ensures back { IfOk result (λ snapshot. restored boot.now snapshot ≡ board.now) }
     {

@@ -1,6 +1,6 @@
 use Rattle.std.proofs.Common.{sym, ◌∙◌, arith}
 use Rattle.brd_debug.specs.Stops.{IsStop}
-use Rattle.brd_debug.proofs.KeptLemmas.{size-played}
+use Rattle.brd_debug.proofs.KeptLemmas.{size-played, order-played}
 use Rattle.brd_debug.proofs.SearchLemmas.{found-greatest, none-greatest, none-both}
 use Rattle.brd_debug.proofs.search.stop_before.Goals as goal
 
@@ -12,6 +12,9 @@ returns-then-is_some c =
 
 pub go_back-requires-clause-sizes : goal.go_back-requires-clause-sizes
 go_back-requires-clause-sizes c = size-played c.args.boot.now c.args.journal.now.events c.loop-to.playback c.loop-to.invariant.played
+
+pub go_back-requires-clause-orders : goal.go_back-requires-clause-orders
+go_back-requires-clause-orders c = order-played c.args.boot.now c.args.journal.now.events c.loop-to.playback c.loop-to.invariant.played
 
 pub loop-to-preserved : goal.loop-to-preserved
 loop-to-preserved c = record {
