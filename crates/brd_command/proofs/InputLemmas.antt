@@ -9,7 +9,7 @@ use Rattle.brd_command.specs.Faults.{IsOfRead}
 use Rattle.brd_command.specs.Input.{KeepsFromReading, most_bytes}
 use Rattle.brd_command.specs.declared.fault.CommandFault.{CommandFault}
 use Rattle.brd_command.specs.declared.input_name.InputName.{InputName}
-use Rattle.brd_command.specs.declared.fault.CommandFault.TheVariants.{NoMemory, Argument, Words, Source, ImageTooLarge, Open, Read, TooLong, TooManyReads, Build, Journal, OtherOrder, Script, Race, Trace, Write}
+use Rattle.brd_command.specs.declared.fault.CommandFault.TheVariants.{NoMemory, Argument, Words, Source, ImageTooLarge, Open, Read, TooLong, TooManyReads, Build, Journal, OtherOrder, Script, Race, Trace, Schedule, Write}
 
 -- an input of which more bytes were read than it may have
 pub too_long : (old mid new : Option (List ℕ)) (bytes piece : List ℕ) (n : ℕ) (input : InputName) → Consumes old mid bytes → Consumes mid new (take n piece) → n ≤ length piece → most_bytes < length bytes + n → KeepsFromReading input old (TooLong input)
@@ -31,6 +31,7 @@ read_failed name input error (OtherOrder order) is = absurd is
 read_failed name input error (Script fault kind) is = absurd is
 read_failed name input error (Race fault) is = absurd is
 read_failed name input error (Trace fault) is = absurd is
+read_failed name input error (Schedule fault) is = absurd is
 read_failed name input error (Words fault) is = absurd is
 read_failed name input error Argument is = absurd is
 read_failed name input error (Source fault excerpt kind) is = absurd is

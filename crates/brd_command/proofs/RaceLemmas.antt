@@ -8,7 +8,7 @@ use Rattle.brd_command.specs.RaceCommand.{KeepsFromRacing, RaceEnds, ShowsStatio
 use Rattle.brd_command.specs.RaceCommand.WritesRaceFront.{in_journal, in_report}
 use Rattle.brd_command.specs.Start.{AreWithin, IsRaceStart}
 use Rattle.brd_command.specs.declared.fault.CommandFault.{CommandFault}
-use Rattle.brd_command.specs.declared.fault.CommandFault.TheVariants.{NoMemory, Argument, Words, Source, ImageTooLarge, Open, Read, TooLong, TooManyReads, Build, Journal, OtherOrder, Script, Race, Trace, Write}
+use Rattle.brd_command.specs.declared.fault.CommandFault.TheVariants.{NoMemory, Argument, Words, Source, ImageTooLarge, Open, Read, TooLong, TooManyReads, Build, Journal, OtherOrder, Script, Race, Trace, Schedule, Write}
 use Rattle.brd_command.specs.declared.start.RaceStart.{RaceStart}
 
 -- what isn't written on stays as it was
@@ -76,6 +76,7 @@ module _ (quota : ℕ) (start : RaceStart) (out_old out old new : Option (List �
   of_fault i c t (Race fault) keeps out_same same begins =
       (record { start = start; within = begins.0; is_start = begins.1; is_own = keeps }, out_same, same)
   of_fault i c t (Trace fault) keeps out_same same begins = absurd keeps
+  of_fault i c t (Schedule fault) keeps out_same same begins = absurd keeps
   of_fault i c t (Write error) keeps out_same same begins = absurd keeps
 
   pub not_raced : (fault : CommandFault) → KeepsFromRacing fault → Keeps out_old out → Keeps old new

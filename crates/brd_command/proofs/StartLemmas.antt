@@ -4,7 +4,7 @@ use Rattle.std.specs.Prelude.{Option, Some, None, IfSome, Result, Ok, Err, Match
 use Rattle.brd_command.specs.Input.{IsWhole, most_bytes}
 use Rattle.brd_command.specs.Start.{AreWithin, KeepsFromMaking, KeepsFromStarting}
 use Rattle.brd_command.specs.declared.fault.CommandFault.{CommandFault}
-use Rattle.brd_command.specs.declared.fault.CommandFault.TheVariants.{NoMemory, Argument, Words, Source, ImageTooLarge, Open, Read, TooLong, TooManyReads, Build, Journal, OtherOrder, Script, Race, Trace, Write}
+use Rattle.brd_command.specs.declared.fault.CommandFault.TheVariants.{NoMemory, Argument, Words, Source, ImageTooLarge, Open, Read, TooLong, TooManyReads, Build, Journal, OtherOrder, Script, Race, Trace, Schedule, Write}
 use Rattle.brd_command.specs.declared.input_name.InputName.{InputName}
 
 module _ {S : Type 0} (Is : List ℕ → List ℕ → List ℕ → S → Type 0) (last : InputName) where
@@ -25,6 +25,7 @@ module _ {S : Type 0} (Is : List ℕ → List ℕ → List ℕ → S → Type 0)
     keeps_from (Script fault kind) keeps = (within, keeps)
     keeps_from (Race fault) keeps = keeps
     keeps_from (Trace fault) keeps = keeps
+    keeps_from (Schedule fault) keeps = keeps
     keeps_from (Write error) keeps = keeps
 
     made_within : (result : Result S CommandFault) → MatchResult result (Is i c j) (KeepsFromMaking last i c j)

@@ -23,7 +23,7 @@ pub fn journal<W: Write>(
     events: u32,
     options: JournalOptions<'_>,
 ) -> Result<(), CommandFault>
-    ensures { JournalEnds result cpus events options (W.contents writer.old) (W.contents writer.new) }
+    ensures { JournalEnds result cpus events options.entry (W.contents writer.old) (W.contents writer.new) }
 {
     let text = match journal_text(alloc, cpus, events, options) {
         Ok(text) => text,
@@ -42,7 +42,7 @@ fn journal_text(
     events: u32,
     options: JournalOptions<'_>,
 ) -> Result<Vec<u8>, CommandFault>
-    ensures { MatchResult result (λ text. MakesJournal cpus events options text.items) KeepsFromMakingOne }
+    ensures { MatchResult result (λ text. MakesJournal cpus events options.entry text.items) KeepsFromMakingOne }
 {
     let Some(cpus) = processors(cpus) else {
         return Err(CommandFault::Schedule(ScheduleFault::Processors));
