@@ -67,8 +67,8 @@ files="$work/image examples/data_queue/data_queue.cfg examples/data_queue/data_q
     trace "no such format" 2 "$work/nothing" "board: the trace: its formats are text, json and svg" --format png $files
     trace "to past the end" 0 <("$board" trace $files) "" --to 18446744073709551615 $files
     trace "no such processor" 0 <("$board" trace $files | head -n 2) "" --cpu 9 $files
-    "$board" trace $files > /dev/full 2> "$work/err"
     : > "$work/out"
+    "$board" trace $files > /dev/full 2> "$work/err"
     check "trace: a full disk" 4 "$work/nothing" "board: can't write the output: $is_full" $?
     "$board" trace --format json $files > /dev/full 2> "$work/err"
     check "trace: a full disk, json" 4 "$work/nothing" "board: can't write the output: $is_full" $?

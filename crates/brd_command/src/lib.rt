@@ -37,6 +37,7 @@ mod words_command;
 
 pub use asm_command::asm;
 pub use brd_threads::{Blanks, Race};
+pub use brd_word::Order;
 pub use clue::Clue;
 pub use debug_command::debug;
 pub use excerpt::Excerpt;
@@ -54,5 +55,3 @@ pub use trace_command::trace;
 pub use trace_options::{TraceFault, TraceFormat, TraceOptions};
 pub use word_text::WordsFault;
 pub use words_command::words;
-
-pub use brd_word::Order;

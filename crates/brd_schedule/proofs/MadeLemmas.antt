@@ -30,9 +30,10 @@ pub one_more_of : (plan : Plan) (before : ℕ) (journal next : JournalState) (ev
     → length journal.events ≡ before → ArePlanned plan 1 journal.events → IsPlanned plan (before + 1) event
     → (length next.events ≡ before + 1) × ArePlanned plan 1 next.events
 one_more_of plan before journal next event is count are planned =
-    rw (taken journal next event is)
-    (omega (arith, length-append journal.events (event ∷ []), count),
-    one_more plan 1 journal.events event are (subst (λ n. IsPlanned plan n event) (omega (arith, count)) planned))
+    rw (taken journal next event is) (
+      omega (arith, length-append journal.events (event ∷ []), count),
+      one_more plan 1 journal.events event are (subst (λ n. IsPlanned plan n event) (omega (arith, count)) planned),
+    )
 
 -- a journal that took an event has the byte order that it had
 pub same-order : (journal next : JournalState) (event : Event) → appended journal (event ∷ []) ≡ Ok next → next.order ≡ journal.order

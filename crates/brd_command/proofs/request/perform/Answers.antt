@@ -18,5 +18,6 @@ returns-in-Race g c = rw c.in-Race.is (c.race_files.ensures, refl)
 
 pub returns-in-Trace : goal.returns-in-Trace
 returns-in-Trace g c = rw c.in-Trace.is (c.trace_files.ensures, refl)
+
 pub returns-in-Journal : goal.returns-in-Journal
 returns-in-Journal g c = rw c.in-Journal.is (c.journal.ensures, refl, refl)

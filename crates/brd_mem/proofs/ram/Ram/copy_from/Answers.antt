@@ -15,8 +15,8 @@ loop-number-preserved c =
     let next : at + page_size ≡ (c.loop-number.number + 1) * page_size = omega arith in
     record {
       is = c.copy_page.ensures.is
-      ∙ ap (λ (memory : Memory). with_bytes memory at (take page_size (drop at xs))) c.loop-number.invariant.is
-      ∙ page-put c.args.self.now.order at page_size xs ys within
-      ∙ ap (λ to. memory_of_bytes c.args.self.now.order (halves to xs ys)) next;
+          ∙ ap (λ (memory : Memory). with_bytes memory at (take page_size (drop at xs))) c.loop-number.invariant.is
+          ∙ page-put c.args.self.now.order at page_size xs ys within
+          ∙ ap (λ to. memory_of_bytes c.args.self.now.order (halves to xs ys)) next;
       size = c.copy_page.ensures.same_size ∙ c.loop-number.invariant.size;
     }
