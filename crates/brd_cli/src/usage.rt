@@ -9,8 +9,8 @@ use brd_base::NoMemory;
 use clap::{Arg, ArgAction, Command};
 use std::alloc::Global;
 
-/// The version of the program.
-const VERSION: &str = "1.0";
+/// The version of the program, and the kit of Rattle that built it.
+const VERSION: &str = "1.0 (rattle-kit-13f)";
 
 /// What help says of the files.
 const FILES: &str = "\
