@@ -13,9 +13,12 @@ returns c = λ old new adds.
     let with_6 = c.in_ok-arg-6.ensures.shape c.option.ensures.own ∙ ap₂ with_rule with_5 c.option.ensures.rule in
     let with_7 = c.in_ok-arg-7.ensures.shape c.count-4.ensures.own ∙ ap₂ with_rule with_6 c.count-4.ensures.rule in
     let with_8 = c.in_ok-arg-8.ensures.shape c.count-5.ensures.own ∙ ap₂ with_rule with_7 c.count-5.ensures.rule in
-    let with_9 = c.in_ok-command.ensures.shape c.option-2.ensures.own ∙ ap₂ with_rule with_8 c.option-2.ensures.rule in
+    let with_9 = c.in_ok-arg-9.ensures.shape c.option-2.ensures.own ∙ ap₂ with_rule with_8 c.option-2.ensures.rule in
+    let with_10 = c.in_ok-command.ensures.shape c.option-3.ensures.own ∙ ap₂ with_rule with_9 c.option-3.ensures.rule in
     adds.shape (rw (
       c.in_ok-command.ensures.globals,
+      c.option-3.ensures.own,
+      c.in_ok-arg-9.ensures.globals,
       c.option-2.ensures.own,
       c.in_ok-arg-8.ensures.globals,
       c.count-5.ensures.own,
@@ -37,4 +40,4 @@ returns c = λ old new adds.
       c.about.ensures,
       c.new.ensures.local,
     ) refl)
-    ∙ ap (λ (form : App). with_subcommand (app_of old) form.top) with_9
+    ∙ ap (λ (form : App). with_subcommand (app_of old) form.top) with_10
