@@ -219,6 +219,6 @@ END
     verdict "kit: sdk/debug" "$wrong"
     printf 'quit\nend\n' | project "$shared" debug CFLAGS=-DRACE > "$work/out" 2> "$work/err"
     check "kit: sdk/debug ends by quit" 0 "$work/nothing" "" $?
-    says "sdk/debug without a journal" 2 "board: can't open nosuch: $is_missing" project "$shared" debug JOURNAL=nosuch
+    says "sdk/debug without a journal" 2 "sdk/ordered: there is no journal nosuch" project "$shared" debug JOURNAL=nosuch
 fi
 summary
