@@ -22,6 +22,12 @@ for folder in tests/tracing/*/; do
     trace "$name, summary" 0 "$folder/summary" "" --summary "$work/image" "$folder/config.cfg" "$folder/journal"
 done
 
+# Instructions are read in the board's byte order.
+folder=tests/tracing/little_endian
+assembled "little-endian instructions" $folder/source.s
+trace "little-endian instructions" 0 $folder/instructions "" \
+    --instructions "$work/image" $folder/config.cfg $folder/journal
+
 # The summaries and the pictures of the examples, where they have them.
 for summary_file in examples/*/*.summary; do
     name=${summary_file%.summary}

@@ -7,6 +7,7 @@ use brd_base::NoMemory;
 use brd_board::{Board, Fault};
 use brd_exec::{Context, ExceptionCode};
 use brd_isa::{Insn, LinkedOp, Register, RegisterOp, decode};
+use brd_word::word_of;
 use std::alloc::Global;
 
 /// The word at an address, where RAM has its four bytes.
@@ -15,7 +16,7 @@ pub(crate) fn word_at(board: &Board, address: u32) -> Option<u32> {
     let second = board.memory(address.wrapping_add(1))?;
     let third = board.memory(address.wrapping_add(2))?;
     let last = board.memory(address.wrapping_add(3))?;
-    Some(u32::from_be_bytes([first, second, third, last]))
+    Some(word_of([first, second, third, last], board.order()))
 }
 
 /// A load or a store.
