@@ -7,7 +7,6 @@ mod files;
 mod race;
 mod run;
 
-use brd_asm::AsmFault;
 use brd_command::{CommandFault, asm, words};
 use brd_mem::{Image, is_plain};
 use fakes::{Busy, Bytewise, Taking};
@@ -329,22 +328,19 @@ fn too_many_words(rt: HostRuntime) {
     assert!(rt; is_put && are_refused(rt.alloc(), words.as_slice(), text));
 }
 
-/// A source, its fault, and what is shown of the line.
-type Faulty = (&'static str, AsmFault, &'static str);
+/// A source, and what is said of its fault.
+type Faulty = (&'static str, &'static str);
 
-/// Whether a source has this fault, of which this is shown.
-fn is_faulty(alloc: Global, source: &str, fault: AsmFault, shown: &str) -> bool {
+/// Whether this is said of a source.
+fn is_faulty(alloc: Global, source: &str, text: &str) -> bool {
     let mut reader = source.as_bytes();
-    match format!(in alloc; "the source: {fault}: {shown}") {
-        Ok(text) => is_refused(alloc, Tested::Asm, &mut reader, text.as_str(), 1),
-        Err(_) => false,
-    }
+    is_refused(alloc, Tested::Asm, &mut reader, text, 1)
 }
 
-/// The first of these sources whose fault is another, or shows something else.
+/// The first of these sources of which something else is said.
 fn first_wrong_source(alloc: Global, rows: &[Faulty]) -> Option<usize> {
-    for (row, (source, fault, shown)) in rows.iter().enumerate() {
-        if !is_faulty(alloc, *source, *fault, *shown) {
+    for (row, (source, text)) in rows.iter().enumerate() {
+        if !is_faulty(alloc, *source, *text) {
             return Some(row);
         }
     }
@@ -352,15 +348,29 @@ fn first_wrong_source(alloc: Global, rows: &[Faulty]) -> Option<usize> {
 }
 
 const FAULTS: &[Faulty] = &[
-    ("nop\nnop 1", AsmFault::Syntax { line: 2 }, "nop 1"),
-    ("a: nop\na: nop", AsmFault::Twice { line: 2 }, "a: nop"),
-    ("nop\n.word b", AsmFault::UnknownName { line: 2 }, ".word b"),
-    ("nop\n.byte 256", AsmFault::Range { line: 2 }, ".byte 256"),
-    (".byte 1\nnop", AsmFault::Misaligned { line: 2 }, "nop"),
+    (
+        "nop\nnop 1",
+        "the source: line 2, column 5: nop takes no operands, found 1",
+    ),
+    (
+        "a: nop\na: nop",
+        "the source: line 2, column 1: a is defined already, on line 1",
+    ),
+    (
+        "nop\n.word b",
+        "the source: line 2, column 7: b has no value: no line defines it",
+    ),
+    (
+        "nop\n.byte 256",
+        "the source: line 2, column 7: a value of .byte is -128 to 255, found 256",
+    ),
+    (
+        ".byte 1\nnop",
+        "the source: line 2, column 1: nop stands at 0x80000001, which is no multiple of 4: put .align 2 before it",
+    ),
     (
         "nop\na: .org 0x80000000\nnop",
-        AsmFault::Overlap { line: 3 },
-        "nop",
+        "the source: line 3, column 1: nop stands at 0x80000000, which line 1 fills already",
     ),
 ];
 
@@ -371,31 +381,29 @@ fn faults_of_a_source(rt: HostRuntime) -> Result<(), Fail> {
 }
 
 const SHOWN_LINES: &[Faulty] = &[
-    ("nop 1", AsmFault::Syntax { line: 1 }, "nop 1"),
+    (
+        "nop 1",
+        "the source: line 1, column 5: nop takes no operands, found 1",
+    ),
     (
         "nop 1 # what nop's operand is",
-        AsmFault::Syntax { line: 1 },
-        "nop 1 # what nop's operand is",
+        "the source: line 1, column 5: nop takes no operands, found 1",
     ),
     (
         "nop\n\tnop 1\r\nnop 2",
-        AsmFault::Syntax { line: 2 },
-        " nop 1?",
+        "the source: line 2, column 6: nop takes no operands, found 1",
     ),
     (
         "#\n\n.byte \u{e4}\n",
-        AsmFault::Syntax { line: 3 },
-        ".byte ??",
+        "the source: line 3, column 7: the byte 195 isn't printable ASCII: it can stand in comments only",
     ),
     (
         ".org 0x80000000, 12345678901234567890123456789012345678901234567",
-        AsmFault::Syntax { line: 1 },
-        ".org 0x80000000, 1234567890123456789012345678901234567890123",
+        "the source: line 1, column 6: .org takes address, found 2 operands",
     ),
     (
         ".org 0x80000000, 1234567890123456789012345678901234567890123",
-        AsmFault::Syntax { line: 1 },
-        ".org 0x80000000, 1234567890123456789012345678901234567890123",
+        "the source: line 1, column 6: .org takes address, found 2 operands",
     ),
 ];
 

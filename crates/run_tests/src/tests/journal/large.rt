@@ -51,7 +51,7 @@ fn large(rt: HostRuntime) -> Result<(), Fail> {
     fill(&mut journal)?;
     let text = journal.write_text(alloc)?;
     assert!(rt;
-        is_full(&mut journal) && text.len() == 16 + 17 * 4_194_304 && is_read_again(alloc, &text)
+        is_full(&mut journal) && text.len() == 20 + 17 * 4_194_304 && is_read_again(alloc, &text)
     );
     Ok(())
 }
