@@ -3,19 +3,18 @@
 use crate::register::{Destination, Source};
 use brd_isa::{JumpIndex, ShiftAmount};
 
-/// A decoded word. Each variant but the first two is one operation, whose operands are in the order of the assembler, as
-/// brd_isa's `Insn` has them. A `Destination` is the register that it writes, never register 0; a `Source` one that it
-/// reads. An entry takes 8 bytes: the operation, up to three bytes of registers or of a shift's amount, and a word.
+/// A decoded word. Each variant but the first two is one operation, with its operands in the order of the assembler, as
+/// brd_isa's `Insn` has them. A `Destination` is the register that it writes, never register 0; a `Source` is one that
+/// it reads. An entry takes 8 bytes: the operation, up to three bytes of registers or of a shift's amount, and a word.
 ///
-/// An instruction that writes a register is `Nop` where that is register 0, unless it may raise an exception: then it is
-/// `Slow`.
+/// An instruction that would write to register 0 is `Nop`, unless it may raise an exception: then it is `Slow`.
 #[derive(Clone, Copy)]
 pub enum Entry {
-    /// Says nothing: a word that stands for no instruction, or for one that has no entry (a trap, SYSCALL, BREAK, LL, SC,
-    /// a JALR whose return address goes to register 0, a load, ADD, ADDI or SUB to register 0).
+    /// Says nothing: a word that stands for no instruction, or for one without an entry. These are traps, SYSCALL,
+    /// BREAK, LL, SC, a JALR whose return address goes to register 0, and loads, ADD, ADDI and SUB to register 0.
     Slow,
-    /// Goes on to the next instruction, and changes nothing else, whatever the context is: SYNC, PREF, and what writes to
-    /// register 0. Neither a branch nor a jump.
+    /// Goes on to the next instruction, and changes nothing else, whatever the context is: SYNC, PREF, and what would
+    /// write to register 0. Never a branch or a jump.
     Nop,
 
     /// `sll rd, rt, sa`

@@ -7,6 +7,7 @@
 
 mod decode;
 mod entry;
+mod forms;
 mod register;
 
 pub use decode::entry_of;
