@@ -11,7 +11,7 @@ from kernel import CALLS, Setup, TaskSetup
 from machine import RAM_START, ROWS, WORD, encode
 
 DATA = RAM_START + 0x8000
-# Where programs share words, two in most blocks of 16 bytes; and where they leave results, behind them.
+# Where programs share words, two in most blocks of 16 bytes; and where they leave results, after them.
 SHARED, RESULTS = (0, 4, 8, 12, 16, 20, 32), range(64, 320, 4)
 BASE, SCRATCH = 16, (8, 9, 10, 11, 12, 13, 14, 15, 18, 19, 20, 21, 24, 25)
 NUMBERS = {call.name: number for number, call in CALLS.items()}

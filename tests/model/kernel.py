@@ -170,7 +170,7 @@ class Board:
             task.state = "suspended"
 
     def move(self, task, priority):
-        """Gives a priority: behind its equals where it is ready or waits by priority, also if it has that already."""
+        """Gives a priority: after its equals where it is ready or waits by priority, also if it has that already."""
         task.priority = priority
         if task.state == "ready":
             self.leave_ready(task)
@@ -402,7 +402,7 @@ class Request:
             self.board.make_ready(self.object)
 
     def rot_rdq(self):
-        """Puts the first ready task of a priority behind its equals, on the caller's or the handler's processor."""
+        """Puts the first ready task of a priority after its equals, on the caller's or the handler's processor."""
         priority = self.arguments[0] or self.caller.priority
         for task in [task for task in self.processor.ready if task.priority == priority][:1]:
             self.board.move(task, priority)
@@ -479,7 +479,7 @@ class Request:
             return self.wait(queue.senders, datum)
 
     def fsnd_dtq(self):
-        """A full queue gives its oldest datum up. Senders that wait stay behind the new one."""
+        """A full queue gives its oldest datum up. Senders that wait stay after the new one."""
         if len(self.object.data) == self.object.capacity:
             self.board.counts["fsnd_dtq: drops" + (" before senders" if self.object.senders else "")] += 1
             self.object.data.popleft()
