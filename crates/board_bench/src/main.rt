@@ -469,7 +469,8 @@ fn run_leases(board: &mut Board, leases: u64) -> u64 {
     ran
 }
 
-/// Lends processor 1, does 64 instructions by the lease, if there are as many, and commits it. Answers how many were done.
+/// Lends processor 1, does 64 instructions by the lease, if there are as many, and commits it. Answers how many were
+/// done.
 fn run_lease(board: &mut Board) -> u32 {
     let Some(mut lease) = board.lend(1) else {
         return 0;

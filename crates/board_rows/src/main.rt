@@ -6,8 +6,8 @@
 //!   a tick, `a` to `z` are raises of lines 0 to 25. Behind it stand the reports, a byte each (r `Ran`, c `Called`, f
 //!   `Faulted`, i `Idle`, s `Stopped`, o `Off`, n `NoSuch`, t `Ticked`, O `TimeOver`, a `Accepted`, R `Raised`), and
 //!   what the board shows;
-//! - `l CPU` boots the board, if it isn't yet, and has it lend a processor, in place of what it lent before; tells `lent`
-//!   or `none`;
+//! - `l CPU` boots the board, if it isn't yet, and has it lend a processor, in place of what it lent before; tells
+//!   `lent` or `none`;
 //! - `r LIMIT` does instructions under the lease, at most so many, and tells how many they are, and how many in all;
 //! - `k` commits the lease; tells how many steps that is, or `stale`, and what the board shows;
 //! - `m ADDRESS` tells the word at an address of eight hexadecimal digits;

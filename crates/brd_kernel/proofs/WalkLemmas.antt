@@ -114,8 +114,8 @@ pub record Law (Free End : Type 0) (Q : KernelState → Type 0) (k : KernelState
   pub writes : (word : ℕ) → Q (record k { console = k.console ++ word % 2 ^ 8 ∷ [] })
   pub ends_all : Q (record k { off = true })
 
--- What a call may do to its caller: it goes on; it may wait for so long, or for 0 only polls; it waits; it names the task
--- that is to stop, which may be itself; or it ends.
+-- What a call may do to its caller: it goes on; it may wait for so long, or for 0 only polls; it waits; it names the
+-- task that is to stop, which may be itself; or it ends.
 pub data Stop : Type 0 where
   GoesOn : Stop
   MayWait : ℕ → Stop

@@ -1,7 +1,7 @@
 -- The grammar of lines: which tokens, of those that bytes spell (Spelling), say what. What a single token stands for (a
 -- register, a number, a string) is shared with the reading: Registers, brd_text's Numbers, Texts; so are the tables of
--- names (Operations) and of the operands that each operation takes (Forms). What is read as a line is just what has this
--- form.
+-- names (Operations) and of the operands that each operation takes (Forms). What is read as a line is just what has
+-- this form.
 use Rattle.std.specs.Prelude.{◌≡◌, ℕ, ℤ, pos, true, List, [], ◌∷◌, ◌++◌, Some, None, codes}
 use lib.IntN.{neg_ℤ}
 use Rattle.brd_isa.specs.declared.mnemonic.Mnemonic as mnemonics

@@ -1,5 +1,5 @@
--- How the ready lists lie in rings: that of a priority on a processor has the number 256 * processor + priority. Only the
--- contracts of private functions name these.
+-- How the ready lists lie in rings: that of a priority on a processor has the number 256 * processor + priority. Only
+-- the contracts of private functions name these.
 use Rattle.std.specs.Prelude.{◌≡◌, ◌<◌, ℕ, zero, suc, ◌+◌, ◌*◌, List, [], ◌∷◌, ◌++◌, length, map}
 use Rattle.std.specs.List.{range_with_len}
 use Rattle.brd_queue.specs.Queue.{Plain}

@@ -50,8 +50,8 @@ fn is_written(alloc: Global, source: &str, wanted: &[u8]) -> bool {
     }
 }
 
-/// Each byte of the file is that of `ASSEMBLED`, where it lies with the other byte order: 348 bytes, the sixth a 1, from
-/// 84 on the words.
+/// Each byte of the file is that of `ASSEMBLED`, where it lies with the other byte order: 348 bytes, the sixth a 1,
+/// from 84 on the words.
 #[test]
 fn of_a_little_endian_source(rt: HostRuntime) {
     let mut file = ASSEMBLED;
