@@ -37,6 +37,23 @@ for report in examples/*/*.report; do
     run "$name" 0 "$report" "" "$work/image" "$name.cfg" "$name.journal"
 done
 
+# Processors that add to one word, fifty times each, under a spin lock: they step in turn, and nothing is lost.
+# added PROCESSORS EVENTS CONFIG COUNT: the word at the end is COUNT, four hexadecimal digits, and all are idle.
+added() {
+    awk -v n="$1" -v events="$2" 'BEGIN {
+        print "board-journal 1"
+        for (i = 0; i < events; i++) print "S " i % n + 1 " 1"
+    }' > "$work/journal"
+    "$board" run "$work/image" "$3" "$work/journal" > "$work/out" 2>&1
+    idle=$(grep -c '^cpu [1-8] idle$' "$work/out")
+    count=$(printf 'goto %s\nmem 80001002\nmem 80001003\n' "$2" | "$board" debug "$work/image" "$3" "$work/journal" 2>&1)
+    verdict "run: $1 processors add under a spin lock" \
+        "$([ "$idle ${count//$'\n'/ }" = "$1 at $2 ${4:0:2} ${4:2:2}" ] || echo "$idle are idle; the count: ${count//$'\n'/ }")"
+}
+"$board" asm tests/locked/adders.s "$work/image" 2> "$work/err" || fail "run: the adders" "$(cat "$work/err")"
+added 2 10000 tests/locked/two.cfg 0064
+added 8 40000 tests/locked/eight.cfg 0190
+
 # The files are opened in the order of the arguments, before any is read.
 hello=tests/scenarios/hello
 "$board" asm $hello/source.s "$work/hello"
@@ -82,7 +99,7 @@ done << END
 1|$hello/journal|; it looks like a journal
 1|$hello/source.s||the configuration: line 1: no lines with #: send the text through the C preprocessor first (cc -E -P)
 1|$work/board||the configuration: line 1: a comma or an operand is missing: the form is BOARD(processors, ram);
-1|$work/bytes||the configuration: line 1: this kernel hasn't nop (there are BOARD, CLASS, CRE_TSK, CRE_SEM, CRE_FLG, CRE_DTQ and DEF_INH)
+1|$work/bytes||the configuration: line 1: this kernel hasn't nop (there are BOARD, CLASS, CRE_TSK, CRE_SEM, CRE_FLG, CRE_DTQ, CRE_SPN and DEF_INH)
 1|$work/nothing|; it is empty
 2|$work/hello|; it looks like an object file
 2|$work/front|; it looks like an object file
