@@ -3,12 +3,12 @@
 //! - `= NAME` begins anew, without source and configuration;
 //! - `s LINE` is a line of assembler source, `c LINE` one of the configuration;
 //! - `e EVENTS` boots the board, if it isn't yet, and does events, a byte each: a digit is a step of that processor, T
-//!   a tick, `a` to `z` are raises of lines 0 to 25. Behind it stand the reports, a byte each (r `Ran`, c `Called`, f
+//!   a tick, `a` to `z` are raises of lines 0 to 25. After it stand the reports, a byte each (r `Ran`, c `Called`, f
 //!   `Faulted`, i `Idle`, s `Stopped`, o `Off`, n `NoSuch`, t `Ticked`, O `TimeOver`, a `Accepted`, R `Raised`), and
 //!   what the board shows;
 //! - `l CPU` boots the board, if it isn't yet, and has it lend a processor, in place of what it lent before; tells
 //!   `lent` or `none`;
-//! - `r LIMIT` does instructions under the lease, at most so many, and tells how many they are, and how many in all;
+//! - `r LIMIT` does instructions under the lease, at most n, and tells how many they are, and how many in all;
 //! - `k` commits the lease; tells how many steps that is, or `stale`, and what the board shows;
 //! - `p ID` boots the board, if it isn't yet, and tells who holds a spin lock;
 //! - `m ADDRESS` tells the word at an address of eight hexadecimal digits;
@@ -345,7 +345,7 @@ fn took(scene: &mut Scene, line: &str) -> Result<bool, AllocError> {
     Ok(false)
 }
 
-/// What is printed behind a line, if anything is.
+/// What is printed after a line, if anything is.
 fn told(alloc: Global, scene: &mut Scene, line: &str) -> Result<Option<String>, AllocError> {
     if let Some(events) = line.strip_prefix("e ") {
         return Ok(Some(played(alloc, scene, events)?));

@@ -313,7 +313,7 @@ run_again whole c class (x ∷ ss) t valid l nested s =
 
 -- ---- turns enough
 
--- the tokens behind pieces
+-- the tokens after pieces
 behind : (ps qs : List Piece) (tokens : List Token) → AreSpelled (ps ++ qs) tokens → (rest : List Token) × AreSpelled qs rest × (length rest ≤ length tokens)
 behind [] qs tokens s = (tokens, s, omega arith)
 behind (p ∷ ps) qs tokens s =

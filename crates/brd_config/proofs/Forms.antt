@@ -132,7 +132,7 @@ attributes_step end bits ps t other s =
 
 -- ---- statements
 
--- the text behind what a reader takes
+-- the text after what a reader takes
 abbrev pub Reads : {X : Type 0} → Result (X × Text) ConfigFault → X → List Piece → Type 0
 Reads read x ps = (u : Text) × (read ≡ Ok (x, u)) × Ahead ps u
 

@@ -141,7 +141,7 @@ sign_back b t u e =
 
 -- ---- attributes
 
--- the mark behind an attribute
+-- the mark after an attribute
 abbrev pub joint : ℕ → Bool → ℕ
 joint end more = cond more 124 end
 
@@ -192,7 +192,7 @@ attribute_back end before t flow e =
       goes = ok_is (flow_of j.0.0 (bit_or before a.0.0, j.0.1) (bit_or before a.0.0, j.0.1)) flow j.2;
     }
 
--- attributes, and the mark behind them
+-- attributes, and the mark after them
 record AreJoined (end before bits : ℕ) (t u : Text) : Type 0 where
   front : List Token
   joined : Joined before bits front
@@ -288,7 +288,7 @@ keyword_name keywords.Queue = codes "CRE_DTQ"
 keyword_name keywords.SpinLock = codes "CRE_SPN"
 keyword_name keywords.Handler = codes "DEF_INH"
 
--- behind its first token a statement has the rest of its form, and it may stand here
+-- after its first token a statement has the rest of its form, and it may stand here
 record Behind (name : List ℕ) (in_class : Bool) (t : Text) (r : Statement × Text) : Type 0 where
   whole : (s : Text) → Front (Exactly name ∷ []) s t → Front (form r.0) s r.1
   may : MayStand in_class r.0

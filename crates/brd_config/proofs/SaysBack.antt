@@ -87,7 +87,7 @@ inside : (class : Option ℕ) → is_some class ≡ true → IsInside class
 inside None h = absurd (cc)
 inside (Some n) h = tt
 
--- What holds of the statements behind a statement holds with it in front.
+-- What holds of the statements after a statement holds with it in front.
 abbrev GoesBack : Configuration → State → Statement → List Statement → State → Type 0
 GoesBack whole s x ss next = Leads whole next.config next.class ss → AreNested next.config.processors next.class ss → Leads whole s.config s.class (x ∷ ss) × AreNested s.config.processors s.class (x ∷ ss)
 

@@ -179,7 +179,7 @@ handlers_of class (Queue q ∷ ss) = handlers_of class ss
 handlers_of class (SpinLock s ∷ ss) = handlers_of class ss
 handlers_of class (Handler h ∷ ss) = handler_said (processor_of class) h ∷ handlers_of class ss
 
--- the configuration of a board and the statements behind it, whatever their values
+-- the configuration of a board and the statements after it, whatever their values
 abbrev pub said : ℕ → ℕ → List Statement → Configuration
 said processors ram ss = record { processors = processors; ram = ram; tasks = tasks_of None ss; semaphores = semaphores_of ss; flags = flags_of ss; queues = queues_of ss; spin_locks = spin_locks_of ss; handlers = handlers_of None ss }
 
@@ -191,7 +191,7 @@ abbrev pub IsInside : Option ℕ → Type 0
 IsInside None = ⊥
 IsInside (Some n) = Unit {0}
 
--- Statements behind BOARD, of which the first stands in this class: each class names a processor of the board and is
+-- Statements after BOARD, of which the first stands in this class: each class names a processor of the board and is
 -- closed again, no class is in a class, BOARD does not come again, a spin lock has no attribute bits, and a handler none
 -- but the lowest.
 -- (The other limits are those of the configuration.)

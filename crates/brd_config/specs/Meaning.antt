@@ -177,7 +177,7 @@ is_board (Mark b) = false
 is_board Unclosed = false
 is_board End = false
 
--- BOARD(processors, ram); behind its first token, which stands on this line
+-- BOARD(processors, ram); after its first token, which stands on this line
 unfoldable pub first_board : ℕ → Text → Result (State × Text) ConfigFault
 first_board line t = do
   board ← board_at t

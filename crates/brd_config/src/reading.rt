@@ -140,7 +140,7 @@ fn attribute(tokens: &mut Scanner) -> Result<u32, ConfigFault>
     }
 }
 
-/// Takes a bar, behind which another attribute stands, or the mark that ends attributes; says whether it is a bar.
+/// Takes a bar, after which another attribute stands, or the mark that ends attributes; says whether it is a bar.
 #[tactic(auto, unfolding(crate::specs::Reading::joint_at))]
 fn joint(tokens: &mut Scanner, end: u8) -> Result<bool, ConfigFault>
     ensures read { Gives (λ more. (more, tokens.new)) result (reads.joint_at end tokens.old) }
@@ -247,7 +247,7 @@ pub(crate) fn class_number(tokens: &mut Scanner) -> Result<u32, ConfigFault>
     }
 }
 
-/// Takes a number and the comma behind it.
+/// Takes a number and the comma after it.
 #[tactic(auto, unfolding(crate::specs::Reading::listed_number_at))]
 pub(crate) fn listed_number(tokens: &mut Scanner) -> Result<u32, ConfigFault>
     ensures read { Gives (λ n. (n, tokens.new)) result (reads.listed_number_at tokens.old) }
@@ -258,7 +258,7 @@ pub(crate) fn listed_number(tokens: &mut Scanner) -> Result<u32, ConfigFault>
     Ok(number)
 }
 
-/// Takes an operand and the comma behind it.
+/// Takes an operand and the comma after it.
 #[tactic(auto, unfolding(crate::specs::Reading::listed_operand_at))]
 pub(crate) fn listed_operand(alloc: Global, tokens: &mut Scanner) -> Result<Operand, ConfigFault>
     ensures read { Gives (λ o. (o, tokens.new)) result (reads.listed_operand_at tokens.old) }

@@ -158,7 +158,7 @@ impl<W: Copy + Drop> Queue<W> {
         let _ = self.enter(order, entry);
     }
 
-    /// Gives a task that stands in it a priority: by arrival it keeps its place, by priority it comes behind its
+    /// Gives a task that stands in it a priority: by arrival it keeps its place, by priority it comes after its
     /// equals.
     pub fn reorder(&mut self, order: Order, id: u16, priority: u8)
         ensures { self.new ≡ reordered order id priority self.old }
@@ -179,7 +179,7 @@ impl<W: Copy + Drop> Queue<W> {
         renumber(self.entries.as_mut_slice(), id, priority);
     }
 
-    /// Puts the entry of a task, with a new priority perhaps, behind its equals.
+    /// Puts the entry of a task, with a new priority perhaps, after its equals.
     fn move_behind(&mut self, entry: Option<Entry<W>>)
         requires { IfSome entry (λ e. e.id < 256) }
         ensures { self.new ≡ moved_behind entry self.old }

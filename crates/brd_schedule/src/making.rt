@@ -28,7 +28,7 @@ pub fn make(alloc: Global, plan: &Plan, order: Order) -> Result<Journal, Journal
     Ok(journal)
 }
 
-/// The event of this number, counted from 1, behind so many steps. A step that it is gets counted.
+/// The event of this number, counted from 1, after n steps. A step that it is gets counted.
 fn next_event(plan: &Plan, chooser: &mut Chooser, steps: &mut u32, number: u32) -> Event
     requires { 1 ≤ plan.now.cpus }
     ensures { IsPlanned plan.now number result }

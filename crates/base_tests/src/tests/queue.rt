@@ -62,7 +62,7 @@ const RENUMBERED: &[(u16, u8)] = &[(4, 2), (1, 3), (3, 1), (5, 16)];
 
 const MOVED: &[(u16, u8)] = &[(3, 1), (1, 1), (4, 3), (5, 16)];
 
-/// Whether one that is given a priority then keeps its place by arrival, and comes behind its equals by priority.
+/// Whether one that is given a priority then keeps its place by arrival, and comes after its equals by priority.
 fn are_reordered(queue: &mut Queue<u32>) -> bool {
     queue.reorder(Order::Arrival, 3, 1);
     queue.reorder(Order::Arrival, 9, 1);

@@ -8,7 +8,7 @@ use brd_mem::is_plain;
 use std::alloc::Global;
 use test_help::put_byte;
 
-/// The source of `ASSEMBLED`, behind a line that says that it is little-endian.
+/// The source of `ASSEMBLED`, after a line that says that it is little-endian.
 const SOURCE: &str =
     ".byteorder little\n_start: lui $t0, %hi(d)\nlw $t1, %lo(d)($t0)\nnop\nd: .word 7\n";
 
