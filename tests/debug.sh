@@ -280,7 +280,10 @@ last=$(sed -n 's/^events //p' $folder/report)
 as_run "C on two processors" 11 80000000 80000001
 
 # The ends of the scenarios of `run`: their reports say where each processor is. After them no position is.
-for report in tests/scenarios/*/report; do
+mkdir "$work/scenes"
+wrong=$(tests/scenes "$work/scenes" 2>&1) || wrong=${wrong:-tests/scenes failed}
+verdict "debug: the scenes" "$wrong"
+for report in tests/scenarios/*/report "$work"/scenes/*/report; do
     folder=${report%/report}
     image=$folder/image.elf
     if [ -e "$folder/source.s" ]; then

@@ -1,9 +1,9 @@
 #!/bin/bash
 # The tests of `board run`: tests/run.sh PROGRAM. Each folder of tests/scenarios is one: `source.s`, which is assembled,
 # or the object file `image.elf`; `config.cfg`; `journal`; and `report`, what `run` prints, or `fault`, what it says on
-# standard error with status 1. The head of the source says what happens in it. What of that is seen in registers and
-# memory alone is no part of a report: crates/board_rows has most of these scenes too, and compares all. What no folder
-# can say follows.
+# standard error with status 1. The head of the source says what happens in it. So are scenes of crates/board_rows, which
+# compares what is seen in registers and memory alone too: tests/scenes makes folders of those that tests/scenes.reports
+# names. What no folder can say follows.
 . "$(dirname "$0")/check.sh"
 . tests/growths.sh
 
@@ -13,7 +13,10 @@ run() {
     check "run: $1" "$2" "$3" "$4" $?
 }
 
-for folder in tests/scenarios/*/; do
+mkdir "$work/scenes"
+wrong=$(tests/scenes "$work/scenes" 2>&1) || wrong=${wrong:-tests/scenes failed}
+verdict "run: the scenes" "$wrong"
+for folder in tests/scenarios/*/ "$work"/scenes/*/; do
     name=$(basename "$folder")
     image=$folder/image.elf
     if [ -e "$folder/source.s" ]; then
