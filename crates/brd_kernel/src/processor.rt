@@ -1,7 +1,7 @@
 //! The processors and the interrupt lines as the kernel sees them.
 
 ghost use Rattle.std.specs.Prelude.{◌≡◌, Some};
-ghost use Rattle.brd_kernel.specs.Kernel.{executor_in, is_held, idle, unmarked, quiet};
+ghost use Rattle.brd_kernel.specs.Kernel.{executor_in, is_held, idle, unmarked, holds, holding, letting_go, quiet};
 ghost use Rattle.brd_kernel.specs.Always.{task_executing};
 
 use brd_base::Same;
@@ -37,6 +37,17 @@ pub struct Marks {
     pub locked: bool,
     /// Dispatching is disabled (dis_dsp).
     pub disabled: bool,
+    /// The ID of the spin lock that it holds, or none.
+    pub spin: Option<u8>,
+}
+
+/// A spin lock as it stands.
+#[derive(Clone, Copy, Debug, PartialEq, Eq)]
+pub enum Spin {
+    /// No processor holds it.
+    Free,
+    /// The processor of this number holds it.
+    Held(u8),
 }
 
 /// An instruction that was executed.
@@ -60,6 +71,8 @@ pub struct Processor {
     pub locked: bool,
     /// Whether dispatching is disabled (dis_dsp).
     pub disabled: bool,
+    /// The ID of the spin lock that it holds, if it holds one (loc_spn, try_spn).
+    pub spin: Option<u8>,
     /// Whether it is stopped for good.
     pub stopped: bool,
 }
@@ -70,6 +83,7 @@ impl Same for Processor {
             && self.handling == other.handling
             && self.locked == other.locked
             && self.disabled == other.disabled
+            && self.spin == other.spin
             && self.stopped == other.stopped
     }
 }
@@ -84,17 +98,48 @@ impl Processor {
             handling: None,
             locked: false,
             disabled: false,
+            spin: None,
             stopped: false,
         }
     }
 
-    /// The processor with neither CPU lock nor dispatching disabled.
+    /// The processor with neither CPU lock nor dispatching disabled, which holds no spin lock.
     pub fn unmarked(self) -> Processor
         ensures { result ≡ unmarked self }
     {
         Processor {
             locked: false,
             disabled: false,
+            spin: None,
+            ..self
+        }
+    }
+
+    /// Whether it holds the spin lock of this ID.
+    pub fn holds(&self, id: u8) -> bool
+        ensures { result ≡ holds id (Some self.now) }
+    {
+        self.spin == Some(id)
+    }
+
+    /// The processor, which holds the spin lock of this ID and is CPU-locked.
+    pub fn holding(self, id: u8) -> Processor
+        ensures { result ≡ holding id self }
+    {
+        Processor {
+            locked: true,
+            spin: Some(id),
+            ..self
+        }
+    }
+
+    /// The processor, which holds no spin lock and isn't CPU-locked.
+    pub fn letting_go(self) -> Processor
+        ensures { result ≡ letting_go self }
+    {
+        Processor {
+            locked: false,
+            spin: None,
             ..self
         }
     }
