@@ -1,7 +1,7 @@
 //! The processors and the interrupt lines as the kernel sees them.
 
-ghost use Rattle.std.specs.Prelude.{◌≡◌, Some};
-ghost use Rattle.brd_kernel.specs.Kernel.{executor_in, is_held, idle, unmarked, holds, holding, letting_go, quiet};
+ghost use Rattle.std.specs.Prelude.{◌≡◌, ◌≤◌, length, Some};
+ghost use Rattle.brd_kernel.specs.Kernel.{executor_in, is_held, idle, unmarked, holds, holding, letting_go, holder_from, quiet};
 ghost use Rattle.brd_kernel.specs.Always.{task_executing};
 
 use brd_base::Same;
@@ -115,13 +115,6 @@ impl Processor {
         }
     }
 
-    /// Whether it holds the spin lock of this ID.
-    pub fn holds(&self, id: u8) -> bool
-        ensures { result ≡ holds id (Some self.now) }
-    {
-        self.spin == Some(id)
-    }
-
     /// The processor, which holds the spin lock of this ID and is CPU-locked.
     pub fn holding(self, id: u8) -> Processor
         ensures { result ≡ holding id self }
@@ -173,6 +166,29 @@ impl Processor {
         ensures { result ≡ is_held self.now }
     {
         self.handling.is_some() || self.locked || self.disabled || self.stopped
+    }
+}
+
+/// The number of the processor that holds the spin lock of an ID, if one does.
+pub fn holder(processors: &[Option<Processor>], id: u8) -> Option<u8>
+    requires { length processors.now ≤ 9 }
+    ensures { result ≡ holder_from id 0 processors.now }
+{
+    for (cpu, processor) in processors.iter().enumerate() {
+        if holds(*processor, id) {
+            return Some(cpu as u8);
+        }
+    }
+    None
+}
+
+/// Whether a processor, where there is one, holds the spin lock of an ID.
+pub fn holds(processor: Option<Processor>, id: u8) -> bool
+    ensures { result ≡ holds id processor }
+{
+    match processor {
+        Some(processor) => processor.spin == Some(id),
+        None => false,
     }
 }
 

@@ -27,7 +27,7 @@ fn of_four(
     if !are_setups(&setups) {
         return Err(NoMemory);
     }
-    let mut kernel = Kernel::new(alloc, 2, &setups, &[], semaphores, flags, queues)?;
+    let mut kernel = Kernel::new(alloc, 2, &setups, &[], semaphores, flags, queues, &[])?;
     for id in started {
         kernel.start(*id);
     }
@@ -307,7 +307,7 @@ fn with_lines(alloc: Global, in_turn: bool) -> Result<Kernel, NoMemory> {
             lines[n].handler.cpu = 1 + n as u8 % 8;
         }
     }
-    Kernel::new(alloc, 8, &[], &lines, &[], &[], &[])
+    Kernel::new(alloc, 8, &[], &lines, &[], &[], &[], &[])
 }
 
 /// Whether a processor accepts the interrupt of a line, and no other until its handler has ended.
