@@ -39,7 +39,9 @@ mod spin_locks;
 mod waits;
 
 use crate::making::{idle_processors, lines_of, no_contexts, spin_locks_of};
-use crate::processor::{Ended, Executor, Line, LineSetup, Marks, Processor, Spin, Standing, holder};
+use crate::processor::{
+    Ended, Executor, Line, LineSetup, Marks, Processor, Spin, Standing, holder,
+};
 use brd_base::{NoMemory, copy_with_room, same_slices};
 use brd_config::{FlagConfig, QueueConfig, SemaphoreConfig, SpinLockConfig};
 use brd_exec::{Context, run};

@@ -108,10 +108,8 @@ impl Processor {
         ensures { result ≡ unmarked self }
     {
         Processor {
-            locked: false,
             disabled: false,
-            spin: None,
-            ..self
+            ..self.letting_go()
         }
     }
 

@@ -236,20 +236,7 @@ fn numbers(rt: HostRuntime) {
     assert!(rt; first_wrong().is_none());
 }
 
-const NO_NUMBERS: &[u32] = &[
-    0,
-    42,
-    43,
-    44,
-    45,
-    46,
-    47,
-    59,
-    63,
-    99,
-    0x101,
-    0xffff_ffff,
-];
+const NO_NUMBERS: &[u32] = &[0, 42, 43, 44, 45, 46, 47, 59, 63, 99, 0x101, 0xffff_ffff];
 
 /// Whether a number is no call's from a caller.
 fn is_none(number: u32, caller: Caller) -> bool {
