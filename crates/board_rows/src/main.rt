@@ -16,7 +16,7 @@
 #![tactic(auto)]
 
 use brd_asm::{AsmFault, assemble};
-use brd_board::{Board, BootFault, Event, Lease, Report, Spin, Standing, TaskView};
+use brd_board::{Board, BootFault, Event, Lease, Report, Standing, TaskView};
 use brd_config::{ConfigFault, parse};
 use brd_exec::Context;
 use brd_isa::Register;
@@ -87,8 +87,7 @@ fn play(alloc: Global, board: &mut Board, events: &str) -> Result<String, AllocE
     Ok(reports)
 }
 
-/// What a board shows: each processor, each task with its registers, and, where it isn't as at first, spin locks, time
-/// and console.
+/// What a board shows: each processor, each task with its registers, and, where it isn't as at first, time and console.
 fn show(text: &mut String, board: &Board) -> Result<(), AllocError> {
     for cpu in 1..9u8 {
         show_processor(text, board, cpu)?;
@@ -96,11 +95,6 @@ fn show(text: &mut String, board: &Board) -> Result<(), AllocError> {
     for id in 1..256u16 {
         if let Some(task) = board.task(id) {
             show_task(text, id, &task)?;
-        }
-    }
-    for id in 1..=255u8 {
-        if let Some(Spin::Held(cpu)) = board.spin(id) {
-            write!(text, "\n  spin lock {id} held by cpu {cpu}")?;
         }
     }
     show_rest(text, board)
