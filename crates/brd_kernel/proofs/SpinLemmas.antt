@@ -52,7 +52,7 @@ there-by : (there : Bool) (lock : Spin) (cpu : ℕ) → (if there then Some lock
 there-by true lock cpu is = refl
 there-by false lock cpu is = absurd (false≢true (ap is_some is))
 
-number_of : Option Spin → ℕ
+abbrev number_of : Option Spin → ℕ
 number_of None = 0
 number_of (Some spin.Free) = 0
 number_of (Some (spin.Held cpu)) = cpu
@@ -261,7 +261,7 @@ taken-holder p id caller of =
       runs = subst IsSome (sym of.running) tt;
     }
 
-spin_in : Option Processor → Option ℕ
+abbrev spin_in : Option Processor → Option ℕ
 spin_in None = None
 spin_in (Some p) = p.spin
 
