@@ -155,18 +155,18 @@ free-there false first is = absurd (false≢true (ap is_some is))
 -- was held there before, or was free.
 
 -- a processor may hold a lock
-record MayHold (k : KernelState) (cpu id : ℕ) (q : Processor) : Type 0 where
-  holder : IsHolder q
-  there : has_spin_lock k id ≡ true
-  alone : (other : ℕ) → holds id (processor_at k other) ≡ true → other ≡ cpu
+pub record MayHold (k : KernelState) (cpu id : ℕ) (q : Processor) : Type 0 where
+  pub holder : IsHolder q
+  pub there : has_spin_lock k id ≡ true
+  pub alone : (other : ℕ) → holds id (processor_at k other) ≡ true → other ≡ cpu
 
-record Written (k : KernelState) (cpu : ℕ) (p : Processor) (now : Option Processor) : Type 0 where
-  q : Processor
-  is : now ≡ Some q
-  running : q.running ≡ p.running
-  may : (id : ℕ) → q.spin ≡ Some id → MayHold k cpu id q
+pub record Written (k : KernelState) (cpu : ℕ) (p : Processor) (now : Option Processor) : Type 0 where
+  pub q : Processor
+  pub is : now ≡ Some q
+  pub running : q.running ≡ p.running
+  pub may : (id : ℕ) → q.spin ≡ Some id → MayHold k cpu id q
 
-abbrev OwnAfter : KernelState → ℕ → Option Processor → Option Processor → Type 0
+abbrev pub OwnAfter : KernelState → ℕ → Option Processor → Option Processor → Type 0
 OwnAfter k cpu None now = now ≡ None
 OwnAfter k cpu (Some p) now = Written k cpu p now
 
@@ -243,17 +243,17 @@ holds-on p q on running was = record {
   runs = subst IsSome (sym running) was.runs;
 }
 
-handles-none : (handling : Option ℕ) (stopped : Bool) → (is_some handling || stopped) ≡ false → handling ≡ None
+handles-none : (handling : Option ℕ) (stopped : Bool) → (is_some handling || false || false || stopped) ≡ false → handling ≡ None
 handles-none None stopped free = refl
 handles-none (Some line) stopped free = absurd (true≢false free)
 
-runs-on : (handling stopped : Bool) → (handling || stopped) ≡ false → stopped ≡ false
+runs-on : (handling stopped : Bool) → (handling || false || false || stopped) ≡ false → stopped ≡ false
 runs-on handling stopped free = grind (arith, free)
 
 -- a task's processor, once it is CPU-locked
 taken-holder : (p : Processor) (id caller : ℕ) → IsTaskOf p caller → IsHolder (holding id p)
 taken-holder p id caller of =
-    let free : (is_some p.handling || p.stopped) ≡ false = of.unmarked_free in
+    let free : (is_some p.handling || false || false || p.stopped) ≡ false = of.unmarked_free in
     record {
       locked = refl;
       handling = handles-none p.handling p.stopped free;
@@ -457,31 +457,31 @@ own-by k cpu id None now after is = absurd (false≢true (sym (ap (holds id) aft
 own-by k cpu id (Some p) now after is =
     record { q = after.q; is = after.is; may = after.may id (spin-is id after.q.spin (sym (ap (holds id) after.is) ∙ is)) }
 
-own : (k new : KernelState) (cpu id at : ℕ) → Wrote k cpu new → (cpu == at) ≡ true → holds id (processor_at new at) ≡ true → Own k cpu id (processor_at new at)
-own k new cpu id at wrote test is =
+own-of : (k new : KernelState) (cpu id at : ℕ) → Wrote k cpu new → (cpu == at) ≡ true → holds id (processor_at new at) ≡ true → Own k cpu id (processor_at new at)
+own-of k new cpu id at wrote test is =
     let same : cpu ≡ at = same-number cpu at test in
     subst (λ n. Own k cpu id (processor_at new n)) same
     (own-by k cpu id (processor_at k cpu) (processor_at new cpu) wrote.own (ap (λ n. holds id (processor_at new n)) same ∙ is))
 
 wrote-there : (here : Bool) (k new : KernelState) (cpu at id : ℕ) → (cpu == at) ≡ here → Wrote k cpu new → IsLocking k →
     holds id (processor_at new at) ≡ true → has_spin_lock k id ≡ true
-wrote-there true k new cpu at id test wrote was is = (own k new cpu id at wrote test is).may.there
+wrote-there true k new cpu at id test wrote was is = (own-of k new cpu id at wrote test is).may.there
 wrote-there false k new cpu at id test wrote was is = was.there at id (ap (holds id) (sym (wrote.others at test)) ∙ is)
 
 wrote-one : (here there : Bool) (k new : KernelState) (cpu at other id : ℕ) → (cpu == at) ≡ here → (cpu == other) ≡ there → Wrote k cpu new → IsLocking k →
     holds id (processor_at new at) ≡ true → holds id (processor_at new other) ≡ true → other ≡ at
 wrote-one true true k new cpu at other id test also wrote was is held = sym (same-number cpu other also) ∙ same-number cpu at test
 wrote-one true false k new cpu at other id test also wrote was is held =
-    (own k new cpu id at wrote test is).may.alone other (ap (holds id) (sym (wrote.others other also)) ∙ held) ∙ same-number cpu at test
+    (own-of k new cpu id at wrote test is).may.alone other (ap (holds id) (sym (wrote.others other also)) ∙ held) ∙ same-number cpu at test
 wrote-one false true k new cpu at other id test also wrote was is held =
-    sym (same-number cpu other also) ∙ sym ((own k new cpu id other wrote also held).may.alone at (ap (holds id) (sym (wrote.others at test)) ∙ is))
+    sym (same-number cpu other also) ∙ sym ((own-of k new cpu id other wrote also held).may.alone at (ap (holds id) (sym (wrote.others at test)) ∙ is))
 wrote-one false false k new cpu at other id test also wrote was is held =
     was.one at other id (ap (holds id) (sym (wrote.others at test)) ∙ is) (ap (holds id) (sym (wrote.others other also)) ∙ held)
 
 wrote-holder : (here : Bool) (k new : KernelState) (cpu at id : ℕ) (p : Processor) → (cpu == at) ≡ here → Wrote k cpu new → IsLocking k →
     processor_at new at ≡ Some p → p.spin ≡ Some id → IsHolder p
 wrote-holder true k new cpu at id p test wrote was there is =
-    let mine : Own k cpu id (processor_at new at) = own k new cpu id at wrote test (holds-by new at id p there is) in
+    let mine : Own k cpu id (processor_at new at) = own-of k new cpu id at wrote test (holds-by new at id p there is) in
     subst IsHolder (ap (λ o. unwrap_or o p) (sym mine.is ∙ there)) mine.may.holder
 wrote-holder false k new cpu at id p test wrote was there is = was.holders at id p (sym (wrote.others at test) ∙ there) is
 
