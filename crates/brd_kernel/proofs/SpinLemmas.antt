@@ -1,7 +1,7 @@
 -- Every service call, exception, accepted interrupt and tick leaves each spin lock free or with exactly one holder, which
 -- stands as a holder does.
 use Rattle.std.proofs.Common.{◌≡◌, ℕ, zero, suc, ◌+◌, ◌%◌, ◌^◌, List, [], ◌∷◌, ◌++◌, ◌<◌, ◌≤◌, length, refl, sym, ap, subst, ◌∙◌, arith}
-use Rattle.std.specs.Prelude.{Bool, true, false, not, nat_lt, nat_le, ◌==◌, ◌&&◌, ◌||◌, if◌then◌else◌, slice_index_or, slice_set, Option, None, Some, IsSome, is_some, unwrap_or}
+use Rattle.std.specs.Prelude.{Bool, true, false, not, nat_lt, nat_le, ◌==◌, ◌&&◌, ◌||◌, if◌then◌else◌, slice_index_or, slice_set, Option, None, Some, is_some, unwrap_or}
 use Rattle.std.proofs.lemmas.Bool.{true≢false, false≢true}
 use Rattle.std.proofs.lemmas.Bool.Decides.{nat_tests}
 use Rattle.std.proofs.lemmas.List.FromFn.{length-map-range_with_len, get_or-map-range_with_len}
@@ -124,7 +124,7 @@ held-by false first k id none is was = λ cpu. absent-by (holds id (processor_at
 held-by true None k id there is was = λ cpu. holder-none id 0 cpu k.processors is
 held-by true (Some n) k id there is was =
     let found : Found id 0 n k.processors = holder-found id 0 n k.processors is in
-    let same : n ≡ found.at = found.is in
+    let same : n ≡ found.at = omega (arith, found.is) in
     λ other. only-by (holds id (processor_at k other)) (other == n) k id n other refl refl
     (ap (λ m. holds id (processor_at k m)) same ∙ found.held) was
 
@@ -240,7 +240,7 @@ holds-on p q on running was = record {
   locked = on.locked was.locked;
   handling = on.handling ∙ was.handling;
   on = on.on ∙ was.on;
-  runs = subst IsSome (sym running) was.runs;
+  runs = ap is_some running ∙ was.runs;
 }
 
 handles-none : (handling : Option ℕ) (stopped : Bool) → (is_some handling || false || false || stopped) ≡ false → handling ≡ None
@@ -258,7 +258,7 @@ taken-holder p id caller of =
       locked = refl;
       handling = handles-none p.handling p.stopped free;
       on = runs-on (is_some p.handling) p.stopped free;
-      runs = subst IsSome (sym of.running) tt;
+      runs = ap is_some of.running;
     }
 
 abbrev spin_in : Option Processor → Option ℕ

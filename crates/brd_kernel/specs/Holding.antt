@@ -1,5 +1,5 @@
 -- Who holds spin locks: each is free or has exactly one holder, after every event.
-use Rattle.std.specs.Prelude.{◌≡◌, ℕ, ◌==◌, Bool, true, false, Option, None, Some, IsSome}
+use Rattle.std.specs.Prelude.{◌≡◌, ℕ, ◌==◌, Bool, true, false, Option, None, Some, is_some}
 use Rattle.brd_kernel.specs.declared.processor.Processor.{Processor}
 use Rattle.brd_kernel.specs.declared.processor.Spin.{Spin}
 use Rattle.brd_kernel.specs.declared.processor.Spin.TheVariants.{Free, Held}
@@ -11,7 +11,7 @@ pub record IsHolder (p : Processor) : Type 0 where
   pub locked : p.locked ≡ true
   pub handling : p.handling ≡ None
   pub on : p.stopped ≡ false
-  pub runs : IsSome p.running
+  pub runs : is_some p.running ≡ true
 
 -- which processors hold the spin lock of an ID, by how it stands: nobody where there is none or it is free, else that
 -- processor, and no other

@@ -213,7 +213,15 @@ impl Kernel {
     {
         self.time.same(&other.time)
             && self.tasks.same(&other.tasks)
-            && self.semaphores.same(&other.semaphores)
+            && self.has_same_objects(other)
+    }
+
+    /// Whether both have the same objects.
+    fn has_same_objects(&self, other: &Kernel) -> bool
+        ensures { Decides result ((self.now.semaphores ≡ other.now.semaphores) × (self.now.flags ≡ other.now.flags)
+            × (self.now.queues ≡ other.now.queues) × (self.now.spin_locks ≡ other.now.spin_locks)) }
+    {
+        self.semaphores.same(&other.semaphores)
             && self.flags.same(&other.flags)
             && self.queues.same(&other.queues)
             && self.spin_locks.as_slice() == other.spin_locks.as_slice()
