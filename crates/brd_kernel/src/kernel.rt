@@ -211,9 +211,7 @@ impl Kernel {
             × (self.now.semaphores ≡ other.now.semaphores) × (self.now.flags ≡ other.now.flags)
             × (self.now.queues ≡ other.now.queues) × (self.now.spin_locks ≡ other.now.spin_locks)) }
     {
-        self.time.same(&other.time)
-            && self.tasks.same(&other.tasks)
-            && self.has_same_objects(other)
+        self.time.same(&other.time) && self.tasks.same(&other.tasks) && self.has_same_objects(other)
     }
 
     /// Whether both have the same objects.
@@ -224,7 +222,7 @@ impl Kernel {
         self.semaphores.same(&other.semaphores)
             && self.flags.same(&other.flags)
             && self.queues.same(&other.queues)
-            && self.spin_locks.as_slice() == other.spin_locks.as_slice()
+            && same_bools(self.spin_locks.as_slice(), other.spin_locks.as_slice())
     }
 
     /// Whether both have the same processors, lines and console.
@@ -535,4 +533,19 @@ fn is_same_task(one: Option<TaskId>, other: Option<TaskId>) -> bool
         (Some(one), Some(other)) => one == other,
         _ => false,
     }
+}
+
+/// Whether two slices of truth values are equal.
+fn same_bools(a: &[bool], b: &[bool]) -> bool
+    ensures { Decides result (a.now ≡ b.now) }
+{
+    if a.len() != b.len() {
+        return false;
+    }
+    for i in 0..a.len() {
+        if a[i] != b[i] {
+            return false;
+        }
+    }
+    true
 }
