@@ -1,13 +1,11 @@
 -- Each event leaves each spin lock free or with exactly one holder, and takes it from nobody but the processor that makes
 -- a step.
-use Rattle.std.proofs.Common.{◌≡◌, ℕ, List, [], ◌∷◌, refl, sym, ap, subst, ◌∙◌, arith}
-use Rattle.std.proofs.lemmas.Bool.{true≢false, false≢true}
-use Rattle.std.proofs.lemmas.Bool.Decides.{nat_tests}
+use Rattle.std.proofs.Common.{◌≡◌, ℕ, List, [], ◌∷◌, refl, sym, ap, subst, ◌∙◌}
+use Rattle.std.proofs.lemmas.Bool.{false≢true}
 use Rattle.std.specs.Prelude.{Bool, true, false, ◌==◌, nat_lt, if◌then◌else◌, slice_index_or, Option, None, Some, is_some, unwrap_or, Ok}
-use Rattle.brd_exec.specs.State.{State}
 use Rattle.brd_exec.specs.declared.outcome.Outcome.{Outcome}
 use Rattle.brd_exec.specs.declared.outcome.Outcome.TheVariants.{Done, Syscall, Exception}
-use Rattle.brd_link.specs.LinkSet.{LinkSet, without}
+use Rattle.brd_link.specs.LinkSet.{LinkSet}
 use Rattle.brd_mem.specs.Memory.{Memory}
 use Rattle.brd_mem.specs.declared.image.Image.{Image}
 use Rattle.brd_config.specs.Configuration.{Configuration}
@@ -19,7 +17,7 @@ use Rattle.brd_kernel.specs.declared.processor.LineSetup.{LineSetup}
 use Rattle.brd_kernel.specs.declared.processor.Processor.{Processor}
 use Rattle.brd_kernel.specs.declared.processor.Spin.TheVariants as spin
 use Rattle.brd_kernel.specs.declared.processor.Executor.{Executor}
-use Rattle.brd_kernel.specs.Kernel.{KernelState, with_tasks, processor_at, running_in, running_on, executor_on, context_of, with_context_of, holds, spin_of, accepted_line, deliverable, line_at, with_pending, Executed, executed_in, executed}
+use Rattle.brd_kernel.specs.Kernel.{KernelState, with_tasks, processor_at, running_in, running_on, executor_on, with_context_of, holds, spin_of, accepted_line, deliverable, line_at, with_pending, Executed, executed_in, executed}
 use Rattle.brd_kernel.specs.Dispatch.{dispatched}
 use Rattle.brd_kernel.specs.Holding.{AreLocks}
 use Rattle.brd_kernel.specs.Making.{made_kernel}
@@ -27,11 +25,10 @@ use Rattle.brd_kernel.specs.Waits.{ticked_on, ended_by_fault}
 use Rattle.brd_kernel.specs.Services.{serve_of}
 use Rattle.brd_kernel.proofs.ListLemmas.{same-number}
 use Rattle.brd_kernel.proofs.SameLemmas.{Same, same-context}
-use Rattle.brd_kernel.proofs.SpinLemmas.{IsLocking, locks-locking, locking-locks, held-holds, holds-held, free-unheld, Wrote, same-wrote, serve-wrote, fault-wrote, accept-wrote, same-ticked, same-pending, locking-same, wrote-locking, wrote-runs, dispatch-holds, holder-stays, dispatch-locking, made-locking}
+use Rattle.brd_kernel.proofs.SpinLemmas.{IsLocking, locks-locking, locking-locks, held-holds, holds-held, free-unheld, Wrote, serve-wrote, fault-wrote, accept-wrote, same-ticked, same-pending, locking-same, wrote-locking, wrote-runs, dispatch-holds, holder-stays, dispatch-locking, made-locking}
 use Rattle.brd_sysgate.specs.Gate.{called}
 use Rattle.brd_board.specs.declared.event.Event.{Event}
 use Rattle.brd_board.specs.declared.event.Event.TheVariants.{Step, Tick, Raise}
-use Rattle.brd_board.specs.declared.event.Report.TheVariants as report
 use Rattle.brd_board.specs.Setup.{all_started}
 use Rattle.brd_board.specs.Boot.{booted_kernel, boot}
 use Rattle.brd_board.specs.Board.{BoardState, Happened, with_executed, happens, happens_on, after, stepped_in, accepts_or_executes, executes_in, instruction_done}

@@ -1,5 +1,5 @@
 -- What an event does to who holds spin locks.
-use Rattle.std.specs.Prelude.{◌≡◌, ℕ, Option, None, Some}
+use Rattle.std.specs.Prelude.{◌≡◌, ℕ, Some}
 use Rattle.brd_kernel.specs.declared.processor.Spin.TheVariants.{Free, Held}
 use Rattle.brd_kernel.specs.Kernel.{running_on}
 use Rattle.brd_board.specs.declared.event.Event.{Event}

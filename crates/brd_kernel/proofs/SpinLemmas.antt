@@ -1,6 +1,6 @@
 -- Every service call, exception, accepted interrupt and tick leaves each spin lock free or with exactly one holder, which
 -- stands as a holder does.
-use Rattle.std.proofs.Common.{◌≡◌, ℕ, zero, suc, ◌+◌, ◌%◌, ◌^◌, List, [], ◌∷◌, ◌++◌, ◌<◌, ◌≤◌, length, refl, sym, ap, subst, ◌∙◌, arith}
+use Rattle.std.proofs.Common.{◌≡◌, ℕ, zero, suc, ◌+◌, List, [], ◌∷◌, ◌<◌, ◌≤◌, length, refl, sym, ap, subst, ◌∙◌, arith}
 use Rattle.std.specs.Prelude.{Bool, true, false, not, nat_lt, nat_le, ◌==◌, ◌&&◌, ◌||◌, if◌then◌else◌, slice_index_or, slice_set, Option, None, Some, is_some, unwrap_or}
 use Rattle.std.proofs.lemmas.Bool.{true≢false, false≢true}
 use Rattle.std.proofs.lemmas.Bool.Decides.{nat_tests}
@@ -13,7 +13,6 @@ use Rattle.brd_tasks.specs.Status.{waiting_of}
 use Rattle.brd_tasks.specs.Tasks.{changed, with_priority, ready_on, noted, without_activation, first_id}
 use Rattle.brd_time.specs.Time.{last_count, advanced, due_from}
 use Rattle.brd_objects.specs.declared.semaphore.Semaphore.{Semaphore}
-use Rattle.brd_objects.specs.declared.flag.Flag.{Flag}
 use Rattle.brd_objects.specs.declared.sent.Received.{Received}
 use Rattle.brd_objects.specs.Table.{object_at, object_changed}
 use Rattle.brd_objects.specs.Semaphores.{returned, first_waiter}
@@ -28,11 +27,11 @@ use Rattle.brd_kernel.specs.Making.{idle_one, idle_ones}
 use Rattle.brd_kernel.specs.Dispatch.{dispatched_one, dispatched}
 use Rattle.brd_kernel.specs.Holding.{IsHolder, HeldAs, AreLocks}
 use Rattle.brd_kernel.specs.Waits.{ended_in, ticked_on, ticked, faulted_task, faulted_in, ended_by_fault}
-use Rattle.brd_kernel.specs.Services.{with_released, with_satisfied_released, handed_over, unmarked_on, handler_ended, serve_of, caller_on}
+use Rattle.brd_kernel.specs.Services.{unmarked_on, handler_ended, serve_of, caller_on}
 use Rattle.brd_kernel.proofs.ListLemmas.{same-number, written-at}
 use Rattle.brd_kernel.proofs.DispatchLemmas.{at-dispatched}
 use Rattle.brd_kernel.proofs.SameLemmas.{Same, same-ended, same-broken, same-reordered, same-timed, same-satisfied, same-released, same-handed, same-wait}
-use Rattle.brd_kernel.proofs.WalkLemmas.{HoldsNone, HoldsOn, Holding, Keeps, Opens, Takes, Leaves-none, Law, in_semaphore, in_flag, in_senders, in_receivers, serve-leaves}
+use Rattle.brd_kernel.proofs.WalkLemmas.{HoldsOn, Holding, Keeps, Opens, Takes, Leaves-none, Law, in_semaphore, in_flag, in_senders, in_receivers, serve-leaves}
 use Rattle.brd_kernel.proofs.RunningCallLemmas.{IsTaskOf, known_of, MayServe}
 
 -- The same said by processors.

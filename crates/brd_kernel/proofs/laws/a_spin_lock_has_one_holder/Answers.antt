@@ -1,6 +1,4 @@
-use Rattle.std.proofs.Common.{ℕ, refl}
-use Rattle.brd_kernel.specs.Kernel.{KernelState}
-use Rattle.brd_kernel.specs.Holding.{AreLocks}
+use Rattle.std.proofs.Common.{refl}
 use Rattle.brd_kernel.specs.Waits.{ended_by_fault, ticked}
 use Rattle.brd_kernel.specs.Dispatch.{dispatched}
 use Rattle.brd_kernel.proofs.SpinLemmas.{locks-locking, locking-locks, made-locking, locking-ticked, wrote-locking, fault-wrote, dispatch-locking}
