@@ -1,11 +1,11 @@
 -- Where another task runs than before an event, there is no link after it. Only dispatch changes who runs, and it ends
 -- these links.
 use Rattle.std.proofs.Common.{◌≡◌, ◌≤◌, ℕ, zero, suc, List, [], ◌∷◌, refl, sym, ap, ◌∙◌, arith}
-use Rattle.std.specs.Prelude.{Bool, true, false, not, ◌==◌, nat_lt, if◌then◌else◌, filter, Option, None, Some, is_some, unwrap_or, Result, Ok, Err, slice_index_or, slice_set}
+use Rattle.std.specs.Prelude.{Bool, true, false, not, ◌==◌, nat_lt, if◌then◌else◌, filter, Option, None, Some, is_some, unwrap_or, slice_index_or, slice_set}
 use Rattle.std.specs.List.{list_any}
 use Rattle.std.proofs.lemmas.Bool.{true≢false, false≢true}
 use Rattle.std.proofs.lemmas.Bool.Decides.{nat_tests}
-use Rattle.brd_exec.specs.State.{State, advanced}
+use Rattle.brd_exec.specs.State.{State}
 use Rattle.brd_exec.specs.declared.outcome.Outcome.{Outcome}
 use Rattle.brd_exec.specs.declared.outcome.Outcome.TheVariants.{Done, Syscall, Exception}
 use Rattle.brd_link.specs.LinkSet.{LinkSet, linked_address, without}
@@ -15,31 +15,24 @@ use Rattle.brd_tasks.specs.declared.task.Task.{Task}
 use Rattle.brd_kernel.specs.declared.processor.Processor.{Processor}
 use Rattle.brd_kernel.specs.declared.processor.Executor.{Executor}
 use Rattle.brd_kernel.specs.declared.processor.Executor.TheVariants as executor
-use Rattle.brd_kernel.specs.declared.call.Call.{Call}
-use Rattle.brd_kernel.specs.declared.call.Ercd.{Ercd}
-use Rattle.brd_kernel.specs.Kernel.{KernelState, with_tasks, processor_at, running_in, running_on, unmarked, executor_on, context_of, with_context_of, context_on, handles, accepted_line, deliverable, line_at, with_pending, Executed, executed_in, executed}
+use Rattle.brd_kernel.specs.Kernel.{KernelState, with_tasks, processor_at, running_in, running_on, unmarked, executor_on, with_context_of, handles, accepted_line, deliverable, line_at, with_pending, Executed, executed_in, executed}
 use Rattle.brd_kernel.specs.Dispatch.{dispatched, is_same_task, has_changed, changed_processors}
-use Rattle.brd_kernel.specs.Row.{Served}
 use Rattle.brd_kernel.proofs.SameLemmas.{Same, same-ended, same-broken, same-reordered, same-satisfied, same-released, same-handed, same-wait}
 use Rattle.brd_kernel.proofs.SpinLemmas.{same-ticked}
 use Rattle.brd_kernel.proofs.WalkLemmas.{Anything, Law, in_semaphore, in_flag, in_senders, in_receivers, serve-always}
 use Rattle.brd_tasks.specs.declared.status.WaitReason.{WaitReason}
 use Rattle.brd_tasks.specs.declared.status.WaitReason.TheVariants as reason
-use Rattle.brd_tasks.specs.Status.{waiting_of, blocked}
-use Rattle.brd_tasks.specs.Tasks.{task_at, through, changed, with_priority, noted, without_activation}
-use Rattle.brd_time.specs.Time.{with_due, last_count, advanced as time_advanced, due_from}
+use Rattle.brd_tasks.specs.Status.{waiting_of}
+use Rattle.brd_tasks.specs.Tasks.{changed, with_priority, noted, without_activation}
+use Rattle.brd_time.specs.Time.{last_count, advanced as time_advanced}
 use Rattle.brd_objects.specs.declared.semaphore.Semaphore.{Semaphore}
-use Rattle.brd_objects.specs.declared.flag.Flag.{Flag}
-use Rattle.brd_objects.specs.declared.sent.Sent.{Sent}
-use Rattle.brd_objects.specs.declared.sent.Sent.TheVariants.{Handed, Stored, Full}
 use Rattle.brd_objects.specs.declared.sent.Received.{Received}
 use Rattle.brd_objects.specs.Table.{object_at, object_changed}
 use Rattle.brd_objects.specs.Semaphores.{returned, first_waiter}
-use Rattle.brd_objects.specs.Flags.{joined, all_released, with_all_released}
+use Rattle.brd_objects.specs.Flags.{joined}
 use Rattle.brd_objects.specs.DataQueues.{DataQueueState, sent, outcome, forced, forced_outcome, received}
-use Rattle.brd_kernel.specs.Answer.{e_ok}
-use Rattle.brd_kernel.specs.Waits.{can_wait, with_wait, released_in, reason_of, broken_off, ended_in, answer_by, timed_out, all_timed_out, ticked_on, faulted_task, faulted_in}
-use Rattle.brd_kernel.specs.Services.{unmarked_on, caller_on, with_released, with_all_released_in, with_satisfied_of, handed_over}
+use Rattle.brd_kernel.specs.Waits.{with_wait, broken_off, ended_in, ticked_on, faulted_task, faulted_in}
+use Rattle.brd_kernel.specs.Services.{unmarked_on, caller_on}
 use Rattle.brd_sysgate.specs.Gate.{called}
 use Rattle.brd_board.proofs.CallingLemmas.{Calls, called-leaves}
 use Rattle.brd_board.specs.declared.event.Event.{Event}

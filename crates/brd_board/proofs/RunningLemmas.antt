@@ -1,22 +1,12 @@
 -- Who runs is ready, after every list of events from a boot.
-use Rattle.std.proofs.Common.{◌≡◌, ℕ, ◌+◌, List, [], ◌∷◌, get_or, refl, sym, ap, subst, ◌∙◌, arith}
-use Rattle.std.proofs.lemmas.Bool.{false≢true}
-use Rattle.std.specs.Prelude.{Bool, true, false, Option, None, Some, Result, Ok, Err, unwrap_or, is_some, ◌&&◌, if◌then◌else◌, slice_index_or, All}
-use Rattle.std.specs.Option.{option_map}
-use Rattle.brd_exec.specs.State.{State, advanced}
+use Rattle.std.proofs.Common.{◌≡◌, ℕ, ◌+◌, List, [], ◌∷◌, get_or, refl, subst, arith}
+use Rattle.std.specs.Prelude.{Bool, true, false, Result, Ok, Err, ◌&&◌, if◌then◌else◌, All}
 use Rattle.brd_time.specs.Time.{advanced as time_advanced}
-use Rattle.brd_kernel.specs.declared.processor.Processor.{Processor}
-use Rattle.brd_kernel.specs.declared.processor.Executor.{Executor}
-use Rattle.brd_kernel.specs.declared.call.Call.{Call}
-use Rattle.brd_kernel.specs.declared.call.Ercd.{Ercd}
-use Rattle.brd_kernel.specs.Kernel.{KernelState, with_tasks, processor_at, running_in, executor_by, executor_in, executor_on, context_of, context_on, accepted_line}
-use Rattle.brd_kernel.specs.Row.{Served}
+use Rattle.brd_kernel.specs.Kernel.{KernelState, with_tasks, accepted_line}
 use Rattle.brd_kernel.specs.Waits.{ticked_on}
 use Rattle.brd_kernel.specs.Running.{is_ready_on, IsRunning}
-use Rattle.brd_kernel.specs.Services.{caller_on}
 use Rattle.brd_kernel.proofs.RunningLemmas.{listed-ready, HoldsReady, runs-hold, dispatch-runs, context-runs, context-holds}
 use Rattle.brd_kernel.proofs.RunningCallLemmas.{serve-holds, fault-holds, ticked-runs, accepted-runs, pending-runs}
-use Rattle.brd_sysgate.specs.Gate.{changed_in, with_changed_context, served_call, called_in, called, caller_in, caller_of, read_of, written}
 use Rattle.brd_board.specs.declared.event.Event.{Event}
 use Rattle.brd_board.specs.Board.{BoardState, happens, after}
 use Rattle.std.proofs.lemmas.List.Elements.{All-cons, All-nil, All-head, All-tail}
@@ -40,7 +30,7 @@ use Rattle.brd_board.specs.declared.setup.Region.{Region}
 use Rattle.brd_board.specs.declared.setup.Placed.{Placed}
 use Rattle.brd_board.specs.Setup.{value_of, is_code_address, region_of, placed_in, placed_task, setups_from, setups_of, all_started}
 use Rattle.brd_board.specs.Boot.{booted_kernel, boot}
-use Rattle.brd_board.proofs.EventLemmas.{Kept, context-processors, happens-kept, after-kept, all-started-kept, boot-begins}
+use Rattle.brd_board.proofs.EventLemmas.{Kept, happens-kept, after-kept, all-started-kept, boot-begins}
 use Rattle.brd_board.proofs.CallingLemmas.{Calls, called-leaves}
 
 calls-hold : (k : KernelState) (cpu : ℕ) → Calls IsRunning HoldsReady k cpu

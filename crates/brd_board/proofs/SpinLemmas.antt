@@ -1,13 +1,11 @@
--- Each event leaves each spin lock free or with exactly one holder, and takes it from nobody but the processor that makes
--- a step.
-use Rattle.std.proofs.Common.{◌≡◌, ℕ, List, [], ◌∷◌, refl, sym, ap, subst, ◌∙◌, arith}
-use Rattle.std.proofs.lemmas.Bool.{true≢false, false≢true}
-use Rattle.std.proofs.lemmas.Bool.Decides.{nat_tests}
+-- Each event leaves each spin lock free or with exactly one holder, and takes it from nobody but the processor that
+-- makes a step.
+use Rattle.std.proofs.Common.{◌≡◌, ℕ, List, [], ◌∷◌, refl, sym, ap, subst, ◌∙◌}
+use Rattle.std.proofs.lemmas.Bool.{false≢true}
 use Rattle.std.specs.Prelude.{Bool, true, false, ◌==◌, nat_lt, if◌then◌else◌, slice_index_or, Option, None, Some, is_some, unwrap_or, Ok}
-use Rattle.brd_exec.specs.State.{State}
 use Rattle.brd_exec.specs.declared.outcome.Outcome.{Outcome}
 use Rattle.brd_exec.specs.declared.outcome.Outcome.TheVariants.{Done, Syscall, Exception}
-use Rattle.brd_link.specs.LinkSet.{LinkSet, without}
+use Rattle.brd_link.specs.LinkSet.{LinkSet}
 use Rattle.brd_mem.specs.Memory.{Memory}
 use Rattle.brd_mem.specs.declared.image.Image.{Image}
 use Rattle.brd_config.specs.Configuration.{Configuration}
@@ -19,7 +17,7 @@ use Rattle.brd_kernel.specs.declared.processor.LineSetup.{LineSetup}
 use Rattle.brd_kernel.specs.declared.processor.Processor.{Processor}
 use Rattle.brd_kernel.specs.declared.processor.Spin.TheVariants as spin
 use Rattle.brd_kernel.specs.declared.processor.Executor.{Executor}
-use Rattle.brd_kernel.specs.Kernel.{KernelState, with_tasks, processor_at, running_in, running_on, executor_on, context_of, with_context_of, holds, spin_of, accepted_line, deliverable, line_at, with_pending, Executed, executed_in, executed}
+use Rattle.brd_kernel.specs.Kernel.{KernelState, with_tasks, processor_at, running_in, running_on, executor_on, with_context_of, holds, spin_of, accepted_line, deliverable, line_at, with_pending, Executed, executed_in, executed}
 use Rattle.brd_kernel.specs.Dispatch.{dispatched}
 use Rattle.brd_kernel.specs.Holding.{AreLocks}
 use Rattle.brd_kernel.specs.Making.{made_kernel}
@@ -27,11 +25,10 @@ use Rattle.brd_kernel.specs.Waits.{ticked_on, ended_by_fault}
 use Rattle.brd_kernel.specs.Services.{serve_of}
 use Rattle.brd_kernel.proofs.ListLemmas.{same-number}
 use Rattle.brd_kernel.proofs.SameLemmas.{Same, same-context}
-use Rattle.brd_kernel.proofs.SpinLemmas.{IsLocking, locks-locking, locking-locks, held-holds, holds-held, free-unheld, Wrote, same-wrote, serve-wrote, fault-wrote, accept-wrote, same-ticked, same-pending, locking-same, wrote-locking, wrote-runs, dispatch-holds, holder-stays, dispatch-locking, made-locking}
+use Rattle.brd_kernel.proofs.SpinLemmas.{IsLocking, locks-locking, locking-locks, held-holds, holds-held, free-unheld, Wrote, serve-wrote, fault-wrote, accept-wrote, same-ticked, same-pending, locking-same, wrote-locking, wrote-runs, dispatch-holds, holder-stays, dispatch-locking, made-locking}
 use Rattle.brd_sysgate.specs.Gate.{called}
 use Rattle.brd_board.specs.declared.event.Event.{Event}
 use Rattle.brd_board.specs.declared.event.Event.TheVariants.{Step, Tick, Raise}
-use Rattle.brd_board.specs.declared.event.Report.TheVariants as report
 use Rattle.brd_board.specs.Setup.{all_started}
 use Rattle.brd_board.specs.Boot.{booted_kernel, boot}
 use Rattle.brd_board.specs.Board.{BoardState, Happened, with_executed, happens, happens_on, after, stepped_in, accepts_or_executes, executes_in, instruction_done}
@@ -94,16 +91,19 @@ passes-from moves k mid new same is = record {
   runs = λ at id held. is.runs at id held ∙ ap (λ ps. running_in (slice_index_or ps at None)) same.processors;
 }
 
-calls-pass : (k : KernelState) (cpu : ℕ) → IsLocking k → Calls (λ now. Same now k) (λ new. Passes (λ at. cpu == at) k new) k cpu
+calls-pass : (k : KernelState) (cpu : ℕ) → IsLocking k →
+    Calls (λ now. Same now k) (λ new. Passes (λ at. cpu == at) k new) k cpu
 calls-pass k cpu was = record {
   quiet = λ now same. same-passes (λ at. cpu == at) k now was same;
   goes_on = λ now who s same.
       let on : Same (with_context_of now cpu who s) now = same-context now cpu who s in
       record { processors = on.processors ∙ same.processors; spin_locks = on.spin_locks ∙ same.spin_locks };
-  replies = λ now who s left. passes-same (λ at. cpu == at) k now (with_context_of now cpu who s) left (same-context now cpu who s);
+  replies = λ now who s left. passes-same (λ at. cpu == at) k now (with_context_of now cpu who s) left
+      (same-context now cpu who s);
   serves = λ now p c same there may is.
       passes-from (λ at. cpu == at) k now (serve_of now cpu c).kernel is
-      (wrote-passes now (serve_of now cpu c).kernel cpu (locking-same k now is was) (serve-wrote now cpu p c there may (locking-same k now is was)));
+      (wrote-passes now (serve_of now cpu c).kernel cpu (locking-same k now is was)
+      (serve-wrote now cpu p c there may (locking-same k now is was)));
 }
 
 called-passes : (k : KernelState) (cpu : ℕ) → IsLocking k → Passes (λ at. cpu == at) k (called k cpu)
@@ -115,7 +115,8 @@ executed-same : (k : KernelState) (cpu : ℕ) (memory : Memory) (links : LinkSet
     executed_in k cpu memory links who ≡ Some e → Same e.kernel k
 executed-same k cpu memory links None e is = absurd (false≢true (ap is_some is))
 executed-same k cpu memory links (Some who) e is =
-    subst (λ (x : KernelState). Same x k) (ap (λ (o : Option Executed). (unwrap_or o e).kernel) is) (same-context k cpu who _)
+    subst (λ (x : KernelState). Same x k) (ap (λ (o : Option Executed). (unwrap_or o e).kernel) is)
+    (same-context k cpu who _)
 
 done-passes : (b c : BoardState) (cpu address : ℕ) (outcome : Outcome) → IsLocking b.kernel → Same c.kernel b.kernel →
     Passes (λ at. cpu == at) b.kernel (instruction_done c cpu address outcome).board.kernel
@@ -133,7 +134,8 @@ done-passes b c cpu address (Exception code epc bd) was same =
 quiet : (moves : ℕ → Bool) (k : KernelState) → IsLocking k → Passes moves k k
 quiet moves k was = same-passes moves k k was (record { processors = refl; spin_locks = refl })
 
-executes-passes : (b : BoardState) (cpu : ℕ) (done : Option Executed) → executed b.kernel cpu b.memory b.links ≡ done → IsLocking b.kernel →
+executes-passes : (b : BoardState) (cpu : ℕ) (done : Option Executed) → executed b.kernel cpu b.memory b.links ≡ done →
+    IsLocking b.kernel →
     Passes (λ at. cpu == at) b.kernel (executes_in b cpu done).board.kernel
 executes-passes b cpu None is was = quiet (λ at. cpu == at) b.kernel was
 executes-passes b cpu (Some e) is was =
@@ -161,7 +163,8 @@ stepped-passes b cpu (Some p) was =
     either (Passes (λ at. cpu == at) b.kernel) p.stopped _ _ (quiet (λ at. cpu == at) b.kernel was)
     (accepts-passes b cpu (deliverable b.kernel cpu) refl was)
 
-on-passes : (b : BoardState) (event : Event) → IsLocking b.kernel → Passes (mover event) b.kernel (happens_on b event).board.kernel
+on-passes : (b : BoardState) (event : Event) → IsLocking b.kernel →
+    Passes (mover event) b.kernel (happens_on b event).board.kernel
 on-passes b (Step cpu) was = stepped-passes b cpu (processor_at b.kernel cpu) was
 on-passes b Tick was =
     either (Passes (mover Tick) b.kernel) (nat_lt b.kernel.time.count last_count) _ _
@@ -173,12 +176,15 @@ on-passes b (Raise line) was =
     (same-passes (mover (Raise line)) b.kernel (with_pending b.kernel line) was (same-pending b.kernel line))
     (quiet (mover (Raise line)) b.kernel was)
 
-happens-passes : (b : BoardState) (event : Event) → IsLocking b.kernel → Passes (mover event) b.kernel (happens b event).board.kernel
+happens-passes : (b : BoardState) (event : Event) → IsLocking b.kernel →
+    Passes (mover event) b.kernel (happens b event).board.kernel
 unfolding happens
-happens-passes b event was = either (Passes (mover event) b.kernel) b.kernel.off _ _ (quiet (mover event) b.kernel was) (on-passes b event was)
+happens-passes b event was =
+    either (Passes (mover event) b.kernel) b.kernel.off _ _ (quiet (mover event) b.kernel was) (on-passes b event was)
 
 pub happens-locks : (b : BoardState) (event : Event) → AreLocks b.kernel → AreLocks (happens b event).board.kernel
-happens-locks b event was = locking-locks (happens b event).board.kernel (happens-passes b event (locks-locking b.kernel was)).locking
+happens-locks b event was =
+    locking-locks (happens b event).board.kernel (happens-passes b event (locks-locking b.kernel was)).locking
 
 after-locking : (b : BoardState) (events : List Event) → IsLocking b.kernel → IsLocking (after b events).kernel
 after-locking b [] was = was
@@ -186,20 +192,26 @@ after-locking b (event ∷ events) was = after-locking (happens b event).board e
 
 -- Boot.
 
-booted-locking : (config : Configuration) (s : List TaskSetup) (l : List LineSetup) → IsLocking (booted_kernel s l config)
+booted-locking : (config : Configuration) (s : List TaskSetup) (l : List LineSetup) →
+    IsLocking (booted_kernel s l config)
 booted-locking config s l =
-    let first : KernelState = made_kernel config.processors s l config.semaphores config.flags config.queues config.spin_locks in
+    let first : KernelState =
+    made_kernel config.processors s l config.semaphores config.flags config.queues config.spin_locks in
     dispatch-locking (with_tasks first (all_started first.tasks config.tasks))
     (all-started-kept {P = IsLocking}
-    (λ k id was. locking-same k (with_tasks k (activated k.tasks id Assigned)) (record { processors = refl; spin_locks = refl }) was) first config.tasks
+    (λ k id was. locking-same k (with_tasks k (activated k.tasks id Assigned))
+    (record { processors = refl; spin_locks = refl }) was) first config.tasks
     (made-locking first config.processors refl))
 
-boot-locking : (image : Image) (config : Configuration) (b : BoardState) (events : List Event) → boot image config ≡ Ok b →
+boot-locking : (image : Image) (config : Configuration) (b : BoardState) (events : List Event) →
+    boot image config ≡ Ok b →
     IsLocking (after b events).kernel
 boot-locking image config b events is =
-    after-locking b events (boot-begins (λ x. IsLocking x.kernel) image config b (λ s l m good. booted-locking config s l) is)
+    after-locking b events
+    (boot-begins (λ x. IsLocking x.kernel) image config b (λ s l m good. booted-locking config s l) is)
 
-pub boot-locks : (image : Image) (config : Configuration) (b : BoardState) (events : List Event) → boot image config ≡ Ok b →
+pub boot-locks : (image : Image) (config : Configuration) (b : BoardState) (events : List Event) →
+    boot image config ≡ Ok b →
     AreLocks (after b events).kernel
 boot-locks image config b events is = locking-locks (after b events).kernel (boot-locking image config b events is)
 
@@ -221,8 +233,10 @@ moves-step Tick cpu is = absurd (false≢true is)
 moves-step (Raise line) cpu is = absurd (false≢true is)
 
 -- who holds a lock after an event held it before, or moved
-taken-by : (moves : Bool) (event : Event) (b : BoardState) (new : KernelState) (id cpu : ℕ) → mover event cpu ≡ moves → Passes (mover event) b.kernel new →
-    spin_of b.kernel id ≡ Some spin.Free → IsLocking b.kernel → holds id (processor_at new cpu) ≡ true → event ≡ Step cpu
+taken-by : (moves : Bool) (event : Event) (b : BoardState) (new : KernelState) (id cpu : ℕ) → mover event cpu ≡ moves →
+    Passes (mover event) b.kernel new →
+    spin_of b.kernel id ≡ Some spin.Free → IsLocking b.kernel → holds id (processor_at new cpu) ≡ true →
+    event ≡ Step cpu
 taken-by true event b new id cpu test passes free was held = moves-step event cpu test
 taken-by false event b new id cpu test passes free was held =
     absurd (false≢true (sym (free-unheld b.kernel id cpu was free) ∙ sym (passes.others cpu id test) ∙ held))
@@ -233,8 +247,10 @@ one-moves (Step at) cpu other is also = sym (same-number at other also) ∙ same
 one-moves Tick cpu other is also = absurd (false≢true is)
 one-moves (Raise line) cpu other is also = absurd (false≢true is)
 
-freed-by : (one two : Bool) (event : Event) (k new : KernelState) (id cpu other : ℕ) → mover event cpu ≡ one → mover event other ≡ two →
-    Passes (mover event) k new → IsLocking k → holds id (processor_at k cpu) ≡ true → holds id (processor_at new other) ≡ true → other ≡ cpu
+freed-by : (one two : Bool) (event : Event) (k new : KernelState) (id cpu other : ℕ) → mover event cpu ≡ one →
+    mover event other ≡ two →
+    Passes (mover event) k new → IsLocking k → holds id (processor_at k cpu) ≡ true → holds id
+    (processor_at new other) ≡ true → other ≡ cpu
 freed-by true true event k new id cpu other test also passes was held now = one-moves event cpu other test also
 freed-by one false event k new id cpu other test also passes was held now =
     was.one cpu other id held (sym (passes.others other id also) ∙ now)
@@ -247,13 +263,17 @@ goes-on b event was =
     let passes : Passes (mover event) b.kernel new = happens-passes b event was in
     record {
       kept = λ id cpu is other.
-          holds-held new id cpu passes.locking (passes.others cpu id (other-moves event cpu other) ∙ held-holds b.kernel id cpu was is);
-      freed = λ id cpu other is now. freed-by (mover event cpu) (mover event other) event b.kernel new id cpu other refl refl passes was
+          holds-held new id cpu passes.locking
+          (passes.others cpu id (other-moves event cpu other) ∙ held-holds b.kernel id cpu was is);
+      freed = λ id cpu other is now. freed-by (mover event cpu)
+          (mover event other) event b.kernel new id cpu other refl refl passes was
           (held-holds b.kernel id cpu was is) (held-holds new id other passes.locking now);
-      taken = λ id cpu is now. taken-by (mover event cpu) event b new id cpu refl passes is was (held-holds new id cpu passes.locking now);
+      taken = λ id cpu is now. taken-by (mover event cpu) event b new id cpu refl passes is was
+          (held-holds new id cpu passes.locking now);
       runs = λ id cpu now. passes.runs cpu id (held-holds new id cpu passes.locking now);
     }
 
-pub boot-goes-on : (image : Image) (config : Configuration) (b : BoardState) (events : List Event) (event : Event) → boot image config ≡ Ok b →
+pub boot-goes-on : (image : Image) (config : Configuration) (b : BoardState) (events : List Event) (event : Event) →
+    boot image config ≡ Ok b →
     LocksGoOn (after b events) event (happens (after b events) event).board
 boot-goes-on image config b events event is = goes-on (after b events) event (boot-locking image config b events is)

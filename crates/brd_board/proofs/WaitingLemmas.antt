@@ -1,17 +1,12 @@
 -- Who waits stands in the list of what it waits for, after every list of events from a boot.
 use Rattle.std.proofs.Common.{◌≡◌, ℕ, List}
-use Rattle.std.specs.Prelude.{Option, None, Some, Result, Ok, Err}
-use Rattle.brd_exec.specs.State.{State, advanced}
+use Rattle.std.specs.Prelude.{Ok}
 use Rattle.brd_mem.specs.declared.image.Image.{Image}
 use Rattle.brd_config.specs.Configuration.{Configuration}
 use Rattle.brd_tasks.specs.declared.task.TaskSetup.{TaskSetup}
 use Rattle.brd_tasks.specs.declared.task.Request.TheVariants.{Assigned}
 use Rattle.brd_kernel.specs.declared.processor.LineSetup.{LineSetup}
-use Rattle.brd_kernel.specs.declared.processor.Executor.{Executor}
-use Rattle.brd_kernel.specs.declared.call.Call.{Call}
-use Rattle.brd_kernel.specs.declared.call.Ercd.{Ercd}
-use Rattle.brd_kernel.specs.Kernel.{KernelState, with_tasks, executor_on, context_of, context_on}
-use Rattle.brd_kernel.specs.Row.{Served}
+use Rattle.brd_kernel.specs.Kernel.{KernelState, with_tasks}
 use Rattle.brd_kernel.specs.Making.{made_kernel}
 use Rattle.brd_kernel.specs.Waiting.{WaitsAreKept}
 use Rattle.brd_kernel.proofs.ServiceLemmas.{serve-keeps, ticked-keeps, fault-keeps, context-keeps, dispatched-keeps, pending-keeps, accepted-keeps}

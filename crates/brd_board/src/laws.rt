@@ -82,8 +82,8 @@ pub fn conditional_stores()
 {}
 
 /// After every list of events from a boot a spin lock is free, and then no processor holds it, or exactly one processor
-/// holds it. A processor that holds one is CPU-locked, handles no interrupt and isn't stopped, and a task runs on it. No
-/// event ends this.
+/// holds it. A processor that holds one is CPU-locked, handles no interrupt and isn't stopped, and a task runs on it.
+/// No event ends this.
 ///
 /// A lock becomes free only by a step of the processor that holds it, and a processor takes one only by a step of its
 /// own. While it holds one, its running task stays: it is the one that took the lock.
@@ -92,8 +92,9 @@ pub fn a_spin_lock_has_one_holder()
         boot image config ≡ Ok board → AreLocks (after board events).kernel }
     ensures event { (board : BoardState) (event : EventOf) →
         AreLocks board.kernel → AreLocks (happens board event).board.kernel }
-    ensures goes_on { (image : ImageOf) (config : Configuration) (board : BoardState) (events : List EventOf) (event : EventOf) →
-        boot image config ≡ Ok board → LocksGoOn (after board events) event (happens (after board events) event).board }
+    ensures goes_on { (image : ImageOf) (config : Configuration) (board : BoardState) (events : List EventOf)
+        (event : EventOf) → boot image config ≡ Ok board →
+        LocksGoOn (after board events) event (happens (after board events) event).board }
 {}
 
 /// A board that is off stays as it is: whatever happens, it reports Off and nothing else, and after every list of

@@ -24,7 +24,8 @@ pub record Same (new old : KernelState) : Type 0 where
   pub spin_locks : new.spin_locks ≡ old.spin_locks
 
 pub same-then : {a b c : KernelState} → Same a b → Same b c → Same a c
-same-then first second = record { processors = first.processors ∙ second.processors; spin_locks = first.spin_locks ∙ second.spin_locks }
+same-then first second =
+    record { processors = first.processors ∙ second.processors; spin_locks = first.spin_locks ∙ second.spin_locks }
 
 pub same-context : (k : KernelState) (cpu : ℕ) (who : Executor) (s : State) → Same (with_context_of k cpu who s) k
 same-context k cpu executor.Handler s = record { processors = refl; spin_locks = refl }
@@ -33,14 +34,19 @@ same-context k cpu (executor.Task id) s = record { processors = refl; spin_locks
 same-lists : {k new : KernelState} → OnlyLists k new → Same new k
 same-lists only = record { processors = only.processors; spin_locks = only.spin_locks }
 
-pub same-reordered : (k : KernelState) (id priority : ℕ) (why : Option WaitReason) → Same (reordered_in k id priority why) k
+pub same-reordered : (k : KernelState) (id priority : ℕ) (why : Option WaitReason) →
+    Same (reordered_in k id priority why) k
 same-reordered k id priority why = same-lists (reordered-only k id priority why)
 
 pub same-ended : (k : KernelState) (id : ℕ) → Same (ended_in k id) k
-same-ended k id = let only = unlisted-only k id (reason_of k id) in record { processors = only.processors; spin_locks = only.spin_locks }
+same-ended k id =
+    let only = unlisted-only k id (reason_of k id) in record
+    { processors = only.processors; spin_locks = only.spin_locks }
 
 pub same-broken : (k : KernelState) (id answer : ℕ) → Same (broken_off k id answer) k
-same-broken k id answer = let only = unlisted-only k id (reason_of k id) in record { processors = only.processors; spin_locks = only.spin_locks }
+same-broken k id answer =
+    let only = unlisted-only k id (reason_of k id) in record
+    { processors = only.processors; spin_locks = only.spin_locks }
 
 pub same-timed : (k : KernelState) (ids : List ℕ) → Same (all_timed_out k ids) k
 same-timed k [] = record { processors = refl; spin_locks = refl }
@@ -57,7 +63,8 @@ pub same-satisfied : (k : KernelState) (id : ℕ) (found : Option Flag) → Same
 same-satisfied k id None = record { processors = refl; spin_locks = refl }
 same-satisfied k id (Some f) =
     let new : KernelState = record k { flags = object_changed with_all_released k.flags id } in
-    let rest : Same (with_all_released_in new (all_released f) f.pattern) new = same-all_released new (all_released f) f.pattern in
+    let rest : Same (with_all_released_in new (all_released f) f.pattern) new =
+    same-all_released new (all_released f) f.pattern in
     record { processors = rest.processors; spin_locks = rest.spin_locks }
 
 pub same-released : (k : KernelState) (id : Option ℕ) → Same (with_released k id) k
@@ -73,7 +80,8 @@ same-if : (test : Bool) (one k : KernelState) → Same one k → Same (if test t
 same-if true one k same = same
 same-if false one k same = record { processors = refl; spin_locks = refl }
 
-pub same-wait : (k : KernelState) (caller : ℕ) (why : WaitReason) (due : Option ℕ) (entered : KernelState) → Same entered k →
+pub same-wait : (k : KernelState) (caller : ℕ) (why : WaitReason) (due : Option ℕ) (entered : KernelState) →
+    Same entered k →
     Same (with_wait k caller why due entered) k
 same-wait k caller why due entered same =
     same-if (can_wait (task_at k.tasks caller))

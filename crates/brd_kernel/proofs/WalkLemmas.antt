@@ -55,8 +55,8 @@ in_senders k caller id datum = record k { queues = object_changed (awaited_by_se
 abbrev pub in_receivers : KernelState → ℕ → ℕ → KernelState
 in_receivers k caller id = record k { queues = object_changed (awaited_by_receiver caller (callers_priority k caller)) k.queues id }
 
--- What the gate may have shown of a caller: its processor isn't held; it is the task that runs there, and no handler; its
--- processor holds no spin lock.
+-- What the gate may have shown of a caller: its processor isn't held; it is the task that runs there, and no handler;
+-- its processor holds no spin lock.
 pub data Fact : Type 0 where
   Unheld : Fact
   OfTask : Fact
@@ -69,17 +69,18 @@ pub record HoldsOn (p q : Processor) : Type 0 where
   pub handling : q.handling ≡ p.handling
   pub on : q.stopped ≡ p.stopped
 
--- What becomes of the spin lock of a processor `p` that is then `q`: it keeps it; it is no longer CPU-locked, as it holds
--- none; it takes one that is free; or it holds none after it.
+-- What becomes of the spin lock of a processor `p` that is then `q`: it keeps it; it is no longer CPU-locked, as it
+-- holds none; it takes one that is free; or it holds none after it.
 pub data Holding (Known : Fact → Type 0) (k : KernelState) (p q : Processor) : Type 0 where
   Keeps : HoldsOn p q → Holding Known k p q
   Opens : Known HoldsNone → q.spin ≡ p.spin → Holding Known k p q
   Takes : (id : ℕ) → spin_of k id ≡ Some spin.Free → Known OfTask → q ≡ holding id p → Holding Known k p q
   Leaves-none : q.spin ≡ None → Holding Known k p q
 
--- What a law says of each effect that a call of a caller on a processor can have: `Q` is what holds after it. `Known` is
--- what is known of the caller: that its processor isn't held where it stops running (it waits, or suspends or migrates
--- itself), that it is a task where it ends or takes a spin lock, and that it holds none where the CPU lock is taken away.
+-- What a law says of each effect that a call of a caller on a processor can have: `Q` is what holds after it. `Known`
+-- is what is known of the caller: that its processor isn't held where it stops running (it waits, or suspends or
+-- migrates itself), that it is a task where it ends or takes a spin lock, and that its processor holds none where the
+-- CPU lock is taken away.
 pub record Law (Known : Fact → Type 0) (Q : KernelState → Type 0) (k : KernelState) (cpu caller : ℕ) : Type 0 where
   -- nothing changes
   pub stays : Q k
@@ -139,8 +140,8 @@ pub record Law (Known : Fact → Type 0) (Q : KernelState → Type 0) (k : Kerne
   pub writes : (word : ℕ) → Q (record k { console = k.console ++ word % 2 ^ 8 ∷ [] })
   pub ends_all : Q (record k { off = true })
 
--- What a call may do to its caller: it goes on; it takes a spin lock; it is no longer CPU-locked; it may wait for so long,
--- or for 0 only polls; it waits; it names the task that is to stop, which may be itself; or it ends.
+-- What a call may do to its caller: it goes on; it takes a spin lock; it is no longer CPU-locked; it may wait for so
+-- long, or for 0 only polls; it waits; it names the task that is to stop, which may be itself; or it ends.
 pub data Stop : Type 0 where
   GoesOn : Stop
   Locks : Stop

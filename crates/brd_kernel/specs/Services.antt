@@ -1,8 +1,8 @@
 -- The service table: a row a call, in the order of their numbers (uITRON 4.0 specification; mact_tsk, imact_tsk,
--- mig_tsk, get_pid and the calls of spin locks: TOPPERS/FMP; put_chr, ext_ker and ret_int, what spin locks are here, the
--- refusals and their order: own choice). A row begins with the object that the call names and refuses nothing but an ID
--- that is none (E_ID, E_NOEXS); what it fills in is what its line of the table says. T is a task's ID, T0 may be 0 for
--- the caller, L is a spin lock's.
+-- mig_tsk, get_pid and the calls of spin locks: TOPPERS/FMP; put_chr, ext_ker and ret_int, how spin locks behave, the
+-- refusals and their order: own choice). A row begins with the object that the call names and refuses nothing but an
+-- ID that is none (E_ID, E_NOEXS); what it fills in is what its line of the table says. T is a task's ID, T0 may be 0
+-- for the caller, L is a spin lock's.
 use Rattle.std.specs.Prelude.{ℕ, ◌%◌, ◌^◌, ◌-◌, ◌==◌, nat_lt, nat_le, Bool, true, false, not, ◌&&◌, ◌||◌, if◌then◌else◌}
 use Rattle.std.specs.Prelude.{List, [], ◌∷◌, ◌++◌, length, slice_set, Option, None, Some, is_some, unwrap_or, Result, Err}
 use Rattle.brd_tasks.specs.declared.status.Status.{Status}

@@ -45,10 +45,10 @@ pub fn who_waits_stands_in_its_list()
     ensures fault { (k : KernelState) (cpu : ℕ) → WaitsAreKept k → WaitsAreKept (ended_by_fault k cpu) }
 {}
 
-/// This holds of a kernel as it is made, and every tick, exception and dispatch keeps it (as does every service call that
-/// the gate lets through, `laws` of brd_board): each spin lock is free, and then no processor holds it, or exactly one
-/// processor holds it; and a processor that holds one is CPU-locked, handles no interrupt and isn't stopped, and a task
-/// runs on it.
+/// This holds of a kernel as it is made, and every tick, exception and dispatch keeps it (as does every service call
+/// that the gate lets through, `laws` of brd_board): each spin lock is free, and then no processor holds it, or exactly
+/// one processor holds it; and a processor that holds one is CPU-locked, handles no interrupt and isn't stopped, and a
+/// task runs on it.
 pub fn a_spin_lock_has_one_holder()
     ensures made { (processors : ℕ) (setups : List SetupOf) (lines : List LineOf) (semaphores : List SemaphoreConfig) (flags : List FlagConfig) (queues : List QueueConfig) (spin_locks : List SpinLockConfig) → AreLocks (made_kernel processors setups lines semaphores flags queues spin_locks) }
     ensures tick { (k : KernelState) → AreLocks k → AreLocks (ticked k) }

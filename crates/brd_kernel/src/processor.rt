@@ -1,7 +1,17 @@
 //! The processors and the interrupt lines as the kernel sees them.
 
 ghost use Rattle.std.specs.Prelude.{◌≡◌, ◌≤◌, length, Some};
-ghost use Rattle.brd_kernel.specs.Kernel.{executor_in, is_held, idle, unmarked, holds, holding, letting_go, holder_from, quiet};
+ghost use Rattle.brd_kernel.specs.Kernel.{
+  executor_in,
+  is_held,
+  idle,
+  unmarked,
+  holds,
+  holding,
+  letting_go,
+  holder_from,
+  quiet,
+};
 ghost use Rattle.brd_kernel.specs.Always.{task_executing};
 
 use brd_base::Same;

@@ -197,7 +197,8 @@ is_again k (Err code) = false
 
 -- what a call does: where it is to be made again nothing; else the context goes on, and then the call is served
 abbrev pub called_for : KernelState → ℕ → Result Call Ercd → KernelState
-called_for k cpu call = if is_again k call then k else replied cpu (served_call (with_changed_context advanced k cpu) cpu call)
+called_for k cpu call =
+    if is_again k call then k else replied cpu (served_call (with_changed_context advanced k cpu) cpu call)
 
 abbrev pub called_in : KernelState → ℕ → Caller → Option State → KernelState
 called_in k cpu caller None = k
