@@ -18,7 +18,7 @@ use Rattle.brd_kernel.specs.declared.processor.Line.{Line}
 use Rattle.brd_kernel.specs.declared.processor.LineSetup.{LineSetup}
 use Rattle.brd_kernel.specs.Kernel.{KernelState, idle, quiet}
 
--- the processor of a number on a board that has so many, counted from 1
+-- the processor of a number on a board that has n, counted from 1
 abbrev pub idle_one : ℕ → ℕ → Option Processor
 idle_one processors cpu = if nat_le 1 cpu && nat_le cpu processors then Some idle else None
 

@@ -259,7 +259,7 @@ abbrev pub get_pid : KernelState → ℕ → Row (Unit {0})
 get_pid k cpu = record (on_nothing k) { does = λ x. ok_with k cpu }
 
 -- 10 rot_rdq priority. Refuses: PAR not 0 to 16. On the caller's processor, the first ready task of that priority goes
--- behind its equals.
+-- after its equals.
 abbrev pub rot_rdq : KernelState → ℕ → ℕ → ℕ → Row Processor
 rot_rdq k cpu caller priority = record (on_own_processor k cpu) {
   bad_par = nat_lt 16 priority;
@@ -326,7 +326,7 @@ rsm_tsk k id = record (on_task k id) {
   does = λ task. ok (with_tasks k (through resumed k.tasks id));
 }
 
--- 23 dly_tsk time. Refuses: PAR above 0x7FFFFFFF. Waits for so long.
+-- 23 dly_tsk time. Refuses: PAR above 0x7FFFFFFF. Waits for n ticks.
 abbrev pub dly_tsk : KernelState → ℕ → ℕ → Row Task
 dly_tsk k caller time = record (on_caller k caller) {
   bad_par = nat_lt longest_delay time;

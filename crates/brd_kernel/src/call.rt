@@ -28,7 +28,7 @@ pub enum Call {
     MigTsk(u32, u32),
     /// Tells the caller's processor.
     GetPid,
-    /// Puts the first ready task of a priority behind its equals.
+    /// Puts the first ready task of a priority after its equals.
     RotRdq(u32),
     /// The same, from a handler.
     IrotRdq(u32),
