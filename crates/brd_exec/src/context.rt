@@ -1,6 +1,6 @@
 //! The context of a processor.
 
-ghost use Rattle.std.specs.Prelude.{◌≡◌, length, slice_index};
+ghost use Rattle.std.specs.Prelude.{◌≡◌, ◌≤◌, ◌<◌, ◌^◌, length, slice_index};
 ghost use Rattle.brd_exec.specs.State.{
   opening,
   read,
@@ -81,6 +81,15 @@ impl Context {
         self.registers[register.number() as usize]
     }
 
+    /// The word of the register with a number.
+    #[inline(always)]
+    pub fn word(&self, number: u8) -> u32
+        requires { number < 2 ^ 5 }
+        ensures { result ≡ read self.now number }
+    {
+        self.registers[number as usize]
+    }
+
     /// The words of the 32 registers, in the order of their numbers; that of register 0 is 0.
     pub fn registers(&self) -> &[u32]
         ensures words { result.now ≡ self.now.registers }
@@ -132,6 +141,26 @@ impl Context {
         if register.number() != 0 {
             self.registers[register.number() as usize] = word;
         }
+    }
+
+    /// Writes a word to the register with a number, which isn't 0.
+    #[inline(always)]
+    pub fn put(&mut self, number: u8, word: u32)
+        requires few { number < 2 ^ 5 }
+        requires some { 1 ≤ number }
+        ensures { self.new ≡ write self.old number word }
+    {
+        self.registers[number as usize] = word;
+    }
+
+    /// Goes to an instruction, with the address of the one after it, and whether it is in a delay slot.
+    #[inline(always)]
+    pub fn go_to(&mut self, pc: u32, npc: u32, slot: bool)
+        ensures { self.new ≡ record self.old { pc = pc; npc = npc; slot = slot } }
+    {
+        self.pc = pc;
+        self.npc = npc;
+        self.slot = slot;
     }
 
     /// Goes on to the next instruction.

@@ -15,8 +15,13 @@ mod outcome;
 mod storing;
 mod value;
 
+pub use access::{load, store};
 pub use context::Context;
 pub use execute::run;
 pub use local::run_local;
 pub use outcome::{ExceptionCode, Outcome};
 pub use storing::may_store;
+pub use value::{
+    accumulate_value, count_value, is_signed_below, multiply_value, product_value, shift_value,
+    shift_variable_value,
+};

@@ -89,7 +89,7 @@ fn is_below_zero(word: u32) -> bool
 
 /// Whether one word is below another, read signed.
 #[inline(always)]
-fn is_signed_below(a: u32, b: u32) -> bool
+pub fn is_signed_below(a: u32, b: u32) -> bool
     ensures { result ≡ is_below a b }
 {
     a.cast_signed() < b.cast_signed()

@@ -1,6 +1,6 @@
 //! The RAM.
 
-ghost use Rattle.std.specs.Prelude.{◌≡◌, Decides, ℕ, ◌+◌, ◌-◌, ◌*◌, ◌%◌, ◌^◌, ◌<◌, ◌≤◌, ◌↔◌, ◌++◌, length, bytes_eq, true, OnOk, IfOk, IsErrOf};
+ghost use Rattle.std.specs.Prelude.{◌≡◌, Decides, ℕ, ◌+◌, ◌-◌, ◌*◌, ◌%◌, ◌^◌, ◌<◌, ◌≤◌, ◌↔◌, ◌++◌, length, bytes_eq, true, Ok, OnOk, IfOk, IsErrOf};
 ghost use Rattle.brd_base.specs.Space.{base, IsRamSize};
 ghost use Rattle.brd_word.specs.Words.{bytes_of_word};
 ghost use Rattle.brd_mem.specs.Memory.{Memory, memory_of_bytes, size_of, zeros, contains, bytes_at, with_bytes, copied, byte_at};
@@ -133,6 +133,16 @@ impl Ram {
     {
         let at = self.place(address, 4, Exc::AdEL, Exc::IBE)?;
         Ok(word_of(self.bytes_at(at), self.order))
+    }
+
+    /// The instruction word at an aligned address in RAM, given by its place: how many bytes lie before it.
+    #[inline(always)]
+    pub fn fetch_at(&self, at: usize) -> u32
+        requires aligned { at % 4 ≡ 0 }
+        requires inside { at + 4 ≤ size_of self.now }
+        ensures { fetched self.now (base + at) ≡ Ok result }
+    {
+        word_of(self.bytes_at(at), self.order)
     }
 
     /// The 64 words of the aligned 256 bytes round an address; None where these don't lie in RAM.

@@ -1,0 +1,3 @@
+pub mod PlanLemmas
+pub mod StepLemmas
+pub mod TurnLemmas

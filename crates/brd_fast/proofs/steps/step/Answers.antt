@@ -1,0 +1,28 @@
+use Rattle.std.proofs.Common.{◌≡◌, ◌+◌, ◌*◌, ◌<◌, ◌^◌, subst, arith}
+use Rattle.std.specs.Prelude.{Ok}
+use Rattle.brd_mem.specs.Access.{fetched}
+use Rattle.brd_fast.specs.Place.{state_of}
+use Rattle.brd_fast.proofs.StepLemmas.{entry-steps, step-size}
+use Rattle.brd_fast.proofs.steps.step.Goals as goal
+
+pub returns-in-Some-clause-step : goal.returns-in-Some-clause-step
+returns-in-Some-clause-step c =
+    let small : c.index_of-index.result < 2 ^ 22 = omega (arith, c.requires.few, c.if-index-words.false) in
+    let at : 0x80000000 + 4 * c.index_of-index.result ≡ c.args.place.now.pc = c.index_of-index.ensures small in
+    entry-steps c.in-Some.entry.now c.args.cpu (state_of c.args.context.now c.args.place.now) c.args.ram.now c.args.links.now
+    c.fetch_at-word.result c.carry_out.result (state_of c.carry_out.new.context c.carry_out.new.place) c.carry_out.new.ram
+    c.carry_out.new.links
+    (subst (λ pc. fetched c.args.ram.now pc ≡ Ok c.fetch_at-word.result) at c.fetch_at-word.ensures)
+    c.in-Some.ensures c.carry_out.ensures
+
+pub returns-in-Some-clause-same_size : goal.returns-in-Some-clause-same_size
+returns-in-Some-clause-same_size c =
+    step-size c.args.cpu
+    (record { state = state_of c.args.context.now c.args.place.now; memory = c.args.ram.now; links = c.args.links.now })
+    c.carry_out.result
+    (record {
+      state = state_of c.carry_out.new.context c.carry_out.new.place;
+      memory = c.carry_out.new.ram;
+      links = c.carry_out.new.links;
+    })
+    (returns-in-Some-clause-step c)

@@ -1,0 +1,4 @@
+pub mod Place
+pub mod Plans
+pub mod Moves
+pub mod Steps

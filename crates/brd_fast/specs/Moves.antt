@@ -1,0 +1,31 @@
+-- What the functions that do an entry leave and answer: only private functions' contracts name these.
+use Rattle.std.specs.Prelude.{◌≡◌, Bool, true, false, Option, None, Some, Result, Ok, Err}
+use Rattle.brd_mem.specs.Memory.{Memory}
+use Rattle.brd_link.specs.LinkSet.{LinkSet}
+use Rattle.brd_exec.specs.declared.outcome.Stop.{Stop}
+use Rattle.brd_exec.specs.State.{State}
+use Rattle.brd_exec.specs.Went.{Machine}
+
+-- it was done, and this context is there
+abbrev pub Moves : State → Bool → State → Type 0
+Moves after result new = (result ≡ true) × (new ≡ after)
+
+-- it was done, and this context is there; or where it would stop nothing was done
+abbrev pub Leads : Result State Stop → State → Bool → State → Type 0
+Leads (Ok after) old result new = (result ≡ true) × (new ≡ after)
+Leads (Err stop) old result new = (result ≡ false) × (new ≡ old)
+
+-- a branch or a jump: it was done, and this context is there; or it is in a delay slot, and nothing was done
+abbrev pub TurnsOutside : Bool → State → State → Bool → State → Type 0
+TurnsOutside true after old result new = (result ≡ false) × (new ≡ old)
+TurnsOutside false after old result new = (result ≡ true) × (new ≡ after)
+
+abbrev pub Turns : State → State → Bool → State → Type 0
+Turns after old result new = TurnsOutside old.slot after old result new
+
+-- it was done, and this is there; or there is nothing to be done, and nothing was
+abbrev pub Acts : Option Machine → State → Memory → LinkSet → Bool → State → Memory → LinkSet → Type 0
+Acts None s memory links result new_s new_memory new_links =
+    (result ≡ false) × (new_s ≡ s) × (new_memory ≡ memory) × (new_links ≡ links)
+Acts (Some after) s memory links result new_s new_memory new_links =
+    (result ≡ true) × (new_s ≡ after.state) × (new_memory ≡ after.memory) × (new_links ≡ after.links)
