@@ -27,6 +27,7 @@ ghost use Rattle.brd_mem.specs.Image.{image_of_words, IsLoadable};
 
 mod lending;
 mod saving;
+mod steps;
 mod storing;
 
 use crate::boot::BootFault;
@@ -46,6 +47,7 @@ use brd_sysgate::call;
 use brd_word::Order;
 use std::alloc::Global;
 use std::marker::Model;
+use steps::Code;
 
 /// The size of RAM of a board that is made of words.
 const WORDS_RAM: u32 = 0x1_0000;
@@ -56,6 +58,8 @@ pub struct Board {
     ram: Ram,
     links: Links,
     faults: Vec<Option<Fault>>,
+    /// Its decoded instructions, by which it does many steps in a row: they show in nothing but time.
+    code: Code,
 }
 
 impl Model for Board {
@@ -77,6 +81,7 @@ impl Drop for Board {
             ram: _,
             links: _,
             faults: _,
+            code: _,
         } = self;
     }
 }
@@ -100,6 +105,7 @@ impl Board {
             ram,
             links: Links::new(),
             faults: no_faults(alloc)?,
+            code: Code::Unread(0),
         })
     }
 
@@ -123,6 +129,7 @@ impl Board {
             ram: self.ram.try_copy()?,
             links: self.links,
             faults: copy_with_room(&self.faults, 0)?,
+            code: Code::Unread(0),
         })
     }
 
@@ -164,6 +171,7 @@ impl Board {
             ram,
             links: snapshot.links,
             faults: copy_with_room(&snapshot.faults, 0)?,
+            code: Code::Unread(0),
         })
     }
 
@@ -209,11 +217,15 @@ impl Board {
     pub fn repeat(&mut self, event: Event, count: u32)
         ensures { self.new ≡ after self.old (replicate count event) }
     {
-        let _ = match event {
-            Event::Step(cpu) => self.steps(cpu, count),
-            Event::Tick => self.repeat_in_line(Event::Tick, count),
-            Event::Raise(line) => self.repeat_in_line(Event::Raise(line), count),
-        };
+        match event {
+            Event::Step(cpu) => self.many_steps(cpu, count),
+            Event::Tick => {
+                let _ = self.repeat_in_line(Event::Tick, count);
+            }
+            Event::Raise(line) => {
+                let _ = self.repeat_in_line(Event::Raise(line), count);
+            }
+        }
     }
 
     /// Lets a processor do so many steps. Answers what the only one reports.
