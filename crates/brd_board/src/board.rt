@@ -213,7 +213,7 @@ impl Board {
         }
     }
 
-    /// Does one event so many times.
+    /// Does one event so many times. For many steps in a row it may take memory once, and goes on where there is none.
     pub fn repeat(&mut self, event: Event, count: u32)
         ensures { self.new ≡ after self.old (replicate count event) }
     {
@@ -228,7 +228,7 @@ impl Board {
         }
     }
 
-    /// Lets a processor do so many steps. Answers what the only one reports.
+    /// Lets a processor do `count` steps, one by one. Answers what the only one reports.
     #[inline(never)]
     fn steps(&mut self, cpu: u8, count: u32) -> Report
         ensures done { self.new ≡ after self.old (replicate count (Step cpu)) }

@@ -26,7 +26,7 @@ const PATIENCE: u32 = 0x4000;
 /// The decoded instructions of a board.
 #[derive(Drop)]
 pub(super) enum Code {
-    /// There are none yet; so many steps were done one by one that could have been a row.
+    /// There are none yet; this many steps were done one by one that could have been in rows.
     Unread(u32),
     /// They are in this table.
     Read(Table),
@@ -35,7 +35,7 @@ pub(super) enum Code {
 }
 
 impl Board {
-    /// Lets a processor do so many steps.
+    /// Lets a processor do `count` steps.
     pub(super) fn many_steps(&mut self, cpu: u8, count: u32)
         ensures { self.new ≡ after self.old (replicate count (Step cpu)) }
     {
@@ -46,7 +46,8 @@ impl Board {
         self.rows(cpu, count);
     }
 
-    /// Lets a processor do so many steps, as many of them as can be in rows.
+    /// Lets a processor do `count` steps, in rows where it can. After a short row it does some one by one, so that where
+    /// rows end soon their beginnings and ends cost little.
     fn rows(&mut self, cpu: u8, count: u32)
         ensures { self.new ≡ after self.old (replicate count (Step cpu)) }
     {
@@ -70,13 +71,20 @@ impl Board {
         }
         match &mut self.code {
             Code::Read(table) => {
-                run_row(&mut self.kernel, cpu, table, &mut self.ram, &mut self.links, limit)
+                run_row(
+                    &mut self.kernel,
+                    cpu,
+                    table,
+                    &mut self.ram,
+                    &mut self.links,
+                    limit,
+                )
             }
             Code::Unread(_) | Code::NoMemory => 0,
         }
     }
 
-    /// Whether the board has a table of decoded instructions, before so many more steps.
+    /// Whether the board has a table of decoded instructions, before `count` more steps.
     fn has_read(&mut self, count: u32) -> bool
         ensures { self.new ≡ self.old }
     {
@@ -86,7 +94,7 @@ impl Board {
         matches!(self.code, Code::Read(_))
     }
 
-    /// The decoded instructions of a board that has done so many steps without any.
+    /// The decoded instructions of a board that has done this many steps without any.
     fn read(&self, steps: u32) -> Code {
         if steps < PATIENCE {
             return Code::Unread(steps);

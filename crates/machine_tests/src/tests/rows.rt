@@ -5,7 +5,15 @@ use test_help::none_wrong;
 
 /// Programs of one task.
 const PROGRAMS: &[&[u32]] = &[
-    COUNTS, LOADS_AND_STORES, WIDE, CHANGES_ITSELF, CALLS, LINKS, STAYS_AT_THE_END, LEAVES_RAM, TRAPS,
+    COUNTS,
+    LOADS_AND_STORES,
+    WIDE,
+    CHANGES_ITSELF,
+    CALLS,
+    LINKS,
+    STAYS_AT_THE_END,
+    LEAVES_RAM,
+    TRAPS,
     BRANCH_IN_A_SLOT,
 ];
 
@@ -118,7 +126,8 @@ const BRANCH_IN_A_SLOT: &[u32] = &[
 
 /// How many steps a board does at once. The first of these are more than RAM has words.
 const COUNTED: &[u32] = &[
-    16_500, 1, 20_000, 2, 3, 4, 5, 6, 7, 8, 9, 10, 11, 63, 64, 65, 66, 67, 1_000, 1_001, 4_099, 9_999,
+    16_500, 1, 20_000, 2, 3, 4, 5, 6, 7, 8, 9, 10, 11, 63, 64, 65, 66, 67, 1_000, 1_001, 4_099,
+    9_999,
 ];
 
 /// Whether two equal boards are equal again, after the one has done n steps at once, and the other one by one.
