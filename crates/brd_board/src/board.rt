@@ -17,6 +17,7 @@ ghost use Rattle.brd_board.specs.Board.{
   linked_word_of,
   fault_of,
   task_of,
+  spin_lock_of,
 };
 ghost use Rattle.brd_board.specs.declared.event.Event.TheVariants.{Step};
 ghost use Rattle.brd_board.specs.Setup.{Boots};
@@ -40,7 +41,7 @@ use crate::view::Fault;
 use brd_base::{BASE, List, NoMemory, copy_with_room, same_slices};
 use brd_config::{Config, Operand, Stack, TaskAttributes, TaskConfig};
 use brd_exec::{Context, ExceptionCode, Outcome};
-use brd_kernel::{Ended, Kernel, LineSetup, Standing, TaskId, TaskSetup, TaskView};
+use brd_kernel::{Ended, Kernel, LineSetup, Spin, Standing, TaskId, TaskSetup, TaskView};
 use brd_link::Links;
 use brd_mem::{Image, Ram};
 use brd_sysgate::call;
@@ -369,6 +370,13 @@ impl Board {
         self.kernel.task(id)
     }
 
+    /// The spin lock of an ID as it stands; None where none is configured.
+    pub fn spin(&self, id: u8) -> Option<Spin>
+        ensures { result ≡ spin_lock_of self.now id }
+    {
+        self.kernel.spin(id)
+    }
+
     /// The word that a processor's link is to, from an LL on; None where it has none.
     pub fn link(&self, cpu: u8) -> Option<u32>
         ensures { result ≡ linked_word_of self.now cpu }
@@ -433,6 +441,7 @@ fn words_config(alloc: Global) -> Result<Config, NoMemory>
         semaphores: List::new(alloc),
         flags: List::new(alloc),
         queues: List::new(alloc),
+        spin_locks: List::new(alloc),
         handlers: List::new(alloc),
     })
 }
@@ -457,6 +466,7 @@ fn started(
         config.semaphores.as_slice(),
         config.flags.as_slice(),
         config.queues.as_slice(),
+        config.spin_locks.as_slice(),
     )?;
     start_all(&mut kernel, config.tasks.as_slice());
     let _ = kernel.dispatch();

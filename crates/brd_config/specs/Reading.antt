@@ -25,6 +25,7 @@ named_in (row ∷ rows) name = if bytes_eq name row.0 then Some row.1 else named
 -- the attribute names of the uITRON 4.0 specification, each with its bits
 abbrev pub attribute_names : List (List ℕ × ℕ)
 attribute_names =
+    (codes "TA_NULL", 0) ∷
     (codes "TA_HLNG", 0) ∷
     (codes "TA_ASM", 1) ∷
     (codes "TA_ACT", 2) ∷
@@ -159,13 +160,14 @@ listed_operand_at t = do
   listed ← mark_at 44 operand.1
   Ok (operand.0, listed)
 
--- `( id , { attributes ,`: the ID and the attributes
-unfoldable pub head_at : Text → Result (ℕ × ℕ × Text) ConfigFault
-head_at t = do
+-- `( id , { attributes` and the mark that ends them, a comma, or the brace where nothing follows: the ID and the
+-- attributes
+unfoldable pub head_at : ℕ → Text → Result (ℕ × ℕ × Text) ConfigFault
+head_at end t = do
   opened ← mark_at 40 t
   id ← listed_number_at opened
   inner ← mark_at 123 id.1
-  attributes ← attributes_at 44 inner
+  attributes ← attributes_at end inner
   Ok (id.0, attributes.0, attributes.1)
 
 -- `} ) ;`

@@ -14,6 +14,7 @@ use std::alloc::Global;
 
 /// The bits of each attribute's name.
 const ATTRIBUTES: &[(&[u8], u32)] = &[
+    (b"TA_NULL", 0),
     (b"TA_HLNG", 0),
     (b"TA_ASM", 1),
     (b"TA_ACT", 2),
@@ -268,16 +269,16 @@ pub(crate) fn listed_operand(alloc: Global, tokens: &mut Scanner) -> Result<Oper
     Ok(operand)
 }
 
-/// Takes `( id , { attributes ,`: the ID and the attributes.
+/// Takes `( id , { attributes` and the mark that ends them: the ID and the attributes.
 #[tactic(auto, unfolding(crate::specs::Reading::head_at))]
-pub(crate) fn head(tokens: &mut Scanner) -> Result<(u32, u32), ConfigFault>
-    ensures read { Gives (λ x. (x.0, x.1, tokens.new)) result (reads.head_at tokens.old) }
+pub(crate) fn head(tokens: &mut Scanner, end: u8) -> Result<(u32, u32), ConfigFault>
+    ensures read { Gives (λ x. (x.0, x.1, tokens.new)) result (reads.head_at end tokens.old) }
     ensures shorter { OnOk result (length tokens.new.tokens < length tokens.old.tokens) }
 {
     mark(tokens, b'(')?;
     let id = listed_number(tokens)?;
     mark(tokens, b'{')?;
-    let attributes = attributes(tokens, b',')?;
+    let attributes = attributes(tokens, end)?;
     Ok((id, attributes))
 }
 
