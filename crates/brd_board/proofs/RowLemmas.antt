@@ -132,7 +132,9 @@ local-steps-go b cpu count address who s window goes whole is =
 -- events of one kind, some after the others
 pub after-both : (first second : ℕ) (b : BoardState) (event : Event) →
     after (after b (replicate first event)) (replicate second event) ≡ after b (replicate (first + second) event)
-after-both zero second b event = refl
+after-both zero second b event =
+    let count : zero + second ≡ second = omega arith in
+    rw count refl
 after-both (suc first) second b event =
     let count : suc first + second ≡ suc (first + second) = omega arith in
     rw count (after-both first second (happens b event).board event)
