@@ -28,6 +28,7 @@ ghost use Rattle.brd_mem.specs.Image.{image_of_words, IsLoadable};
 
 mod lending;
 mod saving;
+mod steps;
 mod storing;
 
 use crate::boot::BootFault;
@@ -47,6 +48,7 @@ use brd_sysgate::call;
 use brd_word::Order;
 use std::alloc::Global;
 use std::marker::Model;
+use steps::Code;
 
 /// The size of RAM of a board that is made of words.
 const WORDS_RAM: u32 = 0x1_0000;
@@ -57,6 +59,8 @@ pub struct Board {
     ram: Ram,
     links: Links,
     faults: Vec<Option<Fault>>,
+    /// Its decoded instructions, by which it does many steps in a row: they show in nothing but time.
+    code: Code,
 }
 
 impl Model for Board {
@@ -78,6 +82,7 @@ impl Drop for Board {
             ram: _,
             links: _,
             faults: _,
+            code: _,
         } = self;
     }
 }
@@ -101,6 +106,7 @@ impl Board {
             ram,
             links: Links::new(),
             faults: no_faults(alloc)?,
+            code: Code::Unread(0),
         })
     }
 
@@ -124,6 +130,7 @@ impl Board {
             ram: self.ram.try_copy()?,
             links: self.links,
             faults: copy_with_room(&self.faults, 0)?,
+            code: Code::Unread(0),
         })
     }
 
@@ -165,6 +172,7 @@ impl Board {
             ram,
             links: snapshot.links,
             faults: copy_with_room(&snapshot.faults, 0)?,
+            code: Code::Unread(0),
         })
     }
 
@@ -206,18 +214,22 @@ impl Board {
         }
     }
 
-    /// Does one event so many times.
+    /// Does one event so many times. For many steps in a row it may take memory once, and goes on where there is none.
     pub fn repeat(&mut self, event: Event, count: u32)
         ensures { self.new ≡ after self.old (replicate count event) }
     {
-        let _ = match event {
-            Event::Step(cpu) => self.steps(cpu, count),
-            Event::Tick => self.repeat_in_line(Event::Tick, count),
-            Event::Raise(line) => self.repeat_in_line(Event::Raise(line), count),
-        };
+        match event {
+            Event::Step(cpu) => self.many_steps(cpu, count),
+            Event::Tick => {
+                let _ = self.repeat_in_line(Event::Tick, count);
+            }
+            Event::Raise(line) => {
+                let _ = self.repeat_in_line(Event::Raise(line), count);
+            }
+        }
     }
 
-    /// Lets a processor do so many steps. Answers what the only one reports.
+    /// Lets a processor do `count` steps, one by one. Answers what the only one reports.
     #[inline(never)]
     fn steps(&mut self, cpu: u8, count: u32) -> Report
         ensures done { self.new ≡ after self.old (replicate count (Step cpu)) }
