@@ -214,7 +214,7 @@ impl Board {
         }
     }
 
-    /// Does one event so many times. For many steps in a row it may take memory once, and goes on where there is none.
+    /// Does one event n times. For many steps in a row it may take memory once, and goes on where there is none.
     pub fn repeat(&mut self, event: Event, count: u32)
         ensures { self.new ≡ after self.old (replicate count event) }
     {
@@ -238,7 +238,7 @@ impl Board {
         self.repeat_in_line(Event::Step(cpu), count)
     }
 
-    /// Does one event so many times. Answers what the only one reports.
+    /// Does one event n times. Answers what the only one reports.
     #[inline(always)]
     fn repeat_in_line(&mut self, event: Event, count: u32) -> Report
         ensures done { self.new ≡ after self.old (replicate count event) }

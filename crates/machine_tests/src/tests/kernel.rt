@@ -75,10 +75,10 @@ const POLL: u32 = 0;
 
 const BAD: u32 = 0xffff_fffe;
 
-/// A call from a processor, what it answers, and which processors' running tasks change by the dispatch behind it.
+/// A call from a processor, what it answers, and which processors' running tasks change by the dispatch after it.
 type Served = (u8, Call, Reply, u8);
 
-/// Whether a call from a processor, with a dispatch behind it, is answered so and lets these running tasks change.
+/// Whether a call from a processor, with a dispatch after it, is answered so and lets these running tasks change.
 fn serves(kernel: &mut Kernel, cpu: u8, call: Call, reply: Reply, changed: u8) -> bool {
     let told = kernel.serve(cpu, call);
     kernel.dispatch() == changed && told == reply
@@ -613,7 +613,7 @@ fn runs_the_first(kernel: &mut Kernel, cpu: u8, ram: &mut Ram) -> bool {
     }
 }
 
-/// Whether processor 1 and task 1 go on behind the first instruction.
+/// Whether processor 1 and task 1 go on after the first instruction.
 fn goes_on(kernel: &Kernel) -> bool {
     match (kernel.context(1), kernel.task(1)) {
         (Some(context), Some(task)) => {

@@ -57,7 +57,7 @@ const WAITS: Places = (true, false, false, false, false);
 
 const HANDLERS: Places = (false, false, false, false, true);
 
-/// A call by its name and its arguments, with zeros behind them.
+/// A call by its name and its arguments, with zeros after them.
 type Named = (&'static str, [u32; 4]);
 
 /// What an argument is that stands for no end.
@@ -168,7 +168,7 @@ fn name_of(call: Call) -> &'static str {
     }
 }
 
-/// The arguments of a call, with zeros behind them.
+/// The arguments of a call, with zeros after them.
 fn arguments_of(call: Call) -> [u32; 4] {
     match call {
         Call::ActTsk(first)
