@@ -120,6 +120,13 @@ impl Context {
         self.pc
     }
 
+    /// The address of the instruction after the next one.
+    pub fn npc(&self) -> u32
+        ensures { result ≡ self.now.npc }
+    {
+        self.npc
+    }
+
     /// Whether the next instruction is in a delay slot.
     pub fn slot(&self) -> bool
         ensures { result ≡ self.now.slot }
