@@ -3,7 +3,7 @@
 # or the object file `image.elf`; `config.cfg`; `journal`; and `report`, what `run` prints, or `fault`, what it says on
 # standard error with status 1. The head of the source says what happens in it. Folders of tests/debugging that have a
 # report are some too, and so are the scenes of crates/board_rows that tests/scenes.reports names (tests/scenes makes
-# their folders): it compares what is seen in registers and memory alone. What no folder can say follows.
+# their folders); board_rows compares what is seen in registers and memory alone. What no folder can say follows.
 . "$(dirname "$0")/check.sh"
 . tests/growths.sh
 
