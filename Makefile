@@ -84,6 +84,7 @@ bench:
 	$(MAKE) board
 	tests/debug_speed $(BOARD)
 	tests/race_speed $(BOARD)
+	tests/speed_qemu $(BOARD)
 
 clean:
 	rm -rf build crates/*/out

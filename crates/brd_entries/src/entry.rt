@@ -2,6 +2,7 @@
 
 use crate::register::{Destination, Source};
 use brd_isa::{JumpIndex, ShiftAmount};
+use std::mem::size_of;
 
 /// A decoded word. Each variant but the first two is one operation, with its operands in the order of the assembler, as
 /// brd_isa's `Insn` has them. A `Destination` is the register that it writes, never register 0; a `Source` is one that
@@ -169,3 +170,5 @@ pub enum Entry {
     /// `bgezall rs, target`
     Bgezall(Source, u32),
 }
+
+const _: () = prove!(size_of::<Entry>() == 8);
