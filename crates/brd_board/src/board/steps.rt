@@ -14,10 +14,10 @@ use brd_link::Links;
 use brd_mem::Ram;
 
 /// From how many steps on a row of decoded instructions is worth its beginning and its end (measured).
-const FEW: u32 = 4;
+const FEW: u32 = 5;
 
 /// How many steps are done one by one after a row that was shorter than that (own choice).
-const STRETCH: u32 = 64;
+const STRETCH: u32 = 256;
 
 /// How many steps that could have been in a row are done before there is a table of decoded instructions (own choice:
 /// they take about as much time as it does to make one).
