@@ -283,7 +283,7 @@ as_run "C on two processors" 11 80000000 80000001
 mkdir "$work/scenes"
 wrong=$(tests/scenes "$work/scenes" 2>&1) || wrong=${wrong:-tests/scenes failed}
 verdict "debug: the scenes" "$wrong"
-for report in tests/scenarios/*/report "$work"/scenes/*/report; do
+for report in tests/scenarios/*/report tests/debugging/*/report "$work"/scenes/*/report; do
     folder=${report%/report}
     image=$folder/image.elf
     if [ -e "$folder/source.s" ]; then

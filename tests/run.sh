@@ -1,9 +1,9 @@
 #!/bin/bash
 # The tests of `board run`: tests/run.sh PROGRAM. Each folder of tests/scenarios is one: `source.s`, which is assembled,
 # or the object file `image.elf`; `config.cfg`; `journal`; and `report`, what `run` prints, or `fault`, what it says on
-# standard error with status 1. The head of the source says what happens in it. So are scenes of crates/board_rows, which
-# compares what is seen in registers and memory alone too: tests/scenes makes folders of those that tests/scenes.reports
-# names. What no folder can say follows.
+# standard error with status 1. The head of the source says what happens in it. Folders of tests/debugging that have a
+# report are some too, and so are the scenes of crates/board_rows that tests/scenes.reports names (tests/scenes makes
+# their folders); board_rows compares what is seen in registers and memory alone. What no folder can say follows.
 . "$(dirname "$0")/check.sh"
 . tests/growths.sh
 
@@ -16,7 +16,8 @@ run() {
 mkdir "$work/scenes"
 wrong=$(tests/scenes "$work/scenes" 2>&1) || wrong=${wrong:-tests/scenes failed}
 verdict "run: the scenes" "$wrong"
-for folder in tests/scenarios/*/ "$work"/scenes/*/; do
+for said in tests/scenarios/*/{report,fault} tests/debugging/*/report "$work"/scenes/*/report; do
+    folder=${said%/*}
     name=$(basename "$folder")
     image=$folder/image.elf
     if [ -e "$folder/source.s" ]; then
@@ -26,10 +27,10 @@ for folder in tests/scenarios/*/ "$work"/scenes/*/; do
             continue
         fi
     fi
-    if [ -e "$folder/fault" ]; then
-        run "$name" 1 "$work/nothing" "$(cat "$folder/fault")" "$image" "$folder/config.cfg" "$folder/journal"
+    if [ "${said##*/}" = fault ]; then
+        run "$name" 1 "$work/nothing" "$(cat "$said")" "$image" "$folder/config.cfg" "$folder/journal"
     else
-        run "$name" 0 "$folder/report" "" "$image" "$folder/config.cfg" "$folder/journal"
+        run "$name" 0 "$said" "" "$image" "$folder/config.cfg" "$folder/journal"
     fi
 done
 

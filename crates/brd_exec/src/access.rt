@@ -21,6 +21,7 @@ use brd_mem::{Exc, Ram};
 use brd_word::{Order, sign8, sign16};
 
 /// What a load finds, for a register that was `old`.
+#[inline(always)]
 pub fn load(op: LoadOp, ram: &Ram, address: u32, old: u32) -> Result<u32, Exc>
     ensures { result ≡ load_gives op ram.now address old }
 {
@@ -96,6 +97,7 @@ fn right_loaded(above: u32, word: u32, old: u32) -> u32
 }
 
 /// Does a store of a register's word.
+#[inline(always)]
 pub fn store(op: StoreOp, ram: &mut Ram, address: u32, word: u32) -> Result<(), Exc>
     ensures { Stores (store_gives op ram.old address word) ram.old result ram.new }
 {

@@ -42,20 +42,28 @@ planned (Entry.Sll rd rt sa) s = Plan.Does (Action.Local (with_register s rd (sh
 planned (Entry.Srl rd rt sa) s = Plan.Does (Action.Local (with_register s rd (shift_gives ShiftOp.Srl (read s rt) sa)))
 planned (Entry.Sra rd rt sa) s = Plan.Does (Action.Local (with_register s rd (shift_gives ShiftOp.Sra (read s rt) sa)))
 planned (Entry.Sllv rd rt rs) s =
-    Plan.Does (Action.Local (with_register s rd (shift_variable_gives ShiftVariableOp.Sllv (read s rt) (read s rs % 2 ^ 5))))
+    Plan.Does
+    (Action.Local (with_register s rd (shift_variable_gives ShiftVariableOp.Sllv (read s rt) (read s rs % 2 ^ 5))))
 planned (Entry.Srlv rd rt rs) s =
-    Plan.Does (Action.Local (with_register s rd (shift_variable_gives ShiftVariableOp.Srlv (read s rt) (read s rs % 2 ^ 5))))
+    Plan.Does
+    (Action.Local (with_register s rd (shift_variable_gives ShiftVariableOp.Srlv (read s rt) (read s rs % 2 ^ 5))))
 planned (Entry.Srav rd rt rs) s =
-    Plan.Does (Action.Local (with_register s rd (shift_variable_gives ShiftVariableOp.Srav (read s rt) (read s rs % 2 ^ 5))))
+    Plan.Does
+    (Action.Local (with_register s rd (shift_variable_gives ShiftVariableOp.Srav (read s rt) (read s rs % 2 ^ 5))))
 planned (Entry.Movz rd rs rt) s =
     Plan.Does (Action.Local (with_register s rd (if read s rt == 0 then read s rs else read s rd)))
 planned (Entry.Movn rd rs rt) s =
     Plan.Does (Action.Local (with_register s rd (if read s rt == 0 then read s rd else read s rs)))
 planned (Entry.Add rd rs rt) s =
-    Plan.Does (Action.MayStop (with_word s rd (unless_overflow (sum_overflows (read s rs) (read s rt)) (sum_of (read s rs) (read s rt)))))
+    Plan.Does
+    (Action.MayStop
+    (with_word s rd (unless_overflow (sum_overflows (read s rs) (read s rt)) (sum_of (read s rs) (read s rt)))))
 planned (Entry.Addu rd rs rt) s = Plan.Does (Action.Local (with_register s rd (sum_of (read s rs) (read s rt))))
 planned (Entry.Sub rd rs rt) s =
-    Plan.Does (Action.MayStop (with_word s rd (unless_overflow (difference_overflows (read s rs) (read s rt)) (difference_of (read s rs) (read s rt)))))
+    Plan.Does
+    (Action.MayStop
+    (with_word s rd
+    (unless_overflow (difference_overflows (read s rs) (read s rt)) (difference_of (read s rs) (read s rt)))))
 planned (Entry.Subu rd rs rt) s = Plan.Does (Action.Local (with_register s rd (difference_of (read s rs) (read s rt))))
 planned (Entry.And rd rs rt) s = Plan.Does (Action.Local (with_register s rd (bit_and (read s rs) (read s rt))))
 planned (Entry.Or rd rs rt) s = Plan.Does (Action.Local (with_register s rd (bit_or (read s rs) (read s rt))))
@@ -68,7 +76,9 @@ planned (Entry.Sltu rd rs rt) s =
     Plan.Does (Action.Local (with_register s rd (one_if (nat_lt (read s rs) (read s rt)))))
 planned (Entry.Mul rd rs rt) s = Plan.Does (Action.Local (with_register s rd (multiply_gives (read s rs) (read s rt))))
 planned (Entry.Addi rt rs immediate) s =
-    Plan.Does (Action.MayStop (with_word s rt (unless_overflow (sum_overflows (read s rs) immediate) (sum_of (read s rs) immediate))))
+    Plan.Does
+    (Action.MayStop
+    (with_word s rt (unless_overflow (sum_overflows (read s rs) immediate) (sum_of (read s rs) immediate))))
 planned (Entry.Addiu rt rs immediate) s = Plan.Does (Action.Local (with_register s rt (sum_of (read s rs) immediate)))
 planned (Entry.Slti rt rs immediate) s =
     Plan.Does (Action.Local (with_register s rt (one_if (is_below (read s rs) immediate))))
@@ -91,13 +101,21 @@ planned (Entry.Div rs rt) s =
 planned (Entry.Divu rs rt) s =
     Plan.Does (Action.Local (write_product (advanced s) (product_gives ProductOp.Divu (read s rs) (read s rt))))
 planned (Entry.Madd rs rt) s =
-    Plan.Does (Action.Local (write_product (advanced s) (accumulate_gives AccumulateOp.Madd (product_in s) (read s rs) (read s rt))))
+    Plan.Does
+    (Action.Local
+    (write_product (advanced s) (accumulate_gives AccumulateOp.Madd (product_in s) (read s rs) (read s rt))))
 planned (Entry.Maddu rs rt) s =
-    Plan.Does (Action.Local (write_product (advanced s) (accumulate_gives AccumulateOp.Maddu (product_in s) (read s rs) (read s rt))))
+    Plan.Does
+    (Action.Local
+    (write_product (advanced s) (accumulate_gives AccumulateOp.Maddu (product_in s) (read s rs) (read s rt))))
 planned (Entry.Msub rs rt) s =
-    Plan.Does (Action.Local (write_product (advanced s) (accumulate_gives AccumulateOp.Msub (product_in s) (read s rs) (read s rt))))
+    Plan.Does
+    (Action.Local
+    (write_product (advanced s) (accumulate_gives AccumulateOp.Msub (product_in s) (read s rs) (read s rt))))
 planned (Entry.Msubu rs rt) s =
-    Plan.Does (Action.Local (write_product (advanced s) (accumulate_gives AccumulateOp.Msubu (product_in s) (read s rs) (read s rt))))
+    Plan.Does
+    (Action.Local
+    (write_product (advanced s) (accumulate_gives AccumulateOp.Msubu (product_in s) (read s rs) (read s rt))))
 planned (Entry.Clz rd rs) s = Plan.Does (Action.Local (with_register s rd (count_gives CountOp.Clz (read s rs))))
 planned (Entry.Clo rd rs) s = Plan.Does (Action.Local (with_register s rd (count_gives CountOp.Clo (read s rs))))
 planned (Entry.Lb rt base offset) s = Plan.Does (Action.Loads LoadOp.Lb rt (sum_of (read s base) offset))
@@ -125,29 +143,45 @@ planned (Entry.Beql rs rt reach) s =
 planned (Entry.Bnel rs rt reach) s =
     Plan.Branches (Action.Local (branched_by s true (not (read s rs == read s rt)) (reached s.npc reach)))
 planned (Entry.Blez rs reach) s =
-    Plan.Branches (Action.Local (branched_by s false (is_zero_branch_taken BranchZeroOp.Blez (read s rs)) (reached s.npc reach)))
+    Plan.Branches
+    (Action.Local (branched_by s false (is_zero_branch_taken BranchZeroOp.Blez (read s rs)) (reached s.npc reach)))
 planned (Entry.Bgtz rs reach) s =
-    Plan.Branches (Action.Local (branched_by s false (is_zero_branch_taken BranchZeroOp.Bgtz (read s rs)) (reached s.npc reach)))
+    Plan.Branches
+    (Action.Local (branched_by s false (is_zero_branch_taken BranchZeroOp.Bgtz (read s rs)) (reached s.npc reach)))
 planned (Entry.Blezl rs reach) s =
-    Plan.Branches (Action.Local (branched_by s true (is_zero_branch_taken BranchZeroOp.Blezl (read s rs)) (reached s.npc reach)))
+    Plan.Branches
+    (Action.Local (branched_by s true (is_zero_branch_taken BranchZeroOp.Blezl (read s rs)) (reached s.npc reach)))
 planned (Entry.Bgtzl rs reach) s =
-    Plan.Branches (Action.Local (branched_by s true (is_zero_branch_taken BranchZeroOp.Bgtzl (read s rs)) (reached s.npc reach)))
+    Plan.Branches
+    (Action.Local (branched_by s true (is_zero_branch_taken BranchZeroOp.Bgtzl (read s rs)) (reached s.npc reach)))
 planned (Entry.Bltz rs reach) s =
-    Plan.Branches (Action.Local (branched_by s false (is_regimm_branch_taken BranchRegimmOp.Bltz (read s rs)) (reached s.npc reach)))
+    Plan.Branches
+    (Action.Local (branched_by s false (is_regimm_branch_taken BranchRegimmOp.Bltz (read s rs)) (reached s.npc reach)))
 planned (Entry.Bgez rs reach) s =
-    Plan.Branches (Action.Local (branched_by s false (is_regimm_branch_taken BranchRegimmOp.Bgez (read s rs)) (reached s.npc reach)))
+    Plan.Branches
+    (Action.Local (branched_by s false (is_regimm_branch_taken BranchRegimmOp.Bgez (read s rs)) (reached s.npc reach)))
 planned (Entry.Bltzl rs reach) s =
-    Plan.Branches (Action.Local (branched_by s true (is_regimm_branch_taken BranchRegimmOp.Bltzl (read s rs)) (reached s.npc reach)))
+    Plan.Branches
+    (Action.Local (branched_by s true (is_regimm_branch_taken BranchRegimmOp.Bltzl (read s rs)) (reached s.npc reach)))
 planned (Entry.Bgezl rs reach) s =
-    Plan.Branches (Action.Local (branched_by s true (is_regimm_branch_taken BranchRegimmOp.Bgezl (read s rs)) (reached s.npc reach)))
+    Plan.Branches
+    (Action.Local (branched_by s true (is_regimm_branch_taken BranchRegimmOp.Bgezl (read s rs)) (reached s.npc reach)))
 planned (Entry.Bltzal rs reach) s =
-    Plan.Branches (Action.Local (branched_by (calling s) false (is_regimm_branch_taken BranchRegimmOp.Bltzal (read s rs)) (reached s.npc reach)))
+    Plan.Branches
+    (Action.Local
+    (branched_by (calling s) false (is_regimm_branch_taken BranchRegimmOp.Bltzal (read s rs)) (reached s.npc reach)))
 planned (Entry.Bgezal rs reach) s =
-    Plan.Branches (Action.Local (branched_by (calling s) false (is_regimm_branch_taken BranchRegimmOp.Bgezal (read s rs)) (reached s.npc reach)))
+    Plan.Branches
+    (Action.Local
+    (branched_by (calling s) false (is_regimm_branch_taken BranchRegimmOp.Bgezal (read s rs)) (reached s.npc reach)))
 planned (Entry.Bltzall rs reach) s =
-    Plan.Branches (Action.Local (branched_by (calling s) true (is_regimm_branch_taken BranchRegimmOp.Bltzall (read s rs)) (reached s.npc reach)))
+    Plan.Branches
+    (Action.Local
+    (branched_by (calling s) true (is_regimm_branch_taken BranchRegimmOp.Bltzall (read s rs)) (reached s.npc reach)))
 planned (Entry.Bgezall rs reach) s =
-    Plan.Branches (Action.Local (branched_by (calling s) true (is_regimm_branch_taken BranchRegimmOp.Bgezall (read s rs)) (reached s.npc reach)))
+    Plan.Branches
+    (Action.Local
+    (branched_by (calling s) true (is_regimm_branch_taken BranchRegimmOp.Bgezall (read s rs)) (reached s.npc reach)))
 
 -- what the plan leaves; none where it declines, and where the instruction stops
 abbrev pub carried_out : ℕ → State → Memory → LinkSet → Plan → Option Machine

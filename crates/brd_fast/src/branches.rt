@@ -2,7 +2,7 @@
 //! them UNPREDICTABLE; the step raises an exception).
 
 ghost use Rattle.std.specs.Prelude.{◌≡◌, ◌+◌, ◌*◌, ◌/◌, ◌%◌, ◌^◌, true, false, ◌||◌, ◌==◌};
-ghost use Rattle.brd_exec.specs.State.{State, read, write, jumped, jump_target, return_address_of, with_return_address_if};
+ghost use Rattle.brd_exec.specs.State.{State, read, write, jumped, jump_target, return_address_of};
 ghost use Rattle.brd_exec.specs.Values.{is_negative, is_jump_calling};
 ghost use Rattle.brd_fast.specs.Place.{state_of, reached};
 ghost use Rattle.brd_fast.specs.Plans.{branched_by, calling};
@@ -167,7 +167,8 @@ pub fn jump_register(context: &Context, place: &mut Place, rs: Source) -> bool
 /// Does `jalr rd, rs`. The target is what the register was before the return address was written.
 #[inline(always)]
 pub fn call_register(context: &mut Context, place: &mut Place, rd: Destination, rs: Source) -> bool
-    ensures { Turns (jumped (write (state_of context.old place.old) rd (return_address_of (state_of context.old place.old)))
+    ensures { Turns
+        (jumped (write (state_of context.old place.old) rd (return_address_of (state_of context.old place.old)))
         (read context.old rs)) (state_of context.old place.old) result (state_of context.new place.new) }
 {
     if place.slot {

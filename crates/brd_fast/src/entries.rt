@@ -20,9 +20,9 @@ use brd_isa::{AccumulateOp, CountOp, LoadOp, ProductOp, ShiftOp, ShiftVariableOp
 use brd_link::Links;
 use brd_mem::Ram;
 
-/// Does an entry in a context whose place is kept apart, for a processor, over memory and the processors' links. Answers
-/// whether it did; else nothing has changed: the entry says nothing, its instruction would raise an exception, or it is
-/// a branch or a jump in a delay slot. Each arm ends with its own answer.
+/// Does an entry in a context whose place is kept apart, for a processor, over memory and the processors' links.
+/// Answers whether it did; else nothing has changed: the entry says nothing, its instruction would raise an exception,
+/// or it is a branch or a jump in a delay slot. Each arm ends with its own answer.
 #[inline(always)]
 pub fn carry_out(
     entry: &Entry,

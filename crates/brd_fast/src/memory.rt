@@ -39,7 +39,8 @@ pub fn load(
     }
 }
 
-/// Does `op rt, offset(base)`, a store. It ends the links of other processors to words of the stored block (MD00086, SC).
+/// Does `op rt, offset(base)`, a store. It ends the links of other processors to words of the stored block (MD00086,
+/// SC).
 #[inline(always)]
 pub fn store(
     context: &Context,
@@ -53,7 +54,8 @@ pub fn store(
     offset: u32,
 ) -> bool
     requires { (1 ≤ cpu) × (cpu ≤ 8) }
-    ensures { Acts (went_by (stores cpu (state_of context.now place.old) links.old (sum_of (read context.now base) offset)
+    ensures { Acts (went_by
+        (stores cpu (state_of context.now place.old) links.old (sum_of (read context.now base) offset)
         (store_gives op ram.old (sum_of (read context.now base) offset) (read context.now rt))))
         (state_of context.now place.old) ram.old links.old result (state_of context.now place.new) ram.new links.new }
 {

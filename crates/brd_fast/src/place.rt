@@ -5,7 +5,7 @@ ghost use Rattle.brd_fast.specs.Place.{state_of, reached};
 
 use brd_exec::Context;
 
-/// The address of a processor's next instruction, that of the one after it, and whether the next one is in a delay slot:
+/// The address of a processor's next instruction, that of the one after it, and whether the next is in a delay slot:
 /// what a context has of it, kept apart from its registers so that the compiler can hold it in registers of its own.
 #[derive(Clone, Copy)]
 pub struct Place {
@@ -60,7 +60,8 @@ impl Place {
     /// Goes on after the delay slot of a branch-likely that isn't taken.
     #[inline(always)]
     pub fn skip(&mut self)
-        ensures { self.new ≡ record { pc = (self.old.npc + 4) % 2 ^ 32; npc = (self.old.npc + 8) % 2 ^ 32; slot = false } }
+        ensures { self.new ≡
+            record { pc = (self.old.npc + 4) % 2 ^ 32; npc = (self.old.npc + 8) % 2 ^ 32; slot = false } }
     {
         self.pc = self.npc.wrapping_add(4);
         self.npc = self.npc.wrapping_add(8);

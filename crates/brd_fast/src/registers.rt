@@ -62,7 +62,8 @@ pub fn set_if(
     rd: Destination,
     rs: Source,
 ) -> bool
-    ensures { Moves (with_register (state_of context.old place.old) rd (if sets then read context.old rs else read context.old rd))
+    ensures { Moves
+        (with_register (state_of context.old place.old) rd (if sets then read context.old rs else read context.old rd))
         result (state_of context.new place.new) }
 {
     let word = context.word(if sets { rs.number() } else { rd.number() });

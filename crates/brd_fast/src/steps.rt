@@ -14,9 +14,9 @@ use brd_exec::Context;
 use brd_link::Links;
 use brd_mem::Ram;
 
-/// Does steps of a processor's context, one after the other, as many as `count` at most, and answers how many it did. It
-/// ends early at whatever is unusual: an exception, a SYSCALL, LL, SC, a branch in a delay slot. That is left to do, and
-/// nothing of it is done.
+/// Does steps of a processor's context, one after the other, as many as `count` at most, and answers how many it did.
+/// It ends early at whatever is unusual: an exception, a SYSCALL, LL, SC, a branch in a delay slot. That is left to do,
+/// and nothing of it is done.
 pub fn go(
     table: &mut Table,
     cpu: u8,
@@ -67,15 +67,15 @@ fn known_steps(
 {
     let words = ram.size() / 4;
     let mut place = Place::of(context);
-    let mut done = 0;
-    'steps: while done < count {
+    let mut left = count;
+    'steps: while left > 0 {
         if !step(table, cpu, context, &mut place, ram, links, words) {
             break;
         }
-        done += 1;
+        left -= 1;
     }
     context.go_to(place.pc, place.npc, place.slot);
-    done
+    count - left
 }
 
 /// Does a step by the entry of its word, where that is one of the first `words` of RAM, and the table has it. Answers

@@ -32,8 +32,8 @@ impl Known {
     }
 }
 
-/// Words with their entries, each at the place that the low bits of its index in memory give. It says nothing of memory:
-/// whoever takes an entry shows the word, and where another word is kept at its place, that one goes.
+/// Words with their entries, each at the place that the low bits of its index in memory give. It says nothing of
+/// memory: whoever takes an entry shows the word that memory has, and gets none where the table has another there.
 #[derive(Drop)]
 pub struct Table {
     known: Vec<Known>,

@@ -14,10 +14,10 @@ use brd_link::Links;
 use brd_mem::Ram;
 
 /// From how many steps on a row of decoded instructions is worth its beginning and its end (measured).
-const FEW: u32 = 4;
+const FEW: u32 = 5;
 
 /// How many steps are done one by one after a row that was shorter than that (own choice).
-const STRETCH: u32 = 64;
+const STRETCH: u32 = 256;
 
 /// How many steps that could have been in a row are done before there is a table of decoded instructions (own choice:
 /// they take about as much time as it does to make one).
@@ -36,10 +36,24 @@ pub(super) enum Code {
 
 impl Board {
     /// Lets a processor do `count` steps.
+    #[inline(always)]
     pub(super) fn many_steps(&mut self, cpu: u8, count: u32)
         ensures { self.new ≡ after self.old (replicate count (Step cpu)) }
     {
-        if count < FEW || !self.has_read(count) {
+        if count < FEW {
+            let _ = self.steps(cpu, count);
+            return;
+        }
+        self.read_and_step(cpu, count);
+    }
+
+    /// Lets a processor do `count` steps, in rows if the board has a table. It is out of line, so that a few steps don't
+    /// pay for it.
+    #[inline(never)]
+    fn read_and_step(&mut self, cpu: u8, count: u32)
+        ensures { self.new ≡ after self.old (replicate count (Step cpu)) }
+    {
+        if !self.has_read(count) {
             let _ = self.steps(cpu, count);
             return;
         }

@@ -8,12 +8,12 @@ use Rattle.brd_fast.proofs.steps.known_steps.Given as goal
 
 abbrev pub invariant-steps : goal.invariant-steps
 invariant-steps l = record {
-  few : l.done ≤ l.count;
+  few : l.left ≤ l.count;
   words : l.words ≤ 2 ^ 22;
   size : 4 * l.words ≤ size_of l.ram;
-  leads : went l.cpu l.done (record { state = l.fn.context; memory = l.fn.ram; links = l.fn.links })
+  leads : went l.cpu (l.count - l.left) (record { state = l.fn.context; memory = l.fn.ram; links = l.fn.links })
       ≡ Some (record { state = state_of l.context l.place; memory = l.ram; links = l.links });
 }
 
 abbrev pub decreases-steps : goal.decreases-steps
-decreases-steps l = l.count - l.done
+decreases-steps l = l.left
