@@ -90,6 +90,13 @@ if have python3 "the timelines"; then
         "$board" trace --format json "$work/image" "examples/$name.cfg" "examples/$name.journal" > "$work/out"
         verdict "trace: $name as json" "$(python3 tests/tracks "$work/out" 2>&1)"
     done
+    # A raise is an instant of the processor that handles the line.
+    assembled "a raise" examples/interrupt/interrupt.s
+    "$board" trace --format json "$work/image" examples/interrupt/interrupt.cfg examples/interrupt/interrupt.journal |
+        grep '"name":"the interrupt of line 4 is raised"' > "$work/out"
+    printf '{"ph":"i","pid":1,"tid":1,"s":"t","ts":%s,"cat":"interrupt","name":"the interrupt of line 4 is raised"},\n' \
+        9 27 > "$work/raises"
+    verdict "trace: raises as json" "$(diff "$work/raises" "$work/out")"
 fi
 
 summary

@@ -5,7 +5,7 @@ ghost use Rattle.brd_cli.specs.Program.{ProgramEnds};
 
 use crate::end::Stop;
 use crate::request::asked;
-use brd_command::{Files, perform};
+use brd_command::{Files, Progress, perform};
 use std::alloc::Global;
 use std::convert::AsStr;
 use std::io::{Read, Write};
@@ -13,14 +13,16 @@ use std::sync::Wait;
 use std::thread::Threads;
 
 /// Does what the words of a command line ask for, of which the first is the program's name, on files, standard input
-/// and standard output. Nothing is touched where they are refused, or ask for help.
-pub fn carry_out<S: AsStr, F: Files, R: Read, W: Write, T: Threads + Wait + Sync>(
+/// and standard output. Nothing is touched where they are refused, or ask for help. How far a long command is, is told on
+/// the way.
+pub fn carry_out<S: AsStr, F: Files, R: Read, W: Write, P: Progress, T: Threads + Wait + Sync>(
     rt: &T,
     alloc: Global,
     words: &[S],
     files: &mut F,
     input: &mut R,
     output: &mut W,
+    progress: &mut P,
 ) -> Result<(), Stop>
     ensures { ProgramEnds F.opened F.created F.closed F.Input.remaining F.Output.contents R.remaining W.contents
         (map S.text words.entry.now) files.old files.new input.old input.new output.old output.new result }
@@ -29,7 +31,7 @@ pub fn carry_out<S: AsStr, F: Files, R: Read, W: Write, T: Threads + Wait + Sync
         Ok(request) => request,
         Err(stop) => return Err(stop),
     };
-    match perform(rt, alloc, files, input, output, request) {
+    match perform(rt, alloc, files, input, output, progress, request) {
         Ok(()) => Ok(()),
         Err(fault) => Err(Stop::Fault(fault)),
     }

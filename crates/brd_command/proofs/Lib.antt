@@ -10,3 +10,4 @@ pub mod RunLemmas
 pub mod TraceLemmas
 pub mod RaceLemmas
 pub mod DebugLineLemmas
+pub mod ProgressLemmas

@@ -12,6 +12,7 @@ use Rattle.brd_command.specs.RunCommand.{RunEnds}
 use Rattle.brd_command.specs.TraceCommand.{TraceEnds}
 use Rattle.brd_command.specs.declared.fault.CommandFault.{CommandFault}
 use Rattle.brd_command.specs.declared.files.Inputs.{Inputs}
+use Rattle.brd_command.specs.declared.trace_options.TraceOptions.{TraceOptions}
 
 -- SOURCE is opened first; OUT is created only where SOURCE was opened; what `asm` writes is written only where both
 -- succeeded, and then OUT is let go as `asm` left it. The fault of a file that couldn't be opened or created has that
@@ -95,10 +96,11 @@ pub data DebugFilesEnd {F R C : Type 0}
 -- The trace is written only where all three files were opened; else nothing was written.
 pub data TraceFilesEnd {F R : Type 0}
     (opened : F → List ℕ → Result R Error → F → Type 0) (remaining : R → Option (List ℕ))
-    (old : F) (image config journal : List ℕ) (before behind : Option (List ℕ)) (result : Result Unit CommandFault) (new : F) : Type 0 where
+    (old : F) (image config journal : List ℕ) (options : TraceOptions) (before behind : Option (List ℕ))
+    (result : Result Unit CommandFault) (new : F) : Type 0 where
   not_opened : {fault : CommandFault} → OpensInputs opened old image config journal (Err fault) new → result ≡ Err fault → before ≡ behind →
-      TraceFilesEnd opened remaining old image config journal before behind result new
+      TraceFilesEnd opened remaining old image config journal options before behind result new
   ended : {inputs : Inputs R} → OpensInputs opened old image config journal (Ok inputs) new →
       IfSome (remaining inputs.image) (λ file. IfSome (remaining inputs.config) (λ statements. IfSome (remaining inputs.last) (λ events.
-      TraceEnds result file statements events before behind))) →
-      TraceFilesEnd opened remaining old image config journal before behind result new
+      TraceEnds result options file statements events before behind))) →
+      TraceFilesEnd opened remaining old image config journal options before behind result new

@@ -35,7 +35,7 @@ module _ {F I O R W : Type 0}
       DebugFilesEnd opened remaining unread files_old image.now config.now journal.now
       input_old input (written output_old) (written output) result files
   RequestEnds (Trace image config journal options) files_old files input_old input output_old output result =
-      TraceFilesEnd opened remaining files_old image.now config.now journal.now
+      TraceFilesEnd opened remaining files_old image.now config.now journal.now options
       (written output_old) (written output) result files
       × (input ≡ input_old)
   RequestEnds (Journal cpus events options) files_old files input_old input output_old output result =

@@ -8,6 +8,7 @@ ghost use Rattle.brd_command.specs.RaceCommand.{RaceEnds};
 use crate::asm_command::asm;
 use crate::debug_command::debug;
 use crate::fault::CommandFault;
+use crate::progress::Progress;
 use crate::race_command::race;
 use crate::run_command::run;
 use crate::trace_command::trace;
@@ -116,13 +117,14 @@ fn open_inputs<F: Files>(
 }
 
 /// Does `run` on its files: IMAGE is opened, then CONFIG, then JOURNAL, and then all are read. The report is written.
-pub fn run_files<F: Files, W: Write>(
+pub fn run_files<F: Files, W: Write, P: Progress>(
     alloc: Global,
     files: &mut F,
     image: &str,
     config: &str,
     journal: &str,
     output: &mut W,
+    progress: &mut P,
 ) -> Result<(), CommandFault>
     ensures { RunFilesEnd F.opened F.Input.remaining files.old image.now config.now journal.now
         (W.contents output.old) (W.contents output.new) result files.new }
@@ -137,6 +139,7 @@ pub fn run_files<F: Files, W: Write>(
         &mut inputs.config,
         &mut inputs.last,
         output,
+        progress,
     )
 }
 
@@ -225,7 +228,7 @@ pub fn debug_files<F: Files, R: Read, W: Write>(
 }
 
 /// Does `trace` on its files: IMAGE is opened, then CONFIG, then JOURNAL, and then all are read. The trace is written.
-pub fn trace_files<F: Files, W: Write>(
+pub fn trace_files<F: Files, W: Write, P: Progress>(
     alloc: Global,
     files: &mut F,
     image: &str,
@@ -233,8 +236,9 @@ pub fn trace_files<F: Files, W: Write>(
     journal: &str,
     options: TraceOptions,
     output: &mut W,
+    progress: &mut P,
 ) -> Result<(), CommandFault>
-    ensures { TraceFilesEnd F.opened F.Input.remaining files.old image.now config.now journal.now
+    ensures { TraceFilesEnd F.opened F.Input.remaining files.old image.now config.now journal.now options
         (W.contents output.old) (W.contents output.new) result files.new }
 {
     let mut inputs = match open_inputs(alloc, files, image, config, journal) {
@@ -248,5 +252,6 @@ pub fn trace_files<F: Files, W: Write>(
         &mut inputs.last,
         options,
         output,
+        progress,
     )
 }

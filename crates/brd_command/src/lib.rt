@@ -23,6 +23,7 @@ mod journal_options;
 pub mod laws;
 mod lines;
 mod output;
+mod progress;
 mod race_command;
 mod report;
 mod request;
@@ -47,6 +48,7 @@ pub use files::{Files, asm_files, debug_files, race_files, run_files, trace_file
 pub use input_name::InputName;
 pub use journal_command::journal;
 pub use journal_options::JournalOptions;
+pub use progress::{Progress, Quiet};
 pub use race_command::race;
 pub use request::{Request, perform};
 pub use run_command::run;

@@ -6,6 +6,7 @@ use crate::fault::CommandFault;
 use crate::files::{Files, asm_files, debug_files, race_files, run_files, trace_files};
 use crate::journal_command::journal;
 use crate::journal_options::JournalOptions;
+use crate::progress::Progress;
 use crate::trace_options::TraceOptions;
 use crate::words_command::words;
 use std::alloc::Global;
@@ -65,14 +66,15 @@ pub enum Request<'a> {
 
 /// Does what was asked for, on files, standard input and standard output. `words` and `journal` touch no file; `asm`
 /// neither reads standard input nor writes standard output; `run`, `race`, `trace` and `journal` don't read standard
-/// input. `debug` reads that only where
-/// its files could be opened and make a debugger. Threads of the host are started only for `race`.
-pub fn perform<F: Files, R: Read, W: Write, T: Threads + Wait + Sync>(
+/// input. `debug` reads that only where its files could be opened and make a debugger. Threads of the host are started
+/// only for `race`. How far `run` and `trace` are, is told on the way.
+pub fn perform<F: Files, R: Read, W: Write, P: Progress, T: Threads + Wait + Sync>(
     rt: &T,
     alloc: Global,
     files: &mut F,
     input: &mut R,
     output: &mut W,
+    progress: &mut P,
     request: Request<'_>,
 ) -> Result<(), CommandFault>
     ensures { RequestEnds F.opened F.created F.closed F.Input.remaining F.Output.contents R.remaining W.contents
@@ -85,7 +87,7 @@ pub fn perform<F: Files, R: Read, W: Write, T: Threads + Wait + Sync>(
             image,
             config,
             journal,
-        } => run_files(alloc, files, image, config, journal, output),
+        } => run_files(alloc, files, image, config, journal, output, progress),
         Request::Race {
             image,
             config,
@@ -103,7 +105,9 @@ pub fn perform<F: Files, R: Read, W: Write, T: Threads + Wait + Sync>(
             config,
             journal,
             options,
-        } => trace_files(alloc, files, image, config, journal, options, output),
+        } => trace_files(
+            alloc, files, image, config, journal, options, output, progress,
+        ),
         Request::Journal {
             cpus,
             events,

@@ -7,6 +7,7 @@ ghost use Rattle.brd_command.specs.RunCommand.{RunEnds};
 
 use crate::fault::CommandFault;
 use crate::output::write_whole;
+use crate::progress::{Progress, replay};
 use crate::report::report;
 use crate::start::{Start, read_start};
 use brd_base::NoMemory;
@@ -14,13 +15,15 @@ use std::alloc::Global;
 use std::io::{Read, Write};
 
 /// Reads an object file, a configuration and a journal to their ends, in this order, lets the board that the first two
-/// make do the journal's events, and writes its report. Nothing is written where what was read has a fault.
-pub fn run<R: Read, W: Write>(
+/// make do the journal's events, and writes its report. Nothing is written where what was read has a fault. How far it
+/// is, is told on the way.
+pub fn run<R: Read, W: Write, P: Progress>(
     alloc: Global,
     image: &mut R,
     config: &mut R,
     journal: &mut R,
     writer: &mut W,
+    progress: &mut P,
 ) -> Result<(), CommandFault>
     ensures { IfSome (R.remaining image.old) (λ file. IfSome (R.remaining config.old) (λ statements.
         IfSome (R.remaining journal.old) (λ events.
@@ -30,19 +33,23 @@ pub fn run<R: Read, W: Write>(
         Ok(start) => start,
         Err(fault) => return Err(fault),
     };
-    let output = report_behind(alloc, start)?;
+    let output = report_after(alloc, start, progress)?;
     match write_whole(writer, &output) {
         Ok(()) => Ok(()),
         Err(error) => Err(CommandFault::Write(error)),
     }
 }
 
-/// The report of a board behind the events of a journal.
-fn report_behind(alloc: Global, start: Start) -> Result<Vec<u8>, NoMemory>
+/// The report of a board after the events of a journal.
+fn report_after<P: Progress>(
+    alloc: Global,
+    start: Start,
+    progress: &mut P,
+) -> Result<Vec<u8>, NoMemory>
     ensures { IfOk result (λ output.
         output.items ≡ report_of (length start.journal.events) (after start.board start.journal.events)) }
 {
     let Start { mut board, journal } = start;
-    journal.replay(&mut board);
+    replay(&journal, &mut board, progress);
     report(alloc, &board, journal.len())
 }

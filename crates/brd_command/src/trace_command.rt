@@ -1,50 +1,71 @@
 //! The command `trace`.
 
-ghost use Rattle.std.specs.Prelude.{◌≡◌, ◌≤◌, length, IfOk, IfSome, MatchResult};
+ghost use Rattle.std.specs.Prelude.{◌≡◌, ◌<◌, ◌≤◌, length, IfOk, IfSome, MatchResult, codes};
+ghost use Rattle.std.specs.Io.KnownBytes.{Appends};
+ghost use Rattle.brd_timeline.specs.Ends.{EndsWith};
+ghost use Rattle.brd_command.specs.Output.{Writes};
 ghost use Rattle.brd_command.specs.Start.{AreWithin, KeepsFromMaking, KeepsFromStarting};
-ghost use Rattle.brd_command.specs.TraceCommand.{IsTraceStart, TraceEnds};
+ghost use Rattle.brd_command.specs.TraceCommand.{
+  AppendsSome,
+  EndsDrawing,
+  EndsTracing,
+  IsOfWriting,
+  IsPart,
+  IsTraceStart,
+  KeepsFromTracing,
+  TraceEnds,
+  WritesFirst,
+  head,
+};
 ghost use Rattle.brd_command.specs.declared.input_name.InputName.TheVariants as input_name;
 
 use crate::fault::CommandFault;
 use crate::input::read_whole;
 use crate::input_name::InputName;
 use crate::output::write_whole;
+use crate::progress::{PIECE, Progress};
 use crate::start::{Start, make_start};
 use crate::trace_options::{TraceFault, TraceFormat, TraceOptions};
+use brd_base::NoMemory;
+use brd_config::{ConfigFault, parse};
 use brd_elf::read;
 use brd_journal::Journal;
-use brd_mem::{Image, Symbol};
+use brd_mem::Image;
 use brd_timeline::{PictureFault, Timeline, json, svg};
-use brd_trace::{Names, Options, Tracer};
+use brd_trace::{HEAD, Names, Options, Tracer};
 use std::alloc::Global;
 use std::io::{Read, Write};
 
-/// A board, a journal for it, and the image that it was made of.
+/// A board, a journal for it, the image that it was made of, and the processor that handles each interrupt line, 0
+/// where none does.
 #[derive(Drop)]
 struct TraceStart {
     start: Start,
     image: Image,
+    lines: [u8; 32],
 }
 
 /// Reads an object file, a configuration and a journal to their ends, in this order, lets the board that the first two
-/// make do the journal's events, and writes what happens. Nothing is written where what was read has a fault.
-pub fn trace<R: Read, W: Write>(
+/// make do the journal's events, and writes what happens. Nothing is written where what was read has a fault. How far it
+/// is, is told on the way.
+pub fn trace<R: Read, W: Write, P: Progress>(
     alloc: Global,
     image: &mut R,
     config: &mut R,
     journal: &mut R,
     options: TraceOptions,
     writer: &mut W,
+    progress: &mut P,
 ) -> Result<(), CommandFault>
     ensures { IfSome (R.remaining image.old) (λ file. IfSome (R.remaining config.old) (λ statements.
         IfSome (R.remaining journal.old) (λ events.
-        TraceEnds result file statements events (W.contents writer.old) (W.contents writer.new)))) }
+        TraceEnds result options file statements events (W.contents writer.old) (W.contents writer.new)))) }
 {
     let start = match read_trace_start(alloc, image, config, journal) {
         Ok(start) => start,
         Err(fault) => return Err(fault),
     };
-    write_trace(alloc, start, options, writer)
+    write_trace(alloc, start, options, writer, progress)
 }
 
 /// Reads an object file, a configuration and a journal to their ends, in this order.
@@ -88,59 +109,99 @@ fn make_trace_start(
         Ok(start) => start,
         Err(fault) => return Err(fault),
     };
-    // The file was read for the board before, so only want of memory can keep it from being read for its symbols.
-    match read(alloc, image) {
-        Ok(image) => Ok(TraceStart { start, image }),
-        Err(_) => Err(CommandFault::NoMemory),
+    // Both were read for the board before, so only want of memory can keep them from being read again.
+    let Ok(image) = read(alloc, image) else {
+        return Err(CommandFault::NoMemory);
+    };
+    let Ok(lines) = lines_of(alloc, config) else {
+        return Err(CommandFault::NoMemory);
+    };
+    Ok(TraceStart {
+        start,
+        image,
+        lines,
+    })
+}
+
+/// The processor that handles each interrupt line of a configuration, 0 where none does.
+fn lines_of(alloc: Global, config: &[u8]) -> Result<[u8; 32], ConfigFault> {
+    let mut lines = [0; 32];
+    let config = parse(alloc, config)?;
+    for handler in config.handlers.as_slice() {
+        let line = handler.line as usize;
+        if line < lines.len() {
+            lines[line] = handler.processor;
+        }
     }
+    Ok(lines)
+}
+
+/// Which events are shown, and in which form.
+#[derive(Clone, Copy)]
+struct Part {
+    /// The form.
+    format: TraceFormat,
+    /// The position of the first event.
+    from: u64,
+    /// The position after the last one.
+    to: u64,
+}
+
+/// The part of a journal with so many events that the options ask for.
+fn part_of(options: TraceOptions, len: u64) -> Result<Part, TraceFault>
+    ensures { MatchResult result (IsPart options len) (KeepsFromTracing options len) }
+{
+    let Some(format) = options.format else {
+        return Err(TraceFault::NoSuchFormat);
+    };
+    let from = options.from.unwrap_or(0);
+    let to = options.to.unwrap_or(len).min(len);
+    if from > to {
+        return Err(TraceFault::NoEvents(from, to, len));
+    }
+    Ok(Part { format, from, to })
 }
 
 /// Writes what happens to a board under a journal.
-fn write_trace<W: Write>(
+fn write_trace<W: Write, P: Progress>(
     alloc: Global,
     start: TraceStart,
     options: TraceOptions,
     writer: &mut W,
-) -> Result<(), CommandFault> {
+    progress: &mut P,
+) -> Result<(), CommandFault>
+    ensures { EndsTracing result options (length start.start.journal.events)
+        (W.contents writer.old) (W.contents writer.new) }
+{
     let TraceStart {
         start: Start { board, journal },
         image,
+        lines,
     } = start;
-    let Some(format) = options.format else {
-        return Err(CommandFault::Trace(TraceFault::NoSuchFormat));
+    let part = match part_of(options, journal.len()) {
+        Ok(part) => part,
+        Err(fault) => return Err(CommandFault::Trace(fault)),
     };
-    let names = Names::new(image.symbols.as_slice());
-    let from = options.from.unwrap_or(0);
-    let to = options.to.unwrap_or(journal.len()).min(journal.len());
-    if from > to {
-        return Err(CommandFault::Trace(TraceFault::NoEvents(from, to, journal.len())));
-    }
     let shown = Options {
         cpu: options.cpu,
         instructions: options.instructions,
         shown: false,
+        lines,
     };
-    let mut tracer = Tracer::new(alloc, board, shown)?;
+    let tracer = Tracer::new(alloc, board, shown)?;
     let traced = Traced {
         alloc,
-        names,
+        names: Names::new(image.symbols.as_slice()),
         journal: &journal,
+        part,
     };
     if options.summary {
-        traced.play(&mut tracer, to, writer)?;
-        return traced.write_summary(&tracer, writer);
+        return traced.write_summary(tracer, writer, progress);
     }
-    traced.play(&mut tracer, from, writer)?;
-    match format {
-        TraceFormat::Text => traced.write_lines(&mut tracer, to, writer),
-        TraceFormat::Json => {
-            let timeline = traced.timeline(tracer, to, writer)?;
-            write_json(alloc, &timeline, writer)
-        }
-        TraceFormat::Svg => {
-            let timeline = traced.timeline(tracer, to, writer)?;
-            write_svg(alloc, &timeline, writer)
-        }
+    match part.format {
+        TraceFormat::Text => traced.write_lines(tracer, writer, progress),
+        TraceFormat::Json => traced.write_json(tracer, writer, progress),
+        TraceFormat::Svg => traced.write_svg(tracer, writer, progress),
     }
 }
 
@@ -150,107 +211,198 @@ struct Traced<'a> {
     alloc: Global,
     names: Names<'a>,
     journal: &'a Journal,
+    part: Part,
 }
 
 impl<'a> Traced<'a> {
-    /// Lets a tracer do the events up to a position, and writes their lines, where it shows some.
-    fn play<W: Write>(
+    /// Lets a tracer do the next events up to a position, at most a piece of them. Answers their lines, where it shows
+    /// some.
+    fn advance(&self, tracer: &mut Tracer, to: u64) -> Result<Vec<u8>, NoMemory>
+        requires on { tracer.old.playback.at ≤ to }
+        requires within { to ≤ length self.now.journal.now.events }
+        ensures at { tracer.new.playback.at ≤ to }
+        ensures goes { tracer.old.playback.at < to → tracer.old.playback.at < tracer.new.playback.at }
+    {
+        let mut lines = Vec::new(self.alloc);
+        let piece = tracer.playback.at.saturating_add(u64::from(PIECE)).min(to);
+        tracer.advance_far(self.alloc, self.names, self.journal, piece, &mut lines)?;
+        Ok(lines)
+    }
+
+    /// Lets a tracer do the events up to a position. What it tells of them isn't written.
+    fn play<P: Progress>(
         &self,
         tracer: &mut Tracer,
         to: u64,
-        writer: &mut W,
-    ) -> Result<(), CommandFault>
+        progress: &mut P,
+    ) -> Result<(), NoMemory>
         requires on { tracer.old.playback.at ≤ to }
         requires within { to ≤ length self.now.journal.now.events }
         ensures { IfOk result (λ _. tracer.new.playback.at ≡ to) }
     {
-        for _ in 0..u64::MAX {
-            let mut out = Vec::new(self.alloc);
-            let more = tracer.advance_far(self.alloc, self.names, self.journal, to, &mut out)?;
-            written(writer, &out)?;
-            if !more {
-                return Ok(());
-            }
+        while tracer.playback.at < to {
+            let _ = self.advance(tracer, to)?;
+            progress.show(tracer.playback.at, to);
         }
-        Err(CommandFault::NoMemory)
+        progress.hide();
+        Ok(())
     }
 
-    /// Writes the lines of the events up to a position.
-    fn write_lines<W: Write>(
+    /// Lets a tracer do the events up to the end of the part, and writes their lines.
+    fn write_events<W: Write, P: Progress>(
         &self,
         tracer: &mut Tracer,
-        to: u64,
         writer: &mut W,
+        progress: &mut P,
     ) -> Result<(), CommandFault>
-        requires on { tracer.old.playback.at ≤ to }
-        requires within { to ≤ length self.now.journal.now.events }
+        requires on { tracer.old.playback.at ≤ self.now.part.to }
+        requires within { self.now.part.to ≤ length self.now.journal.now.events }
+        ensures { MatchResult result (λ _. AppendsSome (W.contents writer.old) (W.contents writer.new)) IsOfWriting }
     {
-        let mut out = Vec::new(self.alloc);
-        tracer.show(self.alloc, self.names, &mut out)?;
-        written(writer, &out)?;
-        self.play(tracer, to, writer)?;
+        while tracer.playback.at < self.part.to {
+            let lines = self.advance(tracer, self.part.to)?;
+            progress.hide();
+            match written(writer, &lines) {
+                Ok(()) => {}
+                Err(fault) => return Err(fault),
+            }
+            progress.show(tracer.playback.at, self.part.to);
+        }
+        progress.hide();
+        Ok(())
+    }
+
+    /// Writes the lines of the part, after the names of the columns.
+    fn write_lines<W: Write, P: Progress>(
+        &self,
+        tracer: Tracer,
+        writer: &mut W,
+        progress: &mut P,
+    ) -> Result<(), CommandFault>
+        requires start { tracer.playback.at ≡ 0 }
+        requires from { self.now.part.from ≤ self.now.part.to }
+        requires within { self.now.part.to ≤ length self.now.journal.now.events }
+        ensures { MatchResult result (λ _. WritesFirst (λ first. first ≡ head) (W.contents writer.old) (W.contents writer.new)) IsOfWriting }
+    {
+        let mut tracer = tracer;
+        self.play(&mut tracer, self.part.from, progress)?;
+        match written(writer, HEAD.as_bytes()) {
+            Ok(()) => {}
+            Err(fault) => return Err(fault),
+        }
+        self.write_stretch(&mut tracer, writer, progress)
+    }
+
+    /// Writes what each processor does, the lines from there to the end of the part, and what was held back.
+    fn write_stretch<W: Write, P: Progress>(
+        &self,
+        tracer: &mut Tracer,
+        writer: &mut W,
+        progress: &mut P,
+    ) -> Result<(), CommandFault>
+        requires on { tracer.old.playback.at ≤ self.now.part.to }
+        requires within { self.now.part.to ≤ length self.now.journal.now.events }
+        ensures { MatchResult result (λ _. AppendsSome (W.contents writer.old) (W.contents writer.new)) IsOfWriting }
+    {
+        let mut first = Vec::new(self.alloc);
+        tracer.show(self.alloc, self.names, &mut first)?;
+        match written(writer, &first) {
+            Ok(()) => {}
+            Err(fault) => return Err(fault),
+        }
+        match self.write_events(tracer, writer, progress) {
+            Ok(()) => {}
+            Err(fault) => return Err(fault),
+        }
+        let mut last = Vec::new(self.alloc);
+        tracer.finish(self.alloc, self.names, &mut last)?;
+        written(writer, &last)
+    }
+
+    /// Writes what stands at the end of the part.
+    fn write_summary<W: Write, P: Progress>(
+        &self,
+        tracer: Tracer,
+        writer: &mut W,
+        progress: &mut P,
+    ) -> Result<(), CommandFault>
+        requires start { tracer.playback.at ≡ 0 }
+        requires within { self.now.part.to ≤ length self.now.journal.now.events }
+        ensures { MatchResult result (λ _. WritesFirst (EndsWith (codes "\n")) (W.contents writer.old) (W.contents writer.new)) IsOfWriting }
+    {
+        let mut tracer = tracer;
+        self.play(&mut tracer, self.part.to, progress)?;
+        let mut first = Vec::new(self.alloc);
+        tracer.put_end(self.alloc, &mut first)?;
         let mut rest = Vec::new(self.alloc);
-        tracer.finish(self.alloc, self.names, &mut rest)?;
+        tracer.put_summary(self.alloc, self.names, &mut rest)?;
+        match written(writer, &first) {
+            Ok(()) => {}
+            Err(fault) => return Err(fault),
+        }
         written(writer, &rest)
     }
 
-    /// Writes what stands at the end.
-    fn write_summary<W: Write>(&self, tracer: &Tracer, writer: &mut W) -> Result<(), CommandFault> {
+    /// The timeline of the part.
+    fn timeline<P: Progress>(&self, tracer: Tracer, progress: &mut P) -> Result<Timeline, NoMemory>
+        requires start { tracer.playback.at ≡ 0 }
+        requires from { self.now.part.from ≤ self.now.part.to }
+        requires within { self.now.part.to ≤ length self.now.journal.now.events }
+    {
+        let mut tracer = tracer;
+        self.play(&mut tracer, self.part.from, progress)?;
+        tracer.record(self.alloc)?;
+        self.play(&mut tracer, self.part.to, progress)?;
+        match tracer.into_timeline(self.alloc)? {
+            Some(timeline) => Ok(timeline),
+            None => Err(NoMemory),
+        }
+    }
+
+    /// Writes the timeline of the part in the trace event format.
+    fn write_json<W: Write, P: Progress>(
+        &self,
+        tracer: Tracer,
+        writer: &mut W,
+        progress: &mut P,
+    ) -> Result<(), CommandFault>
+        requires start { tracer.playback.at ≡ 0 }
+        requires from { self.now.part.from ≤ self.now.part.to }
+        requires within { self.now.part.to ≤ length self.now.journal.now.events }
+        ensures { MatchResult result (λ _. Writes (EndsWith (codes "\n]}\n")) (W.contents writer.old) (W.contents writer.new)) IsOfWriting }
+    {
+        let timeline = self.timeline(tracer, progress)?;
         let mut out = Vec::new(self.alloc);
-        tracer.put_summary(self.alloc, self.names, &mut out)?;
+        json(&timeline, &mut out)?;
         written(writer, &out)
     }
 
-    /// The timeline of the events up to a position.
-    fn timeline<W: Write>(
+    /// Writes the picture of the part.
+    fn write_svg<W: Write, P: Progress>(
         &self,
         tracer: Tracer,
-        to: u64,
         writer: &mut W,
-    ) -> Result<Timeline, CommandFault>
-        requires on { tracer.playback.at ≤ to }
-        requires within { to ≤ length self.now.journal.now.events }
+        progress: &mut P,
+    ) -> Result<(), CommandFault>
+        requires start { tracer.playback.at ≡ 0 }
+        requires from { self.now.part.from ≤ self.now.part.to }
+        requires within { self.now.part.to ≤ length self.now.journal.now.events }
+        ensures { EndsDrawing result (W.contents writer.old) (W.contents writer.new) }
     {
-        let mut tracer = tracer;
-        tracer.record(self.alloc)?;
-        self.play(&mut tracer, to, writer)?;
-        match tracer.into_timeline(self.alloc)? {
-            Some(timeline) => Ok(timeline),
-            None => Err(CommandFault::NoMemory),
+        let timeline = self.timeline(tracer, progress)?;
+        let mut out = Vec::new(self.alloc);
+        match svg(&timeline, &mut out) {
+            Ok(()) => written(writer, &out),
+            Err(PictureFault::NoMemory) => Err(CommandFault::NoMemory),
+            Err(PictureFault::TooMuch) => Err(CommandFault::Trace(TraceFault::TooMuch)),
         }
-    }
-}
-
-/// Writes a timeline in the trace event format.
-fn write_json<W: Write>(
-    alloc: Global,
-    timeline: &Timeline,
-    writer: &mut W,
-) -> Result<(), CommandFault> {
-    let mut out = Vec::new(alloc);
-    json(timeline, &mut out)?;
-    written(writer, &out)
-}
-
-/// Writes the picture of a timeline.
-fn write_svg<W: Write>(
-    alloc: Global,
-    timeline: &Timeline,
-    writer: &mut W,
-) -> Result<(), CommandFault> {
-    let mut out = Vec::new(alloc);
-    match svg(timeline, &mut out) {
-        Ok(()) => written(writer, &out),
-        Err(PictureFault::NoMemory) => Err(CommandFault::NoMemory),
-        Err(PictureFault::TooMuch) => Err(CommandFault::Trace(TraceFault::TooMuch)),
     }
 }
 
 /// Writes all of the bytes.
-fn written<W: Write>(writer: &mut W, bytes: &[u8]) -> Result<(), CommandFault> {
-    if bytes.is_empty() {
-        return Ok(());
-    }
+fn written<W: Write>(writer: &mut W, bytes: &[u8]) -> Result<(), CommandFault>
+    ensures { MatchResult result (λ _. Appends (W.contents writer.old) (W.contents writer.new) bytes.now) IsOfWriting }
+{
     match write_whole(writer, bytes) {
         Ok(()) => Ok(()),
         Err(error) => Err(CommandFault::Write(error)),

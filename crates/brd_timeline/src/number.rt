@@ -1,10 +1,15 @@
 //! Numbers as text.
 
+ghost use Rattle.std.specs.Prelude.{IfOk};
+ghost use Rattle.brd_timeline.specs.Ends.{EndsWith};
+
 use brd_base::NoMemory;
 use itoa::Buffer;
 
 /// Puts a text at the end.
-pub(crate) fn put(to: &mut Vec<u8>, text: &str) -> Result<(), NoMemory> {
+pub(crate) fn put(to: &mut Vec<u8>, text: &str) -> Result<(), NoMemory>
+    ensures { IfOk result (λ _. EndsWith text.now to.new.items) }
+{
     to.extend_from_slice(text.as_bytes())?;
     Ok(())
 }

@@ -1,6 +1,7 @@
 //! A timeline as a picture in SVG.
 
-ghost use Rattle.std.specs.Prelude.{◌≡◌, ◌↔◌, IsTrue, Err};
+ghost use Rattle.std.specs.Prelude.{◌≡◌, ◌↔◌, IfOk, IsTrue, Err, codes};
+ghost use Rattle.brd_timeline.specs.Ends.{EndsWith};
 ghost use Rattle.brd_timeline.specs.Picture.{IsTooMuch};
 ghost use Rattle.brd_timeline.specs.declared.fault.PictureFault.TheVariants.{TooMuch};
 
@@ -29,6 +30,7 @@ pub const MOST_DRAWN: usize = 5_000;
 pub fn svg(timeline: &Timeline, to: &mut Vec<u8>) -> Result<(), PictureFault>
     ensures much { (result ≡ Err TooMuch) ↔ IsTooMuch timeline.now }
     ensures same { result ≡ Err TooMuch → to.new ≡ to.old }
+    ensures ends { IfOk result (λ _. EndsWith (codes "</svg>\n") to.new.items) }
 {
     if is_too_much(timeline) {
         return Err(PictureFault::TooMuch);
@@ -48,7 +50,9 @@ fn is_too_much(timeline: &Timeline) -> bool
 }
 
 /// Puts the picture at the end.
-fn put_picture(to: &mut Vec<u8>, timeline: &Timeline) -> Result<(), NoMemory> {
+fn put_picture(to: &mut Vec<u8>, timeline: &Timeline) -> Result<(), NoMemory>
+    ensures { IfOk result (λ _. EndsWith (codes "</svg>\n") to.new.items) }
+{
     put_head(to, timeline)?;
     put_legend(to, timeline)?;
     put_events(to, timeline)?;

@@ -1,5 +1,8 @@
 //! A timeline in the trace event format, as an object of JSON. One event of the board is one microsecond.
 
+ghost use Rattle.std.specs.Prelude.{IfOk, codes};
+ghost use Rattle.brd_timeline.specs.Ends.{EndsWith};
+
 use crate::escape::put_json;
 use crate::number::{put, put_decimal};
 use crate::timeline::{Group, Lane, Mark, Slice, Timeline, kind_name, label_or, mark_name};
@@ -11,7 +14,9 @@ const TICKS: u64 = 3;
 /// Puts a timeline at the end in the trace event format ("Trace Event Format", Google): a process for the processors,
 /// one for the tasks and one for the ticks, a thread for each lane, complete events for slices, and instants for marks
 /// and ticks. Where memory runs out, a front of it may be there.
-pub fn json(timeline: &Timeline, to: &mut Vec<u8>) -> Result<(), NoMemory> {
+pub fn json(timeline: &Timeline, to: &mut Vec<u8>) -> Result<(), NoMemory>
+    ensures { IfOk result (λ _. EndsWith (codes "\n]}\n") to.new.items) }
+{
     put(to, "{\"displayTimeUnit\":\"ms\",\"traceEvents\":[")?;
     put_processes(to)?;
     for (place, lane) in timeline.lanes.iter().enumerate() {

@@ -8,6 +8,7 @@ mod answer;
 mod cause;
 mod effect;
 mod line;
+mod marks;
 mod names;
 mod playback;
 mod quiet;
@@ -18,6 +19,7 @@ mod summary;
 mod tasks;
 mod teller;
 mod text;
+mod told;
 mod tracer;
 mod waits;
 

@@ -1,11 +1,13 @@
 //! A board that plays a journal, event by event.
 
 ghost use Rattle.std.specs.Prelude.{◌≡◌, ◌+◌, ◌≤◌, ◌<◌, if◌then◌else◌, length, slice_get, IfSome, None, Some};
-ghost use Rattle.brd_board.specs.Board.{BoardState as BoardOf, happens};
+ghost use Rattle.brd_board.specs.Board.{BoardState as BoardOf, after, happens};
+ghost use Rattle.brd_journal.specs.Runs.{copies};
 ghost use Rattle.brd_journal.specs.Still.{does_no_more};
-ghost use Rattle.brd_trace.specs.Playing.{IsPlayed, AreStill};
+ghost use Rattle.brd_trace.specs.Playing.{AreStill, IsPlayed, executing};
 
 use brd_board::{Board, Event, Report};
+use brd_exec::Context;
 use brd_journal::{Journal, Run, does_no_more};
 
 /// A board that plays a journal, and how many events it has played.
@@ -29,9 +31,14 @@ pub struct Moved {
 }
 
 impl Playback {
-    /// Does the next event of a journal, and those of its run after it that do nothing, up to a position. `None` at
-    /// that position.
-    pub fn advance(&mut self, journal: &Journal, to: u64) -> Option<Moved>
+    /// Does the next event of a journal, and those of its run after it that do nothing, up to a position. `None` at that
+    /// position. `context` becomes the registers with which the event's processor executes before it.
+    pub fn advance(
+        &mut self,
+        journal: &Journal,
+        to: u64,
+        context: &mut Option<Context>,
+    ) -> Option<Moved>
         requires on { self.old.at ≤ to }
         requires within { to ≤ length journal.now.events }
         // It goes on by so many events as it says, at least one, and not past the position.
@@ -41,6 +48,7 @@ impl Playback {
         // The event is the journal's at its position, and it reported what the answer says.
         ensures event { IfSome result (λ moved. slice_get journal.now.events self.old.at ≡ Some moved.event) }
         ensures report { IfSome result (λ moved. moved.report ≡ (happens self.old.board moved.event).report) }
+        ensures before { IfSome result (λ moved. context.new ≡ executing self.old.board moved.event) }
         // The board is that of the definition after so many events, and those after the first one did nothing.
         ensures played { (boot : BoardOf) → IsPlayed boot journal.now.events self.old → IsPlayed boot journal.now.events self.new }
         ensures still { (boot : BoardOf) → IsPlayed boot journal.now.events self.old
@@ -50,6 +58,7 @@ impl Playback {
             return None;
         }
         let rest = journal.rest_at(self.at)?;
+        *context = registers(&self.board, rest.event);
         let report = self.board.event_apart(rest.event);
         let far = reach(rest.event, report, self.at, to);
         let count = (far - self.at).min(rest.count as u64);
@@ -57,13 +66,33 @@ impl Playback {
             event: rest.event,
             count: (count - 1) as u32,
         };
-        more.play(&mut self.board);
+        play_more(&mut self.board, more);
         self.at += count;
         Some(Moved {
             event: rest.event,
             report,
             count,
         })
+    }
+}
+
+/// The registers with which an event's processor executes.
+#[inline(always)]
+fn registers(board: &Board, event: Event) -> Option<Context>
+    ensures { result ≡ executing board.now event }
+{
+    match event {
+        Event::Step(cpu) => board.registers(cpu),
+        Event::Tick | Event::Raise(_) => None,
+    }
+}
+
+/// Lets a board do the events of a run, of which there are mostly none.
+fn play_more(board: &mut Board, more: Run)
+    ensures { board.new ≡ after board.old (copies more.event more.count) }
+{
+    if more.count > 0 {
+        more.play(board);
     }
 }
 

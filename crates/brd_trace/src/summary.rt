@@ -1,5 +1,8 @@
 //! What stands at the end.
 
+ghost use Rattle.std.specs.Prelude.{IfOk, codes};
+ghost use Rattle.brd_timeline.specs.Ends.{EndsWith};
+
 use crate::line::put_who;
 use crate::names::Names;
 use crate::tasks::{TaskSeen, put_standing};
@@ -12,16 +15,15 @@ use brd_board::{Standing, TaskState};
 use std::alloc::Global;
 
 impl Tracer {
-    /// Puts at the end what stands after the events that were played: whether the board is off, what each processor
-    /// does and its last exception, what each task is, whether nothing can release those that wait, and which calls
-    /// were refused.
+    /// Puts at the end what stands after the events that were played: what each processor does and its last exception,
+    /// what each task is, whether nothing can release those that wait, and which calls were refused. `put_end` says what
+    /// comes before it.
     pub fn put_summary(
         &self,
         alloc: Global,
         names: Names,
         out: &mut Vec<u8>,
     ) -> Result<(), NoMemory> {
-        self.put_end(alloc, out)?;
         self.put_processors(alloc, names, out)?;
         for task in self.teller.tasks.as_slice() {
             self.put_task(alloc, names, out, *task)?;
@@ -39,7 +41,9 @@ impl Tracer {
     }
 
     /// Puts a line at the end: how many events there were, the tick, and where the board went off.
-    fn put_end(&self, alloc: Global, out: &mut Vec<u8>) -> Result<(), NoMemory> {
+    pub fn put_end(&self, alloc: Global, out: &mut Vec<u8>) -> Result<(), NoMemory>
+        ensures { IfOk result (λ _. EndsWith (codes "\n") out.new.items) }
+    {
         put_named(alloc, out, "after event", self.playback.at)?;
         put(out, ", ")?;
         put_named(alloc, out, "tick", self.playback.board.now())?;

@@ -1,21 +1,16 @@
 //! What is known of a board, and what is told of each event.
 
-use crate::answer::Answer;
-use crate::cause::{Raised, word_at};
-use crate::effect::{put_effect, put_instruction};
-use crate::line::{HEAD, Line};
+use crate::line::Line;
 use crate::names::Names;
 use crate::playback::Moved;
 use crate::quiet::{Quiet, Stretch};
 use crate::recording::Recording;
-use crate::refusals::{Refusals, note_refusal};
-use crate::service::{Asked, EXT_KER, EXT_TSK, RET_INT, TER_TSK};
+use crate::refusals::Refusals;
 use crate::tasks::{Cause, Standings, TaskSeen, put_task_seen, task_seen, tasks_seen};
-use crate::text::{put, put_named};
+use crate::text::put;
 use brd_base::NoMemory;
 use brd_board::{Board, Event, Report, Standing, TaskId};
 use brd_exec::Context;
-use brd_timeline::{MarkKind, Timeline};
 use std::alloc::Global;
 
 /// What a trace shows.
@@ -27,6 +22,8 @@ pub struct Options {
     pub instructions: bool,
     /// Whether lines are shown yet.
     pub shown: bool,
+    /// The processor that handles each interrupt line; 0 where none does.
+    pub lines: [u8; 32],
 }
 
 /// The last exception of a processor.
@@ -70,7 +67,7 @@ pub(crate) struct Before {
 
 impl Before {
     /// The task that executed.
-    fn task(&self) -> Option<TaskId> {
+    pub(crate) fn task(&self) -> Option<TaskId> {
         match self.who {
             Some(Standing::Task(id)) => Some(id),
             _ => None,
@@ -86,7 +83,7 @@ impl Before {
     }
 
     /// What changes tasks, where it is no instruction.
-    fn outside(&self, ticks: bool) -> Cause {
+    pub(crate) fn outside(&self, ticks: bool) -> Cause {
         Cause {
             position: self.position,
             caller: None,
@@ -105,10 +102,10 @@ pub(crate) struct Teller {
     pub(crate) off: Option<u64>,
     pub(crate) faults: Vec<LastFault>,
     pub(crate) refusals: Vec<Refusals>,
-    pending: [bool; 32],
-    stretch: Option<Stretch>,
-    recording: Option<Recording>,
-    options: Options,
+    pub(crate) pending: [bool; 32],
+    pub(crate) stretch: Option<Stretch>,
+    pub(crate) recording: Option<Recording>,
+    pub(crate) options: Options,
 }
 
 impl Teller {
@@ -127,17 +124,22 @@ impl Teller {
         })
     }
 
-    /// What is there before an event.
-    pub(crate) fn before(&self, board: &Board, position: u64, event: Option<Event>) -> Before {
+    /// Whether nothing is told of an event that reports this: it is an ordinary instruction, and those aren't shown.
+    pub(crate) fn passes(&self, report: Report) -> bool {
+        !self.options.instructions && matches!(report, Report::Ran(_))
+    }
+
+    /// What was there before an event, of which the context in which it executed is known.
+    pub(crate) fn before(&self, position: u64, event: Event, context: Option<Context>) -> Before {
         let cpu = match event {
-            Some(Event::Step(cpu)) => cpu,
-            _ => 0,
+            Event::Step(cpu) => cpu,
+            Event::Tick | Event::Raise(_) => 0,
         };
         Before {
             position,
             cpu,
             who: self.standings.at(cpu),
-            context: board.registers(cpu),
+            context,
         }
     }
 
@@ -160,198 +162,8 @@ impl Teller {
         }
     }
 
-    /// An ordinary instruction, where the trace shows those.
-    fn tell_instruction(
-        &mut self,
-        it: Scene,
-        out: &mut Vec<u8>,
-        before: &Before,
-        address: u32,
-    ) -> Result<(), NoMemory> {
-        if !self.options.instructions {
-            return Ok(());
-        }
-        let mut what = Vec::new(it.alloc);
-        let word = word_at(it.board, address);
-        put_instruction(&mut what, address, word)?;
-        let after = it.board.registers(before.cpu);
-        if let (Some(old), Some(new)) = (before.context, after) {
-            put_effect(&mut what, &old, &new, it.board, word)?;
-        }
-        self.put_line(it, out, before, Some(address), &what, false)
-    }
-
-    /// A service call: the call, its answer, and what it changed.
-    fn tell_call(
-        &mut self,
-        it: Scene,
-        out: &mut Vec<u8>,
-        before: &Before,
-        address: u32,
-    ) -> Result<(), NoMemory> {
-        let Some(context) = before.context else {
-            return Ok(());
-        };
-        let asked = Asked::of(&context);
-        let mut what = Vec::new(it.alloc);
-        asked.put(it.alloc, &mut what)?;
-        if let Some(answer) = answer_to(it.board, before, asked) {
-            answer.put(it.alloc, &mut what, asked)?;
-            self.note(before.position, asked, answer, address)?;
-        } else if asked.number == RET_INT {
-            put(&mut what, ", the interrupt is ended")?;
-        }
-        self.mark(it.alloc, before, MarkKind::Call, &what)?;
-        let cause = Cause {
-            position: before.position,
-            caller: before.task(),
-            address,
-            restarts: asked.number == EXT_TSK || asked.number == TER_TSK,
-            ticks: false,
-        };
-        self.put_changes(it, out, before, Some(address), &mut what, cause)
-    }
-
-    /// Counts a call that was answered with an error.
-    fn note(
-        &mut self,
-        position: u64,
-        asked: Asked,
-        answer: Answer,
-        place: u32,
-    ) -> Result<(), NoMemory> {
-        if !answer.is_error() {
-            return Ok(());
-        }
-        note_refusal(
-            &mut self.refusals,
-            Refusals {
-                asked,
-                code: answer.code,
-                count: 1,
-                position,
-                place,
-            },
-        )
-    }
-
-    /// An exception: its cause, and what it ended.
-    fn tell_fault(
-        &mut self,
-        it: Scene,
-        out: &mut Vec<u8>,
-        before: &Before,
-        address: u32,
-    ) -> Result<(), NoMemory> {
-        let fault = it.board.last_fault(before.cpu);
-        let (Some(context), Some(fault)) = (before.context, fault) else {
-            return Ok(());
-        };
-        let mut what = Vec::new(it.alloc);
-        let raised = Raised {
-            context,
-            word: word_at(it.board, address),
-            fault,
-        };
-        raised.put(it.alloc, it.names, &mut what)?;
-        self.keep_fault(LastFault {
-            cpu: before.cpu,
-            position: before.position,
-            who: before.who,
-            place: address,
-            what: Vec::from_slice(it.alloc, what.as_slice())?,
-        })?;
-        self.mark(it.alloc, before, MarkKind::Fault, &what)?;
-        let cause = Cause {
-            position: before.position,
-            caller: before.task(),
-            address,
-            restarts: false,
-            ticks: false,
-        };
-        self.put_changes(it, out, before, Some(address), &mut what, cause)
-    }
-
-    /// Keeps an exception as its processor's last one.
-    fn keep_fault(&mut self, fault: LastFault) -> Result<(), NoMemory> {
-        for kept in self.faults.iter_mut() {
-            if kept.cpu == fault.cpu {
-                *kept = fault;
-                return Ok(());
-            }
-        }
-        self.faults.push(fault)?;
-        Ok(())
-    }
-
-    /// An interrupt that a processor accepts.
-    fn tell_accepted(
-        &mut self,
-        it: Scene,
-        out: &mut Vec<u8>,
-        before: &Before,
-        line: u8,
-    ) -> Result<(), NoMemory> {
-        self.set_pending(line, false);
-        let mut what = Vec::new(it.alloc);
-        put_named(
-            it.alloc,
-            &mut what,
-            "accepts the interrupt of line",
-            u64::from(line),
-        )?;
-        self.mark(it.alloc, before, MarkKind::Interrupt, &what)?;
-        let place = match before.context {
-            Some(context) => Some(context.pc()),
-            None => None,
-        };
-        self.put_changes(it, out, before, place, &mut what, before.outside(false))
-    }
-
-    /// A tick: a line of its own where it releases somebody.
-    fn tell_tick(&mut self, it: Scene, out: &mut Vec<u8>, before: &Before) -> Result<(), NoMemory> {
-        if let Some(recording) = &mut self.recording {
-            recording.tick(before.position, it.board.now())?;
-        }
-        if !has_changed(self.tasks.as_slice(), it.board) {
-            return self.tell_quiet(it, out, Quiet::Tick, before.position, 1);
-        }
-        let mut what = Vec::new(it.alloc);
-        put_named(it.alloc, &mut what, "tick", it.board.now())?;
-        self.put_changes(it, out, before, None, &mut what, before.outside(true))
-    }
-
-    /// A line that is raised.
-    fn tell_raise(
-        &mut self,
-        it: Scene,
-        out: &mut Vec<u8>,
-        before: &Before,
-        moved: Moved,
-    ) -> Result<(), NoMemory> {
-        let Event::Raise(line) = moved.event else {
-            return Ok(());
-        };
-        let again = Quiet::Again(line);
-        if self.is_pending(line) {
-            return self.tell_quiet(it, out, again, before.position, moved.count);
-        }
-        self.set_pending(line, true);
-        let mut what = Vec::new(it.alloc);
-        put_named(
-            it.alloc,
-            &mut what,
-            "the interrupt of line",
-            u64::from(line),
-        )?;
-        put(&mut what, " is raised")?;
-        self.put_line(it, out, before, None, &what, false)?;
-        let more = moved.count.saturating_sub(1);
-        self.tell_quiet(it, out, again, before.position.saturating_add(1), more)
-    }
-
     /// Whether a line is pending.
-    fn is_pending(&self, line: u8) -> bool {
+    pub(crate) fn is_pending(&self, line: u8) -> bool {
         if (line as usize) < 32 {
             return self.pending[line as usize];
         }
@@ -359,7 +171,7 @@ impl Teller {
     }
 
     /// Notes whether a line is pending.
-    fn set_pending(&mut self, line: u8, pending: bool) {
+    pub(crate) fn set_pending(&mut self, line: u8, pending: bool) {
         if (line as usize) < 32 {
             self.pending[line as usize] = pending;
         }
@@ -376,7 +188,7 @@ impl Teller {
     }
 
     /// Events that do nothing: they join those before them, or begin a line.
-    fn tell_quiet(
+    pub(crate) fn tell_quiet(
         &mut self,
         it: Scene,
         out: &mut Vec<u8>,
@@ -431,7 +243,7 @@ impl Teller {
     }
 
     /// Puts at the end a line that begins like this, with what the event changed of tasks and processors.
-    fn put_changes(
+    pub(crate) fn put_changes(
         &mut self,
         it: Scene,
         out: &mut Vec<u8>,
@@ -474,7 +286,7 @@ impl Teller {
     }
 
     /// Puts a line at the end, where the trace shows it, after the line of events that did nothing.
-    fn put_line(
+    pub(crate) fn put_line(
         &mut self,
         it: Scene,
         out: &mut Vec<u8>,
@@ -497,8 +309,7 @@ impl Teller {
         line.put(it.alloc, it.names, out)
     }
 
-    /// From here on lines are shown. Before them the names of the columns are put at the end, and what each processor
-    /// does.
+    /// From here on lines are shown. Before them it is put at the end what each processor does.
     pub(crate) fn show(
         &mut self,
         alloc: Global,
@@ -507,7 +318,6 @@ impl Teller {
         out: &mut Vec<u8>,
     ) -> Result<(), NoMemory> {
         self.options.shown = true;
-        put(out, HEAD)?;
         let mut what = Vec::new(alloc);
         self.standings.put_all(alloc, &mut what)?;
         let line = Line {
@@ -519,88 +329,6 @@ impl Teller {
         };
         line.put(alloc, names, out)
     }
-
-    /// From a position on a timeline is made.
-    pub(crate) fn record(&mut self, alloc: Global, from: u64) -> Result<(), NoMemory> {
-        let recording = Recording::new(alloc, &self.standings, self.tasks.as_slice(), from)?;
-        self.recording = Some(recording);
-        Ok(())
-    }
-
-    /// The timeline that was made up to a position, where one was.
-    pub(crate) fn into_timeline(
-        self,
-        alloc: Global,
-        to: u64,
-    ) -> Result<Option<Timeline>, NoMemory> {
-        let Teller { recording, .. } = self;
-        match recording {
-            Some(recording) => Ok(Some(recording.end(alloc, to)?)),
-            None => Ok(None),
-        }
-    }
-
-    /// Records what goes on from a position on.
-    fn see(&mut self, alloc: Global, at: u64) -> Result<(), NoMemory> {
-        match &mut self.recording {
-            Some(recording) => recording.see(alloc, &self.standings, self.tasks.as_slice(), at),
-            None => Ok(()),
-        }
-    }
-
-    /// Records a mark of a processor's step.
-    fn mark(
-        &mut self,
-        alloc: Global,
-        before: &Before,
-        kind: MarkKind,
-        label: &[u8],
-    ) -> Result<(), NoMemory> {
-        match &mut self.recording {
-            Some(recording) => recording.mark(alloc, before.cpu, before.position, kind, label),
-            None => Ok(()),
-        }
-    }
-
-    /// Records that a tick released a task, by its place in the list of tasks.
-    fn mark_release(&mut self, alloc: Global, task: usize, at: u64) -> Result<(), NoMemory> {
-        match &mut self.recording {
-            Some(recording) => recording.mark_release(alloc, task, at),
-            None => Ok(()),
-        }
-    }
-}
-
-/// What a call was answered; `None` where it isn't answered, or not yet.
-fn answer_to(board: &Board, before: &Before, asked: Asked) -> Option<Answer> {
-    match before.who {
-        Some(Standing::Task(id)) => {
-            let now = task_seen(board, id)?;
-            if now.waiting.is_some() || asked.number == EXT_TSK || asked.number == EXT_KER {
-                return None;
-            }
-            Some(now.answer)
-        }
-        _ => {
-            if asked.number == RET_INT {
-                return None;
-            }
-            let context = board.registers(before.cpu)?;
-            Some(Answer::of(&context))
-        }
-    }
-}
-
-/// Whether a task is in another state than it was.
-fn has_changed(tasks: &[TaskSeen], board: &Board) -> bool {
-    for task in tasks {
-        if let Some(now) = task_seen(board, task.id) {
-            if now.state != task.state {
-                return true;
-            }
-        }
-    }
-    false
 }
 
 /// Which events did nothing.

@@ -1,11 +1,16 @@
 //! Pieces of text.
 
+ghost use Rattle.std.specs.Prelude.{IfOk};
+ghost use Rattle.brd_timeline.specs.Ends.{EndsWith};
+
 use brd_base::NoMemory;
 use brd_text::hex_digits;
 use std::alloc::Global;
 
 /// Puts a text at the end.
-pub(crate) fn put(out: &mut Vec<u8>, text: &str) -> Result<(), NoMemory> {
+pub(crate) fn put(out: &mut Vec<u8>, text: &str) -> Result<(), NoMemory>
+    ensures { IfOk result (λ _. EndsWith text.now out.new.items) }
+{
     out.extend_from_slice(text.as_bytes())?;
     Ok(())
 }

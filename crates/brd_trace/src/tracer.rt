@@ -1,6 +1,6 @@
 //! Going through a journal.
 
-ghost use Rattle.std.specs.Prelude.{◌≡◌, ◌≤◌, false, length, IfOk, Ok};
+ghost use Rattle.std.specs.Prelude.{◌≡◌, ◌≤◌, ◌<◌, length, IfOk};
 ghost use Rattle.brd_board.specs.Board.{BoardState as BoardOf};
 ghost use Rattle.brd_trace.specs.Playing.{IsPlayed};
 
@@ -37,7 +37,7 @@ impl Tracer {
     }
 
     /// Does the next event of a journal, and those of its run after it that do nothing, up to a position, and puts
-    /// their lines at the end. Answers whether there was one.
+    /// their lines at the end.
     pub fn advance(
         &mut self,
         alloc: Global,
@@ -45,31 +45,32 @@ impl Tracer {
         journal: &Journal,
         to: u64,
         out: &mut Vec<u8>,
-    ) -> Result<bool, NoMemory>
+    ) -> Result<(), NoMemory>
         requires on { self.old.playback.at ≤ to }
         requires within { to ≤ length journal.now.events }
         ensures at { self.new.playback.at ≤ to }
-        ensures ends { result ≡ Ok false → self.new.playback.at ≡ to }
+        ensures goes { self.old.playback.at < to → self.old.playback.at < self.new.playback.at }
         ensures played { (boot : BoardOf) → IsPlayed boot journal.now.events self.old.playback
             → IsPlayed boot journal.now.events self.new.playback }
     {
         let position = self.playback.at;
-        let event = journal.event_at(position);
-        let before = self.teller.before(&self.playback.board, position, event);
-        let Some(moved) = self.playback.advance(journal, to) else {
-            return Ok(false);
+        let mut context = None;
+        let Some(moved) = self.playback.advance(journal, to, &mut context) else {
+            return Ok(());
         };
+        if self.teller.passes(moved.report) {
+            return Ok(());
+        }
+        let before = self.teller.before(position, moved.event, context);
         let scene = Scene {
             alloc,
             names,
             board: &self.playback.board,
         };
-        self.teller.tell(scene, out, &before, moved)?;
-        Ok(true)
+        self.teller.tell(scene, out, &before, moved)
     }
 
-    /// Does the next events of a journal, up to a position, or until there are so many bytes of lines. Answers whether
-    /// there may be more.
+    /// Does the next events of a journal, up to a position, or until there are many bytes of lines.
     pub fn advance_far(
         &mut self,
         alloc: Global,
@@ -77,27 +78,24 @@ impl Tracer {
         journal: &Journal,
         to: u64,
         out: &mut Vec<u8>,
-    ) -> Result<bool, NoMemory>
+    ) -> Result<(), NoMemory>
         requires on { self.old.playback.at ≤ to }
         requires within { to ≤ length journal.now.events }
         ensures at { self.new.playback.at ≤ to }
-        ensures ends { result ≡ Ok false → self.new.playback.at ≡ to }
+        ensures goes { self.old.playback.at < to → self.old.playback.at < self.new.playback.at }
         ensures played { (boot : BoardOf) → IsPlayed boot journal.now.events self.old.playback
             → IsPlayed boot journal.now.events self.new.playback }
     {
-        for _ in 0..u64::MAX {
+        while self.playback.at < to {
+            self.advance(alloc, names, journal, to, out)?;
             if out.len() >= ENOUGH {
-                return Ok(true);
-            }
-            if !self.advance(alloc, names, journal, to, out)? {
-                return Ok(false);
+                break;
             }
         }
-        Ok(true)
+        Ok(())
     }
 
-    /// From here on lines are shown. Before them the names of the columns are put at the end, and what each processor
-    /// does.
+    /// From here on lines are shown. Before them it is put at the end what each processor does.
     pub fn show(&mut self, alloc: Global, names: Names, out: &mut Vec<u8>) -> Result<(), NoMemory>
         ensures { self.new.playback ≡ self.old.playback }
     {

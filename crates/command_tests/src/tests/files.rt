@@ -1,7 +1,7 @@
 //! Which files are opened, and in which order.
 
 use super::is_fault;
-use brd_command::{Files, Request, asm_files, perform};
+use brd_command::{Files, Quiet, Request, asm_files, perform};
 use std::alloc::{AllocError, Global};
 use std::cell::RefCell;
 use std::io::{self, ErrorKind, Read, Write};
@@ -232,7 +232,17 @@ fn is_performed<T: Threads + Wait + Sync>(
     };
     let mut input = b"24080005".as_slice();
     let mut output = Vec::new(alloc);
-    perform(rt, alloc, &mut files, &mut input, &mut output, row.request).is_ok() == row.is_ok
+    perform(
+        rt,
+        alloc,
+        &mut files,
+        &mut input,
+        &mut output,
+        &mut Quiet,
+        row.request,
+    )
+    .is_ok()
+        == row.is_ok
         && input.len() == row.left
         && output.as_slice() == row.written
 }

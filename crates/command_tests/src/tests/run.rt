@@ -3,7 +3,7 @@
 use super::fakes::{Busy, Bytewise, Taking};
 use super::{UNWRITTEN, is_fault};
 use brd_asm::assemble;
-use brd_command::{CommandFault, run};
+use brd_command::{CommandFault, Quiet, run};
 use std::alloc::Global;
 use std::test::Fail;
 use test_help::none_wrong;
@@ -50,7 +50,14 @@ fn run_failing(
         1 => config.fails_at = fails_at,
         _ => journal.fails_at = fails_at,
     }
-    run(alloc, &mut image, &mut config, &mut journal, writer)
+    run(
+        alloc,
+        &mut image,
+        &mut config,
+        &mut journal,
+        writer,
+        &mut Quiet,
+    )
 }
 
 /// The fault of an input that can't be read, by its place.
@@ -116,7 +123,14 @@ fn gives_up(alloc: Global, inputs: [&[u8]; 3], place: usize, text: &str) -> bool
     let mut config = Busy::new(config, place != 1);
     let mut journal = Busy::new(journal, place != 2);
     let mut writer = Taking::new(alloc);
-    let ended = run(alloc, &mut image, &mut config, &mut journal, &mut writer);
+    let ended = run(
+        alloc,
+        &mut image,
+        &mut config,
+        &mut journal,
+        &mut writer,
+        &mut Quiet,
+    );
     let reads = match place {
         0 => image.reads,
         1 => config.reads,

@@ -14,9 +14,9 @@ returns-clause-played c = λ boot is.
     let some : 1 ≤ c.min-count.result = omega (arith, c.min-count.ensures, c.reach-far.ensures.between, c.in_ok-rest.ensures.comes.0) in
     let few : c.min-count.result ≤ c.in_ok-rest.rest.count = omega (arith, c.min-count.ensures) in
     let on : c.args.self.now.at + c.min-count.result ≤ c.reach-far.result = omega (arith, c.min-count.ensures, c.reach-far.ensures.between) in
-    played-run boot c.args.journal.now.events c.args.self.now c.event_apart-report.new.self c.play.new.board c.in_ok-rest.rest
+    played-run boot c.args.journal.now.events c.args.self.now c.event_apart-report.new.self c.play_more.new.board c.in_ok-rest.rest
     c.min-count.result is c.in_ok-rest.ensures.comes.1 some few
-    (ap (λ (done : Happened). done.board) c.event_apart-report.ensures) c.play.ensures
+    (ap (λ (done : Happened). done.board) c.event_apart-report.ensures) c.play_more.ensures
     (omega (arith, on, c.reach-far.ensures.between, c.requires.within))
 
 pub returns-clause-still : goal.returns-clause-still

@@ -1,5 +1,6 @@
--- It hasn't gone past the end, and has played the first events, as many as it says.
-use Rattle.std.proofs.Common.{◌≤◌}
+-- It has gone on, unless it is at the first turn, and not past the end; and it has played the first events, as many as
+-- it says.
+use Rattle.std.proofs.Common.{◌≤◌, ◌-◌}
 use Rattle.brd_board.specs.Board.{BoardState}
 use Rattle.brd_trace.specs.Playing.{IsPlayed}
 use Rattle.brd_trace.proofs.tracer.Tracer.advance_far.Given as goal
@@ -7,5 +8,9 @@ use Rattle.brd_trace.proofs.tracer.Tracer.advance_far.Given as goal
 abbrev pub invariant-loop : goal.invariant-loop
 invariant-loop l = record {
   on : l.self.playback.at ≤ l.to;
+  above : l.fn.self.playback.at ≤ l.self.playback.at;
   played : (boot : BoardState) → IsPlayed boot l.journal.events l.fn.self.playback → IsPlayed boot l.journal.events l.self.playback;
 }
+
+abbrev pub decreases-loop : goal.decreases-loop
+decreases-loop l = l.to - l.self.playback.at

@@ -1,0 +1,65 @@
+//! How far a long command is, on a terminal.
+
+use brd_command::Progress;
+use std::io::IsTerminal;
+use std::time::{Duration, Instant};
+
+/// How many milliseconds a command works before it is shown how far it is (own choice).
+const PATIENCE: u64 = 1_000;
+
+/// How many milliseconds what is shown stays at least (own choice).
+const PAUSE: u64 = 200;
+
+/// A line of standard error that says how far a command is, where that is a terminal; else nothing.
+#[derive(Drop)]
+pub struct Screen<'a> {
+    rt: &'a HostRuntime,
+    /// When the command began; `None` where nothing is shown.
+    start: Option<Instant>,
+    /// How long after that it is shown next.
+    due: Duration,
+    is_shown: bool,
+}
+
+impl<'a> Screen<'a> {
+    /// The line of a command that begins now.
+    pub fn new(rt: &'a HostRuntime) -> Screen<'a> {
+        Screen {
+            rt,
+            start: if rt.stderr().is_terminal() {
+                Instant::now(rt).ok()
+            } else {
+                None
+            },
+            due: Duration::from_millis(PATIENCE),
+            is_shown: false,
+        }
+    }
+}
+
+impl<'a> Progress for Screen<'a> {
+    /// Writes the line anew, where it is time for that.
+    fn show(&mut self, done: u64, all: u64) {
+        let Some(start) = self.start else {
+            return;
+        };
+        let Ok(now) = start.elapsed(self.rt) else {
+            return;
+        };
+        if now < self.due {
+            return;
+        }
+        self.due = now.saturating_add(Duration::from_millis(PAUSE));
+        self.is_shown = true;
+        let percent = u128::from(done) * 100 / u128::from(all).max(1);
+        let _ = eprint!(self.rt; "\r{done} of {all} events ({percent} %)\x1b[K");
+    }
+
+    /// Empties the line, where it is shown.
+    fn hide(&mut self) {
+        if self.is_shown {
+            self.is_shown = false;
+            let _ = eprint!(self.rt; "\r\x1b[K");
+        }
+    }
+}

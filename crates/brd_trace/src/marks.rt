@@ -1,0 +1,82 @@
+//! The timeline of what is told.
+
+use crate::recording::Recording;
+use crate::teller::{Before, Teller};
+use brd_base::NoMemory;
+use brd_timeline::{MarkKind, Timeline};
+use std::alloc::Global;
+
+impl Teller {
+    /// From a position on a timeline is made.
+    pub(crate) fn record(&mut self, alloc: Global, from: u64) -> Result<(), NoMemory> {
+        let recording = Recording::new(alloc, &self.standings, self.tasks.as_slice(), from)?;
+        self.recording = Some(recording);
+        Ok(())
+    }
+
+    /// The timeline that was made up to a position, where one was.
+    pub(crate) fn into_timeline(
+        self,
+        alloc: Global,
+        to: u64,
+    ) -> Result<Option<Timeline>, NoMemory> {
+        let Teller { recording, .. } = self;
+        match recording {
+            Some(recording) => Ok(Some(recording.end(alloc, to)?)),
+            None => Ok(None),
+        }
+    }
+
+    /// Records what goes on from a position on.
+    pub(crate) fn see(&mut self, alloc: Global, at: u64) -> Result<(), NoMemory> {
+        match &mut self.recording {
+            Some(recording) => recording.see(alloc, &self.standings, self.tasks.as_slice(), at),
+            None => Ok(()),
+        }
+    }
+
+    /// Records a mark of a processor's step.
+    pub(crate) fn mark(
+        &mut self,
+        alloc: Global,
+        before: &Before,
+        kind: MarkKind,
+        label: &[u8],
+    ) -> Result<(), NoMemory> {
+        match &mut self.recording {
+            Some(recording) => recording.mark(alloc, before.cpu, before.position, kind, label),
+            None => Ok(()),
+        }
+    }
+
+    /// Records that a line is raised, in the lane of the processor that handles it.
+    pub(crate) fn mark_raise(
+        &mut self,
+        alloc: Global,
+        position: u64,
+        line: u8,
+        label: &[u8],
+    ) -> Result<(), NoMemory> {
+        if line as usize >= self.options.lines.len() {
+            return Ok(());
+        }
+        let cpu = self.options.lines[line as usize];
+        match &mut self.recording {
+            Some(recording) => { recording.mark(alloc, cpu, position, MarkKind::Interrupt, label) }
+            None => Ok(()),
+        }
+    }
+
+    /// Records that a tick released a task, by its place in the list of tasks.
+    pub(crate) fn mark_release(
+        &mut self,
+        alloc: Global,
+        task: usize,
+        at: u64,
+    ) -> Result<(), NoMemory> {
+        match &mut self.recording {
+            Some(recording) => recording.mark_release(alloc, task, at),
+            None => Ok(()),
+        }
+    }
+}
