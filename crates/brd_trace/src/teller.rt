@@ -6,10 +6,10 @@ use crate::effect::{put_effect, put_instruction};
 use crate::line::{HEAD, Line};
 use crate::names::Names;
 use crate::playback::Moved;
-use crate::quiet::{Quiet, Stretch};
+use crate::quiet::{Quiet, Spin, Stretch};
 use crate::recording::Recording;
 use crate::refusals::{Refusals, note_refusal};
-use crate::service::{Asked, EXT_KER, EXT_TSK, RET_INT, TER_TSK};
+use crate::service::{Asked, EXT_KER, EXT_TSK, LOC_SPN, RET_INT, TER_TSK};
 use crate::tasks::{Cause, Standings, TaskSeen, put_task_seen, task_seen, tasks_seen};
 use crate::text::{put, put_named};
 use brd_base::NoMemory;
@@ -193,9 +193,13 @@ impl Teller {
             return Ok(());
         };
         let asked = Asked::of(&context);
+        let answer = answer_to(it.board, before, asked);
+        if let Some(spin) = spin_of(before, asked, answer, address) {
+            return self.tell_quiet(it, out, Quiet::Spins(spin), before.position, 1);
+        }
         let mut what = Vec::new(it.alloc);
         asked.put(it.alloc, &mut what)?;
-        if let Some(answer) = answer_to(it.board, before, asked) {
+        if let Some(answer) = answer {
             answer.put(it.alloc, &mut what, asked)?;
             self.note(before.position, asked, answer, address)?;
         } else if asked.number == RET_INT {
@@ -418,8 +422,8 @@ impl Teller {
         let line = Line {
             position: stretch.position,
             cpu: stretch.quiet.processor(),
-            who: None,
-            place: None,
+            who: stretch.quiet.who(),
+            place: stretch.quiet.place(),
             what: &what,
         };
         line.put(alloc, names, out)
@@ -589,6 +593,20 @@ fn answer_to(board: &Board, before: &Before, asked: Asked) -> Option<Answer> {
             Some(Answer::of(&context))
         }
     }
+}
+
+/// The spinning of a task whose call comes again: it asks for a lock, and $v0 is still the call's number.
+fn spin_of(before: &Before, asked: Asked, answer: Option<Answer>, place: u32) -> Option<Spin> {
+    let task = before.task()?;
+    if asked.number != LOC_SPN || answer?.code != LOC_SPN {
+        return None;
+    }
+    Some(Spin {
+        cpu: before.cpu,
+        task,
+        place,
+        lock: asked.arguments[0],
+    })
 }
 
 /// Whether a task is in another state than it was.
