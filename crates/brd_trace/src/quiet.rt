@@ -1,8 +1,23 @@
 //! Events that change nothing, of which many in a row are one line.
 
+use crate::service::{Asked, LOC_SPN};
 use crate::text::{put, put_count, put_named, put_number};
 use brd_base::NoMemory;
+use brd_board::{Standing, TaskId};
 use std::alloc::Global;
+
+/// A task that asks for a spin lock that is held, so that the call comes again.
+#[derive(Clone, Copy, PartialEq, Eq)]
+pub(crate) struct Spin {
+    /// Its processor.
+    pub cpu: u8,
+    /// The task.
+    pub task: TaskId,
+    /// Where it asks.
+    pub place: u32,
+    /// Which lock.
+    pub lock: u32,
+}
 
 /// Which events.
 #[derive(Clone, Copy, PartialEq, Eq)]
@@ -13,6 +28,8 @@ pub(crate) enum Quiet {
     Stopped(u8),
     /// Steps of a processor that the board doesn't have.
     NoProcessor(u8),
+    /// Calls that come again.
+    Spins(Spin),
     /// Ticks that release nobody.
     Tick,
     /// Ticks after the last one.
@@ -43,6 +60,23 @@ impl Quiet {
     pub(crate) fn processor(self) -> Option<u8> {
         match self {
             Quiet::Idle(cpu) | Quiet::Stopped(cpu) | Quiet::NoProcessor(cpu) => Some(cpu),
+            Quiet::Spins(spin) => Some(spin.cpu),
+            _ => None,
+        }
+    }
+
+    /// Who does them.
+    pub(crate) fn who(self) -> Option<Standing> {
+        match self {
+            Quiet::Spins(spin) => Some(Standing::Task(spin.task)),
+            _ => None,
+        }
+    }
+
+    /// Where.
+    pub(crate) fn place(self) -> Option<u32> {
+        match self {
+            Quiet::Spins(spin) => Some(spin.place),
             _ => None,
         }
     }
@@ -55,6 +89,7 @@ impl Stretch {
             Quiet::Idle(_) => self.put_steps(alloc, out, "idle"),
             Quiet::Stopped(_) => self.put_steps(alloc, out, "stopped"),
             Quiet::NoProcessor(_) => self.put_steps(alloc, out, "no such processor"),
+            Quiet::Spins(spin) => self.put_spins(alloc, out, spin.lock),
             Quiet::Tick => self.put_ticks(alloc, out),
             Quiet::TimeOver => {
                 put(out, "time is over: ")?;
@@ -82,6 +117,18 @@ impl Stretch {
     /// Puts at the end what a processor is, and how many steps.
     fn put_steps(&self, alloc: Global, out: &mut Vec<u8>, what: &str) -> Result<(), NoMemory> {
         put(out, what)?;
+        put(out, ", ")?;
+        put_count(alloc, out, self.count, "step")
+    }
+
+    /// Puts at the end the call that comes again, the lock, and how many steps.
+    fn put_spins(&self, alloc: Global, out: &mut Vec<u8>, lock: u32) -> Result<(), NoMemory> {
+        let asked = Asked {
+            number: LOC_SPN,
+            arguments: [lock, 0, 0, 0],
+        };
+        asked.put(alloc, out)?;
+        put_named(alloc, out, ", spins for lock", u64::from(lock))?;
         put(out, ", ")?;
         put_count(alloc, out, self.count, "step")
     }

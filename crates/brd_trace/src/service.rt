@@ -44,6 +44,9 @@ pub(crate) const EXT_KER: u32 = 41;
 /// The number of `ret_int`.
 pub(crate) const RET_INT: u32 = 58;
 
+/// The number of `loc_spn`.
+pub(crate) const LOC_SPN: u32 = 60;
+
 /// A service call as the registers ask for it.
 #[derive(Clone, Copy)]
 pub(crate) struct Asked {
@@ -203,6 +206,9 @@ const BYTE: [Shown; 4] = [
 
 /// The service call of a number, where there is one.
 pub(crate) fn service_of(number: u32) -> Option<Service> {
+    if number >= 60 {
+        return service_on_spin_locks(number);
+    }
     if number >= 48 {
         return service_of_handlers(number);
     }
@@ -276,6 +282,16 @@ fn service_of_handlers(number: u32) -> Option<Service> {
         56 => telling("iget_tid", NONE, Shown::Number),
         57 => plain("imact_tsk", TWO),
         58 => plain("ret_int", NONE),
+        _ => None,
+    }
+}
+
+/// The call of a task that is on a spin lock.
+fn service_on_spin_locks(number: u32) -> Option<Service> {
+    match number {
+        60 => plain("loc_spn", ONE),
+        61 => plain("try_spn", ONE),
+        62 => plain("unl_spn", ONE),
         _ => None,
     }
 }

@@ -230,8 +230,8 @@ impl Teller {
         let line = Line {
             position: stretch.position,
             cpu: stretch.quiet.processor(),
-            who: None,
-            place: None,
+            who: stretch.quiet.who(),
+            place: stretch.quiet.place(),
             what: &what,
         };
         line.put(alloc, names, out)

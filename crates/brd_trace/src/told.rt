@@ -4,9 +4,9 @@ use crate::answer::Answer;
 use crate::cause::{Raised, word_at};
 use crate::effect::{put_effect, put_instruction};
 use crate::playback::Moved;
-use crate::quiet::Quiet;
+use crate::quiet::{Quiet, Spin};
 use crate::refusals::{Refusals, note_refusal};
-use crate::service::{Asked, EXT_KER, EXT_TSK, RET_INT, TER_TSK};
+use crate::service::{Asked, EXT_KER, EXT_TSK, LOC_SPN, RET_INT, TER_TSK};
 use crate::tasks::{Cause, TaskSeen, task_seen};
 use crate::teller::{Before, LastFault, Scene, Teller};
 use crate::text::{put, put_named};
@@ -45,9 +45,13 @@ impl Teller {
             return Ok(());
         };
         let asked = Asked::of(&context);
+        let answer = answer_to(it.board, before, asked);
+        if let Some(spin) = spin_of(before, asked, answer, address) {
+            return self.tell_quiet(it, out, Quiet::Spins(spin), before.position, 1);
+        }
         let mut what = Vec::new(it.alloc);
         asked.put(it.alloc, &mut what)?;
-        if let Some(answer) = answer_to(it.board, before, asked) {
+        if let Some(answer) = answer {
             answer.put(it.alloc, &mut what, asked)?;
             self.note(before.position, asked, answer, address)?;
         } else if asked.number == RET_INT {
@@ -227,6 +231,20 @@ fn answer_to(board: &Board, before: &Before, asked: Asked) -> Option<Answer> {
             Some(Answer::of(&context))
         }
     }
+}
+
+/// The spinning of a task whose call comes again: it asks for a lock, and $v0 is still the call's number.
+fn spin_of(before: &Before, asked: Asked, answer: Option<Answer>, place: u32) -> Option<Spin> {
+    let task = before.task()?;
+    if asked.number != LOC_SPN || answer?.code != LOC_SPN {
+        return None;
+    }
+    Some(Spin {
+        cpu: before.cpu,
+        task,
+        place,
+        lock: asked.arguments[0],
+    })
 }
 
 /// Whether a task is in another state than it was.
