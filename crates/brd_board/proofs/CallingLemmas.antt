@@ -12,7 +12,7 @@ use Rattle.brd_kernel.specs.declared.call.Ercd.{Ercd}
 use Rattle.brd_kernel.specs.Kernel.{KernelState, processor_at, running_in, executor_by, executor_in, executor_on, context_of, with_context_of, context_on}
 use Rattle.brd_kernel.specs.Row.{Served}
 use Rattle.brd_kernel.specs.Services.{caller_on, serve_of}
-use Rattle.brd_kernel.proofs.RunningCallLemmas.{MayServe}
+use Rattle.brd_kernel.proofs.who_runs.RunningCallLemmas.{MayServe}
 use Rattle.brd_kernel.proofs.SameLemmas.{Same, same-context}
 use Rattle.brd_sysgate.specs.Gate.{changed_in, with_changed_context, served_call, is_again, called_in, called, caller_in, caller_of, read_of, written}
 use Rattle.brd_board.proofs.GateLemmas.{MayBe, read-may}

@@ -10,7 +10,7 @@ use Rattle.brd_kernel.specs.declared.call.Call.{Call}
 use Rattle.brd_kernel.specs.declared.call.Ercd.{Ercd}
 use Rattle.brd_kernel.specs.Kernel.{executor_by}
 use Rattle.brd_kernel.specs.Services.{named}
-use Rattle.brd_kernel.proofs.RunningCallLemmas.{IsFree, MayServe, IsTaskOf, known_of, none-held}
+use Rattle.brd_kernel.proofs.who_runs.RunningCallLemmas.{IsFree, MayServe, IsTaskOf, known_of, none-held}
 use Rattle.brd_kernel.proofs.ThereLemmas.{first-of, second-of}
 use Rattle.brd_kernel.proofs.WalkLemmas.{Stop, GoesOn, Locks, Unlocks, MayWait, Waits, Names, Ends, stop_of, MayStop}
 use Rattle.brd_sysgate.specs.declared.gate.Caller.{Caller}

@@ -4,9 +4,7 @@ pub mod LinkLemmas
 pub mod SetupLemmas
 pub mod EventLemmas
 pub mod LawLemmas
-pub mod RunLemmas
-pub mod ConditionalLemmas
-pub mod Example
+pub mod conditional_stores
 pub mod ChangeLemmas
 pub mod WaitingLemmas
 pub mod OffLemmas

@@ -5,8 +5,8 @@ use Rattle.brd_time.specs.Time.{advanced as time_advanced}
 use Rattle.brd_kernel.specs.Kernel.{KernelState, with_tasks, accepted_line}
 use Rattle.brd_kernel.specs.Waits.{ticked_on}
 use Rattle.brd_kernel.specs.Running.{is_ready_on, IsRunning}
-use Rattle.brd_kernel.proofs.RunningLemmas.{listed-ready, HoldsReady, runs-hold, dispatch-runs, context-runs, context-holds}
-use Rattle.brd_kernel.proofs.RunningCallLemmas.{serve-holds, fault-holds, ticked-runs, accepted-runs, pending-runs}
+use Rattle.brd_kernel.proofs.who_runs.RunningLemmas.{listed-ready, HoldsReady, runs-hold, dispatch-runs, context-runs, context-holds}
+use Rattle.brd_kernel.proofs.who_runs.RunningCallLemmas.{serve-holds, fault-holds, ticked-runs, accepted-runs, pending-runs}
 use Rattle.brd_board.specs.declared.event.Event.{Event}
 use Rattle.brd_board.specs.Board.{BoardState, happens, after}
 use Rattle.std.proofs.lemmas.List.Elements.{All-cons, All-nil, All-head, All-tail}
@@ -23,7 +23,7 @@ use Rattle.brd_tasks.specs.Ready.{IsSetup}
 use Rattle.brd_tasks.specs.Tasks.{made, task_at, ready_on}
 use Rattle.brd_kernel.specs.declared.processor.LineSetup.{LineSetup}
 use Rattle.brd_kernel.specs.Making.{made_kernel}
-use Rattle.brd_kernel.proofs.RunningMadeLemmas.{made-runs, started-runs}
+use Rattle.brd_kernel.proofs.who_runs.RunningMadeLemmas.{made-runs, started-runs}
 use Rattle.brd_board.specs.declared.boot.BootFault.{BootFault}
 use Rattle.brd_board.specs.declared.boot.BootFault.TheVariants.{Outside}
 use Rattle.brd_board.specs.declared.setup.Region.{Region}

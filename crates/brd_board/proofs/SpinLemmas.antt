@@ -23,7 +23,7 @@ use Rattle.brd_kernel.specs.Holding.{AreLocks}
 use Rattle.brd_kernel.specs.Making.{made_kernel}
 use Rattle.brd_kernel.specs.Waits.{ticked_on, ended_by_fault}
 use Rattle.brd_kernel.specs.Services.{serve_of}
-use Rattle.brd_kernel.proofs.ListLemmas.{same-number}
+use Rattle.brd_kernel.proofs.who_waits.ListLemmas.{same-number}
 use Rattle.brd_kernel.proofs.SameLemmas.{Same, same-context}
 use Rattle.brd_kernel.proofs.SpinLemmas.{IsLocking, locks-locking, locking-locks, held-holds, holds-held, free-unheld, Wrote, serve-wrote, fault-wrote, accept-wrote, same-ticked, same-pending, locking-same, wrote-locking, wrote-runs, dispatch-holds, holder-stays, dispatch-locking, made-locking}
 use Rattle.brd_sysgate.specs.Gate.{called}

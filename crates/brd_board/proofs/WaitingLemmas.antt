@@ -9,8 +9,8 @@ use Rattle.brd_kernel.specs.declared.processor.LineSetup.{LineSetup}
 use Rattle.brd_kernel.specs.Kernel.{KernelState, with_tasks}
 use Rattle.brd_kernel.specs.Making.{made_kernel}
 use Rattle.brd_kernel.specs.Waiting.{WaitsAreKept}
-use Rattle.brd_kernel.proofs.ServiceLemmas.{serve-keeps, ticked-keeps, fault-keeps, context-keeps, dispatched-keeps, pending-keeps, accepted-keeps}
-use Rattle.brd_kernel.proofs.FirstLemmas.{made-keeps, activated-keeps}
+use Rattle.brd_kernel.proofs.who_waits.ServiceLemmas.{serve-keeps, ticked-keeps, fault-keeps, context-keeps, dispatched-keeps, pending-keeps, accepted-keeps}
+use Rattle.brd_kernel.proofs.who_waits.FirstLemmas.{made-keeps, activated-keeps}
 use Rattle.brd_board.proofs.EventLemmas.{Kept, happens-kept, after-kept, all-started-kept, boot-begins}
 use Rattle.brd_board.proofs.CallingLemmas.{Calls, called-leaves}
 use Rattle.brd_board.specs.declared.event.Event.{Event}

@@ -28,11 +28,11 @@ use Rattle.brd_kernel.specs.Dispatch.{dispatched_one, dispatched}
 use Rattle.brd_kernel.specs.Holding.{IsHolder, HeldAs, AreLocks}
 use Rattle.brd_kernel.specs.Waits.{ended_in, ticked_on, ticked, faulted_task, faulted_in, ended_by_fault}
 use Rattle.brd_kernel.specs.Services.{unmarked_on, handler_ended, serve_of, caller_on}
-use Rattle.brd_kernel.proofs.ListLemmas.{same-number, written-at}
+use Rattle.brd_kernel.proofs.who_waits.ListLemmas.{same-number, written-at}
 use Rattle.brd_kernel.proofs.DispatchLemmas.{at-dispatched}
 use Rattle.brd_kernel.proofs.SameLemmas.{Same, same-ended, same-broken, same-reordered, same-timed, same-satisfied, same-released, same-handed, same-wait}
 use Rattle.brd_kernel.proofs.WalkLemmas.{HoldsOn, Holding, Keeps, Opens, Takes, Leaves-none, Law, in_semaphore, in_flag, in_senders, in_receivers, serve-leaves}
-use Rattle.brd_kernel.proofs.RunningCallLemmas.{IsTaskOf, known_of, MayServe}
+use Rattle.brd_kernel.proofs.who_runs.RunningCallLemmas.{IsTaskOf, known_of, MayServe}
 
 -- The same said by processors.
 

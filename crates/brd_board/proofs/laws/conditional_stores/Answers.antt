@@ -1,4 +1,4 @@
-use Rattle.brd_board.proofs.ConditionalLemmas.{boot-conditional, boot-word}
+use Rattle.brd_board.proofs.conditional_stores.ConditionalLemmas.{boot-conditional, boot-word}
 use Rattle.brd_board.proofs.laws.conditional_stores.Goals as goal
 
 pub returns-clause-exact : goal.returns-clause-exact

@@ -1,5 +1,5 @@
 use Rattle.std.proofs.Common.{ℕ}
-use Rattle.brd_kernel.proofs.RunningLemmas.{runs-once}
+use Rattle.brd_kernel.proofs.who_runs.RunningLemmas.{runs-once}
 use Rattle.brd_board.specs.Board.{BoardState}
 use Rattle.brd_board.proofs.RunningLemmas.{boot-runs, happens-runs}
 use Rattle.brd_board.proofs.laws.who_runs_is_ready.Goals as goal

@@ -1,5 +1,5 @@
-use Rattle.brd_kernel.proofs.FirstLemmas.{made-keeps}
-use Rattle.brd_kernel.proofs.ServiceLemmas.{serve-keeps, tick-keeps, fault-keeps}
+use Rattle.brd_kernel.proofs.who_waits.FirstLemmas.{made-keeps}
+use Rattle.brd_kernel.proofs.who_waits.ServiceLemmas.{serve-keeps, tick-keeps, fault-keeps}
 use Rattle.brd_kernel.proofs.laws.who_waits_stands_in_its_list.Goals as goal
 
 pub returns-clause-made : goal.returns-clause-made

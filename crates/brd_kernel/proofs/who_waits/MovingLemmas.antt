@@ -19,10 +19,10 @@ use Rattle.brd_objects.specs.DataQueues.{DataQueueState, data_queue_reordered}
 use Rattle.brd_kernel.specs.Kernel.{KernelState}
 use Rattle.brd_kernel.specs.Waits.{reordered_in}
 use Rattle.brd_kernel.specs.Waiting.{plain, semaphore_waiters, flag_waiters, senders, receivers, standing_for}
-use Rattle.brd_kernel.proofs.ListLemmas.{priority_in-plain, has-plain, apart-plain, apart-wanting, priority_in-reordered, apart-reordered}
-use Rattle.brd_kernel.proofs.StandingLemmas.{waits, wanted, Stands}
-use Rattle.brd_kernel.proofs.WaitersLemmas.{semaphores-all, flags-all, queues-all, send-elsewhere, receive-elsewhere, StaysApart}
-use Rattle.brd_kernel.proofs.LeavingLemmas.{sleeps-nowhere, delayed-nowhere}
+use Rattle.brd_kernel.proofs.who_waits.ListLemmas.{priority_in-plain, has-plain, apart-plain, apart-wanting, priority_in-reordered, apart-reordered}
+use Rattle.brd_kernel.proofs.who_waits.StandingLemmas.{waits, wanted, Stands}
+use Rattle.brd_kernel.proofs.who_waits.WaitersLemmas.{semaphores-all, flags-all, queues-all, send-elsewhere, receive-elsewhere, StaysApart}
+use Rattle.brd_kernel.proofs.who_waits.LeavingLemmas.{sleeps-nowhere, delayed-nowhere}
 
 abbrev MovedBy : ℕ → ℕ → ℕ → List Plain → List Plain → Type 0
 MovedBy id p at new old = priority_in at new ≡ (if (id == at) && has id old then Some p else priority_in at old)

@@ -11,8 +11,8 @@ use Rattle.brd_tasks.specs.declared.status.WaitReason.{WaitReason}
 use Rattle.brd_tasks.specs.declared.task.Task.{Task}
 use Rattle.brd_tasks.specs.Tasks.{TaskTable, task_at}
 use Rattle.brd_time.specs.Time.{Time, due_of, with_due}
-use Rattle.brd_kernel.proofs.ListLemmas.{among, same-number, if-same, cleared-at}
-use Rattle.brd_kernel.proofs.StandingLemmas.{stands_in, stands-same, some-if, waits, wanted, IsTimedBy, IsTimed, Stands}
+use Rattle.brd_kernel.proofs.who_waits.ListLemmas.{among, same-number, if-same, cleared-at}
+use Rattle.brd_kernel.proofs.who_waits.StandingLemmas.{stands_in, stands-same, some-if, waits, wanted, IsTimedBy, IsTimed, Stands}
 
 -- the lists are the same, one by one
 pub by-lists : (but : List ℕ) (t : TaskTable) (time : Time) (old new : WaitReason → List Plain) → ((why : WaitReason) → new why ≡ old why) →

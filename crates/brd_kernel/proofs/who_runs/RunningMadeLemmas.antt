@@ -13,8 +13,8 @@ use Rattle.brd_tasks.proofs.MadeLemmas.{same-at, made-consistent}
 use Rattle.brd_kernel.specs.Kernel.{KernelState, idle, running_in, with_tasks}
 use Rattle.brd_kernel.specs.Making.{idle_one, idle_ones}
 use Rattle.brd_kernel.specs.Running.{IsOrderly, IsRunning}
-use Rattle.brd_kernel.proofs.ReadyLemmas.{activated-keeps}
-use Rattle.brd_kernel.proofs.RunningLemmas.{tasks-run}
+use Rattle.brd_kernel.proofs.who_runs.ReadyLemmas.{activated-keeps}
+use Rattle.brd_kernel.proofs.who_runs.RunningLemmas.{tasks-run}
 
 ones-length : (processors n : ℕ) → length (idle_ones processors n) ≡ n
 unfolding idle_ones

@@ -18,7 +18,7 @@ use Rattle.brd_board.specs.declared.event.Event.TheVariants.{Step}
 use Rattle.brd_board.specs.Board.{BoardState, happens, after}
 use Rattle.brd_board.specs.History.{moves, history, IsReserved, HasReserved}
 use Rattle.brd_board.specs.Conditional.{DoesConditional, Leaves}
-use Rattle.brd_board.proofs.ConditionalLemmas.{conditional-from, word-from, reserved-linked}
+use Rattle.brd_board.proofs.conditional_stores.ConditionalLemmas.{conditional-from, word-from, reserved-linked}
 
 -- register 1 holds RAM's start
 abbrev pub starts_at : ℕ → State

@@ -39,7 +39,7 @@ use Rattle.brd_board.specs.Boot.{boot}
 use Rattle.brd_board.specs.Board.{BoardState, Happened, with_executed, with_call, with_fault, instruction_done, executes_in, accepts_or_executes, stepped_in, happens_on, happens, after, registers_of}
 use Rattle.brd_board.specs.History.{Move, ends_of, moves_done, moves_executing, moves_accepting, moves_stepping, moves_on, moves, history, HasReserved}
 use Rattle.brd_board.specs.Conditional.{DoesConditional, Leaves, ConditionalLaw, WordLaw}
-use Rattle.brd_board.proofs.RunLemmas.{Run, run-join, FromStart, linked-back, linked-reserved, word-reserved}
+use Rattle.brd_board.proofs.conditional_stores.RunLemmas.{Run, run-join, FromStart, linked-back, linked-reserved, word-reserved}
 
 -- An event is the run of its moves.
 

@@ -25,16 +25,16 @@ use Rattle.brd_kernel.specs.Waits.{reason_of, ended_in, answer_by, timed_out, al
 use Rattle.brd_kernel.specs.Services as table
 use Rattle.brd_kernel.specs.Services.{named, unmarked_on, handler_ended, serve_by, serve_of, caller_on, or_waits, callers_priority, with_released, with_all_released_in, with_satisfied_of, handed_over, flag_got, queue_sent, queue_received}
 use Rattle.brd_kernel.specs.Waiting.{standing_for, WaitsAreKept}
-use Rattle.brd_kernel.proofs.ListLemmas.{either}
+use Rattle.brd_kernel.proofs.who_waits.ListLemmas.{either}
 use Rattle.brd_kernel.proofs.WalkLemmas.{Anything, Law, in_semaphore, in_flag, in_senders, in_receivers, serve-always}
-use Rattle.brd_kernel.proofs.SleeperLemmas.{AreKept}
-use Rattle.brd_kernel.proofs.EachLemmas.{others-kept, tasks-kept, ticked-kept, fault-kept}
-use Rattle.brd_kernel.proofs.EachCallLemmas.{serve-kept}
-use Rattle.brd_kernel.proofs.StandingLemmas.{waits_by, waits, StandsIn, stands, kept}
-use Rattle.brd_kernel.proofs.KeepingLemmas.{by-lists, by-count}
-use Rattle.brd_kernel.proofs.RowLemmas.{noted-before, activated-before, migrated-before, turned-before, suspended-keeps, resumed-keeps, through-before}
-use Rattle.brd_kernel.proofs.WaitingLemmas.{lists-by, parts-keep, processor-keeps, tasks-keep, released-keep, broken-keeps, ended-keeps, asleep-out, wait-keeps, enters-none, enters-semaphore, enters-flag, enters-sender, enters-receiver, priority-keeps}
-use Rattle.brd_kernel.proofs.CallLemmas.{sleep-none, delay-none, taken-by, semaphore-stays, returned-keeps, flag-stays, taken-keeps, satisfied-keep, sent-keeps, forced-keeps, received-keeps}
+use Rattle.brd_kernel.proofs.nobody_waits.SleeperLemmas.{AreKept}
+use Rattle.brd_kernel.proofs.nobody_waits.EachLemmas.{others-kept, tasks-kept, ticked-kept, fault-kept}
+use Rattle.brd_kernel.proofs.nobody_waits.EachCallLemmas.{serve-kept}
+use Rattle.brd_kernel.proofs.who_waits.StandingLemmas.{waits_by, waits, StandsIn, stands, kept}
+use Rattle.brd_kernel.proofs.who_waits.KeepingLemmas.{by-lists, by-count}
+use Rattle.brd_kernel.proofs.who_waits.RowLemmas.{noted-before, activated-before, migrated-before, turned-before, suspended-keeps, resumed-keeps, through-before}
+use Rattle.brd_kernel.proofs.who_waits.WaitingLemmas.{lists-by, parts-keep, processor-keeps, tasks-keep, released-keep, broken-keeps, ended-keeps, asleep-out, wait-keeps, enters-none, enters-semaphore, enters-flag, enters-sender, enters-receiver, priority-keeps}
+use Rattle.brd_kernel.proofs.who_waits.CallLemmas.{sleep-none, delay-none, taken-by, semaphore-stays, returned-keeps, flag-stays, taken-keeps, satisfied-keep, sent-keeps, forced-keeps, received-keeps}
 
 -- Service calls.
 

@@ -12,8 +12,8 @@ use Rattle.brd_tasks.specs.declared.task.Task.{Task}
 use Rattle.brd_tasks.specs.declared.task.Request.{Request}
 use Rattle.brd_tasks.specs.Status.{waiting_of, is_dormant, is_ready, blocked, released, suspended, resumed}
 use Rattle.brd_tasks.specs.Tasks.{TaskTable, task_at, started, processor_of, starts, placed, patched, where_there, activated, ended_by, ended, put_into, through, released_to, released_with, changed, with_priority, on_processor, noted, turned}
-use Rattle.brd_kernel.proofs.ListLemmas.{if-lift, same-number, written-at}
-use Rattle.brd_kernel.proofs.StandingLemmas.{waits_by, waits}
+use Rattle.brd_kernel.proofs.who_waits.ListLemmas.{if-lift, same-number, written-at}
+use Rattle.brd_kernel.proofs.who_waits.StandingLemmas.{waits_by, waits}
 
 -- every task waits as before
 pub record IsAsBefore (t new : TaskTable) : Type 0 where

@@ -14,7 +14,7 @@ use Rattle.brd_time.specs.Time.{Time, due_of}
 use Rattle.brd_kernel.specs.Kernel.{KernelState}
 use Rattle.brd_kernel.specs.Waits.{reason_in, reason_of}
 use Rattle.brd_kernel.specs.Waiting.{standing_for, has_list, EachIsKept, WaitsAreKept}
-use Rattle.brd_kernel.proofs.ListLemmas.{among, priority_in-absent, same-number}
+use Rattle.brd_kernel.proofs.who_waits.ListLemmas.{among, priority_in-absent, same-number}
 
 -- who waits for the one stands in the list of the other
 abbrev pub stands_in : WaitReason → WaitReason → Bool

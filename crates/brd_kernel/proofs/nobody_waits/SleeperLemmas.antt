@@ -11,9 +11,9 @@ use Rattle.brd_tasks.specs.Status.{is_dormant, blocked, released}
 use Rattle.brd_tasks.specs.Tasks.{TaskTable, task_at, started, processor_of, starts, placed, patched, where_there, activated, ended_by, ended, put_into, through, released_to, released_with, changed, noted}
 use Rattle.brd_kernel.specs.Services.{is_sleep, is_asleep}
 use Rattle.brd_kernel.specs.Waiting.{SleeperIsKept}
-use Rattle.brd_kernel.proofs.ListLemmas.{either}
-use Rattle.brd_kernel.proofs.TableLemmas.{set-keeps}
-use Rattle.brd_kernel.proofs.RowLemmas.{KeepsWait}
+use Rattle.brd_kernel.proofs.who_waits.ListLemmas.{either}
+use Rattle.brd_kernel.proofs.nobody_waits.TableLemmas.{set-keeps}
+use Rattle.brd_kernel.proofs.who_waits.RowLemmas.{KeepsWait}
 
 abbrev pub AreKept : TaskTable → Type 0
 AreKept t = (id : ℕ) → IfSome (task_at t id) (λ task. SleeperIsKept task)

@@ -29,11 +29,11 @@ use Rattle.brd_kernel.specs.declared.processor.LineSetup.{LineSetup}
 use Rattle.brd_kernel.specs.Kernel.{KernelState, with_tasks}
 use Rattle.brd_kernel.specs.Making.{made_kernel}
 use Rattle.brd_kernel.specs.Waiting.{semaphore_waiters, flag_waiters, senders, receivers, standing_for, AreInOrder, SemaphoreIsKept, FlagIsKept, QueueIsKept, SleeperIsKept, EachIsKept, WaitsAreKept}
-use Rattle.brd_kernel.proofs.StandingLemmas.{waits, wanted, IsTimed, StandsIn, stands, kept}
-use Rattle.brd_kernel.proofs.SleeperLemmas.{activated-kept}
-use Rattle.brd_kernel.proofs.EachLemmas.{tasks-kept}
-use Rattle.brd_kernel.proofs.RowLemmas.{activated-before}
-use Rattle.brd_kernel.proofs.WaitingLemmas.{tasks-keep}
+use Rattle.brd_kernel.proofs.who_waits.StandingLemmas.{waits, wanted, IsTimed, StandsIn, stands, kept}
+use Rattle.brd_kernel.proofs.nobody_waits.SleeperLemmas.{activated-kept}
+use Rattle.brd_kernel.proofs.nobody_waits.EachLemmas.{tasks-kept}
+use Rattle.brd_kernel.proofs.who_waits.RowLemmas.{activated-before}
+use Rattle.brd_kernel.proofs.who_waits.WaitingLemmas.{tasks-keep}
 
 -- what stands at a place of a table that is made: what its ID makes, or nothing
 made-by : {C X : Type 0} → (small : Bool) (id_of : C → ℕ) (object_of : C → X) (configs : List C) (n at : ℕ) (P : Option X → Type 0) →

@@ -30,11 +30,11 @@ use Rattle.brd_kernel.specs.Waits.{can_wait, with_wait, released_in, reason_of, 
 use Rattle.brd_kernel.specs.Dispatch.{is_same_task}
 use Rattle.brd_kernel.specs.Services.{runs_held, is_held_elsewhere, is_no_processor, with_released, with_all_released_in, with_satisfied_of, with_satisfied_released, handed_over, with_priority_in, unmarked_on, handler_ended, serve_of, caller_on}
 use Rattle.brd_kernel.specs.Running.{is_ready_on, IsRunning}
-use Rattle.brd_kernel.proofs.ListLemmas.{same-number}
+use Rattle.brd_kernel.proofs.who_waits.ListLemmas.{same-number}
 use Rattle.brd_kernel.proofs.WaitLemmas.{unlisted-only, reordered-only}
 use Rattle.brd_kernel.proofs.WalkLemmas.{IsOfBoard, Fact, Unheld, OfTask, HoldsNone, May, Law, in_semaphore, in_flag, in_senders, in_receivers, serve-leaves}
-use Rattle.brd_kernel.proofs.ReadyLemmas.{KeepsReady, activated-keeps, ended-others, wakeup-keeps, cleared-keeps, blocked-active, suspended-active, through-others, resumed-keeps, released-keeps, priority-keeps, migrated-others, turned-keeps}
-use Rattle.brd_kernel.proofs.RunningLemmas.{held_in, HoldsReady, IsntHeld, runs-hold, tasks-run, parts-run, marked-runs, others-hold, free-isnt_held, exit-holds, number-there}
+use Rattle.brd_kernel.proofs.who_runs.ReadyLemmas.{KeepsReady, activated-keeps, ended-others, wakeup-keeps, cleared-keeps, blocked-active, suspended-active, through-others, resumed-keeps, released-keeps, priority-keeps, migrated-others, turned-keeps}
+use Rattle.brd_kernel.proofs.who_runs.RunningLemmas.{held_in, HoldsReady, IsntHeld, runs-hold, tasks-run, parts-run, marked-runs, others-hold, free-isnt_held, exit-holds, number-there}
 
 -- Waits that end, priorities and ticks: whoever runs goes on.
 

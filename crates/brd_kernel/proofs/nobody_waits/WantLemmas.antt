@@ -14,7 +14,7 @@ use Rattle.brd_objects.specs.Waiters.{has_bits, satisfies, WantBits}
 use Rattle.brd_objects.specs.Flags.{kept_of, pattern_after}
 use Rattle.brd_objects.proofs.BitLemmas.{HasBits}
 use Rattle.brd_objects.proofs.LawLemmas.{unsatisfied}
-use Rattle.brd_kernel.proofs.ListLemmas.{either}
+use Rattle.brd_kernel.proofs.who_waits.ListLemmas.{either}
 
 -- what holds of all that waiters want still does of those whom a flag keeps when it releases
 pub want-kept : (Q : Want → Type 0) (clears : Bool) (pattern : ℕ) (xs : List (Entry Want)) → AllWant Q xs → AllWant Q (kept_of clears pattern xs)

@@ -12,8 +12,8 @@ use Rattle.brd_objects.specs.Table.{Table, object_at, object_changed, objects_ch
 use Rattle.brd_objects.specs.DataQueues.{DataQueueState}
 use Rattle.brd_kernel.specs.Kernel.{KernelState}
 use Rattle.brd_kernel.specs.Waiting.{plain, semaphore_waiters, flag_waiters, senders, receivers, standing_for}
-use Rattle.brd_kernel.proofs.ListLemmas.{if-lift, same-number, written-at}
-use Rattle.brd_kernel.proofs.StandingLemmas.{stands_in, wanted}
+use Rattle.brd_kernel.proofs.who_waits.ListLemmas.{if-lift, same-number, written-at}
+use Rattle.brd_kernel.proofs.who_waits.StandingLemmas.{stands_in, wanted}
 
 -- One object is changed.
 

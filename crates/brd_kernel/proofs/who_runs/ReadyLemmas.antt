@@ -19,7 +19,7 @@ use Rattle.brd_tasks.specs.Tasks.{TaskTable, task_at, ready_on, left, started, o
 use Rattle.brd_tasks.specs.Ready.{IsProcessor, IsRequest, IsQueued, IsTask, IsRow, ready_priority}
 use Rattle.brd_tasks.proofs.Consistency.{known_small, left-new, consistent-placed, consistent-patched, consistent-turned}
 use Rattle.brd_kernel.specs.Running.{is_ready_on, IsOrderly}
-use Rattle.brd_kernel.proofs.ListLemmas.{written-at, same-number, apart-placed}
+use Rattle.brd_kernel.proofs.who_waits.ListLemmas.{written-at, same-number, apart-placed}
 
 -- The tasks stay consistent, and each that is ready on a processor stays so.
 pub record KeepsReady (t new : TaskTable) : Type 0 where

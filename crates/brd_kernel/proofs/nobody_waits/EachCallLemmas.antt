@@ -18,11 +18,11 @@ use Rattle.brd_kernel.specs.Kernel.{KernelState, with_tasks, processor_at, unmar
 use Rattle.brd_kernel.specs.Waits.{reason_in, ended_in}
 use Rattle.brd_kernel.specs.Services.{is_sleep, is_asleep, unmarked_on, handler_ended, serve_of, caller_on, callers_priority}
 use Rattle.brd_kernel.specs.Waiting.{SleeperIsKept, EachIsKept}
-use Rattle.brd_kernel.proofs.ObjectLemmas.{returned-kept, taken-kept, semaphore-awaited, masked-kept, taken-for, flag-awaited, sent-kept, forced-kept, received-kept, sender-awaited, receiver-awaited}
-use Rattle.brd_kernel.proofs.RowLemmas.{suspended-keeps, resumed-keeps}
-use Rattle.brd_kernel.proofs.SleeperLemmas as sleeper
+use Rattle.brd_kernel.proofs.nobody_waits.ObjectLemmas.{returned-kept, taken-kept, semaphore-awaited, masked-kept, taken-for, flag-awaited, sent-kept, forced-kept, received-kept, sender-awaited, receiver-awaited}
+use Rattle.brd_kernel.proofs.who_waits.RowLemmas.{suspended-keeps, resumed-keeps}
+use Rattle.brd_kernel.proofs.nobody_waits.SleeperLemmas as sleeper
 use Rattle.brd_kernel.proofs.WalkLemmas.{Anything, Law, in_semaphore, in_flag, in_senders, in_receivers, serve-always}
-use Rattle.brd_kernel.proofs.EachLemmas.{others-kept, processor-kept, tasks-kept, semaphore-changed, flag-changed, queue-changed, released-kept, broken-kept, ended-kept, reordered-by, wait-kept, no-sleep, released-if, set-stays, handed-kept}
+use Rattle.brd_kernel.proofs.nobody_waits.EachLemmas.{others-kept, processor-kept, tasks-kept, semaphore-changed, flag-changed, queue-changed, released-kept, broken-kept, ended-kept, reordered-by, wait-kept, no-sleep, released-if, set-stays, handed-kept}
 
 -- a task that is awake has a wake-up queued
 

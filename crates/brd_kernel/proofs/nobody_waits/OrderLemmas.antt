@@ -14,7 +14,7 @@ use Rattle.brd_objects.specs.declared.want.Want.{Want}
 use Rattle.brd_objects.specs.Waiters.{satisfies}
 use Rattle.brd_objects.specs.Flags.{kept_of}
 use Rattle.brd_kernel.specs.Waiting.{AreInOrder}
-use Rattle.brd_kernel.proofs.ListLemmas.{either}
+use Rattle.brd_kernel.proofs.who_waits.ListLemmas.{either}
 
 pub in-placed : {W : Type 0} → (order : Order) (e : Entry W) (xs : List (Entry W)) → AreInOrder order xs → AreInOrder order (placed order e xs)
 in-placed Arrival e xs was = tt

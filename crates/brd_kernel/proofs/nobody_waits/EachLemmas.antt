@@ -23,11 +23,11 @@ use Rattle.brd_kernel.specs.Waits.{can_wait, with_wait, released_in, reason_of, 
 use Rattle.brd_kernel.specs.Services as table
 use Rattle.brd_kernel.specs.Services.{is_sleep, or_waits, with_released, with_all_released_in, with_satisfied_of, handed_over}
 use Rattle.brd_kernel.specs.Waiting.{SemaphoreIsKept, FlagIsKept, QueueIsKept, EachIsKept}
-use Rattle.brd_kernel.proofs.ListLemmas.{either}
-use Rattle.brd_kernel.proofs.TableLemmas.{one-keeps, all-keep, changed-twice, changed-there}
-use Rattle.brd_kernel.proofs.ObjectLemmas.{semaphore-left, semaphore-reordered, flag-left, flag-reordered, set-kept, queue-left, queue-reordered}
-use Rattle.brd_kernel.proofs.SleeperLemmas.{AreKept}
-use Rattle.brd_kernel.proofs.SleeperLemmas as sleeper
+use Rattle.brd_kernel.proofs.who_waits.ListLemmas.{either}
+use Rattle.brd_kernel.proofs.nobody_waits.TableLemmas.{one-keeps, all-keep, changed-twice, changed-there}
+use Rattle.brd_kernel.proofs.nobody_waits.ObjectLemmas.{semaphore-left, semaphore-reordered, flag-left, flag-reordered, set-kept, queue-left, queue-reordered}
+use Rattle.brd_kernel.proofs.nobody_waits.SleeperLemmas.{AreKept}
+use Rattle.brd_kernel.proofs.nobody_waits.SleeperLemmas as sleeper
 
 -- Objects and tasks that are changed.
 

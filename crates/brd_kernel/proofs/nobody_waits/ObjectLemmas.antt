@@ -19,9 +19,9 @@ use Rattle.brd_objects.specs.Flags.{joined, masked, pattern_left, pattern_for, t
 use Rattle.brd_objects.specs.DataQueues.{DataQueueState, has_room, sent_to, sent, outcome_to, outcome, with_room_for, with_room, forced, received_by, received, receipt_by, receipt, awaited_by_sender, awaited_by_receiver, data_queue_left, data_queue_reordered}
 use Rattle.brd_objects.proofs.BitLemmas.{HasBits}
 use Rattle.brd_kernel.specs.Waiting.{SemaphoreIsKept, FlagIsKept, QueueIsKept}
-use Rattle.brd_kernel.proofs.ListLemmas.{either}
-use Rattle.brd_kernel.proofs.OrderLemmas.{in-placed, in-without, in-reordered, in-others, in-kept}
-use Rattle.brd_kernel.proofs.WantLemmas.{IsUnsatisfied, want-kept, want-none, fewer, unreleased}
+use Rattle.brd_kernel.proofs.who_waits.ListLemmas.{either}
+use Rattle.brd_kernel.proofs.nobody_waits.OrderLemmas.{in-placed, in-without, in-reordered, in-others, in-kept}
+use Rattle.brd_kernel.proofs.nobody_waits.WantLemmas.{IsUnsatisfied, want-kept, want-none, fewer, unreleased}
 
 not-both : {A : Type 0} → (x : A) (xs ys : List A) → ys ≡ x ∷ xs → ys ≡ [] → ⊥
 not-both x xs ys some none = omega (arith, ap length some, ap length none)

@@ -23,11 +23,11 @@ use Rattle.brd_kernel.specs.Kernel.{KernelState}
 use Rattle.brd_kernel.specs.Waits.{released_in}
 use Rattle.brd_kernel.specs.Services.{with_released, with_all_released_in, with_satisfied_of, handed_over}
 use Rattle.brd_kernel.specs.Waiting.{plain, semaphore_waiters, flag_waiters, senders, receivers, standing_for}
-use Rattle.brd_kernel.proofs.ListLemmas.{either, among, apart-plain, apart-wanting, apart-kept, has-plain, priority_in-plain, priority_in-kept, released-there}
-use Rattle.brd_kernel.proofs.StandingLemmas.{stands_in, StandsIn}
-use Rattle.brd_kernel.proofs.KeepingLemmas.{by-leaving-one}
-use Rattle.brd_kernel.proofs.WaitersLemmas.{semaphore-rewrites, flag-rewrites, sender-rewrites, receiver-rewrites}
-use Rattle.brd_kernel.proofs.WaitingLemmas.{released-keep, first-out, unchanged-keeps}
+use Rattle.brd_kernel.proofs.who_waits.ListLemmas.{either, among, apart-plain, apart-wanting, apart-kept, has-plain, priority_in-plain, priority_in-kept, released-there}
+use Rattle.brd_kernel.proofs.who_waits.StandingLemmas.{stands_in, StandsIn}
+use Rattle.brd_kernel.proofs.who_waits.KeepingLemmas.{by-leaving-one}
+use Rattle.brd_kernel.proofs.who_waits.WaitersLemmas.{semaphore-rewrites, flag-rewrites, sender-rewrites, receiver-rewrites}
+use Rattle.brd_kernel.proofs.who_waits.WaitingLemmas.{released-keep, first-out, unchanged-keeps}
 
 -- A wait for time has no list.
 

@@ -20,10 +20,10 @@ use Rattle.brd_objects.specs.DataQueues.{DataQueueState, data_queue_left}
 use Rattle.brd_kernel.specs.Kernel.{KernelState}
 use Rattle.brd_kernel.specs.Waits.{reason_in, reason_of, priority_of, unlisted_from, unlisted}
 use Rattle.brd_kernel.specs.Waiting.{plain, semaphore_waiters, flag_waiters, senders, receivers, standing_for}
-use Rattle.brd_kernel.proofs.ListLemmas.{if-same, same-number, priority_in-plain, apart-plain, apart-wanting}
-use Rattle.brd_kernel.proofs.StandingLemmas.{waits_by, waits, wanted, Stands, StandsIn}
-use Rattle.brd_kernel.proofs.WaitersLemmas.{semaphores-all, flags-all, queues-all, of_queue, send-elsewhere, receive-elsewhere, StaysApart}
-use Rattle.brd_kernel.proofs.KeepingLemmas.{by-leaving}
+use Rattle.brd_kernel.proofs.who_waits.ListLemmas.{if-same, same-number, priority_in-plain, apart-plain, apart-wanting}
+use Rattle.brd_kernel.proofs.who_waits.StandingLemmas.{waits_by, waits, wanted, Stands, StandsIn}
+use Rattle.brd_kernel.proofs.who_waits.WaitersLemmas.{semaphores-all, flags-all, queues-all, of_queue, send-elsewhere, receive-elsewhere, StaysApart}
+use Rattle.brd_kernel.proofs.who_waits.KeepingLemmas.{by-leaving}
 
 -- what a task waits for, as its row says it
 wait-row : (row : Option Task) → waits row ≡ waits_by (reason_in row) (priority_of row)

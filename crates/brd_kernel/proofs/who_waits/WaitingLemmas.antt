@@ -26,14 +26,14 @@ use Rattle.brd_kernel.specs.Kernel.{KernelState, with_tasks, with_processor}
 use Rattle.brd_kernel.specs.Waits.{priority_of, can_wait, with_wait, released_in, reason_of, unlisted, broken_off, ended_in, reordered_in}
 use Rattle.brd_kernel.specs.Services.{callers_priority, with_priority_in}
 use Rattle.brd_kernel.specs.Waiting.{plain, semaphore_waiters, flag_waiters, senders, receivers, standing_for}
-use Rattle.brd_kernel.proofs.ListLemmas.{priority_in-plain, priority_in-placed, priority_in-first, apart-plain, apart-wanting, apart-placed}
+use Rattle.brd_kernel.proofs.who_waits.ListLemmas.{priority_in-plain, priority_in-placed, priority_in-first, apart-plain, apart-wanting, apart-placed}
 use Rattle.brd_kernel.proofs.WaitLemmas.{unlisted-only, reordered-only}
-use Rattle.brd_kernel.proofs.StandingLemmas.{stands_in, stands-same, waits_by, waits, IsTimedBy, Stands, StandsIn}
-use Rattle.brd_kernel.proofs.KeepingLemmas.{IsEntered, Rewrites, by-lists, by-rows, by-ending, by-beginning, by-priority, by-leaving-one, apart-rewritten}
-use Rattle.brd_kernel.proofs.RowLemmas.{IsAsBefore, changed-before, ended-made, released-made, blocked-made, changed-made, row-small}
-use Rattle.brd_kernel.proofs.WaitersLemmas.{semaphore-rewrites, flag-rewrites, sender-rewrites, receiver-rewrites}
-use Rattle.brd_kernel.proofs.LeavingLemmas.{or-false, sleeps-nowhere, out-of-none, unlisted-out}
-use Rattle.brd_kernel.proofs.MovingLemmas.{IsMoved, moved-by-reason}
+use Rattle.brd_kernel.proofs.who_waits.StandingLemmas.{stands_in, stands-same, waits_by, waits, IsTimedBy, Stands, StandsIn}
+use Rattle.brd_kernel.proofs.who_waits.KeepingLemmas.{IsEntered, Rewrites, by-lists, by-rows, by-ending, by-beginning, by-priority, by-leaving-one, apart-rewritten}
+use Rattle.brd_kernel.proofs.who_waits.RowLemmas.{IsAsBefore, changed-before, ended-made, released-made, blocked-made, changed-made, row-small}
+use Rattle.brd_kernel.proofs.who_waits.WaitersLemmas.{semaphore-rewrites, flag-rewrites, sender-rewrites, receiver-rewrites}
+use Rattle.brd_kernel.proofs.who_waits.LeavingLemmas.{or-false, sleeps-nowhere, out-of-none, unlisted-out}
+use Rattle.brd_kernel.proofs.who_waits.MovingLemmas.{IsMoved, moved-by-reason}
 
 -- The parts of the kernel that say nothing of waits.
 

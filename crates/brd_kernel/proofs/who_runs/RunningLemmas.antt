@@ -18,9 +18,9 @@ use Rattle.brd_kernel.specs.declared.processor.Executor.TheVariants as executor
 use Rattle.brd_kernel.specs.Kernel.{KernelState, processor_at, is_held, running_in, running_on, with_processor, with_context_of, unmarked}
 use Rattle.brd_kernel.specs.Dispatch.{dispatched_one, dispatched_from, dispatched}
 use Rattle.brd_kernel.specs.Running.{is_ready_on, IsOrderly, IsRunning, RunsOnce}
-use Rattle.brd_kernel.proofs.ListLemmas.{same-number, written-at}
+use Rattle.brd_kernel.proofs.who_waits.ListLemmas.{same-number, written-at}
 use Rattle.brd_kernel.proofs.DispatchLemmas.{at-dispatched, dispatch-none}
-use Rattle.brd_kernel.proofs.ReadyLemmas.{KeepsReady, KeepsOthers, all-keep, context-orderly}
+use Rattle.brd_kernel.proofs.who_runs.ReadyLemmas.{KeepsReady, KeepsOthers, all-keep, context-orderly}
 
 is-some-by : (test : Bool) (priority : ℕ) → is_some (if test then Some priority else None) ≡ test
 is-some-by true priority = refl
