@@ -65,7 +65,7 @@ fuzz: $(BOARD)
 $(BOARD):
 	$(MAKE) demo
 
-# The whole gate, and behind it the processor minutes of each part, which docs/GATE.md gets too if all passed.
+# The whole gate, and then the processor minutes of each part, which tests/gate.table gets too if all passed.
 gate-times:
 	tests/gate_time --write
 

@@ -74,7 +74,7 @@ compare() {
     tail -c +$(($(number $((header + 4)) 4) + 1)) "$work/object" | head -c "$(number $((header + 16)) 4)" >> "$work/board"
   done
   size=$(wc -c < "$work/board")
-  # The linker may put zeros behind the section's end.
+  # The linker may put zeros after the section's end.
   head -c "$size" "$work/gnu" > "$work/wanted"
   cmp "$work/board" "$work/wanted" || fail "$order: other bytes than GNU as"
   [ -z "$(tail -c +$((size + 1)) "$work/gnu" | tr -d '\000')" ] || fail "$order: GNU as has more bytes"

@@ -72,7 +72,7 @@ check_script() {
 }
 
 # What this system says of an error: its text depends on the C library, so it is taken from a run of `cat`. The number
-# behind it is Linux's.
+# after it is Linux's.
 is_missing="$(LC_ALL=C cat "$work/nosuch" 2>&1 | sed 's/.*: //') (os error 2)"
 is_directory="$(LC_ALL=C cat / 2>&1 | sed 's/.*: //') (os error 21)"
 is_full="$(echo x | LC_ALL=C cat 2>&1 > /dev/full | sed 's/.*: //') (os error 28)"

@@ -140,7 +140,7 @@ asks() {
 asks "one command at a time" 'break 80000008' ok next 'at 2' next 'at 7' next none 'mem 8000000f' fc back 'at 2' stop unknown \
     '' unknown 'goto 11' 'past 10' 'regs 2' none 'goto 10' 'at 10' back 'at 7'
 
-# Behind `quit` nothing is awaited: here the input stays open.
+# After `quit` nothing is awaited: here the input stays open.
 mkfifo "$work/open"
 exec 3<> "$work/open"
 echo quit >&3
@@ -221,7 +221,7 @@ seq 0 "$last" > "$work/wanted"
 cut -d ' ' -f 1 "$work/ascending" > "$work/out"
 same "each position" "$work/wanted" "$work/out"
 # (In steps of 4,099, a prime number that doesn't divide the number of positions: each comes once, and the next one lies
-# far before it or behind.)
+# far before it or after it.)
 awk -v last="$last" 'BEGIN { for (i = 0; i <= last; i++) print i * 4099 % (last + 1) }' \
     | shown 80000053 80000063 | sort -n > "$work/mixed"
 same "positions in another order" "$work/ascending" "$work/mixed"
@@ -279,8 +279,11 @@ config=$folder/config.cfg
 last=$(sed -n 's/^events //p' $folder/report)
 as_run "C on two processors" 11 80000000 80000001
 
-# The ends of the scenarios of `run`: their reports say where each processor is. Behind them no position is.
-for report in tests/scenarios/*/report; do
+# The ends of the scenarios of `run`: their reports say where each processor is. After them no position is.
+mkdir "$work/scenes"
+wrong=$(tests/scenes "$work/scenes" 2>&1) || wrong=${wrong:-tests/scenes failed}
+verdict "debug: the scenes" "$wrong"
+for report in tests/scenarios/*/report "$work"/scenes/*/report; do
     folder=${report%/report}
     image=$folder/image.elf
     if [ -e "$folder/source.s" ]; then

@@ -1,12 +1,13 @@
 #!/bin/bash
-# The documents: the commands that they show, a test for each document, the ways through the code and the picture of the
-# crates of docs/ARCHITECTURE.md.
+# The documents: the commands that they show, a test for each document; their links; the ways through the code and the
+# picture of the crates of docs/ARCHITECTURE.md.
 # tests/documents.sh PROGRAM
 . "$(dirname "$0")/check.sh"
 
 have python3 "the documents" || { summary; exit; }
 check_script "the walks" tests/walks
 check_script "the picture of the crates" tests/layers --check
+check_script "the links" tests/links
 lines=$(tests/documents "$board")
 more=$(tail -n 1 <<< "$lines")
 sed '$d' <<< "$lines"

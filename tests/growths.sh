@@ -1,5 +1,5 @@
 # shellcheck shell=bash
-# Read by tests that refuse each growth of a program in turn, behind check.sh: a growth is a call of the C library for
+# Read by tests that refuse each growth of a program in turn, after check.sh: a growth is a call of the C library for
 # memory. It takes a C compiler; without one, such a test says that it is skipped.
 can_refuse=no
 if command -v cc > /dev/null && cc -shared -fPIC -O1 -o "$work/refuse.so" tests/refuse.c -ldl; then

@@ -2,7 +2,7 @@
 # The tests of `board journal`, of --version, and of `-`: tests/journal.sh PROGRAM.
 . "$(dirname "$0")/check.sh"
 
-# makes NAME WANTED ARGUMENT..: a journal, whose lines behind the first one are WANTED, with commas between them.
+# makes NAME WANTED ARGUMENT..: a journal, whose lines after the first one are WANTED, with commas between them.
 makes() {
     local name=$1
     { echo "board-journal 2 ${order:-big}"; printf '%s' "${2:+$2,}" | tr ',' '\n'; } > "$work/wanted"

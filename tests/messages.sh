@@ -1,6 +1,6 @@
 #!/bin/bash
 # What the program says of mistakes: tests/messages.sh PROGRAM. messages.table has one a line: the kind of text, a name
-# for the mistake, the text as `printf %b` reads it, and the message behind `board: `. A text is a source (s), a
+# for the mistake, the text as `printf %b` reads it, and the message after `board: `. A text is a source (s), a
 # configuration (c) or a journal (j) beside a right object file, configuration and journal, or a source whose object
 # file isn't started by a configuration (b).
 . "$(dirname "$0")/check.sh"

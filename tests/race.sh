@@ -97,6 +97,25 @@ done
 verdict "race: a counter, a hundred times" "${wrong:0:600}"
 verdict "race: a counter: the board goes off" "$([ "$offs" -gt 0 ] || echo "it never does")"
 
+# Processors add to one word under a spin lock, fifty times each. However they race, nothing is lost: the journal's word is
+# the sum, if all came to their end.
+"$board" asm tests/locked/adders.s "$work/adders"
+wrong=""
+ends=0
+for turn in {1..30}; do
+    cpus=$((turn % 2 ? 2 : 8))
+    config=tests/locked/$([ $cpus = 2 ] && echo two || echo eight).cfg
+    wrong="$wrong$(replays "$work/adders" "$config" "$work/nothing" 100000)"
+    [ "$(grep -c '^cpu [1-8] idle$' "$work/raced")" = $cpus ] || continue
+    ends=$((ends + 1))
+    events=$(sed -n 's/^events //p' "$work/raced")
+    count=$(printf 'goto %s\nmem 80001002\nmem 80001003\n' "$events" | "$board" debug "$work/adders" "$config" "$journal" | tail -n 2)
+    sum=$(printf '%04x' $((50 * cpus)))
+    [ "${count//$'\n'/}" = "$sum" ] || wrong="$wrong; $cpus processors: the word is ${count//$'\n'/}, wanted $sum"
+done
+verdict "race: adders under a spin lock, thirty times" "${wrong:0:600}"
+verdict "race: adders under a spin lock: they end" "$([ "$ends" -gt 0 ] || echo "they never do")"
+
 # ---- files
 
 # The files are opened in the order of the arguments, before any is read; OUT is emptied only where all are there.

@@ -1,9 +1,9 @@
 #!/bin/bash
 # The tests of `board run`: tests/run.sh PROGRAM. Each folder of tests/scenarios is one: `source.s`, which is assembled,
 # or the object file `image.elf`; `config.cfg`; `journal`; and `report`, what `run` prints, or `fault`, what it says on
-# standard error with status 1. The head of the source says what happens in it. What of that is seen in registers and
-# memory alone is no part of a report: crates/board_rows has most of these scenes too, and compares all. What no folder
-# can say follows.
+# standard error with status 1. The head of the source says what happens in it. So are scenes of crates/board_rows, which
+# compares what is seen in registers and memory alone too: tests/scenes makes folders of those that tests/scenes.reports
+# names. What no folder can say follows.
 . "$(dirname "$0")/check.sh"
 . tests/growths.sh
 
@@ -13,7 +13,10 @@ run() {
     check "run: $1" "$2" "$3" "$4" $?
 }
 
-for folder in tests/scenarios/*/; do
+mkdir "$work/scenes"
+wrong=$(tests/scenes "$work/scenes" 2>&1) || wrong=${wrong:-tests/scenes failed}
+verdict "run: the scenes" "$wrong"
+for folder in tests/scenarios/*/ "$work"/scenes/*/; do
     name=$(basename "$folder")
     image=$folder/image.elf
     if [ -e "$folder/source.s" ]; then
@@ -36,6 +39,23 @@ for report in examples/*/*.report; do
     "$board" asm "$name.s" "$work/image" 2> "$work/err" || fail "run: $name" "$(cat "$work/err")"
     run "$name" 0 "$report" "" "$work/image" "$name.cfg" "$name.journal"
 done
+
+# Processors that add to one word, fifty times each, under a spin lock: they step in turn, and nothing is lost.
+# added PROCESSORS EVENTS CONFIG COUNT: the word at the end is COUNT, four hexadecimal digits, and all are idle.
+added() {
+    awk -v n="$1" -v events="$2" 'BEGIN {
+        print "board-journal 1"
+        for (i = 0; i < events; i++) print "S " i % n + 1 " 1"
+    }' > "$work/journal"
+    "$board" run "$work/image" "$3" "$work/journal" > "$work/out" 2>&1
+    idle=$(grep -c '^cpu [1-8] idle$' "$work/out")
+    count=$(printf 'goto %s\nmem 80001002\nmem 80001003\n' "$2" | "$board" debug "$work/image" "$3" "$work/journal" 2>&1)
+    verdict "run: $1 processors add under a spin lock" \
+        "$([ "$idle ${count//$'\n'/ }" = "$1 at $2 ${4:0:2} ${4:2:2}" ] || echo "$idle are idle; the count: ${count//$'\n'/ }")"
+}
+"$board" asm tests/locked/adders.s "$work/image" 2> "$work/err" || fail "run: the adders" "$(cat "$work/err")"
+added 2 10000 tests/locked/two.cfg 0064
+added 8 40000 tests/locked/eight.cfg 0190
 
 # The files are opened in the order of the arguments, before any is read.
 hello=tests/scenarios/hello
@@ -82,7 +102,7 @@ done << END
 1|$hello/journal|; it looks like a journal
 1|$hello/source.s||the configuration: line 1: no lines with #: send the text through the C preprocessor first (cc -E -P)
 1|$work/board||the configuration: line 1: a comma or an operand is missing: the form is BOARD(processors, ram);
-1|$work/bytes||the configuration: line 1: this kernel hasn't nop (there are BOARD, CLASS, CRE_TSK, CRE_SEM, CRE_FLG, CRE_DTQ and DEF_INH)
+1|$work/bytes||the configuration: line 1: this kernel hasn't nop (there are BOARD, CLASS, CRE_TSK, CRE_SEM, CRE_FLG, CRE_DTQ, CRE_SPN and DEF_INH)
 1|$work/nothing|; it is empty
 2|$work/hello|; it looks like an object file
 2|$work/front|; it looks like an object file
@@ -145,9 +165,16 @@ check "run: 16 MiB of RAM in 40,000 KiB" 0 $hello/report "" $?
 cp $hello/report "$work/wanted"
 refuse_each "run" 3 "board: out of memory" "$board" run "$work/hello" $hello/config.cfg $hello/journal
 
-# An event takes no memory. Under one journal of 100,000 events and more, task 1 turns the board off in its first round,
-# after 1,000 ticks and ten events, or never: the program asks for memory just as often. (The journal begins with ticks
-# and ends as it does so that the lines of both reports take the same room.)
+# Where there is no memory for decoded instructions, many steps in a row go on without them.
+rows=tests/scenarios/many_steps_in_a_row
+"$board" asm $rows/source.s "$work/rows"
+cp $rows/report "$work/wanted"
+refuse_each "run, many steps in a row" 3 "board: out of memory" "$board" run "$work/rows" $rows/config.cfg $rows/journal
+
+# An event takes no memory; many steps in a row take some once. Under one journal of 100,000 events and more, task 1
+# turns the board off in its first round, after 1,000 ticks and ten events, or never: the program asks for memory just
+# as often, and once more for decoded instructions. (The journal begins with ticks and ends as it does so that the lines
+# of both reports take the same room.)
 counted=tests/counted
 {
     printf 'board-journal 1\nT 1000\n'
@@ -167,7 +194,7 @@ if [ "$can_refuse" = yes ]; then
     late=$(sed -n '/^off/p' "$work/out")
     wrong=
     [ "$early, $late" = "off 1, off 0" ] || wrong="; the board is $early, and $late"
-    [ "$few" -gt 100 ] && [ "$few" = "$many" ] || wrong="$wrong; $few growths with few events, $many with 100,000"
+    [ "$few" -gt 100 ] && [ "$((few + 1))" = "$many" ] || wrong="$wrong; $few growths with few events, $many with 100,000"
     verdict "run: an event takes no memory" "$wrong"
     # All kinds of events are among them: one of each is at a position where the board shows it.
     printf 'break %s\nnext\n' 8000001c 80000154 80000158 800000cc 800000fc 80000140 > "$work/in"

@@ -26,6 +26,7 @@ of_doc() {
             case $place in
                 task) place=Task ;;
                 "locked task") place=LockedTask ;;
+                "not holding") place=NotHolding ;;
                 waiting) place=Waiting ;;
                 "on task") place=OnTask ;;
                 handler) place=Handler ;;

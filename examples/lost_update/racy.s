@@ -8,7 +8,7 @@
         .equ    ext_ker, 41
         .equ    done, 1                 # a semaphore
 adder:  lui     $s0, %hi(count)
-        addiu   $s1, $0, 3              # so many times
+        addiu   $s1, $0, 3              # how often
 again:  lw      $t0, %lo(count)($s0)
         addu    $t0, $t0, $a0           # $a0 is the task's argument
         sw      $t0, %lo(count)($s0)

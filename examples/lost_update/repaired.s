@@ -7,7 +7,7 @@
         .equ    ext_ker, 41
         .equ    done, 1                 # a semaphore
 adder:  lui     $s0, %hi(count)
-        addiu   $s1, $0, 3              # so many times
+        addiu   $s1, $0, 3              # how often
 again:  ll      $t0, %lo(count)($s0)
         addu    $t0, $t0, $a0           # $a0 is the task's argument
         sc      $t0, %lo(count)($s0)    # $t0 becomes 1 if it stored, else 0

@@ -8,7 +8,7 @@
         .equ    ext_ker, 41
         .equ    done, 1                 # a semaphore
 adder:  lui     $s0, %hi(count)
-        addiu   $s1, $0, 500            # so many times
+        addiu   $s1, $0, 500            # how often
 again:  lw      $t0, %lo(count)($s0)
         addiu   $t0, $t0, 1
         sw      $t0, %lo(count)($s0)

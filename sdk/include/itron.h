@@ -89,6 +89,7 @@ typedef UINT INHNO;                     /* an interrupt line, 0 to 31 */
 #define TBIT_FLGPTN 32
 
 /* The attributes of objects, which the configuration gives; it knows these names by itself. */
+#define TA_NULL 0u
 #define TA_HLNG 0x00u
 #define TA_ASM 0x01u
 #define TA_ACT 0x02u

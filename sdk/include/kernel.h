@@ -115,6 +115,11 @@ KERNEL_CALL ER prcv_dtq(ID dtqid, VP_INT *p_data) { return kernel_second(kernel_
 KERNEL_CALL ER trcv_dtq(ID dtqid, VP_INT *p_data, TMO tmout)
 { return kernel_second(kernel_2(39, dtqid, tmout), (UINT *)p_data); }
 
+/* Spin locks between processors, as in TOPPERS/FMP. Who holds one is CPU-locked until unl_spn. */
+KERNEL_CALL ER loc_spn(ID spnid) { return kernel_1(60, spnid).first; }
+KERNEL_CALL ER try_spn(ID spnid) { return kernel_1(61, spnid).first; }
+KERNEL_CALL ER unl_spn(ID spnid) { return kernel_1(62, spnid).first; }
+
 /* The board's own: a byte to the console, and the end. */
 KERNEL_CALL ER put_chr(char byte) { return kernel_1(40, (UB)byte).first; }
 KERNEL_CALL ER ext_ker(void) { return kernel_0(41).first; }

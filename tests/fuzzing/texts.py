@@ -82,6 +82,7 @@ class Texts:
             f"CRE_SEM({number}, {{{order}, {random.randrange(3)}, {self.among(2, 65535)}}});",
             f"CRE_FLG({number}, {{{self.attributes('TA_TPRI', 'TA_WMUL', 'TA_CLR')}, {random.randrange(4)}}});",
             f"CRE_DTQ({number}, {{{order}, {self.among(0, 1, 16, 256)}, NULL}});",
+            f"CRE_SPN({number}, {{{self.among('TA_NULL', 'TA_NULL', '0')}}});",
             f"DEF_INH({random.randrange(32)}, {{TA_HLNG, {start}}});")
 
     def configuration(self):

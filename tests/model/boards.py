@@ -11,7 +11,7 @@ from kernel import CALLS, Setup, TaskSetup
 from machine import RAM_START, ROWS, WORD, encode
 
 DATA = RAM_START + 0x8000
-# Where programs share words, two in most blocks of 16 bytes; and where they leave results, behind them.
+# Where programs share words, two in most blocks of 16 bytes; and where they leave results, after them.
 SHARED, RESULTS = (0, 4, 8, 12, 16, 20, 32), range(64, 320, 4)
 BASE, SCRATCH = 16, (8, 9, 10, 11, 12, 13, 14, 15, 18, 19, 20, 21, 24, 25)
 NUMBERS = {call.name: number for number, call in CALLS.items()}
@@ -38,6 +38,7 @@ USES = {
     "isig_sem": (.1, .1, 4, "semaphore"), "iset_flg": (.1, .1, 4, "flag bits"), "ipsnd_dtq": (.1, .1, 3, "queue datum"),
     "ifsnd_dtq": (.1, .1, 2, "queue datum"), "irot_rdq": (.1, .1, 2, "priority"), "iget_tid": (.1, .1, 1, ""),
     "imact_tsk": (.1, .1, 3, "other processor"), "ret_int": (.1, .1, .5, ""), "unknown": (.1, .1, .1, ""),
+    "loc_spn": (5, 2, .1, "lock"), "try_spn": (2, 1, .1, "lock"), "unl_spn": (.5, .3, .1, "lock"),
 }
 THEMES = {
     "everything": "", "links": "", "sleep": "slp_tsk tslp_tsk wup_tsk can_wup rel_wai sus_tsk rsm_tsk iwup_tsk",
@@ -47,6 +48,7 @@ THEMES = {
     "receivers": "rcv_dtq trcv_dtq psnd_dtq prcv_dtq ipsnd_dtq rel_wai chg_pri sus_tsk rsm_tsk",
     "tasks": "act_tsk can_act ter_tsk chg_pri get_pri mact_tsk mig_tsk rot_rdq irot_rdq imact_tsk iact_tsk",
     "held": "dis_dsp loc_cpu ter_tsk mig_tsk sus_tsk rsm_tsk act_tsk",
+    "lock": "loc_spn try_spn unl_spn dis_dsp loc_cpu ter_tsk",
 }
 # Loads and stores, and what their addresses have to be multiples of.
 SIZES = {name: 1 for name in ("LB", "LBU", "SB", "LWL", "LWR", "SWL", "SWR")}
@@ -109,7 +111,7 @@ class Maker:
 
     def shape(self):
         """Which processors, tasks, objects and lines there are."""
-        alone = self.often(.25) and self.theme not in ("links", "held")
+        alone = self.often(.25) and self.theme not in ("links", "held", "lock")
         self.processors = 1 if alone else self.chance(2, 2, 2, 2, 3, 3, 4, 8)
         self.tasks = self.ids(self.random.randrange(4, 11))
         priorities = self.random.sample(range(1, 17), self.random.randrange(2, 6))
@@ -121,10 +123,11 @@ class Maker:
         if self.manager:
             self.priority[self.manager], self.place[self.manager] = self.chance(16, max(priorities)), self.processors
         self.others = [task for task in self.tasks if task != self.manager]
-        count = {"semaphore": 1, "flag": 1, "queue": 1, "receivers": 1}.get(self.theme) or self.chance(0, 1, 1, 2)
+        count = {"semaphore": 1, "flag": 1, "queue": 1, "receivers": 1, "lock": 1}.get(self.theme) or self.chance(0, 1, 1, 2)
         self.semaphores = {key: self.new_semaphore() for key in self.ids(count)}
         self.flags = {key: self.new_flag() for key in self.ids(count)}
         self.queues = {key: (self.often(.6), self.chance(0, 0, 1, 1, 2, 3, 256)) for key in self.ids(count)}
+        self.spin_locks = self.ids(count)
         lines = self.random.sample(range(32), self.random.randrange(5))
         self.lines = {line: self.random.randrange(1, self.processors + 1) for line in lines}
 
@@ -141,7 +144,8 @@ class Maker:
         """A value for an argument, sometimes a stray one. The manager doesn't end, suspend or move itself."""
         if self.often(self.stray / 2):
             return self.chance(0, 0, 2, 17, 255, 256, self.processors + 1, WORD, WORD - 1, 0x80000000, 0x10001)
-        known = {"semaphore": self.semaphores, "flag": self.flags, "queue": self.queues}.get(kind)
+        known = {"semaphore": self.semaphores, "flag": self.flags, "queue": self.queues,
+                 "lock": self.spin_locks}.get(kind)
         if known is not None:
             return self.chance(*(known or [1]))
         if kind in ("task", "other"):
@@ -159,11 +163,12 @@ class Maker:
             "datum": lambda: self.chance(self.random.randrange(256), self.random.getrandbits(32)),
         }[kind]()
 
-    def call(self, code, name, caller):
-        """A service call, sometimes in a delay slot, and something that shows its answers."""
-        for register, kind in enumerate(USES[name][3].split(), 4):
-            code.set(register, self.argument(kind, caller))
-        code.set(2, NUMBERS.get(name) or self.chance(0, 42, 47, 59, 60, 61, 62, 99, 0x101))
+    def call(self, code, name, caller, given=()):
+        """A service call, sometimes in a delay slot, and something that shows its answers. Gives its arguments."""
+        arguments = given or [self.argument(kind, caller) for kind in USES[name][3].split()]
+        for register, value in enumerate(arguments, 4):
+            code.set(register, value)
+        code.set(2, NUMBERS.get(name) or self.chance(0, 42, 47, 59, 63, 64, 99, 0x101))
         if self.often(.08):
             branch = self.chance("BEQ", "BEQ", "BGEZAL", "BNE", "BEQL")
             code.add(branch, immediate=self.random.randrange(1, 4))
@@ -175,18 +180,19 @@ class Maker:
                 code.add("ADDU", rs=register, rd=4)
                 code.set(2, NUMBERS["put_chr"])
                 code.add("SYSCALL")
+        return arguments
 
     def calls(self, code, who, caller):
         """A call that a worker (0), a manager (1) or a handler (2) makes; what holds a processor mostly ends soon."""
         name, = self.random.choices(list(USES), self.weights[who])
-        self.call(code, name, caller)
-        end = {"dis_dsp": "ena_dsp", "loc_cpu": "unl_cpu"}.get(name)
+        arguments = self.call(code, name, caller)
+        end = {"dis_dsp": "ena_dsp", "loc_cpu": "unl_cpu", "loc_spn": "unl_spn", "try_spn": "unl_spn"}.get(name)
         if end and who < 2 and self.often(.9):
             for _ in range(self.random.randrange(4)):
                 self.chance(self.compute, self.calls)(code, who, caller)
             if who == 0 and self.often(.15):
                 self.chance(self.fail, lambda code: self.call(code, "ext_tsk", caller))(code)
-            self.call(code, end, caller)
+            self.call(code, end, caller, arguments)
 
     # Instructions
 
@@ -250,7 +256,7 @@ class Maker:
             if self.often(.15):
                 code.add("SW", rs=BASE, rt=self.random.choice(SCRATCH), immediate=self.random.choice(SHARED))
             elif self.often(.1):
-                self.call(code, self.chance("get_pid", "rot_rdq", "can_act"), caller)
+                self.call(code, self.chance("get_pid", "rot_rdq", "can_act", "loc_spn"), caller)
             else:
                 code.add("ADDIU", rs=register, rt=register, immediate=1)
         for place in self.chance([at], [at], [at], [self.random.choice(SHARED), at]):
@@ -374,7 +380,7 @@ class Maker:
         data = self.random.getrandbits(8 * 64).to_bytes(64, "big")
         segments = [(self.start, self.code), (DATA, data)]
         self.setup = Setup(self.processors, ram, self.order, segments, tasks, self.semaphores, self.flags, self.queues,
-                           lines)
+                           self.spin_locks, lines)
         bound = [(it.processor, "CRE_TSK(%d, {%d, 0x%x, 0x%x, %d, %d, %s});" % (
             it.id, 2 * it.starts, it.argument, it.address, it.priority, it.size,
             "NULL" if it.stack is None else hex(it.stack))) for it in tasks]
@@ -386,6 +392,7 @@ class Maker:
         text += [f"CRE_FLG({key}, {{{by | 2 * many | 4 * clears}, {pattern}}});"
                  for key, (by, many, clears, pattern) in self.flags.items()]
         text += [f"CRE_DTQ({key}, {{{int(by)}, {capacity}, NULL}});" for key, (by, capacity) in self.queues.items()]
+        text += [f"CRE_SPN({key}, {{{self.chance('TA_NULL', 0)}}});" for key in self.spin_locks]
         self.configuration = "\n".join(text) + "\n"
 
     def task_setup(self, task, ram):

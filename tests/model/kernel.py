@@ -1,7 +1,8 @@
 """The kernel and the board of the model: tasks, objects, time, the table of service calls, events, the report.
 
-The uITRON 4.0 specification says what the calls do; TOPPERS/FMP what mact_tsk, imact_tsk, mig_tsk and get_pid do. From
-where a call may come, the order of its refusals, put_chr, ext_ker, ret_int and the events are own choices.
+The uITRON 4.0 specification says what the calls do; TOPPERS/FMP what mact_tsk, imact_tsk, mig_tsk, get_pid and those of
+spin locks do. From where a call may come, the order of its refusals, that a call spins by coming again, put_chr,
+ext_ker, ret_int and the events are own choices.
 """
 import collections
 
@@ -11,11 +12,13 @@ E_OK, E_RSFN, E_PAR, E_ID, E_CTX, E_ILUSE = 0, -10, -17, -18, -25, -28
 E_OBJ, E_NOEXS, E_QOVR, E_RLWAI, E_TMOUT = -41, -42, -43, -49, -50
 ANSWERS = {value: name for name, value in list(globals().items()) if name.startswith("E_")}
 CONSOLE_BYTES = 65536
-# What a call writes to $v0 and $v1 where it waits or doesn't come back, and where it is just done.
-SILENT, DONE = (), (E_OK,)
+# What a call writes to $v0 and $v1 where it waits or doesn't come back, and where it is just done; and what stands in
+# place of it where the call is to come again.
+SILENT, DONE, AGAIN = (), (E_OK,), ("again",)
 
 # What a board is made of. Objects stand by their IDs, lines by their numbers, tasks in the order of their statements.
-Setup = collections.namedtuple("Setup", "processors ram order segments tasks semaphores flags queues lines")
+Setup = collections.namedtuple("Setup",
+                               "processors ram order segments tasks semaphores flags queues spin_locks lines")
 TaskSetup = collections.namedtuple("TaskSetup", "id processor starts argument address priority size stack")
 
 
@@ -61,16 +64,33 @@ class Queue:
         self.senders, self.receivers = TaskList("sender", by_priority), TaskList("receiver", False)
 
 
+class SpinLock:
+    """`holder` is the processor that holds it, if one does."""
+
+    def __init__(self):
+        self.holder = None
+
+
 class Processor:
-    """`line` and `handler` are those of the interrupt that it handles."""
+    """`line` and `handler` are those of the interrupt that it handles, `lock` is the spin lock that it holds."""
 
     def __init__(self, number):
         self.number, self.ready, self.running = number, TaskList("ready", True), None
-        self.line = self.handler = None
+        self.line = self.handler = self.lock = None
         self.locked = self.disabled = self.stopped = False
 
     def is_held(self):
         return self.line is not None or self.locked or self.disabled or self.stopped
+
+    def take(self, lock):
+        """Holds a spin lock, which locks its CPU."""
+        self.lock, lock.holder, self.locked = lock, self, True
+
+    def unlock(self):
+        """Ends CPU lock, and gives up the spin lock that it holds."""
+        if self.lock:
+            self.lock.holder = None
+        self.lock, self.locked = None, False
 
     def context(self):
         """What its next instruction works on, if it has one."""
@@ -90,6 +110,7 @@ class Board:
         self.semaphores = {key: Semaphore(*it) for key, it in setup.semaphores.items()}
         self.flags = {key: Flag(*it) for key, it in setup.flags.items()}
         self.queues = {key: Queue(*it) for key, it in setup.queues.items()}
+        self.spin_locks = {key: SpinLock() for key in setup.spin_locks}
         self.lines, self.pending = setup.lines, set()
         self.now, self.off, self.console = 0, False, bytearray()
         tasks = {it.id: Task(it, stack) for it, stack in zip(setup.tasks, stacks(setup))}
@@ -149,7 +170,7 @@ class Board:
             task.state = "suspended"
 
     def move(self, task, priority):
-        """Gives a priority: behind its equals where it is ready or waits by priority, also if it has that already."""
+        """Gives a priority: after its equals where it is ready or waits by priority, also if it has that already."""
         task.priority = priority
         if task.state == "ready":
             self.leave_ready(task)
@@ -194,14 +215,14 @@ class Board:
         context = processor.context()
         if context is None:
             return "Idle", None
-        address = context.pc
+        address, before = context.pc, (context.pc, context.npc, context.slot)
         try:
             called = execute(context, self.memory, processor.number)
         except Fault as fault:
             self.fault(processor, fault.code)
             return "Faulted", address
         if called:
-            self.call(processor, context)
+            self.call(processor, context, before)
         return "Called" if called else "Ran", address
 
     def accept(self, processor, line):
@@ -213,20 +234,30 @@ class Board:
         processor.line, processor.handler = line, Context(self.lines[line][1], line)
         return "Accepted", None
 
-    def call(self, processor, context):
-        """A SYSCALL, whose context has gone on: the link ends, the call is served, and the tasks to run are chosen."""
+    def call(self, processor, context, before):
+        """A SYSCALL, whose context has gone on: the link ends, the call is served, and the tasks to run are chosen.
+
+        One that is to come again leaves the context as it was before.
+        """
         self.memory.links.pop(processor.number, None)
-        write(context, Request(self, processor, context).serve())
+        answer = Request(self, processor, context).serve()
+        if answer is AGAIN:
+            context.pc, context.npc, context.slot = before
+            self.counts["spin: " + ("in a slot" if context.slot else "again")] += 1
+        else:
+            write(context, answer)
         self.dispatch()
 
     def fault(self, processor, code):
         """An exception stops a handler's processor for good, and ends a task without its queued requests."""
-        self.counts[f"exception: {code} in a " + ("task" if processor.line is None else "handler")] += 1
+        place = "handler" if processor.line is not None else "task" if processor.lock is None else "task with a lock"
+        self.counts[f"exception: {code} in a {place}"] += 1
         if processor.line is not None:
             processor.stopped = True
             return
         processor.running.request = None
-        processor.locked = processor.disabled = False
+        processor.unlock()
+        processor.disabled = False
         self.end(processor.running)
         self.dispatch()
 
@@ -284,7 +315,7 @@ class Request:
             of = f", of a task {self.whereabouts()}"
         answer = (refusal,) if refusal is not None else self.call.effect(self)
         answer = DONE if answer is None else answer
-        word = ANSWERS.get(answer[0], "a count") if answer else "no answer"
+        word = "again" if answer is AGAIN else ANSWERS.get(answer[0], "a count") if answer else "no answer"
         self.board.counts[f"call: {self.call.name if self.call else 'unknown'}, {word}{of}"] += 1
         return answer
 
@@ -299,7 +330,8 @@ class Request:
             key = self.caller.id if call.names == "T0" and self.arguments[0] == 0 else self.arguments[0]
             if not 1 <= key <= 255:
                 return E_ID
-            objects = {"S": self.board.semaphores, "F": self.board.flags, "Q": self.board.queues}
+            objects = {"S": self.board.semaphores, "F": self.board.flags, "Q": self.board.queues,
+                       "L": self.board.spin_locks}
             self.object = objects.get(call.names, self.board.tasks).get(key)
         # (a call's timeout is -1, forever, or 0, a poll, or the argument that is named by A and its number)
         self.timeout = signed(self.arguments[int(call.timeout[1])]) if isinstance(call.timeout, str) else call.timeout
@@ -353,7 +385,8 @@ class Request:
         return (count,)
 
     def ext_tsk(self):
-        self.processor.locked = self.processor.disabled = False
+        self.processor.unlock()
+        self.processor.disabled = False
         self.board.end(self.caller)
         return SILENT
 
@@ -369,7 +402,7 @@ class Request:
             self.board.make_ready(self.object)
 
     def rot_rdq(self):
-        """Puts the first ready task of a priority behind its equals, on the caller's or the handler's processor."""
+        """Puts the first ready task of a priority after its equals, on the caller's or the handler's processor."""
         priority = self.arguments[0] or self.caller.priority
         for task in [task for task in self.processor.ready if task.priority == priority][:1]:
             self.board.move(task, priority)
@@ -446,7 +479,7 @@ class Request:
             return self.wait(queue.senders, datum)
 
     def fsnd_dtq(self):
-        """A full queue gives its oldest datum up. Senders that wait stay behind the new one."""
+        """A full queue gives its oldest datum up. Senders that wait stay after the new one."""
         if len(self.object.data) == self.object.capacity:
             self.board.counts["fsnd_dtq: drops" + (" before senders" if self.object.senders else "")] += 1
             self.object.data.popleft()
@@ -459,6 +492,10 @@ class Request:
             queue.data.append(queue.senders[0].wanted)
             self.board.release(queue.senders[0], E_OK)
         return (E_OK, queue.data.popleft()) if queue.data else self.wait(queue.receivers)
+
+    def loc_spn(self):
+        """The processor takes a free lock; else the same SYSCALL comes again."""
+        return AGAIN if self.object.holder else self.processor.take(self.object)
 
     def put_chr(self):
         self.board.console.append(self.arguments[0] & 255)
@@ -504,9 +541,13 @@ SUSPENDED = E_QOVR, lambda it: it.object.state in ("suspended", "waiting-suspend
 REQUESTED = E_QOVR, lambda it: it.object.request is not None
 WOKEN = E_QOVR, lambda it: it.object.wakeup
 AT_MAXIMUM = E_QOVR, lambda it: not it.object.waiters and it.object.count == it.object.maximum
+HELD_BY_ANY = E_OBJ, lambda it: it.object.holder
+NOT_HELD_HERE = E_ILUSE, lambda it: it.object.holder is not it.processor
+HOLDS_A_LOCK = E_CTX, lambda it: it.processor.lock
 CONSOLE_FULL = E_QOVR, lambda it: len(it.board.console) == CONSOLE_BYTES
 
-# `names`: what $a0 is the ID of: a task, the caller too by 0 (T0), a semaphore, a flag, a queue, or of nothing.
+# `names`: what $a0 is the ID of: a task, the caller too by 0 (T0), a semaphore, a flag, a queue, a spin lock (L), or of
+# nothing.
 Call = collections.namedtuple("Call", "name place names timeout limits refusals effect")
 CALLS = {
     1: Call("act_tsk", TASK, "T0", None, [], [REQUESTED], Request.activate),
@@ -523,7 +564,7 @@ CALLS = {
     12: Call("dis_dsp", TASK, "", None, [], [], lambda it: it.mark("disabled", True)),
     13: Call("ena_dsp", TASK, "", None, [], [], lambda it: it.mark("disabled", False)),
     14: Call("loc_cpu", LOCKED_TASK, "", None, [], [], lambda it: it.mark("locked", True)),
-    15: Call("unl_cpu", LOCKED_TASK, "", None, [], [], lambda it: it.mark("locked", False)),
+    15: Call("unl_cpu", LOCKED_TASK, "", None, [], [HOLDS_A_LOCK], lambda it: it.mark("locked", False)),
     16: Call("slp_tsk", WAITING, "", FOREVER, [], [], Request.slp_tsk),
     17: Call("tslp_tsk", WAITING, "", "A0", [BAD_TIMEOUT], [], Request.slp_tsk),
     18: Call("wup_tsk", TASK, "T0", None, [], [DORMANT, WOKEN], Request.wup_tsk),
@@ -561,4 +602,7 @@ CALLS = {
     56: Call("iget_tid", HANDLER, "", None, [], [], Request.iget_tid),
     57: Call("imact_tsk", HANDLER, "T", None, [BAD_PROCESSOR], [REQUESTED], Request.activate_there),
     58: Call("ret_int", HANDLER, "", None, [], [], Request.ret_int),
+    60: Call("loc_spn", TASK, "L", None, [], [], Request.loc_spn),
+    61: Call("try_spn", TASK, "L", None, [], [HELD_BY_ANY], Request.loc_spn),
+    62: Call("unl_spn", LOCKED_TASK, "L", None, [], [NOT_HELD_HERE], lambda it: it.processor.unlock()),
 }

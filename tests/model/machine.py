@@ -83,7 +83,7 @@ class Context:
         self.pc, self.npc, self.slot = self.npc, (self.npc + 4) & WORD, False
 
     def branch(self, target):
-        """Goes to a target behind the slot."""
+        """Goes to a target after the slot."""
         self.pc, self.npc, self.slot = self.npc, target & WORD, True
 
     def lines(self):

@@ -10,7 +10,7 @@ use std::hash::{FoldHasher, Hasher};
 use std::time::Instant;
 use std::{env, io};
 
-/// Instructions with names, comments and numbers, of about so many bytes.
+/// Instructions with names, comments and numbers, of about n bytes.
 fn instructions(alloc: Global, size: usize) -> Result<String, AllocError> {
     let mut text = String::from_str(alloc, "_start:\n")?;
     for i in 0..size {

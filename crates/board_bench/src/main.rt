@@ -1,7 +1,7 @@
-//! How fast the board runs: `board_bench EVENTS` does so many events of two small loops on a board of words, of the
+//! How fast the board runs: `board_bench EVENTS` does n events of two small loops on a board of words, of the
 //! first of them on a booted board of two processors and four tasks, on one processor and on both in turn, of a loop
 //! that touches only registers, step by step and by leases, of tasks that call the kernel, of ticks, and of long ready
-//! lists; it prints millions of events a second, beside a bare loop of about the same work. With a number behind EVENTS
+//! lists; it prints millions of events a second, beside a bare loop of about the same work. With a number after EVENTS
 //! it does that work alone, counted from 0. Without EVENTS it does 16,000 events of each and prints how often the loops
 //! were gone through.
 #![tactic(auto)]
@@ -112,7 +112,7 @@ const ENDS: [u32; 5] = [
     0x0000_000c, // syscall
 ];
 
-/// Each task puts itself behind its equals, over and over.
+/// Each task puts itself after its equals, over and over.
 const TURNS: [u32; 5] = [
     0x2404_0000, // addiu $a0, $0, 0: the caller's priority
     0x2402_000a, // addiu $v0, $0, 10: rot_rdq
@@ -151,7 +151,7 @@ CRE_TSK(1, {TA_ACT, 0, 0x80000000, 2, 4096, NULL});
 CRE_TSK(2, {TA_ACT, 0, 0x80000014, 1, 4096, NULL});
 ";
 
-/// One processor with an event flag. Tasks come behind it.
+/// One processor with an event flag. Tasks come after it.
 const CROWD: &str = "BOARD(1, 0x10000);
 CRE_FLG(1, {TA_WMUL | TA_CLR, 0});
 ";
@@ -188,11 +188,11 @@ enum Setting {
 /// What is done, over and over.
 #[derive(Clone, Copy)]
 enum Deed {
-    /// So many processors do their steps in turn.
+    /// n processors do their steps in turn.
     Steps(u8),
     /// Processor 1 does its steps 64 at a time, each time by a lease that is lent, run and committed.
     Leases,
-    /// A tick passes, after so many steps of processor 1.
+    /// A tick passes, after n steps of processor 1.
     Ticks(u64),
 }
 
@@ -313,7 +313,7 @@ fn count_all(rt: &HostRuntime) -> anyhow::Result<()> {
     Ok(())
 }
 
-/// Does so many events of each work, and of none, and prints how fast.
+/// Does n events of each work, and of none, and prints how fast.
 fn measure_all(rt: &HostRuntime, events: u64) -> anyhow::Result<()> {
     for work in WORKS {
         measure(rt, work, events)?;
@@ -321,7 +321,7 @@ fn measure_all(rt: &HostRuntime, events: u64) -> anyhow::Result<()> {
     measure_bare(rt, events)
 }
 
-/// Does so many events of the work of a number, counted from 0, alone.
+/// Does n events of the work of a number, counted from 0, alone.
 fn measure_one(rt: &HostRuntime, number: usize, events: u64) -> anyhow::Result<()> {
     match WORKS.get(number) {
         Some(work) => measure(rt, *work, events),
@@ -398,7 +398,7 @@ fn count_turns_on(rt: &HostRuntime, board: &mut Board, work: Work) -> anyhow::Re
     Ok(())
 }
 
-/// Does so many events of a work, and prints how fast.
+/// Does n events of a work, and prints how fast.
 fn measure(rt: &HostRuntime, work: Work, events: u64) -> anyhow::Result<()> {
     let mut board = board_of(rt, work)?;
     measure_on(rt, &mut board, work, events)
@@ -435,7 +435,7 @@ fn prepare(board: &mut Board, deed: Deed) {
     }
 }
 
-/// Does so many events, and counts those that ran an instruction.
+/// Does n events, and counts those that ran an instruction.
 fn run(board: &mut Board, deed: Deed, events: u64) -> u64 {
     match deed {
         Deed::Steps(processors) => run_steps(board, processors, events),
@@ -444,7 +444,7 @@ fn run(board: &mut Board, deed: Deed, events: u64) -> u64 {
     }
 }
 
-/// Does so many steps, of the processors in turn, and counts those that ran an instruction. It is the only place that
+/// Does n steps, of the processors in turn, and counts those that ran an instruction. It is the only place that
 /// does steps, so that a step is done in line.
 #[inline(never)]
 fn run_steps(board: &mut Board, processors: u8, events: u64) -> u64 {
@@ -459,7 +459,7 @@ fn run_steps(board: &mut Board, processors: u8, events: u64) -> u64 {
     ran
 }
 
-/// Does the steps of so many leases of processor 1, and counts them.
+/// Does the steps of n leases of processor 1, and counts them.
 #[inline(never)]
 fn run_leases(board: &mut Board, leases: u64) -> u64 {
     let mut ran = 0u64;
@@ -469,7 +469,8 @@ fn run_leases(board: &mut Board, leases: u64) -> u64 {
     ran
 }
 
-/// Lends processor 1, does 64 instructions by the lease, if there are as many, and commits it. Answers how many were done.
+/// Lends processor 1, does 64 instructions by the lease, if there are as many, and commits it. Answers how many were
+/// done.
 fn run_lease(board: &mut Board) -> u32 {
     let Some(mut lease) = board.lend(1) else {
         return 0;
@@ -478,7 +479,7 @@ fn run_lease(board: &mut Board) -> u32 {
     board.commit(lease).unwrap_or(0)
 }
 
-/// Does so many ticks. None of them runs an instruction.
+/// Does n ticks. None of them runs an instruction.
 #[inline(never)]
 fn run_ticks(board: &mut Board, events: u64) -> u64 {
     for _ in 0..events {

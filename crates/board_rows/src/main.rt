@@ -3,20 +3,21 @@
 //! - `= NAME` begins anew, without source and configuration;
 //! - `s LINE` is a line of assembler source, `c LINE` one of the configuration;
 //! - `e EVENTS` boots the board, if it isn't yet, and does events, a byte each: a digit is a step of that processor, T
-//!   a tick, `a` to `z` are raises of lines 0 to 25. Behind it stand the reports, a byte each (r `Ran`, c `Called`, f
+//!   a tick, `a` to `z` are raises of lines 0 to 25. After it stand the reports, a byte each (r `Ran`, c `Called`, f
 //!   `Faulted`, i `Idle`, s `Stopped`, o `Off`, n `NoSuch`, t `Ticked`, O `TimeOver`, a `Accepted`, R `Raised`), and
 //!   what the board shows;
-//! - `l CPU` boots the board, if it isn't yet, and has it lend a processor, in place of what it lent before; tells `lent`
-//!   or `none`;
-//! - `r LIMIT` does instructions under the lease, at most so many, and tells how many they are, and how many in all;
+//! - `l CPU` boots the board, if it isn't yet, and has it lend a processor, in place of what it lent before; tells
+//!   `lent` or `none`;
+//! - `r LIMIT` does instructions under the lease, at most n, and tells how many they are, and how many in all;
 //! - `k` commits the lease; tells how many steps that is, or `stale`, and what the board shows;
+//! - `p ID` boots the board, if it isn't yet, and tells who holds a spin lock;
 //! - `m ADDRESS` tells the word at an address of eight hexadecimal digits;
 //! - `f LINE` boots a board with the configuration so far and this line, and tells the fault;
 //! - every other line is a comment.
 #![tactic(auto)]
 
 use brd_asm::{AsmFault, assemble};
-use brd_board::{Board, BootFault, Event, Lease, Report, Standing, TaskView};
+use brd_board::{Board, BootFault, Event, Lease, Report, Spin, Standing, TaskView};
 use brd_config::{ConfigFault, parse};
 use brd_exec::Context;
 use brd_isa::Register;
@@ -283,6 +284,23 @@ fn committed(alloc: Global, scene: &mut Scene) -> Result<String, AllocError> {
     Ok(text)
 }
 
+/// Tells who holds a spin lock of the board of a scene, which is booted first if it isn't yet.
+fn holder(alloc: Global, scene: &mut Scene, id: &str) -> Result<String, AllocError> {
+    if let Some(fault) = boot(alloc, scene)? {
+        return String::from_str(alloc, fault);
+    }
+    let mut text = String::new(alloc);
+    let Some(board) = &scene.board else {
+        return Ok(text);
+    };
+    match board.spin(id.parse::<u8>().unwrap_or(0)) {
+        None => text.push_str("none")?,
+        Some(Spin::Free) => text.push_str("free")?,
+        Some(Spin::Held(cpu)) => write!(text, "held by {cpu}")?,
+    }
+    Ok(text)
+}
+
 /// The four bytes from an address on of the board of a scene, as hexadecimal digits.
 fn word_at(alloc: Global, scene: &Scene, address: &str) -> Result<String, AllocError> {
     let mut text = String::new(alloc);
@@ -327,7 +345,7 @@ fn took(scene: &mut Scene, line: &str) -> Result<bool, AllocError> {
     Ok(false)
 }
 
-/// What is printed behind a line, if anything is.
+/// What is printed after a line, if anything is.
 fn told(alloc: Global, scene: &mut Scene, line: &str) -> Result<Option<String>, AllocError> {
     if let Some(events) = line.strip_prefix("e ") {
         return Ok(Some(played(alloc, scene, events)?));
@@ -341,6 +359,9 @@ fn told(alloc: Global, scene: &mut Scene, line: &str) -> Result<Option<String>, 
     }
     if line == "k" {
         return Ok(Some(committed(alloc, scene)?));
+    }
+    if let Some(id) = line.strip_prefix("p ") {
+        return Ok(Some(holder(alloc, scene, id)?));
     }
     if let Some(address) = line.strip_prefix("m ") {
         return Ok(Some(word_at(alloc, scene, address)?));

@@ -27,12 +27,12 @@ overlaps-push pieces piece low high =
 
 -- ---- where bytes lie in the output
 
--- a piece behind others has no byte where it isn't
+-- a piece after others has no byte where it isn't
 offset_other : (pieces : List Piece) (piece : Piece) (a : ℕ) → covers piece a ≡ false → offset_at (pieces ++ piece ∷ []) a ≡ offset_at pieces a
 offset_other [] piece a away = rw away refl
 offset_other (p ∷ ps) piece a away = ap (λ (o : Option ℕ). cond (covers p a) (Some (a - p.place)) (option_map (λ k. size_of p.content + k) o)) (offset_other ps piece a away)
 
--- the bytes of a new piece lie behind those of all others
+-- the bytes of a new piece lie after those of all others
 offset_new : (pieces : List Piece) (piece : Piece) (a : ℕ) → offset_at pieces a ≡ None → covers piece a ≡ true → offset_at (pieces ++ piece ∷ []) a ≡ Some (total_size pieces + (a - piece.place))
 offset_new [] piece a none here = rw here (ap (λ (n : ℕ). Some n) (omega arith))
 offset_new (p ∷ ps) piece a none here = by (λ h. offset_new ps piece a h here) (covers p a) (offset_at ps a) refl none
@@ -43,7 +43,7 @@ offset_new (p ∷ ps) piece a none here = by (λ h. offset_new ps piece a h here
     by new false None is h = ap (λ (x : Option ℕ). option_map (λ j. size_of p.content + j) x) (new (sym is)) ∙ ap (λ (n : ℕ). Some n) (omega arith)
     by new false (Some i) is h = absurd (cc)
 
--- no byte lies behind those of all pieces
+-- no byte lies after those of all pieces
 pub offset_below : (pieces : List Piece) (a k : ℕ) → offset_at pieces a ≡ Some k → k < total_size pieces
 offset_below [] a k e = absurd (cc)
 offset_below (p ∷ ps) a k e = by (λ i h. offset_below ps a i h) (covers p a) (offset_at ps a) refl refl e
@@ -105,7 +105,7 @@ one_more all pieces piece are apart = record {
         let parts = and_parts (leb piece.place a) (ltb a (piece.place + size_of piece.content)) here in
         sym (are.offset a) ∙ ap (λ (range : Option (Range ℕ)). option_map (λ range. range.item + (a - range.start)) range) (range_at-free all piece.place (piece.place + size_of piece.content) a free (leb-true piece.place a parts.0) (ltb-true a (piece.place + size_of piece.content) parts.1))
 
--- with a piece of this size, whose bytes lie behind all others
+-- with a piece of this size, whose bytes lie after all others
 pub ranges_more : (all : List (Range ℕ)) (pieces : List Piece) (piece : Piece) (size offset : ℕ) → AreRangesOf all pieces → size ≡ size_of piece.content → offset ≡ ranges.total_size all → overlaps pieces piece.place (piece.place + size) ≡ false
     → AreRangesOf (ranges.with_range all (record { start = piece.place; end = piece.place + size; item = offset })) (pieces ++ piece ∷ [])
 ranges_more all pieces piece size offset are size_is offset_is apart = rw (size_is, offset_is) (one_more all pieces piece are (rw size_is at apart))

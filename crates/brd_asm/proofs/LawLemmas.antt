@@ -151,7 +151,7 @@ labels_have place names after symbols [] small are stay have = tt
 labels_have place names after symbols (label ∷ labels) small are stay have =
     (ap (λ (ss : List Symbol). symbol_value ss label) are ∙ symbols_have after label (pos place) (stay label (pos place) have.0) ∙ ap (λ (n : ℕ). Some n) (mod-eq_of_lt small), labels_have place names after symbols labels small are stay have.1)
 
--- the layout behind a line, and how it goes on to the end
+-- the layout after a line, and how it goes on to the end
 pub record Goes (text : List ℕ) (number : ℕ) (bytes : List ℕ) (so_far s : Layout) : Type 0 where
   pub next : Layout
   pub one : OneLine number bytes so_far next

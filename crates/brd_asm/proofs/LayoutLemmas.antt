@@ -191,7 +191,7 @@ none_over (p ∷ pieces) line content place e =
       | inr apart ↦ (apart, none_over pieces line content place (rw apart at e))
     ]
 
--- what is behind a statement that fills addresses
+-- what is after a statement that fills addresses
 pub record Filled (line : ℕ) (content : Content) (s t : Layout) : Type 0 where
   pub in_ram : InRam (piece_at s.place line content)
   pub apart : AllByRecursion (λ p. Apart p (piece_at s.place line content)) s.pieces
@@ -331,7 +331,7 @@ one_line line bytes s t e =
       happens = x.2;
     }
 
--- the statement, behind the labels
+-- the statement, after the labels
 pub statement_goes_on : (line : ℕ) (bytes : List ℕ) (s t : Layout) (one : OneLine line bytes s t) → GoesOn (layout one.order s.place one.names s.pieces) t
 statement_goes_on line bytes s t one =
     let named = source_names.names (tokens_of bytes) one.said (said_line bytes one.said one.says) in
@@ -352,7 +352,7 @@ lines_go_on line (bytes ∷ lines) s t e =
     let b = bind_ok (placed line bytes s) (all_placed (line + 1) lines) t e in
     goes_on_all s b.0 t (line_goes_on line bytes s b.0 (one_line line bytes s b.0 b.1)) (lines_go_on (line + 1) lines b.0 t b.2)
 
--- the lines behind some
+-- the lines after some
 pub lines_behind : (line : ℕ) (before lines : List (List ℕ)) (s t u : Layout) → all_placed line (before ++ lines) s ≡ Ok u → all_placed line before s ≡ Ok t → all_placed (line + length before) lines t ≡ Ok u
 lines_behind line [] lines s t u whole front =
     let number : line + length {A = List ℕ} [] ≡ line = omega arith in

@@ -33,12 +33,12 @@ first_at s ss i lt =
     let index : s.address + i - s.address ≡ i = omega arith in
     rw (here, index) refl
 
--- behind it they are the others'
+-- after it they are the others'
 past_first : (s : Segment) (ss : List Segment) (a : ℕ) → s.address + length s.bytes ≤ a → byte_in (s ∷ ss) a ≡ byte_in ss a
 past_first s ss a le =
     skipped (leb s.address a && ltb a (s.address + length s.bytes)) (slice_get s.bytes (a - s.address)) (byte_in ss a) (and_right (leb s.address a) (ltb a (s.address + length s.bytes)) (le-ltb a (s.address + length s.bytes) le))
 
--- right behind it there is none
+-- right after it there is none
 gap_behind : (s : Segment) (ss : List Segment) → AreSeparate (s.address + length s.bytes + 1) ss → byte_in (s ∷ ss) (s.address + length s.bytes) ≡ None
 gap_behind s ss apart = past_first s ss (s.address + length s.bytes) (omega arith) ∙ none_below ss (s.address + length s.bytes + 1) (s.address + length s.bytes) apart (omega arith)
 
@@ -59,7 +59,7 @@ begins_by : (s t : Segment) (ss ts : List Segment) (low high : ℕ) → AreSepar
 begins_by s t ss ts low high one other same =
     from_low (t ∷ ts) t.address s.address (omega arith, other.1, other.2) (subst IsSome (same s.address) (head_there s ss s.address (omega arith) (omega (arith, one.1))))
 
--- where both begin at one address, it doesn't end behind the first of the others
+-- where both begin at one address, it doesn't end after the first of the others
 ends_by : (s t : Segment) (ss ts : List Segment) (low high : ℕ) → AreSeparate low (s ∷ ss) → AreSeparate high (t ∷ ts) → AreSame (s ∷ ss) (t ∷ ts) → s.address ≡ t.address → length s.bytes ≤ length t.bytes
 ends_by s t ss ts low high one other same at =
     elim (cases_lt (length t.bytes) (length s.bytes)) [

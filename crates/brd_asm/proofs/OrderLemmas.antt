@@ -71,7 +71,7 @@ unnamed_stays line labelled order (Equal name x) next none e = settled_so order 
 
 -- ---- lines
 
--- the order behind a line is the one that it settled
+-- the order after a line is the one that it settled
 behind_line : (line : ℕ) (bytes : List ℕ) (s t : Layout) (one : OneLine line bytes s t) → t.order ≡ one.order
 behind_line line bytes s t one = keeps line one.effect (layout one.order s.place one.names s.pieces) t one.happens
 
@@ -100,7 +100,7 @@ settles line said before next order e is =
     let named : settled_by line (not (eqb (length said.labels) 0)) before (ByteOrder order) ≡ Ok next = rw is at e in
     sym (not_refused (not (eqb (length said.labels) 0) || is_some before) (fault.Syntax line) (Some order) next named).1
 
--- the lines from one on, behind what those before it placed
+-- the lines from one on, after what those before it placed
 placed_on : (text : List ℕ) (number : ℕ) (before behind : List (List ℕ)) (bytes : List ℕ) (so_far s : Layout) → lines_of text ≡ before ++ bytes ∷ behind → number ≡ 1 + length before → all_placed 1 before nothing ≡ Ok so_far → all_placed 1 (lines_of text) nothing ≡ Ok s → all_placed number (bytes ∷ behind) so_far ≡ Ok s
 placed_on text number before behind bytes so_far s lines number_is front whole = rw number_is (lines_behind 1 before (bytes ∷ behind) nothing so_far s (rw lines at whole) front)
 

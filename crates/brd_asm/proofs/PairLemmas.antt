@@ -1,4 +1,4 @@
--- Lists whose elements stand in a relation, each to all behind it.
+-- Lists whose elements stand in a relation, each to all after it.
 use Rattle.std.proofs.Common.{List, [], ◌∷◌, ◌++◌}
 use Rattle.std.specs.List.{AllByRecursion}
 

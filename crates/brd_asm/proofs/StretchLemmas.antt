@@ -75,7 +75,7 @@ here_in address a bytes le lt = rw (and_from (leb address a) (ltb a (address + l
 not_here : (address a : ℕ) (bytes : List ℕ) → a < address → byte_in (stretch address bytes ∷ []) a ≡ None
 not_here address a bytes lt = rw (and_left (leb address a) (ltb a (address + length bytes)) (leb_above address a lt)) refl
 
--- two lists, one behind the other
+-- two lists, one after the other
 pub front_of : (xs ys : List ℕ) (i : ℕ) → i < length xs → slice_get (xs ++ ys) i ≡ slice_get xs i
 front_of xs ys i lt = slice_get-get_or (xs ++ ys) i 0 (omega (arith, length-append xs ys)) ∙ ap (λ (n : ℕ). Some n) (get_or_append_left xs ys 0 i lt) ∙ sym (slice_get-get_or xs i 0 lt)
 

@@ -1,5 +1,5 @@
 -- Only private contracts name this: where in the output the bytes of each piece lie, in the order of the source each
--- behind those of the pieces before it, and the ranges by which they are found.
+-- after those of the pieces before it, and the ranges by which they are found.
 use Rattle.std.specs.Prelude.{◌≡◌, ℕ, ◌+◌, ◌-◌, ◌≤◌, Bool, ◌&&◌, nat_le, nat_lt, if◌then◌else◌, List, [], ◌∷◌, slice_get, Option, None, Some, option_map, option_and_then}
 use Rattle.std.specs.List.{AllByRecursion}
 use Rattle.brd_ranges.specs.declared.range.Range.{Range}

@@ -94,7 +94,7 @@ order_by None = Big
 order_by (Some order) = order
 
 -- The first line that says anything settles the byte order: it is the one that this line's .byteorder names, and else
--- big-endian. Anywhere else, also behind a label, .byteorder has none of the language's forms.
+-- big-endian. Anywhere else, also after a label, .byteorder has none of the language's forms.
 abbrev pub settled_by : ℕ → Bool → Option Order → Statement → Result (Option Order) AsmFault
 settled_by line is_labelled order Nothing = Ok (if is_labelled then Some (order_by order) else order)
 settled_by line is_labelled order (ByteOrder named) = if is_labelled || is_some order then Err (fault.Syntax line) else Ok (Some named)
@@ -149,7 +149,7 @@ are_in_ram place size = nat_le base place && nat_le (place + size) top
 abbrev pub overlaps : List Piece → ℕ → ℕ → Bool
 overlaps pieces low high = list_any (λ p. nat_lt p.place high && nat_lt low (p.place + size_of p.content)) pieces
 
--- The content stands at the place, and the place moves behind it. Where it has no bytes, it stands nowhere.
+-- The content stands at the place, and the place moves after it. Where it has no bytes, it stands nowhere.
 unfoldable pub filled : ℕ → Content → Layout → Result Layout AsmFault
 filled line content s =
     if size_of content == 0 then Ok s

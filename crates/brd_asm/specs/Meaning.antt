@@ -55,7 +55,7 @@ field_in _ line names operand = signed_in line names operand
 unfoldable pub aligned : ℕ → ℤ → Result ℤ AsmFault
 aligned line v = if modulo v 4 == 0 then Ok v else Err (fault.Misaligned line)
 
--- The offset of a branch at a place: from its slot, which is 4 bytes behind it, -32,768 to 32,767 words.
+-- The offset of a branch at a place: from its slot, which is 4 bytes after it, -32,768 to 32,767 words.
 unfoldable pub offset_to : ℕ → ℕ → List Name → Operand → Result ℕ AsmFault
 offset_to line place names target = do
   v ← known line (value_of names (expression_in target))

@@ -1,4 +1,4 @@
--- The bytes of a source's contents, one behind the other, and how they come to lie in stretches.
+-- The bytes of a source's contents, one after the other, and how they come to lie in stretches.
 -- Only private functions' contracts name this; what a source means doesn't.
 use Rattle.std.specs.Prelude.{◌≡◌, ℕ, ◌+◌, ◌==◌, if◌then◌else◌, List, [], ◌∷◌, ◌++◌, length, Result, Ok}
 use Rattle.brd_text.specs.Faults.{◌>>=◌}
@@ -8,11 +8,11 @@ use Rattle.brd_mem.specs.declared.image.Segment.{Segment}
 use Rattle.brd_asm.specs.Meaning.{Meaning, Placed}
 use Rattle.brd_asm.specs.Image.{HasBytes, AreSpelled}
 
--- the bytes that spell a meaning stand behind these
+-- the bytes that spell a meaning stand after these
 abbrev pub Adds : Order → Meaning → List ℕ → List ℕ → Type 0
 Adds order meaning before after = (bytes : List ℕ) × HasBytes order meaning bytes × (after ≡ before ++ bytes)
 
--- bytes, if there are some, behind these
+-- bytes, if there are some, after these
 abbrev pub behind : List ℕ → Result (List ℕ) AsmFault → Result (List ℕ) AsmFault
 behind before bytes = bytes >>= λ more. Ok (before ++ more)
 
@@ -20,7 +20,7 @@ abbrev pub all_bytes : List Segment → List ℕ
 all_bytes [] = []
 all_bytes (s ∷ ss) = s.bytes ++ all_bytes ss
 
--- the output is the bytes of all contents, one behind the other
+-- the output is the bytes of all contents, one after the other
 pub record IsOutput (order : Order) (contents : List Placed) (output : List ℕ) : Type 0 where
   pub spelled : List Segment
   pub are_spelled : AreSpelled order contents spelled
@@ -31,7 +31,7 @@ abbrev pub last_stretch : ℕ → List ℕ → List Segment
 last_stretch address [] = []
 last_stretch address (b ∷ bs) = record { address = address; bytes = b ∷ bs } ∷ []
 
--- bytes at an address behind stretches: they join the last one that ends there
+-- bytes at an address after stretches: they join the last one that ends there
 abbrev pub joined : List Segment → ℕ → List ℕ → List Segment
 joined [] address bytes = record { address = address; bytes = bytes } ∷ []
 joined (s ∷ []) address bytes =

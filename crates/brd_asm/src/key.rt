@@ -1,5 +1,5 @@
-//! How names are found: by a hash whose keys the whole source decides, so that whoever writes a source can't choose names
-//! whose hashes are the same.
+//! How names are found: by a hash whose keys the whole source decides, so that whoever writes a source can't choose
+//! names whose hashes are the same.
 
 ghost use Rattle.std.specs.Prelude.{◌≡◌, [], ◌∷◌};
 ghost use Rattle.brd_asm.specs.Key.{folded, written, finished, keys_of};

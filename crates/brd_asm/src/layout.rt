@@ -75,7 +75,7 @@ impl<'a> Layout<'a> {
         }
     }
 
-    /// Puts content at the place, behind which the next statement stands then.
+    /// Puts content at the place, after which the next statement stands then.
     #[tactic(auto, unfolding(crate::specs::Layout::filled))]
     fn fill(&mut self, line: usize, content: Content<'a>) -> Result<(), AsmFault>
         ensures { Gives (λ _. layout self.new) result (filled line (view.content content.entry) (layout self.old)) }

@@ -85,7 +85,7 @@ impl<'a, 'b> Site<'a, 'b> {
         }
     }
 
-    /// The offset of a branch: how many words its target lies behind the slot.
+    /// The offset of a branch: how many words its target lies after the slot.
     #[tactic(auto, unfolding(crate::specs::Meaning::offset_to))]
     pub fn offset_to(self, target: Operand) -> Result<u16, AsmFault>
         ensures { Gives (λ n. n) result (offset_to self.entry.line self.entry.place self.entry.names.now (source.operand_value target.entry)) }

@@ -1,4 +1,4 @@
-//! The bytes of the pieces, one behind the other in the order of the source.
+//! The bytes of the pieces, one after the other in the order of the source.
 
 ghost use Rattle.std.specs.Prelude.{◌≡◌, ◌++◌, map, replicate, OnOk};
 ghost use Rattle.brd_source.specs.View as source;
@@ -35,7 +35,7 @@ pub fn output_of(
     Ok(output)
 }
 
-/// Puts the bytes of a piece behind those of others.
+/// Puts the bytes of a piece after those of others.
 #[tactic(auto, unfolding(crate::specs::Meaning::content_meaning))]
 fn put(
     alloc: Global,
@@ -69,7 +69,7 @@ fn put(
     }
 }
 
-/// Puts bytes behind others.
+/// Puts bytes after others.
 fn put_bytes(output: &mut Vec<u8>, bytes: &[u8]) -> Result<(), NoMemory>
     ensures { OnOk result (output.new.items ≡ output.old.items ++ bytes.now) }
 {
@@ -77,7 +77,7 @@ fn put_bytes(output: &mut Vec<u8>, bytes: &[u8]) -> Result<(), NoMemory>
     Ok(())
 }
 
-/// Puts bytes of zero behind others.
+/// Puts bytes of zero after others.
 fn put_zeros(output: &mut Vec<u8>, n: u32) -> Result<(), NoMemory>
     ensures { OnOk result (output.new.items ≡ output.old.items ++ replicate n 0) }
 {
@@ -120,7 +120,7 @@ fn data_of(
     Ok(data)
 }
 
-/// Puts the bytes of a value behind others.
+/// Puts the bytes of a value after others.
 fn put_value(output: &mut List<u8>, order: Order, width: Width, value: i64) -> Result<(), NoMemory>
     ensures { OnOk result (output.new ≡ output.old ++ bytes_of order width value) }
 {

@@ -12,7 +12,7 @@ use brd_source::{Expression, Instruction, Width};
 pub enum Content<'a> {
     /// An instruction.
     Code(Instruction<'a>),
-    /// Values of so many bytes each.
+    /// Values of n bytes each.
     Values(Width, List<Expression<'a>>),
     /// Bytes.
     Bytes(List<u8>),

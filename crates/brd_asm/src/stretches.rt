@@ -43,7 +43,7 @@ impl Stretches {
         }
     }
 
-    /// With bytes at an address behind all others.
+    /// With bytes at an address after all others.
     fn with(self, alloc: Global, address: u32, more: &[u8]) -> Result<Self, NoMemory>
         requires { 0 < length more.now }
         ensures { IfOk result (λ s. s ≡ joined self address more.now) }

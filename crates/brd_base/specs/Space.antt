@@ -5,7 +5,7 @@ use Rattle.std.specs.Prelude.{◌≡◌, ℕ, ◌+◌, ◌%◌, ◌^◌, ◌≤�
 abbrev pub base : ℕ
 base = 0x80000000
 
--- the address behind the last byte that a RAM can have
+-- the address after the last byte that a RAM can have
 abbrev pub top : ℕ
 top = base + 2 ^ 24
 

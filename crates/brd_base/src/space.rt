@@ -6,7 +6,7 @@ ghost use Rattle.brd_base.specs.Space.{IsRamSize};
 /// The address of RAM's first byte.
 pub const BASE: u32 = 0x8000_0000;
 
-/// The address behind the last byte that a RAM can have.
+/// The address after the last byte that a RAM can have.
 pub const TOP: u32 = 0x8100_0000;
 
 /// Whether RAM can have this many bytes: 64 KiB to 16 MiB, in steps of 64 KiB.

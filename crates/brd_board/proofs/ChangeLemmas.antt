@@ -1,11 +1,11 @@
 -- Where another task runs than before an event, there is no link after it. Only dispatch changes who runs, and it ends
 -- these links.
 use Rattle.std.proofs.Common.{◌≡◌, ◌≤◌, ℕ, zero, suc, List, [], ◌∷◌, refl, sym, ap, ◌∙◌, arith}
-use Rattle.std.specs.Prelude.{Bool, true, false, not, ◌==◌, nat_lt, if◌then◌else◌, filter, Option, None, Some, is_some, unwrap_or, Result, Ok, Err, slice_index_or, slice_set}
+use Rattle.std.specs.Prelude.{Bool, true, false, not, ◌==◌, nat_lt, if◌then◌else◌, filter, Option, None, Some, is_some, unwrap_or, slice_index_or, slice_set}
 use Rattle.std.specs.List.{list_any}
 use Rattle.std.proofs.lemmas.Bool.{true≢false, false≢true}
 use Rattle.std.proofs.lemmas.Bool.Decides.{nat_tests}
-use Rattle.brd_exec.specs.State.{State, advanced}
+use Rattle.brd_exec.specs.State.{State}
 use Rattle.brd_exec.specs.declared.outcome.Outcome.{Outcome}
 use Rattle.brd_exec.specs.declared.outcome.Outcome.TheVariants.{Done, Syscall, Exception}
 use Rattle.brd_link.specs.LinkSet.{LinkSet, linked_address, without}
@@ -15,32 +15,26 @@ use Rattle.brd_tasks.specs.declared.task.Task.{Task}
 use Rattle.brd_kernel.specs.declared.processor.Processor.{Processor}
 use Rattle.brd_kernel.specs.declared.processor.Executor.{Executor}
 use Rattle.brd_kernel.specs.declared.processor.Executor.TheVariants as executor
-use Rattle.brd_kernel.specs.declared.call.Call.{Call}
-use Rattle.brd_kernel.specs.declared.call.Ercd.{Ercd}
-use Rattle.brd_kernel.specs.Kernel.{KernelState, with_tasks, processor_at, running_in, running_on, unmarked, executor_on, context_of, with_context_of, context_on, handles, accepted_line, deliverable, line_at, with_pending, Executed, executed_in, executed}
+use Rattle.brd_kernel.specs.Kernel.{KernelState, with_tasks, processor_at, running_in, running_on, unmarked, executor_on, with_context_of, handles, accepted_line, deliverable, line_at, with_pending, Executed, executed_in, executed}
 use Rattle.brd_kernel.specs.Dispatch.{dispatched, is_same_task, has_changed, changed_processors}
-use Rattle.brd_kernel.specs.Row.{Served}
-use Rattle.brd_kernel.proofs.WaitLemmas.{unlisted-only, reordered-only}
-use Rattle.brd_kernel.proofs.WalkLemmas.{Law, in_semaphore, in_flag, in_senders, in_receivers, serve-always}
+use Rattle.brd_kernel.proofs.SameLemmas.{Same, same-ended, same-broken, same-reordered, same-satisfied, same-released, same-handed, same-wait}
+use Rattle.brd_kernel.proofs.SpinLemmas.{same-ticked}
+use Rattle.brd_kernel.proofs.WalkLemmas.{Anything, Law, in_semaphore, in_flag, in_senders, in_receivers, serve-always}
 use Rattle.brd_tasks.specs.declared.status.WaitReason.{WaitReason}
 use Rattle.brd_tasks.specs.declared.status.WaitReason.TheVariants as reason
-use Rattle.brd_tasks.specs.Status.{waiting_of, blocked}
-use Rattle.brd_tasks.specs.Tasks.{task_at, through, changed, with_priority, noted, without_activation}
-use Rattle.brd_time.specs.Time.{with_due, last_count, advanced as time_advanced, due_from}
+use Rattle.brd_tasks.specs.Status.{waiting_of}
+use Rattle.brd_tasks.specs.Tasks.{changed, with_priority, noted, without_activation}
+use Rattle.brd_time.specs.Time.{last_count, advanced as time_advanced}
 use Rattle.brd_objects.specs.declared.semaphore.Semaphore.{Semaphore}
-use Rattle.brd_objects.specs.declared.flag.Flag.{Flag}
-use Rattle.brd_objects.specs.declared.sent.Sent.{Sent}
-use Rattle.brd_objects.specs.declared.sent.Sent.TheVariants.{Handed, Stored, Full}
 use Rattle.brd_objects.specs.declared.sent.Received.{Received}
 use Rattle.brd_objects.specs.Table.{object_at, object_changed}
 use Rattle.brd_objects.specs.Semaphores.{returned, first_waiter}
-use Rattle.brd_objects.specs.Flags.{joined, all_released, with_all_released}
+use Rattle.brd_objects.specs.Flags.{joined}
 use Rattle.brd_objects.specs.DataQueues.{DataQueueState, sent, outcome, forced, forced_outcome, received}
-use Rattle.brd_kernel.specs.Answer.{e_ok}
-use Rattle.brd_kernel.specs.Waits.{can_wait, with_wait, released_in, reason_of, broken_off, ended_in, answer_by, timed_out, all_timed_out, ticked_on, faulted_task, faulted_in}
-use Rattle.brd_kernel.specs.Services.{unmarked_on, caller_on, with_released, with_all_released_in, with_satisfied_of, handed_over}
-use Rattle.brd_sysgate.specs.Gate.{changed_in, with_changed_context, served_call, called_in, called, caller_of, read_of, written}
-use Rattle.brd_sysgate.specs.declared.gate.Caller.{Caller}
+use Rattle.brd_kernel.specs.Waits.{with_wait, broken_off, ended_in, ticked_on, faulted_task, faulted_in}
+use Rattle.brd_kernel.specs.Services.{unmarked_on, caller_on}
+use Rattle.brd_sysgate.specs.Gate.{called}
+use Rattle.brd_board.proofs.CallingLemmas.{Calls, called-leaves}
 use Rattle.brd_board.specs.declared.event.Event.{Event}
 use Rattle.brd_board.specs.declared.event.Event.TheVariants.{Step, Tick, Raise}
 use Rattle.brd_board.specs.Board.{BoardState, Happened, dispatched_board, with_call, with_fault, happens, happens_on, stepped_in, accepts_or_executes, executes_in, instruction_done, with_executed}
@@ -58,47 +52,13 @@ runners-set (x ∷ ps) zero (suc at) p q is same = refl
 runners-set (x ∷ ps) (suc cpu) zero p q is same = refl
 runners-set (x ∷ ps) (suc cpu) (suc at) p q is same = runners-set ps cpu at p q is same
 
--- Waits keep the processors.
-
-abbrev Same : KernelState → KernelState → Type 0
-Same new old = new.processors ≡ old.processors
+-- What keeps the processors.
 
 runs : (new old : KernelState) → Same new old → KeepsRunners new old
-runs new old same = λ at. ap (λ ps. running_in (slice_index_or ps at None)) same
+runs new old same = λ at. ap (λ ps. running_in (slice_index_or ps at None)) same.processors
 
 keeps-by : {new old : List (Option Processor)} → new ≡ old → (at : ℕ) → running_in (slice_index_or new at None) ≡ running_in (slice_index_or old at None)
 keeps-by same at = ap (λ ps. running_in (slice_index_or ps at None)) same
-
-same-ended : (k : KernelState) (id : ℕ) → Same (ended_in k id) k
-same-ended k id = (unlisted-only k id (reason_of k id)).processors
-
-same-broken : (k : KernelState) (id answer : ℕ) → Same (broken_off k id answer) k
-same-broken k id answer = (unlisted-only k id (reason_of k id)).processors
-
-same-timed : (k : KernelState) (ids : List ℕ) → Same (all_timed_out k ids) k
-same-timed k [] = refl
-same-timed k (id ∷ ids) = same-timed (timed_out k id) ids ∙ same-broken k id (answer_by (reason_of k id))
-
-same-all_released : (k : KernelState) (ids : List ℕ) (second : ℕ) → Same (with_all_released_in k ids second) k
-same-all_released k [] second = refl
-same-all_released k (id ∷ ids) second = same-all_released (released_in k id e_ok (Some second)) ids second
-
-same-satisfied : (k : KernelState) (id : ℕ) (found : Option Flag) → Same (with_satisfied_of k id found) k
-same-satisfied k id None = refl
-same-satisfied k id (Some f) = same-all_released (record k { flags = object_changed with_all_released k.flags id }) (all_released f) f.pattern
-
-same-released : (k : KernelState) (id : Option ℕ) → Same (with_released k id) k
-same-released k None = refl
-same-released k (Some id) = refl
-
-same-handed : (k : KernelState) (datum : ℕ) (what : Sent) → Same (handed_over k datum what) k
-same-handed k datum (Handed id) = refl
-same-handed k datum Stored = refl
-same-handed k datum Full = refl
-
-same-wait-if : (test : Bool) (one k : KernelState) → Same one k → Same (if test then one else k) k
-same-wait-if true one k same = same
-same-wait-if false one k same = refl
 
 -- Service calls.
 
@@ -109,15 +69,14 @@ keeps-unmarked k cpu (Some p) is = λ at. runners-set k.processors cpu at p (unm
 keeps-exit : (k : KernelState) (cpu caller : ℕ) → KeepsRunners (unmarked_on (ended_in k caller) cpu (processor_at k cpu)) k
 keeps-exit k cpu caller =
     let out : KernelState = ended_in k caller in
-    λ at. keeps-unmarked out cpu (processor_at k cpu) (ap (λ ps. slice_index_or ps cpu None) (same-ended k caller)) at ∙ runs out k (same-ended k caller) at
+    λ at. keeps-unmarked out cpu (processor_at k cpu) (ap (λ ps. slice_index_or ps cpu None) (same-ended k caller).processors) at
+    ∙ runs out k (same-ended k caller) at
 
 keeps-wait : (k : KernelState) (caller : ℕ) (why : WaitReason) (due : Option ℕ) (entered : KernelState) → Same entered k →
     KeepsRunners (with_wait k caller why due entered) k
-keeps-wait k caller why due entered same =
-    keeps-by (same-wait-if (can_wait (task_at k.tasks caller))
-    (record entered { tasks = through (blocked why) k.tasks caller; time = with_due k.time caller due }) k same)
+keeps-wait k caller why due entered same = runs (with_wait k caller why due entered) k (same-wait k caller why due entered same)
 
-runners-law : (k : KernelState) (cpu caller : ℕ) → Law (Unit {0}) (Unit {0}) (λ new. KeepsRunners new k) k cpu caller
+runners-law : (k : KernelState) (cpu caller : ℕ) → Law Anything (λ new. KeepsRunners new k) k cpu caller
 runners-law k cpu caller = record {
   stays = λ at. refl;
   activates = λ id request of at. refl;
@@ -125,62 +84,54 @@ runners-law k cpu caller = record {
   wakes = λ id task there awake at. refl;
   unwakes = λ id at. refl;
   exits = λ may. keeps-exit k cpu caller;
-  ends = λ id task there held other. keeps-by (same-ended k id);
+  ends = λ id task there held other. runs (ended_in k id) k (same-ended k id);
   prioritizes = λ id priority (task : Task) there.
-      keeps-by (reordered-only (with_tasks k (changed (with_priority priority) k.tasks id)) id priority (waiting_of task.status)).processors;
+      keeps-by (same-reordered (with_tasks k (changed (with_priority priority) k.tasks id)) id priority (waiting_of task.status)).processors;
   migrates = λ id to task there held absent may at. refl;
   suspends = λ id task there held may at. refl;
   resumes = λ id at. refl;
   rouses = λ id task there asleep at. refl;
-  breaks = λ id answer. keeps-by (same-broken k id answer);
-  sleeps = λ due task there none may. keeps-wait k caller reason.Sleep due k refl;
-  delays = λ due may. keeps-wait k caller reason.Delay (Some due) k refl;
+  breaks = λ id answer. runs (broken_off k id answer) k (same-broken k id answer);
+  sleeps = λ due task there none may. keeps-wait k caller reason.Sleep due k (record { processors = refl; spin_locks = refl });
+  delays = λ due may. keeps-wait k caller reason.Delay (Some due) k (record { processors = refl; spin_locks = refl });
   rotates = λ priority p there at. refl;
-  marks = λ p q there same at. runners-set k.processors cpu at p q there same;
+  marks = λ p q there same how at. runners-set k.processors cpu at p q there same;
   returns = λ (p : Processor) there at. runners-set k.processors cpu at p (record p { handling = None }) there refl;
   signals = λ id (s : Semaphore) there.
-      keeps-by (same-released (record k { semaphores = object_changed returned k.semaphores id }) (first_waiter s));
+      keeps-by (same-released (record k { semaphores = object_changed returned k.semaphores id }) (first_waiter s)).processors;
   takes = λ id s there at. refl;
-  awaits_semaphore = λ id due s there none may. keeps-wait k caller (reason.Semaphore id) due (in_semaphore k caller id) refl;
+  awaits_semaphore = λ id due s there none may. keeps-wait k caller (reason.Semaphore id) due (in_semaphore k caller id) (record { processors = refl; spin_locks = refl });
   sets = λ id bits f there. let set : KernelState = record k { flags = object_changed (joined bits) k.flags id } in
-      keeps-by (same-satisfied set id (object_at set.flags id));
+      keeps-by (same-satisfied set id (object_at set.flags id)).processors;
   clears = λ id bits f there at. refl;
   gets = λ id want f there at. refl;
-  awaits_flag = λ id want due f there none some may. keeps-wait k caller (reason.Flag id) due (in_flag k caller id want) refl;
+  awaits_flag = λ id want due f there none some may. keeps-wait k caller (reason.Flag id) due (in_flag k caller id want) (record { processors = refl; spin_locks = refl });
   sends = λ id datum (q : DataQueueState) there.
-      keeps-by (same-handed (record k { queues = object_changed (sent datum) k.queues id }) datum (outcome q));
-  awaits_send = λ id datum due q there full may. keeps-wait k caller (reason.Send id) due (in_senders k caller id datum) refl;
+      keeps-by (same-handed (record k { queues = object_changed (sent datum) k.queues id }) datum (outcome q)).processors;
+  awaits_send = λ id datum due q there full may. keeps-wait k caller (reason.Send id) due (in_senders k caller id datum) (record { processors = refl; spin_locks = refl });
   forces = λ id datum (q : DataQueueState) there.
-      keeps-by (same-handed (record k { queues = object_changed (forced datum) k.queues id }) datum (forced_outcome q));
-  receives = λ id q (it : Received) there is. keeps-by (same-released (record k { queues = object_changed received k.queues id }) it.sender);
-  awaits_receive = λ id due q there none may. keeps-wait k caller (reason.Receive id) due (in_receivers k caller id) refl;
+      keeps-by (same-handed (record k { queues = object_changed (forced datum) k.queues id }) datum (forced_outcome q)).processors;
+  receives = λ id q (it : Received) there is. keeps-by (same-released (record k { queues = object_changed received k.queues id }) it.sender).processors;
+  awaits_receive = λ id due q there none may. keeps-wait k caller (reason.Receive id) due (in_receivers k caller id) (record { processors = refl; spin_locks = refl });
   writes = λ word at. refl;
   ends_all = λ at. refl;
 }
-
-keeps-call : (k : KernelState) (cpu : ℕ) (asked : Result Call Ercd) → KeepsRunners (served_call k cpu asked).kernel k
-keeps-call k cpu (Ok c) = serve-always (λ new. KeepsRunners new k) k cpu (runners-law k cpu (caller_on k cpu)) c
-keeps-call k cpu (Err code) = λ at. refl
 
 keeps-context : (k : KernelState) (cpu : ℕ) (who : Executor) (s : State) → KeepsRunners (with_context_of k cpu who s) k
 keeps-context k cpu executor.Handler s = λ at. refl
 keeps-context k cpu (executor.Task id) s = λ at. refl
 
-keeps-changed : (change : State → State) (k : KernelState) (cpu : ℕ) (who : Option Executor) → KeepsRunners (changed_in change k cpu who) k
-keeps-changed change k cpu None = λ at. refl
-keeps-changed change k cpu (Some who) = keeps-context k cpu who (change (context_of k cpu who))
-
-keeps-called_in : (k : KernelState) (cpu : ℕ) (caller : Caller) (s : Option State) → KeepsRunners (called_in k cpu caller s) k
-keeps-called_in k cpu caller None = λ at. refl
-keeps-called_in k cpu caller (Some s) =
-    let done : Served = served_call k cpu (read_of s caller) in
-    λ at. keeps-changed (λ c. written c done.reply) done.kernel cpu (executor_on done.kernel cpu) at ∙ keeps-call k cpu (read_of s caller) at
+calls-keep : (k : KernelState) (cpu : ℕ) → Calls (λ new. KeepsRunners new k) (λ new. KeepsRunners new k) k cpu
+calls-keep k cpu = record {
+  quiet = λ now was. was;
+  goes_on = λ now who s was at. keeps-context now cpu who s at ∙ was at;
+  replies = λ now who s was at. keeps-context now cpu who s at ∙ was at;
+  serves = λ now p c same there may was at.
+      serve-always (λ new. KeepsRunners new now) now cpu (runners-law now cpu (caller_on now cpu)) c at ∙ was at;
+}
 
 keeps-called : (k : KernelState) (cpu : ℕ) → KeepsRunners (called k cpu) k
-unfolding called
-keeps-called k cpu =
-    let on : KernelState = with_changed_context advanced k cpu in
-    λ at. keeps-called_in on cpu (caller_of k cpu) (context_on on cpu) at ∙ keeps-changed advanced k cpu (executor_on k cpu) at
+keeps-called k cpu = called-leaves k cpu (calls-keep k cpu) (λ at. refl)
 
 -- Interrupts and exceptions.
 
@@ -193,8 +144,9 @@ keeps-faulted_task k cpu p None is = λ at. refl
 keeps-faulted_task k cpu p (Some id) is =
     let noted-one : KernelState = with_tasks k (noted without_activation k.tasks id) in
     let out : KernelState = ended_in noted-one id in
-    let same : Same out k = same-ended noted-one id in
-    λ at. runners-set out.processors cpu at p (unmarked p) (ap (λ ps. slice_index_or ps cpu None) same ∙ is) refl ∙ runs out k same at
+    let only : Same out noted-one = same-ended noted-one id in
+    let same : Same out k = record { processors = only.processors; spin_locks = only.spin_locks } in
+    λ at. runners-set out.processors cpu at p (unmarked p) (ap (λ ps. slice_index_or ps cpu None) same.processors ∙ is) refl ∙ runs out k same at
 
 keeps-runners-if : (test : Bool) (old one other : KernelState) → KeepsRunners one old → KeepsRunners other old → KeepsRunners (if test then one else other) old
 keeps-runners-if true old one other first second = first
@@ -273,7 +225,7 @@ ends-on : (b : BoardState) (event : Event) → EndsLinks b (happens_on b event).
 ends-on b (Step cpu) = ends-stepped b cpu (processor_at b.kernel cpu)
 ends-on b Tick = ends-either (nat_lt b.kernel.time.count last_count) b _ _
     (ends-dispatched b (record b { kernel = ticked_on b.kernel (time_advanced b.kernel.time) })
-    (runs (ticked_on b.kernel (time_advanced b.kernel.time)) b.kernel (same-timed (record b.kernel { time = time_advanced b.kernel.time }) (due_from (time_advanced b.kernel.time) 0)))) (ends-reported b b (λ at. refl))
+    (runs (ticked_on b.kernel (time_advanced b.kernel.time)) b.kernel (same-ticked b.kernel))) (ends-reported b b (λ at. refl))
 ends-on b (Raise line) = ends-either (is_some (line_at b.kernel line).handler) b _ _ (ends-reported b (record b { kernel = with_pending b.kernel line }) (λ at. refl)) (ends-reported b b (λ at. refl))
 
 pub change-ends-links : (b : BoardState) (event : Event) → EndsLinks b (happens b event).board

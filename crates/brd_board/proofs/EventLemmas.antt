@@ -30,8 +30,8 @@ use Rattle.brd_board.specs.Setup.{setups_of, has_ta_act, started_at_boot, all_st
 use Rattle.brd_board.specs.Boot.{booted_kernel, booted_board, boot}
 use Rattle.brd_board.specs.Board.{BoardState, Happened, with_executed, happens, happens_on, after, stepped_in, accepts_or_executes, executes_in, instruction_done}
 
--- What has to be shown of a property `P` that holds between two events. `Q` is what holds of it after an event's effects,
--- before the dispatch that ends the event.
+-- What has to be shown of a property `P` that holds between two events. `Q` is what holds of it after an event's
+-- effects, before the dispatch that ends the event.
 pub record Kept (P Q : KernelState → Type 0) : Type 0 where
   -- an instruction writes a context
   pub context : (k : KernelState) (cpu : ℕ) (who : Executor) (s : State) → P k → P (with_context_of k cpu who s)

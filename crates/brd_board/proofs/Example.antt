@@ -34,6 +34,7 @@ kernel = record {
   semaphores = [];
   flags = [];
   queues = [];
+  spin_locks = [];
   processors = None ∷ Some (record idle { running = Some 1 }) ∷ Some (record idle { running = Some 2 }) ∷ [];
   handler_contexts = [];
   lines = [];

@@ -10,9 +10,9 @@ use Rattle.brd_kernel.specs.declared.call.Call.{Call}
 use Rattle.brd_kernel.specs.declared.call.Ercd.{Ercd}
 use Rattle.brd_kernel.specs.Kernel.{executor_by}
 use Rattle.brd_kernel.specs.Services.{named}
-use Rattle.brd_kernel.proofs.RunningCallLemmas.{IsFree, MayServe, IsTaskOf, none-held}
+use Rattle.brd_kernel.proofs.RunningCallLemmas.{IsFree, MayServe, IsTaskOf, known_of, none-held}
 use Rattle.brd_kernel.proofs.ThereLemmas.{first-of, second-of}
-use Rattle.brd_kernel.proofs.WalkLemmas.{Stop, GoesOn, MayWait, Waits, Names, Ends, stop_of, MayStop}
+use Rattle.brd_kernel.proofs.WalkLemmas.{Stop, GoesOn, Locks, Unlocks, MayWait, Waits, Names, Ends, stop_of, MayStop}
 use Rattle.brd_sysgate.specs.declared.gate.Caller.{Caller}
 use Rattle.brd_sysgate.specs.declared.gate.Caller.TheVariants.{Task, Handler}
 use Rattle.brd_sysgate.specs.declared.place.Place.{Place}
@@ -24,6 +24,10 @@ use Rattle.brd_sysgate.specs.Gate.{Service, table, a0, is_oneself, may_call, arg
 
 abbrev fits : Stop → Place → Bool
 fits GoesOn from = true
+fits Locks place.Task = true
+fits Locks _ = false
+fits Unlocks place.NotHolding = true
+fits Unlocks _ = false
 fits (MayWait timeout) place.Waiting = true
 fits (MayWait timeout) _ = timeout == 0
 fits Waits place.Waiting = true
@@ -54,7 +58,7 @@ table-names a = refl
 abbrev PlacesMay : Processor → ℕ → Caller → ℕ → Type 0
 PlacesMay p id caller first =
     (stop : Stop) (from : Place) → fits stop from ≡ true → named_by stop first ≡ first → may_call caller from first ≡ true →
-    MayStop (IsFree p id) (IsTaskOf p id) id stop
+    MayStop (known_of p id) id stop
 
 abbrev pub MayBe : Processor → ℕ → Result Call Ercd → Type 0
 MayBe p id (Ok c) = MayServe p id c
@@ -90,6 +94,10 @@ polls timeout poll waits = absurd (true≢false (sym poll ∙ waits))
 
 handler-may : (p : Processor) (id first : ℕ) → PlacesMay p id Handler first
 handler-may p id first GoesOn from fit name ok = tt
+handler-may p id first Locks place.Task fit name ok = absurd (false≢true ok)
+handler-may p id first Locks _ fit name ok = absurd (false≢true fit)
+handler-may p id first Unlocks place.NotHolding fit name ok = absurd (false≢true ok)
+handler-may p id first Unlocks _ fit name ok = absurd (false≢true fit)
 handler-may p id first (MayWait timeout) place.Waiting fit name ok = absurd (false≢true ok)
 handler-may p id first (MayWait timeout) _ fit name ok = polls timeout fit
 handler-may p id first Waits place.Waiting fit name ok = absurd (false≢true ok)
@@ -127,27 +135,35 @@ task-names p id t runs handling stopped ok names =
 record Gated (p : Processor) (id first : ℕ) : Type 0 where
   waits : (not p.locked && not p.disabled) ≡ true → IsFree p id
   named : (t : ℕ) → t ≡ first → (not p.locked && not (p.disabled && is_oneself id first)) ≡ true → (named id t == id) ≡ true → IsFree p id
-  leaves : IsTaskOf p id
+  of_task : IsTaskOf p id
 
-gated : (p : Processor) (id first : ℕ) → Gated p id first → PlacesMay p id (Task id p.locked p.disabled) first
+none-held-by : (held : Option ℕ) → not (is_some held) ≡ true → held ≡ None
+none-held-by None ok = refl
+none-held-by (Some id) ok = absurd (false≢true ok)
+
+gated : (p : Processor) (id first : ℕ) → Gated p id first → PlacesMay p id (Task id p.locked p.disabled (is_some p.spin)) first
 gated p id first is GoesOn from fit name ok = tt
+gated p id first is Locks place.Task fit name ok = is.of_task
+gated p id first is Locks _ fit name ok = absurd (false≢true fit)
+gated p id first is Unlocks place.NotHolding fit name ok = none-held-by p.spin ok
+gated p id first is Unlocks _ fit name ok = absurd (false≢true fit)
 gated p id first is (MayWait timeout) place.Waiting fit name ok = λ waits. is.waits ok
 gated p id first is (MayWait timeout) _ fit name ok = polls timeout fit
 gated p id first is Waits place.Waiting fit name ok = is.waits ok
 gated p id first is Waits _ fit name ok = absurd (false≢true fit)
 gated p id first is (Names t) place.OnTask fit name ok = is.named t name ok
 gated p id first is (Names t) _ fit name ok = absurd (false≢true fit)
-gated p id first is Ends place.LockedTask fit name ok = is.leaves
+gated p id first is Ends place.LockedTask fit name ok = is.of_task
 gated p id first is Ends _ fit name ok = absurd (false≢true fit)
 
 task-may : (p : Processor) (id first : ℕ) → p.running ≡ Some id → is_some p.handling ≡ false → p.stopped ≡ false →
-    PlacesMay p id (Task id p.locked p.disabled) first
+    PlacesMay p id (Task id p.locked p.disabled (is_some p.spin)) first
 task-may p id first runs handling stopped =
     gated p id first (record {
       waits = task-waits p id runs handling stopped;
       named = λ t is ok own. task-names p id t runs handling stopped
           (subst (λ n. (not p.locked && not (p.disabled && is_oneself id n)) ≡ true) (sym is) ok) own;
-      leaves = record {
+      of_task = record {
         running = runs;
         unmarked_free = none-held (is_some p.handling) false false p.stopped handling refl refl stopped;
       };

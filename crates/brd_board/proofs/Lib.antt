@@ -11,9 +11,11 @@ pub mod ChangeLemmas
 pub mod WaitingLemmas
 pub mod OffLemmas
 pub mod GateLemmas
+pub mod CallingLemmas
 pub mod RunningLemmas
 pub mod OwnLemmas
 pub mod FormLemmas
 pub mod StoringLemmas
 pub mod RowLemmas
+pub mod SpinLemmas
 mod LeaseLemmas

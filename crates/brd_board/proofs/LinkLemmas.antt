@@ -13,7 +13,7 @@ next-number c small =
     let more : 9 - c ≡ suc (9 - (c + 1)) = omega (arith, small) in
     ap (range_with_len c) more
 
--- a number that is tested, and those behind it
+-- a number that is tested, and those after it
 pub filter-next : (p : ℕ → Bool) (c : ℕ) → c < 9 → filter p (range_with_len c (9 - c)) ≡ (if p c then c ∷ filter p (range_with_len (c + 1) (9 - (c + 1))) else filter p (range_with_len (c + 1) (9 - (c + 1))))
 filter-next p c small = ap (filter p) (next-number c small)
 

@@ -125,6 +125,7 @@ record Stays (k new : KernelState) : Type 0 where
   semaphores : new.semaphores ≡ k.semaphores
   flags : new.flags ≡ k.flags
   queues : new.queues ≡ k.queues
+  spin_locks : new.spin_locks ≡ k.spin_locks
   lines : new.lines ≡ k.lines
   time : new.time ≡ k.time
   console : new.console ≡ k.console
@@ -137,6 +138,7 @@ stays k cpu executor.Handler s = record {
   semaphores = refl;
   flags = refl;
   queues = refl;
+  spin_locks = refl;
   lines = refl;
   time = refl;
   console = refl;
@@ -148,6 +150,7 @@ stays k cpu (executor.Task id) s = record {
   semaphores = refl;
   flags = refl;
   queues = refl;
+  spin_locks = refl;
   lines = refl;
   time = refl;
   console = refl;
@@ -180,6 +183,7 @@ own-instruction b cpu who left was executes =
       semaphores = rest.semaphores;
       flags = rest.flags;
       queues = rest.queues;
+      spin_locks = rest.spin_locks;
       lines = rest.lines;
       time = rest.time;
       console = rest.console;

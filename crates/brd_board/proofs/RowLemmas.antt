@@ -1,9 +1,10 @@
 -- Steps of a processor that go on change the context in which they are executed, memory and links, and nothing else.
-use Rattle.std.proofs.Common.{◌≡◌, ℕ, zero, suc, ◌<◌, Bool, true, false, if◌then◌else◌, List, replicate, refl, sym, ap, subst, ◌∙◌, length-set}
-use Rattle.std.specs.Prelude.{Option, None, Some}
+use Rattle.std.proofs.Common.{◌≡◌, ℕ, zero, suc, ◌+◌, ◌<◌, Bool, true, false, if◌then◌else◌, List, replicate, refl, sym, ap, subst, ◌∙◌, length-set, arith}
+use Rattle.std.specs.Prelude.{Option, None, Some, IfSome, is_some}
 use Rattle.std.proofs.lemmas.List.{get_or-set_same, set-set, set-get_or}
 use Rattle.brd_mem.specs.Memory.{Memory}
 use Rattle.brd_mem.specs.Window.{window_start, window_at}
+use Rattle.brd_link.specs.LinkSet.{LinkSet}
 use Rattle.brd_exec.specs.declared.outcome.Outcome.TheVariants.{Done}
 use Rattle.brd_exec.specs.State.{State}
 use Rattle.brd_exec.specs.Step.{Effect, effect, Ran, ended, ran}
@@ -14,13 +15,13 @@ use Rattle.brd_tasks.specs.Tasks.{no_context}
 use Rattle.brd_kernel.specs.declared.processor.Processor.{Processor}
 use Rattle.brd_kernel.specs.declared.processor.Executor.{Executor}
 use Rattle.brd_kernel.specs.declared.processor.Executor.TheVariants as executor
-use Rattle.brd_kernel.specs.Kernel.{KernelState, processor_at, executor_by, executor_in, context_of, with_context_of, deliverable, executed_by, executed_in}
+use Rattle.brd_kernel.specs.Kernel.{KernelState, processor_at, executor_by, executor_in, executor_on, context_of, with_context_of, deliverable, executed_by, executed_in}
 use Rattle.brd_kernel.specs.Always.{HasPlace}
 use Rattle.brd_board.specs.declared.event.Event.{Event}
 use Rattle.brd_board.specs.declared.event.Event.TheVariants.{Step}
 use Rattle.brd_board.specs.declared.event.Report.TheVariants as report
 use Rattle.brd_board.specs.Board.{BoardState, Happened, reported, with_executed, instruction_done, executes_in, accepts_or_executes, stepped_in, stepped, happens, after}
-use Rattle.brd_board.specs.InARow.{GoesOn, machine_of, with_machine}
+use Rattle.brd_board.specs.InARow.{GoesOn, GoesRow, machine_of, with_machine}
 
 -- One step.
 
@@ -125,3 +126,31 @@ pub local-steps-go : (b : BoardState) (cpu count address : ℕ) (who : Executor)
 local-steps-go b cpu count address who s window goes whole is =
     steps-go b cpu count who (record { state = s; memory = b.memory; links = b.links }) goes
     (lent-steps count cpu address (context_of b.kernel cpu who) s b.memory b.links window whole is)
+
+-- Rows of steps.
+
+-- events of one kind, some after the others
+pub after-both : (first second : ℕ) (b : BoardState) (event : Event) →
+    after (after b (replicate first event)) (replicate second event) ≡ after b (replicate (first + second) event)
+after-both zero second b event =
+    let count : zero + second ≡ second = omega arith in
+    rw count refl
+after-both (suc first) second b event =
+    let count : suc first + second ≡ suc (first + second) = omega arith in
+    rw count (after-both first second (happens b event).board event)
+
+pub none-is : (x : Option ℕ) → is_some x ≡ false → x ≡ None
+none-is None is = refl
+none-is (Some n) is = let wrong : ⊥ = cc in absurd wrong
+
+-- what a row leaves is the board after its steps
+pub row-goes : (b : BoardState) (cpu count : ℕ) (found : Option Executor) (new : KernelState) (stored : Memory) (linked : LinkSet) →
+    b.kernel.off ≡ false → deliverable b.kernel cpu ≡ None → executor_on b.kernel cpu ≡ found → IfSome found (HasPlace b.kernel cpu) →
+    GoesRow found cpu count b.kernel b.memory b.links new stored linked →
+    record b { kernel = new; memory = stored; links = linked } ≡ after b (replicate count (Step cpu))
+row-goes b cpu count None new stored linked on uninterrupted executes place row =
+    rw row.0 (λ i. record b { kernel = row.1 i; memory = row.2 i; links = row.3 i })
+row-goes b cpu count (Some who) new stored linked on uninterrupted executes place row =
+    let m : Machine = record { state = row.0; memory = stored; links = linked } in
+    let goes : GoesOn b cpu who = record { on = on; executes = executes; uninterrupted = uninterrupted; place = place } in
+    ap (λ k. record b { kernel = k; memory = stored; links = linked }) row.1 ∙ sym (steps-go b cpu count who m goes row.2)

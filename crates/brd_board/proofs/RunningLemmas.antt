@@ -1,22 +1,12 @@
 -- Who runs is ready, after every list of events from a boot.
-use Rattle.std.proofs.Common.{◌≡◌, ℕ, ◌+◌, List, [], ◌∷◌, get_or, refl, sym, ap, subst, ◌∙◌, arith}
-use Rattle.std.proofs.lemmas.Bool.{false≢true}
-use Rattle.std.specs.Prelude.{Bool, true, false, Option, None, Some, Result, Ok, Err, unwrap_or, is_some, ◌&&◌, if◌then◌else◌, slice_index_or, All}
-use Rattle.std.specs.Option.{option_map}
-use Rattle.brd_exec.specs.State.{State, advanced}
+use Rattle.std.proofs.Common.{◌≡◌, ℕ, ◌+◌, List, [], ◌∷◌, get_or, refl, subst, arith}
+use Rattle.std.specs.Prelude.{Bool, true, false, Result, Ok, Err, ◌&&◌, if◌then◌else◌, All}
 use Rattle.brd_time.specs.Time.{advanced as time_advanced}
-use Rattle.brd_kernel.specs.declared.processor.Processor.{Processor}
-use Rattle.brd_kernel.specs.declared.processor.Executor.{Executor}
-use Rattle.brd_kernel.specs.declared.call.Call.{Call}
-use Rattle.brd_kernel.specs.declared.call.Ercd.{Ercd}
-use Rattle.brd_kernel.specs.Kernel.{KernelState, with_tasks, processor_at, running_in, executor_by, executor_in, executor_on, context_of, context_on, accepted_line}
-use Rattle.brd_kernel.specs.Row.{Served}
+use Rattle.brd_kernel.specs.Kernel.{KernelState, with_tasks, accepted_line}
 use Rattle.brd_kernel.specs.Waits.{ticked_on}
 use Rattle.brd_kernel.specs.Running.{is_ready_on, IsRunning}
-use Rattle.brd_kernel.specs.Services.{caller_on}
 use Rattle.brd_kernel.proofs.RunningLemmas.{listed-ready, HoldsReady, runs-hold, dispatch-runs, context-runs, context-holds}
 use Rattle.brd_kernel.proofs.RunningCallLemmas.{serve-holds, fault-holds, ticked-runs, accepted-runs, pending-runs}
-use Rattle.brd_sysgate.specs.Gate.{changed_in, with_changed_context, served_call, called_in, called, caller_in, caller_of, read_of, written}
 use Rattle.brd_board.specs.declared.event.Event.{Event}
 use Rattle.brd_board.specs.Board.{BoardState, happens, after}
 use Rattle.std.proofs.lemmas.List.Elements.{All-cons, All-nil, All-head, All-tail}
@@ -40,88 +30,21 @@ use Rattle.brd_board.specs.declared.setup.Region.{Region}
 use Rattle.brd_board.specs.declared.setup.Placed.{Placed}
 use Rattle.brd_board.specs.Setup.{value_of, is_code_address, region_of, placed_in, placed_task, setups_from, setups_of, all_started}
 use Rattle.brd_board.specs.Boot.{booted_kernel, boot}
-use Rattle.brd_board.proofs.EventLemmas.{Kept, context-processors, happens-kept, after-kept, all-started-kept, boot-begins}
-use Rattle.brd_board.proofs.GateLemmas.{MayBe, read-may}
+use Rattle.brd_board.proofs.EventLemmas.{Kept, happens-kept, after-kept, all-started-kept, boot-begins}
+use Rattle.brd_board.proofs.CallingLemmas.{Calls, called-leaves}
 
--- A processor on which somebody executes.
-
-record IsActive (found : Option Processor) (p : Processor) : Type 0 where
-  there : found ≡ Some p
-  on : p.stopped ≡ false
-  by : is_some (executor_by p.running p.handling) ≡ true
-
-abbrev Active : Option Processor → Type 0
-Active found = (p : Processor) × IsActive found p
-
-active-by : (stopped : Bool) (p : Processor) → p.stopped ≡ stopped →
-    is_some (if stopped then None else executor_by p.running p.handling) ≡ true → Active (Some p)
-active-by true p test is = absurd (false≢true is)
-active-by false p test is = (p, record { there = refl; on = test; by = is })
-
-active : (found : Option Processor) → is_some (executor_in found) ≡ true → Active found
-active None is = absurd (false≢true is)
-active (Some p) is = active-by p.stopped p refl is
-
--- Contexts.
-
-changed-runs : (change : State → State) (k : KernelState) (cpu : ℕ) (who : Option Executor) → IsRunning k → IsRunning (changed_in change k cpu who)
-changed-runs change k cpu None was = was
-changed-runs change k cpu (Some who) was = context-runs k cpu who (change (context_of k cpu who)) was
-
-changed-holds : (change : State → State) (k : KernelState) (cpu : ℕ) (who : Option Executor) → HoldsReady k →
-    HoldsReady (changed_in change k cpu who)
-changed-holds change k cpu None was = was
-changed-holds change k cpu (Some who) was = context-holds k cpu who (change (context_of k cpu who)) was
-
-changed-processors : (change : State → State) (k : KernelState) (cpu : ℕ) (who : Option Executor) →
-    (changed_in change k cpu who).processors ≡ k.processors
-changed-processors change k cpu None = refl
-changed-processors change k cpu (Some who) = context-processors k cpu who (change (context_of k cpu who))
-
--- Service calls, as they come through the gate.
-
-served-holds : (k : KernelState) (cpu : ℕ) (p : Processor) (asked : Result Call Ercd) → processor_at k cpu ≡ Some p →
-    MayBe p (caller_on k cpu) asked → IsRunning k → HoldsReady (served_call k cpu asked).kernel
-served-holds k cpu p (Ok c) there may was = serve-holds k cpu p c there may was
-served-holds k cpu p (Err code) there may was = runs-hold k was
-
--- `k` is the kernel in which the context has gone on, `old` the one before
-read-holds : (old k : KernelState) (cpu : ℕ) (s : State) (p : Processor) → k.processors ≡ old.processors → IsActive (processor_at old cpu) p →
-    IsRunning k → HoldsReady (called_in k cpu (caller_of old cpu) (Some s))
-read-holds old k cpu s p same is was =
-    let there : processor_at k cpu ≡ Some p = ap (λ ps. slice_index_or ps cpu None) same ∙ is.there in
-    let may : MayBe p (caller_on k cpu) (read_of s (caller_of old cpu)) =
-    subst (λ found. MayBe p (unwrap_or (running_in found) 0) (read_of s (caller_of old cpu))) (sym there)
-    (subst (λ found. MayBe p (unwrap_or p.running 0) (read_of s (caller_in (unwrap_or (running_in found) 0) found))) (sym is.there)
-    (read-may p s is.on is.by)) in
-    let done : Served = served_call k cpu (read_of s (caller_of old cpu)) in
-    changed-holds (λ c. written c done.reply) done.kernel cpu (executor_on done.kernel cpu)
-    (served-holds k cpu p (read_of s (caller_of old cpu)) there may was)
-
-some-map : (who : Option Executor) (k : KernelState) (cpu : ℕ) → is_some (option_map (context_of k cpu) who) ≡ true → is_some who ≡ true
-some-map None k cpu is = absurd (false≢true is)
-some-map (Some who) k cpu is = refl
-
-called-in-holds : (old k : KernelState) (cpu : ℕ) (s : Option State) → k.processors ≡ old.processors → context_on k cpu ≡ s → IsRunning k →
-    HoldsReady (called_in k cpu (caller_of old cpu) s)
-called-in-holds old k cpu None same is was = runs-hold k was
-called-in-holds old k cpu (Some s) same is was =
-    let executes : is_some (executor_on k cpu) ≡ true = some-map (executor_on k cpu) k cpu (ap is_some is) in
-    let who : Active (processor_at old cpu) =
-    active (processor_at old cpu) (ap (λ ps. is_some (executor_in (slice_index_or ps cpu None))) (sym same) ∙ executes) in
-    read-holds old k cpu s who.0 same who.1 was
-
-pub called-holds : (k : KernelState) (cpu : ℕ) → IsRunning k → HoldsReady (called k cpu)
-unfolding called
-called-holds k cpu was =
-    let on : KernelState = with_changed_context advanced k cpu in
-    called-in-holds k on cpu (context_on on cpu) (changed-processors advanced k cpu (executor_on k cpu)) refl
-    (changed-runs advanced k cpu (executor_on k cpu) was)
+calls-hold : (k : KernelState) (cpu : ℕ) → Calls IsRunning HoldsReady k cpu
+calls-hold k cpu = record {
+  quiet = runs-hold;
+  goes_on = λ now who s was. context-runs now cpu who s was;
+  replies = λ now who s was. context-holds now cpu who s was;
+  serves = λ now p c same there may was. serve-holds now cpu p c there may was;
+}
 
 running-kept : Kept IsRunning HoldsReady
 running-kept = record {
   context = context-runs;
-  call = called-holds;
+  call = λ k cpu was. called-leaves k cpu (calls-hold k cpu) was;
   fault = λ k cpu p there on was. fault-holds k cpu p there on was;
   accept = λ k cpu line was. runs-hold (accepted_line k cpu line) (accepted-runs k cpu line was);
   tick = λ k was. runs-hold (ticked_on k (time_advanced k.time)) (ticked-runs k was);
@@ -195,7 +118,7 @@ within c valid i task below =
 
 booted-runs : (config : Configuration) (s : List TaskSetup) (l : List LineSetup) → All IsSetup s → IsRunning (booted_kernel s l config)
 booted-runs config s l good =
-    let first : KernelState = made_kernel config.processors s l config.semaphores config.flags config.queues in
+    let first : KernelState = made_kernel config.processors s l config.semaphores config.flags config.queues config.spin_locks in
     let on : KernelState = with_tasks first (all_started (made s) config.tasks) in
     dispatch-runs on (runs-hold on (all-started-kept {P = IsRunning} started-runs first config.tasks (made-runs first config.processors s refl refl good)))
 

@@ -27,7 +27,7 @@ fails Outside meant is = is
 pub next : {X : Type 0} → (xs : List X) (i : ℕ) (x : X) → i < length xs → x ≡ get_or xs i x → drop i xs ≡ x ∷ drop (i + 1) xs
 next {X} xs i x below is = drop_more xs i x below ∙ ap (λ (one : X). one ∷ drop (i + 1) xs) (sym is)
 
--- what there is, and behind it what comes, unless that is a fault
+-- what there is, and after it what comes, unless that is a fault
 abbrev pub behind : {X : Type 0} → List X → Result (List X) BootFault → Result (List X) BootFault
 behind xs (Ok more) = Ok (xs ++ more)
 behind xs (Err fault) = Err fault
@@ -38,7 +38,7 @@ behind-more xs x (Err fault) = refl
 
 -- Tasks.
 
--- a task, and the others behind it
+-- a task, and the others after it
 with_others : ℕ → List Symbol → List TaskConfig → Placed → Result (List TaskSetup) BootFault
 with_others size symbols others placed = setups_from size symbols placed.free others >>= (λ setups. Ok (placed.setup ∷ setups))
 
@@ -83,7 +83,7 @@ setups-more tasks i task setup setups all below is same there have =
 
 -- Handlers.
 
--- a handler on its line, and the others behind it
+-- a handler on its line, and the others after it
 with_other_lines : ℕ → List Symbol → HandlerConfig → List HandlerConfig → ℕ → Result (List LineSetup) BootFault
 with_other_lines size symbols handler others address = handlers_of size symbols others >>= (λ lines. Ok (line_of handler address ∷ lines))
 

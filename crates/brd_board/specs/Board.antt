@@ -9,7 +9,8 @@ use Rattle.brd_tasks.specs.declared.task.TaskView.{TaskView}
 use Rattle.brd_time.specs.Time.{last_count, advanced}
 use Rattle.brd_kernel.specs.declared.processor.Processor.{Processor}
 use Rattle.brd_kernel.specs.declared.processor.Standing.{Standing}
-use Rattle.brd_kernel.specs.Kernel.{KernelState, processor_at, context_on, deliverable, accepted_line, with_pending, line_at, standing_on, Executed, executed}
+use Rattle.brd_kernel.specs.declared.processor.Spin.{Spin}
+use Rattle.brd_kernel.specs.Kernel.{KernelState, processor_at, context_on, deliverable, accepted_line, with_pending, line_at, standing_on, spin_of, Executed, executed}
 use Rattle.brd_kernel.specs.Waits.{ended_by_fault, ticked_on, seen_at}
 use Rattle.brd_kernel.specs.Dispatch.{dispatched, changed_processors}
 use Rattle.brd_sysgate.specs.Gate.{called}
@@ -129,6 +130,10 @@ linked_word_of b cpu = if nat_le 1 cpu && nat_le cpu 8 then linked_address b.lin
 -- a processor's last fault
 abbrev pub fault_of : BoardState → ℕ → Option Fault
 fault_of b cpu = slice_index_or b.faults cpu None
+
+-- a spin lock as it stands, where one of that ID is configured
+abbrev pub spin_lock_of : BoardState → ℕ → Option Spin
+spin_lock_of b id = spin_of b.kernel id
 
 -- a task as it stands
 abbrev pub task_of : BoardState → ℕ → Option TaskView

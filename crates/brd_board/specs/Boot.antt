@@ -42,7 +42,7 @@ loaded order size segments = if are_inside size segments then Ok (memory_of orde
 -- started, and each processor runs its first ready task
 abbrev pub booted_kernel : List TaskSetup → List LineSetup → Configuration → KernelState
 booted_kernel setups lines config =
-    let made = made_kernel config.processors setups lines config.semaphores config.flags config.queues in
+    let made = made_kernel config.processors setups lines config.semaphores config.flags config.queues config.spin_locks in
     dispatched (with_tasks made (all_started made.tasks config.tasks))
 
 -- the board as boot leaves it: without links and faults
@@ -78,7 +78,7 @@ words_task = record {
 }
 
 abbrev pub words_config : Configuration
-words_config = record { processors = 1; ram = words_ram; tasks = words_task ∷ []; semaphores = []; flags = []; queues = []; handlers = [] }
+words_config = record { processors = 1; ram = words_ram; tasks = words_task ∷ []; semaphores = []; flags = []; queues = []; spin_locks = []; handlers = [] }
 
 -- that task: its stack pointer is the end of RAM
 abbrev pub words_setup : TaskSetup

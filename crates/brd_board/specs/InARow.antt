@@ -1,8 +1,11 @@
 -- Many steps of one processor, one after the other, while nothing comes between them.
-use Rattle.std.specs.Prelude.{◌≡◌, ℕ, false, None, Some}
-use Rattle.brd_exec.specs.Went.{Machine}
+use Rattle.std.specs.Prelude.{◌≡◌, ℕ, false, Option, None, Some}
+use Rattle.brd_mem.specs.Memory.{Memory}
+use Rattle.brd_link.specs.LinkSet.{LinkSet}
+use Rattle.brd_exec.specs.State.{State}
+use Rattle.brd_exec.specs.Went.{Machine, went}
 use Rattle.brd_kernel.specs.declared.processor.Executor.{Executor}
-use Rattle.brd_kernel.specs.Kernel.{executor_on, context_of, with_context_of, deliverable}
+use Rattle.brd_kernel.specs.Kernel.{KernelState, executor_on, context_of, with_context_of, deliverable}
 use Rattle.brd_kernel.specs.Always.{HasPlace}
 use Rattle.brd_board.specs.Board.{BoardState}
 
@@ -23,3 +26,12 @@ machine_of b cpu who = record { state = context_of b.kernel cpu who; memory = b.
 abbrev pub with_machine : BoardState → ℕ → Executor → Machine → BoardState
 with_machine b cpu who m =
     record b { kernel = with_context_of b.kernel cpu who m.state; memory = m.memory; links = m.links }
+
+-- What a row of n steps of a processor leaves of the kernel, memory and links: nothing is done where nobody executes;
+-- else they all go on, in the context of who does.
+abbrev pub GoesRow : Option Executor → ℕ → ℕ → KernelState → Memory → LinkSet → KernelState → Memory → LinkSet → Type 0
+GoesRow None cpu count k memory links new stored linked = (count ≡ 0) × (new ≡ k) × (stored ≡ memory) × (linked ≡ links)
+GoesRow (Some who) cpu count k memory links new stored linked =
+    (left : State) × (new ≡ with_context_of k cpu who left)
+    × (went cpu count (record { state = context_of k cpu who; memory = memory; links = links })
+    ≡ Some (record { state = left; memory = stored; links = linked }))

@@ -8,6 +8,7 @@ pub mod Conditional
 pub mod InARow
 pub mod Lease
 pub mod Storing
+pub mod SpinLocks
 pub use Rattle.brd_exec.specs.State
 pub use Rattle.brd_exec.specs.Step
 pub use Rattle.brd_exec.specs.Went

@@ -29,7 +29,7 @@ pub record ChangesOnlyItsOwn (b : BoardState) (event : Event) (address : ℕ) (n
   pub rows : new.kernel.tasks.rows ≡ b.kernel.tasks.rows
   pub registers : (other : ℕ) → (other ≡ cpu → ⊥) → registers_of new other ≡ registers_of b other
   pub handlers : (other : ℕ) → (other ≡ cpu → ⊥) → handler_context_at new.kernel other ≡ handler_context_at b.kernel other
-  -- who runs on each processor, its handler and its marks
+  -- who runs on each processor, its handler, its marks and its spin lock
   pub processors : (other : ℕ) → processor_at new.kernel other ≡ processor_at b.kernel other
   pub standings : (other : ℕ) → standing_of new other ≡ standing_of b other
   pub faults : (other : ℕ) → fault_of new other ≡ fault_of b other
@@ -38,6 +38,8 @@ pub record ChangesOnlyItsOwn (b : BoardState) (event : Event) (address : ℕ) (n
   pub semaphores : new.kernel.semaphores ≡ b.kernel.semaphores
   pub flags : new.kernel.flags ≡ b.kernel.flags
   pub queues : new.kernel.queues ≡ b.kernel.queues
+  -- (who holds a spin lock, its processor says)
+  pub spin_locks : new.kernel.spin_locks ≡ b.kernel.spin_locks
   pub lines : new.kernel.lines ≡ b.kernel.lines
   pub time : new.kernel.time ≡ b.kernel.time
   pub console : new.kernel.console ≡ b.kernel.console

@@ -17,6 +17,7 @@ ghost use Rattle.brd_board.specs.Board.{
   linked_word_of,
   fault_of,
   task_of,
+  spin_lock_of,
 };
 ghost use Rattle.brd_board.specs.declared.event.Event.TheVariants.{Step};
 ghost use Rattle.brd_board.specs.Setup.{Boots};
@@ -27,6 +28,7 @@ ghost use Rattle.brd_mem.specs.Image.{image_of_words, IsLoadable};
 
 mod lending;
 mod saving;
+mod steps;
 mod storing;
 
 use crate::boot::BootFault;
@@ -39,13 +41,14 @@ use crate::view::Fault;
 use brd_base::{BASE, List, NoMemory, copy_with_room, same_slices};
 use brd_config::{Config, Operand, Stack, TaskAttributes, TaskConfig};
 use brd_exec::{Context, ExceptionCode, Outcome};
-use brd_kernel::{Ended, Kernel, LineSetup, Standing, TaskId, TaskSetup, TaskView};
+use brd_kernel::{Ended, Kernel, LineSetup, Spin, Standing, TaskId, TaskSetup, TaskView};
 use brd_link::Links;
 use brd_mem::{Image, Ram};
 use brd_sysgate::call;
 use brd_word::Order;
 use std::alloc::Global;
 use std::marker::Model;
+use steps::Code;
 
 /// The size of RAM of a board that is made of words.
 const WORDS_RAM: u32 = 0x1_0000;
@@ -56,6 +59,8 @@ pub struct Board {
     ram: Ram,
     links: Links,
     faults: Vec<Option<Fault>>,
+    /// Its decoded instructions, by which it does many steps in a row: they show in nothing but time.
+    code: Code,
 }
 
 impl Model for Board {
@@ -77,6 +82,7 @@ impl Drop for Board {
             ram: _,
             links: _,
             faults: _,
+            code: _,
         } = self;
     }
 }
@@ -100,6 +106,7 @@ impl Board {
             ram,
             links: Links::new(),
             faults: no_faults(alloc)?,
+            code: Code::Unread(0),
         })
     }
 
@@ -123,6 +130,7 @@ impl Board {
             ram: self.ram.try_copy()?,
             links: self.links,
             faults: copy_with_room(&self.faults, 0)?,
+            code: Code::Unread(0),
         })
     }
 
@@ -164,6 +172,7 @@ impl Board {
             ram,
             links: snapshot.links,
             faults: copy_with_room(&snapshot.faults, 0)?,
+            code: Code::Unread(0),
         })
     }
 
@@ -205,18 +214,22 @@ impl Board {
         }
     }
 
-    /// Does one event so many times.
+    /// Does one event n times. For many steps in a row it may take memory once, and goes on where there is none.
     pub fn repeat(&mut self, event: Event, count: u32)
         ensures { self.new ≡ after self.old (replicate count event) }
     {
-        let _ = match event {
-            Event::Step(cpu) => self.steps(cpu, count),
-            Event::Tick => self.repeat_in_line(Event::Tick, count),
-            Event::Raise(line) => self.repeat_in_line(Event::Raise(line), count),
-        };
+        match event {
+            Event::Step(cpu) => self.many_steps(cpu, count),
+            Event::Tick => {
+                let _ = self.repeat_in_line(Event::Tick, count);
+            }
+            Event::Raise(line) => {
+                let _ = self.repeat_in_line(Event::Raise(line), count);
+            }
+        }
     }
 
-    /// Lets a processor do so many steps. Answers what the only one reports.
+    /// Lets a processor do `count` steps, one by one. Answers what the only one reports.
     #[inline(never)]
     fn steps(&mut self, cpu: u8, count: u32) -> Report
         ensures done { self.new ≡ after self.old (replicate count (Step cpu)) }
@@ -225,7 +238,7 @@ impl Board {
         self.repeat_in_line(Event::Step(cpu), count)
     }
 
-    /// Does one event so many times. Answers what the only one reports.
+    /// Does one event n times. Answers what the only one reports.
     #[inline(always)]
     fn repeat_in_line(&mut self, event: Event, count: u32) -> Report
         ensures done { self.new ≡ after self.old (replicate count event) }
@@ -357,6 +370,13 @@ impl Board {
         self.kernel.task(id)
     }
 
+    /// The spin lock of an ID as it stands; None where none is configured.
+    pub fn spin(&self, id: u8) -> Option<Spin>
+        ensures { result ≡ spin_lock_of self.now id }
+    {
+        self.kernel.spin(id)
+    }
+
     /// The word that a processor's link is to, from an LL on; None where it has none.
     pub fn link(&self, cpu: u8) -> Option<u32>
         ensures { result ≡ linked_word_of self.now cpu }
@@ -421,6 +441,7 @@ fn words_config(alloc: Global) -> Result<Config, NoMemory>
         semaphores: List::new(alloc),
         flags: List::new(alloc),
         queues: List::new(alloc),
+        spin_locks: List::new(alloc),
         handlers: List::new(alloc),
     })
 }
@@ -445,6 +466,7 @@ fn started(
         config.semaphores.as_slice(),
         config.flags.as_slice(),
         config.queues.as_slice(),
+        config.spin_locks.as_slice(),
     )?;
     start_all(&mut kernel, config.tasks.as_slice());
     let _ = kernel.dispatch();

@@ -16,6 +16,7 @@ ghost use Rattle.brd_kernel.specs.Kernel.{running_on, context_of, with_context_o
 ghost use Rattle.brd_kernel.specs.Dispatch.{IsSettled, has_changed};
 ghost use Rattle.brd_kernel.specs.Waiting.{EachIsKept, WaitsAreKept};
 ghost use Rattle.brd_kernel.specs.Running.{is_ready_on, IsRunning, RunsOnce};
+ghost use Rattle.brd_kernel.specs.Holding.{AreLocks};
 ghost use Rattle.brd_board.specs.declared.event.Event.{Event as EventOf};
 ghost use Rattle.brd_board.specs.declared.event.Event.TheVariants.{Step};
 ghost use Rattle.brd_board.specs.declared.event.Report.TheVariants as report;
@@ -25,6 +26,7 @@ ghost use Rattle.brd_board.specs.Runs.{ChangesOnlyItsOwn};
 ghost use Rattle.brd_board.specs.InARow.{GoesOn, machine_of, with_machine};
 ghost use Rattle.brd_board.specs.Conditional.{ConditionalLaw, WordLaw};
 ghost use Rattle.brd_board.specs.Storing.{may_store};
+ghost use Rattle.brd_board.specs.SpinLocks.{LocksGoOn};
 
 /// After every list of events from a boot each processor that isn't held runs the first of its ready tasks, or none
 /// where none is ready. No event ends this.
@@ -77,6 +79,22 @@ pub fn conditional_stores()
     // one that the LL loaded. So that is the word that an SC which stores meets.
     ensures word { (image : ImageOf) (config : Configuration) (board : BoardState) (events : List EventOf) →
         boot image config ≡ Ok board → WordLaw board events }
+{}
+
+/// After every list of events from a boot a spin lock is free, and then no processor holds it, or exactly one processor
+/// holds it. A processor that holds one is CPU-locked, handles no interrupt and isn't stopped, and a task runs on it.
+/// No event ends this.
+///
+/// A lock becomes free only by a step of the processor that holds it, and a processor takes one only by a step of its
+/// own. While it holds one, its running task stays: it is the one that took the lock.
+pub fn a_spin_lock_has_one_holder()
+    ensures boot { (image : ImageOf) (config : Configuration) (board : BoardState) (events : List EventOf) →
+        boot image config ≡ Ok board → AreLocks (after board events).kernel }
+    ensures event { (board : BoardState) (event : EventOf) →
+        AreLocks board.kernel → AreLocks (happens board event).board.kernel }
+    ensures goes_on { (image : ImageOf) (config : Configuration) (board : BoardState) (events : List EventOf)
+        (event : EventOf) → boot image config ≡ Ok board →
+        LocksGoOn (after board events) event (happens (after board events) event).board }
 {}
 
 /// A board that is off stays as it is: whatever happens, it reports Off and nothing else, and after every list of

@@ -21,7 +21,7 @@ pub struct Stale;
 pub struct Block {
     /// What it is doing.
     pub standing: Standing,
-    /// Whether it is CPU-locked, and whether dispatching is disabled on it.
+    /// Whether it is CPU-locked, whether dispatching is disabled on it, and which spin lock it holds.
     pub marks: Marks,
     /// The context in which it executes.
     pub context: Context,

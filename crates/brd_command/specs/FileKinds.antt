@@ -45,8 +45,8 @@ looks_like bytes =
     else (if are_text (take 1024 bytes) then Some Source
     else None)))))
 
--- Another kind than a file should be of. Text in the place of a configuration, a journal or a script may be one that has
--- a fault, so that it isn't taken for source.
+-- Another kind than a file should be of. Text in the place of a configuration, a journal or a script may be one that
+-- has a fault, so that it isn't taken for source.
 abbrev pub unless_own : FileKind → FileKind → Option FileKind
 unless_own ObjectFile ObjectFile = None
 unless_own Configuration Configuration = None

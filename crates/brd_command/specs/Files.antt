@@ -1,7 +1,7 @@
--- What the files of a command give it, and how `asm`, `run`, `race`, `debug` and `trace` end on them. `opened` and `created` say
--- what a call on files did: the files before, a name, what the call gave, and the files after; `closed` says what letting
--- a written file go did. `remaining` says what a file has left to read, `contents` what a file holds that is written;
--- `before` and `behind` are what standard output held before and after the command.
+-- What the files of a command give it, and how `asm`, `run`, `race`, `debug` and `trace` end on them. `opened` and
+-- `created` say what a call on files did: the files before, a name, what the call gave, and the files after; `closed`
+-- says what letting a written file go did. `remaining` says what a file has left to read, `contents` what a file holds
+-- that is written; `before` and `behind` are what standard output held before and after the command.
 use Rattle.std.specs.Prelude.{◌≡◌, ℕ, List, Option, IfSome, Result, Ok, Err, IsErrAnd}
 use Rattle.std.specs.declared.io.Error.{Error}
 use Rattle.brd_command.specs.AsmCommand.{AsmEnds}

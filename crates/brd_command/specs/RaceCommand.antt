@@ -43,8 +43,8 @@ KeepsFromRacing NoMemory = Unit {0}
 KeepsFromRacing (Race fault) = fault ≢ race_fault.NoMemory
 KeepsFromRacing _ = ⊥
 
--- Three inputs give a race a start, and the fault is one of a race, not want of memory. That it is the right one is only
--- tested.
+-- Three inputs give a race a start, and the fault is one of a race, not want of memory. That it is the right one is
+-- only tested.
 pub record HasFault (image config text : List ℕ) (fault : RaceFault) : Type 0 where
   pub start : RaceStart
   pub within : AreWithin image config text

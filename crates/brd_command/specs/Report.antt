@@ -1,5 +1,5 @@
--- What `run` and `race` print of a board, and lines that `debug` prints too: how many events happened to it, the time, each
--- processor, each task, and the console (own choice).
+-- What `run` and `race` print of a board, and lines that `debug` prints too: how many events happened to it, the time,
+-- each processor, each task, and the console (own choice).
 use Rattle.std.specs.Prelude.{ℕ, List, [], ◌∷◌, ◌++◌, codes, length, if◌then◌else◌, Option, Some, None}
 use Rattle.std.specs.Fmt.{decimal}
 use Rattle.std.specs.List.{flat_map, range_with_len}

@@ -226,8 +226,8 @@ fn journal_looks_like(fault: JournalFault, text: &[u8]) -> Option<FileKind>
     }
 }
 
-/// What is said beside the fault of an object file and a configuration: the other kind of which the faulty one looks, and
-/// the diagnosis.
+/// What is said beside the fault of an object file and a configuration: the other kind of which the faulty one looks,
+/// and the diagnosis.
 fn build_clue(fault: BuildFault, image: &[u8], config: &[u8]) -> Clue
     ensures { result ≡ kinds.build_looks_like image.now config.now fault }
 {

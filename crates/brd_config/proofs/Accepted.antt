@@ -22,21 +22,23 @@ use Rattle.brd_config.specs.declared.objects.TaskConfig.{TaskConfig}
 use Rattle.brd_config.specs.declared.objects.SemaphoreConfig.{SemaphoreConfig}
 use Rattle.brd_config.specs.declared.objects.FlagConfig.{FlagConfig}
 use Rattle.brd_config.specs.declared.objects.QueueConfig.{QueueConfig}
+use Rattle.brd_config.specs.declared.objects.SpinLockConfig.{SpinLockConfig}
 use Rattle.brd_config.specs.declared.objects.HandlerConfig.{HandlerConfig}
 use Rattle.brd_config.specs.declared.statement.Statement.{Statement}
-use Rattle.brd_config.specs.declared.statement.Statement.TheVariants.{Board, Class, ClassEnd, Task, Semaphore, Flag, Queue, Handler}
+use Rattle.brd_config.specs.declared.statement.Statement.TheVariants.{Board, Class, ClassEnd, Task, Semaphore, Flag, Queue, SpinLock, Handler}
 use Rattle.brd_config.specs.declared.statement.TaskStatement.{TaskStatement}
 use Rattle.brd_config.specs.declared.statement.SemaphoreStatement.{SemaphoreStatement}
 use Rattle.brd_config.specs.declared.statement.FlagStatement.{FlagStatement}
 use Rattle.brd_config.specs.declared.statement.QueueStatement.{QueueStatement}
+use Rattle.brd_config.specs.declared.statement.SpinLockStatement.{SpinLockStatement}
 use Rattle.brd_config.specs.declared.statement.HandlerStatement.{HandlerStatement}
-use Rattle.brd_config.specs.Configuration.{Configuration, IsWithin, IsTask, IsSemaphore, IsFlag, IsQueue, IsHandler, IsConfiguration}
+use Rattle.brd_config.specs.Configuration.{Configuration, IsWithin, IsTask, IsSemaphore, IsFlag, IsQueue, IsSpinLock, IsHandler, IsConfiguration}
 use Rattle.brd_config.specs.Statements.{statement_at}
-use Rattle.brd_config.specs.Meaning.{State, within, only_bits, task_numbers, task_of, semaphore_of, flag_of, queue_of, handler_of, added, processor_of, is_end, one_more, statement_step, statements_from, board_of, first_board, first_statement, config_of}
+use Rattle.brd_config.specs.Meaning.{State, within, only_bits, task_numbers, task_of, semaphore_of, flag_of, queue_of, spin_lock_of, handler_of, added, processor_of, is_end, one_more, statement_step, statements_from, board_of, first_board, first_statement, config_of}
 use Rattle.brd_config.proofs.RamSize.{ram_again}
 use Rattle.brd_config.specs.Grammar.Piece.{Exactly, Sign, Numeral, Attributes, Value, StackValue, Area, ClassName}
-use Rattle.brd_config.specs.Grammar.{Piece, IsSpelled, AreSpelled, form, IsText, tasks_of, semaphores_of, flags_of, queues_of, handlers_of, task_said, semaphore_said, flag_said, queue_said, handler_said, said, AreNested, AreValid, Says}
-use Rattle.brd_config.proofs.Forms.{Ahead, MayStand, exactly_step, first_sign, object_pieces, board_again, statement_again}
+use Rattle.brd_config.specs.Grammar.{Piece, IsSpelled, AreSpelled, form, IsText, tasks_of, semaphores_of, flags_of, queues_of, spin_locks_of, handlers_of, task_said, semaphore_said, flag_said, queue_said, spin_lock_said, handler_said, said, AreNested, AreValid, Says}
+use Rattle.brd_config.proofs.Forms.{Ahead, MayStand, exactly_step, first_sign, object_pieces, bare_object_pieces, board_again, statement_again}
 
 -- ---- lists
 
@@ -107,6 +109,11 @@ queue_again line queues ys t v apart =
       within_again 0 256 (BadCount line) t.capacity (from_zero 256 t.capacity v.capacity),
     ) refl
 
+spin_lock_again : (line : ℕ) (spin_locks ys : List SpinLockConfig) (t : SpinLockStatement) → t.attributes ≡ 0 → IsSpinLock (spin_lock_said t) → AllPairs (λ s t. s.id ≢ t.id) (spin_locks ++ spin_lock_said t ∷ ys) → spin_lock_of line spin_locks t ≡ Ok (spin_lock_said t)
+unfolding spin_lock_of
+spin_lock_again line spin_locks ys t bits v apart =
+    rw (within_again 1 255 (BadId line) t.id v.id, new_key (λ o. o.id) spin_locks (spin_lock_said t) ys apart, only_bits_again 0 (BadAttribute line) t.attributes (omega (arith, bits))) refl
+
 handler_again : (line : ℕ) (handlers ys : List HandlerConfig) (processors processor : ℕ) (t : HandlerStatement)
     → t.attributes ≤ 1 → IsHandler processors (handler_said processor t) → AllPairs (λ s t. s.line ≢ t.line) (handlers ++ handler_said processor t ∷ ys) → handler_of line handlers processor t ≡ Ok (handler_said processor t)
 unfolding handler_of
@@ -123,6 +130,7 @@ pub record Leads (whole c : Configuration) (class : Option ℕ) (ss : List State
   pub semaphores : whole.semaphores ≡ c.semaphores ++ semaphores_of ss
   pub flags : whole.flags ≡ c.flags ++ flags_of ss
   pub queues : whole.queues ≡ c.queues ++ queues_of ss
+  pub spin_locks : whole.spin_locks ≡ c.spin_locks ++ spin_locks_of ss
   pub handlers : whole.handlers ≡ c.handlers ++ handlers_of class ss
 
 regroup : {X : Type 0} (xs : List X) (x : X) (ys : List X) → xs ++ x ∷ ys ≡ (xs ++ x ∷ []) ++ ys
@@ -141,13 +149,13 @@ goes_on line whole c class (Board processors ram) ss valid l nested = absurd nes
 goes_on line whole c class (Class n) ss valid l nested = record {
   state = record { config = c; class = Some n };
   accepted = rw (within_again 1 c.processors (BadProcessor line) n nested.1) refl;
-  leads = record { processors = l.processors; ram = l.ram; tasks = l.tasks; semaphores = l.semaphores; flags = l.flags; queues = l.queues; handlers = l.handlers };
+  leads = record { processors = l.processors; ram = l.ram; tasks = l.tasks; semaphores = l.semaphores; flags = l.flags; queues = l.queues; spin_locks = l.spin_locks; handlers = l.handlers };
   nested = nested.2;
 }
 goes_on line whole c class ClassEnd ss valid l nested = record {
   state = record { config = c; class = None };
   accepted = refl;
-  leads = record { processors = l.processors; ram = l.ram; tasks = l.tasks; semaphores = l.semaphores; flags = l.flags; queues = l.queues; handlers = l.handlers };
+  leads = record { processors = l.processors; ram = l.ram; tasks = l.tasks; semaphores = l.semaphores; flags = l.flags; queues = l.queues; spin_locks = l.spin_locks; handlers = l.handlers };
   nested = nested.1;
 }
 goes_on line whole c class (Task x) ss valid l nested =
@@ -156,7 +164,7 @@ goes_on line whole c class (Task x) ss valid l nested =
     record {
       state = record { config = record c { tasks = c.tasks ++ (task_said (processor_of class) x) ∷ [] }; class = class };
       accepted = rw (task_again line c.tasks (tasks_of class ss) whole.processors (processor_of class) x one apart) refl;
-      leads = record { processors = l.processors; ram = l.ram; tasks = l.tasks ∙ regroup c.tasks (task_said (processor_of class) x) (tasks_of class ss); semaphores = l.semaphores; flags = l.flags; queues = l.queues; handlers = l.handlers };
+      leads = record { processors = l.processors; ram = l.ram; tasks = l.tasks ∙ regroup c.tasks (task_said (processor_of class) x) (tasks_of class ss); semaphores = l.semaphores; flags = l.flags; queues = l.queues; spin_locks = l.spin_locks; handlers = l.handlers };
       nested = nested;
     }
 goes_on line whole c class (Semaphore x) ss valid l nested =
@@ -165,7 +173,7 @@ goes_on line whole c class (Semaphore x) ss valid l nested =
     record {
       state = record { config = record c { semaphores = c.semaphores ++ (semaphore_said x) ∷ [] }; class = class };
       accepted = rw (semaphore_again line c.semaphores (semaphores_of ss) x one apart) refl;
-      leads = record { processors = l.processors; ram = l.ram; tasks = l.tasks; semaphores = l.semaphores ∙ regroup c.semaphores (semaphore_said x) (semaphores_of ss); flags = l.flags; queues = l.queues; handlers = l.handlers };
+      leads = record { processors = l.processors; ram = l.ram; tasks = l.tasks; semaphores = l.semaphores ∙ regroup c.semaphores (semaphore_said x) (semaphores_of ss); flags = l.flags; queues = l.queues; spin_locks = l.spin_locks; handlers = l.handlers };
       nested = nested;
     }
 goes_on line whole c class (Flag x) ss valid l nested =
@@ -174,7 +182,7 @@ goes_on line whole c class (Flag x) ss valid l nested =
     record {
       state = record { config = record c { flags = c.flags ++ (flag_said x) ∷ [] }; class = class };
       accepted = rw (flag_again line c.flags (flags_of ss) x one apart) refl;
-      leads = record { processors = l.processors; ram = l.ram; tasks = l.tasks; semaphores = l.semaphores; flags = l.flags ∙ regroup c.flags (flag_said x) (flags_of ss); queues = l.queues; handlers = l.handlers };
+      leads = record { processors = l.processors; ram = l.ram; tasks = l.tasks; semaphores = l.semaphores; flags = l.flags ∙ regroup c.flags (flag_said x) (flags_of ss); queues = l.queues; spin_locks = l.spin_locks; handlers = l.handlers };
       nested = nested;
     }
 goes_on line whole c class (Queue x) ss valid l nested =
@@ -183,8 +191,17 @@ goes_on line whole c class (Queue x) ss valid l nested =
     record {
       state = record { config = record c { queues = c.queues ++ (queue_said x) ∷ [] }; class = class };
       accepted = rw (queue_again line c.queues (queues_of ss) x one apart) refl;
-      leads = record { processors = l.processors; ram = l.ram; tasks = l.tasks; semaphores = l.semaphores; flags = l.flags; queues = l.queues ∙ regroup c.queues (queue_said x) (queues_of ss); handlers = l.handlers };
+      leads = record { processors = l.processors; ram = l.ram; tasks = l.tasks; semaphores = l.semaphores; flags = l.flags; queues = l.queues ∙ regroup c.queues (queue_said x) (queues_of ss); spin_locks = l.spin_locks; handlers = l.handlers };
       nested = nested;
+    }
+goes_on line whole c class (SpinLock x) ss valid l nested =
+    let one = middle IsSpinLock c.spin_locks (spin_lock_said x) (spin_locks_of ss) (subst (All IsSpinLock) l.spin_locks valid.spin_locks) in
+    let apart = subst (AllPairs (λ s t. s.id ≢ t.id)) l.spin_locks valid.spin_lock_ids in
+    record {
+      state = record { config = record c { spin_locks = c.spin_locks ++ (spin_lock_said x) ∷ [] }; class = class };
+      accepted = rw (spin_lock_again line c.spin_locks (spin_locks_of ss) x nested.0 one apart) refl;
+      leads = record { processors = l.processors; ram = l.ram; tasks = l.tasks; semaphores = l.semaphores; flags = l.flags; queues = l.queues; spin_locks = l.spin_locks ∙ regroup c.spin_locks (spin_lock_said x) (spin_locks_of ss); handlers = l.handlers };
+      nested = nested.1;
     }
 goes_on line whole c class (Handler x) ss valid l nested =
     let one = middle (IsHandler whole.processors) c.handlers (handler_said (processor_of class) x) (handlers_of class ss) (subst (All (IsHandler whole.processors)) l.handlers valid.handlers) in
@@ -192,7 +209,7 @@ goes_on line whole c class (Handler x) ss valid l nested =
     record {
       state = record { config = record c { handlers = c.handlers ++ (handler_said (processor_of class) x) ∷ [] }; class = class };
       accepted = rw (handler_again line c.handlers (handlers_of class ss) whole.processors (processor_of class) x nested.0 one apart) refl;
-      leads = record { processors = l.processors; ram = l.ram; tasks = l.tasks; semaphores = l.semaphores; flags = l.flags; queues = l.queues; handlers = l.handlers ∙ regroup c.handlers (handler_said (processor_of class) x) (handlers_of class ss) };
+      leads = record { processors = l.processors; ram = l.ram; tasks = l.tasks; semaphores = l.semaphores; flags = l.flags; queues = l.queues; spin_locks = l.spin_locks; handlers = l.handlers ∙ regroup c.handlers (handler_said (processor_of class) x) (handlers_of class ss) };
       nested = nested.1;
     }
 
@@ -208,6 +225,7 @@ may_stand processors class (Task x) ss nested = tt
 may_stand processors class (Semaphore x) ss nested = tt
 may_stand processors class (Flag x) ss nested = tt
 may_stand processors class (Queue x) ss nested = tt
+may_stand processors class (SpinLock x) ss nested = tt
 may_stand processors class (Handler x) ss nested = tt
 
 -- a text of no tokens
@@ -247,18 +265,19 @@ begins_statement (Task x) ps t s = not_at_end (Exactly (codes "CRE_TSK")) (objec
 begins_statement (Semaphore x) ps t s = not_at_end (Exactly (codes "CRE_SEM")) (object_pieces x.id x.attributes (Numeral x.initial ∷ Sign 44 ∷ Numeral x.maximum ∷ []) ps) t tt s
 begins_statement (Flag x) ps t s = not_at_end (Exactly (codes "CRE_FLG")) (object_pieces x.id x.attributes (Numeral x.pattern ∷ []) ps) t tt s
 begins_statement (Queue x) ps t s = not_at_end (Exactly (codes "CRE_DTQ")) (object_pieces x.id x.attributes (Numeral x.capacity ∷ Sign 44 ∷ Area ∷ []) ps) t tt s
+begins_statement (SpinLock x) ps t s = not_at_end (Exactly (codes "CRE_SPN")) (bare_object_pieces x.id x.attributes ps) t tt s
 begins_statement (Handler x) ps t s = not_at_end (Exactly (codes "DEF_INH")) (object_pieces x.line x.attributes (Value x.address ∷ []) ps) t tt s
 
 and_false : (b : Bool) → (b && false) ≡ false
 and_false true = refl
 and_false false = refl
 
-abbrev entry : ℕ → ℕ → List TaskConfig → List SemaphoreConfig → List FlagConfig → List QueueConfig → List HandlerConfig → Configuration
-entry p r ts ss fs qs hs = record { processors = p; ram = r; tasks = ts; semaphores = ss; flags = fs; queues = qs; handlers = hs }
+abbrev entry : ℕ → ℕ → List TaskConfig → List SemaphoreConfig → List FlagConfig → List QueueConfig → List SpinLockConfig → List HandlerConfig → Configuration
+entry p r ts ss fs qs ls hs = record { processors = p; ram = r; tasks = ts; semaphores = ss; flags = fs; queues = qs; spin_locks = ls; handlers = hs }
 
-same : (p q : ℕ) → p ≡ q → (r s : ℕ) → r ≡ s → (ts us : List TaskConfig) → ts ≡ us → (ss vs : List SemaphoreConfig) → ss ≡ vs → (fs gs : List FlagConfig) → fs ≡ gs → (qs rs : List QueueConfig) → qs ≡ rs → (hs ks : List HandlerConfig) → hs ≡ ks
-    → entry p r ts ss fs qs hs ≡ entry q s us vs gs rs ks
-same p q e0 r s e1 ts us e2 ss vs e3 fs gs e4 qs rs e5 hs ks e6 = rw (e0, e1, e2, e3, e4, e5, e6) refl
+same : (p q : ℕ) → p ≡ q → (r s : ℕ) → r ≡ s → (ts us : List TaskConfig) → ts ≡ us → (ss vs : List SemaphoreConfig) → ss ≡ vs → (fs gs : List FlagConfig) → fs ≡ gs → (qs rs : List QueueConfig) → qs ≡ rs → (ls ms : List SpinLockConfig) → ls ≡ ms → (hs ks : List HandlerConfig) → hs ≡ ks
+    → entry p r ts ss fs qs ls hs ≡ entry q s us vs gs rs ms ks
+same p q e0 r s e1 ts us e2 ss vs e3 fs gs e4 qs rs e5 ls ms e6 hs ks e7 = rw (e0, e1, e2, e3, e4, e5, e6, e7) refl
 
 -- one turn over a statement
 step_again : (c : Configuration) (class : Option ℕ) (x : Statement) (next : State) (t u : Text) → is_end (first t).token ≡ false → statement_at (is_some class) t ≡ Ok (x, u) → added (first t).line (record { config = c; class = class }) x ≡ Ok next
@@ -277,8 +296,9 @@ all_said whole c class l =
     let semaphores = l.semaphores ∙ append-nil c.semaphores in
     let flags = l.flags ∙ append-nil c.flags in
     let queues = l.queues ∙ append-nil c.queues in
+    let spin_locks = l.spin_locks ∙ append-nil c.spin_locks in
     let handlers = l.handlers ∙ append-nil c.handlers in
-    sym (same whole.processors c.processors l.processors whole.ram c.ram l.ram whole.tasks c.tasks tasks whole.semaphores c.semaphores semaphores whole.flags c.flags flags whole.queues c.queues queues whole.handlers c.handlers handlers)
+    sym (same whole.processors c.processors l.processors whole.ram c.ram l.ram whole.tasks c.tasks tasks whole.semaphores c.semaphores semaphores whole.flags c.flags flags whole.queues c.queues queues whole.spin_locks c.spin_locks spin_locks whole.handlers c.handlers handlers)
 
 run_again : (whole c : Configuration) (class : Option ℕ) (ss : List Statement) (t : Text) → IsConfiguration whole → Leads whole c class ss → AreNested c.processors class ss → AreSpelled (flat_map form ss) (bare_tokens t)
     → repeated NoMemory statement_step (suc (length ss)) (record { config = c; class = class }, t) ≡ Ok whole
@@ -293,7 +313,7 @@ run_again whole c class (x ∷ ss) t valid l nested s =
 
 -- ---- turns enough
 
--- the tokens behind pieces
+-- the tokens after pieces
 behind : (ps qs : List Piece) (tokens : List Token) → AreSpelled (ps ++ qs) tokens → (rest : List Token) × AreSpelled qs rest × (length rest ≤ length tokens)
 behind [] qs tokens s = (tokens, s, omega arith)
 behind (p ∷ ps) qs tokens s =
@@ -323,6 +343,7 @@ form_less (Task x) qs tokens s = first_less (Exactly (codes "CRE_TSK")) (object_
 form_less (Semaphore x) qs tokens s = first_less (Exactly (codes "CRE_SEM")) (object_pieces x.id x.attributes (Numeral x.initial ∷ Sign 44 ∷ Numeral x.maximum ∷ []) []) qs tokens tt s
 form_less (Flag x) qs tokens s = first_less (Exactly (codes "CRE_FLG")) (object_pieces x.id x.attributes (Numeral x.pattern ∷ []) []) qs tokens tt s
 form_less (Queue x) qs tokens s = first_less (Exactly (codes "CRE_DTQ")) (object_pieces x.id x.attributes (Numeral x.capacity ∷ Sign 44 ∷ Area ∷ []) []) qs tokens tt s
+form_less (SpinLock x) qs tokens s = first_less (Exactly (codes "CRE_SPN")) (bare_object_pieces x.id x.attributes []) qs tokens tt s
 form_less (Handler x) qs tokens s = first_less (Exactly (codes "DEF_INH")) (object_pieces x.line x.attributes (Value x.address ∷ []) []) qs tokens tt s
 
 -- each statement has a token
@@ -336,7 +357,7 @@ enough (x ∷ ss) tokens s =
 
 -- a board alone
 abbrev pub started : ℕ → ℕ → Configuration
-started processors ram = record { processors = processors; ram = ram; tasks = []; semaphores = []; flags = []; queues = []; handlers = [] }
+started processors ram = record { processors = processors; ram = ram; tasks = []; semaphores = []; flags = []; queues = []; spin_locks = []; handlers = [] }
 
 board_of_again : (line processors ram : ℕ) → IsWithin 1 8 processors → IsRamSize ram → board_of line processors ram ≡ Ok (started processors ram)
 unfolding board_of
@@ -356,7 +377,7 @@ config_again bytes processors ram ss text valid =
     let tokens : bare_tokens t ≡ text.0 = spelled 1 bytes text.0 text.1 in
     let s : AreSpelled (flat_map form (Board processors ram ∷ ss)) (bare_tokens t) = subst (AreSpelled (flat_map form (Board processors ram ∷ ss))) (sym tokens) text.2 in
     let f = first_again processors ram (flat_map form ss) t valid.values.processors valid.values.ram s in
-    let leads : Leads (said processors ram ss) (started processors ram) None ss = record { processors = refl; ram = refl; tasks = refl; semaphores = refl; flags = refl; queues = refl; handlers = refl } in
+    let leads : Leads (said processors ram ss) (started processors ram) None ss = record { processors = refl; ram = refl; tasks = refl; semaphores = refl; flags = refl; queues = refl; spin_locks = refl; handlers = refl } in
     let run = run_again (said processors ram ss) (started processors ram) None ss f.0 valid.values leads valid.nested f.2 in
     let long : suc (length ss) ≤ suc (length f.0.tokens) = omega (arith, enough ss (bare_tokens f.0) f.2, length-map f.0.tokens (λ p. p.token)) in
     rw f.1 (more_turns NoMemory statement_step (suc (length ss)) (suc (length f.0.tokens)) (record { config = started processors ram; class = None }, f.0) (said processors ram ss) long run)

@@ -2,7 +2,7 @@
 use Rattle.std.proofs.Common.{◌≡◌, ℕ, zero, suc, ◌≤◌, Bool, true, false, List, [], ◌∷◌, ◌++◌, length, map, drop, Some, Result, Ok, refl, sym, ap, subst, ◌∙◌, arith}
 use Rattle.std.proofs.lemmas.Bool.{eq-eqb}
 use Rattle.std.proofs.lemmas.List.{length-append, length-map}
-use Rattle.std.specs.Prelude.{codes}
+use Rattle.std.specs.Prelude.{codes, nat_eq}
 use Rattle.std.specs.Int.RustNames.{bit_or}
 use Rattle.brd_text.specs.Tokens.{Token, Placed, Text, first, others}
 use Rattle.brd_text.specs.Tokens.Token.{Run, Mark}
@@ -13,13 +13,14 @@ use Rattle.brd_config.specs.declared.fault.ConfigFault.TheVariants.{NoMemory}
 use Rattle.brd_config.specs.declared.objects.Operand.{Operand}
 use Rattle.brd_config.specs.declared.objects.Stack.{Stack}
 use Rattle.brd_config.specs.declared.statement.Statement.{Statement}
-use Rattle.brd_config.specs.declared.statement.Statement.TheVariants.{Board, Class, ClassEnd, Task, Semaphore, Flag, Queue, Handler}
+use Rattle.brd_config.specs.declared.statement.Statement.TheVariants.{Board, Class, ClassEnd, Task, Semaphore, Flag, Queue, SpinLock, Handler}
 use Rattle.brd_config.specs.declared.statement.TaskStatement.{TaskStatement}
 use Rattle.brd_config.specs.declared.statement.SemaphoreStatement.{SemaphoreStatement}
 use Rattle.brd_config.specs.declared.statement.FlagStatement.{FlagStatement}
 use Rattle.brd_config.specs.declared.statement.QueueStatement.{QueueStatement}
+use Rattle.brd_config.specs.declared.statement.SpinLockStatement.{SpinLockStatement}
 use Rattle.brd_config.specs.declared.statement.HandlerStatement.{HandlerStatement}
-use Rattle.brd_config.specs.Statements.{keyword_of, board_at, class_at, task_tail_at, task_at, semaphore_at, flag_at, queue_at, handler_at, behind_keyword, statement_at}
+use Rattle.brd_config.specs.Statements.{keyword_of, board_at, class_at, task_tail_at, task_at, semaphore_at, flag_at, queue_at, spin_lock_at, handler_at, behind_keyword, statement_at}
 use Rattle.brd_config.specs.Reading.{attribute_of, number_at, mark_at, attribute_at, joint_at, attribute_step, attributes_at, operand_at, stack_at, area_at, class_number_at, listed_number_at, listed_operand_at, head_at, tail_at}
 use Rattle.brd_config.specs.Grammar.{Piece, Joined, AreSpelled, form}
 use Rattle.brd_config.specs.Grammar.Piece.{Exactly, Sign, Numeral, Attributes, Value, StackValue, Area, ClassName}
@@ -88,49 +89,50 @@ first_sign b ps t s = one_piece (Mark b) ps t s.0 s.1 s.2 s.3 s.4
 -- ---- attributes
 
 -- a run, a mark and what follows
-one_attribute : (before bits b : ℕ) (run : List ℕ) (t : Text) (more : Bool) (rest : List Token) → attribute_of run ≡ Some bits → bare_tokens t ≡ Run run ∷ Mark b ∷ rest
-    → joint_at 44 (others t) ≡ Ok (more, others (others t)) → attribute_step 44 (before, t) ≡ Ok (flow_of more (bit_or before bits, others (others t)) (bit_or before bits, others (others t)))
+one_attribute : (end before bits b : ℕ) (run : List ℕ) (t : Text) (more : Bool) (rest : List Token) → attribute_of run ≡ Some bits → bare_tokens t ≡ Run run ∷ Mark b ∷ rest
+    → joint_at end (others t) ≡ Ok (more, others (others t)) → attribute_step end (before, t) ≡ Ok (flow_of more (bit_or before bits, others (others t)) (bit_or before bits, others (others t)))
 unfolding attribute_step attribute_at
-one_attribute before bits b run t more rest h e joint =
+one_attribute end before bits b run t more rest h e joint =
     let f = first_bare t (Run run) (Mark b ∷ rest) e in
     rw (f.0, h, joint) refl
 
-joint_ends : (t : Text) → (first t).token ≡ Mark 44 → joint_at 44 t ≡ Ok (false, others t)
+-- The mark that ends attributes is no bar.
+joint_ends : (end : ℕ) (t : Text) → nat_eq end 124 ≡ false → (first t).token ≡ Mark end → joint_at end t ≡ Ok (false, others t)
 unfolding joint_at
-joint_ends t e = rw e refl
+joint_ends end t other e = rw (e, other, eq-eqb end end refl) refl
 
-joint_goes_on : (t : Text) → (first t).token ≡ Mark 124 → joint_at 44 t ≡ Ok (true, others t)
+joint_goes_on : (end : ℕ) (t : Text) → (first t).token ≡ Mark 124 → joint_at end t ≡ Ok (true, others t)
 unfolding joint_at
-joint_goes_on t e = rw e refl
+joint_goes_on end t e = rw e refl
 
 -- with as many turns as there are tokens
-joined : (before bits : ℕ) (tokens : List Token) → Joined before bits tokens → (n : ℕ) (ps : List Piece) (t : Text) (rest : List Token) → length tokens ≤ n → AreSpelled ps rest → bare_tokens t ≡ tokens ++ Mark 44 ∷ rest
-    → (u : Text) × (repeated NoMemory (attribute_step 44) n (before, t) ≡ Ok (bits, u)) × Ahead ps u
+joined : (end before bits : ℕ) (tokens : List Token) → nat_eq end 124 ≡ false → Joined before bits tokens → (n : ℕ) (ps : List Piece) (t : Text) (rest : List Token) → length tokens ≤ n → AreSpelled ps rest → bare_tokens t ≡ tokens ++ Mark end ∷ rest
+    → (u : Text) × (repeated NoMemory (attribute_step end) n (before, t) ≡ Ok (bits, u)) × Ahead ps u
 unfolding repeated
-joined before _ _ (last _ run bits h) zero ps t rest le later e = absurd (omega arith)
-joined before _ _ (last _ run bits h) (suc n) ps t rest le later e =
-    let f = first_bare t (Run run) (Mark 44 ∷ rest) e in
-    let g = first_bare (others t) (Mark 44) rest f.1 in
-    let step = one_attribute before bits 44 run t false rest h e (joint_ends (others t) g.0) in
+joined end before _ _ other (last _ run bits h) zero ps t rest le later e = absurd (omega arith)
+joined end before _ _ other (last _ run bits h) (suc n) ps t rest le later e =
+    let f = first_bare t (Run run) (Mark end ∷ rest) e in
+    let g = first_bare (others t) (Mark end) rest f.1 in
+    let step = one_attribute end before bits end run t false rest h e (joint_ends end (others t) other g.0) in
     (others (others t), rw step refl, subst (AreSpelled ps) (sym g.1) later)
-joined before _ _ (bar _ run bits all tokens h j) zero ps t rest le later e = absurd (omega arith)
-joined before _ _ (bar _ run bits all tokens h j) (suc n) ps t rest le later e =
-    let f = first_bare t (Run run) (Mark 124 ∷ (tokens ++ Mark 44 ∷ rest)) e in
-    let g = first_bare (others t) (Mark 124) (tokens ++ Mark 44 ∷ rest) f.1 in
-    let step = one_attribute before bits 124 run t true (tokens ++ Mark 44 ∷ rest) h e (joint_goes_on (others t) g.0) in
-    let again = joined (bit_or before bits) all tokens j n ps (others (others t)) rest (omega arith) later g.1 in
+joined end before _ _ other (bar _ run bits all tokens h j) zero ps t rest le later e = absurd (omega arith)
+joined end before _ _ other (bar _ run bits all tokens h j) (suc n) ps t rest le later e =
+    let f = first_bare t (Run run) (Mark 124 ∷ (tokens ++ Mark end ∷ rest)) e in
+    let g = first_bare (others t) (Mark 124) (tokens ++ Mark end ∷ rest) f.1 in
+    let step = one_attribute end before bits 124 run t true (tokens ++ Mark end ∷ rest) h e (joint_goes_on end (others t) g.0) in
+    let again = joined end (bit_or before bits) all tokens other j n ps (others (others t)) rest (omega arith) later g.1 in
     (again.0, rw step again.1, again.2)
 
-attributes_step : (bits : ℕ) (ps : List Piece) (t : Text) → Ahead (Attributes bits ∷ Sign 44 ∷ ps) t → (u : Text) × (attributes_at 44 t ≡ Ok (bits, u)) × Ahead ps u
+attributes_step : (end bits : ℕ) (ps : List Piece) (t : Text) → nat_eq end 124 ≡ false → Ahead (Attributes bits ∷ Sign end ∷ ps) t → (u : Text) × (attributes_at end t ≡ Ok (bits, u)) × Ahead ps u
 unfolding attributes_at
-attributes_step bits ps t s =
-    let e : bare_tokens t ≡ s.0 ++ Mark 44 ∷ s.3.1 = s.4 ∙ ap (λ (ws : List Token). s.0 ++ ws) (s.3.4 ∙ ap (λ (ws : List Token). ws ++ s.3.1) s.3.2) in
-    let long : length s.0 ≤ suc (length t.tokens) = omega (arith, ap length e, length-append s.0 (Mark 44 ∷ s.3.1), length-map t.tokens (λ p. p.token)) in
-    joined 0 bits s.0 s.2 (suc (length t.tokens)) ps t s.3.1 long s.3.3 e
+attributes_step end bits ps t other s =
+    let e : bare_tokens t ≡ s.0 ++ Mark end ∷ s.3.1 = s.4 ∙ ap (λ (ws : List Token). s.0 ++ ws) (s.3.4 ∙ ap (λ (ws : List Token). ws ++ s.3.1) s.3.2) in
+    let long : length s.0 ≤ suc (length t.tokens) = omega (arith, ap length e, length-append s.0 (Mark end ∷ s.3.1), length-map t.tokens (λ p. p.token)) in
+    joined end 0 bits s.0 other s.2 (suc (length t.tokens)) ps t s.3.1 long s.3.3 e
 
 -- ---- statements
 
--- the text behind what a reader takes
+-- the text after what a reader takes
 abbrev pub Reads : {X : Type 0} → Result (X × Text) ConfigFault → X → List Piece → Type 0
 Reads read x ps = (u : Text) × (read ≡ Ok (x, u)) × Ahead ps u
 
@@ -148,13 +150,13 @@ listed_operand_step o ps t s =
     let b = sign_step 44 ps (others t) a.1 in
     (rw (a.0, b.0) refl, b.1)
 
-head_step : (id attributes : ℕ) (ps : List Piece) (t : Text) → Ahead (Sign 40 ∷ Numeral id ∷ Sign 44 ∷ Sign 123 ∷ Attributes attributes ∷ Sign 44 ∷ ps) t → (u : Text) × (head_at t ≡ Ok (id, attributes, u)) × Ahead ps u
+head_step : (end id attributes : ℕ) (ps : List Piece) (t : Text) → nat_eq end 124 ≡ false → Ahead (Sign 40 ∷ Numeral id ∷ Sign 44 ∷ Sign 123 ∷ Attributes attributes ∷ Sign end ∷ ps) t → (u : Text) × (head_at end t ≡ Ok (id, attributes, u)) × Ahead ps u
 unfolding head_at
-head_step id attributes ps t s =
-    let a = sign_step 40 (Numeral id ∷ Sign 44 ∷ Sign 123 ∷ Attributes attributes ∷ Sign 44 ∷ ps) t s in
-    let b = listed_number_step id (Sign 123 ∷ Attributes attributes ∷ Sign 44 ∷ ps) (others t) a.1 in
-    let c = sign_step 123 (Attributes attributes ∷ Sign 44 ∷ ps) (others (others (others t))) b.1 in
-    let d = attributes_step attributes ps (others (others (others (others t)))) c.1 in
+head_step end id attributes ps t other s =
+    let a = sign_step 40 (Numeral id ∷ Sign 44 ∷ Sign 123 ∷ Attributes attributes ∷ Sign end ∷ ps) t s in
+    let b = listed_number_step id (Sign 123 ∷ Attributes attributes ∷ Sign end ∷ ps) (others t) a.1 in
+    let c = sign_step 123 (Attributes attributes ∷ Sign end ∷ ps) (others (others (others t))) b.1 in
+    let d = attributes_step end attributes ps (others (others (others (others t)))) other c.1 in
     (d.0, rw (a.0, b.0, c.0, d.1) refl, d.2)
 
 tail_step : (ps : List Piece) (t : Text) → Ahead (Sign 125 ∷ Sign 41 ∷ Sign 59 ∷ ps) t → (tail_at t ≡ Ok (others (others (others t)))) × Ahead ps (others (others (others t)))
@@ -214,7 +216,7 @@ task_again : (x : TaskStatement) (ps : List Piece) (t : Text)
 unfolding task_at
 task_again x ps t s =
     let rest = Numeral x.priority ∷ Sign 44 ∷ Numeral x.stack_size ∷ Sign 44 ∷ StackValue x.stack ∷ Sign 125 ∷ Sign 41 ∷ Sign 59 ∷ ps in
-    let h = head_step x.id x.attributes (Value x.exinf ∷ Sign 44 ∷ Value x.address ∷ Sign 44 ∷ rest) t s in
+    let h = head_step 44 x.id x.attributes (Value x.exinf ∷ Sign 44 ∷ Value x.address ∷ Sign 44 ∷ rest) t refl s in
     let t0 = h.0 in
     let a = listed_operand_step x.exinf (Value x.address ∷ Sign 44 ∷ rest) t0 h.2 in
     let t1 = others (others t0) in
@@ -227,7 +229,7 @@ semaphore_again : (x : SemaphoreStatement) (ps : List Piece) (t : Text) → Ahea
 unfolding semaphore_at
 semaphore_again x ps t s =
     let end = Sign 125 ∷ Sign 41 ∷ Sign 59 ∷ ps in
-    let h = head_step x.id x.attributes (Numeral x.initial ∷ Sign 44 ∷ Numeral x.maximum ∷ end) t s in
+    let h = head_step 44 x.id x.attributes (Numeral x.initial ∷ Sign 44 ∷ Numeral x.maximum ∷ end) t refl s in
     let t0 = h.0 in
     let a = listed_number_step x.initial (Numeral x.maximum ∷ end) t0 h.2 in
     let t1 = others (others t0) in
@@ -240,7 +242,7 @@ flag_again : (x : FlagStatement) (ps : List Piece) (t : Text) → Ahead (object_
 unfolding flag_at
 flag_again x ps t s =
     let end = Sign 125 ∷ Sign 41 ∷ Sign 59 ∷ ps in
-    let h = head_step x.id x.attributes (Numeral x.pattern ∷ end) t s in
+    let h = head_step 44 x.id x.attributes (Numeral x.pattern ∷ end) t refl s in
     let t0 = h.0 in
     let a = numeral_step x.pattern end t0 h.2 in
     let t1 = others t0 in
@@ -251,7 +253,7 @@ queue_again : (x : QueueStatement) (ps : List Piece) (t : Text) → Ahead (objec
 unfolding queue_at
 queue_again x ps t s =
     let end = Sign 125 ∷ Sign 41 ∷ Sign 59 ∷ ps in
-    let h = head_step x.id x.attributes (Numeral x.capacity ∷ Sign 44 ∷ Area ∷ end) t s in
+    let h = head_step 44 x.id x.attributes (Numeral x.capacity ∷ Sign 44 ∷ Area ∷ end) t refl s in
     let t0 = h.0 in
     let a = listed_number_step x.capacity (Area ∷ end) t0 h.2 in
     let t1 = others (others t0) in
@@ -260,11 +262,24 @@ queue_again x ps t s =
     let l = tail_step ps t2 b.1 in
     (others (others (others t2)), rw (h.1, a.0, b.0, l.0) refl, l.1)
 
+-- ( id , { attributes } ) ; and what follows
+abbrev pub bare_object_pieces : ℕ → ℕ → List Piece → List Piece
+bare_object_pieces id attributes ps = Sign 40 ∷ Numeral id ∷ Sign 44 ∷ Sign 123 ∷ Attributes attributes ∷ Sign 125 ∷ Sign 41 ∷ Sign 59 ∷ ps
+
+spin_lock_again : (x : SpinLockStatement) (ps : List Piece) (t : Text) → Ahead (bare_object_pieces x.id x.attributes ps) t → Reads (spin_lock_at t) (SpinLock x) ps
+unfolding spin_lock_at
+spin_lock_again x ps t s =
+    let h = head_step 125 x.id x.attributes (Sign 41 ∷ Sign 59 ∷ ps) t refl s in
+    let t0 = h.0 in
+    let a = sign_step 41 (Sign 59 ∷ ps) t0 h.2 in
+    let b = sign_step 59 ps (others t0) a.1 in
+    (others (others t0), rw (h.1, a.0, b.0) refl, b.1)
+
 handler_again : (x : HandlerStatement) (ps : List Piece) (t : Text) → Ahead (object_pieces x.line x.attributes (Value x.address ∷ []) ps) t → Reads (handler_at t) (Handler x) ps
 unfolding handler_at
 handler_again x ps t s =
     let end = Sign 125 ∷ Sign 41 ∷ Sign 59 ∷ ps in
-    let h = head_step x.line x.attributes (Value x.address ∷ end) t s in
+    let h = head_step 44 x.line x.attributes (Value x.address ∷ end) t refl s in
     let t0 = h.0 in
     let a = value_step x.address end t0 h.2 in
     let t1 = others t0 in
@@ -280,6 +295,7 @@ MayStand in_class (Task x) = Unit {0}
 MayStand in_class (Semaphore x) = Unit {0}
 MayStand in_class (Flag x) = Unit {0}
 MayStand in_class (Queue x) = Unit {0}
+MayStand in_class (SpinLock x) = Unit {0}
 MayStand in_class (Handler x) = Unit {0}
 
 pub statement_again : (in_class : Bool) (x : Statement) (ps : List Piece) (t : Text) → MayStand in_class x → Ahead (form x ++ ps) t → Reads (statement_at in_class t) x ps
@@ -310,6 +326,10 @@ statement_again in_class (Flag x) ps t may s =
 statement_again in_class (Queue x) ps t may s =
     let f = exactly_step (codes "CRE_DTQ") (object_pieces x.id x.attributes (Numeral x.capacity ∷ Sign 44 ∷ Area ∷ []) ps) t s in
     let r = queue_again x ps (others t) f.1 in
+    (r.0, rw f.0 r.1, r.2)
+statement_again in_class (SpinLock x) ps t may s =
+    let f = exactly_step (codes "CRE_SPN") (bare_object_pieces x.id x.attributes ps) t s in
+    let r = spin_lock_again x ps (others t) f.1 in
     (r.0, rw f.0 r.1, r.2)
 statement_again in_class (Handler x) ps t may s =
     let f = exactly_step (codes "DEF_INH") (object_pieces x.line x.attributes (Value x.address ∷ []) ps) t s in

@@ -20,8 +20,8 @@ use Rattle.brd_config.specs.declared.objects.Stack.{Stack}
 use Rattle.brd_config.specs.declared.statement.Keyword.{Keyword}
 use Rattle.brd_config.specs.declared.statement.Keyword.TheVariants as keywords
 use Rattle.brd_config.specs.declared.statement.Statement.{Statement}
-use Rattle.brd_config.specs.declared.statement.Statement.TheVariants.{Board, Class, ClassEnd, Task, Semaphore, Flag, Queue, Handler}
-use Rattle.brd_config.specs.Statements.{keyword_names, keyword_of, board_at, class_at, task_tail_at, task_at, semaphore_at, flag_at, queue_at, handler_at, behind_keyword, statement_by, statement_at}
+use Rattle.brd_config.specs.declared.statement.Statement.TheVariants.{Board, Class, ClassEnd, Task, Semaphore, Flag, Queue, SpinLock, Handler}
+use Rattle.brd_config.specs.Statements.{keyword_names, keyword_of, board_at, class_at, task_tail_at, task_at, semaphore_at, flag_at, queue_at, spin_lock_at, handler_at, behind_keyword, statement_by, statement_at}
 use Rattle.brd_config.specs.Reading.{named_in, attribute_of, class_of, operand_of, stack_of, is_area, run_of, number_at, expect_mark, mark_at, attribute_at, expect_joint, joint_at, attribute_step, attributes_at, operand_at, stack_at, area_at, class_number_at, listed_number_at, listed_operand_at, head_at, tail_at}
 use Rattle.brd_config.specs.Grammar.{Piece, Joined, IsSpelled, AreSpelled, form}
 use Rattle.brd_config.specs.Grammar.Piece.{Exactly, Sign, Numeral, Attributes, Value, StackValue, Area, ClassName}
@@ -141,47 +141,47 @@ sign_back b t u e =
 
 -- ---- attributes
 
--- the mark behind an attribute
-abbrev pub joint : Bool → ℕ
-joint more = cond more 124 44
+-- the mark after an attribute
+abbrev pub joint : ℕ → Bool → ℕ
+joint end more = cond more 124 end
 
-joint_by : (b line : ℕ) (rest : Text) (j : Bool × Text) (is_bar is_end : Bool) → is_bar ≡ nat_eq b 124 → is_end ≡ nat_eq b 44 → cond is_bar (Ok (true, rest)) (cond is_end (Ok (false, rest)) (Err (Syntax line))) ≡ Ok j → (b ≡ joint j.0) × (rest ≡ j.1)
-joint_by b line rest j true is_end bar_is end_is e =
+joint_by : (end b line : ℕ) (rest : Text) (j : Bool × Text) (is_bar is_end : Bool) → is_bar ≡ nat_eq b 124 → is_end ≡ nat_eq b end → cond is_bar (Ok (true, rest)) (cond is_end (Ok (false, rest)) (Err (Syntax line))) ≡ Ok j → (b ≡ joint end j.0) × (rest ≡ j.1)
+joint_by end b line rest j true is_end bar_is end_is e =
     let found : Bool × Text = (true, rest) in
     let same : found ≡ j = ok_is found j e in
-    (eqb-true b 124 (sym bar_is) ∙ ap (λ (q : Bool × Text). joint q.0) same, ap (λ (q : Bool × Text). q.1) same)
-joint_by b line rest j false true bar_is end_is e =
+    (eqb-true b 124 (sym bar_is) ∙ ap (λ (q : Bool × Text). joint end q.0) same, ap (λ (q : Bool × Text). q.1) same)
+joint_by end b line rest j false true bar_is end_is e =
     let found : Bool × Text = (false, rest) in
     let same : found ≡ j = ok_is found j e in
-    (eqb-true b 44 (sym end_is) ∙ ap (λ (q : Bool × Text). joint q.0) same, ap (λ (q : Bool × Text). q.1) same)
-joint_by b line rest j false false bar_is end_is e = absurd (cc)
+    (eqb-true b end (sym end_is) ∙ ap (λ (q : Bool × Text). joint end q.0) same, ap (λ (q : Bool × Text). q.1) same)
+joint_by end b line rest j false false bar_is end_is e = absurd (cc)
 
-joint_is : (w : Token) (line : ℕ) (rest : Text) (j : Bool × Text) → expect_joint 44 w line rest ≡ Ok j → (w ≡ Mark (joint j.0)) × (rest ≡ j.1)
-joint_is (Run run) line rest j e = absurd (cc)
-joint_is (Mark b) line rest j e =
-    let p = joint_by b line rest j (nat_eq b 124) (nat_eq b 44) refl refl e in
+joint_is : (end : ℕ) (w : Token) (line : ℕ) (rest : Text) (j : Bool × Text) → expect_joint end w line rest ≡ Ok j → (w ≡ Mark (joint end j.0)) × (rest ≡ j.1)
+joint_is end (Run run) line rest j e = absurd (cc)
+joint_is end (Mark b) line rest j e =
+    let p = joint_by end b line rest j (nat_eq b 124) (nat_eq b end) refl refl e in
     (ap (λ (n : ℕ). Mark n) p.0, p.1)
-joint_is Unclosed line rest j e = absurd (cc)
-joint_is End line rest j e = absurd (cc)
+joint_is end Unclosed line rest j e = absurd (cc)
+joint_is end End line rest j e = absurd (cc)
 
 -- a turn over one attribute
-pub record OneAttribute (before : ℕ) (t : Text) (flow : Flow (ℕ × Text) (ℕ × Text)) : Type 0 where
+pub record OneAttribute (end before : ℕ) (t : Text) (flow : Flow (ℕ × Text) (ℕ × Text)) : Type 0 where
   pub run : List ℕ
   pub bits : ℕ
   pub more : Bool
   pub rest : Text
   pub named : attribute_of run ≡ Some bits
-  pub tokens : bare_tokens t ≡ Run run ∷ Mark (joint more) ∷ bare_tokens rest
+  pub tokens : bare_tokens t ≡ Run run ∷ Mark (joint end more) ∷ bare_tokens rest
   pub goes : flow_of more (bit_or before bits, rest) (bit_or before bits, rest) ≡ flow
 
-pub attribute_back : (before : ℕ) (t : Text) (flow : Flow (ℕ × Text) (ℕ × Text)) → attribute_step 44 (before, t) ≡ Ok flow → OneAttribute before t flow
+pub attribute_back : (end before : ℕ) (t : Text) (flow : Flow (ℕ × Text) (ℕ × Text)) → attribute_step end (before, t) ≡ Ok flow → OneAttribute end before t flow
 unfolding attribute_step attribute_at joint_at
-attribute_back before t flow e =
-    let a = bind_ok (read_by attribute_of t) (λ a. joint_at 44 a.1 >>= λ joint. Ok (flow_of joint.0 (bit_or before a.0, joint.1) (bit_or before a.0, joint.1))) flow e in
-    let j = bind_ok (joint_at 44 a.0.1) (λ joint. Ok (flow_of joint.0 (bit_or before a.0.0, joint.1) (bit_or before a.0.0, joint.1))) flow a.2 in
+attribute_back end before t flow e =
+    let a = bind_ok (read_by attribute_of t) (λ a. joint_at end a.1 >>= λ joint. Ok (flow_of joint.0 (bit_or before a.0, joint.1) (bit_or before a.0, joint.1))) flow e in
+    let j = bind_ok (joint_at end a.0.1) (λ joint. Ok (flow_of joint.0 (bit_or before a.0.0, joint.1) (bit_or before a.0.0, joint.1))) flow a.2 in
     let r = run_back attribute_of t a.0 a.1 in
-    let m = joint_is (first a.0.1).token (first a.0.1).line (others a.0.1) j.0 j.1 in
-    let behind : bare_tokens a.0.1 ≡ Mark (joint j.0.0) ∷ bare_tokens j.0.1 = first_token a.0.1 (Mark (joint j.0.0)) (λ e. cc) m.0 ∙ ap (λ (v : Text). Mark (joint j.0.0) ∷ bare_tokens v) m.1 in
+    let m = joint_is end (first a.0.1).token (first a.0.1).line (others a.0.1) j.0 j.1 in
+    let behind : bare_tokens a.0.1 ≡ Mark (joint end j.0.0) ∷ bare_tokens j.0.1 = first_token a.0.1 (Mark (joint end j.0.0)) (λ e. cc) m.0 ∙ ap (λ (v : Text). Mark (joint end j.0.0) ∷ bare_tokens v) m.1 in
     record {
       run = r.run;
       bits = a.0.0;
@@ -192,46 +192,46 @@ attribute_back before t flow e =
       goes = ok_is (flow_of j.0.0 (bit_or before a.0.0, j.0.1) (bit_or before a.0.0, j.0.1)) flow j.2;
     }
 
--- attributes, and the mark behind them
-record AreJoined (before bits : ℕ) (t u : Text) : Type 0 where
+-- attributes, and the mark after them
+record AreJoined (end before bits : ℕ) (t u : Text) : Type 0 where
   front : List Token
   joined : Joined before bits front
-  tokens : bare_tokens t ≡ front ++ Mark 44 ∷ bare_tokens u
+  tokens : bare_tokens t ≡ front ++ Mark end ∷ bare_tokens u
 
-joined_by : (n before : ℕ) (t rest : Text) (run : List ℕ) (bits : ℕ) (more : Bool) (r : ℕ × Text) → attribute_of run ≡ Some bits → bare_tokens t ≡ Run run ∷ Mark (joint more) ∷ bare_tokens rest
-    → ((b : ℕ) (t : Text) → repeated NoMemory (attribute_step 44) n (b, t) ≡ Ok r → AreJoined b r.0 t r.1)
-    → followed (repeated NoMemory (attribute_step 44) n) (flow_of more (bit_or before bits, rest) (bit_or before bits, rest)) ≡ Ok r → AreJoined before r.0 t r.1
-joined_by n before t rest run bits true r named tokens again e =
+joined_by : (end n before : ℕ) (t rest : Text) (run : List ℕ) (bits : ℕ) (more : Bool) (r : ℕ × Text) → attribute_of run ≡ Some bits → bare_tokens t ≡ Run run ∷ Mark (joint end more) ∷ bare_tokens rest
+    → ((b : ℕ) (t : Text) → repeated NoMemory (attribute_step end) n (b, t) ≡ Ok r → AreJoined end b r.0 t r.1)
+    → followed (repeated NoMemory (attribute_step end) n) (flow_of more (bit_or before bits, rest) (bit_or before bits, rest)) ≡ Ok r → AreJoined end before r.0 t r.1
+joined_by end n before t rest run bits true r named tokens again e =
     let j = again (bit_or before bits) rest e in
     record { front = Run run ∷ Mark 124 ∷ j.front; joined = bar before run bits r.0 j.front named j.joined; tokens = tokens ∙ ap (λ (ws : List Token). Run run ∷ Mark 124 ∷ ws) j.tokens }
-joined_by n before t rest run bits false r named tokens again e =
+joined_by end n before t rest run bits false r named tokens again e =
     let made : ℕ × Text = (bit_or before bits, rest) in
     let same : made ≡ r = ok_is made r e in
-    subst (λ (q : ℕ × Text). AreJoined before q.0 t q.1) same (record { front = Run run ∷ []; joined = last before run bits named; tokens = tokens })
+    subst (λ (q : ℕ × Text). AreJoined end before q.0 t q.1) same (record { front = Run run ∷ []; joined = last before run bits named; tokens = tokens })
 
-joined_back : (n before : ℕ) (t : Text) (r : ℕ × Text) → repeated NoMemory (attribute_step 44) n (before, t) ≡ Ok r → AreJoined before r.0 t r.1
+joined_back : (end n before : ℕ) (t : Text) (r : ℕ × Text) → repeated NoMemory (attribute_step end) n (before, t) ≡ Ok r → AreJoined end before r.0 t r.1
 unfolding repeated
-joined_back zero before t r e = absurd (cc)
-joined_back (suc n) before t r e =
-    let s = bind_ok (attribute_step 44 (before, t)) (followed (repeated NoMemory (attribute_step 44) n)) r e in
-    let a = attribute_back before t s.0 s.1 in
-    joined_by n before t a.rest a.run a.bits a.more r a.named a.tokens (λ b w x. joined_back n b w r x) (ap (followed (repeated NoMemory (attribute_step 44) n)) a.goes ∙ s.2)
+joined_back end zero before t r e = absurd (cc)
+joined_back end (suc n) before t r e =
+    let s = bind_ok (attribute_step end (before, t)) (followed (repeated NoMemory (attribute_step end) n)) r e in
+    let a = attribute_back end before t s.0 s.1 in
+    joined_by end n before t a.rest a.run a.bits a.more r a.named a.tokens (λ b w x. joined_back end n b w r x) (ap (followed (repeated NoMemory (attribute_step end) n)) a.goes ∙ s.2)
 
-attributes_back : (t : Text) (r : ℕ × Text) → attributes_at 44 t ≡ Ok r → Front (Attributes r.0 ∷ Sign 44 ∷ []) t r.1
+attributes_back : (end : ℕ) (t : Text) (r : ℕ × Text) → attributes_at end t ≡ Ok r → Front (Attributes r.0 ∷ Sign end ∷ []) t r.1
 unfolding attributes_at
-attributes_back t r e =
-    let j = joined_back (suc (length t.tokens)) 0 t r e in
+attributes_back end t r e =
+    let j = joined_back end (suc (length t.tokens)) 0 t r e in
     record {
-      front = j.front ++ Mark 44 ∷ [];
-      spelled = (j.front, Mark 44 ∷ [], j.joined, (Mark 44 ∷ [], [], refl, refl, refl), refl);
-      tokens = j.tokens ∙ sym (append_assoc j.front (Mark 44 ∷ []) (bare_tokens r.1));
+      front = j.front ++ Mark end ∷ [];
+      spelled = (j.front, Mark end ∷ [], j.joined, (Mark end ∷ [], [], refl, refl, refl), refl);
+      tokens = j.tokens ∙ sym (append_assoc j.front (Mark end ∷ []) (bare_tokens r.1));
     }
 
 -- ---- statements
 
--- ( id , { attributes ,
-abbrev head_pieces : ℕ → ℕ → List Piece
-head_pieces id attributes = Sign 40 ∷ Numeral id ∷ Sign 44 ∷ Sign 123 ∷ Attributes attributes ∷ Sign 44 ∷ []
+-- ( id , { attributes and the mark that ends them
+abbrev head_pieces : ℕ → ℕ → ℕ → List Piece
+head_pieces end id attributes = Sign 40 ∷ Numeral id ∷ Sign 44 ∷ Sign 123 ∷ Attributes attributes ∷ Sign end ∷ []
 
 -- a step that did not fail, and what follows from its value
 step_of : {A B Goal : Type 0} (r : Result A ConfigFault) (f : A → Result B ConfigFault) (y : B) → (r >>= f) ≡ Ok y → ((x : A) → r ≡ Ok x → f x ≡ Ok y → Goal) → Goal
@@ -258,12 +258,12 @@ listed_operand_back t r e =
     subst (λ (q : Operand × Text). Front (Value q.0 ∷ Sign 44 ∷ []) t q.1) (ok_is (operand.0, listed) r e)
     (value_back t operand a then sign_back 44 operand.1 listed b)
 
-head_back : (t : Text) (r : ℕ × ℕ × Text) → head_at t ≡ Ok r → Front (head_pieces r.0 r.1) t r.2
+head_back : (end : ℕ) (t : Text) (r : ℕ × ℕ × Text) → head_at end t ≡ Ok r → Front (head_pieces end r.0 r.1) t r.2
 unfolding head_at
-head_back t r e =
+head_back end t r e =
     e gives λ opened a e. e gives λ id b e. e gives λ inner c e. e gives λ attributes d e.
-    subst (λ (q : ℕ × ℕ × Text). Front (head_pieces q.0 q.1) t q.2) (ok_is (id.0, attributes.0, attributes.1) r e)
-    (sign_back 40 t opened a then listed_number_back opened id b then sign_back 123 id.1 inner c then attributes_back inner attributes d)
+    subst (λ (q : ℕ × ℕ × Text). Front (head_pieces end q.0 q.1) t q.2) (ok_is (id.0, attributes.0, attributes.1) r e)
+    (sign_back 40 t opened a then listed_number_back opened id b then sign_back 123 id.1 inner c then attributes_back end inner attributes d)
 
 tail_back : (t u : Text) → tail_at t ≡ Ok u → Front (Sign 125 ∷ Sign 41 ∷ Sign 59 ∷ []) t u
 unfolding tail_at
@@ -285,9 +285,10 @@ keyword_name keywords.Task = codes "CRE_TSK"
 keyword_name keywords.Semaphore = codes "CRE_SEM"
 keyword_name keywords.Flag = codes "CRE_FLG"
 keyword_name keywords.Queue = codes "CRE_DTQ"
+keyword_name keywords.SpinLock = codes "CRE_SPN"
 keyword_name keywords.Handler = codes "DEF_INH"
 
--- behind its first token a statement has the rest of its form, and it may stand here
+-- after its first token a statement has the rest of its form, and it may stand here
 record Behind (name : List ℕ) (in_class : Bool) (t : Text) (r : Statement × Text) : Type 0 where
   whole : (s : Text) → Front (Exactly name ∷ []) s t → Front (form r.0) s r.1
   may : MayStand in_class r.0
@@ -313,7 +314,7 @@ task_back in_class t r e =
     e gives λ head h e. e gives λ exinf a e. e gives λ address b e. e gives λ rest c e.
     subst (Behind (codes "CRE_TSK") in_class t) (ok_is (Task (record { id = head.0; attributes = head.1; exinf = exinf.0; address = address.0; priority = rest.0; stack_size = rest.1; stack = rest.2 }), rest.3) r e)
     (record {
-      whole = λ s x. x then head_back t head h then listed_operand_back head.2 exinf a then listed_operand_back exinf.1 address b then task_tail_back address.1 rest c;
+      whole = λ s x. x then head_back 44 t head h then listed_operand_back head.2 exinf a then listed_operand_back exinf.1 address b then task_tail_back address.1 rest c;
       may = tt;
     })
 
@@ -322,28 +323,35 @@ unfolding semaphore_at
 semaphore_back in_class t r e =
     e gives λ head h e. e gives λ initial a e. e gives λ maximum b e. e gives λ ended l e.
     subst (Behind (codes "CRE_SEM") in_class t) (ok_is (Semaphore (record { id = head.0; attributes = head.1; initial = initial.0; maximum = maximum.0 }), ended) r e)
-    (record { whole = λ s x. x then head_back t head h then listed_number_back head.2 initial a then numeral_back initial.1 maximum b then tail_back maximum.1 ended l; may = tt })
+    (record { whole = λ s x. x then head_back 44 t head h then listed_number_back head.2 initial a then numeral_back initial.1 maximum b then tail_back maximum.1 ended l; may = tt })
 
 flag_back : (in_class : Bool) (t : Text) (r : Statement × Text) → flag_at t ≡ Ok r → Behind (codes "CRE_FLG") in_class t r
 unfolding flag_at
 flag_back in_class t r e =
     e gives λ head h e. e gives λ pattern a e. e gives λ ended l e.
     subst (Behind (codes "CRE_FLG") in_class t) (ok_is (Flag (record { id = head.0; attributes = head.1; pattern = pattern.0 }), ended) r e)
-    (record { whole = λ s x. x then head_back t head h then numeral_back head.2 pattern a then tail_back pattern.1 ended l; may = tt })
+    (record { whole = λ s x. x then head_back 44 t head h then numeral_back head.2 pattern a then tail_back pattern.1 ended l; may = tt })
 
 queue_back : (in_class : Bool) (t : Text) (r : Statement × Text) → queue_at t ≡ Ok r → Behind (codes "CRE_DTQ") in_class t r
 unfolding queue_at
 queue_back in_class t r e =
     e gives λ head h e. e gives λ capacity a e. e gives λ area b e. e gives λ ended l e.
     subst (Behind (codes "CRE_DTQ") in_class t) (ok_is (Queue (record { id = head.0; attributes = head.1; capacity = capacity.0 }), ended) r e)
-    (record { whole = λ s x. x then head_back t head h then listed_number_back head.2 capacity a then area_back capacity.1 area b then tail_back area ended l; may = tt })
+    (record { whole = λ s x. x then head_back 44 t head h then listed_number_back head.2 capacity a then area_back capacity.1 area b then tail_back area ended l; may = tt })
+
+spin_lock_back : (in_class : Bool) (t : Text) (r : Statement × Text) → spin_lock_at t ≡ Ok r → Behind (codes "CRE_SPN") in_class t r
+unfolding spin_lock_at
+spin_lock_back in_class t r e =
+    e gives λ head h e. e gives λ closed a e. e gives λ ended b e.
+    subst (Behind (codes "CRE_SPN") in_class t) (ok_is (SpinLock (record { id = head.0; attributes = head.1 }), ended) r e)
+    (record { whole = λ s x. x then head_back 125 t head h then sign_back 41 head.2 closed a then sign_back 59 closed ended b; may = tt })
 
 handler_back : (in_class : Bool) (t : Text) (r : Statement × Text) → handler_at t ≡ Ok r → Behind (codes "DEF_INH") in_class t r
 unfolding handler_at
 handler_back in_class t r e =
     e gives λ head h e. e gives λ address a e. e gives λ ended l e.
     subst (Behind (codes "DEF_INH") in_class t) (ok_is (Handler (record { line = head.0; attributes = head.1; address = address.0 }), ended) r e)
-    (record { whole = λ s x. x then head_back t head h then value_back head.2 address a then tail_back address.1 ended l; may = tt })
+    (record { whole = λ s x. x then head_back 44 t head h then value_back head.2 address a then tail_back address.1 ended l; may = tt })
 
 behind_back : (in_class : Bool) (line : ℕ) (k : Keyword) (t : Text) (r : Statement × Text) → behind_keyword in_class line k t ≡ Ok r → Behind (keyword_name k) in_class t r
 unfolding behind_keyword keyword_name
@@ -356,6 +364,7 @@ behind_back in_class line keywords.Task t r e = task_back in_class t r e
 behind_back in_class line keywords.Semaphore t r e = semaphore_back in_class t r e
 behind_back in_class line keywords.Flag t r e = flag_back in_class t r e
 behind_back in_class line keywords.Queue t r e = queue_back in_class t r e
+behind_back in_class line keywords.SpinLock t r e = spin_lock_back in_class t r e
 behind_back in_class line keywords.Handler t r e = handler_back in_class t r e
 
 -- what a table has for a name stands beside this name
@@ -372,7 +381,7 @@ named_back (row ∷ rows) name x name_of are e =
 
 keyword_is : (run : List ℕ) (k : Keyword) → keyword_of run ≡ Some k → run ≡ keyword_name k
 unfolding keyword_of keyword_name
-keyword_is run k e = named_back keyword_names run k keyword_name (refl, (refl, (refl, (refl, (refl, (refl, (refl, tt))))))) e
+keyword_is run k e = named_back keyword_names run k keyword_name (refl, (refl, (refl, (refl, (refl, (refl, (refl, (refl, tt)))))))) e
 
 -- a statement at the front of a text, where it may stand
 pub record IsStatement (in_class : Bool) (t : Text) (r : Statement × Text) : Type 0 where

@@ -17,19 +17,21 @@ use Rattle.brd_config.specs.declared.objects.TaskConfig.{TaskConfig}
 use Rattle.brd_config.specs.declared.objects.SemaphoreConfig.{SemaphoreConfig}
 use Rattle.brd_config.specs.declared.objects.FlagConfig.{FlagConfig}
 use Rattle.brd_config.specs.declared.objects.QueueConfig.{QueueConfig}
+use Rattle.brd_config.specs.declared.objects.SpinLockConfig.{SpinLockConfig}
 use Rattle.brd_config.specs.declared.objects.HandlerConfig.{HandlerConfig}
 use Rattle.brd_config.specs.declared.statement.Keyword.{Keyword}
 use Rattle.brd_config.specs.declared.statement.Keyword.TheVariants as keywords
 use Rattle.brd_config.specs.declared.statement.Statement.{Statement}
-use Rattle.brd_config.specs.declared.statement.Statement.TheVariants.{Board, Class, ClassEnd, Task, Semaphore, Flag, Queue, Handler}
+use Rattle.brd_config.specs.declared.statement.Statement.TheVariants.{Board, Class, ClassEnd, Task, Semaphore, Flag, Queue, SpinLock, Handler}
 use Rattle.brd_config.specs.declared.statement.TaskStatement.{TaskStatement}
 use Rattle.brd_config.specs.declared.statement.SemaphoreStatement.{SemaphoreStatement}
 use Rattle.brd_config.specs.declared.statement.FlagStatement.{FlagStatement}
 use Rattle.brd_config.specs.declared.statement.QueueStatement.{QueueStatement}
+use Rattle.brd_config.specs.declared.statement.SpinLockStatement.{SpinLockStatement}
 use Rattle.brd_config.specs.declared.statement.HandlerStatement.{HandlerStatement}
-use Rattle.brd_config.specs.Statements.{keyword_of, board_at, class_at, task_tail_at, task_at, semaphore_at, flag_at, queue_at, handler_at, behind_keyword, statement_by, statement_at}
+use Rattle.brd_config.specs.Statements.{keyword_of, board_at, class_at, task_tail_at, task_at, semaphore_at, flag_at, queue_at, spin_lock_at, handler_at, behind_keyword, statement_by, statement_at}
 use Rattle.brd_config.specs.Reading.{attribute_of, class_of, operand_of, stack_of, is_area, run_of, number_at, expect_mark, mark_at, attribute_at, expect_joint, joint_at, attribute_step, attributes_at, operand_at, stack_at, area_at, class_number_at, listed_number_at, listed_operand_at, head_at, tail_at}
-use Rattle.brd_config.specs.Meaning.{State, within, only_bits, refused, task_numbers, task_of, semaphore_of, flag_of, queue_of, handler_of, added, processor_of, is_end, is_board, one_more, statement_step, statements_from, board_of, first_board, first_statement, config_of}
+use Rattle.brd_config.specs.Meaning.{State, within, only_bits, refused, task_numbers, task_of, semaphore_of, flag_of, queue_of, spin_lock_of, handler_of, added, processor_of, is_end, is_board, one_more, statement_step, statements_from, board_of, first_board, first_statement, config_of}
 use Rattle.brd_config.specs.Grammar.{Piece, Joined, IsSpelled, AreSpelled, form}
 use Rattle.brd_config.specs.Grammar.Piece.{Exactly, Sign, Numeral, Attributes, Value, StackValue, Area, ClassName}
 use Rattle.brd_config.specs.Grammar.Joined.{last, bar}
@@ -150,16 +152,16 @@ more_is : {S R : Type 0} (more : Bool) (s t : S) (r : R) → flow_of more s r �
 more_is true s t r e = cc
 more_is false s t r e = absurd (cc)
 
-attribute_less : (s next : ℕ × Text) → attribute_step 44 s ≡ Ok (More next) → length next.1.tokens < length s.1.tokens
-attribute_less s next e =
-    let a = attribute_back s.0 s.1 (More next) e in
+attribute_less : (end : ℕ) (s next : ℕ × Text) → attribute_step end s ≡ Ok (More next) → length next.1.tokens < length s.1.tokens
+attribute_less end s next e =
+    let a = attribute_back end s.0 s.1 (More next) e in
     let made : ℕ × Text = (bit_or s.0 a.bits, a.rest) in
     let same : a.rest ≡ next.1 = ap (λ (q : ℕ × Text). q.1) (more_is a.more made next made a.goes) in
     omega (arith, ap length a.tokens, ap (λ (t : Text). length t.tokens) same, length-map s.1.tokens (λ p. p.token), length-map a.rest.tokens (λ p. p.token))
 
-attributes_end : (t : Text) → Ends (attributes_at 44 t)
+attributes_end : (end : ℕ) (t : Text) → Ends (attributes_at end t)
 unfolding attributes_at
-attributes_end t = turns_end (attribute_step 44) (λ (s : ℕ × Text). length s.1.tokens) (attribute_step_ends 44) attribute_less (suc (length t.tokens)) (0, t) (omega arith)
+attributes_end end t = turns_end (attribute_step end) (λ (s : ℕ × Text). length s.1.tokens) (attribute_step_ends end) (attribute_less end) (suc (length t.tokens)) (0, t) (omega arith)
 
 -- ---- statements
 
@@ -171,9 +173,9 @@ listed_operand_ends : (t : Text) → Ends (listed_operand_at t)
 unfolding listed_operand_at
 listed_operand_ends t = operand_ends t then λ operand. mark_ends 44 operand.1 then λ listed. answer_ends _
 
-head_ends : (t : Text) → Ends (head_at t)
+head_ends : (end : ℕ) (t : Text) → Ends (head_at end t)
 unfolding head_at
-head_ends t = mark_ends 40 t then λ opened. listed_number_ends opened then λ id. mark_ends 123 id.1 then λ inner. attributes_end inner then λ attributes. answer_ends (id.0, attributes.0, attributes.1)
+head_ends end t = mark_ends 40 t then λ opened. listed_number_ends opened then λ id. mark_ends 123 id.1 then λ inner. attributes_end end inner then λ attributes. answer_ends (id.0, attributes.0, attributes.1)
 
 tail_ends : (t : Text) → Ends (tail_at t)
 unfolding tail_at
@@ -193,23 +195,27 @@ task_tail_ends t = listed_number_ends t then λ priority. listed_number_ends pri
 
 task_ends : (t : Text) → Ends (task_at t)
 unfolding task_at
-task_ends t = head_ends t then λ head. listed_operand_ends head.2 then λ exinf. listed_operand_ends exinf.1 then λ address. task_tail_ends address.1 then λ rest. answer_ends _
+task_ends t = head_ends 44 t then λ head. listed_operand_ends head.2 then λ exinf. listed_operand_ends exinf.1 then λ address. task_tail_ends address.1 then λ rest. answer_ends _
 
 semaphore_ends : (t : Text) → Ends (semaphore_at t)
 unfolding semaphore_at
-semaphore_ends t = head_ends t then λ head. listed_number_ends head.2 then λ initial. number_ends initial.1 then λ maximum. tail_ends maximum.1 then λ ended. answer_ends _
+semaphore_ends t = head_ends 44 t then λ head. listed_number_ends head.2 then λ initial. number_ends initial.1 then λ maximum. tail_ends maximum.1 then λ ended. answer_ends _
 
 flag_ends : (t : Text) → Ends (flag_at t)
 unfolding flag_at
-flag_ends t = head_ends t then λ head. number_ends head.2 then λ pattern. tail_ends pattern.1 then λ ended. answer_ends _
+flag_ends t = head_ends 44 t then λ head. number_ends head.2 then λ pattern. tail_ends pattern.1 then λ ended. answer_ends _
 
 queue_ends : (t : Text) → Ends (queue_at t)
 unfolding queue_at
-queue_ends t = head_ends t then λ head. listed_number_ends head.2 then λ capacity. area_ends capacity.1 then λ area. tail_ends area then λ ended. answer_ends _
+queue_ends t = head_ends 44 t then λ head. listed_number_ends head.2 then λ capacity. area_ends capacity.1 then λ area. tail_ends area then λ ended. answer_ends _
+
+spin_lock_ends : (t : Text) → Ends (spin_lock_at t)
+unfolding spin_lock_at
+spin_lock_ends t = head_ends 125 t then λ head. mark_ends 41 head.2 then λ closed. mark_ends 59 closed then λ ended. answer_ends _
 
 handler_ends : (t : Text) → Ends (handler_at t)
 unfolding handler_at
-handler_ends t = head_ends t then λ head. operand_ends head.2 then λ address. tail_ends address.1 then λ ended. answer_ends _
+handler_ends t = head_ends 44 t then λ head. operand_ends head.2 then λ address. tail_ends address.1 then λ ended. answer_ends _
 
 behind_ends : (in_class : Bool) (line : ℕ) (k : Keyword) (t : Text) → Ends (behind_keyword in_class line k t)
 unfolding behind_keyword
@@ -219,6 +225,7 @@ behind_ends in_class line keywords.Task t = task_ends t
 behind_ends in_class line keywords.Semaphore t = semaphore_ends t
 behind_ends in_class line keywords.Flag t = flag_ends t
 behind_ends in_class line keywords.Queue t = queue_ends t
+behind_ends in_class line keywords.SpinLock t = spin_lock_ends t
 behind_ends in_class line keywords.Handler t = handler_ends t
 
 statement_ends : (in_class : Bool) (t : Text) → Ends (statement_at in_class t)
@@ -279,6 +286,10 @@ queue_of_ends : (line : ℕ) (queues : List QueueConfig) (x : QueueStatement) �
 unfolding queue_of
 queue_of_ends line queues x = id_ends line 1 255 x.id then λ id. new_ends line _ then λ new. bits_end line 1 x.attributes then λ attributes. count_ends line 0 256 x.capacity then λ capacity. answer_ends _
 
+spin_lock_of_ends : (line : ℕ) (spin_locks : List SpinLockConfig) (x : SpinLockStatement) → Ends (spin_lock_of line spin_locks x)
+unfolding spin_lock_of
+spin_lock_of_ends line spin_locks x = id_ends line 1 255 x.id then λ id. new_ends line _ then λ new. bits_end line 0 x.attributes then λ attributes. answer_ends _
+
 handler_of_ends : (line : ℕ) (handlers : List HandlerConfig) (processor : ℕ) (x : HandlerStatement) → Ends (handler_of line handlers processor x)
 unfolding handler_of
 handler_of_ends line handlers processor x = id_ends line 0 31 x.line then λ number. new_ends line _ then λ new. bits_end line 1 x.attributes then λ attributes. answer_ends _
@@ -292,6 +303,7 @@ added_ends line s (Task x) = task_of_ends line s.config.tasks (processor_of s.cl
 added_ends line s (Semaphore x) = semaphore_of_ends line s.config.semaphores x then λ semaphore. answer_ends _
 added_ends line s (Flag x) = flag_of_ends line s.config.flags x then λ flag. answer_ends _
 added_ends line s (Queue x) = queue_of_ends line s.config.queues x then λ queue. answer_ends _
+added_ends line s (SpinLock x) = spin_lock_of_ends line s.config.spin_locks x then λ spin_lock. answer_ends _
 added_ends line s (Handler x) = handler_of_ends line s.config.handlers (processor_of s.class) x then λ handler. answer_ends _
 
 one_more_ends : (s : State × Text) → Ends (one_more s)
@@ -330,6 +342,7 @@ some_piece (Task x) = omega arith
 some_piece (Semaphore x) = omega arith
 some_piece (Flag x) = omega arith
 some_piece (Queue x) = omega arith
+some_piece (SpinLock x) = omega arith
 some_piece (Handler x) = omega arith
 
 statement_less : (in_class : Bool) (t : Text) (r : Statement × Text) → statement_at in_class t ≡ Ok r → length r.1.tokens < length t.tokens

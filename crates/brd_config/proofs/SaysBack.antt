@@ -17,19 +17,20 @@ use Rattle.brd_config.specs.declared.objects.TaskConfig.{TaskConfig}
 use Rattle.brd_config.specs.declared.objects.SemaphoreConfig.{SemaphoreConfig}
 use Rattle.brd_config.specs.declared.objects.FlagConfig.{FlagConfig}
 use Rattle.brd_config.specs.declared.objects.QueueConfig.{QueueConfig}
+use Rattle.brd_config.specs.declared.objects.SpinLockConfig.{SpinLockConfig}
 use Rattle.brd_config.specs.declared.objects.HandlerConfig.{HandlerConfig}
 use Rattle.brd_config.specs.declared.statement.Statement.{Statement}
-use Rattle.brd_config.specs.declared.statement.Statement.TheVariants.{Board, Class, ClassEnd, Task, Semaphore, Flag, Queue, Handler}
+use Rattle.brd_config.specs.declared.statement.Statement.TheVariants.{Board, Class, ClassEnd, Task, Semaphore, Flag, Queue, SpinLock, Handler}
 use Rattle.brd_config.specs.Statements.{statement_at, board_at}
 use Rattle.brd_config.specs.Configuration.{Configuration, IsWithin, IsConfiguration}
-use Rattle.brd_config.specs.Meaning.{State, within, refused, is_ram_size, task_of, semaphore_of, flag_of, queue_of, handler_of, added, processor_of, is_end, is_board, one_more, statement_step, statements_from, board_of, first_board, first_statement, config_of}
-use Rattle.brd_config.specs.Grammar.{Piece, Joined, IsSpelled, AreSpelled, OneRun, form, IsOutside, IsInside, tasks_of, semaphores_of, flags_of, queues_of, handlers_of, task_said, semaphore_said, flag_said, queue_said, handler_said, said, AreNested, Says}
+use Rattle.brd_config.specs.Meaning.{State, within, refused, is_ram_size, task_of, semaphore_of, flag_of, queue_of, spin_lock_of, handler_of, added, processor_of, is_end, is_board, one_more, statement_step, statements_from, board_of, first_board, first_statement, config_of}
+use Rattle.brd_config.specs.Grammar.{Piece, Joined, IsSpelled, AreSpelled, OneRun, form, IsOutside, IsInside, tasks_of, semaphores_of, flags_of, queues_of, spin_locks_of, handlers_of, task_said, semaphore_said, flag_said, queue_said, spin_lock_said, handler_said, said, AreNested, Says}
 use Rattle.brd_config.specs.Grammar.Piece.{Exactly, Sign, Numeral, Attributes, Value, StackValue, Area, ClassName}
 use Rattle.brd_config.specs.Grammar.Joined.{last, bar}
 use Rattle.brd_config.proofs.Forms.{MayStand}
 use Rattle.brd_config.proofs.FormsBack.{Front, ◌then◌, both_spelled, exactly, board_back, statement_back}
 use Rattle.brd_config.proofs.SpelledBack.{AreClosed, AreTokens, spelled_back, are_tokens}
-use Rattle.brd_config.proofs.Validity.{IsState, one_ok, two_ok, within_ok, task_ok, semaphore_ok, flag_ok, queue_ok, handler_ok, added_ok, first_ok, config_is_valid}
+use Rattle.brd_config.proofs.Validity.{IsState, one_ok, two_ok, within_ok, task_ok, semaphore_ok, flag_ok, queue_ok, spin_lock_ok, handler_ok, added_ok, first_ok, config_is_valid}
 use Rattle.brd_config.proofs.Accepted.{Leads, started, all_said}
 
 -- ---- tokens of pieces
@@ -86,7 +87,7 @@ inside : (class : Option ℕ) → is_some class ≡ true → IsInside class
 inside None h = absurd (cc)
 inside (Some n) h = tt
 
--- What holds of the statements behind a statement holds with it in front.
+-- What holds of the statements after a statement holds with it in front.
 abbrev GoesBack : Configuration → State → Statement → List Statement → State → Type 0
 GoesBack whole s x ss next = Leads whole next.config next.class ss → AreNested next.config.processors next.class ss → Leads whole s.config s.class (x ∷ ss) × AreNested s.config.processors s.class (x ∷ ss)
 
@@ -101,40 +102,46 @@ goes_back line whole s next (Class n) ss is may e =
     let w = within_ok 1 s.config.processors (BadProcessor line) n p.0 p.1 in
     let same : record s { class = Some n } ≡ next = ap (λ (k : ℕ). record s { class = Some k }) (sym w.0) ∙ p.2 in
     subst (GoesBack whole s (Class n) ss) same
-    (λ l nested. (record { processors = l.processors; ram = l.ram; tasks = l.tasks; semaphores = l.semaphores; flags = l.flags; queues = l.queues; handlers = l.handlers }, (outside s.class may, subst (IsWithin 1 s.config.processors) w.0 w.1, nested)))
+    (λ l nested. (record { processors = l.processors; ram = l.ram; tasks = l.tasks; semaphores = l.semaphores; flags = l.flags; queues = l.queues; spin_locks = l.spin_locks; handlers = l.handlers }, (outside s.class may, subst (IsWithin 1 s.config.processors) w.0 w.1, nested)))
 goes_back line whole s next ClassEnd ss is may e =
     subst (GoesBack whole s ClassEnd ss) (ok_is (record s { class = None }) next e)
-    (λ l nested. (record { processors = l.processors; ram = l.ram; tasks = l.tasks; semaphores = l.semaphores; flags = l.flags; queues = l.queues; handlers = l.handlers }, (inside s.class may, nested)))
+    (λ l nested. (record { processors = l.processors; ram = l.ram; tasks = l.tasks; semaphores = l.semaphores; flags = l.flags; queues = l.queues; spin_locks = l.spin_locks; handlers = l.handlers }, (inside s.class may, nested)))
 goes_back line whole s next (Task x) ss is may e =
     let add : TaskConfig → State = λ made. record s { config = record s.config { tasks = s.config.tasks ++ made ∷ [] } } in
     let p = one_ok (task_of line s.config.tasks (processor_of s.class) x) add next e in
     let ok = task_ok line s.config.tasks s.config.processors (processor_of s.class) x p.0 is.class p.1 in
     subst (GoesBack whole s (Task x) ss) (ap add (sym ok.2) ∙ p.2)
-    (λ l nested. (record { processors = l.processors; ram = l.ram; tasks = l.tasks ∙ append_assoc s.config.tasks (task_said (processor_of s.class) x ∷ []) (tasks_of s.class ss); semaphores = l.semaphores; flags = l.flags; queues = l.queues; handlers = l.handlers }, nested))
+    (λ l nested. (record { processors = l.processors; ram = l.ram; tasks = l.tasks ∙ append_assoc s.config.tasks (task_said (processor_of s.class) x ∷ []) (tasks_of s.class ss); semaphores = l.semaphores; flags = l.flags; queues = l.queues; spin_locks = l.spin_locks; handlers = l.handlers }, nested))
 goes_back line whole s next (Semaphore x) ss is may e =
     let add : SemaphoreConfig → State = λ made. record s { config = record s.config { semaphores = s.config.semaphores ++ made ∷ [] } } in
     let p = one_ok (semaphore_of line s.config.semaphores x) add next e in
     let ok = semaphore_ok line s.config.semaphores x p.0 p.1 in
     subst (GoesBack whole s (Semaphore x) ss) (ap add (sym ok.2) ∙ p.2)
-    (λ l nested. (record { processors = l.processors; ram = l.ram; tasks = l.tasks; semaphores = l.semaphores ∙ append_assoc s.config.semaphores (semaphore_said x ∷ []) (semaphores_of ss); flags = l.flags; queues = l.queues; handlers = l.handlers }, nested))
+    (λ l nested. (record { processors = l.processors; ram = l.ram; tasks = l.tasks; semaphores = l.semaphores ∙ append_assoc s.config.semaphores (semaphore_said x ∷ []) (semaphores_of ss); flags = l.flags; queues = l.queues; spin_locks = l.spin_locks; handlers = l.handlers }, nested))
 goes_back line whole s next (Flag x) ss is may e =
     let add : FlagConfig → State = λ made. record s { config = record s.config { flags = s.config.flags ++ made ∷ [] } } in
     let p = one_ok (flag_of line s.config.flags x) add next e in
     let ok = flag_ok line s.config.flags x p.0 p.1 in
     subst (GoesBack whole s (Flag x) ss) (ap add (sym ok.2) ∙ p.2)
-    (λ l nested. (record { processors = l.processors; ram = l.ram; tasks = l.tasks; semaphores = l.semaphores; flags = l.flags ∙ append_assoc s.config.flags (flag_said x ∷ []) (flags_of ss); queues = l.queues; handlers = l.handlers }, nested))
+    (λ l nested. (record { processors = l.processors; ram = l.ram; tasks = l.tasks; semaphores = l.semaphores; flags = l.flags ∙ append_assoc s.config.flags (flag_said x ∷ []) (flags_of ss); queues = l.queues; spin_locks = l.spin_locks; handlers = l.handlers }, nested))
 goes_back line whole s next (Queue x) ss is may e =
     let add : QueueConfig → State = λ made. record s { config = record s.config { queues = s.config.queues ++ made ∷ [] } } in
     let p = one_ok (queue_of line s.config.queues x) add next e in
     let ok = queue_ok line s.config.queues x p.0 p.1 in
     subst (GoesBack whole s (Queue x) ss) (ap add (sym ok.2) ∙ p.2)
-    (λ l nested. (record { processors = l.processors; ram = l.ram; tasks = l.tasks; semaphores = l.semaphores; flags = l.flags; queues = l.queues ∙ append_assoc s.config.queues (queue_said x ∷ []) (queues_of ss); handlers = l.handlers }, nested))
+    (λ l nested. (record { processors = l.processors; ram = l.ram; tasks = l.tasks; semaphores = l.semaphores; flags = l.flags; queues = l.queues ∙ append_assoc s.config.queues (queue_said x ∷ []) (queues_of ss); spin_locks = l.spin_locks; handlers = l.handlers }, nested))
+goes_back line whole s next (SpinLock x) ss is may e =
+    let add : SpinLockConfig → State = λ made. record s { config = record s.config { spin_locks = s.config.spin_locks ++ made ∷ [] } } in
+    let p = one_ok (spin_lock_of line s.config.spin_locks x) add next e in
+    let ok = spin_lock_ok line s.config.spin_locks x p.0 p.1 in
+    subst (GoesBack whole s (SpinLock x) ss) (ap add (sym ok.2) ∙ p.2)
+    (λ l nested. (record { processors = l.processors; ram = l.ram; tasks = l.tasks; semaphores = l.semaphores; flags = l.flags; queues = l.queues; spin_locks = l.spin_locks ∙ append_assoc s.config.spin_locks (spin_lock_said x ∷ []) (spin_locks_of ss); handlers = l.handlers }, (ok.3, nested)))
 goes_back line whole s next (Handler x) ss is may e =
     let add : HandlerConfig → State = λ made. record s { config = record s.config { handlers = s.config.handlers ++ made ∷ [] } } in
     let p = one_ok (handler_of line s.config.handlers (processor_of s.class) x) add next e in
     let ok = handler_ok line s.config.handlers s.config.processors (processor_of s.class) x p.0 is.class p.1 in
     subst (GoesBack whole s (Handler x) ss) (ap add (sym ok.2) ∙ p.2)
-    (λ l nested. (record { processors = l.processors; ram = l.ram; tasks = l.tasks; semaphores = l.semaphores; flags = l.flags; queues = l.queues; handlers = l.handlers ∙ append_assoc s.config.handlers (handler_said (processor_of s.class) x ∷ []) (handlers_of s.class ss) }, (ok.3, nested)))
+    (λ l nested. (record { processors = l.processors; ram = l.ram; tasks = l.tasks; semaphores = l.semaphores; flags = l.flags; queues = l.queues; spin_locks = l.spin_locks; handlers = l.handlers ∙ append_assoc s.config.handlers (handler_said (processor_of s.class) x ∷ []) (handlers_of s.class ss) }, (ok.3, nested)))
 
 -- ---- the statements up to the end
 
@@ -153,7 +160,7 @@ nothing_told whole s are ends e =
     (record {
       statements = [];
       spelled = no_tokens s.1 are parts.1;
-      leads = record { processors = refl; ram = refl; tasks = sym (append-nil s.0.config.tasks); semaphores = sym (append-nil s.0.config.semaphores); flags = sym (append-nil s.0.config.flags); queues = sym (append-nil s.0.config.queues); handlers = sym (append-nil s.0.config.handlers) };
+      leads = record { processors = refl; ram = refl; tasks = sym (append-nil s.0.config.tasks); semaphores = sym (append-nil s.0.config.semaphores); flags = sym (append-nil s.0.config.flags); queues = sym (append-nil s.0.config.queues); spin_locks = sym (append-nil s.0.config.spin_locks); handlers = sym (append-nil s.0.config.handlers) };
       nested = unnested s.0.class parts.0;
     })
   where
@@ -215,7 +222,7 @@ board_said : (line processors ram : ℕ) (c : Configuration) → board_of line p
 unfolding board_of
 board_said line processors ram c e =
     let p = two_ok (within 1 8 (BadProcessor line) processors) (refused (not (is_ram_size ram)) (BadCount line))
-    (λ count sized. record { processors = count; ram = ram; tasks = []; semaphores = []; flags = []; queues = []; handlers = [] }) c e in
+    (λ count sized. record { processors = count; ram = ram; tasks = []; semaphores = []; flags = []; queues = []; spin_locks = []; handlers = [] }) c e in
     sym p.4 ∙ ap (λ (count : ℕ). started count ram) (within_ok 1 8 (BadProcessor line) processors p.0 p.2).0
 
 begun_back : (line : ℕ) (t : Text) (s : State × Text) → (first t).token ≡ Run (codes "BOARD") → first_board line (others t) ≡ Ok s → IsBegun t s
@@ -250,6 +257,7 @@ whole_said whole processors ram ss l = sym (all_said whole (said processors ram 
   semaphores = l.semaphores ∙ sym (append-nil (semaphores_of ss));
   flags = l.flags ∙ sym (append-nil (flags_of ss));
   queues = l.queues ∙ sym (append-nil (queues_of ss));
+  spin_locks = l.spin_locks ∙ sym (append-nil (spin_locks_of ss));
   handlers = l.handlers ∙ sym (append-nil (handlers_of None ss));
 }))
 

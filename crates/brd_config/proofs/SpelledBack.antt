@@ -26,7 +26,7 @@ tokens_from line bytes = bare_tokens (tokens_in Between line bytes)
 abbrev AtMost : ℕ → Type 0
 AtMost n = (line : ℕ) (bs : List ℕ) → length bs ≤ n → AreClosed (tokens_from line bs) → Spells bs (tokens_from line bs)
 
--- ---- the first token, and those behind it
+-- ---- the first token, and those after it
 
 one_token : (token : Token) (line : ℕ) (t : Text) → first t ≡ record { token = token; line = line } → (token ≡ End → ⊥) → bare_tokens t ≡ token ∷ bare_tokens (others t)
 one_token token line t e some = by_tokens t.tokens t.end e

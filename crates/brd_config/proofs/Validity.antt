@@ -26,15 +26,17 @@ use Rattle.brd_config.specs.declared.statement.SemaphoreStatement.{SemaphoreStat
 use Rattle.brd_config.specs.declared.objects.FlagConfig.{FlagConfig}
 use Rattle.brd_config.specs.declared.statement.FlagStatement.{FlagStatement}
 use Rattle.brd_config.specs.declared.objects.QueueConfig.{QueueConfig}
+use Rattle.brd_config.specs.declared.objects.SpinLockConfig.{SpinLockConfig}
 use Rattle.brd_config.specs.declared.statement.QueueStatement.{QueueStatement}
+use Rattle.brd_config.specs.declared.statement.SpinLockStatement.{SpinLockStatement}
 use Rattle.brd_config.specs.declared.objects.HandlerConfig.{HandlerConfig}
 use Rattle.brd_config.specs.declared.statement.HandlerStatement.{HandlerStatement}
 use Rattle.brd_config.specs.declared.statement.Statement.{Statement}
-use Rattle.brd_config.specs.declared.statement.Statement.TheVariants.{Board, Class, ClassEnd, Task, Semaphore, Flag, Queue, Handler}
+use Rattle.brd_config.specs.declared.statement.Statement.TheVariants.{Board, Class, ClassEnd, Task, Semaphore, Flag, Queue, SpinLock, Handler}
 use Rattle.brd_config.specs.Statements.{statement_at, board_at}
-use Rattle.brd_config.specs.Configuration.{Configuration, IsWithin, IsTask, IsSemaphore, IsFlag, IsQueue, IsHandler, IsConfiguration}
-use Rattle.brd_config.specs.Meaning.{State, within, only_bits, refused, is_ram_size, task_numbers, task_of, semaphore_of, flag_of, queue_of, handler_of, added, processor_of, is_end, is_board, one_more, statement_step, statements_from, board_of, first_board, first_statement, config_of}
-use Rattle.brd_config.specs.Grammar.{task_said, semaphore_said, flag_said, queue_said, handler_said}
+use Rattle.brd_config.specs.Configuration.{Configuration, IsWithin, IsTask, IsSemaphore, IsFlag, IsQueue, IsSpinLock, IsHandler, IsConfiguration}
+use Rattle.brd_config.specs.Meaning.{State, within, only_bits, refused, is_ram_size, task_numbers, task_of, semaphore_of, flag_of, queue_of, spin_lock_of, handler_of, added, processor_of, is_end, is_board, one_more, statement_step, statements_from, board_of, first_board, first_statement, config_of}
+use Rattle.brd_config.specs.Grammar.{task_said, semaphore_said, flag_said, queue_said, spin_lock_said, handler_said}
 use Rattle.brd_config.proofs.RamSize.{has_ram_size}
 
 -- ---- lists
@@ -167,6 +169,17 @@ queue_ok line queues t x e =
     let capacity = within_ok 0 256 (BadCount line) t.capacity p.3 p.7 in
     rw (← p.8) (record { id = id.1; attributes = attributes.1; capacity = capacity.1.most }, rw id.0 new, rw (id.0, attributes.0, capacity.0) refl)
 
+pub spin_lock_ok : (line : ℕ) (spin_locks : List SpinLockConfig) (t : SpinLockStatement) (x : SpinLockConfig) → spin_lock_of line spin_locks t ≡ Ok x
+    → IsSpinLock x × (list_any (λ o. nat_eq o.id x.id) spin_locks ≡ false) × (x ≡ spin_lock_said t) × (t.attributes ≡ 0)
+unfolding spin_lock_of
+spin_lock_ok line spin_locks t x e =
+    let p = three_ok (within 1 255 (BadId line) t.id) (refused (list_any (λ o. nat_eq o.id t.id) spin_locks) (Duplicate line)) (only_bits 0 (BadAttribute line) t.attributes)
+    (λ id new attributes. record { id = id }) x e in
+    let id = within_ok 1 255 (BadId line) t.id p.0 p.3 in
+    let new = refused_ok (list_any (λ o. nat_eq o.id t.id) spin_locks) (Duplicate line) p.1 p.4 in
+    let attributes = only_bits_ok 0 (BadAttribute line) t.attributes p.2 p.5 in
+    rw (← p.6) (record { id = id.1 }, rw id.0 new, rw id.0 refl, omega (arith, attributes.0, attributes.1))
+
 pub handler_ok : (line : ℕ) (handlers : List HandlerConfig) (processors processor : ℕ) (t : HandlerStatement) (x : HandlerConfig) → IsWithin 1 processors processor → handler_of line handlers processor t ≡ Ok x
     → IsHandler processors x × (list_any (λ o. nat_eq o.line x.line) handlers ≡ false) × (x ≡ handler_said processor t) × (t.attributes ≤ 1)
 unfolding handler_of
@@ -200,35 +213,42 @@ added_ok line s t (Task x) e h =
     let p = one_ok (task_of line s.config.tasks (processor_of s.class) x) (λ made. record s { config = record s.config { tasks = s.config.tasks ++ made ∷ [] } }) t e in
     let ok = task_ok line s.config.tasks s.config.processors (processor_of s.class) x p.0 h.class p.1 in
     rw (← p.2) (record {
-      config = record { processors = h.config.processors; ram = h.config.ram; tasks = All-push (IsTask s.config.processors) s.config.tasks p.0 h.config.tasks ok.0; semaphores = h.config.semaphores; flags = h.config.flags; queues = h.config.queues; handlers = h.config.handlers; task_ids = keys_stay (λ o. o.id) s.config.tasks p.0 ok.1 h.config.task_ids; semaphore_ids = h.config.semaphore_ids; flag_ids = h.config.flag_ids; queue_ids = h.config.queue_ids; handler_lines = h.config.handler_lines };
+      config = record { processors = h.config.processors; ram = h.config.ram; tasks = All-push (IsTask s.config.processors) s.config.tasks p.0 h.config.tasks ok.0; semaphores = h.config.semaphores; flags = h.config.flags; queues = h.config.queues; spin_locks = h.config.spin_locks; handlers = h.config.handlers; task_ids = keys_stay (λ o. o.id) s.config.tasks p.0 ok.1 h.config.task_ids; semaphore_ids = h.config.semaphore_ids; flag_ids = h.config.flag_ids; queue_ids = h.config.queue_ids; spin_lock_ids = h.config.spin_lock_ids; handler_lines = h.config.handler_lines };
       class = h.class;
     })
 added_ok line s t (Semaphore x) e h =
     let p = one_ok (semaphore_of line s.config.semaphores x) (λ made. record s { config = record s.config { semaphores = s.config.semaphores ++ made ∷ [] } }) t e in
     let ok = semaphore_ok line s.config.semaphores x p.0 p.1 in
     rw (← p.2) (record {
-      config = record { processors = h.config.processors; ram = h.config.ram; tasks = h.config.tasks; semaphores = All-push IsSemaphore s.config.semaphores p.0 h.config.semaphores ok.0; flags = h.config.flags; queues = h.config.queues; handlers = h.config.handlers; task_ids = h.config.task_ids; semaphore_ids = keys_stay (λ o. o.id) s.config.semaphores p.0 ok.1 h.config.semaphore_ids; flag_ids = h.config.flag_ids; queue_ids = h.config.queue_ids; handler_lines = h.config.handler_lines };
+      config = record { processors = h.config.processors; ram = h.config.ram; tasks = h.config.tasks; semaphores = All-push IsSemaphore s.config.semaphores p.0 h.config.semaphores ok.0; flags = h.config.flags; queues = h.config.queues; spin_locks = h.config.spin_locks; handlers = h.config.handlers; task_ids = h.config.task_ids; semaphore_ids = keys_stay (λ o. o.id) s.config.semaphores p.0 ok.1 h.config.semaphore_ids; flag_ids = h.config.flag_ids; queue_ids = h.config.queue_ids; spin_lock_ids = h.config.spin_lock_ids; handler_lines = h.config.handler_lines };
       class = h.class;
     })
 added_ok line s t (Flag x) e h =
     let p = one_ok (flag_of line s.config.flags x) (λ made. record s { config = record s.config { flags = s.config.flags ++ made ∷ [] } }) t e in
     let ok = flag_ok line s.config.flags x p.0 p.1 in
     rw (← p.2) (record {
-      config = record { processors = h.config.processors; ram = h.config.ram; tasks = h.config.tasks; semaphores = h.config.semaphores; flags = All-push IsFlag s.config.flags p.0 h.config.flags ok.0; queues = h.config.queues; handlers = h.config.handlers; task_ids = h.config.task_ids; semaphore_ids = h.config.semaphore_ids; flag_ids = keys_stay (λ o. o.id) s.config.flags p.0 ok.1 h.config.flag_ids; queue_ids = h.config.queue_ids; handler_lines = h.config.handler_lines };
+      config = record { processors = h.config.processors; ram = h.config.ram; tasks = h.config.tasks; semaphores = h.config.semaphores; flags = All-push IsFlag s.config.flags p.0 h.config.flags ok.0; queues = h.config.queues; spin_locks = h.config.spin_locks; handlers = h.config.handlers; task_ids = h.config.task_ids; semaphore_ids = h.config.semaphore_ids; flag_ids = keys_stay (λ o. o.id) s.config.flags p.0 ok.1 h.config.flag_ids; queue_ids = h.config.queue_ids; spin_lock_ids = h.config.spin_lock_ids; handler_lines = h.config.handler_lines };
       class = h.class;
     })
 added_ok line s t (Queue x) e h =
     let p = one_ok (queue_of line s.config.queues x) (λ made. record s { config = record s.config { queues = s.config.queues ++ made ∷ [] } }) t e in
     let ok = queue_ok line s.config.queues x p.0 p.1 in
     rw (← p.2) (record {
-      config = record { processors = h.config.processors; ram = h.config.ram; tasks = h.config.tasks; semaphores = h.config.semaphores; flags = h.config.flags; queues = All-push IsQueue s.config.queues p.0 h.config.queues ok.0; handlers = h.config.handlers; task_ids = h.config.task_ids; semaphore_ids = h.config.semaphore_ids; flag_ids = h.config.flag_ids; queue_ids = keys_stay (λ o. o.id) s.config.queues p.0 ok.1 h.config.queue_ids; handler_lines = h.config.handler_lines };
+      config = record { processors = h.config.processors; ram = h.config.ram; tasks = h.config.tasks; semaphores = h.config.semaphores; flags = h.config.flags; queues = All-push IsQueue s.config.queues p.0 h.config.queues ok.0; spin_locks = h.config.spin_locks; handlers = h.config.handlers; task_ids = h.config.task_ids; semaphore_ids = h.config.semaphore_ids; flag_ids = h.config.flag_ids; queue_ids = keys_stay (λ o. o.id) s.config.queues p.0 ok.1 h.config.queue_ids; spin_lock_ids = h.config.spin_lock_ids; handler_lines = h.config.handler_lines };
+      class = h.class;
+    })
+added_ok line s t (SpinLock x) e h =
+    let p = one_ok (spin_lock_of line s.config.spin_locks x) (λ made. record s { config = record s.config { spin_locks = s.config.spin_locks ++ made ∷ [] } }) t e in
+    let ok = spin_lock_ok line s.config.spin_locks x p.0 p.1 in
+    rw (← p.2) (record {
+      config = record { processors = h.config.processors; ram = h.config.ram; tasks = h.config.tasks; semaphores = h.config.semaphores; flags = h.config.flags; queues = h.config.queues; spin_locks = All-push IsSpinLock s.config.spin_locks p.0 h.config.spin_locks ok.0; handlers = h.config.handlers; task_ids = h.config.task_ids; semaphore_ids = h.config.semaphore_ids; flag_ids = h.config.flag_ids; queue_ids = h.config.queue_ids; spin_lock_ids = keys_stay (λ o. o.id) s.config.spin_locks p.0 ok.1 h.config.spin_lock_ids; handler_lines = h.config.handler_lines };
       class = h.class;
     })
 added_ok line s t (Handler x) e h =
     let p = one_ok (handler_of line s.config.handlers (processor_of s.class) x) (λ made. record s { config = record s.config { handlers = s.config.handlers ++ made ∷ [] } }) t e in
     let ok = handler_ok line s.config.handlers s.config.processors (processor_of s.class) x p.0 h.class p.1 in
     rw (← p.2) (record {
-      config = record { processors = h.config.processors; ram = h.config.ram; tasks = h.config.tasks; semaphores = h.config.semaphores; flags = h.config.flags; queues = h.config.queues; handlers = All-push (IsHandler s.config.processors) s.config.handlers p.0 h.config.handlers ok.0; task_ids = h.config.task_ids; semaphore_ids = h.config.semaphore_ids; flag_ids = h.config.flag_ids; queue_ids = h.config.queue_ids; handler_lines = keys_stay (λ o. o.line) s.config.handlers p.0 ok.1 h.config.handler_lines };
+      config = record { processors = h.config.processors; ram = h.config.ram; tasks = h.config.tasks; semaphores = h.config.semaphores; flags = h.config.flags; queues = h.config.queues; spin_locks = h.config.spin_locks; handlers = All-push (IsHandler s.config.processors) s.config.handlers p.0 h.config.handlers ok.0; task_ids = h.config.task_ids; semaphore_ids = h.config.semaphore_ids; flag_ids = h.config.flag_ids; queue_ids = h.config.queue_ids; spin_lock_ids = h.config.spin_lock_ids; handler_lines = keys_stay (λ o. o.line) s.config.handlers p.0 ok.1 h.config.handler_lines };
       class = h.class;
     })
 
@@ -280,7 +300,7 @@ board_ok : (line processors ram : ℕ) (c : Configuration) → board_of line pro
 unfolding board_of
 board_ok line processors ram c e =
     let p = two_ok (within 1 8 (BadProcessor line) processors) (refused (not (is_ram_size ram)) (BadCount line))
-    (λ count sized. record { processors = count; ram = ram; tasks = []; semaphores = []; flags = []; queues = []; handlers = [] }) c e in
+    (λ count sized. record { processors = count; ram = ram; tasks = []; semaphores = []; flags = []; queues = []; spin_locks = []; handlers = [] }) c e in
     let sized = not-false (is_ram_size ram) (refused_ok (not (is_ram_size ram)) (BadCount line) p.1 p.3) in
     rw (← p.4) (record {
       processors = (within_ok 1 8 (BadProcessor line) processors p.0 p.2).1;
@@ -289,11 +309,13 @@ board_ok line processors ram c e =
       semaphores = λ k d lt. absurd (omega arith);
       flags = λ k d lt. absurd (omega arith);
       queues = λ k d lt. absurd (omega arith);
+      spin_locks = λ k d lt. absurd (omega arith);
       handlers = λ k d lt. absurd (omega arith);
       task_ids = λ i j d lt below. absurd (omega arith);
       semaphore_ids = λ i j d lt below. absurd (omega arith);
       flag_ids = λ i j d lt below. absurd (omega arith);
       queue_ids = λ i j d lt below. absurd (omega arith);
+      spin_lock_ids = λ i j d lt below. absurd (omega arith);
       handler_lines = λ i j d lt below. absurd (omega arith);
     })
 

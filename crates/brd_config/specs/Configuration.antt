@@ -5,6 +5,7 @@ use Rattle.brd_config.specs.declared.objects.TaskConfig.{TaskConfig}
 use Rattle.brd_config.specs.declared.objects.SemaphoreConfig.{SemaphoreConfig}
 use Rattle.brd_config.specs.declared.objects.FlagConfig.{FlagConfig}
 use Rattle.brd_config.specs.declared.objects.QueueConfig.{QueueConfig}
+use Rattle.brd_config.specs.declared.objects.SpinLockConfig.{SpinLockConfig}
 use Rattle.brd_config.specs.declared.objects.HandlerConfig.{HandlerConfig}
 
 -- the objects of each kind in the order of their statements
@@ -15,6 +16,7 @@ pub record Configuration : Type 0 where
   pub semaphores : List SemaphoreConfig
   pub flags : List FlagConfig
   pub queues : List QueueConfig
+  pub spin_locks : List SpinLockConfig
   pub handlers : List HandlerConfig
 
 -- from low to high
@@ -44,6 +46,9 @@ pub record IsQueue (q : QueueConfig) : Type 0 where
   pub attributes : q.attributes.0 ≤ 1
   pub capacity : q.capacity ≤ 256
 
+pub record IsSpinLock (s : SpinLockConfig) : Type 0 where
+  pub id : IsWithin 1 255 s.id
+
 pub record IsHandler (processors : ℕ) (h : HandlerConfig) : Type 0 where
   pub line : h.line ≤ 31
   pub processor : IsWithin 1 processors h.processor
@@ -55,9 +60,11 @@ pub record IsConfiguration (c : Configuration) : Type 0 where
   pub semaphores : All IsSemaphore c.semaphores
   pub flags : All IsFlag c.flags
   pub queues : All IsQueue c.queues
+  pub spin_locks : All IsSpinLock c.spin_locks
   pub handlers : All (IsHandler c.processors) c.handlers
   pub task_ids : AllPairs (λ s t. s.id ≢ t.id) c.tasks
   pub semaphore_ids : AllPairs (λ s t. s.id ≢ t.id) c.semaphores
   pub flag_ids : AllPairs (λ s t. s.id ≢ t.id) c.flags
   pub queue_ids : AllPairs (λ s t. s.id ≢ t.id) c.queues
+  pub spin_lock_ids : AllPairs (λ s t. s.id ≢ t.id) c.spin_locks
   pub handler_lines : AllPairs (λ s t. s.line ≢ t.line) c.handlers

@@ -13,13 +13,15 @@ use Rattle.brd_config.specs.declared.objects.TaskConfig.{TaskConfig}
 use Rattle.brd_config.specs.declared.objects.SemaphoreConfig.{SemaphoreConfig}
 use Rattle.brd_config.specs.declared.objects.FlagConfig.{FlagConfig}
 use Rattle.brd_config.specs.declared.objects.QueueConfig.{QueueConfig}
+use Rattle.brd_config.specs.declared.objects.SpinLockConfig.{SpinLockConfig}
 use Rattle.brd_config.specs.declared.objects.HandlerConfig.{HandlerConfig}
 use Rattle.brd_config.specs.declared.statement.Statement.{Statement}
-use Rattle.brd_config.specs.declared.statement.Statement.TheVariants.{Board, Class, ClassEnd, Task, Semaphore, Flag, Queue, Handler}
+use Rattle.brd_config.specs.declared.statement.Statement.TheVariants.{Board, Class, ClassEnd, Task, Semaphore, Flag, Queue, SpinLock, Handler}
 use Rattle.brd_config.specs.declared.statement.TaskStatement.{TaskStatement}
 use Rattle.brd_config.specs.declared.statement.SemaphoreStatement.{SemaphoreStatement}
 use Rattle.brd_config.specs.declared.statement.FlagStatement.{FlagStatement}
 use Rattle.brd_config.specs.declared.statement.QueueStatement.{QueueStatement}
+use Rattle.brd_config.specs.declared.statement.SpinLockStatement.{SpinLockStatement}
 use Rattle.brd_config.specs.declared.statement.HandlerStatement.{HandlerStatement}
 use Rattle.brd_config.specs.Reading.{attribute_of, class_of, operand_of, stack_of, is_area}
 use Rattle.brd_config.specs.Configuration.{Configuration, IsWithin, IsConfiguration}
@@ -76,6 +78,7 @@ form (Task t) = object (codes "CRE_TSK") t.id t.attributes (Value t.exinf ∷ Si
 form (Semaphore s) = object (codes "CRE_SEM") s.id s.attributes (Numeral s.initial ∷ Sign 44 ∷ Numeral s.maximum ∷ [])
 form (Flag f) = object (codes "CRE_FLG") f.id f.attributes (Numeral f.pattern ∷ [])
 form (Queue q) = object (codes "CRE_DTQ") q.id q.attributes (Numeral q.capacity ∷ Sign 44 ∷ Area ∷ [])
+form (SpinLock s) = Exactly (codes "CRE_SPN") ∷ Sign 40 ∷ Numeral s.id ∷ Sign 44 ∷ Sign 123 ∷ Attributes s.attributes ∷ Sign 125 ∷ Sign 41 ∷ Sign 59 ∷ []
 form (Handler h) = object (codes "DEF_INH") h.line h.attributes (Value h.address ∷ [])
 
 -- The bytes spell the statements, in their forms.
@@ -97,6 +100,9 @@ flag_said f = record { id = f.id; attributes = record { 0 = f.attributes }; patt
 abbrev pub queue_said : QueueStatement → QueueConfig
 queue_said q = record { id = q.id; attributes = record { 0 = q.attributes }; capacity = q.capacity }
 
+abbrev pub spin_lock_said : SpinLockStatement → SpinLockConfig
+spin_lock_said s = record { id = s.id }
+
 abbrev pub handler_said : ℕ → HandlerStatement → HandlerConfig
 handler_said processor h = record { line = h.line; processor = processor; address = h.address }
 
@@ -110,6 +116,7 @@ tasks_of class (Task t ∷ ss) = task_said (processor_of class) t ∷ tasks_of c
 tasks_of class (Semaphore s ∷ ss) = tasks_of class ss
 tasks_of class (Flag f ∷ ss) = tasks_of class ss
 tasks_of class (Queue q ∷ ss) = tasks_of class ss
+tasks_of class (SpinLock s ∷ ss) = tasks_of class ss
 tasks_of class (Handler h ∷ ss) = tasks_of class ss
 
 abbrev pub semaphores_of : List Statement → List SemaphoreConfig
@@ -121,6 +128,7 @@ semaphores_of (Task t ∷ ss) = semaphores_of ss
 semaphores_of (Semaphore s ∷ ss) = semaphore_said s ∷ semaphores_of ss
 semaphores_of (Flag f ∷ ss) = semaphores_of ss
 semaphores_of (Queue q ∷ ss) = semaphores_of ss
+semaphores_of (SpinLock s ∷ ss) = semaphores_of ss
 semaphores_of (Handler h ∷ ss) = semaphores_of ss
 
 abbrev pub flags_of : List Statement → List FlagConfig
@@ -132,6 +140,7 @@ flags_of (Task t ∷ ss) = flags_of ss
 flags_of (Semaphore s ∷ ss) = flags_of ss
 flags_of (Flag f ∷ ss) = flag_said f ∷ flags_of ss
 flags_of (Queue q ∷ ss) = flags_of ss
+flags_of (SpinLock s ∷ ss) = flags_of ss
 flags_of (Handler h ∷ ss) = flags_of ss
 
 abbrev pub queues_of : List Statement → List QueueConfig
@@ -143,7 +152,20 @@ queues_of (Task t ∷ ss) = queues_of ss
 queues_of (Semaphore s ∷ ss) = queues_of ss
 queues_of (Flag f ∷ ss) = queues_of ss
 queues_of (Queue q ∷ ss) = queue_said q ∷ queues_of ss
+queues_of (SpinLock s ∷ ss) = queues_of ss
 queues_of (Handler h ∷ ss) = queues_of ss
+
+abbrev pub spin_locks_of : List Statement → List SpinLockConfig
+spin_locks_of [] = []
+spin_locks_of (Board processors ram ∷ ss) = spin_locks_of ss
+spin_locks_of (Class n ∷ ss) = spin_locks_of ss
+spin_locks_of (ClassEnd ∷ ss) = spin_locks_of ss
+spin_locks_of (Task t ∷ ss) = spin_locks_of ss
+spin_locks_of (Semaphore s ∷ ss) = spin_locks_of ss
+spin_locks_of (Flag f ∷ ss) = spin_locks_of ss
+spin_locks_of (Queue q ∷ ss) = spin_locks_of ss
+spin_locks_of (SpinLock s ∷ ss) = spin_lock_said s ∷ spin_locks_of ss
+spin_locks_of (Handler h ∷ ss) = spin_locks_of ss
 
 abbrev pub handlers_of : Option ℕ → List Statement → List HandlerConfig
 handlers_of class [] = []
@@ -154,11 +176,12 @@ handlers_of class (Task t ∷ ss) = handlers_of class ss
 handlers_of class (Semaphore s ∷ ss) = handlers_of class ss
 handlers_of class (Flag f ∷ ss) = handlers_of class ss
 handlers_of class (Queue q ∷ ss) = handlers_of class ss
+handlers_of class (SpinLock s ∷ ss) = handlers_of class ss
 handlers_of class (Handler h ∷ ss) = handler_said (processor_of class) h ∷ handlers_of class ss
 
--- the configuration of a board and the statements behind it, whatever their values
+-- the configuration of a board and the statements after it, whatever their values
 abbrev pub said : ℕ → ℕ → List Statement → Configuration
-said processors ram ss = record { processors = processors; ram = ram; tasks = tasks_of None ss; semaphores = semaphores_of ss; flags = flags_of ss; queues = queues_of ss; handlers = handlers_of None ss }
+said processors ram ss = record { processors = processors; ram = ram; tasks = tasks_of None ss; semaphores = semaphores_of ss; flags = flags_of ss; queues = queues_of ss; spin_locks = spin_locks_of ss; handlers = handlers_of None ss }
 
 abbrev pub IsOutside : Option ℕ → Type 0
 IsOutside None = Unit {0}
@@ -168,8 +191,9 @@ abbrev pub IsInside : Option ℕ → Type 0
 IsInside None = ⊥
 IsInside (Some n) = Unit {0}
 
--- Statements behind BOARD, of which the first stands in this class: each class names a processor of the board and is
--- closed again, no class is in a class, BOARD does not come again, and a handler has no attribute bits but the lowest.
+-- Statements after BOARD, of which the first stands in this class: each class names a processor of the board and is
+-- closed again, no class is in a class, BOARD does not come again, a spin lock has no attribute bits, and a handler none
+-- but the lowest.
 -- (The other limits are those of the configuration.)
 abbrev pub AreNested : ℕ → Option ℕ → List Statement → Type 0
 AreNested processors class [] = IsOutside class
@@ -180,6 +204,7 @@ AreNested processors class (Task t ∷ ss) = AreNested processors class ss
 AreNested processors class (Semaphore s ∷ ss) = AreNested processors class ss
 AreNested processors class (Flag f ∷ ss) = AreNested processors class ss
 AreNested processors class (Queue q ∷ ss) = AreNested processors class ss
+AreNested processors class (SpinLock s ∷ ss) = (s.attributes ≡ 0) × AreNested processors class ss
 AreNested processors class (Handler h ∷ ss) = (h.attributes ≤ 1) × AreNested processors class ss
 
 -- Statements that are valid: well nested, and what they say is a configuration.

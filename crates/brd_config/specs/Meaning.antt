@@ -15,14 +15,16 @@ use Rattle.brd_config.specs.declared.objects.TaskConfig.{TaskConfig}
 use Rattle.brd_config.specs.declared.objects.SemaphoreConfig.{SemaphoreConfig}
 use Rattle.brd_config.specs.declared.objects.FlagConfig.{FlagConfig}
 use Rattle.brd_config.specs.declared.objects.QueueConfig.{QueueConfig}
+use Rattle.brd_config.specs.declared.objects.SpinLockConfig.{SpinLockConfig}
 use Rattle.brd_config.specs.declared.objects.HandlerConfig.{HandlerConfig}
 use Rattle.brd_config.specs.declared.statement.TaskStatement.{TaskStatement}
 use Rattle.brd_config.specs.declared.statement.SemaphoreStatement.{SemaphoreStatement}
 use Rattle.brd_config.specs.declared.statement.FlagStatement.{FlagStatement}
 use Rattle.brd_config.specs.declared.statement.QueueStatement.{QueueStatement}
+use Rattle.brd_config.specs.declared.statement.SpinLockStatement.{SpinLockStatement}
 use Rattle.brd_config.specs.declared.statement.HandlerStatement.{HandlerStatement}
 use Rattle.brd_config.specs.declared.statement.Statement.{Statement}
-use Rattle.brd_config.specs.declared.statement.Statement.TheVariants.{Board, Class, ClassEnd, Task, Semaphore, Flag, Queue, Handler}
+use Rattle.brd_config.specs.declared.statement.Statement.TheVariants.{Board, Class, ClassEnd, Task, Semaphore, Flag, Queue, SpinLock, Handler}
 use Rattle.brd_config.specs.Statements.{board_at, statement_at}
 use Rattle.brd_config.specs.Configuration.{Configuration}
 
@@ -95,6 +97,14 @@ queue_of line queues q = do
   capacity ← within 0 256 (BadCount line) q.capacity
   Ok (record { id = id; attributes = record { 0 = attributes }; capacity = capacity })
 
+-- A spin lock has no attributes.
+unfoldable pub spin_lock_of : ℕ → List SpinLockConfig → SpinLockStatement → Result SpinLockConfig ConfigFault
+spin_lock_of line spin_locks s = do
+  id ← within 1 255 (BadId line) s.id
+  new ← refused (list_any (λ other. other.id == s.id) spin_locks) (Duplicate line)
+  attributes ← only_bits 0 (BadAttribute line) s.attributes
+  Ok (record { id = id })
+
 -- A handler on this processor. Lines are the board's, so each has one handler.
 unfoldable pub handler_of : ℕ → List HandlerConfig → ℕ → HandlerStatement → Result HandlerConfig ConfigFault
 handler_of line handlers processor h = do
@@ -108,7 +118,7 @@ unfoldable pub board_of : ℕ → ℕ → ℕ → Result Configuration ConfigFau
 board_of line processors ram = do
   count ← within 1 8 (BadProcessor line) processors
   sized ← refused (not (is_ram_size ram)) (BadCount line)
-  Ok (record { processors = count; ram = ram; tasks = []; semaphores = []; flags = []; queues = []; handlers = [] })
+  Ok (record { processors = count; ram = ram; tasks = []; semaphores = []; flags = []; queues = []; spin_locks = []; handlers = [] })
 
 -- What one more statement, which begins on this line, adds.
 unfoldable pub added : ℕ → State → Statement → Result State ConfigFault
@@ -131,6 +141,9 @@ added line s (Flag x) = do
 added line s (Queue x) = do
   queue ← queue_of line s.config.queues x
   Ok (record s { config = record s.config { queues = s.config.queues ++ queue ∷ [] } })
+added line s (SpinLock x) = do
+  spin_lock ← spin_lock_of line s.config.spin_locks x
+  Ok (record s { config = record s.config { spin_locks = s.config.spin_locks ++ spin_lock ∷ [] } })
 added line s (Handler x) = do
   handler ← handler_of line s.config.handlers (processor_of s.class) x
   Ok (record s { config = record s.config { handlers = s.config.handlers ++ handler ∷ [] } })
@@ -164,7 +177,7 @@ is_board (Mark b) = false
 is_board Unclosed = false
 is_board End = false
 
--- BOARD(processors, ram); behind its first token, which stands on this line
+-- BOARD(processors, ram); after its first token, which stands on this line
 unfoldable pub first_board : ℕ → Text → Result (State × Text) ConfigFault
 first_board line t = do
   board ← board_at t

@@ -25,6 +25,7 @@ named_in (row ∷ rows) name = if bytes_eq name row.0 then Some row.1 else named
 -- the attribute names of the uITRON 4.0 specification, each with its bits
 abbrev pub attribute_names : List (List ℕ × ℕ)
 attribute_names =
+    (codes "TA_NULL", 0) ∷
     (codes "TA_HLNG", 0) ∷
     (codes "TA_ASM", 1) ∷
     (codes "TA_ACT", 2) ∷
@@ -80,7 +81,7 @@ expect_mark mark (Mark b) line rest = if b == mark then Ok rest else Err (Syntax
 expect_mark mark Unclosed line rest = Err (Syntax line)
 expect_mark mark End line rest = Err (Syntax line)
 
--- this mark, and the text behind it
+-- this mark, and the text after it
 unfoldable pub mark_at : ℕ → Text → Result Text ConfigFault
 mark_at mark t = expect_mark mark (first t).token (first t).line (others t)
 
@@ -96,7 +97,7 @@ expect_joint end (Mark b) line rest = if b == 124 then Ok (true, rest) else (if 
 expect_joint end Unclosed line rest = Err (Syntax line)
 expect_joint end End line rest = Err (Syntax line)
 
--- a bar, behind which another attribute stands, or the mark that ends attributes
+-- a bar, after which another attribute stands, or the mark that ends attributes
 unfoldable pub joint_at : ℕ → Text → Result (Bool × Text) ConfigFault
 joint_at end t = expect_joint end (first t).token (first t).line (others t)
 
@@ -145,27 +146,28 @@ class_number_at t = do
 
 -- ---- the parts that statements share
 
--- a number and the comma behind it
+-- a number and the comma after it
 unfoldable pub listed_number_at : Text → Result (ℕ × Text) ConfigFault
 listed_number_at t = do
   n ← number_at t
   listed ← mark_at 44 n.1
   Ok (n.0, listed)
 
--- an operand and the comma behind it
+-- an operand and the comma after it
 unfoldable pub listed_operand_at : Text → Result (Operand × Text) ConfigFault
 listed_operand_at t = do
   operand ← operand_at t
   listed ← mark_at 44 operand.1
   Ok (operand.0, listed)
 
--- `( id , { attributes ,`: the ID and the attributes
-unfoldable pub head_at : Text → Result (ℕ × ℕ × Text) ConfigFault
-head_at t = do
+-- `( id , { attributes` and the mark that ends them, a comma, or the brace where nothing follows: the ID and the
+-- attributes
+unfoldable pub head_at : ℕ → Text → Result (ℕ × ℕ × Text) ConfigFault
+head_at end t = do
   opened ← mark_at 40 t
   id ← listed_number_at opened
   inner ← mark_at 123 id.1
-  attributes ← attributes_at 44 inner
+  attributes ← attributes_at end inner
   Ok (id.0, attributes.0, attributes.1)
 
 -- `} ) ;`

@@ -1,5 +1,5 @@
 -- Statements at the front of a text. Their forms are those of the static API of the uITRON 4.0 specification, with
--- CLASS as in the kernel configuration of TOPPERS/FMP; BOARD is of this product.
+-- CLASS and CRE_SPN as in the kernel configuration of TOPPERS/FMP; BOARD is of this product.
 use Rattle.std.specs.Prelude.{ℕ, Bool, ◌&&◌, List, [], ◌∷◌, ◌==◌, if◌then◌else◌, Option, Result, Ok, Err, codes}
 use Rattle.brd_text.specs.Tokens.{Token, Text, first, others}
 use Rattle.brd_text.specs.Tokens.Token.{Run, Mark, Unclosed, End}
@@ -9,7 +9,7 @@ use Rattle.brd_config.specs.declared.fault.ConfigFault.TheVariants.{Syntax}
 use Rattle.brd_config.specs.declared.statement.Keyword.{Keyword}
 use Rattle.brd_config.specs.declared.statement.Keyword.TheVariants as keywords
 use Rattle.brd_config.specs.declared.statement.Statement.{Statement}
-use Rattle.brd_config.specs.declared.statement.Statement.TheVariants.{Board, Class, ClassEnd, Task, Semaphore, Flag, Queue, Handler}
+use Rattle.brd_config.specs.declared.statement.Statement.TheVariants.{Board, Class, ClassEnd, Task, Semaphore, Flag, Queue, SpinLock, Handler}
 use Rattle.brd_config.specs.declared.objects.Stack.{Stack}
 use Rattle.brd_config.specs.Reading.{named_in, number_at, listed_number_at, listed_operand_at, mark_at, operand_at, stack_at, area_at, class_number_at, head_at, tail_at}
 
@@ -21,6 +21,7 @@ keyword_names =
     (codes "CRE_SEM", keywords.Semaphore) ∷
     (codes "CRE_FLG", keywords.Flag) ∷
     (codes "CRE_DTQ", keywords.Queue) ∷
+    (codes "CRE_SPN", keywords.SpinLock) ∷
     (codes "DEF_INH", keywords.Handler) ∷ []
 
 unfoldable pub keyword_of : List ℕ → Option Keyword
@@ -57,7 +58,7 @@ task_tail_at t = do
 -- CRE_TSK(tskid, {tskatr, exinf, task, itskpri, stksz, stk});
 unfoldable pub task_at : Text → Result (Statement × Text) ConfigFault
 task_at t = do
-  head ← head_at t
+  head ← head_at 44 t
   exinf ← listed_operand_at head.2
   address ← listed_operand_at exinf.1
   rest ← task_tail_at address.1
@@ -66,7 +67,7 @@ task_at t = do
 -- CRE_SEM(semid, {sematr, isemcnt, maxsem});
 unfoldable pub semaphore_at : Text → Result (Statement × Text) ConfigFault
 semaphore_at t = do
-  head ← head_at t
+  head ← head_at 44 t
   initial ← listed_number_at head.2
   maximum ← number_at initial.1
   ended ← tail_at maximum.1
@@ -75,7 +76,7 @@ semaphore_at t = do
 -- CRE_FLG(flgid, {flgatr, iflgptn});
 unfoldable pub flag_at : Text → Result (Statement × Text) ConfigFault
 flag_at t = do
-  head ← head_at t
+  head ← head_at 44 t
   pattern ← number_at head.2
   ended ← tail_at pattern.1
   Ok (Flag (record { id = head.0; attributes = head.1; pattern = pattern.0 }), ended)
@@ -83,16 +84,24 @@ flag_at t = do
 -- CRE_DTQ(dtqid, {dtqatr, dtqcnt, dtq});
 unfoldable pub queue_at : Text → Result (Statement × Text) ConfigFault
 queue_at t = do
-  head ← head_at t
+  head ← head_at 44 t
   capacity ← listed_number_at head.2
   area ← area_at capacity.1
   ended ← tail_at area
   Ok (Queue (record { id = head.0; attributes = head.1; capacity = capacity.0 }), ended)
 
+-- CRE_SPN(spnid, {spnatr});
+unfoldable pub spin_lock_at : Text → Result (Statement × Text) ConfigFault
+spin_lock_at t = do
+  head ← head_at 125 t
+  closed ← mark_at 41 head.2
+  ended ← mark_at 59 closed
+  Ok (SpinLock (record { id = head.0; attributes = head.1 }), ended)
+
 -- DEF_INH(inhno, {inhatr, inthdr});
 unfoldable pub handler_at : Text → Result (Statement × Text) ConfigFault
 handler_at t = do
-  head ← head_at t
+  head ← head_at 44 t
   address ← operand_at head.2
   ended ← tail_at address.1
   Ok (Handler (record { line = head.0; attributes = head.1; address = address.0 }), ended)
@@ -107,6 +116,7 @@ behind_keyword in_class line keywords.Task t = task_at t
 behind_keyword in_class line keywords.Semaphore t = semaphore_at t
 behind_keyword in_class line keywords.Flag t = flag_at t
 behind_keyword in_class line keywords.Queue t = queue_at t
+behind_keyword in_class line keywords.SpinLock t = spin_lock_at t
 behind_keyword in_class line keywords.Handler t = handler_at t
 
 -- What the first token of a statement begins, before rest. A closing brace ends a class.

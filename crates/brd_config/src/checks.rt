@@ -7,9 +7,12 @@ ghost use Rattle.brd_config.specs.Meaning as meaning;
 
 use crate::attributes::{FlagAttributes, QueueAttributes, SemaphoreAttributes, TaskAttributes};
 use crate::fault::ConfigFault;
-use crate::objects::{FlagConfig, HandlerConfig, QueueConfig, SemaphoreConfig, TaskConfig};
+use crate::objects::{
+    FlagConfig, HandlerConfig, QueueConfig, SemaphoreConfig, SpinLockConfig, TaskConfig,
+};
 use crate::statement::{
-    FlagStatement, HandlerStatement, QueueStatement, SemaphoreStatement, TaskStatement,
+    FlagStatement, HandlerStatement, QueueStatement, SemaphoreStatement, SpinLockStatement,
+    TaskStatement,
 };
 use bitflags::Flags;
 
@@ -68,6 +71,13 @@ fn has_queue(queues: &[QueueConfig], id: u32) -> bool
     ensures { result ≡ list_any (λ other. other.id == id) queues.now }
 {
     queues.iter().any(|other| other.id as u32 == id)
+}
+
+/// Whether one of the spin locks has this ID.
+fn has_spin_lock(spin_locks: &[SpinLockConfig], id: u32) -> bool
+    ensures { result ≡ list_any (λ other. other.id == id) spin_locks.now }
+{
+    spin_locks.iter().any(|other| other.id as u32 == id)
 }
 
 /// Whether one of the handlers has this line.
@@ -192,6 +202,23 @@ pub(crate) fn queue(
         attributes: QueueAttributes::from_bits_retain(attributes),
         capacity: capacity as u16,
     })
+}
+
+/// The spin lock of a statement that begins on this line, next to the spin locks that are defined.
+#[tactic(auto, unfolding(crate::specs::Meaning::spin_lock_of))]
+pub(crate) fn spin_lock(
+    line: usize,
+    spin_locks: &[SpinLockConfig],
+    statement: SpinLockStatement,
+) -> Result<SpinLockConfig, ConfigFault>
+    ensures { Gives (λ s. s) result (meaning.spin_lock_of line spin_locks.now statement) }
+{
+    let id = within(statement.id, 1, 255, ConfigFault::BadId { line })?;
+    if has_spin_lock(spin_locks, statement.id) {
+        return Err(ConfigFault::Duplicate { line });
+    }
+    only_bits(statement.attributes, 0, ConfigFault::BadAttribute { line })?;
+    Ok(SpinLockConfig { id: id as u8 })
 }
 
 /// The handler of a statement that begins on this line, on this processor, next to the handlers that are defined.

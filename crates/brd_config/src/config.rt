@@ -2,7 +2,9 @@
 
 ghost use Rattle.brd_config.specs.Configuration.{IsConfiguration};
 
-use crate::objects::{FlagConfig, HandlerConfig, QueueConfig, SemaphoreConfig, TaskConfig};
+use crate::objects::{
+    FlagConfig, HandlerConfig, QueueConfig, SemaphoreConfig, SpinLockConfig, TaskConfig,
+};
 use brd_base::List;
 
 /// What a configuration text says. Each value is within its limits, and IDs of one kind are distinct, as `valid` says.
@@ -16,8 +18,9 @@ pub struct Config {
     pub semaphores: List<SemaphoreConfig>,
     pub flags: List<FlagConfig>,
     pub queues: List<QueueConfig>,
+    pub spin_locks: List<SpinLockConfig>,
     pub handlers: List<HandlerConfig>,
-    ghost valid: { IsConfiguration (record { processors = processors; ram = ram; tasks = tasks; semaphores = semaphores; flags = flags; queues = queues; handlers = handlers }) },
+    ghost valid: { IsConfiguration (record { processors = processors; ram = ram; tasks = tasks; semaphores = semaphores; flags = flags; queues = queues; spin_locks = spin_locks; handlers = handlers }) },
 }
 
 /// Written out, so that a function that lets one go is proved with a call, and not with the end of each part.
@@ -30,6 +33,7 @@ impl Drop for Config {
             semaphores: _,
             flags: _,
             queues: _,
+            spin_locks: _,
             handlers: _,
         } = self;
     }

@@ -22,7 +22,7 @@ pub enum ConfigFault {
     #[error("line {line}: found an ID or a line out of range, expected an ID 1 to 255, a line 0 to 31")]
     BadId { line: usize },
     /// An attribute has a bit that is none of the statement's.
-    #[error("line {line}: found an attribute that the object does not have, expected bits of CRE_TSK 3, CRE_FLG 7, others 1")]
+    #[error("line {line}: found an attribute that the object does not have, expected bits of CRE_TSK 3, CRE_FLG 7, CRE_SPN 0, others 1")]
     BadAttribute { line: usize },
     /// A priority is out of range.
     #[error("line {line}: found a priority out of range, expected 1 to 16")]

@@ -18,6 +18,7 @@ pub use brd_base::List;
 pub use config::Config;
 pub use fault::ConfigFault;
 pub use objects::{
-    FlagConfig, HandlerConfig, Operand, QueueConfig, SemaphoreConfig, Stack, TaskConfig,
+    FlagConfig, HandlerConfig, Operand, QueueConfig, SemaphoreConfig, SpinLockConfig, Stack,
+    TaskConfig,
 };
 pub use parser::parse;

@@ -70,6 +70,13 @@ pub struct QueueConfig {
     pub capacity: u16,
 }
 
+/// A spin lock, as `CRE_SPN` says it.
+#[derive(Drop)]
+pub struct SpinLockConfig {
+    /// 1 to 255.
+    pub id: u8,
+}
+
 /// An interrupt handler, as `DEF_INH` says it.
 #[derive(Drop)]
 pub struct HandlerConfig {

@@ -35,6 +35,7 @@ fn begun(alloc: Global, line: usize, processors: u32, ram: u32) -> Result<Draft,
         semaphores: List::new(alloc),
         flags: List::new(alloc),
         queues: List::new(alloc),
+        spin_locks: List::new(alloc),
         handlers: List::new(alloc),
         class: None,
     })
@@ -72,6 +73,10 @@ fn add(draft: &mut Draft, line: usize, statement: Statement) -> Result<(), Confi
         Statement::Queue(queue) => {
             let queue = checks::queue(line, draft.queues.as_slice(), queue)?;
             draft.queues.push(queue)?;
+        }
+        Statement::SpinLock(spin_lock) => {
+            let spin_lock = checks::spin_lock(line, draft.spin_locks.as_slice(), spin_lock)?;
+            draft.spin_locks.push(spin_lock)?;
         }
         Statement::Handler(handler) => {
             let processor = draft.class.unwrap_or(1);
@@ -155,6 +160,7 @@ fn whole(draft: Draft) -> Config
         semaphores: draft.semaphores,
         flags: draft.flags,
         queues: draft.queues,
+        spin_locks: draft.spin_locks,
         handlers: draft.handlers,
     }
 }

@@ -14,6 +14,7 @@ use std::alloc::Global;
 
 /// The bits of each attribute's name.
 const ATTRIBUTES: &[(&[u8], u32)] = &[
+    (b"TA_NULL", 0),
     (b"TA_HLNG", 0),
     (b"TA_ASM", 1),
     (b"TA_ACT", 2),
@@ -139,7 +140,7 @@ fn attribute(tokens: &mut Scanner) -> Result<u32, ConfigFault>
     }
 }
 
-/// Takes a bar, behind which another attribute stands, or the mark that ends attributes; says whether it is a bar.
+/// Takes a bar, after which another attribute stands, or the mark that ends attributes; says whether it is a bar.
 #[tactic(auto, unfolding(crate::specs::Reading::joint_at))]
 fn joint(tokens: &mut Scanner, end: u8) -> Result<bool, ConfigFault>
     ensures read { Gives (λ more. (more, tokens.new)) result (reads.joint_at end tokens.old) }
@@ -246,7 +247,7 @@ pub(crate) fn class_number(tokens: &mut Scanner) -> Result<u32, ConfigFault>
     }
 }
 
-/// Takes a number and the comma behind it.
+/// Takes a number and the comma after it.
 #[tactic(auto, unfolding(crate::specs::Reading::listed_number_at))]
 pub(crate) fn listed_number(tokens: &mut Scanner) -> Result<u32, ConfigFault>
     ensures read { Gives (λ n. (n, tokens.new)) result (reads.listed_number_at tokens.old) }
@@ -257,7 +258,7 @@ pub(crate) fn listed_number(tokens: &mut Scanner) -> Result<u32, ConfigFault>
     Ok(number)
 }
 
-/// Takes an operand and the comma behind it.
+/// Takes an operand and the comma after it.
 #[tactic(auto, unfolding(crate::specs::Reading::listed_operand_at))]
 pub(crate) fn listed_operand(alloc: Global, tokens: &mut Scanner) -> Result<Operand, ConfigFault>
     ensures read { Gives (λ o. (o, tokens.new)) result (reads.listed_operand_at tokens.old) }
@@ -268,16 +269,16 @@ pub(crate) fn listed_operand(alloc: Global, tokens: &mut Scanner) -> Result<Oper
     Ok(operand)
 }
 
-/// Takes `( id , { attributes ,`: the ID and the attributes.
+/// Takes `( id , { attributes` and the mark that ends them: the ID and the attributes.
 #[tactic(auto, unfolding(crate::specs::Reading::head_at))]
-pub(crate) fn head(tokens: &mut Scanner) -> Result<(u32, u32), ConfigFault>
-    ensures read { Gives (λ x. (x.0, x.1, tokens.new)) result (reads.head_at tokens.old) }
+pub(crate) fn head(tokens: &mut Scanner, end: u8) -> Result<(u32, u32), ConfigFault>
+    ensures read { Gives (λ x. (x.0, x.1, tokens.new)) result (reads.head_at end tokens.old) }
     ensures shorter { OnOk result (length tokens.new.tokens < length tokens.old.tokens) }
 {
     mark(tokens, b'(')?;
     let id = listed_number(tokens)?;
     mark(tokens, b'{')?;
-    let attributes = attributes(tokens, b',')?;
+    let attributes = attributes(tokens, end)?;
     Ok((id, attributes))
 }
 

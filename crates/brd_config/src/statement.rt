@@ -14,6 +14,7 @@ pub(crate) enum Statement {
     Semaphore(SemaphoreStatement),
     Flag(FlagStatement),
     Queue(QueueStatement),
+    SpinLock(SpinLockStatement),
     Handler(HandlerStatement),
 }
 
@@ -54,6 +55,13 @@ pub(crate) struct QueueStatement {
     pub(crate) capacity: u32,
 }
 
+/// `CRE_SPN(id, {attributes});`
+#[derive(Drop)]
+pub(crate) struct SpinLockStatement {
+    pub(crate) id: u32,
+    pub(crate) attributes: u32,
+}
+
 /// `DEF_INH(line, {attributes, address});`
 #[derive(Drop)]
 pub(crate) struct HandlerStatement {
@@ -71,5 +79,6 @@ pub(crate) enum Keyword {
     Semaphore,
     Flag,
     Queue,
+    SpinLock,
     Handler,
 }

@@ -12,8 +12,8 @@ use crate::reading::{
     tail,
 };
 use crate::statement::{
-    FlagStatement, HandlerStatement, Keyword, QueueStatement, SemaphoreStatement, Statement,
-    TaskStatement,
+    FlagStatement, HandlerStatement, Keyword, QueueStatement, SemaphoreStatement,
+    SpinLockStatement, Statement, TaskStatement,
 };
 use brd_text::{Scanner, Token};
 use std::alloc::Global;
@@ -26,6 +26,7 @@ const KEYWORDS: &[(&[u8], Keyword)] = &[
     (b"CRE_SEM", Keyword::Semaphore),
     (b"CRE_FLG", Keyword::Flag),
     (b"CRE_DTQ", Keyword::Queue),
+    (b"CRE_SPN", Keyword::SpinLock),
     (b"DEF_INH", Keyword::Handler),
 ];
 
@@ -83,7 +84,7 @@ fn task(alloc: Global, tokens: &mut Scanner) -> Result<Statement, ConfigFault>
     ensures read { Gives (λ s. (s, tokens.new)) result (statements.task_at tokens.old) }
     ensures shorter { OnOk result (length tokens.new.tokens < length tokens.old.tokens) }
 {
-    let (id, attributes) = head(tokens)?;
+    let (id, attributes) = head(tokens, b',')?;
     let exinf = listed_operand(alloc, tokens)?;
     let address = listed_operand(alloc, tokens)?;
     let (priority, stack_size, stack) = task_tail(alloc, tokens)?;
@@ -104,7 +105,7 @@ fn semaphore(tokens: &mut Scanner) -> Result<Statement, ConfigFault>
     ensures read { Gives (λ s. (s, tokens.new)) result (statements.semaphore_at tokens.old) }
     ensures shorter { OnOk result (length tokens.new.tokens < length tokens.old.tokens) }
 {
-    let (id, attributes) = head(tokens)?;
+    let (id, attributes) = head(tokens, b',')?;
     let initial = listed_number(tokens)?;
     let maximum = number(tokens)?;
     tail(tokens)?;
@@ -122,7 +123,7 @@ fn flag(tokens: &mut Scanner) -> Result<Statement, ConfigFault>
     ensures read { Gives (λ s. (s, tokens.new)) result (statements.flag_at tokens.old) }
     ensures shorter { OnOk result (length tokens.new.tokens < length tokens.old.tokens) }
 {
-    let (id, attributes) = head(tokens)?;
+    let (id, attributes) = head(tokens, b',')?;
     let pattern = number(tokens)?;
     tail(tokens)?;
     Ok(Statement::Flag(FlagStatement {
@@ -138,7 +139,7 @@ fn queue(tokens: &mut Scanner) -> Result<Statement, ConfigFault>
     ensures read { Gives (λ s. (s, tokens.new)) result (statements.queue_at tokens.old) }
     ensures shorter { OnOk result (length tokens.new.tokens < length tokens.old.tokens) }
 {
-    let (id, attributes) = head(tokens)?;
+    let (id, attributes) = head(tokens, b',')?;
     let capacity = listed_number(tokens)?;
     area(tokens)?;
     tail(tokens)?;
@@ -149,13 +150,25 @@ fn queue(tokens: &mut Scanner) -> Result<Statement, ConfigFault>
     }))
 }
 
+/// Takes what follows `CRE_SPN`.
+#[tactic(auto, unfolding(crate::specs::Statements::spin_lock_at))]
+fn spin_lock(tokens: &mut Scanner) -> Result<Statement, ConfigFault>
+    ensures read { Gives (λ s. (s, tokens.new)) result (statements.spin_lock_at tokens.old) }
+    ensures shorter { OnOk result (length tokens.new.tokens < length tokens.old.tokens) }
+{
+    let (id, attributes) = head(tokens, b'}')?;
+    mark(tokens, b')')?;
+    mark(tokens, b';')?;
+    Ok(Statement::SpinLock(SpinLockStatement { id, attributes }))
+}
+
 /// Takes what follows `DEF_INH`.
 #[tactic(auto, unfolding(crate::specs::Statements::handler_at))]
 fn handler(alloc: Global, tokens: &mut Scanner) -> Result<Statement, ConfigFault>
     ensures read { Gives (λ s. (s, tokens.new)) result (statements.handler_at tokens.old) }
     ensures shorter { OnOk result (length tokens.new.tokens < length tokens.old.tokens) }
 {
-    let (line, attributes) = head(tokens)?;
+    let (line, attributes) = head(tokens, b',')?;
     let address = operand(alloc, tokens)?;
     tail(tokens)?;
     Ok(Statement::Handler(HandlerStatement {
@@ -192,6 +205,7 @@ fn behind_keyword(
         Keyword::Semaphore => semaphore(tokens),
         Keyword::Flag => flag(tokens),
         Keyword::Queue => queue(tokens),
+        Keyword::SpinLock => spin_lock(tokens),
         Keyword::Handler => handler(alloc, tokens),
     }
 }

@@ -22,7 +22,7 @@ size-played boot events p is = ap (λ (b : BoardState). size_of b.memory) is.boa
 pub order-played : (boot : BoardState) (events : List Event) (p : Playback) → IsPlayed boot events p → p.board.memory.order ≡ boot.memory.order
 order-played boot events p is = ap (λ (b : BoardState). b.memory.order) is.board ∙ order-after boot (take p.at events)
 
--- a multiple behind 0
+-- a multiple after 0
 pub least-multiple : (n at : ℕ) → at % n ≡ 0 → 0 < at → n ≤ at
 least-multiple n at multiple some = elim (cases_lt at n) [
   | inl lt ↦ absurd (omega (arith, mod-eq_of_lt lt, multiple, some))

@@ -29,7 +29,7 @@ greatest-more Stop from to (Some n) is here = (
   ],
 )
 
--- two ranges, one behind the other
+-- two ranges, one after the other
 
 pub none-both : (Stop : ℕ → Type 0) (from mid to : ℕ) → NoneFrom Stop from mid → NoneFrom Stop mid to → NoneFrom Stop from to
 none-both Stop from mid to front behind m above below stop = elim (cases_lt m mid) [

@@ -8,12 +8,12 @@ use Rattle.brd_debug.specs.declared.snapshots.Kept.{Kept}
 use Rattle.brd_debug.specs.Playing.{IsStill}
 use Rattle.brd_debug.specs.Stops.{board_at}
 
--- a board has played the first so many events
+-- a board has played the first n events
 pub record IsPlayed (boot : BoardState) (events : List Event) (playback : Playback) : Type 0 where
   pub board : playback.board ≡ board_at boot events playback.at
   pub within : playback.at ≤ length events
 
--- a snapshot is that of the board after the first so many events
+-- a snapshot is that of the board after the first n events
 pub record IsKept (boot : BoardState) (events : List Event) (kept : Kept) : Type 0 where
   pub fits : Fits boot kept.snapshot
   pub board : restored boot kept.snapshot ≡ board_at boot events kept.at
@@ -57,7 +57,7 @@ first_interval = 4096
 abbrev pub most_kept : ℕ
 most_kept = 1024
 
--- A snapshot is taken at a multiple of the interval behind all others. Where there would be more than 1,024, the
+-- A snapshot is taken at a multiple of the interval after all others. Where there would be more than 1,024, the
 -- interval doubles instead, and those that are no multiples of it any more are given up (own choice). Where none was
 -- left out, kept are then the first 1,024 multiples, so the one that there is no room for is the next one, and no
 -- multiple of the doubled interval.
@@ -72,7 +72,7 @@ noted plan at =
 abbrev pub next_multiple : ℕ → ℕ → ℕ
 next_multiple interval at = at - at % interval + interval
 
--- What becomes of the plan while a board plays so many events from a position on: a snapshot is noted at each position
+-- What becomes of the plan while a board plays n events from a position on: a snapshot is noted at each position
 -- that is left. It may be left out where the event of the position does nothing.
 abbrev pub IsNoted : BoardState → List Event → Plan → ℕ → ℕ → Plan → Type 0
 IsNoted boot events plan at zero new = new ≡ plan

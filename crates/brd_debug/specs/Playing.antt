@@ -6,7 +6,7 @@ use Rattle.brd_journal.specs.declared.run.Run.{Run}
 use Rattle.brd_journal.specs.Runs.{copies}
 use Rattle.brd_debug.specs.Stops.{board_at}
 
--- from a position on the event of a run comes at least so often
+-- from a position on the event of a run comes at least n times
 abbrev pub IsLeft : List Event → ℕ → Run → Type 0
 IsLeft events at rest = drop at events ≡ copies rest.event rest.count ++ drop (at + rest.count) events
 

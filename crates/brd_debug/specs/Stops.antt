@@ -30,11 +30,11 @@ Differs watches before behind = (address : ℕ) × Contains watches address × (
 abbrev pub StopsAt : Stops → BoardState → Event → Type 0
 StopsAt stops board event = IsBreak stops.breaks (happens board event).report ⊎ Differs stops.watches board.memory (happens board event).board.memory
 
--- The board after the first so many events.
+-- The board after the first n events.
 abbrev pub board_at : BoardState → List Event → ℕ → BoardState
 board_at boot events position = after boot (take position events)
 
--- A position is a stop where the event behind it is one.
+-- A position is a stop where the event after it is one.
 pub record IsStop (stops : Stops) (boot : BoardState) (events : List Event) (position : ℕ) : Type 0 where
   pub event : Event
   pub there : slice_get events position ≡ Some event

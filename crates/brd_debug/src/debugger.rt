@@ -18,7 +18,7 @@ use brd_journal::Journal;
 use std::alloc::Global;
 use std::marker::Model;
 
-/// A debugger: shows the board after so many events of a journal, and finds the events at which it stops.
+/// A debugger: shows the board after n events of a journal, and finds the events at which it stops.
 pub struct Debugger {
     boot: Board,
     journal: Journal,
@@ -101,7 +101,7 @@ impl Debugger {
         self.stops.watches.add(address)
     }
 
-    /// Goes to a position: shows the board after so many events. An `Err` leaves it where it is.
+    /// Goes to a position: shows the board after n events. An `Err` leaves it where it is.
     pub fn goto(&mut self, position: u64) -> Result<(), DebugFault>
         ensures goes { Goes self.old position result }
         ensures ok { OnOk result (self.new ≡ record self.old { position = position }) }
@@ -115,7 +115,7 @@ impl Debugger {
         Ok(())
     }
 
-    /// Goes to the first stop behind its position, and answers that. None, and no move, where there is none. An `Err`
+    /// Goes to the first stop after its position, and answers that. None, and no move, where there is none. An `Err`
     /// leaves it where it is.
     pub fn next_stop(&mut self) -> Result<Option<u64>, NoMemory>
         ensures least { IfOk result (IsLeast (IsStop self.old.stops self.old.boot self.old.events) (self.old.position + 1) (length self.old.events)) }
@@ -155,7 +155,7 @@ impl Debugger {
         Ok(found)
     }
 
-    /// Shows the board after so many events. It goes on or back in place where no snapshot may be due on the way.
+    /// Shows the board after n events. It goes on or back in place where no snapshot may be due on the way.
     fn show_at(&mut self, position: u64) -> Result<(), NoMemory>
         requires { position ≤ length self.old.events }
         ensures ok { OnOk result (self.new ≡ record self.old { position = position }) }

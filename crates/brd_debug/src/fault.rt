@@ -12,7 +12,7 @@ pub enum DebugFault {
     /// Memory ran out.
     #[error("out of memory")]
     NoMemory,
-    /// There aren't so many events.
+    /// There are fewer events.
     #[error("the journal has {len} events")]
     Past {
         /// How many there are.

@@ -143,7 +143,7 @@ fn reach(event: Event, report: Report, end: u64, to: u64) -> u64
     if does_no_more(event, report) { to } else { end }
 }
 
-/// Takes at most so many events off what is left of a run, where the run is over. Answers how many.
+/// Takes at most n events off what is left of a run, where the run is over. Answers how many.
 fn skipped(rest: &mut Run, over: bool, most: u64) -> u64
     ensures none { over ≡ false → result ≡ 0 }
     ensures few { (result ≤ most) × (result ≤ rest.old.count) }

@@ -87,9 +87,9 @@ pub(crate) fn play_near(
     Ok(())
 }
 
-/// Lets the board that is shown go back in place: to the last snapshot at or before a position, or to the boot, and from
-/// there on to the position. It takes no snapshots, so it is for positions up to the next multiple of the interval. An
-/// `Err` leaves it as it is.
+/// Lets the board that is shown go back in place: to the last snapshot at or before a position, or to the boot, and
+/// from there on to the position. It takes no snapshots, so it is for positions up to the next multiple of the
+/// interval. An `Err` leaves it as it is.
 pub(crate) fn go_back(
     boot: &Board,
     journal: &Journal,
@@ -186,8 +186,8 @@ pub(crate) fn stop_before(
     Ok(None)
 }
 
-/// A board to play on from to a position: that of the last snapshot at or before it, the boot, or the one that is shown,
-/// whichever is nearest.
+/// A board to play on from to a position: that of the last snapshot at or before it, the boot, or the one that is
+/// shown, whichever is nearest.
 fn nearest(
     boot: &Board,
     snapshots: &Snapshots,

@@ -19,7 +19,7 @@ const FIRST_INTERVAL: u64 = 4_096;
 /// How many snapshots are kept at most (own choice).
 const MOST_KEPT: usize = 1_024;
 
-/// The snapshot of the board after so many events.
+/// The snapshot of the board after n events.
 #[derive(Drop)]
 pub struct Kept {
     /// How many events.
@@ -106,7 +106,7 @@ impl Snapshots {
         }
     }
 
-    /// Takes a snapshot of a board that has played up to a multiple of the interval, behind all that are kept. Where
+    /// Takes a snapshot of a board that has played up to a multiple of the interval, after all that are kept. Where
     /// there would be more than 1,024, the interval doubles instead, and those that are no multiples of it are given
     /// up.
     pub fn note(&mut self, boot: &Board, playback: &Playback) -> Result<(), NoMemory>

@@ -17,7 +17,7 @@ use Rattle.brd_elf.proofs.LoadedLemmas.{lies_in-push}
 use Rattle.brd_elf.proofs.BodyLemmas.{length-program_header}
 use Rattle.brd_elf.proofs.FieldLemmas.{header_for, program_again}
 
--- the bytes of a file that lie behind its front
+-- the bytes of a file that lie after its front
 pub behind : (file front middle back : List ℕ) (at : ℕ) → file ≡ front ++ (middle ++ back) → length front ≡ at → drop at file ≡ middle ++ back
 behind file front middle back at e len = ap (λ (list : List ℕ). drop at list) e ∙ drop_at front (middle ++ back) at len
 

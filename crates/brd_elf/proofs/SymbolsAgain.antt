@@ -37,7 +37,7 @@ length-symbol_entries_from order name (symbol ∷ symbols) =
     let both = length-append (symbol_entry order name symbol.value) (symbol_entries_from order (name + length symbol.name + 1) symbols) in
     omega (arith, one, others, both)
 
--- a string without a byte 0 ends at the byte 0 behind it
+-- a string without a byte 0 ends at the byte 0 after it
 string_again : (name rest : List ℕ) → AllByRecursion (λ byte. byte ≢ 0) name → string_of (name ++ 0 ∷ rest) ≡ Some name
 string_again [] rest filled = refl
 string_again (byte ∷ name) rest filled =
@@ -58,7 +58,7 @@ kept_again strings at name symbol symbols rest here is_name new =
     ap (λ (string : Option (List ℕ)). named string symbol.value at symbols) (ap (λ (list : List ℕ). string_of list) here ∙ string_again symbol.name rest is_name.1)
     ∙ named_again symbol.name symbol.value at symbols is_name.0 new
 
--- names that are new stay new behind another name
+-- names that are new stay new after another name
 still_new : (symbols : List Symbol) (symbol : Symbol) (others : List Symbol) → AllByRecursion (λ other. is_named symbols other.name ≡ false) others → AllByRecursion (λ other. other.name ≢ symbol.name) others
     → AllByRecursion (λ other. is_named (symbols ++ symbol ∷ []) other.name ≡ false) others
 still_new symbols symbol [] new apart = tt

@@ -45,7 +45,7 @@ data_of segments = flat_map (λ segment. padded segment.bytes) segments
 abbrev pub symbol_entry : Order → ℕ → ℕ → List ℕ
 symbol_entry order name value = words order (name ∷ value ∷ 0 ∷ []) ++ 0x10 ∷ 0 ∷ half order 0xFFF1
 
--- the symbols whose names lie in the strings from a place on, each behind a byte 0
+-- the symbols whose names lie in the strings from a place on, each after a byte 0
 unfoldable pub symbol_entries_from : Order → ℕ → List Symbol → List ℕ
 symbol_entries_from order name [] = []
 symbol_entries_from order name (symbol ∷ symbols) =

@@ -52,7 +52,7 @@ abbrev pub loaded_bytes : List ℕ → ProgramHeader → List ℕ
 loaded_bytes file header =
     take header.file_size (drop header.offset file) ++ replicate (header.memory_size - header.file_size) 0
 
--- the fault of a header that is to be loaded behind these segments; `at` is its own offset
+-- the fault of a header that is to be loaded after these segments; `at` is its own offset
 unfoldable pub load_fault : List ℕ → ℕ → ProgramHeader → List Segment → Option ElfFault
 load_fault file at header segments =
     if has_bad_sizes header then Some (fault.Sizes at)
@@ -66,14 +66,14 @@ loaded_unless (Some f) file header segments = Err f
 loaded_unless None file header segments =
     Ok (segments ++ record { address = header.address; bytes = loaded_bytes file header } ∷ [])
 
--- these segments, and behind them the one of the program header at an offset, if it has one
+-- these segments, and after them the one of the program header at an offset, if it has one
 unfoldable pub loaded : List ℕ → ℕ → ProgramHeader → List Segment → Result (List Segment) ElfFault
 loaded file at header segments =
     if is_dynamic header then Err (fault.Unsupported at)
     else (if is_skipped header then Ok segments
     else loaded_unless (load_fault file at header segments) file header segments)
 
--- these segments, and behind them those of the next headers, as many as count, from an offset on
+-- these segments, and after them those of the next headers, as many as count, from an offset on
 unfoldable pub loaded_from : Order → List ℕ → ℕ → ℕ → List Segment → Result (List Segment) ElfFault
 loaded_from order file at zero segments = Ok segments
 loaded_from order file at (suc count) segments = do

@@ -71,7 +71,7 @@ string_of (byte ∷ bytes) = if byte == 0 then Some [] else option_map (λ strin
 abbrev pub is_named : List Symbol → List ℕ → Bool
 is_named symbols name = list_any (λ symbol. bytes_eq symbol.name name) symbols
 
--- these symbols, and behind them one with this name, unless it is empty or one of them has it
+-- these symbols, and after them one with this name, unless it is empty or one of them has it
 abbrev pub with_symbol : List Symbol → List ℕ → ℕ → List Symbol
 with_symbol symbols [] value = symbols
 with_symbol symbols (byte ∷ name) value =
@@ -81,13 +81,13 @@ abbrev pub named : Option (List ℕ) → ℕ → ℕ → List Symbol → Result 
 named None value at symbols = Err (fault.Symbols at)
 named (Some name) value at symbols = Ok (with_symbol symbols name value)
 
--- these symbols, and behind them the one at an offset, unless it belongs to no section (SHN_UNDEF)
+-- these symbols, and after them the one at an offset, unless it belongs to no section (SHN_UNDEF)
 unfoldable pub kept : List ℕ → ℕ → Entry → List Symbol → Result (List Symbol) ElfFault
 kept strings at entry symbols =
     if entry.section == 0 then Ok symbols
     else named (string_of (drop entry.name strings)) entry.value at symbols
 
--- these symbols, and behind them those of the next entries, as many as count, from an offset on
+-- these symbols, and after them those of the next entries, as many as count, from an offset on
 unfoldable pub kept_from : Order → List ℕ → List ℕ → ℕ → ℕ → List Symbol → Result (List Symbol) ElfFault
 kept_from order file strings at zero symbols = Ok symbols
 kept_from order file strings at (suc count) symbols = do

@@ -7,7 +7,7 @@ use Rattle.brd_elf.specs.declared.trie.Node.{Node}
 abbrev pub path_of : List (List ℕ) → ℕ → List ℕ
 path_of paths number = slice_index_or paths number []
 
--- these strings, and behind them one for each of the next nodes
+-- these strings, and after them one for each of the next nodes
 abbrev pub paths_behind : List (List ℕ) → List Node → List (List ℕ)
 paths_behind paths [] = paths
 paths_behind paths (node ∷ nodes) = paths_behind (paths ++ (node.byte ∷ path_of paths node.rest) ∷ []) nodes
@@ -27,7 +27,7 @@ IsMore paths more = (new : List (List ℕ)) × (more ≡ paths ++ new)
 abbrev pub node_at : List Node → ℕ → Node
 node_at nodes at = slice_index_or nodes at (record { byte = 0; rest = 0; before = None })
 
--- there is a last one, and a place isn't behind it
+-- there is a last one, and a place isn't after it
 abbrev pub IsUpTo : Option ℕ → ℕ → Type 0
 IsUpTo None at = ⊥
 IsUpTo (Some last) at = at ≤ last

@@ -28,7 +28,7 @@ pub enum ElfFault {
         at: usize,
     },
     /// A table's headers aren't of the size they have to be, or a segment is larger in the file than in memory or ends
-    /// behind the last address.
+    /// after the last address.
     #[error("offset {at}: a size given here is wrong: of a table's headers, or of a segment")]
     Sizes {
         /// The offset of the field or program header.

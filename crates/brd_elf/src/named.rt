@@ -20,7 +20,7 @@ pub struct Named<'a> {
     symbols: Vec<Symbol>,
     /// The string table.
     places: Places<'a>,
-    /// By its number, whether a string is the empty one or a symbol's name. A number behind the end has no mark.
+    /// By its number, whether a string is the empty one or a symbol's name. A number after the end has no mark.
     marks: Vec<bool>,
 }
 
@@ -72,7 +72,7 @@ impl<'a> Named<'a> {
         }
     }
 
-    /// The number of the string at a place, or nothing if no string ends behind it.
+    /// The number of the string at a place, or nothing if no string ends after it.
     fn number_of(&mut self, start: usize) -> Result<Option<u32>, NoMemory>
         ensures symbols { self.new.symbols ≡ self.old.symbols }
         ensures strings { self.new.strings ≡ self.old.strings }
@@ -132,7 +132,7 @@ impl<'a> Named<'a> {
     }
 }
 
-/// Sets a mark, which may lie behind the end; those that aren't there are no marks.
+/// Sets a mark, which may lie after the end; those that aren't there are no marks.
 fn mark(marks: &mut Vec<bool>, at: usize) -> Result<(), NoMemory>
     requires { at < 2 ^ 32 }
     ensures same { OnErr result (marks.new.items ≡ marks.old.items) }

@@ -99,7 +99,7 @@ pub fn put_header(
     put_halves(out, &[52, 32, count, 40, 4, 3], order)
 }
 
-/// The program headers of segments, and the bytes of the segments, which lie behind them in the file.
+/// The program headers of segments, and the bytes of the segments, which lie after them in the file.
 pub fn lay_out_segments(
     alloc: Global,
     order: Order,
@@ -136,7 +136,7 @@ fn put_all_segments(
     Ok(())
 }
 
-/// Puts a segment's program header and its bytes behind those of earlier segments, whose bytes lie in the file from
+/// Puts a segment's program header and its bytes after those of earlier segments, whose bytes lie in the file from
 /// `start` on.
 fn put_segment(
     programs: &mut Vec<u8>,

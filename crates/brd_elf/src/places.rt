@@ -70,7 +70,7 @@ impl<'a> Places<'a> {
         string_of(self.strings, start)
     }
 
-    /// The number of the string at a place, or nothing if no string ends behind it.
+    /// The number of the string at a place, or nothing if no string ends after it.
     // Inlined it would share the registers of all of `read`, and keep the number of each turn on the stack.
     #[inline(never)]
     pub fn number_of(&mut self, start: usize) -> Result<Option<u32>, NoMemory>

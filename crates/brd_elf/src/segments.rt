@@ -75,7 +75,7 @@ fn load_all(
     Ok(segments.into_segments())
 }
 
-/// Puts the segment of the program header at an offset behind the others, if it has one.
+/// Puts the segment of the program header at an offset after the others, if it has one.
 #[tactic(auto, unfolding(crate::specs::Segments::loaded))]
 fn load(
     alloc: Global,
@@ -100,7 +100,7 @@ fn load(
     }
 }
 
-/// Puts the segment of a program header that can be loaded behind the others.
+/// Puts the segment of a program header that can be loaded after the others.
 fn load_segment(
     alloc: Global,
     file: &[u8],
@@ -151,7 +151,7 @@ fn is_skipped(header: ProgramHeader) -> bool
     header.kind != 1 || (header.memory_size == 0 && header.file_size == 0)
 }
 
-/// Why a segment can't be loaded behind those that are.
+/// Why a segment can't be loaded after those that are.
 #[tactic(auto, unfolding(crate::specs::Segments::load_fault))]
 fn load_fault(file: &[u8], at: usize, header: ProgramHeader, before: &Loaded) -> Option<ElfFault>
     ensures { result ≡ load_fault file.now at header before.now }

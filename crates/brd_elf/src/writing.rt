@@ -68,7 +68,7 @@ fn file_of(alloc: Global, image: &Image) -> Result<Vec<u8>, NoMemory>
     Ok(out)
 }
 
-/// The program headers of segments, and behind them the bytes of the segments.
+/// The program headers of segments, and after them the bytes of the segments.
 fn with_data(alloc: Global, order: Order, segments: &[Segment]) -> Result<Vec<u8>, NoMemory>
     requires { length segments.now ≤ 2 ^ 24 }
     ensures { IfOk result (λ bytes. bytes.items

@@ -16,7 +16,7 @@ use Rattle.brd_exec.specs.Unaligned.{aligned, aligned_place, bytes_above, left_s
 use Rattle.brd_exec.specs.Step.{store_gives}
 use Rattle.brd_exec.proofs.UnalignedLemmas.{put, drop-put, length-put}
 
--- Four bytes that lie before or behind those that are put.
+-- Four bytes that lie before or after those that are put.
 
 before-put : (memory : List ℕ) (at p : ℕ) (bytes : List ℕ) → at + length bytes ≤ length memory → p + 4 ≤ at →
     take 4 (drop p (put memory at bytes)) ≡ take 4 (drop p memory)

@@ -374,9 +374,9 @@ loaded-same : (word old : ℕ) → word < 2 ^ 32 → right_loaded 3 word (left_l
 loaded-same word old lt = omega arith
 
 loaded-at : (order : Order) (bytes : List ℕ) (at old : ℕ) → AreBytes bytes →
-    (P1 X1 P2 X2 : ℕ) → P1 ≡ 0 → X1 ≡ at → P2 ≡ 3 → X2 ≡ at →
-    right_loaded P2 (word_in order bytes X2) (left_loaded P1 (word_in order bytes X1) old) ≡ word_in order bytes at
-loaded-at order bytes at old are P1 X1 P2 X2 p1_is x1_is p2_is x2_is =
+    (left_place left_at right_place right_at : ℕ) → left_place ≡ 0 → left_at ≡ at → right_place ≡ 3 → right_at ≡ at →
+    right_loaded right_place (word_in order bytes right_at) (left_loaded left_place (word_in order bytes left_at) old) ≡ word_in order bytes at
+loaded-at order bytes at old are left_place left_at right_place right_at p1_is x1_is p2_is x2_is =
     rw (p1_is, x1_is, p2_is, x2_is) (loaded-same (word_in order bytes at) old (word-below order bytes at are))
 
 word-from : (order : Order) (bytes : List ℕ) (a k : ℕ) → word_in order bytes (a + k) ≡ word_in order (drop a bytes) k
@@ -385,9 +385,9 @@ word-from order bytes a k = ap (λ xs. word_of_bytes order (take 4 xs)) (sym (dr
 loaded-from : (order : Order) (bytes : List ℕ) (a p1 k1 p2 k2 r old : ℕ) →
     right_loaded p2 (word_in order (drop a bytes) k2) (left_loaded p1 (word_in order (drop a bytes) k1) old)
     ≡ word_in order (drop a bytes) r →
-    (P1 X1 P2 X2 at : ℕ) → P1 ≡ p1 → X1 ≡ a + k1 → P2 ≡ p2 → X2 ≡ a + k2 → at ≡ a + r →
-    right_loaded P2 (word_in order bytes X2) (left_loaded P1 (word_in order bytes X1) old) ≡ word_in order bytes at
-loaded-from order bytes a p1 k1 p2 k2 r old it P1 X1 P2 X2 at p1_is x1_is p2_is x2_is at_is =
+    (left_place left_at right_place right_at at : ℕ) → left_place ≡ p1 → left_at ≡ a + k1 → right_place ≡ p2 → right_at ≡ a + k2 → at ≡ a + r →
+    right_loaded right_place (word_in order bytes right_at) (left_loaded left_place (word_in order bytes left_at) old) ≡ word_in order bytes at
+loaded-from order bytes a p1 k1 p2 k2 r old it left_place left_at right_place right_at at p1_is x1_is p2_is x2_is at_is =
     rw (p1_is, x1_is, p2_is, x2_is, at_is)
     (rw (word-from order bytes a k1, word-from order bytes a k2, word-from order bytes a r) it)
 
@@ -531,9 +531,9 @@ stored-same order bytes at x are fits lt =
     ∙ put-again bytes at (bytes_of_word order x) fits
 
 stored-at : (order : Order) (bytes : List ℕ) (at x : ℕ) → AreBytes bytes → at ≤ length bytes → x < 2 ^ 32 →
-    (P1 X1 P2 X2 : ℕ) → P1 ≡ 0 → X1 ≡ at → P2 ≡ 3 → X2 ≡ at →
-    right_in order P2 (left_in order P1 bytes X1 x) X2 x ≡ put bytes at (bytes_of_word order x)
-stored-at order bytes at x are fits lt P1 X1 P2 X2 p1_is x1_is p2_is x2_is =
+    (left_place left_at right_place right_at : ℕ) → left_place ≡ 0 → left_at ≡ at → right_place ≡ 3 → right_at ≡ at →
+    right_in order right_place (left_in order left_place bytes left_at x) right_at x ≡ put bytes at (bytes_of_word order x)
+stored-at order bytes at x are fits lt left_place left_at right_place right_at p1_is x1_is p2_is x2_is =
     rw (p1_is, x1_is, p2_is, x2_is) (stored-same order bytes at x are fits lt)
 
 stored-behind : (order : Order) (front rest : List ℕ) (p1 k1 p2 k2 r x : ℕ) →
@@ -548,9 +548,9 @@ stored-behind order front rest p1 k1 p2 k2 r x it =
 
 stored-from : (order : Order) (bytes : List ℕ) (a p1 k1 p2 k2 r x : ℕ) → a ≤ length bytes →
     right_in order p2 (left_in order p1 (drop a bytes) k1 x) k2 x ≡ put (drop a bytes) r (bytes_of_word order x) →
-    (P1 X1 P2 X2 at : ℕ) → P1 ≡ p1 → X1 ≡ a + k1 → P2 ≡ p2 → X2 ≡ a + k2 → at ≡ a + r →
-    right_in order P2 (left_in order P1 bytes X1 x) X2 x ≡ put bytes at (bytes_of_word order x)
-stored-from order bytes a p1 k1 p2 k2 r x fits it P1 X1 P2 X2 at p1_is x1_is p2_is x2_is at_is =
+    (left_place left_at right_place right_at at : ℕ) → left_place ≡ p1 → left_at ≡ a + k1 → right_place ≡ p2 → right_at ≡ a + k2 → at ≡ a + r →
+    right_in order right_place (left_in order left_place bytes left_at x) right_at x ≡ put bytes at (bytes_of_word order x)
+stored-from order bytes a p1 k1 p2 k2 r x fits it left_place left_at right_place right_at at p1_is x1_is p2_is x2_is at_is =
     let front : List ℕ = take a bytes in
     let wide : length front ≡ a = length-take-le a bytes fits in
     let whole : front ++ drop a bytes ≡ bytes = take-append-drop a bytes in

@@ -71,7 +71,7 @@ branched_likely s taken offset = if taken then branched s true offset else skipp
 abbrev pub after_branch : State → Bool → Bool → ℕ → State
 after_branch s likely taken offset = if likely then branched_likely s taken offset else branched s taken offset
 
--- the address of the instruction behind the delay slot, to which a call returns
+-- the address of the instruction after the delay slot, to which a call returns
 abbrev pub return_address_of : State → ℕ
 return_address_of s = (s.pc + 8) % 2 ^ 32
 

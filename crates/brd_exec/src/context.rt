@@ -228,7 +228,7 @@ impl Context {
         ((self.npc >> 28) << 28) + (index.words() << 2)
     }
 
-    /// The address behind the delay slot, to which a call returns.
+    /// The address after the delay slot, to which a call returns.
     pub fn return_address(&self) -> u32
         ensures { result ≡ return_address_of self.now }
     {
@@ -246,7 +246,7 @@ impl Context {
     }
 
     /// Goes on to the delay slot of a branch, which is followed by its target where it is taken; a branch-likely that
-    /// isn't taken goes on behind its delay slot.
+    /// isn't taken goes on after its delay slot.
     pub fn branch(&mut self, likely: bool, taken: bool, offset: u16)
         ensures { self.new ≡ after_branch self.old likely taken offset }
     {

@@ -7,7 +7,7 @@ use Rattle.brd_fast.specs.declared.place.Place.{Place}
 abbrev pub state_of : State → Place → State
 state_of s p = record s { pc = p.pc; npc = p.npc; slot = p.slot }
 
--- The target of a branch that reaches so many words ahead of itself, from the address of its delay slot, which lies one
+-- The target of a branch that reaches n words ahead of itself, from the address of its delay slot, which lies one
 -- word ahead of it.
 abbrev pub reached : ℕ → ℕ → ℕ
 reached npc reach = (npc + 4 * reach + (2 ^ 32 - 4)) % 2 ^ 32

@@ -48,7 +48,7 @@ pub fn branch(place: &mut Place, taken: bool, reach: u32) -> bool
     true
 }
 
-/// Does a branch-likely, which goes on behind its delay slot where it isn't taken (MD00086, BEQL).
+/// Does a branch-likely, which goes on after its delay slot where it isn't taken (MD00086, BEQL).
 #[inline(always)]
 pub fn branch_likely(place: &mut Place, taken: bool, reach: u32) -> bool
     ensures { (s : State) → Turns (branched_by (state_of s place.old) true taken (reached place.old.npc reach))
@@ -66,7 +66,7 @@ pub fn branch_likely(place: &mut Place, taken: bool, reach: u32) -> bool
     true
 }
 
-/// Writes the return address to register 31: that of the instruction behind the delay slot.
+/// Writes the return address to register 31: that of the instruction after the delay slot.
 #[inline(always)]
 fn put_return_address(context: &mut Context, place: &Place)
     ensures { context.new ≡ write context.old 31 ((place.now.pc + 8) % 2 ^ 32) }

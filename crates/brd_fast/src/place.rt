@@ -57,7 +57,7 @@ impl Place {
         self.slot = true;
     }
 
-    /// Goes on behind the delay slot of a branch-likely that isn't taken.
+    /// Goes on after the delay slot of a branch-likely that isn't taken.
     #[inline(always)]
     pub fn skip(&mut self)
         ensures { self.new ≡
@@ -68,7 +68,7 @@ impl Place {
         self.slot = false;
     }
 
-    /// The target of a branch that reaches so many words ahead of itself.
+    /// The target of a branch that reaches n words ahead of itself.
     #[inline(always)]
     pub fn target(&self, reach: u32) -> u32
         ensures { result ≡ reached self.now.npc reach }

@@ -68,6 +68,7 @@ const STATEMENTS: &[(&[u8], &[u8], &[u8])] = &[
         b"(n,{a,n,z});",
         b"CRE_DTQ(id, {attributes, capacity, area});",
     ),
+    (b"CRE_SPN", b"(n,{a});", b"CRE_SPN(id, {attributes});"),
     (
         b"DEF_INH",
         b"(n,{a,v});",
@@ -76,10 +77,10 @@ const STATEMENTS: &[(&[u8], &[u8], &[u8])] = &[
 ];
 
 /// The words that begin a statement.
-const WORDS: &[u8] = b"BOARD CLASS CRE_TSK CRE_SEM CRE_FLG CRE_DTQ DEF_INH";
+const WORDS: &[u8] = b"BOARD CLASS CRE_TSK CRE_SEM CRE_FLG CRE_DTQ CRE_SPN DEF_INH";
 
 /// The attributes that there are.
-const ATTRIBUTES: &[u8] = b"TA_HLNG TA_ASM TA_ACT TA_TFIFO TA_TPRI TA_WSGL TA_WMUL TA_CLR";
+const ATTRIBUTES: &[u8] = b"TA_NULL TA_HLNG TA_ASM TA_ACT TA_TFIFO TA_TPRI TA_WSGL TA_WMUL TA_CLR";
 
 /// What is said of statements that uITRON and TOPPERS have and this kernel hasn't.
 const OTHERS: &[(&[u8], &[u8])] = &[
@@ -112,7 +113,6 @@ const OTHERS: &[(&[u8], &[u8])] = &[
         b"INCLUDE KERNEL_DOMAIN DOMAIN include define",
         b"no such statement: send the text through the C preprocessor first",
     ),
-    (b"CRE_SPN", b"no spin locks: use LL and SC, or CRE_SEM"),
 ];
 
 /// What is read of a configuration so far.
@@ -337,6 +337,7 @@ const ALLOWED: &[(&[u8], &[u8])] = &[
         b"CRE_FLG",
         b"TA_TFIFO, TA_TPRI, TA_WSGL, TA_WMUL and TA_CLR",
     ),
+    (b"CRE_SPN", b"none but TA_NULL"),
     (b"DEF_INH", b"TA_HLNG and TA_ASM"),
 ];
 
@@ -352,5 +353,7 @@ fn unknown_statement(word: &[u8]) -> Finding<'_> {
     if let Some(near) = near_name(WORDS, word) {
         return Finding::at(&[], b"unknown statement ~ (the nearest is ^)", word).with_other(near);
     }
-    unknown.with_other(b"there are BOARD, CLASS, CRE_TSK, CRE_SEM, CRE_FLG, CRE_DTQ and DEF_INH")
+    unknown.with_other(
+        b"there are BOARD, CLASS, CRE_TSK, CRE_SEM, CRE_FLG, CRE_DTQ, CRE_SPN and DEF_INH",
+    )
 }

@@ -6,7 +6,8 @@ use crate::names::has_name;
 use crate::scan::{behind, cut, first, place_of};
 use brd_text::{is_digit, plain_decimal, split_line};
 
-/// What the first line of a journal may be: the byte order of its boards stands in it, and without one it is big-endian.
+/// What the first line of a journal may be: the byte order of its boards stands in it, and without one it is
+/// big-endian.
 const FIRST: &[&[u8]] = &[
     b"board-journal 2 big",
     b"board-journal 2 little",

@@ -161,6 +161,14 @@ const LIMITS: &[(Problem, &[u8], usize, u64, u64, &[u8])] = &[
     ),
     (
         Problem::Id,
+        b"CRE_SPN",
+        0,
+        1,
+        255,
+        b"the ID of ~ is 1 to 255, found ?",
+    ),
+    (
+        Problem::Id,
         b"DEF_INH",
         0,
         0,
@@ -197,6 +205,14 @@ const LIMITS: &[(Problem, &[u8], usize, u64, u64, &[u8])] = &[
         1,
         0,
         1,
+        b"~ has no attribute with the bits of ?: there are ^",
+    ),
+    (
+        Problem::Attribute,
+        b"CRE_SPN",
+        1,
+        0,
+        0,
         b"~ has no attribute with the bits of ?: there are ^",
     ),
     (
@@ -338,6 +354,7 @@ const KINDS: &[(&[u8], &[u8])] = &[
     (b"CRE_SEM", b"semaphore ? is there already, on line &"),
     (b"CRE_FLG", b"event flag ? is there already, on line &"),
     (b"CRE_DTQ", b"data queue ? is there already, on line &"),
+    (b"CRE_SPN", b"spin lock ? is there already, on line &"),
     (
         b"DEF_INH",
         b"interrupt line ? has a handler already, on line &",

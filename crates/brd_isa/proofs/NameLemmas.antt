@@ -21,7 +21,7 @@ abbrev coded : {A : Type 0} → List (List ℕ × A) → (A → ℕ) → ℕ →
 coded [] code_of n = []
 coded (row ∷ rows) code_of n = if n == code_of row.1 then row.0 else coded rows code_of n
 
--- each of a form's operations has one: the first by itself, so that the line behind it is read for each of the others
+-- each of a form's operations has one: the first by itself, so that the line after it is read for each of the others
 
 shift_name : (op : ShiftOp) → HasName (Mnemonic.Shift op)
 unfolding mnemonic_named computing_named other_named

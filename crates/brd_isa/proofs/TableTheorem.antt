@@ -29,7 +29,7 @@ nothing = record { stands = λ insn e. absurd (none-some insn e) }
 found : {word : ℕ} (insn : Insn) → StandsFor word insn → Agrees word (Some insn)
 found {word} insn h = record { stands = λ other e. subst (StandsFor word) (same_Some insn other e) h }
 
--- behind the tests of numbers that `decoded` is made of
+-- after the tests of numbers that `decoded` is made of
 
 where_true : {word : ℕ} {x y : Option Insn} (test : Bool) →
     (test ≡ true → Agrees word x) → Agrees word y → Agrees word (if test then x else y)
@@ -214,7 +214,7 @@ decoded_agrees word =
     where_same _ 0x01 (regimm_agrees word) (
     where_same _ 0x1c (special2_agrees word) (others_agrees word)))
 
--- the operation of a code: the first by itself, so that the line behind it is read for each of the others
+-- the operation of a code: the first by itself, so that the line after it is read for each of the others
 
 shift_coded : (op : ShiftOp) (word : ℕ) → special_of (code.shift_funct op) word ≡ decoding.shift op word
 shift_coded ShiftOp.Sll word = refl

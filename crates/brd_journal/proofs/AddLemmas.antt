@@ -37,7 +37,7 @@ cut_added (r ∷ []) e n h small =
 cut_added (r ∷ s ∷ rs) e n h small =
     (h.0, h.1, (λ p. h.2 (sym (first-grown s rs _ _) ∙ p)), cut_added (s ∷ rs) e n h.3 small)
 
--- ---- they stand for the events and the copies behind them
+-- ---- they stand for the events and the copies after them
 
 events_joined : (r e : Event) (c j n : ℕ) → r ≡ e → j ≤ n → events_of (run_of r (c + j) ∷ run_of_count e (n - j)) ≡ copies r c ++ copies e n
 events_joined r e c j n same le =

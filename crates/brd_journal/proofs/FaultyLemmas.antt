@@ -52,7 +52,7 @@ not_empty (b ∷ bs) rest h = cc
 
 -- ---- a fault is that of the first wrong line
 
--- why the lines from one of this number on are a fault behind a journal: `IsWrong`, in the middle of a text
+-- why the lines from one of this number on are a fault after a journal: `IsWrong`, in the middle of a text
 abbrev WrongFrom : JournalState → ℕ → List Run → List ℕ → JournalFault → Type 0
 WrongFrom j n front rest NoMemory = ⊥
 WrongFrom j n front rest (Syntax line) = (line ≡ n + length front) × (rest ≡ [] → ⊥) × HasNoRun rest
@@ -172,7 +172,7 @@ lines_fail (line ∷ next ∷ lines) j n fault all some within h =
     by_run j n line (join_with_byte 10 (next ∷ lines)) (next ∷ lines) fault (run_of_line line) all.0 within refl
     (λ k le failed. lines_fail (next ∷ lines) k (n + 1) fault all.1 (λ e. cc) le failed) h
 
--- the first line, and those behind it
+-- the first line, and those after it
 wrong_behind : (limit : ℕ) (order : Order) (front : List Run) (rest : List ℕ) (fault : JournalFault) → WrongFrom (record { limit = limit; order = order; events = [] }) 2 front rest fault → IsWrong limit front rest fault
 wrong_behind limit order front rest NoMemory why = why
 wrong_behind limit order front rest (Syntax line) why = (omega (arith, why.0), why.1, why.2)

@@ -50,7 +50,7 @@ first_of_two field rest h = rw field_len (take_front field (32 ∷ rest))
 others_of_two : (field rest : List ℕ) → list_all in_field field ≡ true → other_fields (field ++ 32 ∷ rest) ≡ rest
 others_of_two field rest h = rw field_len (drop_front field rest 32)
 
--- where something stands behind the first field, a space ends it
+-- where something stands after the first field, a space ends it
 two_fields : (fields : List ℕ) → 0 < length (other_fields fields) → fields ≡ first_field fields ++ 32 ∷ other_fields fields
 two_fields [] h = absurd (omega arith)
 two_fields (b ∷ bs) h =

@@ -47,7 +47,7 @@ more_runs es (e ∷ more) =
     let rest : length (runs_of (es ++ e ∷ [])) ≤ length (runs_of (es ++ e ∷ more)) = rw next at (more_runs (es ++ e ∷ []) more) in
     omega (arith, one_more es e, rest)
 
--- ---- lines and the newlines behind them
+-- ---- lines and the newlines after them
 
 pub lines_front : (line rest : List ℕ) → list_all stays_on line ≡ true → lines_of (line ++ 10 ∷ rest) ≡ line ∷ lines_of rest
 lines_front line rest h =
@@ -139,7 +139,7 @@ lines_again (run ∷ runs) j n each le =
 
 -- ---- what is read is spelled
 
--- lines behind a journal that make another
+-- lines after a journal that make another
 record AreRead (j k : JournalState) (text : List ℕ) : Type 0 where
   runs : List Run
   each : AllByRecursion CanBeSpelled runs

@@ -15,7 +15,7 @@ use Rattle.brd_journal.specs.Runs.{copies}
 use Rattle.brd_journal.specs.Journal.{JournalState, appended}
 use Rattle.brd_journal.specs.Reading.{order_of_line, run_of_line, lines_read, journal_of}
 
--- a text is its first line, a newline and the text behind it
+-- a text is its first line, a newline and the text after it
 pub behind_line : (text line behind : List ℕ) → lines_of text ≡ line ∷ lines_of behind → text ≡ line ++ 10 ∷ behind
 behind_line text line behind h =
     let some = some_line behind in
@@ -41,7 +41,7 @@ no_newline j n rest line behind total step none some =
     let f : lines_read j n (line ∷ lines_behind behind) ≡ Err (Syntax n) = rw (none, sym some) refl in
     sym step.so_far ∙ ap (lines_read j n) step.lines ∙ f
 
--- the reading of a line behind which there is another
+-- the reading of a line after which there is another
 pub one_line : (j : JournalState) (n : ℕ) (line after : List ℕ)
     → lines_read j n (line ∷ lines_of after) ≡ (or_fault (Syntax n) (run_of_line line) >>= λ run. appended j (copies run.event run.count) >>= λ more. lines_read more (n + 1) (lines_of after))
 one_line j n line after = let some = some_line after in rw some.2 refl

@@ -1,4 +1,4 @@
--- What is left of a run behind so many events.
+-- What is left of a run after n events.
 use Rattle.std.proofs.Common.{◌≡◌, ℕ, zero, suc, ◌+◌, ◌-◌, ◌≤◌, ◌<◌, List, [], ◌∷◌, ◌++◌, length, get_or, take, drop, refl, sym, ap, subst, ◌∙◌, inl, inr, arith}
 use Rattle.std.specs.Prelude.{Option, Some, None, IfSome, slice_get}
 use Rattle.std.proofs.lemmas.Bool.{cases_lt}
@@ -10,7 +10,7 @@ use Rattle.brd_journal.proofs.EventLemmas.{copies-suc, copies-zero, events-appen
 use Rattle.brd_journal.proofs.Cutting.{runs_events, runs_are}
 use Rattle.brd_journal.proofs.StartLemmas.{start_at, length-starts, one_more_run}
 
--- behind fewer events than a run has
+-- after fewer events than a run has
 among : (e : Event) (c n : ℕ) (es : List Event) → n ≤ c → drop n (copies e c ++ es) ≡ copies e (c - n) ++ es
 among e c zero es h = let all : c - 0 ≡ c = omega arith in rw (all) refl
 among e zero (suc n) es h = absurd (omega (arith, h))
@@ -86,7 +86,7 @@ pub found_comes : (events : List Event) (others : ℕ) (found : Option Run) → 
 found_comes events others None is = tt
 found_comes events others (Some rest) is = rest_comes events others rest is
 
--- ---- its event is the one behind the others
+-- ---- its event is the one after the others
 
 pub slice_get-drop : (events : List Event) (n : ℕ) → slice_get (drop n events) 0 ≡ slice_get events n
 slice_get-drop [] zero = refl

@@ -17,7 +17,7 @@ length-one r = ap length (append-nil (copies r.event r.count)) ∙ length-copies
 length-first : (r : Run) (rs : List Run) → length (events_of (r ∷ rs)) ≡ r.count + length (events_of rs)
 length-first r rs = omega (arith, length-append (copies r.event r.count) (events_of rs), length-copies r.event r.count)
 
--- ---- each run begins behind the events of those before it
+-- ---- each run begins after the events of those before it
 
 pub start_at : (n : ℕ) (rs : List Run) (i d : ℕ) → i < length rs → get_or (starts_from n rs) i d ≡ n + length (events_of (take i rs))
 start_at n [] i d h = absurd (omega (arith, h))
@@ -74,7 +74,7 @@ starts-added limit rs ys e n j starts is made these =
     ∙ sym (starts-grown 0 rs (run_of_count e (n - j)) j some)
     ∙ ap starts_of (sym same ∙ sym (within_gives limit rs ys e n made).0)
 
--- The runs before the last one of the old is grown, and where they begin: the new run, if there is one, begins behind
+-- The runs before the last one of the old is grown, and where they begin: the new run, if there is one, begins after
 -- all events.
 pub record Extended (limit : ℕ) (rs : List Run) (e : Event) (start rest : ℕ) (items : List Run) (starts : List ℕ) : Type 0 where
   pub pushed : Pushed limit rs e rest items

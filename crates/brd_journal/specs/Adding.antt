@@ -18,7 +18,7 @@ grown [] more = []
 grown (run ∷ []) more = record run { count = run.count + more } ∷ []
 grown (run ∷ next ∷ runs) more = run ∷ grown (next ∷ runs) more
 
--- Runs with so many more of an event at the end: the last run takes what it can, a new one takes what is left.
+-- Runs with n more of an event at the end: the last run takes what it can, a new one takes what is left.
 abbrev pub added : List Run → Event → ℕ → List Run
 added runs event count =
     let joined = min (room_in runs event) count in

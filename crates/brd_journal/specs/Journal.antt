@@ -16,7 +16,7 @@ pub record JournalState : Type 0 where
 abbrev pub most_runs : ℕ
 most_runs = 4194304
 
--- A journal with more events behind its own, unless these need more runs than its limit.
+-- A journal with more events after its own, unless these need more runs than its limit.
 abbrev pub appended : JournalState → List Event → Result JournalState JournalFault
 appended journal more =
     if nat_le (length (runs_of (journal.events ++ more))) journal.limit then Ok (record journal { events = journal.events ++ more }) else Err Full

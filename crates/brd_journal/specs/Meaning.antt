@@ -23,7 +23,7 @@ pub record Says (limit : ℕ) (text : List ℕ) (journal : JournalState) : Type 
 abbrev pub HasNoRun : List ℕ → Type 0
 HasNoRun rest = (run : Run) (behind : List ℕ) → CanBeSpelled run → rest ≡ line_text run ++ 10 ∷ behind → ⊥
 
--- Why what stands behind these good lines is a fault: it isn't the text's end and begins with no line of a run, and
+-- Why what stands after these good lines is a fault: it isn't the text's end and begins with no line of a run, and
 -- then the fault has the line's number, before which stand the first line and those of the runs; or it begins with a
 -- line for which the limit doesn't suffice.
 abbrev pub IsWrong : ℕ → List Run → List ℕ → JournalFault → Type 0
@@ -32,7 +32,7 @@ IsWrong limit front rest (Syntax line) = (line ≡ length front + 2) × (rest �
 IsWrong limit front rest Full =
     (run : Run) × (behind : List ℕ) × CanBeSpelled run × (rest ≡ line_text run ++ 10 ∷ behind) × (limit < length (runs_of (events_of (front ++ run ∷ []))))
 
--- A text says no journal: behind a first line and a front of good lines, for which the limit suffices, stands a line
+-- A text says no journal: after a first line and a front of good lines, for which the limit suffices, stands a line
 -- with this fault.
 pub record FailsBehind (limit : ℕ) (text : List ℕ) (fault : JournalFault) : Type 0 where
   pub front : List Run

@@ -24,7 +24,7 @@ in_field b = not (b == 32)
 abbrev pub first_field : List ℕ → List ℕ
 first_field fields = take (prefix_len in_field fields) fields
 
--- what stands behind the space that ends it
+-- what stands after the space that ends it
 abbrev pub other_fields : List ℕ → List ℕ
 other_fields fields = drop (prefix_len in_field fields + 1) fields
 
@@ -37,13 +37,13 @@ unless_zero (suc n) = Some (suc n)
 abbrev pub count_of : List ℕ → Option ℕ
 count_of digits = option_and_then unless_zero (plain_decimal_of digits most_count)
 
--- a number up to 255, and a count behind the next space
+-- a number up to 255, and a count after the next space
 abbrev pub numbered_of : List ℕ → Option (ℕ × ℕ)
 numbered_of fields =
     option_and_then (λ number. option_map (λ count. (number, count)) (count_of (other_fields fields)))
     (plain_decimal_of (first_field fields) 255)
 
--- the fields behind S, T and R
+-- the fields after S, T and R
 abbrev pub run_of_kind : ℕ → List ℕ → Option Run
 run_of_kind kind fields =
     if kind == 83 then option_map (λ p. record { event = Step p.0; count = p.1 }) (numbered_of fields)
@@ -57,7 +57,7 @@ run_of_line [] = None
 run_of_line (kind ∷ []) = None
 run_of_line (kind ∷ space ∷ fields) = if space == 32 then run_of_kind kind fields else None
 
--- The lines from the one of this number on, behind those that made this journal. What stands behind the last newline
+-- The lines from the one of this number on, after those that made this journal. What stands after the last newline
 -- has to be empty.
 abbrev pub lines_read : JournalState → ℕ → List (List ℕ) → Result JournalState JournalFault
 lines_read journal number [] = Err (Syntax number)

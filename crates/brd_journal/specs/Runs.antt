@@ -10,7 +10,7 @@ use Rattle.brd_journal.specs.declared.run.Run.{Run}
 abbrev pub most_count : ℕ
 most_count = 0xffffffff
 
--- an event, so many times
+-- an event, n times
 unfoldable pub copies : Event → ℕ → List Event
 copies event count = replicate count event
 
@@ -82,7 +82,7 @@ starts_from start (run ∷ runs) = start ∷ starts_from (start + run.count) run
 abbrev pub starts_of : List Run → List ℕ
 starts_of runs = starts_from 0 runs
 
--- What is left of one of these runs behind so many events: the run has begun there and hasn't ended, and the rest has
+-- What is left of one of these runs after n events: the run has begun there and hasn't ended, and the rest has
 -- its event and ends where it ends.
 pub record IsRestOfRun (runs : List Run) (others : ℕ) (rest : Run) : Type 0 where
   pub before : List Run
@@ -94,11 +94,11 @@ pub record IsRestOfRun (runs : List Run) (others : ℕ) (rest : Run) : Type 0 wh
   pub event : rest.event ≡ run.event
   pub ends : others + rest.count ≡ length (events_of before) + run.count
 
--- What is left behind so many events of the run that the next event belongs to. None behind the last event.
+-- What is left after n events of the run that the next event belongs to. None after the last event.
 abbrev pub IsRest : List Event → ℕ → Option Run → Type 0
 IsRest events others None = length events ≤ others
 IsRest events others (Some rest) = IsRestOfRun (runs_of events) others rest
 
--- behind so many events an event comes at least so often
+-- after n events an event comes at least n times
 abbrev pub ComesBehind : List Event → ℕ → Run → Type 0
 ComesBehind events others run = (1 ≤ run.count) × (drop others events ≡ copies run.event run.count ++ drop (others + run.count) events)

@@ -21,7 +21,7 @@ use std::marker::Model;
 /// The greatest limit of a journal.
 pub const MOST_RUNS: u32 = 4_194_304;
 
-/// A list of events that has at most so many runs, for boards of a byte order. It is kept as its runs and where each
+/// A list of events that has at most n runs, for boards of a byte order. It is kept as its runs and where each
 /// begins.
 pub struct Journal {
     limit: u32,
@@ -54,7 +54,7 @@ impl Drop for Journal {
 }
 
 impl Journal {
-    /// A journal without events, which may have so many runs, for boards of this byte order. It takes no memory.
+    /// A journal without events, which may have n runs, for boards of this byte order. It takes no memory.
     pub fn new(alloc: Global, limit: u32, order: Order) -> Self
         requires { limit ≤ most_runs }
         ensures { result ≡ record { limit = limit; order = order; events = [] } }
@@ -76,7 +76,7 @@ impl Journal {
         self.push_run(event, 1)
     }
 
-    /// Appends an event so many times. It is `Full` exactly where the events would need more runs than the limit,
+    /// Appends an event n times. It is `Full` exactly where the events would need more runs than the limit,
     /// unless memory runs out. An `Err` changes nothing, and neither does a count of 0.
     pub fn push_run(&mut self, event: Event, count: u32) -> Result<(), JournalFault>
         ensures appended { Gives (λ _. self.new) result (appended self.old (copies event count)) }
@@ -109,7 +109,7 @@ impl Journal {
         self.len == 0
     }
 
-    /// The event that so many others stand before. A binary search finds its run.
+    /// The event that comes after n others. A binary search finds its run.
     pub fn event_at(&self, others: u64) -> Option<Event>
         ensures { result ≡ slice_get self.now.events others }
     {
@@ -117,7 +117,7 @@ impl Journal {
         Some(rest.event)
     }
 
-    /// What is left of a run behind so many events: its event, and how often the run has that from there on. A binary
+    /// What is left of a run after n events: its event, and how often the run has that from there on. A binary
     /// search finds the run.
     pub fn rest_at(&self, others: u64) -> Option<Run>
         ensures exact { IsRest self.now.events others result }

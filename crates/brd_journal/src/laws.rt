@@ -42,8 +42,8 @@ pub fn written_texts_are_read()
         → journal_of limit (text_of order events) ≡ Ok (record { limit = limit; order = order; events = events }) }
 {}
 
-/// An event that reports Off, NoSuch, Stopped, Idle or TimeOver has left the board as it was. After it, and after a line
-/// that was raised, the same event does nothing, however often it comes.
+/// An event that reports Off, NoSuch, Stopped, Idle or TimeOver has left the board as it was. After it, and after a
+/// line that was raised, the same event does nothing, however often it comes.
 pub fn what_did_nothing_does_nothing_again()
     ensures event { (board : BoardState) (event : Event) →
         did_nothing (happens board event).report ≡ true → (happens board event).board ≡ board }

@@ -77,7 +77,7 @@ pub fn run_of_line(line: &[u8]) -> Option<Run>
     }
 }
 
-/// A number up to 255, and a count behind the next space.
+/// A number up to 255, and a count after the next space.
 fn numbered(fields: &[u8]) -> Option<(u8, u32)>
     ensures { result ≡ reading.numbered_of fields.now }
 {
@@ -101,7 +101,7 @@ fn count_of(digits: &[u8]) -> Option<u32>
     }
 }
 
-/// The first field, and what stands behind the space that ends it: nothing, where there is none.
+/// The first field, and what stands after the space that ends it: nothing, where there is none.
 fn split_field(fields: &[u8]) -> (&[u8], &[u8])
     ensures first { result.0.now ≡ reading.first_field fields.now }
     ensures others { result.1.now ≡ reading.other_fields fields.now }

@@ -30,7 +30,7 @@ pub fn read_text(alloc: Global, text: &[u8], limit: u32) -> Result<Journal, Jour
     Ok(journal)
 }
 
-/// Appends the runs of the lines behind the first.
+/// Appends the runs of the lines after the first.
 fn read_lines(journal: &mut Journal, text: &[u8]) -> Result<(), JournalFault>
     requires { length text.now + 2 < 2 ^ 64 }
     ensures { Gives (λ _. journal.new) result (lines_read journal.old 2 (lines_of text.now)) }

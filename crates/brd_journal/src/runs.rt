@@ -83,7 +83,7 @@ impl RunTable {
         self.runs.as_slice()
     }
 
-    /// Adds an event so many times at the end, behind so many others, unless that makes more runs than the limit. An
+    /// Adds an event n times at the end, after m others, unless that makes more runs than the limit. An
     /// `Err` changes nothing.
     pub(crate) fn add(
         &mut self,
@@ -116,7 +116,7 @@ impl RunTable {
         Ok(())
     }
 
-    /// What is left of a run behind so many events: its event, and how often that still comes. A binary search finds
+    /// What is left of a run after n events: its event, and how often that still comes. A binary search finds
     /// the run.
     pub(crate) fn rest_after(&self, others: u64) -> Option<Run>
         requires { AreCut self.now }

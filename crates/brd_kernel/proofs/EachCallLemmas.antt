@@ -21,7 +21,7 @@ use Rattle.brd_kernel.specs.Waiting.{SleeperIsKept, EachIsKept}
 use Rattle.brd_kernel.proofs.ObjectLemmas.{returned-kept, taken-kept, semaphore-awaited, masked-kept, taken-for, flag-awaited, sent-kept, forced-kept, received-kept, sender-awaited, receiver-awaited}
 use Rattle.brd_kernel.proofs.RowLemmas.{suspended-keeps, resumed-keeps}
 use Rattle.brd_kernel.proofs.SleeperLemmas as sleeper
-use Rattle.brd_kernel.proofs.WalkLemmas.{Law, in_semaphore, in_flag, in_senders, in_receivers, serve-always}
+use Rattle.brd_kernel.proofs.WalkLemmas.{Anything, Law, in_semaphore, in_flag, in_senders, in_receivers, serve-always}
 use Rattle.brd_kernel.proofs.EachLemmas.{others-kept, processor-kept, tasks-kept, semaphore-changed, flag-changed, queue-changed, released-kept, broken-kept, ended-kept, reordered-by, wait-kept, no-sleep, released-if, set-stays, handed-kept}
 
 -- a task that is awake has a wake-up queued
@@ -42,7 +42,7 @@ exit-kept : (k : KernelState) (cpu : ℕ) (found : Option Processor) → EachIsK
 exit-kept k cpu None was = was
 exit-kept k cpu (Some p) was = processor-kept k cpu (unmarked p) was
 
-each-law : (k : KernelState) (cpu caller : ℕ) → EachIsKept k → Law (Unit {0}) (Unit {0}) EachIsKept k cpu caller
+each-law : (k : KernelState) (cpu caller : ℕ) → EachIsKept k → Law Anything EachIsKept k cpu caller
 each-law k cpu caller was =
     let priority : ℕ = callers_priority k caller in
     record {
@@ -74,7 +74,7 @@ each-law k cpu caller was =
           wait-kept k caller reason.Sleep due k (λ x at asleep. ap wakeup_in (sym at ∙ there) ∙ none) was was;
       delays = λ due may. wait-kept k caller reason.Delay (Some due) k (no-sleep k caller reason.Delay refl) was was;
       rotates = λ given p there. tasks-kept k (turned k.tasks cpu given) was.sleepers was;
-      marks = λ p q there same. processor-kept k cpu q was;
+      marks = λ p q there same how. processor-kept k cpu q was;
       returns = λ p there. others-kept k (handler_ended k cpu p) refl refl refl was.sleepers was;
       signals = λ id s there. released-if (record k { semaphores = object_changed returned k.semaphores id }) (first_waiter s)
           (semaphore-changed returned k id (λ x at. returned-kept x) was);

@@ -18,6 +18,7 @@ use Rattle.brd_time.specs.Time.{due_of, beginning}
 use Rattle.brd_config.specs.declared.objects.SemaphoreConfig.{SemaphoreConfig}
 use Rattle.brd_config.specs.declared.objects.FlagConfig.{FlagConfig}
 use Rattle.brd_config.specs.declared.objects.QueueConfig.{QueueConfig}
+use Rattle.brd_config.specs.declared.objects.SpinLockConfig.{SpinLockConfig}
 use Rattle.brd_objects.specs.declared.want.Want.{Want}
 use Rattle.brd_objects.specs.Order.{order_of}
 use Rattle.brd_objects.specs.Table.{object_at, made_at, made_below}
@@ -61,18 +62,18 @@ nobody-made id_of object_of configs at list none some =
     made-by (nat_lt at 256) id_of object_of configs 256 at (λ found. list found ≡ []) refl none
     (nobody-at object_of list (find (λ c. id_of c == at) configs) none some)
 
-nobody-waits : (processors : ℕ) (setups : List TaskSetup) (lines : List LineSetup) (semaphores : List SemaphoreConfig) (flags : List FlagConfig) (queues : List QueueConfig)
+nobody-waits : (processors : ℕ) (setups : List TaskSetup) (lines : List LineSetup) (semaphores : List SemaphoreConfig) (flags : List FlagConfig) (queues : List QueueConfig) (spin_locks : List SpinLockConfig)
     (why : WaitReason) →
-    standing_for (made_kernel processors setups lines semaphores flags queues) why ≡ []
-nobody-waits processors setups lines semaphores flags queues reason.Sleep = refl
-nobody-waits processors setups lines semaphores flags queues reason.Delay = refl
-nobody-waits processors setups lines semaphores flags queues (reason.Semaphore object) =
+    standing_for (made_kernel processors setups lines semaphores flags queues spin_locks) why ≡ []
+nobody-waits processors setups lines semaphores flags queues spin_locks reason.Sleep = refl
+nobody-waits processors setups lines semaphores flags queues spin_locks reason.Delay = refl
+nobody-waits processors setups lines semaphores flags queues spin_locks (reason.Semaphore object) =
     nobody-made (λ config. config.id) semaphore_of semaphores object semaphore_waiters refl (λ c. refl)
-nobody-waits processors setups lines semaphores flags queues (reason.Flag object) =
+nobody-waits processors setups lines semaphores flags queues spin_locks (reason.Flag object) =
     nobody-made (λ config. config.id) flag_of flags object flag_waiters refl (λ c. refl)
-nobody-waits processors setups lines semaphores flags queues (reason.Send object) =
+nobody-waits processors setups lines semaphores flags queues spin_locks (reason.Send object) =
     nobody-made (λ config. config.id) data_queue_of queues object senders refl (λ c. refl)
-nobody-waits processors setups lines semaphores flags queues (reason.Receive object) =
+nobody-waits processors setups lines semaphores flags queues spin_locks (reason.Receive object) =
     nobody-made (λ config. config.id) data_queue_of queues object receivers refl (λ c. refl)
 
 -- a task that hasn't started waits for nothing
@@ -92,13 +93,13 @@ dues-long : length beginning.dues ≡ 256
 unfolding beginning
 dues-long = refl
 
-made-stands : (processors : ℕ) (setups : List TaskSetup) (lines : List LineSetup) (semaphores : List SemaphoreConfig) (flags : List FlagConfig) (queues : List QueueConfig) →
-    StandsIn [] (made_kernel processors setups lines semaphores flags queues)
-made-stands processors setups lines semaphores flags queues = record {
+made-stands : (processors : ℕ) (setups : List TaskSetup) (lines : List LineSetup) (semaphores : List SemaphoreConfig) (flags : List FlagConfig) (queues : List QueueConfig) (spin_locks : List SpinLockConfig) →
+    StandsIn [] (made_kernel processors setups lines semaphores flags queues spin_locks)
+made-stands processors setups lines semaphores flags queues spin_locks = record {
   rows = rows-length setups 256;
   dues = dues-long;
-  apart = λ why. subst AreApart (sym (nobody-waits processors setups lines semaphores flags queues why)) tt;
-  listed = λ id why. ap (priority_in id) (nobody-waits processors setups lines semaphores flags queues why)
+  apart = λ why. subst AreApart (sym (nobody-waits processors setups lines semaphores flags queues spin_locks why)) tt;
+  listed = λ id why. ap (priority_in id) (nobody-waits processors setups lines semaphores flags queues spin_locks why)
       ∙ sym (ap (λ w. wanted w why) (nothing-waited setups id));
   timed = λ id in_it. subst (λ w. IsTimed w (due_of beginning id)) (sym (nothing-waited setups id)) (undue id);
 }
@@ -126,9 +127,9 @@ unstarted-kept : (found : Option TaskSetup) → IfSome (option_map unstarted fou
 unstarted-kept None = tt
 unstarted-kept (Some setup) = λ asleep. refl
 
-made-each : (processors : ℕ) (setups : List TaskSetup) (lines : List LineSetup) (semaphores : List SemaphoreConfig) (flags : List FlagConfig) (queues : List QueueConfig) →
-    EachIsKept (made_kernel processors setups lines semaphores flags queues)
-made-each processors setups lines semaphores flags queues = record {
+made-each : (processors : ℕ) (setups : List TaskSetup) (lines : List LineSetup) (semaphores : List SemaphoreConfig) (flags : List FlagConfig) (queues : List QueueConfig) (spin_locks : List SpinLockConfig) →
+    EachIsKept (made_kernel processors setups lines semaphores flags queues spin_locks)
+made-each processors setups lines semaphores flags queues spin_locks = record {
   sleepers = λ at. row-at (nat_lt at 256) setups 256 at refl (λ row. IfSome row (λ task. SleeperIsKept task)) tt
       (unstarted-kept (find (λ setup. setup.id == at) setups));
   semaphores = λ at. each-first (λ s. SemaphoreIsKept s) (λ config. config.id) semaphore_of semaphores at
@@ -140,11 +141,11 @@ made-each processors setups lines semaphores flags queues = record {
 }
 
 pub made-keeps : (processors : ℕ) (setups : List TaskSetup) (lines : List LineSetup) (semaphores : List SemaphoreConfig) (flags : List FlagConfig)
-    (queues : List QueueConfig) →
-    WaitsAreKept (made_kernel processors setups lines semaphores flags queues)
-made-keeps processors setups lines semaphores flags queues =
-    kept (made_kernel processors setups lines semaphores flags queues) (made-stands processors setups lines semaphores flags queues)
-    (made-each processors setups lines semaphores flags queues)
+    (queues : List QueueConfig) (spin_locks : List SpinLockConfig) →
+    WaitsAreKept (made_kernel processors setups lines semaphores flags queues spin_locks)
+made-keeps processors setups lines semaphores flags queues spin_locks =
+    kept (made_kernel processors setups lines semaphores flags queues spin_locks) (made-stands processors setups lines semaphores flags queues spin_locks)
+    (made-each processors setups lines semaphores flags queues spin_locks)
 
 pub activated-keeps : (k : KernelState) (id : ℕ) (request : Request) → WaitsAreKept k → WaitsAreKept (with_tasks k (activated k.tasks id request))
 activated-keeps k id request was =

@@ -29,3 +29,5 @@ pub mod ReadyLemmas
 pub mod RunningLemmas
 pub mod RunningCallLemmas
 pub mod RunningMadeLemmas
+pub mod SameLemmas
+pub mod SpinLemmas

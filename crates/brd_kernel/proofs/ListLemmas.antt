@@ -167,7 +167,7 @@ apart-kept clears p [] apart = tt
 apart-kept clears p (w ∷ ws) apart =
     kept-apart-by (satisfies p w.wanted) clears w ws (kept_of clears p ws) apart (apart-kept clears p ws apart.2) (has-kept clears p w.id ws apart.1)
 
--- the parts of a list behind its first: who is released of them, who is kept, and how all stand
+-- the parts of a list after its first: who is released of them, who is kept, and how all stand
 kept-by : (holds clears same : Bool) (id : ℕ) (w : Entry Want) (ws kept : List (Entry Want)) (released : List ℕ) → (w.id == id) ≡ same →
     has w.id ws ≡ false →
     (has id ws ≡ false → among id released ≡ false) → priority_in id kept ≡ (if among id released then None else priority_in id ws) →

@@ -19,7 +19,8 @@ use Rattle.brd_kernel.proofs.ThereLemmas.{both}
 use Rattle.std.proofs.lemmas.List.FromFn.{map-range_with_len_more, length-map-range_with_len, get_or-map-range_with_len}
 use Rattle.std.specs.Prelude.{false}
 use Rattle.std.proofs.lemmas.List.Elements.{All-nil, All-cons}
-use Rattle.brd_kernel.specs.Making.{idle_one, idle_ones, made_line, made_lines}
+use Rattle.brd_config.specs.declared.objects.SpinLockConfig.{SpinLockConfig}
+use Rattle.brd_kernel.specs.Making.{idle_one, idle_ones, made_line, made_lines, is_configured, made_spin_locks}
 
 -- the lines by one number more
 
@@ -30,6 +31,16 @@ no_lines setups = refl
 pub lines_more : (setups : List LineSetup) (n : ℕ) → made_lines setups (n + 1) ≡ made_lines setups n ++ made_line setups n ∷ []
 unfolding made_lines
 lines_more setups n = map-range_with_len_more (made_line setups) 0 n n (omega arith)
+
+-- the spin locks alike
+
+pub no_locks : (configs : List SpinLockConfig) → made_spin_locks configs 0 ≡ []
+unfolding made_spin_locks
+no_locks configs = refl
+
+pub locks_more : (configs : List SpinLockConfig) (n : ℕ) → made_spin_locks configs (n + 1) ≡ made_spin_locks configs n ++ is_configured configs n ∷ []
+unfolding made_spin_locks
+locks_more configs n = map-range_with_len_more (is_configured configs) 0 n n (omega arith)
 
 lines-length : (setups : List LineSetup) (n : ℕ) → length (made_lines setups n) ≡ n
 unfolding made_lines
@@ -57,10 +68,10 @@ unfolding idle_ones
 none-at-0 processors = get_or-map-range_with_len (idle_one processors) 0 9 0 0 None (omega arith) (omega arith)
 
 -- what a function has made part by part is a kernel
-pub made-kernel : (time : Time) (tasks : TaskTable) (semaphores : Table Semaphore) (flags : Table Flag) (queues : Table DataQueueState) (processors : ℕ) (setups : List LineSetup) (ps : List (Option Processor)) (contexts : List State) (lines : List Line) (console : List ℕ) →
+pub made-kernel : (time : Time) (tasks : TaskTable) (semaphores : Table Semaphore) (flags : Table Flag) (queues : Table DataQueueState) (locks : List Bool) (processors : ℕ) (setups : List LineSetup) (ps : List (Option Processor)) (contexts : List State) (lines : List Line) (console : List ℕ) →
     ps ≡ idle_ones processors 9 → contexts ≡ replicate 9 no_context → lines ≡ made_lines setups 32 → console ≡ [] →
-    IsKernel (record { off = false; time = time; tasks = tasks; semaphores = semaphores; flags = flags; queues = queues; processors = ps; handler_contexts = contexts; lines = lines; console = console })
-made-kernel time tasks semaphores flags queues processors setups ps contexts lines console ps_are contexts_are lines_are console_is = record {
+    IsKernel (record { off = false; time = time; tasks = tasks; semaphores = semaphores; flags = flags; queues = queues; spin_locks = locks; processors = ps; handler_contexts = contexts; lines = lines; console = console })
+made-kernel time tasks semaphores flags queues locks processors setups ps contexts lines console ps_are contexts_are lines_are console_is = record {
   processors = ap length ps_are ∙ ones-length processors 9;
   handler_contexts = ap length contexts_are;
   lines = ap length lines_are ∙ lines-length setups 32;

@@ -32,7 +32,7 @@ use Rattle.brd_kernel.specs.Services.{runs_held, is_held_elsewhere, is_no_proces
 use Rattle.brd_kernel.specs.Running.{is_ready_on, IsRunning}
 use Rattle.brd_kernel.proofs.ListLemmas.{same-number}
 use Rattle.brd_kernel.proofs.WaitLemmas.{unlisted-only, reordered-only}
-use Rattle.brd_kernel.proofs.WalkLemmas.{IsOfBoard, May, Law, in_semaphore, in_flag, in_senders, in_receivers, serve-leaves}
+use Rattle.brd_kernel.proofs.WalkLemmas.{IsOfBoard, Fact, Unheld, OfTask, HoldsNone, May, Law, in_semaphore, in_flag, in_senders, in_receivers, serve-leaves}
 use Rattle.brd_kernel.proofs.ReadyLemmas.{KeepsReady, activated-keeps, ended-others, wakeup-keeps, cleared-keeps, blocked-active, suspended-active, through-others, resumed-keeps, released-keeps, priority-keeps, migrated-others, turned-keeps}
 use Rattle.brd_kernel.proofs.RunningLemmas.{held_in, HoldsReady, IsntHeld, runs-hold, tasks-run, parts-run, marked-runs, others-hold, free-isnt_held, exit-holds, number-there}
 
@@ -146,8 +146,13 @@ pub record IsTaskOf (p : Processor) (caller : ℕ) : Type 0 where
   pub running : p.running ≡ Some caller
   pub unmarked_free : is_held (unmarked p) ≡ false
 
+abbrev pub known_of : Processor → ℕ → Fact → Type 0
+known_of p caller Unheld = IsFree p caller
+known_of p caller OfTask = IsTaskOf p caller
+known_of p caller HoldsNone = p.spin ≡ None
+
 abbrev pub MayServe : Processor → ℕ → Call → Type 0
-MayServe p caller c = May (IsFree p caller) (IsTaskOf p caller) caller c
+MayServe p caller c = May (known_of p caller) caller c
 
 -- The caller waits.
 
@@ -250,7 +255,7 @@ ext-holds k cpu caller p there may was =
     (ended-others k.tasks caller was.tasks) was)
 
 holds-law : (k : KernelState) (cpu : ℕ) (p : Processor) → processor_at k cpu ≡ Some p → IsRunning k →
-    Law (IsFree p (caller_on k cpu)) (IsTaskOf p (caller_on k cpu)) HoldsReady k cpu (caller_on k cpu)
+    Law (known_of p (caller_on k cpu)) HoldsReady k cpu (caller_on k cpu)
 holds-law k cpu p found was =
     let caller : ℕ = caller_on k cpu in
     record {
@@ -276,7 +281,7 @@ holds-law k cpu p found was =
       delays = λ due may. wait-holds k cpu caller reason.Delay (Some due) k p refl found may was;
       rotates = λ priority q there. tasks-hold k (turned k.tasks cpu priority)
           (turned-keeps k.tasks cpu priority was.tasks (omega (arith, (number-there k cpu q was there).1))) was;
-      marks = λ q new there same. runs-hold (with_processor k cpu new) (marked-runs k cpu q new there same was);
+      marks = λ q new there same how. runs-hold (with_processor k cpu new) (marked-runs k cpu q new there same was);
       returns = λ q there. ended-handler-holds k cpu q there was;
       signals = λ id (s : Semaphore) there. let new : KernelState = record k { semaphores = object_changed returned k.semaphores id } in
           runs-hold (with_released new (first_waiter s)) (released-if-runs new (first_waiter s) (parts-run k new refl refl was));

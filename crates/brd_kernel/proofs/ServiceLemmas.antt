@@ -26,7 +26,7 @@ use Rattle.brd_kernel.specs.Services as table
 use Rattle.brd_kernel.specs.Services.{named, unmarked_on, handler_ended, serve_by, serve_of, caller_on, or_waits, callers_priority, with_released, with_all_released_in, with_satisfied_of, handed_over, flag_got, queue_sent, queue_received}
 use Rattle.brd_kernel.specs.Waiting.{standing_for, WaitsAreKept}
 use Rattle.brd_kernel.proofs.ListLemmas.{either}
-use Rattle.brd_kernel.proofs.WalkLemmas.{Law, in_semaphore, in_flag, in_senders, in_receivers, serve-always}
+use Rattle.brd_kernel.proofs.WalkLemmas.{Anything, Law, in_semaphore, in_flag, in_senders, in_receivers, serve-always}
 use Rattle.brd_kernel.proofs.SleeperLemmas.{AreKept}
 use Rattle.brd_kernel.proofs.EachLemmas.{others-kept, tasks-kept, ticked-kept, fault-kept}
 use Rattle.brd_kernel.proofs.EachCallLemmas.{serve-kept}
@@ -50,7 +50,7 @@ asleep-by k id task (Some reason.Sleep) there waiting asleep was =
 asleep-by k id task _ there waiting asleep was = absurd (false≢true asleep)
 
 -- what each effect makes of it
-stands-law : (k : KernelState) (cpu caller : ℕ) → StandsIn [] k → Law (Unit {0}) (Unit {0}) (StandsIn []) k cpu caller
+stands-law : (k : KernelState) (cpu caller : ℕ) → StandsIn [] k → Law Anything (StandsIn []) k cpu caller
 stands-law k cpu caller was = record {
   stays = was;
   activates = λ id request of. tasks-keep k (activated k.tasks id request) (activated-before k.tasks id request) was;
@@ -70,7 +70,7 @@ stands-law k cpu caller was = record {
   delays = λ due may. wait-keeps k caller reason.Delay (Some due) k refl
       (λ small. enters-none caller (callers_priority k caller) reason.Delay (standing_for k) delay-none was.apart) was;
   rotates = λ priority p there. tasks-keep k (turned k.tasks cpu priority) (turned-before k.tasks cpu priority) was;
-  marks = λ p q there same. processor-keeps k cpu q was;
+  marks = λ p q there same how. processor-keeps k cpu q was;
   returns = λ p there. parts-keep k (handler_ended k cpu p) refl refl refl refl refl was;
   signals = λ id (s : Semaphore) there. returned-keeps k id s s.waiters there refl was;
   takes = λ id (s : Semaphore) there. semaphore-stays taken k id s there (taken-by (s.count == 0) s _) was;

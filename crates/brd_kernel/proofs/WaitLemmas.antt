@@ -27,16 +27,17 @@ pub record OnlyLists (k new : KernelState) : Type 0 where
   pub tasks : new.tasks ≡ k.tasks
   pub time : new.time ≡ k.time
   pub processors : new.processors ≡ k.processors
+  pub spin_locks : new.spin_locks ≡ k.spin_locks
 
 pub unlisted-only : (k : KernelState) (id : ℕ) (why : Option WaitReason) → OnlyLists k (unlisted_from k id why)
-unlisted-only k id None = record { tasks = refl; time = refl; processors = refl }
-unlisted-only k id (Some reason.Sleep) = record { tasks = refl; time = refl; processors = refl }
-unlisted-only k id (Some _) = record { tasks = refl; time = refl; processors = refl }
+unlisted-only k id None = record { tasks = refl; time = refl; processors = refl; spin_locks = refl }
+unlisted-only k id (Some reason.Sleep) = record { tasks = refl; time = refl; processors = refl; spin_locks = refl }
+unlisted-only k id (Some _) = record { tasks = refl; time = refl; processors = refl; spin_locks = refl }
 
 pub reordered-only : (k : KernelState) (id priority : ℕ) (why : Option WaitReason) → OnlyLists k (reordered_in k id priority why)
-reordered-only k id priority None = record { tasks = refl; time = refl; processors = refl }
-reordered-only k id priority (Some reason.Sleep) = record { tasks = refl; time = refl; processors = refl }
-reordered-only k id priority (Some _) = record { tasks = refl; time = refl; processors = refl }
+reordered-only k id priority None = record { tasks = refl; time = refl; processors = refl; spin_locks = refl }
+reordered-only k id priority (Some reason.Sleep) = record { tasks = refl; time = refl; processors = refl; spin_locks = refl }
+reordered-only k id priority (Some _) = record { tasks = refl; time = refl; processors = refl; spin_locks = refl }
 
 -- Waits that end by time.
 

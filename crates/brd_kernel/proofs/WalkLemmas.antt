@@ -1,9 +1,9 @@
 -- One walk over the service table, for every law of what a service call leaves. A law says what holds after each effect
 -- that a call can have (`Law`); the walk says of each call which effect it has. A call that has an effect which others
 -- have already is one case here, and nothing in any law.
-use Rattle.std.proofs.Common.{◌≡◌, ◌≢◌, ℕ, ◌%◌, ◌^◌, [], ◌∷◌, ◌++◌, refl, subst, arith}
+use Rattle.std.proofs.Common.{◌≡◌, ◌≢◌, ℕ, ◌%◌, ◌^◌, [], ◌∷◌, ◌++◌, refl, ap, subst, ◌∙◌, arith}
 use Rattle.std.specs.Prelude.{Bool, true, false, ◌==◌, ◌||◌, nat_lt, Option, None, Some, Err}
-use Rattle.std.proofs.lemmas.Bool.{or_parts}
+use Rattle.std.proofs.lemmas.Bool.{or_parts, true≢false}
 use Rattle.std.proofs.lemmas.Bool.Decides.{nat_tests}
 use Rattle.brd_tasks.specs.declared.status.WaitReason.{WaitReason}
 use Rattle.brd_tasks.specs.declared.status.WaitReason.TheVariants as reason
@@ -23,15 +23,17 @@ use Rattle.brd_objects.specs.Semaphores.{returned, first_waiter, has_one, taken,
 use Rattle.brd_objects.specs.Flags.{joined, masked, pattern_for, taken_for, flag_awaited}
 use Rattle.brd_objects.specs.DataQueues.{DataQueueState, sent, outcome, forced, forced_outcome, received, receipt, awaited_by_sender, awaited_by_receiver}
 use Rattle.brd_kernel.specs.declared.processor.Processor.{Processor}
+use Rattle.brd_kernel.specs.declared.processor.Spin.{Spin}
+use Rattle.brd_kernel.specs.declared.processor.Spin.TheVariants as spin
 use Rattle.brd_kernel.specs.declared.call.Call.{Call}
 use Rattle.brd_kernel.specs.declared.call.Call.TheVariants as call
 use Rattle.brd_kernel.specs.declared.call.Ercd.TheVariants.{Rlwai, Tmout}
 use Rattle.brd_kernel.specs.Answer.{e_ok, code_of}
-use Rattle.brd_kernel.specs.Kernel.{KernelState, with_tasks, with_processor, processor_at}
+use Rattle.brd_kernel.specs.Kernel.{KernelState, with_tasks, with_processor, processor_at, spin_of, holding, letting_go}
 use Rattle.brd_kernel.specs.Waits.{is_bad_timeout, due_by, due_after, with_wait, released_in, broken_off, ended_in}
 use Rattle.brd_kernel.specs.Row.{served}
 use Rattle.brd_kernel.specs.Services as table
-use Rattle.brd_kernel.specs.Services.{named, is_asleep, is_bad_want, is_held_elsewhere, is_no_processor, or_waits, callers_priority, with_released, with_satisfied_released, handed_over, with_priority_in, flag_got, queue_sent, queue_received, unmarked_on, handler_ended, serve_by, serve_of, caller_on}
+use Rattle.brd_kernel.specs.Services.{named, is_asleep, is_bad_want, is_held_elsewhere, is_no_processor, or_waits, callers_priority, with_released, with_satisfied_released, handed_over, with_priority_in, flag_got, queue_sent, queue_received, unmarked_on, handler_ended, is_taken, lock_taken_by, lock_taken, lock_given_by, serve_by, serve_of, caller_on}
 use Rattle.brd_kernel.proofs.ServedLemmas.{Leaves, leaves-row, leaves-if, leaves-or_refused}
 
 -- a request names a processor of the board, if it names one
@@ -53,9 +55,33 @@ in_senders k caller id datum = record k { queues = object_changed (awaited_by_se
 abbrev pub in_receivers : KernelState → ℕ → ℕ → KernelState
 in_receivers k caller id = record k { queues = object_changed (awaited_by_receiver caller (callers_priority k caller)) k.queues id }
 
--- What a law says of each effect that a call of a caller on a processor can have: `Q` is what holds after it. `Free` is
--- what is known where the caller stops running (it waits, or suspends or migrates itself), `End` where it ends.
-pub record Law (Free End : Type 0) (Q : KernelState → Type 0) (k : KernelState) (cpu caller : ℕ) : Type 0 where
+-- What the gate may have shown of a caller: its processor isn't held; it is the task that runs there, and no handler;
+-- its processor holds no spin lock.
+pub data Fact : Type 0 where
+  Unheld : Fact
+  OfTask : Fact
+  HoldsNone : Fact
+
+-- a processor goes on holding the spin lock that it holds, if it holds one, and stands as it did
+pub record HoldsOn (p q : Processor) : Type 0 where
+  pub spin : q.spin ≡ p.spin
+  pub locked : p.locked ≡ true → q.locked ≡ true
+  pub handling : q.handling ≡ p.handling
+  pub on : q.stopped ≡ p.stopped
+
+-- What becomes of the spin lock of a processor `p` that is then `q`: it keeps it; it is no longer CPU-locked, as it
+-- holds none; it takes one that is free; or it holds none after it.
+pub data Holding (Known : Fact → Type 0) (k : KernelState) (p q : Processor) : Type 0 where
+  Keeps : HoldsOn p q → Holding Known k p q
+  Opens : Known HoldsNone → q.spin ≡ p.spin → Holding Known k p q
+  Takes : (id : ℕ) → spin_of k id ≡ Some spin.Free → Known OfTask → q ≡ holding id p → Holding Known k p q
+  Leaves-none : q.spin ≡ None → Holding Known k p q
+
+-- What a law says of each effect that a call of a caller on a processor can have: `Q` is what holds after it. `Known`
+-- is what is known of the caller: that its processor isn't held where it stops running (it waits, or suspends or
+-- migrates itself), that it is a task where it ends or takes a spin lock, and that its processor holds none where the
+-- CPU lock is taken away.
+pub record Law (Known : Fact → Type 0) (Q : KernelState → Type 0) (k : KernelState) (cpu caller : ℕ) : Type 0 where
   -- nothing changes
   pub stays : Q k
   -- of a task
@@ -64,32 +90,32 @@ pub record Law (Free End : Type 0) (Q : KernelState → Type 0) (k : KernelState
   pub wakes : (id : ℕ) (task : Task) → task_at k.tasks id ≡ Some task → is_asleep task.status ≡ false →
       Q (with_tasks k (noted (with_wakeup true) k.tasks id))
   pub unwakes : (id : ℕ) → Q (with_tasks k (noted (with_wakeup false) k.tasks id))
-  pub exits : End → Q (unmarked_on (ended_in k caller) cpu (processor_at k cpu))
+  pub exits : Known OfTask → Q (unmarked_on (ended_in k caller) cpu (processor_at k cpu))
   pub ends : (id : ℕ) (task : Task) → task_at k.tasks id ≡ Some task → is_held_elsewhere k cpu id task ≡ false → (id == caller) ≡ false →
       Q (ended_in k id)
   pub prioritizes : (id priority : ℕ) (task : Task) → task_at k.tasks id ≡ Some task → Q (with_priority_in k id priority (waiting_of task.status))
   pub migrates : (id to : ℕ) (task : Task) → task_at k.tasks id ≡ Some task → is_held_elsewhere k cpu id task ≡ false →
-      is_no_processor k to ≡ false → ((id == caller) ≡ true → Free) →
+      is_no_processor k to ≡ false → ((id == caller) ≡ true → Known Unheld) →
       Q (with_tasks k (changed (on_processor to) k.tasks id))
   pub suspends : (id : ℕ) (task : Task) → task_at k.tasks id ≡ Some task → is_held_elsewhere k cpu id task ≡ false →
-      ((id == caller) ≡ true → Free) →
+      ((id == caller) ≡ true → Known Unheld) →
       Q (with_tasks k (through suspended k.tasks id))
   pub resumes : (id : ℕ) → Q (with_tasks k (through resumed k.tasks id))
   -- of a wait for time
   pub rouses : (id : ℕ) (task : Task) → task_at k.tasks id ≡ Some task → is_asleep task.status ≡ true → Q (released_in k id e_ok None)
   pub breaks : (id answer : ℕ) → Q (broken_off k id answer)
-  pub sleeps : (due : Option ℕ) (task : Task) → task_at k.tasks caller ≡ Some task → task.wakeup ≡ false → Free →
+  pub sleeps : (due : Option ℕ) (task : Task) → task_at k.tasks caller ≡ Some task → task.wakeup ≡ false → Known Unheld →
       Q (with_wait k caller reason.Sleep due k)
-  pub delays : (due : ℕ) → Free → Q (with_wait k caller reason.Delay (Some due) k)
+  pub delays : (due : ℕ) → Known Unheld → Q (with_wait k caller reason.Delay (Some due) k)
   -- of a processor
   pub rotates : (priority : ℕ) (p : Processor) → processor_at k cpu ≡ Some p → Q (with_tasks k (turned k.tasks cpu priority))
-  pub marks : (p q : Processor) → processor_at k cpu ≡ Some p → q.running ≡ p.running → Q (with_processor k cpu q)
+  pub marks : (p q : Processor) → processor_at k cpu ≡ Some p → q.running ≡ p.running → Holding Known k p q → Q (with_processor k cpu q)
   pub returns : (p : Processor) → processor_at k cpu ≡ Some p → Q (handler_ended k cpu p)
   -- of a semaphore
   pub signals : (id : ℕ) (s : Semaphore) → object_at k.semaphores id ≡ Some s →
       Q (with_released (record k { semaphores = object_changed returned k.semaphores id }) (first_waiter s))
   pub takes : (id : ℕ) (s : Semaphore) → object_at k.semaphores id ≡ Some s → Q (record k { semaphores = object_changed taken k.semaphores id })
-  pub awaits_semaphore : (id : ℕ) (due : Option ℕ) (s : Semaphore) → object_at k.semaphores id ≡ Some s → has_one s ≡ false → Free →
+  pub awaits_semaphore : (id : ℕ) (due : Option ℕ) (s : Semaphore) → object_at k.semaphores id ≡ Some s → has_one s ≡ false → Known Unheld →
       Q (with_wait k caller (reason.Semaphore id) due (in_semaphore k caller id))
   -- of an event flag
   pub sets : (id bits : ℕ) (f : Flag) → object_at k.flags id ≡ Some f →
@@ -97,27 +123,29 @@ pub record Law (Free End : Type 0) (Q : KernelState → Type 0) (k : KernelState
   pub clears : (id bits : ℕ) (f : Flag) → object_at k.flags id ≡ Some f → Q (record k { flags = object_changed (masked bits) k.flags id })
   pub gets : (id : ℕ) (want : Want) (f : Flag) → object_at k.flags id ≡ Some f → Q (record k { flags = object_changed (taken_for want) k.flags id })
   pub awaits_flag : (id : ℕ) (want : Want) (due : Option ℕ) (f : Flag) → object_at k.flags id ≡ Some f → pattern_for want f ≡ None → want.bits ≢ 0 →
-      Free →
+      Known Unheld →
       Q (with_wait k caller (reason.Flag id) due (in_flag k caller id want))
   -- of a data queue
   pub sends : (id datum : ℕ) (q : DataQueueState) → object_at k.queues id ≡ Some q →
       Q (handed_over (record k { queues = object_changed (sent datum) k.queues id }) datum (outcome q))
-  pub awaits_send : (id datum : ℕ) (due : Option ℕ) (q : DataQueueState) → object_at k.queues id ≡ Some q → outcome q ≡ Full → Free →
+  pub awaits_send : (id datum : ℕ) (due : Option ℕ) (q : DataQueueState) → object_at k.queues id ≡ Some q → outcome q ≡ Full → Known Unheld →
       Q (with_wait k caller (reason.Send id) due (in_senders k caller id datum))
   pub forces : (id datum : ℕ) (q : DataQueueState) → object_at k.queues id ≡ Some q →
       Q (handed_over (record k { queues = object_changed (forced datum) k.queues id }) datum (forced_outcome q))
   pub receives : (id : ℕ) (q : DataQueueState) (it : Received) → object_at k.queues id ≡ Some q → receipt q ≡ Some it →
       Q (with_released (record k { queues = object_changed received k.queues id }) it.sender)
-  pub awaits_receive : (id : ℕ) (due : Option ℕ) (q : DataQueueState) → object_at k.queues id ≡ Some q → receipt q ≡ None → Free →
+  pub awaits_receive : (id : ℕ) (due : Option ℕ) (q : DataQueueState) → object_at k.queues id ≡ Some q → receipt q ≡ None → Known Unheld →
       Q (with_wait k caller (reason.Receive id) due (in_receivers k caller id))
   -- of the board
   pub writes : (word : ℕ) → Q (record k { console = k.console ++ word % 2 ^ 8 ∷ [] })
   pub ends_all : Q (record k { off = true })
 
--- What a call may do to its caller: it goes on; it may wait for so long, or for 0 only polls; it waits; it names the task
--- that is to stop, which may be itself; or it ends.
+-- What a call may do to its caller: it goes on; it takes a spin lock; it is no longer CPU-locked; it may wait for so
+-- long, or for 0 only polls; it waits; it names the task that is to stop, which may be itself; or it ends.
 pub data Stop : Type 0 where
   GoesOn : Stop
+  Locks : Stop
+  Unlocks : Stop
   MayWait : ℕ → Stop
   Waits : Stop
   Names : ℕ → Stop
@@ -125,6 +153,9 @@ pub data Stop : Type 0 where
 
 abbrev pub stop_of : Call → Stop
 stop_of call.ExtTsk = Ends
+stop_of (call.LocSpn l) = Locks
+stop_of (call.TrySpn l) = Locks
+stop_of call.UnlCpu = Unlocks
 stop_of (call.MigTsk t to) = Names t
 stop_of (call.SusTsk t) = Names t
 stop_of (call.TslpTsk timeout) = MayWait timeout
@@ -135,20 +166,28 @@ stop_of (call.TsndDtq q datum timeout) = MayWait timeout
 stop_of (call.TrcvDtq q timeout) = MayWait timeout
 stop_of _ = GoesOn
 
--- What has to be known of a call by that: where its caller stops running, `Free`, and where it ends, `End`.
-abbrev pub MayStop : Type 0 → Type 0 → ℕ → Stop → Type 0
-MayStop Free End caller GoesOn = Unit {0}
-MayStop Free End caller (MayWait timeout) = (timeout == 0) ≡ false → Free
-MayStop Free End caller Waits = Free
-MayStop Free End caller (Names t) = (named caller t == caller) ≡ true → Free
-MayStop Free End caller Ends = End
+-- What has to be known of the caller of a call by that.
+abbrev pub MayStop : (Fact → Type 0) → ℕ → Stop → Type 0
+MayStop Known caller GoesOn = Unit {0}
+MayStop Known caller Locks = Known OfTask
+MayStop Known caller Unlocks = Known HoldsNone
+MayStop Known caller (MayWait timeout) = (timeout == 0) ≡ false → Known Unheld
+MayStop Known caller Waits = Known Unheld
+MayStop Known caller (Names t) = (named caller t == caller) ≡ true → Known Unheld
+MayStop Known caller Ends = Known OfTask
 
-abbrev pub May : Type 0 → Type 0 → ℕ → Call → Type 0
-May Free End caller c = MayStop Free End caller (stop_of c)
+abbrev pub May : (Fact → Type 0) → ℕ → Call → Type 0
+May Known caller c = MayStop Known caller (stop_of c)
 
 -- where nothing needs to be known, every call may be
-any-may : (caller : ℕ) (stop : Stop) → MayStop (Unit {0}) (Unit {0}) caller stop
+
+abbrev pub Anything : Fact → Type 0
+Anything fact = Unit {0}
+
+any-may : (caller : ℕ) (stop : Stop) → MayStop Anything caller stop
 any-may caller GoesOn = tt
+any-may caller Locks = tt
+any-may caller Unlocks = tt
 any-may caller (MayWait timeout) = λ waits. tt
 any-may caller Waits = tt
 any-may caller (Names t) = λ own. tt
@@ -175,16 +214,16 @@ waits : (Q : KernelState → Type 0) (k : KernelState) (caller : ℕ) (why : Wai
     ((timeout == 0) ≡ false → Q (with_wait k caller why (due_by k timeout) entered)) → Leaves Q (or_waits k caller why timeout entered)
 waits Q k caller why timeout entered leaves = leaves-if Q (timeout == 0) (Err Tmout) _ (λ polls. tt) leaves
 
-got : {Free End : Type 0} (Q : KernelState → Type 0) (k : KernelState) (cpu caller : ℕ) (law : Law Free End Q k cpu caller) (id : ℕ) (want : Want)
+got : {Known : Fact → Type 0} (Q : KernelState → Type 0) (k : KernelState) (cpu caller : ℕ) (law : Law Known Q k cpu caller) (id : ℕ) (want : Want)
     (timeout : ℕ) (f : Flag) (pattern : Option ℕ) → object_at k.flags id ≡ Some f → pattern_for want f ≡ pattern → want.bits ≢ 0 →
-    ((timeout == 0) ≡ false → Free) →
+    ((timeout == 0) ≡ false → Known Unheld) →
     Leaves Q (flag_got k caller id want timeout pattern)
 got Q k cpu caller law id want timeout f (Some pattern) there is some may = law.gets id want f there
 got Q k cpu caller law id want timeout f None there is some may =
     waits Q k caller (reason.Flag id) timeout (in_flag k caller id want) (λ wait. law.awaits_flag id want (due_by k timeout) f there is some (may wait))
 
-sent-to : {Free End : Type 0} (Q : KernelState → Type 0) (k : KernelState) (cpu caller : ℕ) (law : Law Free End Q k cpu caller) (id datum timeout : ℕ)
-    (q : DataQueueState) (what : Sent) → object_at k.queues id ≡ Some q → outcome q ≡ what → ((timeout == 0) ≡ false → Free) →
+sent-to : {Known : Fact → Type 0} (Q : KernelState → Type 0) (k : KernelState) (cpu caller : ℕ) (law : Law Known Q k cpu caller) (id datum timeout : ℕ)
+    (q : DataQueueState) (what : Sent) → object_at k.queues id ≡ Some q → outcome q ≡ what → ((timeout == 0) ≡ false → Known Unheld) →
     Leaves Q (queue_sent k caller id datum timeout what)
 sent-to Q k cpu caller law id datum timeout q (Handed task) there is may =
     subst (λ what. Q (handed_over (record k { queues = object_changed (sent datum) k.queues id }) datum what)) is (law.sends id datum q there)
@@ -193,23 +232,51 @@ sent-to Q k cpu caller law id datum timeout q Stored there is may =
 sent-to Q k cpu caller law id datum timeout q Full there is may =
     waits Q k caller (reason.Send id) timeout (in_senders k caller id datum) (λ wait. law.awaits_send id datum (due_by k timeout) q there is (may wait))
 
-received-by : {Free End : Type 0} (Q : KernelState → Type 0) (k : KernelState) (cpu caller : ℕ) (law : Law Free End Q k cpu caller) (id timeout : ℕ)
-    (q : DataQueueState) (what : Option Received) → object_at k.queues id ≡ Some q → receipt q ≡ what → ((timeout == 0) ≡ false → Free) →
+received-by : {Known : Fact → Type 0} (Q : KernelState → Type 0) (k : KernelState) (cpu caller : ℕ) (law : Law Known Q k cpu caller) (id timeout : ℕ)
+    (q : DataQueueState) (what : Option Received) → object_at k.queues id ≡ Some q → receipt q ≡ what → ((timeout == 0) ≡ false → Known Unheld) →
     Leaves Q (queue_received k caller id timeout what)
 received-by Q k cpu caller law id timeout q (Some it) there is may = law.receives id q it there is
 received-by Q k cpu caller law id timeout q None there is may =
     waits Q k caller (reason.Receive id) timeout (in_receivers k caller id) (λ wait. law.awaits_receive id (due_by k timeout) q there is (may wait))
 
-woken : {Free End : Type 0} (Q : KernelState → Type 0) (k : KernelState) (cpu caller : ℕ) (law : Law Free End Q k cpu caller) (id : ℕ) →
+woken : {Known : Fact → Type 0} (Q : KernelState → Type 0) (k : KernelState) (cpu caller : ℕ) (law : Law Known Q k cpu caller) (id : ℕ) →
     Leaves Q (served (table.wup_tsk k id))
 woken Q k cpu caller law id =
     leaves-row Q (table.wup_tsk k id)
     (λ (task : Task) passes. leaves-if Q (is_asleep task.status) _ _ (law.rouses id task passes.there) (law.wakes id task passes.there))
 
+-- Calls that mark a processor, and those of spin locks.
+
+stays-locked : {Known : Fact → Type 0} {k : KernelState} {p : Processor} {disabled : Bool} → Holding Known k p (record p { disabled = disabled })
+stays-locked = Keeps (record { spin = refl; locked = λ is. is; handling = refl; on = refl })
+
+now-locked : {Known : Fact → Type 0} {k : KernelState} {p : Processor} → Holding Known k p (record p { locked = true })
+now-locked = Keeps (record { spin = refl; locked = λ is. refl; handling = refl; on = refl })
+
+is-free : (lock : Spin) → is_taken lock ≡ false → lock ≡ spin.Free
+is-free spin.Free free = refl
+is-free (spin.Held cpu) free = absurd (true≢false free)
+
+takes-by : {Known : Fact → Type 0} (Q : KernelState → Type 0) (k : KernelState) (cpu caller : ℕ) (law : Law Known Q k cpu caller) (id : ℕ) (lock : Spin)
+    (found : Option Processor) → processor_at k cpu ≡ found → spin_of k id ≡ Some lock → is_taken lock ≡ false → Known OfTask →
+    Q (lock_taken_by k cpu id found)
+takes-by Q k cpu caller law id lock None is there free may = law.stays
+takes-by Q k cpu caller law id lock (Some p) is there free may =
+    law.marks p (holding id p) is refl (Takes id (there ∙ ap Some (is-free lock free)) may refl)
+
+takes-lock : {Known : Fact → Type 0} (Q : KernelState → Type 0) (k : KernelState) (cpu caller : ℕ) (law : Law Known Q k cpu caller) (id : ℕ) (lock : Spin) →
+    spin_of k id ≡ Some lock → is_taken lock ≡ false → Known OfTask → Q (lock_taken k cpu id)
+takes-lock Q k cpu caller law id lock there free may = takes-by Q k cpu caller law id lock (processor_at k cpu) refl there free may
+
+gives-by : {Known : Fact → Type 0} (Q : KernelState → Type 0) (k : KernelState) (cpu caller : ℕ) (law : Law Known Q k cpu caller)
+    (found : Option Processor) → processor_at k cpu ≡ found → Q (lock_given_by k cpu found)
+gives-by Q k cpu caller law None is = law.stays
+gives-by Q k cpu caller law (Some p) is = law.marks p (letting_go p) is refl (Leaves-none refl)
+
 -- The walk.
 
-walk : {Free End : Type 0} (Q : KernelState → Type 0) (k : KernelState) (cpu caller : ℕ) (law : Law Free End Q k cpu caller) (c : Call) →
-    May Free End caller c → Leaves Q (serve_by k cpu caller c)
+walk : {Known : Fact → Type 0} (Q : KernelState → Type 0) (k : KernelState) (cpu caller : ℕ) (law : Law Known Q k cpu caller) (c : Call) →
+    May Known caller c → Leaves Q (serve_by k cpu caller c)
 walk Q k cpu caller law (call.ActTsk t) may = leaves-row Q (table.act_tsk k (named caller t)) (λ task passes. law.activates (named caller t) Assigned tt)
 walk Q k cpu caller law (call.IactTsk t) may = leaves-row Q (table.act_tsk k t) (λ task passes. law.activates t Assigned tt)
 walk Q k cpu caller law (call.MactTsk t to) may =
@@ -235,13 +302,13 @@ walk Q k cpu caller law (call.RotRdq priority) may =
 walk Q k cpu caller law (call.IrotRdq priority) may = leaves-row Q (table.irot_rdq k cpu priority) (λ p passes. law.rotates priority p passes.there)
 walk Q k cpu caller law call.GetTid may = leaves-row Q (table.get_tid k caller) (λ x passes. law.stays)
 walk Q k cpu caller law call.DisDsp may =
-    leaves-row Q (table.mark_dsp k cpu true) (λ (p : Processor) passes. law.marks p (record p { disabled = true }) passes.there refl)
+    leaves-row Q (table.mark_dsp k cpu true) (λ (p : Processor) passes. law.marks p (record p { disabled = true }) passes.there refl stays-locked)
 walk Q k cpu caller law call.EnaDsp may =
-    leaves-row Q (table.mark_dsp k cpu false) (λ (p : Processor) passes. law.marks p (record p { disabled = false }) passes.there refl)
+    leaves-row Q (table.mark_dsp k cpu false) (λ (p : Processor) passes. law.marks p (record p { disabled = false }) passes.there refl stays-locked)
 walk Q k cpu caller law call.LocCpu may =
-    leaves-row Q (table.mark_cpu k cpu true) (λ (p : Processor) passes. law.marks p (record p { locked = true }) passes.there refl)
+    leaves-row Q (table.mark_cpu k cpu true) (λ (p : Processor) passes. law.marks p (record p { locked = true }) passes.there refl now-locked)
 walk Q k cpu caller law call.UnlCpu may =
-    leaves-row Q (table.mark_cpu k cpu false) (λ (p : Processor) passes. law.marks p (record p { locked = false }) passes.there refl)
+    leaves-row Q (table.mark_cpu k cpu false) (λ (p : Processor) passes. law.marks p (record p { locked = false }) passes.there refl (Opens may refl))
 walk Q k cpu caller law (call.TslpTsk timeout) may =
     leaves-row Q (table.tslp_tsk k caller timeout)
     (λ (task : Task) passes. leaves-if Q task.wakeup _ _ (λ queued. law.unwakes caller)
@@ -279,14 +346,22 @@ walk Q k cpu caller law (call.TrcvDtq id timeout) may =
 walk Q k cpu caller law (call.PutChr word) may = leaves-row Q (table.put_chr k word) (λ x passes. law.writes word)
 walk Q k cpu caller law call.ExtKer may = leaves-row Q (table.ext_ker k) (λ x passes. law.ends_all)
 walk Q k cpu caller law call.RetInt may = leaves-row Q (table.ret_int k cpu) (λ (p : Processor) passes. law.returns p passes.there)
+walk Q k cpu caller law (call.LocSpn id) may =
+    leaves-row Q (table.loc_spn k cpu id)
+    (λ (lock : Spin) passes. leaves-if Q (is_taken lock) _ _ (λ taken. law.stays)
+    (λ free. takes-lock Q k cpu caller law id lock passes.there free may))
+walk Q k cpu caller law (call.TrySpn id) may =
+    leaves-row Q (table.try_spn k cpu id) (λ (lock : Spin) passes. takes-lock Q k cpu caller law id lock passes.there passes.obj may)
+walk Q k cpu caller law (call.UnlSpn id) may =
+    leaves-row Q (table.unl_spn k cpu id) (λ (lock : Spin) passes. gives-by Q k cpu caller law (processor_at k cpu) refl)
 
 -- what a call leaves, refused or not
-pub serve-leaves : {Free End : Type 0} (Q : KernelState → Type 0) (k : KernelState) (cpu : ℕ) (law : Law Free End Q k cpu (caller_on k cpu))
-    (c : Call) → May Free End (caller_on k cpu) c → Q (serve_of k cpu c).kernel
+pub serve-leaves : {Known : Fact → Type 0} (Q : KernelState → Type 0) (k : KernelState) (cpu : ℕ) (law : Law Known Q k cpu (caller_on k cpu))
+    (c : Call) → May Known (caller_on k cpu) c → Q (serve_of k cpu c).kernel
 serve-leaves Q k cpu law c may =
     leaves-or_refused Q k (serve_by k cpu (caller_on k cpu) c) law.stays (walk Q k cpu (caller_on k cpu) law c may)
 
 -- the same, where a law needs to know nothing of the caller
-pub serve-always : (Q : KernelState → Type 0) (k : KernelState) (cpu : ℕ) → Law (Unit {0}) (Unit {0}) Q k cpu (caller_on k cpu) → (c : Call) →
+pub serve-always : (Q : KernelState → Type 0) (k : KernelState) (cpu : ℕ) → Law Anything Q k cpu (caller_on k cpu) → (c : Call) →
     Q (serve_of k cpu c).kernel
 serve-always Q k cpu law c = serve-leaves Q k cpu law c (any-may (caller_on k cpu) (stop_of c))

@@ -1,4 +1,4 @@
--- Whom a bit pattern doesn't satisfy: fewer bits don't either, and nobody stays whom the pattern behind a release does.
+-- Whom a bit pattern doesn't satisfy: fewer bits don't either, and nobody stays whom the pattern after a release does.
 use Rattle.std.proofs.Common.{◌≡◌, ◌≢◌, ℕ, List, [], ◌∷◌, refl, sym, ap, ◌∙◌, arith, bit_and}
 use Rattle.std.specs.Prelude.{◌==◌, Bool, true, false, not, ◌&&◌, if◌then◌else◌}
 use Rattle.std.specs.Int.Bits.{and_self, and_zero_l}
@@ -57,7 +57,7 @@ pub fewer : (pattern bits : ℕ) (want : Want) → IsUnsatisfied pattern want �
 unfolding satisfies
 fewer pattern bits want was = fewer-by want.mode pattern bits want.bits was
 
--- A release leaves nobody in the list who is satisfied by the pattern behind it.
+-- A release leaves nobody in the list who is satisfied by the pattern after it.
 
 after-either : (R : ℕ → Type 0) (clears : Bool) (pattern : ℕ) (xs : List (Entry Want)) → R 0 → R pattern → R (pattern_after clears pattern xs)
 after-either R clears pattern [] none same = same

@@ -1,4 +1,4 @@
--- The kernel: what it keeps, interrupts, and what is seen of it.
+-- The kernel: what it keeps, interrupts, spin locks, and what is seen of it.
 use Rattle.std.specs.Prelude.{◌≡◌, ℕ, ◌+◌, ◌==◌, Bool, true, false, not, ◌&&◌, ◌||◌, if◌then◌else◌}
 use Rattle.std.specs.Prelude.{List, [], ◌∷◌, slice_index_or, slice_set, Option, None, Some, is_some}
 use Rattle.std.specs.Option.{option_map}
@@ -17,6 +17,8 @@ use Rattle.brd_kernel.specs.declared.processor.Handler.{Handler}
 use Rattle.brd_kernel.specs.declared.processor.Line.{Line}
 use Rattle.brd_kernel.specs.declared.processor.Marks.{Marks}
 use Rattle.brd_kernel.specs.declared.processor.Standing.{Standing}
+use Rattle.brd_kernel.specs.declared.processor.Spin.{Spin}
+use Rattle.brd_kernel.specs.declared.processor.Spin.TheVariants as spin
 use Rattle.brd_kernel.specs.declared.processor.Ended.{Ended}
 use Rattle.brd_kernel.specs.declared.processor.Executor.{Executor}
 use Rattle.brd_kernel.specs.declared.processor.Executor.TheVariants as executor
@@ -29,6 +31,7 @@ pub record KernelState : Type 0 where
   pub semaphores : Table Semaphore  -- by ID, 256 of them, as the two below
   pub flags : Table Flag
   pub queues : Table DataQueueState
+  pub spin_locks : List Bool  -- by ID, 256 of them: whether there is one; who holds it, its processor says
   pub processors : List (Option Processor)  -- by number, 9 of them: None at 0 and where the board has no such processor
   pub handler_contexts : List State  -- by the processor's number, 9 of them: the context of the handler that runs there; any, where none runs
   pub lines : List Line  -- by number, 32 of them
@@ -40,7 +43,7 @@ processor_at k cpu = slice_index_or k.processors cpu None
 
 -- a processor on which nothing runs
 abbrev pub idle : Processor
-idle = record { running = None; handling = None; locked = false; disabled = false; stopped = false }
+idle = record { running = None; handling = None; locked = false; disabled = false; spin = None; stopped = false }
 
 -- A processor is held while it handles an interrupt, is CPU-locked, has dispatching disabled or is stopped: its running
 -- task stays, whoever else is ready.
@@ -155,13 +158,49 @@ accepted_in k cpu (Some line) = accepted_line k cpu line
 abbrev pub accepted : KernelState → ℕ → KernelState
 accepted k cpu = accepted_in k cpu (deliverable k cpu)
 
+-- Spin locks. A processor holds one at most, and is CPU-locked while it does.
+
+-- a processor with neither mark, which holds no spin lock
 abbrev pub unmarked : Processor → Processor
-unmarked p = record p { locked = false; disabled = false }
+unmarked p = record p { locked = false; disabled = false; spin = None }
+
+-- a processor that takes the spin lock of an ID, and one that gives its spin lock back
+
+abbrev pub holding : ℕ → Processor → Processor
+holding id p = record p { locked = true; spin = Some id }
+
+abbrev pub letting_go : Processor → Processor
+letting_go p = record p { locked = false; spin = None }
+
+abbrev pub is_spin : ℕ → Option ℕ → Bool
+is_spin id None = false
+is_spin id (Some held) = held == id
+
+-- a processor holds the spin lock of an ID
+abbrev pub holds : ℕ → Option Processor → Bool
+holds id None = false
+holds id (Some p) = is_spin id p.spin
+
+-- the first processor, from number `cpu` on, that holds it
+abbrev pub holder_from : ℕ → ℕ → List (Option Processor) → Option ℕ
+holder_from id cpu [] = None
+holder_from id cpu (p ∷ ps) = if holds id p then Some cpu else holder_from id (cpu + 1) ps
+
+abbrev pub spin_by : Option ℕ → Spin
+spin_by None = spin.Free
+spin_by (Some cpu) = spin.Held cpu
+
+abbrev pub has_spin_lock : KernelState → ℕ → Bool
+has_spin_lock k id = slice_index_or k.spin_locks id false
+
+-- a spin lock as it stands, where there is one of that ID
+abbrev pub spin_of : KernelState → ℕ → Option Spin
+spin_of k id = if has_spin_lock k id then Some (spin_by (holder_from id 0 k.processors)) else None
 
 -- What is seen of a processor.
 
 abbrev pub marks_of : Processor → Marks
-marks_of p = record { locked = p.locked; disabled = p.disabled }
+marks_of p = record { locked = p.locked; disabled = p.disabled; spin = p.spin }
 
 abbrev pub standing_by : Option ℕ → Option ℕ → Standing
 standing_by running (Some line) = standing.Handler line

@@ -6,6 +6,7 @@ pub mod Row
 pub mod Services
 pub mod Waiting
 pub mod Running
+pub mod Holding
 pub mod Always
 pub mod Lending
 pub mod Making

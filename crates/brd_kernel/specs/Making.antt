@@ -1,12 +1,13 @@
 -- The kernel as it is made, before any task has been started.
-use Rattle.std.specs.Prelude.{ℕ, nat_le, false, ◌==◌, ◌&&◌, if◌then◌else◌, List, [], map, find, replicate, Option, None, Some}
+use Rattle.std.specs.Prelude.{ℕ, nat_le, Bool, false, ◌==◌, ◌&&◌, if◌then◌else◌, List, [], map, find, replicate, Option, None, Some}
 use Rattle.std.specs.Option.{option_map}
-use Rattle.std.specs.List.{range_with_len}
+use Rattle.std.specs.List.{range_with_len, list_any}
 use Rattle.brd_tasks.specs.Tasks.{made, no_context}
 use Rattle.brd_tasks.specs.declared.task.TaskSetup.{TaskSetup}
 use Rattle.brd_config.specs.declared.objects.SemaphoreConfig.{SemaphoreConfig}
 use Rattle.brd_config.specs.declared.objects.FlagConfig.{FlagConfig}
 use Rattle.brd_config.specs.declared.objects.QueueConfig.{QueueConfig}
+use Rattle.brd_config.specs.declared.objects.SpinLockConfig.{SpinLockConfig}
 use Rattle.brd_time.specs.Time.{beginning}
 use Rattle.brd_objects.specs.Semaphores.{made_semaphores}
 use Rattle.brd_objects.specs.Flags.{made_flags}
@@ -17,7 +18,7 @@ use Rattle.brd_kernel.specs.declared.processor.Line.{Line}
 use Rattle.brd_kernel.specs.declared.processor.LineSetup.{LineSetup}
 use Rattle.brd_kernel.specs.Kernel.{KernelState, idle, quiet}
 
--- the processor of a number on a board that has so many, counted from 1
+-- the processor of a number on a board that has n, counted from 1
 abbrev pub idle_one : ℕ → ℕ → Option Processor
 idle_one processors cpu = if nat_le 1 cpu && nat_le cpu processors then Some idle else None
 
@@ -37,14 +38,23 @@ made_line setups line = quiet (handler_of setups line)
 unfoldable pub made_lines : List LineSetup → ℕ → List Line
 made_lines setups count = map (made_line setups) (range_with_len 0 count)
 
-abbrev pub made_kernel : ℕ → List TaskSetup → List LineSetup → List SemaphoreConfig → List FlagConfig → List QueueConfig → KernelState
-made_kernel processors setups lines semaphores flags queues = record {
+-- a spin lock of that ID is configured
+abbrev pub is_configured : List SpinLockConfig → ℕ → Bool
+is_configured configs id = list_any (λ config. config.id == id) configs
+
+-- for each ID below one whether it is
+unfoldable pub made_spin_locks : List SpinLockConfig → ℕ → List Bool
+made_spin_locks configs count = map (is_configured configs) (range_with_len 0 count)
+
+abbrev pub made_kernel : ℕ → List TaskSetup → List LineSetup → List SemaphoreConfig → List FlagConfig → List QueueConfig → List SpinLockConfig → KernelState
+made_kernel processors setups lines semaphores flags queues spin_locks = record {
   off = false;
   time = beginning;
   tasks = made setups;
   semaphores = made_semaphores semaphores;
   flags = made_flags flags;
   queues = made_queues queues;
+  spin_locks = made_spin_locks spin_locks 256;
   processors = idle_ones processors 9;
   handler_contexts = replicate 9 no_context;
   lines = made_lines lines 32;

@@ -3,7 +3,7 @@ use Rattle.std.specs.Prelude.{◌≡◌, ℕ, Bool, true, false, if◌then◌els
 use Rattle.brd_kernel.specs.declared.call.Ercd.{Ercd}
 use Rattle.brd_kernel.specs.declared.call.Ercd.TheVariants.{Rsfn, Ctx, Id, Par, Noexs, Iluse, Obj, Qovr, Rlwai, Tmout}
 use Rattle.brd_kernel.specs.declared.call.Reply.{Reply}
-use Rattle.brd_kernel.specs.declared.call.Reply.TheVariants.{Answer, Silent}
+use Rattle.brd_kernel.specs.declared.call.Reply.TheVariants.{Answer, Silent, Again}
 use Rattle.brd_kernel.specs.Answer.{e_ok, code_of}
 use Rattle.brd_kernel.specs.Kernel.{KernelState}
 
@@ -61,6 +61,10 @@ ok_count k count = Ok (record { kernel = k; reply = Answer count None })
 -- the call doesn't return, or not yet
 abbrev pub silent : KernelState → Result Served Ercd
 silent k = Ok (record { kernel = k; reply = Silent })
+
+-- the call is to be made again, and has changed nothing
+abbrev pub again : KernelState → Result Served Ercd
+again k = Ok (record { kernel = k; reply = Again })
 
 -- a refused call changes nothing
 abbrev pub or_refused : KernelState → Result Served Ercd → Served

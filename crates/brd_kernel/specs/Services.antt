@@ -1,7 +1,8 @@
 -- The service table: a row a call, in the order of their numbers (uITRON 4.0 specification; mact_tsk, imact_tsk,
--- mig_tsk and get_pid: TOPPERS/FMP; put_chr, ext_ker and ret_int, the refusals and their order: own choice). A row
--- begins with the object that the call names and refuses nothing but an ID that is none (E_ID, E_NOEXS); what it fills
--- in is what its line of the table says. T is a task's ID, T0 may be 0 for the caller.
+-- mig_tsk, get_pid and the calls of spin locks: TOPPERS/FMP; put_chr, ext_ker and ret_int, how spin locks behave, the
+-- refusals and their order: own choice). A row begins with the object that the call names and refuses nothing but an
+-- ID that is none (E_ID, E_NOEXS); what it fills in is what its line of the table says. T is a task's ID, T0 may be 0
+-- for the caller, L is a spin lock's.
 use Rattle.std.specs.Prelude.{ℕ, ◌%◌, ◌^◌, ◌-◌, ◌==◌, nat_lt, nat_le, Bool, true, false, not, ◌&&◌, ◌||◌, if◌then◌else◌}
 use Rattle.std.specs.Prelude.{List, [], ◌∷◌, ◌++◌, length, slice_set, Option, None, Some, is_some, unwrap_or, Result, Err}
 use Rattle.brd_tasks.specs.declared.status.Status.{Status}
@@ -25,14 +26,16 @@ use Rattle.brd_objects.specs.Flags.{joined, masked, pattern_for, taken_for, is_o
 use Rattle.brd_objects.specs.DataQueues.{DataQueueState, sent, outcome, forced, forced_outcome, received, receipt, awaited_by_sender, awaited_by_receiver}
 use Rattle.brd_kernel.specs.Waits.{is_bad_timeout, due_after, due_by, priority_of, with_wait, released_in, broken_off, ended_in, reordered_in}
 use Rattle.brd_kernel.specs.declared.processor.Processor.{Processor}
+use Rattle.brd_kernel.specs.declared.processor.Spin.{Spin}
+use Rattle.brd_kernel.specs.declared.processor.Spin.TheVariants.{Free, Held}
 use Rattle.brd_kernel.specs.declared.call.Call.{Call}
 use Rattle.brd_kernel.specs.declared.call.Call.TheVariants as call
 use Rattle.brd_kernel.specs.declared.call.Ercd.{Ercd}
 use Rattle.brd_kernel.specs.declared.call.Ercd.TheVariants.{Rlwai, Tmout}
 use Rattle.brd_kernel.specs.Answer.{e_ok, code_of}
-use Rattle.brd_kernel.specs.Kernel.{KernelState, processor_at, is_held, running_on, with_tasks, with_processor, unmarked}
+use Rattle.brd_kernel.specs.Kernel.{KernelState, processor_at, is_held, running_on, with_tasks, with_processor, unmarked, holding, letting_go, holds, spin_of}
 use Rattle.brd_kernel.specs.Dispatch.{is_same_task}
-use Rattle.brd_kernel.specs.Row.{Row, Served, served, never, ok, ok_with, ok_count, silent, or_refused, is_absent}
+use Rattle.brd_kernel.specs.Row.{Row, Served, served, never, ok, ok_with, ok_count, silent, again, or_refused, is_absent}
 
 -- an ID outside 1 to 255
 unfoldable pub is_no_id : ℕ → Bool
@@ -71,6 +74,9 @@ on_flag k id = on_object k id (object_at k.flags id)
 
 abbrev pub on_queue : KernelState → ℕ → Row DataQueueState
 on_queue k id = on_object k id (object_at k.queues id)
+
+abbrev pub on_spin_lock : KernelState → ℕ → Row Spin
+on_spin_lock k id = on_object k id (spin_of k id)
 
 -- the caller
 abbrev pub on_caller : KernelState → ℕ → Row Task
@@ -194,12 +200,13 @@ can_act k id = record (on_task k id) {
   does = λ task. ok_count (with_tasks k (noted without_activation k.tasks id)) (activations_of task.activation);
 }
 
--- a processor with neither mark
+-- a processor with neither mark, which holds no spin lock
 abbrev pub unmarked_on : KernelState → ℕ → Option Processor → KernelState
 unmarked_on k cpu None = k
 unmarked_on k cpu (Some p) = with_processor k cpu (unmarked p)
 
--- 3 ext_tsk. Ends the caller, which leaves its processor neither CPU-locked nor with dispatching disabled.
+-- 3 ext_tsk. Ends the caller, which leaves its processor neither CPU-locked nor with dispatching disabled, and any spin
+-- lock free that it holds.
 abbrev pub ext_tsk : KernelState → ℕ → ℕ → Row Task
 ext_tsk k cpu caller = record (on_caller k caller) {
   does = λ task. silent (unmarked_on (ended_in k caller) cpu (processor_at k cpu));
@@ -252,7 +259,7 @@ abbrev pub get_pid : KernelState → ℕ → Row (Unit {0})
 get_pid k cpu = record (on_nothing k) { does = λ x. ok_with k cpu }
 
 -- 10 rot_rdq priority. Refuses: PAR not 0 to 16. On the caller's processor, the first ready task of that priority goes
--- behind its equals.
+-- after its equals.
 abbrev pub rot_rdq : KernelState → ℕ → ℕ → ℕ → Row Processor
 rot_rdq k cpu caller priority = record (on_own_processor k cpu) {
   bad_par = nat_lt 16 priority;
@@ -319,7 +326,7 @@ rsm_tsk k id = record (on_task k id) {
   does = λ task. ok (with_tasks k (through resumed k.tasks id));
 }
 
--- 23 dly_tsk time. Refuses: PAR above 0x7FFFFFFF. Waits for so long.
+-- 23 dly_tsk time. Refuses: PAR above 0x7FFFFFFF. Waits for n ticks.
 abbrev pub dly_tsk : KernelState → ℕ → ℕ → Row Task
 dly_tsk k caller time = record (on_caller k caller) {
   bad_par = nat_lt longest_delay time;
@@ -432,6 +439,46 @@ handler_ended k cpu p = record (with_processor k cpu (record p { handling = None
 abbrev pub ret_int : KernelState → ℕ → Row Processor
 ret_int k cpu = record (on_own_processor k cpu) { does = λ p. silent (handler_ended k cpu p) }
 
+-- a spin lock is held
+abbrev pub is_taken : Spin → Bool
+is_taken Free = false
+is_taken (Held cpu) = true
+
+-- the caller's processor takes a spin lock, which locks the processor too
+
+abbrev pub lock_taken_by : KernelState → ℕ → ℕ → Option Processor → KernelState
+lock_taken_by k cpu id None = k
+lock_taken_by k cpu id (Some p) = with_processor k cpu (holding id p)
+
+abbrev pub lock_taken : KernelState → ℕ → ℕ → KernelState
+lock_taken k cpu id = lock_taken_by k cpu id (processor_at k cpu)
+
+-- the caller's processor gives its spin lock back, and is no longer CPU-locked
+
+abbrev pub lock_given_by : KernelState → ℕ → Option Processor → KernelState
+lock_given_by k cpu None = k
+lock_given_by k cpu (Some p) = with_processor k cpu (letting_go p)
+
+abbrev pub lock_given : KernelState → ℕ → KernelState
+lock_given k cpu = lock_given_by k cpu (processor_at k cpu)
+
+-- 60 loc_spn L. Takes the lock where it is free; where it is held, the call is made again.
+abbrev pub loc_spn : KernelState → ℕ → ℕ → Row Spin
+loc_spn k cpu id = record (on_spin_lock k id) {
+  does = λ lock. if is_taken lock then again k else ok (lock_taken k cpu id);
+}
+
+-- 61 try_spn L. Refuses: OBJ held. Takes the lock.
+abbrev pub try_spn : KernelState → ℕ → ℕ → Row Spin
+try_spn k cpu id = record (on_spin_lock k id) { obj = is_taken; does = λ lock. ok (lock_taken k cpu id) }
+
+-- 62 unl_spn L. Refuses: ILUSE the caller's processor doesn't hold it. Gives the lock back.
+abbrev pub unl_spn : KernelState → ℕ → ℕ → Row Spin
+unl_spn k cpu id = record (on_spin_lock k id) {
+  iluse = λ lock. not (holds id (processor_at k cpu));
+  does = λ lock. ok (lock_given k cpu);
+}
+
 -- The rows by calls.
 
 abbrev pub serve_by : KernelState → ℕ → ℕ → Call → Result Served Ercd
@@ -472,6 +519,9 @@ serve_by k cpu caller (call.TrcvDtq q timeout) = served (trcv_dtq k caller q tim
 serve_by k cpu caller (call.PutChr word) = served (put_chr k word)
 serve_by k cpu caller call.ExtKer = served (ext_ker k)
 serve_by k cpu caller call.RetInt = served (ret_int k cpu)
+serve_by k cpu caller (call.LocSpn l) = served (loc_spn k cpu l)
+serve_by k cpu caller (call.TrySpn l) = served (try_spn k cpu l)
+serve_by k cpu caller (call.UnlSpn l) = served (unl_spn k cpu l)
 
 -- the number of the running task of a processor; 0 where none runs
 abbrev pub caller_on : KernelState → ℕ → ℕ
@@ -480,3 +530,13 @@ caller_on k cpu = unwrap_or (running_on k cpu) 0
 -- a call that comes from a processor
 abbrev pub serve_of : KernelState → ℕ → Call → Served
 serve_of k cpu call = or_refused k (serve_by k cpu (caller_on k cpu) call)
+
+-- A call that is to be made again: loc_spn of a spin lock that is held. The gate asks this before the caller goes on.
+
+abbrev pub is_there_taken : Option Spin → Bool
+is_there_taken None = false
+is_there_taken (Some lock) = is_taken lock
+
+abbrev pub comes_again : KernelState → Call → Bool
+comes_again k (call.LocSpn l) = not (is_no_id l) && is_there_taken (spin_of k l)
+comes_again k _ = false

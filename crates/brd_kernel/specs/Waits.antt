@@ -28,7 +28,7 @@ forever = 2 ^ 32 - 1
 unfoldable pub is_bad_timeout : ℕ → Bool
 is_bad_timeout timeout = nat_le (2 ^ 31) timeout && not (timeout == forever)
 
--- The tick at which a wait ends that begins now: so many whole ticks have passed then.
+-- The tick at which a wait ends that begins now: n whole ticks have passed then.
 abbrev pub due_after : KernelState → ℕ → ℕ
 due_after k ticks = k.time.count + ticks + 1
 

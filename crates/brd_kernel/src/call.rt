@@ -28,7 +28,7 @@ pub enum Call {
     MigTsk(u32, u32),
     /// Tells the caller's processor.
     GetPid,
-    /// Puts the first ready task of a priority behind its equals.
+    /// Puts the first ready task of a priority after its equals.
     RotRdq(u32),
     /// The same, from a handler.
     IrotRdq(u32),
@@ -74,6 +74,12 @@ pub enum Call {
     FsndDtq(u32, u32),
     /// Receives a datum from a data queue (ID, timeout).
     TrcvDtq(u32, u32),
+    /// Takes a spin lock, or comes again (ID).
+    LocSpn(u32),
+    /// Takes a spin lock that is free (ID).
+    TrySpn(u32),
+    /// Gives a spin lock back (ID).
+    UnlSpn(u32),
     /// Writes a byte to the console.
     PutChr(u32),
     /// Turns the board off.
@@ -135,4 +141,6 @@ pub enum Reply {
     Answer(u32, Option<u32>),
     /// Nothing: the call doesn't return, or not yet.
     Silent,
+    /// Nothing, and the call is made again: its caller doesn't go on. It has changed nothing.
+    Again,
 }

@@ -15,6 +15,8 @@ ghost use Rattle.brd_kernel.specs.Kernel.{
   context_on,
   with_context_of,
   marks_of,
+  has_spin_lock,
+  spin_of,
   standing_on,
   executed,
   Executes,
@@ -33,12 +35,15 @@ mod objects;
 mod processors;
 mod saved;
 mod serve;
+mod spin_locks;
 mod waits;
 
-use crate::making::{idle_processors, lines_of, no_contexts};
-use crate::processor::{Ended, Executor, Line, LineSetup, Marks, Processor, Standing};
+use crate::making::{idle_processors, lines_of, no_contexts, spin_locks_of};
+use crate::processor::{
+    Ended, Executor, Line, LineSetup, Marks, Processor, Spin, Standing, holder,
+};
 use brd_base::{NoMemory, copy_with_room, same_slices};
-use brd_config::{FlagConfig, QueueConfig, SemaphoreConfig};
+use brd_config::{FlagConfig, QueueConfig, SemaphoreConfig, SpinLockConfig};
 use brd_exec::{Context, run};
 use brd_link::Links;
 use brd_mem::Ram;
@@ -61,6 +66,8 @@ pub struct Kernel {
     semaphores: Semaphores,
     flags: Flags,
     queues: Queues,
+    /// By ID: whether there is a spin lock.
+    spin_locks: Vec<bool>,
     processors: [Option<Processor>; 9],
     /// The task that executes on each of them, if one does, so that a step needn't find it out.
     executing: [Option<TaskId>; 9],
@@ -87,6 +94,7 @@ impl Model for Kernel {
       semaphores = k.semaphores;
       flags = k.flags;
       queues = k.queues;
+      spin_locks = k.spin_locks.items;
       processors = k.processors;
       handler_contexts = k.handler_contexts.items;
       lines = k.lines.items;
@@ -101,6 +109,7 @@ impl Model for Kernel {
           semaphores = k.semaphores;
           flags = k.flags;
           queues = k.queues;
+          spin_locks = k.spin_locks.items;
           processors = k.processors;
           handler_contexts = k.handler_contexts.items;
           lines = k.lines.items;
@@ -121,6 +130,7 @@ impl Drop for Kernel {
             semaphores: _,
             flags: _,
             queues: _,
+            spin_locks: _,
             processors: _,
             executing: _,
             handler_contexts: _,
@@ -142,10 +152,11 @@ impl Kernel {
         semaphores: &[SemaphoreConfig],
         flags: &[FlagConfig],
         queues: &[QueueConfig],
+        spin_locks: &[SpinLockConfig],
     ) -> Result<Kernel, NoMemory>
         requires few { processors ≤ 8 }
         requires setups { All IsSetup tasks.now }
-        ensures { IfOk result (λ kernel. kernel ≡ made_kernel processors tasks.now lines.now semaphores.now flags.now queues.now) }
+        ensures { IfOk result (λ kernel. kernel ≡ made_kernel processors tasks.now lines.now semaphores.now flags.now queues.now spin_locks.now) }
     {
         Ok(Kernel {
             off: false,
@@ -154,6 +165,7 @@ impl Kernel {
             semaphores: Semaphores::new(alloc, semaphores)?,
             flags: Flags::new(alloc, flags)?,
             queues: Queues::new(alloc, queues)?,
+            spin_locks: spin_locks_of(alloc, spin_locks)?,
             processors: idle_processors(processors),
             executing: [None; 9],
             handler_contexts: no_contexts(alloc)?,
@@ -174,6 +186,7 @@ impl Kernel {
             semaphores: self.semaphores.try_copy()?,
             flags: self.flags.try_copy()?,
             queues: self.queues.try_copy()?,
+            spin_locks: copy_with_room(&self.spin_locks, 0)?,
             processors: self.processors,
             executing: self.executing,
             handler_contexts: copy_with_room(&self.handler_contexts, 0)?,
@@ -196,13 +209,20 @@ impl Kernel {
     fn has_same_tables(&self, other: &Kernel) -> bool
         ensures { Decides result ((self.now.time ≡ other.now.time) × (self.now.tasks ≡ other.now.tasks)
             × (self.now.semaphores ≡ other.now.semaphores) × (self.now.flags ≡ other.now.flags)
-            × (self.now.queues ≡ other.now.queues)) }
+            × (self.now.queues ≡ other.now.queues) × (self.now.spin_locks ≡ other.now.spin_locks)) }
     {
-        self.time.same(&other.time)
-            && self.tasks.same(&other.tasks)
-            && self.semaphores.same(&other.semaphores)
+        self.time.same(&other.time) && self.tasks.same(&other.tasks) && self.has_same_objects(other)
+    }
+
+    /// Whether both have the same objects.
+    fn has_same_objects(&self, other: &Kernel) -> bool
+        ensures { Decides result ((self.now.semaphores ≡ other.now.semaphores) × (self.now.flags ≡ other.now.flags)
+            × (self.now.queues ≡ other.now.queues) × (self.now.spin_locks ≡ other.now.spin_locks)) }
+    {
+        self.semaphores.same(&other.semaphores)
             && self.flags.same(&other.flags)
             && self.queues.same(&other.queues)
+            && same_bools(self.spin_locks.as_slice(), other.spin_locks.as_slice())
     }
 
     /// Whether both have the same processors, lines and console.
@@ -278,6 +298,26 @@ impl Kernel {
         })
     }
 
+    /// The spin lock of an ID, where there is one.
+    pub fn spin(&self, id: u8) -> Option<Spin>
+        ensures { result ≡ spin_of self.now id }
+    {
+        if !self.has_spin_lock(id) {
+            return None;
+        }
+        match holder(&self.processors, id) {
+            Some(cpu) => Some(Spin::Held(cpu)),
+            None => Some(Spin::Free),
+        }
+    }
+
+    /// Whether there is a spin lock of an ID.
+    fn has_spin_lock(&self, id: u8) -> bool
+        ensures { result ≡ has_spin_lock self.now id }
+    {
+        (id as usize) < self.spin_locks.len() && self.spin_locks[id as usize]
+    }
+
     /// The bytes that were written to the console.
     pub fn console(&self) -> &[u8]
         ensures { result.now ≡ self.now.console }
@@ -339,8 +379,8 @@ impl Kernel {
         }
     }
 
-    /// Whether a processor is CPU-locked, and whether dispatching is disabled on it; None where there is no such
-    /// processor.
+    /// Whether a processor is CPU-locked, whether dispatching is disabled on it, and which spin lock it holds; None
+    /// where there is no such processor.
     pub fn marks(&self, cpu: u8) -> Option<Marks>
         ensures { result ≡ option_map marks_of (processor_at self.now cpu) }
     {
@@ -348,6 +388,7 @@ impl Kernel {
         Some(Marks {
             locked: processor.locked,
             disabled: processor.disabled,
+            spin: processor.spin,
         })
     }
 
@@ -396,7 +437,7 @@ impl Kernel {
         self.executing[cpu as usize] = processor.task();
     }
 
-    /// Takes a processor's CPU lock and its mark that dispatching is disabled away.
+    /// Takes a processor's CPU lock, its mark that dispatching is disabled and its spin lock away.
     fn unmark(&mut self, cpu: u8)
         ensures { self.new ≡ unmarked_on self.old cpu (processor_at self.old cpu) }
     {
@@ -492,4 +533,19 @@ fn is_same_task(one: Option<TaskId>, other: Option<TaskId>) -> bool
         (Some(one), Some(other)) => one == other,
         _ => false,
     }
+}
+
+/// Whether two slices of truth values are equal.
+fn same_bools(a: &[bool], b: &[bool]) -> bool
+    ensures { Decides result (a.now ≡ b.now) }
+{
+    if a.len() != b.len() {
+        return false;
+    }
+    for i in 0..a.len() {
+        if a[i] != b[i] {
+            return false;
+        }
+    }
+    true
 }

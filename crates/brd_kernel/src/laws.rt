@@ -6,6 +6,7 @@ ghost use Rattle.brd_tasks.specs.declared.task.TaskSetup.{TaskSetup as SetupOf};
 ghost use Rattle.brd_config.specs.declared.objects.SemaphoreConfig.{SemaphoreConfig};
 ghost use Rattle.brd_config.specs.declared.objects.FlagConfig.{FlagConfig};
 ghost use Rattle.brd_config.specs.declared.objects.QueueConfig.{QueueConfig};
+ghost use Rattle.brd_config.specs.declared.objects.SpinLockConfig.{SpinLockConfig};
 ghost use Rattle.brd_kernel.specs.declared.processor.LineSetup.{LineSetup as LineOf};
 ghost use Rattle.brd_kernel.specs.declared.processor.Processor.{Processor as ProcessorOf};
 ghost use Rattle.brd_kernel.specs.Kernel.{KernelState, processor_at, is_held};
@@ -16,6 +17,7 @@ ghost use Rattle.brd_kernel.specs.Waits.{ticked, ended_by_fault};
 ghost use Rattle.brd_kernel.specs.Services.{serve_of};
 ghost use Rattle.brd_kernel.specs.Making.{made_kernel};
 ghost use Rattle.brd_kernel.specs.Waiting.{WaitsAreKept};
+ghost use Rattle.brd_kernel.specs.Holding.{AreLocks};
 
 /// Of the reasons to refuse a call, the first in the order is answered; a call that has none does what its row says.
 pub fn checks_in_order<X>()
@@ -31,14 +33,25 @@ pub fn dispatch_gives_each_its_first()
     ensures none { (k : KernelState) (cpu : ℕ) → processor_at k cpu ≡ None → processor_at (dispatched k) cpu ≡ None }
 {}
 
-/// This holds of a kernel as it is made, and every service call, tick and exception keeps it: each task that waits for a
-/// semaphore, for bits of an event flag, or to send to or receive from a data queue stands once, with its priority, in
-/// the waiting list for just that, and in no other waiting list of an object; where that list is in the order of
+/// This holds of a kernel as it is made, and every service call, tick and exception keeps it: each task that waits for
+/// a semaphore, for bits of an event flag, or to send to or receive from a data queue stands once, with its priority,
+/// in the waiting list for just that, and in no other waiting list of an object; where that list is in the order of
 /// priority, no task stands in front of one with a higher priority; no task waits for something that it could have at
 /// once; only a task that waits has a due tick, and a delay has one.
 pub fn who_waits_stands_in_its_list()
-    ensures made { (processors : ℕ) (setups : List SetupOf) (lines : List LineOf) (semaphores : List SemaphoreConfig) (flags : List FlagConfig) (queues : List QueueConfig) → WaitsAreKept (made_kernel processors setups lines semaphores flags queues) }
+    ensures made { (processors : ℕ) (setups : List SetupOf) (lines : List LineOf) (semaphores : List SemaphoreConfig) (flags : List FlagConfig) (queues : List QueueConfig) (spin_locks : List SpinLockConfig) → WaitsAreKept (made_kernel processors setups lines semaphores flags queues spin_locks) }
     ensures call { (k : KernelState) (cpu : ℕ) (asked : CallOf) → WaitsAreKept k → WaitsAreKept (serve_of k cpu asked).kernel }
     ensures tick { (k : KernelState) → WaitsAreKept k → WaitsAreKept (ticked k) }
     ensures fault { (k : KernelState) (cpu : ℕ) → WaitsAreKept k → WaitsAreKept (ended_by_fault k cpu) }
+{}
+
+/// This holds of a kernel as it is made, and every tick, exception and dispatch keeps it (as does every service call
+/// that the gate lets through, `laws` of brd_board): each spin lock is free, and then no processor holds it, or exactly
+/// one processor holds it; and a processor that holds one is CPU-locked, handles no interrupt and isn't stopped, and a
+/// task runs on it.
+pub fn a_spin_lock_has_one_holder()
+    ensures made { (processors : ℕ) (setups : List SetupOf) (lines : List LineOf) (semaphores : List SemaphoreConfig) (flags : List FlagConfig) (queues : List QueueConfig) (spin_locks : List SpinLockConfig) → AreLocks (made_kernel processors setups lines semaphores flags queues spin_locks) }
+    ensures tick { (k : KernelState) → AreLocks k → AreLocks (ticked k) }
+    ensures fault { (k : KernelState) (cpu : ℕ) → AreLocks k → AreLocks (ended_by_fault k cpu) }
+    ensures dispatch { (k : KernelState) → AreLocks k → AreLocks (dispatched k) }
 {}

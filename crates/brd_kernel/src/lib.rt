@@ -14,4 +14,4 @@ mod processor;
 pub use brd_tasks::{Request, TaskId, TaskSetup, TaskState, TaskView, WaitReason};
 pub use call::{Call, Ercd, Reply};
 pub use kernel::{Kernel, SavedKernel};
-pub use processor::{Ended, Executor, Handler, Line, LineSetup, Marks, Processor, Standing};
+pub use processor::{Ended, Executor, Handler, Line, LineSetup, Marks, Processor, Spin, Standing};

@@ -2,10 +2,11 @@
 
 ghost use Rattle.std.specs.Prelude.{◌≡◌, IfOk, replicate};
 ghost use Rattle.brd_tasks.specs.Tasks.{no_context};
-ghost use Rattle.brd_kernel.specs.Making.{idle_one, idle_ones, handler_of, made_lines};
+ghost use Rattle.brd_kernel.specs.Making.{idle_one, idle_ones, handler_of, made_lines, is_configured, made_spin_locks};
 
 use crate::processor::{Handler, Line, LineSetup, Processor};
 use brd_base::NoMemory;
+use brd_config::SpinLockConfig;
 use brd_exec::Context;
 use std::alloc::Global;
 
@@ -78,4 +79,23 @@ fn handler_of(setups: &[LineSetup], line: u8) -> Option<Handler>
         }
     }
     None
+}
+
+/// For each ID whether there is a spin lock.
+#[tactic(auto, using(crate::proofs::MakingLemmas::locks_more, crate::proofs::MakingLemmas::no_locks))]
+pub fn spin_locks_of(alloc: Global, configs: &[SpinLockConfig]) -> Result<Vec<bool>, NoMemory>
+    ensures { IfOk result (λ made. made.items ≡ made_spin_locks configs.now 256) }
+{
+    let mut made = Vec::new(alloc);
+    for id in 0..256u16 {
+        made.push(is_configured(configs, id))?;
+    }
+    Ok(made)
+}
+
+/// Whether a spin lock of that ID is configured.
+fn is_configured(configs: &[SpinLockConfig], id: u16) -> bool
+    ensures { result ≡ is_configured configs.now id }
+{
+    configs.iter().any(|config| config.id as u16 == id)
 }

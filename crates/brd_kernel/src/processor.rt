@@ -1,7 +1,17 @@
 //! The processors and the interrupt lines as the kernel sees them.
 
-ghost use Rattle.std.specs.Prelude.{◌≡◌, Some};
-ghost use Rattle.brd_kernel.specs.Kernel.{executor_in, is_held, idle, unmarked, quiet};
+ghost use Rattle.std.specs.Prelude.{◌≡◌, ◌≤◌, length, Some};
+ghost use Rattle.brd_kernel.specs.Kernel.{
+  executor_in,
+  is_held,
+  idle,
+  unmarked,
+  holds,
+  holding,
+  letting_go,
+  holder_from,
+  quiet,
+};
 ghost use Rattle.brd_kernel.specs.Always.{task_executing};
 
 use brd_base::Same;
@@ -37,6 +47,17 @@ pub struct Marks {
     pub locked: bool,
     /// Dispatching is disabled (dis_dsp).
     pub disabled: bool,
+    /// The ID of the spin lock that it holds, or none.
+    pub spin: Option<u8>,
+}
+
+/// A spin lock as it stands.
+#[derive(Clone, Copy, Debug, PartialEq, Eq)]
+pub enum Spin {
+    /// No processor holds it.
+    Free,
+    /// The processor of this number holds it.
+    Held(u8),
 }
 
 /// An instruction that was executed.
@@ -60,6 +81,8 @@ pub struct Processor {
     pub locked: bool,
     /// Whether dispatching is disabled (dis_dsp).
     pub disabled: bool,
+    /// The ID of the spin lock that it holds, if it holds one (loc_spn, try_spn).
+    pub spin: Option<u8>,
     /// Whether it is stopped for good.
     pub stopped: bool,
 }
@@ -70,6 +93,7 @@ impl Same for Processor {
             && self.handling == other.handling
             && self.locked == other.locked
             && self.disabled == other.disabled
+            && self.spin == other.spin
             && self.stopped == other.stopped
     }
 }
@@ -84,17 +108,39 @@ impl Processor {
             handling: None,
             locked: false,
             disabled: false,
+            spin: None,
             stopped: false,
         }
     }
 
-    /// The processor with neither CPU lock nor dispatching disabled.
+    /// The processor with neither CPU lock nor dispatching disabled, which holds no spin lock.
     pub fn unmarked(self) -> Processor
         ensures { result ≡ unmarked self }
     {
         Processor {
-            locked: false,
             disabled: false,
+            ..self.letting_go()
+        }
+    }
+
+    /// The processor, which holds the spin lock of this ID and is CPU-locked.
+    pub fn holding(self, id: u8) -> Processor
+        ensures { result ≡ holding id self }
+    {
+        Processor {
+            locked: true,
+            spin: Some(id),
+            ..self
+        }
+    }
+
+    /// The processor, which holds no spin lock and isn't CPU-locked.
+    pub fn letting_go(self) -> Processor
+        ensures { result ≡ letting_go self }
+    {
+        Processor {
+            locked: false,
+            spin: None,
             ..self
         }
     }
@@ -128,6 +174,29 @@ impl Processor {
         ensures { result ≡ is_held self.now }
     {
         self.handling.is_some() || self.locked || self.disabled || self.stopped
+    }
+}
+
+/// The number of the processor that holds the spin lock of an ID, if one does.
+pub fn holder(processors: &[Option<Processor>], id: u8) -> Option<u8>
+    requires { length processors.now ≤ 9 }
+    ensures { result ≡ holder_from id 0 processors.now }
+{
+    for (cpu, processor) in processors.iter().enumerate() {
+        if holds(*processor, id) {
+            return Some(cpu as u8);
+        }
+    }
+    None
+}
+
+/// Whether a processor, where there is one, holds the spin lock of an ID.
+pub fn holds(processor: Option<Processor>, id: u8) -> bool
+    ensures { result ≡ holds id processor }
+{
+    match processor {
+        Some(processor) => processor.spin == Some(id),
+        None => false,
     }
 }
 

@@ -88,7 +88,7 @@ still_clear_of_many marks p n q within clear =
       ]
     ]
 
--- bytes that are put before or behind a place
+-- bytes that are put before or after a place
 aside : (bytes : List ℕ) (at : ℕ) (more : List ℕ) (i : ℕ) → at + length more ≤ length bytes → (i < at) ⊎ (at + length more ≤ i) →
     get_or bytes i 0 ≡ 0 → get_or (put bytes at more) i 0 ≡ 0
 aside bytes at more i fits (inl before) zero = before_new bytes at more i 0 fits before ∙ zero

@@ -18,7 +18,7 @@ memory_of_bytes order bytes = record { bytes = bytes; order = order }
 abbrev pub size_of : Memory → ℕ
 size_of memory = length memory.bytes
 
--- so many bytes, all zero
+-- n bytes, all zero
 abbrev pub zeros : Order → ℕ → Memory
 zeros order size = memory_of_bytes order (replicate size 0)
 
@@ -26,7 +26,7 @@ zeros order size = memory_of_bytes order (replicate size 0)
 abbrev pub contains : ℕ → ℕ → ℕ → Bool
 contains size address len = nat_le base address && nat_le (address + len) (base + size)
 
--- the bytes from a place on, so many; with the next, what every access reads and writes by
+-- n bytes from a place on; with the next, what every access reads and writes by
 abbrev pub bytes_at : Memory → ℕ → ℕ → List ℕ
 bytes_at memory at len = take len (drop at memory.bytes)
 

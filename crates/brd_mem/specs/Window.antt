@@ -8,7 +8,7 @@ use Rattle.brd_mem.specs.Memory.{Memory, size_of, contains, word_at}
 abbrev pub window_start : ℕ → ℕ
 window_start address = address / 256 * 256
 
--- so many words, one after the other, the first of them at a place
+-- n words, one after the other, the first of them at a place
 unfoldable pub words_at : Memory → ℕ → ℕ → List ℕ
 words_at memory at count = map (λ i. word_at memory (at + 4 * i)) (range_with_len 0 count)
 

@@ -98,7 +98,7 @@ awaited_by_receiver id priority q = record q { receivers = placed Arrival (recor
 abbrev pub data_queue_left : ℕ → DataQueueState → DataQueueState
 data_queue_left id q = record q { senders = without id q.senders; receivers = without id q.receivers }
 
--- a task that waits is given a priority: by arrival it keeps its place, by priority it comes behind its equals
+-- a task that waits is given a priority: by arrival it keeps its place, by priority it comes after its equals
 abbrev pub data_queue_reordered : ℕ → ℕ → DataQueueState → DataQueueState
 data_queue_reordered id priority q = record q { senders = reordered q.order id priority q.senders; receivers = reordered Arrival id priority q.receivers }
 
@@ -112,7 +112,7 @@ IsToTask Full = Unit {0}
 abbrev pub IsFromTask : Received → Type 0
 IsFromTask it = IfSome it.sender (λ id. id < 256)
 
--- all data that a queue has: those that are stored, and behind them the senders'
+-- all data that a queue has: those that are stored, and after them the senders'
 abbrev pub contents : DataQueueState → List ℕ
 contents q = q.stored ++ map (λ e. e.wanted) q.senders
 

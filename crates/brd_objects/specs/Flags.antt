@@ -64,7 +64,7 @@ flag_awaited id priority want f = record f { waiters = placed f.order (record { 
 abbrev pub flag_left : ℕ → Flag → Flag
 flag_left id f = record f { waiters = without id f.waiters }
 
--- a task that waits is given a priority: by arrival it keeps its place, by priority it comes behind its equals
+-- a task that waits is given a priority: by arrival it keeps its place, by priority it comes after its equals
 abbrev pub flag_reordered : ℕ → ℕ → Flag → Flag
 flag_reordered id priority f = record f { waiters = reordered f.order id priority f.waiters }
 

@@ -47,7 +47,7 @@ semaphore_awaited id priority s = record s { waiters = placed s.order (record { 
 abbrev pub semaphore_left : ℕ → Semaphore → Semaphore
 semaphore_left id s = record s { waiters = without id s.waiters }
 
--- a task that waits is given a priority: by arrival it keeps its place, by priority it comes behind its equals
+-- a task that waits is given a priority: by arrival it keeps its place, by priority it comes after its equals
 abbrev pub semaphore_reordered : ℕ → ℕ → Semaphore → Semaphore
 semaphore_reordered id priority s = record s { waiters = reordered s.order id priority s.waiters }
 

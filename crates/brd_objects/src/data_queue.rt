@@ -177,7 +177,7 @@ impl DataQueue {
         self.senders.place(self.order, entry);
     }
 
-    /// A task waits to receive a datum, behind all others.
+    /// A task waits to receive a datum, after all others.
     pub fn wait_to_receive(&mut self, task: u16, priority: u8)
         requires { task < 256 }
         ensures { self.new ≡ awaited_by_receiver task priority self.old }
@@ -198,7 +198,7 @@ impl DataQueue {
         let _ = self.receivers.leave(task);
     }
 
-    /// A task, where it waits, is given a priority: by arrival it keeps its place, by priority it comes behind its
+    /// A task, where it waits, is given a priority: by arrival it keeps its place, by priority it comes after its
     /// equals.
     pub fn reorder(&mut self, task: u16, priority: u8)
         ensures { self.new ≡ data_queue_reordered task priority self.old }

@@ -163,7 +163,7 @@ impl Flags {
         }
     }
 
-    /// A task, where it waits, is given a priority: by arrival it keeps its place, by priority it comes behind its
+    /// A task, where it waits, is given a priority: by arrival it keeps its place, by priority it comes after its
     /// equals.
     pub fn reorder(&mut self, task: u16, priority: u8)
         ensures { self.new ≡ objects_changed (flag_reordered task priority) self.old }

@@ -31,7 +31,7 @@ pub fn one_after_the_other_is_all()
 {}
 
 /// No datum is lost or doubled, and they are received in the order in which they were stored: what is received was the
-/// first of all that the queue had, and the others stay as they were. What is sent and stored comes behind all that is
+/// first of all that the queue had, and the others stay as they were. What is sent and stored comes after all that is
 /// stored; what is handed to a receiver, or finds no room, leaves all as it was.
 pub fn no_datum_is_lost()
     ensures received { (q : DataQueueState) (r : ReceivedOf) → receipt q ≡ Some r → contents q ≡ r.datum ∷ contents (received q) }

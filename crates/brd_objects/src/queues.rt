@@ -146,7 +146,7 @@ impl Queues {
         }
     }
 
-    /// A task waits to receive a datum, behind all others.
+    /// A task waits to receive a datum, after all others.
     pub fn wait_to_receive(&mut self, id: u16, task: u16, priority: u8)
         requires { task < 256 }
         ensures { self.new ≡ object_changed (awaited_by_receiver task priority) self.old id }
@@ -169,7 +169,7 @@ impl Queues {
         }
     }
 
-    /// A task, where it waits, is given a priority: by arrival it keeps its place, by priority it comes behind its
+    /// A task, where it waits, is given a priority: by arrival it keeps its place, by priority it comes after its
     /// equals.
     pub fn reorder(&mut self, task: u16, priority: u8)
         ensures { self.new ≡ objects_changed (data_queue_reordered task priority) self.old }

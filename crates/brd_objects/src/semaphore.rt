@@ -116,7 +116,7 @@ impl Semaphore {
         let _ = self.waiters.leave(task);
     }
 
-    /// A task, where it waits, is given a priority: by arrival it keeps its place, by priority it comes behind its
+    /// A task, where it waits, is given a priority: by arrival it keeps its place, by priority it comes after its
     /// equals.
     pub fn reorder(&mut self, task: u16, priority: u8)
         ensures { self.new ≡ semaphore_reordered task priority self.old }

@@ -134,7 +134,7 @@ impl Waiters {
         }
     }
 
-    /// A task, where it waits, is given a priority: by arrival it keeps its place, by priority it comes behind its
+    /// A task, where it waits, is given a priority: by arrival it keeps its place, by priority it comes after its
     /// equals.
     pub fn reorder(&mut self, order: Order, id: u16, priority: u8)
         ensures { self.new ≡ reordered order id priority self.old }
@@ -145,7 +145,7 @@ impl Waiters {
         }
     }
 
-    /// A task, where it waits, comes behind the others of a priority.
+    /// A task, where it waits, comes after the others of a priority.
     fn move_behind(&mut self, id: u16, priority: u8)
         ensures { self.new ≡ reordered Priority id priority self.old }
     {

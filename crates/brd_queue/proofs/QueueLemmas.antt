@@ -140,7 +140,7 @@ apart-renumbered-as id p len xs seen new apart same long is =
     subst (λ n. AreApart (take n (new ++ drop (length new) xs))) long_old
     (subst AreApart (sym (whole xs new (ap length all ∙ length-renumbered id p xs))) (subst AreApart (sym all) (apart-renumbered id p xs apart)))
 
--- a task is given a priority, and comes behind its equals
+-- a task is given a priority, and comes after its equals
 pub reordered-as : {W : Type 0} → (order : Order) (id p : ℕ) (old new : List (Entry W)) (changed found : Option (Entry W)) → order ≡ Priority → new ≡ moved_behind changed old →
     changed ≡ option_map (with_priority p) found → found ≡ find (λ x. x.id == id) old → new ≡ reordered order id p old
 reordered-as Arrival id p old new changed found priority is change there = let wrong : ⊥ = cc in absurd wrong

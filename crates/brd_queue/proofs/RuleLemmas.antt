@@ -24,7 +24,7 @@ pub enters : {W : Type 0} → (e : Entry W) (xs : List (Entry W)) → IsByPriori
 enters e [] ordered = record { before = []; behind = []; was = refl; is = refl; not_below = tt; below = tt }
 enters e (x ∷ xs) ordered = enters_by (nat_lt e.priority x.priority) e x xs refl ordered (enters e xs ordered.1)
 
--- behind those that aren't below it, and before those that are
+-- after those that aren't below it, and before those that are
 placed_before : {W : Type 0} → (e : Entry W) (behind : List (Entry W)) → AllByRecursion (λ other. e.priority < other.priority) behind → behind_equals e behind ≡ e ∷ behind
 placed_before e [] below = refl
 placed_before e (x ∷ xs) below = grind (arith, nat_tests, below.0)

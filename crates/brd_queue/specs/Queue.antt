@@ -19,7 +19,7 @@ abbrev pub priority_in : {W : Type 0} → ℕ → List (Entry W) → Option ℕ
 priority_in id [] = None
 priority_in id (x ∷ xs) = if x.id == id then Some x.priority else priority_in id xs
 
--- before the first of lower priority, which is a higher number: in a queue in the order of priority that is behind its
+-- before the first of lower priority, which is a higher number: in a queue in the order of priority that is after its
 -- equals
 abbrev pub behind_equals : {W : Type 0} → Entry W → List (Entry W) → List (Entry W)
 behind_equals e [] = e ∷ []
@@ -43,7 +43,7 @@ abbrev pub moved_behind : {W : Type 0} → Option (Entry W) → List (Entry W) �
 moved_behind None xs = xs
 moved_behind (Some e) xs = placed Priority e xs
 
--- the first entry of a priority goes behind its equals
+-- the first entry of a priority goes after its equals
 abbrev pub rotated : {W : Type 0} → ℕ → List (Entry W) → List (Entry W)
 rotated priority xs = moved_behind (find (λ x. x.priority == priority) xs) xs
 
@@ -55,7 +55,7 @@ abbrev pub renumbered : {W : Type 0} → ℕ → ℕ → List (Entry W) → List
 renumbered id priority [] = []
 renumbered id priority (x ∷ xs) = if x.id == id then with_priority priority x ∷ renumbered id priority xs else x ∷ renumbered id priority xs
 
--- A task that stands in a queue is given a priority: by arrival it keeps its place, by priority it comes behind its
+-- A task that stands in a queue is given a priority: by arrival it keeps its place, by priority it comes after its
 -- equals, also where it has that priority already.
 abbrev pub reordered : {W : Type 0} → Order → ℕ → ℕ → List (Entry W) → List (Entry W)
 reordered Arrival id priority xs = renumbered id priority xs

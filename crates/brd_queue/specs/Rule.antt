@@ -10,7 +10,7 @@ IsByPriority [] = Unit {0}
 IsByPriority (x ∷ xs) = AllByRecursion (λ other. x.priority ≤ other.priority) xs × IsByPriority xs
 
 -- An entry came to a queue: the others stand as they stood, all that have its priority or a higher one before it, the
--- rest behind it.
+-- rest after it.
 pub record Enters {W : Type 0} (e : Entry W) (old new : List (Entry W)) : Type 0 where
   pub before : List (Entry W)
   pub behind : List (Entry W)

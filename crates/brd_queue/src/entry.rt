@@ -24,6 +24,6 @@ impl<W: Same> Same for Entry<W> {
 pub enum Order {
     /// At the end.
     Arrival,
-    /// Behind those of its own priority or a higher one, before those of a lower one.
+    /// After those of its own priority or a higher one, before those of a lower one.
     Priority,
 }

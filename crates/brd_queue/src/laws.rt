@@ -5,7 +5,7 @@ ghost use Rattle.brd_queue.specs.declared.entry.Entry.{Entry as EntryOf};
 ghost use Rattle.brd_queue.specs.Queue.{behind_equals, without};
 ghost use Rattle.brd_queue.specs.Rule.{IsByPriority, Enters};
 
-/// Who enters by priority comes behind those of its own priority or a higher one and before the others, and nobody else
+/// Who enters by priority comes after those of its own priority or a higher one and before the others, and nobody else
 /// moves. There is just one such queue.
 pub fn enters_behind_its_equals<W>()
     ensures rule { (entry : EntryOf W) (queue : List (EntryOf W)) → IsByPriority queue → Enters entry queue (behind_equals entry queue) }

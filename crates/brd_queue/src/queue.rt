@@ -2,7 +2,7 @@
 
 ghost use Rattle.std.specs.Prelude.{◌≡◌, ◌<◌, ◌≤◌, ℕ, [], false, insert, length, drop, remove, slice_get, IfNone, IfOk, IfSome, find, is_some, vec_capacity, ◌==◌};
 ghost use Rattle.std.specs.Option.{option_map};
-ghost use Rattle.brd_queue.specs.Queue.{AreApart, has, priority_in, entered, behind_equals, without, moved_behind, rotated, with_priority, renumbered, reordered, placed, is_empty, first_of};
+ghost use Rattle.brd_queue.specs.Queue.{AreApart, has, entered, behind_equals, without, moved_behind, with_priority, renumbered, reordered, placed, is_empty, first_of};
 
 mod saved;
 
@@ -158,7 +158,7 @@ impl<W: Copy + Drop> Queue<W> {
         let _ = self.enter(order, entry);
     }
 
-    /// Gives a task that stands in it a priority: by arrival it keeps its place, by priority it comes behind its
+    /// Gives a task that stands in it a priority: by arrival it keeps its place, by priority it comes after its
     /// equals.
     pub fn reorder(&mut self, order: Order, id: u16, priority: u8)
         ensures { self.new ≡ reordered order id priority self.old }
@@ -172,15 +172,6 @@ impl<W: Copy + Drop> Queue<W> {
         }
     }
 
-    /// Puts the first entry of a priority behind its equals.
-    pub fn rotate(&mut self, priority: u8)
-        ensures is { self.new ≡ rotated priority self.old }
-        ensures stay { (id : ℕ) → priority_in id self.new ≡ priority_in id self.old }
-    {
-        let entry = first_with(self.entries.as_slice(), priority);
-        self.move_behind(entry);
-    }
-
     /// Gives a task a priority at the place where it stands.
     fn renumber(&mut self, id: u16, priority: u8)
         ensures { self.new ≡ renumbered id priority self.old }
@@ -188,7 +179,7 @@ impl<W: Copy + Drop> Queue<W> {
         renumber(self.entries.as_mut_slice(), id, priority);
     }
 
-    /// Puts the entry of a task, with a new priority perhaps, behind its equals.
+    /// Puts the entry of a task, with a new priority perhaps, after its equals.
     fn move_behind(&mut self, entry: Option<Entry<W>>)
         requires { IfSome entry (λ e. e.id < 256) }
         ensures { self.new ≡ moved_behind entry self.old }
@@ -224,18 +215,6 @@ fn entry_of<W: Copy + Drop>(entries: &[Entry<W>], id: u16) -> Option<Entry<W>>
 {
     for entry in entries {
         if entry.id == id {
-            return Some(*entry);
-        }
-    }
-    None
-}
-
-/// The first entry of a priority.
-fn first_with<W: Copy + Drop>(entries: &[Entry<W>], priority: u8) -> Option<Entry<W>>
-    ensures { result ≡ find (λ other. other.priority == priority) entries.now }
-{
-    for entry in entries {
-        if entry.priority == priority {
             return Some(*entry);
         }
     }

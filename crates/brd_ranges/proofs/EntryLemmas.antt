@@ -90,7 +90,7 @@ ends : {X : Type 0} (x last : X) (xs front : List X) → x ∷ xs ≡ front ++ l
 ends x last xs [] is = inl (cc, cc)
 ends x last xs (first ∷ front) is = inr (front, cc)
 
--- no range begins below an address behind the last one that does, so that one alone decides
+-- no range begins below an address after the last one that does, so that one alone decides
 last_decides : {T : Type 0} (bottom top low high : ℕ) (entries front : List (ℕ × (ℕ × T))) (last : ℕ × (ℕ × T)) → AreApart bottom top (ranges_of entries)
     → filter (below high) entries ≡ front ++ last ∷ [] → (bottom < last.1.0) × (overlaps (ranges_of entries) low high ≡ ltb low last.1.0)
 last_decides bottom top low high [] front last apart is = absurd (no_last last front is)

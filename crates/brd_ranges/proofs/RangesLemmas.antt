@@ -42,7 +42,7 @@ overlaps-with_range (range ∷ ranges) new low high =
           (either_first (ltb range.start high && ltb low range.end) (ltb new.start high && ltb low new.end) (overlaps ranges low high))
     ]
 
--- a range that has no address with another in common ends before it or begins behind it
+-- a range that has no address with another in common ends before it or begins after it
 ends_before : {T : Type 0} (range : Range T) (low high : ℕ) → (ltb range.start high && ltb low range.end) ≡ false → low < high → range.start ≤ low → range.end ≤ low
 ends_before range low high free filled le =
     elim (and_cases _ _ free) [

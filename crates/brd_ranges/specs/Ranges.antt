@@ -7,7 +7,7 @@ use Rattle.brd_ranges.specs.declared.range.Range.{Range}
 abbrev pub overlaps : {T : Type 0} → List (Range T) → ℕ → ℕ → Bool
 overlaps ranges low high = list_any (λ range. nat_lt range.start high && nat_lt low range.end) ranges
 
--- these ranges and a new one, which stands before the first that begins behind it
+-- these ranges and a new one, which stands before the first that begins after it
 abbrev pub with_range : {T : Type 0} → List (Range T) → Range T → List (Range T)
 with_range [] new = new ∷ []
 with_range (range ∷ ranges) new =

@@ -5,7 +5,7 @@
 pub struct Range<T> {
     /// The first address.
     pub start: u32,
-    /// The address behind the last one.
+    /// The address after the last one.
     pub end: u32,
     /// What belongs to them.
     pub item: T,

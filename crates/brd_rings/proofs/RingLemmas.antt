@@ -297,25 +297,6 @@ turns heads links rings r h held within head =
     subst (λ it. Holds (slice_set heads r it) links (slice_set rings r (turned (ring_at rings r)))) same
     (holds-changed heads links rings r (turned (ring_at rings r)) links held (turned-by heads links rings r was within)))
 
--- nothing is turned where nobody is
-pub turns-nothing : (heads : List Ring) (links : List Link) (rings : List (List ℕ)) (r : ℕ) → Holds heads links rings → slice_index_or heads r Empty ≡ Empty →
-    rings ≡ slice_set rings r (turned (ring_at rings r))
-turns-nothing heads links rings r held head =
-    let empty : ring_at rings r ≡ [] = stored-empty (ring_at rings r) (sym ((linked-of heads links rings held).headed r) ∙ head) in
-    sym (ap (slice_set rings r) (ap turned empty ∙ sym empty) ∙ set-get_or rings r [])
-
--- the head that is stored is the ring's
-pub head-of : (heads : List Ring) (links : List Link) (rings : List (List ℕ)) (r : ℕ) → Holds heads links rings → slice_index_or heads r Empty ≡ Empty → None ≡ head_of (ring_at rings r)
-head-of heads links rings r held head =
-    ap head_of (sym (stored-empty (ring_at rings r) (sym ((linked-of heads links rings held).headed r) ∙ head)))
-
-pub head-from : (heads : List Ring) (links : List Link) (rings : List (List ℕ)) (r h : ℕ) → Holds heads links rings → slice_index_or heads r Empty ≡ From h → Some h ≡ head_of (ring_at rings r)
-head-from heads links rings r h held head =
-    stored-from (ring_at rings r) h (λ xs. Some h ≡ head_of xs) (sym ((linked-of heads links rings held).headed r) ∙ head) (λ t is. ap head_of (sym is))
-
-pub apart-of : (heads : List Ring) (links : List Link) (rings : List (List ℕ)) → Holds heads links rings → IsApart rings
-apart-of heads links rings held = (linked-of heads links rings held).apart
-
 -- what a read of the heads gave
 pub read-head : (heads : List Ring) (links : List Link) (rings : List (List ℕ)) (r : ℕ) (head is : Ring) → Holds heads links rings → r < length rings → head ≡ slice_index_or heads r head → head ≡ is →
     slice_index_or heads r Empty ≡ is

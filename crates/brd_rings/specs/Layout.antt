@@ -72,7 +72,8 @@ abbrev pub stored : List ℕ → Ring
 stored [] = Empty
 stored (x ∷ xs) = From x
 
--- Following the links from each head gives the ring, once and in order, and back. Who is in no ring is linked to nobody.
+-- Following the links from each head gives the ring, once and in order, and back. Who is in no ring is linked to
+-- nobody.
 pub record IsLinked (heads : List Ring) (links : List Link) (rings : List (List ℕ)) : Type 0 where
   pub long : length links ≡ 256
   pub headed : (ring : ℕ) → slice_index_or heads ring Empty ≡ stored (ring_at rings ring)

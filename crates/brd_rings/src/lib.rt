@@ -1,5 +1,5 @@
-//! Rings of nodes that are linked by index: a node enters at the end of a ring, leaves it, and the head goes to the end,
-//! each by a few writes, however many nodes there are.
+//! Rings of nodes that are linked by index: a node enters at the end of a ring, leaves it, and the head goes to the
+//! end, each by a few writes, however many nodes there are.
 //!
 //! `specs/Rings.antt` says what each call makes of the rings.
 #![tactic(auto)]

@@ -10,8 +10,8 @@ use brd_base::{NoMemory, copy_with_room, same_slices};
 use std::alloc::{AllocError, Global};
 use std::marker::Model;
 
-/// Rings of nodes below 256, no node in two places. Each has its head, and each node the nodes after and before it. Only
-/// `new` takes memory.
+/// Rings of nodes below 256, no node in two places. Each has its head, and each node the nodes after and before it.
+/// Only `new` takes memory.
 #[derive(Drop)]
 pub struct Rings {
     heads: Vec<Ring>,

@@ -11,7 +11,7 @@ use std::alloc::Global;
 /// A rule at work, before a step.
 #[derive(Drop)]
 pub(crate) enum Chooser {
-    /// Each processor in turn, so many steps each.
+    /// Each processor in turn, n steps each.
     Turns(u32),
     /// By weights.
     Drawn(Drawn),
@@ -36,7 +36,7 @@ impl Chooser {
         }
     }
 
-    /// The processor that takes the next step, of so many, behind so many other steps.
+    /// The processor, one of n, that takes the step after m others.
     pub(crate) fn next(&mut self, cpus: u8, steps: u32) -> u8
         requires { 1 ≤ cpus }
         ensures least { 1 ≤ result }
@@ -51,7 +51,7 @@ impl Chooser {
     }
 }
 
-/// Whose turn it is behind so many steps, of which each processor takes so many.
+/// Whose turn it is after n steps, of which each processor takes m.
 fn turn(cpus: u8, each: u32, steps: u32) -> u8
     requires { 1 ≤ cpus }
 {
@@ -59,7 +59,7 @@ fn turn(cpus: u8, each: u32, steps: u32) -> u8
     (turns % cpus as u32) as u8 + 1
 }
 
-/// A processor of so many.
+/// One of n processors.
 fn within(cpu: u8, cpus: u8) -> u8
     requires { 1 ≤ cpus }
     ensures least { 1 ≤ result }

@@ -17,7 +17,7 @@ pub(crate) struct Lowered {
 }
 
 impl Lowered {
-    /// Before the first of so many steps, with so many changes.
+    /// Before the first of n steps, with m changes.
     pub(crate) fn new(
         alloc: Global,
         seed: u64,
@@ -40,7 +40,7 @@ impl Lowered {
         })
     }
 
-    /// The processor of the step behind so many others, of so many processors.
+    /// The processor, one of m, of the step after n others.
     pub(crate) fn next(&mut self, cpus: u8, steps: u32) -> u8 {
         let mut place = 0u32;
         for at in self.changes.as_slice() {
@@ -65,7 +65,7 @@ fn lower(priorities: &mut [u32], cpu: u8, to: u32) {
     }
 }
 
-/// The processor of the highest priority, counted from 1, of so many; the first of several.
+/// The processor of the highest priority, counted from 1, of n; the first of several.
 fn highest(priorities: &[u32], cpus: u8) -> u8 {
     let mut first = 1u8;
     let mut most = 0u32;

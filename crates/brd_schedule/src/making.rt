@@ -10,8 +10,9 @@ use brd_journal::{Journal, JournalFault, MOST_RUNS};
 use brd_word::Order;
 use std::alloc::Global;
 
-/// The journal of a plan, for boards of a byte order: its events in order, each a raise or a tick where the plan says so,
-/// and else the step of one of its processors. The fault is that memory ran out, or that the events need more runs than a journal may have.
+/// The journal of a plan, for boards of a byte order: its events in order, each a raise or a tick where the plan says
+/// so, and else the step of one of its processors. The fault is that memory ran out, or that the events need more runs
+/// than a journal may have.
 pub fn make(alloc: Global, plan: &Plan, order: Order) -> Result<Journal, JournalFault>
     requires { 1 ≤ plan.now.cpus }
     ensures made { IfOk result (λ journal. IsMade plan.now journal.events) }
@@ -27,7 +28,7 @@ pub fn make(alloc: Global, plan: &Plan, order: Order) -> Result<Journal, Journal
     Ok(journal)
 }
 
-/// The event of this number, counted from 1, behind so many steps. A step that it is gets counted.
+/// The event of this number, counted from 1, after n steps. A step that it is gets counted.
 fn next_event(plan: &Plan, chooser: &mut Chooser, steps: &mut u32, number: u32) -> Event
     requires { 1 ≤ plan.now.cpus }
     ensures { IsPlanned plan.now number result }

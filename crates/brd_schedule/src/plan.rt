@@ -15,7 +15,7 @@ pub struct Raise {
 /// Who takes the next step. Words are drawn from PCG32 by this seed.
 #[derive(Clone, Copy, Debug, PartialEq, Eq)]
 pub enum Rule {
-    /// Each processor in turn, so many steps each; 0 is taken as 1.
+    /// Each processor in turn, n steps each; 0 is taken as 1.
     InTurns {
         each: u32,
     },
@@ -25,7 +25,7 @@ pub enum Rule {
         switch: u32,
         weights: [u32; 8],
     },
-    /// The one of the highest priority. Priorities are drawn, and so are so many steps, before each of which that of
+    /// The one of the highest priority. Priorities are drawn, and so are n steps, before each of which that of
     /// the one that would go is lowered below all others (Burckhardt and others, ASPLOS 2010).
     Lowered {
         seed: u64,

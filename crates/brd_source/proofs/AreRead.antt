@@ -83,7 +83,7 @@ expression_read _ _ (sum run _ _ h (negative digits n e)) = rw (h, e) refl
 expression_read _ _ (difference run _ _ h (unsigned digits n e)) = rw (h, e) refl
 expression_read _ _ (difference run _ _ h (negative digits n e)) = rw (h, e) refl
 
--- so many tokens at the end, and those before them
+-- n tokens at the end, and those before them
 ends : (xs ys : List Token) → (before_last (length ys) (xs ++ ys) ≡ xs) × (last (length ys) (xs ++ ys) ≡ ys)
 ends xs ys =
     let len : length (xs ++ ys) - length ys ≡ length xs = omega (arith, length-append xs ys) in

@@ -63,7 +63,7 @@ plain_is tokens e h =
     let n = mapped plain (number_from tokens) e h in
     subst (λ (x : Expression). ExpressionIs tokens x) n.2 (number tokens n.0 (number_is tokens n.0 n.1))
 
--- a name and what stands behind it
+-- a name and what stands after it
 named_is : (run : List ℕ) (tokens : List Token) (v : ℤ) → is_name run ≡ true → addend_from tokens ≡ Some v → ExpressionIs (Run run ∷ tokens) (named run v)
 unfolding addend_from
 named_is run [] v h e = subst (λ (w : ℤ). ExpressionIs (Run run ∷ []) (named run w)) (some_is (pos 0) v e) (name run h)

@@ -12,7 +12,7 @@ use Rattle.brd_source.specs.declared.token.Token as code
 abbrev comma_at : List code.Token → ℕ
 comma_at tokens = position_or_len (λ token. is_comma (seen token)) tokens
 
--- the tokens behind the first
+-- the tokens after the first
 behind_first : List code.Token → Option (List Token)
 behind_first [] = None
 behind_first (token ∷ tokens) = Some (map seen tokens)

@@ -11,11 +11,11 @@ use Rattle.brd_source.specs.Tokens.Token.{Run, Percent, Mark}
 use Rattle.brd_source.specs.Tokens.Place.{Between, InRun, InString, Escaped, InComment}
 use Rattle.brd_source.specs.Fronts.{begins_token}
 
--- A line begins with this token, and goes on so behind it.
+-- A line begins with this token, and goes on so after it.
 abbrev pub Begins : List ℕ → Token → List ℕ → Type 0
 Begins line token behind = tokens_in Between line ≡ token ∷ tokens_in Between behind
 
--- a token, and others behind it, in two steps
+-- a token, and others after it, in two steps
 same_tokens : (t u : Token) (ts us : List Token) → t ≡ u → ts ≡ us → t ∷ ts ≡ u ∷ us
 same_tokens t u ts us e f = ap (λ (v : Token). v ∷ ts) e ∙ ap (λ (vs : List Token). u ∷ vs) f
 
@@ -56,7 +56,7 @@ comment_step b left bs e opens =
 
 -- ---- runs
 
--- behind the run that stands here
+-- after the run that stands here
 pub run_rest : (bs : List ℕ) → tokens_in InRun bs ≡ tokens_in Between (drop (prefix_len is_run_byte bs) bs)
 run_rest [] = refl
 run_rest (b ∷ bs) =
@@ -90,7 +90,7 @@ in_string : Bool → Place
 in_string true = Escaped
 in_string false = InString
 
--- the tokens behind a string of n bytes
+-- the tokens after a string of n bytes
 behind_string : Option ℕ → List ℕ → List Token
 behind_string (Some n) bs = tokens_in Between (drop (suc n) bs)
 behind_string None bs = []

@@ -58,7 +58,7 @@ one_less (Some m) n e = (m, refl, same (suc m) n e)
     same : (i j : ℕ) → Some i ≡ Some j → i ≡ j
     same i j e = cc
 
--- the bytes of a string, and the quote behind them
+-- the bytes of a string, and the quote after them
 pub record Closed (escaped : Bool) (n : ℕ) (bs : List ℕ) : Type 0 where
   pub stays : stays_open escaped (take n bs) ≡ true
   pub split : bs ≡ take n bs ++ 34 ∷ drop (suc n) bs

@@ -13,12 +13,12 @@ abbrev pub begins_token : List ℕ → Bool
 begins_token [] = true
 begins_token (b ∷ bs) = not (is_space b) && not (opens_comment b bs)
 
--- a token and those of what is behind it; none where there is nothing
+-- a token and those of what is after it; none where there is nothing
 abbrev pub fronted : Option (Token × List ℕ) → List Token
 fronted None = []
 fronted (Some front) = front.0 ∷ tokens_in Between front.1
 
--- the parts behind a comma; none where no comma stands
+-- the parts after a comma; none where no comma stands
 abbrev pub parts_behind : Option (List Token) → List (List Token)
 parts_behind None = []
 parts_behind (Some tokens) = parts tokens
@@ -28,6 +28,6 @@ abbrev pub label_of : List Token → Option (List ℕ)
 label_of (Run run ∷ Mark b ∷ tokens) = if is_label run b then Some run else None
 label_of _ = None
 
--- labels, and the tokens behind them
+-- labels, and the tokens after them
 abbrev pub Labelled : Type 0
 Labelled = List (List ℕ) × List Token

@@ -1,7 +1,7 @@
 -- The grammar of lines: which tokens, of those that bytes spell (Spelling), say what. What a single token stands for (a
 -- register, a number, a string) is shared with the reading: Registers, brd_text's Numbers, Texts; so are the tables of
--- names (Operations) and of the operands that each operation takes (Forms). What is read as a line is just what has this
--- form.
+-- names (Operations) and of the operands that each operation takes (Forms). What is read as a line is just what has
+-- this form.
 use Rattle.std.specs.Prelude.{◌≡◌, ℕ, ℤ, pos, true, List, [], ◌∷◌, ◌++◌, Some, None, codes}
 use lib.IntN.{neg_ℤ}
 use Rattle.brd_isa.specs.declared.mnemonic.Mnemonic as mnemonics
@@ -90,13 +90,13 @@ pub data ValuesAre : List Token → List Expression → Type 0 where
   many : (tokens others : List Token) (e : Expression) (es : List Expression) → ExpressionIs tokens e → ValuesAre others es
       → ValuesAre (tokens ++ comma ∷ others) (e ∷ es)
 
--- the tokens behind .set, in lower case only; they have no effect
+-- the tokens after .set, in lower case only; they have no effect
 pub data IsSetting : List ℕ → Type 0 where
   noreorder : IsSetting (codes "noreorder")
   noat : IsSetting (codes "noat")
   nomacro : IsSetting (codes "nomacro")
 
--- What stands behind an operation, and the statement that it says: operands of the operation's form, or those of a
+-- What stands after an operation, and the statement that it says: operands of the operation's form, or those of a
 -- directive. .globl and .set have no effect.
 pub data Says : Operation → List Token → Statement → Type 0 where
   instructs : (m : mnemonics.Mnemonic) (tokens : List Token) (written operands : Operands) → OperandsAre tokens written
@@ -115,7 +115,7 @@ pub data Says : Operation → List Token → Statement → Type 0 where
   set : (setting : List ℕ) → IsSetting setting → Says (Directive directive.Set) (Run setting ∷ []) WithoutEffect
   byteorder : (name : List ℕ) (order : Order) → order_named name ≡ Some order → Says (Directive directive.ByteOrder) (Run name ∷ []) (ByteOrder order)
 
--- a mnemonic, a shorthand or a directive, in whatever case, and what stands behind it; or nothing
+-- a mnemonic, a shorthand or a directive, in whatever case, and what stands after it; or nothing
 pub data StatementIs : List Token → Statement → Type 0 where
   left_out : StatementIs [] Nothing
   begins : (run : List ℕ) (operation : Operation) (tokens : List Token) (s : Statement) → operation_named (lowered run) ≡ Some operation → Says operation tokens s

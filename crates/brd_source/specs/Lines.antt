@@ -1,4 +1,4 @@
--- What a whole line says: any number of names with a colon, and at most one statement behind them. Grammar says the
+-- What a whole line says: any number of names with a colon, and at most one statement after them. Grammar says the
 -- same as relations; that just what has its form is read is proved as `lines_follow_the_grammar`.
 use Rattle.std.specs.Prelude.{ℕ, Bool, if◌then◌else◌, ◌==◌, ◌&&◌, List, [], ◌∷◌, Option, option_map}
 use Rattle.brd_text.specs.Bytes.{is_name}
@@ -11,7 +11,7 @@ use Rattle.brd_source.specs.Tokens.Token.{Run, Mark}
 abbrev pub is_label : List ℕ → ℕ → Bool
 is_label run mark = mark == colon_byte && is_name run
 
--- the labels at the front, and the tokens behind them
+-- the labels at the front, and the tokens after them
 abbrev pub labels_of : List Token → List (List ℕ)
 labels_of (Run run ∷ Mark b ∷ tokens) = if is_label run b then run ∷ labels_of tokens else []
 labels_of _ = []

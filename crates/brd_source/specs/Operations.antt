@@ -35,7 +35,7 @@ other_names =
 abbrev pub operation_named : List ℕ → Option Operation
 operation_named name = option_map (λ m. Mnemonic m) (mnemonic_named name) or_else named_in other_names name
 
--- the byte order that stands behind .byteorder, in lower case only
+-- the byte order that stands after .byteorder, in lower case only
 unfoldable pub order_named : List ℕ → Option Order
 order_named name =
     if bytes_eq name (codes "big") then Some Big

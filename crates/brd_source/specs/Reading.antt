@@ -22,7 +22,7 @@ number_from (Run run ∷ []) = option_map (λ n. pos n) (number_of run)
 number_from (Mark b ∷ Run run ∷ []) = if b == minus_byte then option_map (λ n. neg_ℤ (pos n)) (number_of run) else None
 number_from _ = None
 
--- behind a name: nothing, + and a number, or - and a number
+-- after a name: nothing, + and a number, or - and a number
 unfoldable pub addend_from : List Token → Option ℤ
 addend_from [] = Some (pos 0)
 addend_from (Mark b ∷ tokens) =
@@ -37,7 +37,7 @@ plain v = record { name = None; number = v }
 abbrev pub named : List ℕ → ℤ → Expression
 named name v = record { name = Some name; number = v }
 
--- a number, or a name and what may stand behind it
+-- a number, or a name and what may stand after it
 unfoldable pub expression_from : List Token → Option Expression
 expression_from (Run run ∷ tokens) = if is_name run then option_map (named run) (addend_from tokens) else option_map plain (number_from (Run run ∷ tokens))
 expression_from tokens = option_map plain (number_from tokens)
@@ -61,7 +61,7 @@ in_parentheses (Mark b ∷ tokens) =
     if b == opening_byte && is_closed (last 1 tokens) then expression_from (before_last 1 tokens) else None
 in_parentheses _ = None
 
--- %hi and %lo by the run behind the %
+-- %hi and %lo by the run after the %
 abbrev pub half_of : List ℕ → Expression → Option Immediate
 half_of run e =
     if bytes_eq run (codes "hi") then Some (High e)
@@ -110,7 +110,7 @@ abbrev pub is_comma : Token → Bool
 is_comma (Mark b) = b == comma_byte
 is_comma _ = false
 
--- What stands before the first comma, between two, and behind the last. Without a comma it is all, also of no tokens.
+-- What stands before the first comma, between two, and after the last. Without a comma it is all, also of no tokens.
 abbrev pub parts : List Token → List (List Token)
 parts tokens = slice_split is_comma tokens
 

@@ -4,7 +4,7 @@ use Rattle.std.specs.Str.{bytes_eq}
 use Rattle.brd_text.specs.Numbers.{plain_decimal_of}
 use Rattle.brd_isa.specs.Names.{named_in, ◌or_else◌}
 
--- what stands behind the $, in the order 0 to 31
+-- what stands after the $, in the order 0 to 31
 abbrev pub register_names : List (List ℕ)
 register_names =
     codes "zero" ∷ codes "at" ∷ codes "v0" ∷ codes "v1" ∷ codes "a0" ∷ codes "a1" ∷ codes "a2" ∷ codes "a3" ∷

@@ -1,5 +1,5 @@
--- Which bytes spell which tokens: any blanks may stand between tokens, a comment behind them, and something has to
--- stand between two runs. A quote whose string has no end spells Wrong, with all that is behind it.
+-- Which bytes spell which tokens: any blanks may stand between tokens, a comment after them, and something has to
+-- stand between two runs. A quote whose string has no end spells Wrong, with all that is after it.
 use Rattle.std.specs.Prelude.{◌≡◌, ℕ, Bool, true, false, ◌&&◌, not, List, [], ◌∷◌, ◌++◌}
 use Rattle.std.specs.List.{list_all}
 use Rattle.brd_text.specs.Bytes.{is_run_byte, is_space}

@@ -26,7 +26,7 @@ pub data Operand : Type 0 where
   Value : Immediate → Operand
   Address : Immediate → ℕ → Operand
 
--- up to three; those that are absent stand behind the others
+-- up to three; those that are absent stand after the others
 abbrev pub Operands : Type 0
 Operands = Operand × Operand × Operand
 
@@ -50,7 +50,7 @@ pub record Instruction : Type 0 where
   pub mnemonic : Mnemonic
   pub operands : Operands
 
--- What stands behind a line's labels: nothing at all, what has no effect, the byte order of the source, an instruction,
+-- What stands after a line's labels: nothing at all, what has no effect, the byte order of the source, an instruction,
 -- and so on.
 pub data Statement : Type 0 where
   Nothing : Statement
@@ -64,7 +64,7 @@ pub data Statement : Type 0 where
   Text : List ℕ → Statement
   Equal : List ℕ → Expression → Statement
 
--- the labels in order, and the statement behind them
+-- the labels in order, and the statement after them
 pub record Line : Type 0 where
   pub labels : List (List ℕ)
   pub statement : Statement

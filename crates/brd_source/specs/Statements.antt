@@ -48,7 +48,7 @@ unfoldable pub order_from : List Token → Option Statement
 order_from (Run name ∷ []) = option_map (λ order. ByteOrder order) (order_named name)
 order_from _ = None
 
--- what stands behind a directive
+-- what stands after a directive
 abbrev pub directive_from : Directive → List Token → Option Statement
 directive_from directives.Org tokens = option_map (λ e. Org e) (expression_from tokens)
 directive_from directives.Align tokens = option_map (λ e. Align e) (expression_from tokens)
@@ -71,13 +71,13 @@ of_form form tokens = operands_from tokens >>= taken form
 unfoldable pub instruction_from : Kind × Kind × Kind → (Operands → Instruction) → List Token → Option Statement
 instruction_from form made tokens = of_form form tokens >>= λ operands. Some (Instruct (made operands))
 
--- what stands behind an operation
+-- what stands after an operation
 abbrev pub said_from : Operation → List Token → Option Statement
 said_from (operation.Mnemonic m) tokens = instruction_from (form_of m) (instruction m) tokens
 said_from (operation.Shorthand s) tokens = instruction_from (short_form_of s) (stands_for s) tokens
 said_from (operation.Directive d) tokens = directive_from d tokens
 
--- an operation and what stands behind it, or nothing
+-- an operation and what stands after it, or nothing
 unfoldable pub statement_from : List Token → Option Statement
 statement_from [] = Some Nothing
 statement_from (Run run ∷ tokens) = operation_named (lowered run) >>= λ operation. said_from operation tokens

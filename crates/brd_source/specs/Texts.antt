@@ -3,7 +3,7 @@ use Rattle.std.specs.Prelude.{ℕ, Bool, true, false, not, ◌&&◌, ◌==◌, n
 use Rattle.brd_source.specs.Faults.{◌>>=◌}
 use Rattle.brd_source.specs.Tokens.{escapes}
 
--- behind a backslash: n a newline, t a tab, 0 the byte 0, and \ and " themselves
+-- after a backslash: n a newline, t a tab, 0 the byte 0, and \ and " themselves
 unfoldable pub escape_of : ℕ → Option ℕ
 escape_of b =
     if b == 110 then Some 10
@@ -20,7 +20,7 @@ plain_of b = if nat_lt b 128 && not (b == 10) then Some b else None
 abbrev pub byte_for : Bool → ℕ → Option ℕ
 byte_for escaped b = if escaped then escape_of b else plain_of b
 
--- the bytes of a string, behind those of its beginning
+-- the bytes of a string, after those of its beginning
 abbrev pub text_behind : List ℕ → Bool → List ℕ → Option (List ℕ)
 text_behind text escaped [] = if escaped then None else Some text
 text_behind text escaped (b ∷ bs) =

@@ -5,7 +5,7 @@ use Rattle.brd_text.specs.Bytes.{is_run_byte, is_space, begins_with}
 use Rattle.brd_source.specs.declared.token.Token as code
 use Rattle.brd_source.specs.declared.token.Token.TheVariants as code_of
 
--- A run is a longest stretch of letters, digits, `_`, `.` and `$`; Percent is % and the run directly behind it, of
+-- A run is a longest stretch of letters, digits, `_`, `.` and `$`; Percent is % and the run directly after it, of
 -- which the bytes are given, none where no run is there; Quoted has the bytes between two quotes as they are written. A
 -- mark is any other byte that is no blank. Wrong stands where a string has no end.
 pub data Token : Type 0 where
@@ -34,7 +34,7 @@ opening_byte = 40
 abbrev pub closing_byte : ℕ
 closing_byte = 41
 
--- Where in a line a byte stands: between tokens; behind a byte of a run; in a string; behind a backslash in a string;
+-- Where in a line a byte stands: between tokens; after a byte of a run; in a string; after a backslash in a string;
 -- in a comment.
 pub data Place : Type 0 where
   Between : Place
@@ -47,7 +47,7 @@ pub data Place : Type 0 where
 abbrev pub opens_comment : ℕ → List ℕ → Bool
 opens_comment b bs = (b == 35) || ((b == 47) && begins_with 47 bs)
 
--- whether a byte ends a string, and whether it is a backslash before another byte of it; the byte behind a backslash is
+-- whether a byte ends a string, and whether it is a backslash before another byte of it; the byte after a backslash is
 -- neither
 abbrev pub ends_string : Bool → ℕ → Bool
 ends_string escaped b = not escaped && (b == 34)

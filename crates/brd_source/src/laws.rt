@@ -10,7 +10,7 @@ ghost use Rattle.brd_source.specs.Statement.{Instruction, Line};
 ghost use Rattle.brd_source.specs.Statement.Statement.{Instruct};
 ghost use Rattle.brd_source.specs.Tokens.{Token, tokens_of};
 
-/// What spells tokens, with any blanks between them and a comment behind them, is scanned as these tokens.
+/// What spells tokens, with any blanks between them and a comment after them, is scanned as these tokens.
 pub fn spelled_tokens_are_scanned()
     ensures { (bytes : List ℕ) (tokens : List Token) → SpellsLine bytes tokens → tokens_of bytes ≡ tokens }
 {}

@@ -27,7 +27,7 @@ fn label<'a>(tokens: &[Token<'a>]) -> Option<&'a [u8]>
     }
 }
 
-/// The labels at the front, and the tokens behind them.
+/// The labels at the front, and the tokens after them.
 fn labels<'t, 'a>(
     alloc: Global,
     tokens: &'t [Token<'a>],
@@ -46,7 +46,7 @@ fn labels<'t, 'a>(
     Ok((labels, rest))
 }
 
-/// What a line of source says: the bytes of one line, without the newline behind it.
+/// What a line of source says: the bytes of one line, without the newline after it.
 ///
 /// # Errors
 ///

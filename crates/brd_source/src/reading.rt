@@ -73,7 +73,7 @@ fn in_parentheses<'a>(tokens: &[Token<'a>]) -> Option<Expression<'a>>
     }
 }
 
-/// `%hi` or `%lo` of an expression, by the run behind the `%`.
+/// `%hi` or `%lo` of an expression, by the run after the `%`.
 fn half<'a>(run: &[u8], expression: Expression<'a>) -> Option<Immediate<'a>>
     ensures { option_map immediate_value result ≡ reads.half_of run.now (expression_value expression.entry) }
 {
@@ -161,7 +161,7 @@ fn part_len(tokens: &[Token]) -> usize
     tokens.len()
 }
 
-/// What stands before the first comma, and what stands behind it. `None` where there is no comma.
+/// What stands before the first comma, and what stands after it. `None` where there is no comma.
 pub(crate) fn first_part<'t, 'a>(
     tokens: &'t [Token<'a>],
 ) -> (&'t [Token<'a>], Option<&'t [Token<'a>]>)

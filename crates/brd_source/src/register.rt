@@ -5,7 +5,7 @@ ghost use Rattle.brd_source.specs.Registers as registers;
 
 use brd_text::plain_decimal;
 
-/// What stands behind the `$`, in the order 0 to 31.
+/// What stands after the `$`, in the order 0 to 31.
 const NAMES: &[&[u8]] = &[
     b"zero", b"at", b"v0", b"v1", b"a0", b"a1", b"a2", b"a3", b"t0", b"t1", b"t2", b"t3", b"t4",
     b"t5", b"t6", b"t7", b"s0", b"s1", b"s2", b"s3", b"s4", b"s5", b"s6", b"s7", b"t8", b"t9",
@@ -25,7 +25,7 @@ fn place_in(names: &[&[u8]], name: &[u8]) -> Option<usize>
     None
 }
 
-/// The register that stands behind a `$`.
+/// The register that stands after a `$`.
 #[tactic(auto, unfolding(crate::specs::Registers::register_behind))]
 fn register_behind(run: &[u8]) -> Option<u32>
     ensures { result ≡ registers.register_behind run.now }

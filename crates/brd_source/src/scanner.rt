@@ -12,7 +12,7 @@ use crate::token::Token;
 use brd_text::{behind, is_run_byte, is_space, run_len};
 use smallvec::SmallVec;
 
-/// Whether a comment begins at a byte, with these behind it.
+/// Whether a comment begins at a byte, with these after it.
 fn opens_comment(byte: u8, after: &[u8]) -> bool
     ensures { result ≡ tokens.opens_comment byte after.now }
 {
@@ -33,7 +33,7 @@ pub(crate) fn escapes(is_escaped: bool, byte: u8) -> bool
     !is_escaped && byte == b'\\'
 }
 
-/// What is behind blanks, nothing where a comment stands there.
+/// What is after blanks, nothing where a comment stands there.
 fn after_blanks(line: &[u8]) -> &[u8]
     ensures same { tokens_in Between line.now ≡ tokens_in Between result.now }
     ensures token { begins_token result.now ≡ true }
@@ -68,7 +68,7 @@ fn string_len(rest: &[u8]) -> Option<usize>
     None
 }
 
-/// The string behind a quote, and what is behind it.
+/// The string after a quote, and what is after it.
 fn string_at(rest: &[u8]) -> (Token<'_>, &[u8])
     ensures token { tokens.quoted (tokens.string_len false rest.now) rest.now ≡ seen result.0 }
     ensures rest { tokens_in InString rest.now ≡ tokens_in Between result.1.now }
@@ -82,7 +82,7 @@ fn string_at(rest: &[u8]) -> (Token<'_>, &[u8])
     (Token::Quoted(text), behind)
 }
 
-/// The token at the front, and what is behind it.
+/// The token at the front, and what is after it.
 fn token_at(line: &[u8]) -> Option<(Token<'_>, &[u8])>
     requires { begins_token line.now ≡ true }
     ensures front { tokens_in Between line.now ≡ fronted (option_map (λ front. (seen front.0, front.1.now)) result) }
@@ -105,7 +105,7 @@ fn token_at(line: &[u8]) -> Option<(Token<'_>, &[u8])>
     Some((Token::Mark(*byte), after))
 }
 
-/// Puts the tokens of a line behind those that are there. The list has room for sixteen without asking for memory.
+/// Puts the tokens of a line after those that are there. The list has room for sixteen without asking for memory.
 pub(crate) fn scan<'a>(line: &'a [u8], found: &mut SmallVec<Token<'a>, 16>) -> Result<(), LineFault>
     ensures { Gives (λ _. map seen found.new.items) result (Some (map seen found.old.items ++ tokens.tokens_of line.now)) }
 {

@@ -105,7 +105,7 @@ pub enum Width {
     Word,
 }
 
-/// What stands behind a line's labels.
+/// What stands after a line's labels.
 #[derive(Drop)]
 pub enum Statement<'a> {
     /// Nothing at all.
@@ -120,11 +120,11 @@ pub enum Statement<'a> {
     Org(Expression<'a>),
     /// `.align n`: bytes of zero up to the next multiple of 2^n.
     Align(Expression<'a>),
-    /// `.space n`: so many bytes of zero.
+    /// `.space n`: n bytes of zero.
     Space(Expression<'a>),
     /// `.byte`, `.half` or `.word` and its values, one at least.
     Data(Width, List<Expression<'a>>),
-    /// The bytes of `.ascii`, or of `.asciiz` with the byte 0 behind them.
+    /// The bytes of `.ascii`, or of `.asciiz` with the byte 0 after them.
     Text(List<u8>),
     /// `.equ name, value`
     Equal(&'a [u8], Expression<'a>),

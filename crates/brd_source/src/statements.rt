@@ -41,7 +41,7 @@ fn values<'a>(alloc: Global, tokens: &[Token<'a>]) -> Result<List<Expression<'a>
     Ok(values)
 }
 
-/// A string with the byte 0 behind it.
+/// A string with the byte 0 after it.
 fn ended_text(alloc: Global, tokens: &[Token]) -> Result<List<u8>, LineFault>
     ensures { Gives (λ text. text) result (option_map (λ text. text ++ 0 ∷ []) (statements.text_from (map seen tokens.now))) }
 {
@@ -50,7 +50,7 @@ fn ended_text(alloc: Global, tokens: &[Token]) -> Result<List<u8>, LineFault>
     Ok(text)
 }
 
-/// `name, value`, behind `.equ`.
+/// `name, value`, after `.equ`.
 #[tactic(auto, unfolding(crate::specs::Statements::equal_from))]
 fn equal<'a>(tokens: &[Token<'a>]) -> Option<Statement<'a>>
     ensures { option_map statement_value result ≡ statements.equal_from (map seen tokens.now) }
@@ -63,7 +63,7 @@ fn equal<'a>(tokens: &[Token<'a>]) -> Option<Statement<'a>>
     }
 }
 
-/// A name, behind `.globl`.
+/// A name, after `.globl`.
 #[tactic(auto, unfolding(crate::specs::Statements::global_from))]
 fn global<'a>(tokens: &[Token<'a>]) -> Option<Statement<'a>>
     ensures { option_map statement_value result ≡ statements.global_from (map seen tokens.now) }
@@ -74,14 +74,14 @@ fn global<'a>(tokens: &[Token<'a>]) -> Option<Statement<'a>>
     }
 }
 
-/// Whether a run may stand behind `.set`.
+/// Whether a run may stand after `.set`.
 fn is_setting(run: &[u8]) -> bool
     ensures { result ≡ statements.is_setting run.now }
 {
     run == b"noreorder".as_slice() || run == b"noat".as_slice() || run == b"nomacro".as_slice()
 }
 
-/// What may stand behind `.set`.
+/// What may stand after `.set`.
 #[tactic(auto, unfolding(crate::specs::Statements::setting_from))]
 fn setting<'a>(tokens: &[Token<'a>]) -> Option<Statement<'a>>
     ensures { option_map statement_value result ≡ statements.setting_from (map seen tokens.now) }
@@ -92,7 +92,7 @@ fn setting<'a>(tokens: &[Token<'a>]) -> Option<Statement<'a>>
     }
 }
 
-/// A byte order, behind `.byteorder`.
+/// A byte order, after `.byteorder`.
 #[tactic(auto, unfolding(crate::specs::Statements::order_from))]
 fn order<'a>(tokens: &[Token<'a>]) -> Option<Statement<'a>>
     ensures { option_map statement_value result ≡ statements.order_from (map seen tokens.now) }
@@ -103,7 +103,7 @@ fn order<'a>(tokens: &[Token<'a>]) -> Option<Statement<'a>>
     }
 }
 
-/// What stands behind a directive.
+/// What stands after a directive.
 fn behind_directive<'a>(
     alloc: Global,
     directive: Directive,
@@ -132,7 +132,7 @@ fn of_form<'a>(form: (Kind, Kind, Kind), tokens: &[Token<'a>]) -> Option<Operand
     taken(form, operands(tokens)?)
 }
 
-/// What stands behind a mnemonic.
+/// What stands after a mnemonic.
 #[tactic(auto, unfolding(crate::specs::Statements::instruction_from))]
 fn behind_mnemonic<'a>(mnemonic: Mnemonic, tokens: &[Token<'a>]) -> Option<Statement<'a>>
     ensures { option_map statement_value result ≡ statements.instruction_from (forms.form_of mnemonic) (forms.instruction mnemonic) (map seen tokens.now) }
@@ -141,7 +141,7 @@ fn behind_mnemonic<'a>(mnemonic: Mnemonic, tokens: &[Token<'a>]) -> Option<State
     Some(Statement::Instruction(Instruction { mnemonic, operands }))
 }
 
-/// What stands behind a shorthand.
+/// What stands after a shorthand.
 #[tactic(auto, unfolding(crate::specs::Statements::instruction_from))]
 fn behind_shorthand<'a>(shorthand: Shorthand, tokens: &[Token<'a>]) -> Option<Statement<'a>>
     ensures { option_map statement_value result ≡ statements.instruction_from (forms.short_form_of shorthand) (forms.stands_for shorthand) (map seen tokens.now) }
@@ -150,7 +150,7 @@ fn behind_shorthand<'a>(shorthand: Shorthand, tokens: &[Token<'a>]) -> Option<St
     Some(Statement::Instruction(stands_for(shorthand, operands)))
 }
 
-/// What stands behind an operation.
+/// What stands after an operation.
 fn behind_operation<'a>(
     alloc: Global,
     operation: Operation,

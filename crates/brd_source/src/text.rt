@@ -12,7 +12,7 @@ use crate::token::Token;
 use brd_base::List;
 use std::alloc::Global;
 
-/// What a byte behind a backslash stands for.
+/// What a byte after a backslash stands for.
 #[tactic(auto, unfolding(crate::specs::Texts::escape_of))]
 fn escape_of(byte: u8) -> Option<u8>
     ensures { result ≡ texts.escape_of byte }

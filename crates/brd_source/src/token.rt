@@ -3,7 +3,7 @@
 pub(crate) enum Token<'a> {
     /// A longest stretch of letters, digits, `_`, `.` and `$`.
     Run(&'a [u8]),
-    /// The run directly behind a `%`, empty where there is none.
+    /// The run directly after a `%`, empty where there is none.
     Percent(&'a [u8]),
     /// The bytes between two quotes, with their escapes as they are written.
     Quoted(&'a [u8]),

@@ -1,6 +1,6 @@
 -- The gate of service calls: the call that a context asks for, by its number in $v0 and its arguments in $a0 to $a3.
 use Rattle.std.specs.Prelude.{ℕ, ◌==◌, nat_lt, Bool, true, false, not, ◌&&◌, ◌||◌, if◌then◌else◌, List, [], ◌∷◌, find}
-use Rattle.std.specs.Prelude.{slice_index, Option, None, Some, Result, Ok, Err}
+use Rattle.std.specs.Prelude.{slice_index, is_some, Option, None, Some, Result, Ok, Err}
 use Rattle.std.specs.Option.{option_map}
 use Rattle.brd_exec.specs.State.{State, read, advanced}
 use Rattle.brd_tasks.specs.Tasks.{answered}
@@ -9,13 +9,13 @@ use Rattle.brd_kernel.specs.declared.call.Call.TheVariants as call
 use Rattle.brd_kernel.specs.declared.call.Ercd.{Ercd}
 use Rattle.brd_kernel.specs.declared.call.Ercd.TheVariants.{Rsfn, Ctx}
 use Rattle.brd_kernel.specs.declared.call.Reply.{Reply}
-use Rattle.brd_kernel.specs.declared.call.Reply.TheVariants.{Answer, Silent}
+use Rattle.brd_kernel.specs.declared.call.Reply.TheVariants.{Answer, Silent, Again}
 use Rattle.brd_kernel.specs.declared.processor.Processor.{Processor}
 use Rattle.brd_kernel.specs.declared.processor.Executor.{Executor}
 use Rattle.brd_kernel.specs.Answer.{code_of}
 use Rattle.brd_kernel.specs.Waits.{forever}
 use Rattle.brd_kernel.specs.Row.{Served}
-use Rattle.brd_kernel.specs.Services.{caller_on, serve_of}
+use Rattle.brd_kernel.specs.Services.{caller_on, serve_of, comes_again}
 use Rattle.brd_kernel.specs.Kernel.{KernelState, processor_at, executor_on, context_of, with_context_of, context_on}
 use Rattle.brd_sysgate.specs.declared.gate.Caller.{Caller}
 use Rattle.brd_sysgate.specs.declared.gate.Caller.TheVariants.{Task, Handler}
@@ -67,7 +67,7 @@ table =
     ∷ service 12 place.Task (λ a. call.DisDsp)
     ∷ service 13 place.Task (λ a. call.EnaDsp)
     ∷ service 14 place.LockedTask (λ a. call.LocCpu)
-    ∷ service 15 place.LockedTask (λ a. call.UnlCpu)
+    ∷ service 15 place.NotHolding (λ a. call.UnlCpu)
     ∷ service 16 place.Waiting (λ a. call.TslpTsk forever)
     ∷ service 17 place.Waiting (λ a. call.TslpTsk (a0 a))
     ∷ service 18 place.Task (λ a. call.WupTsk (a0 a))
@@ -105,6 +105,9 @@ table =
     ∷ service 56 place.Handler (λ a. call.GetTid)
     ∷ service 57 place.Handler (λ a. call.ImactTsk (a0 a) (a1 a))
     ∷ service 58 place.Handler (λ a. call.RetInt)
+    ∷ service 60 place.Task (λ a. call.LocSpn (a0 a))
+    ∷ service 61 place.Task (λ a. call.TrySpn (a0 a))
+    ∷ service 62 place.LockedTask (λ a. call.UnlSpn (a0 a))
     ∷ []
 
 -- the number 0 or one's own
@@ -113,13 +116,15 @@ is_oneself id named = named == 0 || named == id
 
 -- whether a call of that place may come from a caller; `named` is its first argument
 abbrev pub may_call : Caller → Place → ℕ → Bool
-may_call (Task id locked disabled) place.Task named = not locked
-may_call (Task id locked disabled) place.LockedTask named = true
-may_call (Task id locked disabled) place.Waiting named = not locked && not disabled
-may_call (Task id locked disabled) place.OnTask named = not locked && not (disabled && is_oneself id named)
-may_call (Task id locked disabled) place.Handler named = false
+may_call (Task id locked disabled holding) place.Task named = not locked
+may_call (Task id locked disabled holding) place.LockedTask named = true
+may_call (Task id locked disabled holding) place.NotHolding named = not holding
+may_call (Task id locked disabled holding) place.Waiting named = not locked && not disabled
+may_call (Task id locked disabled holding) place.OnTask named = not locked && not (disabled && is_oneself id named)
+may_call (Task id locked disabled holding) place.Handler named = false
 may_call Handler place.Task named = false
 may_call Handler place.LockedTask named = false
+may_call Handler place.NotHolding named = false
 may_call Handler place.Waiting named = false
 may_call Handler place.OnTask named = false
 may_call Handler place.Handler named = true
@@ -147,6 +152,7 @@ read_of s caller = allowed caller (read s 4) (asked (read s 2) (arguments_of s))
 abbrev pub written : State → Reply → State
 written s (Answer code second) = answered s code second
 written s Silent = s
+written s Again = s
 
 -- The numbers rise, so no two calls have one.
 
@@ -157,7 +163,7 @@ is_above number (s ∷ services) = nat_lt number s.number && is_above s.number s
 -- The whole of a service call.
 
 abbrev pub caller_by : ℕ → Processor → Option ℕ → Caller
-caller_by id p None = Task id p.locked p.disabled
+caller_by id p None = Task id p.locked p.disabled (is_some p.spin)
 caller_by id p (Some line) = Handler
 
 -- who makes a call from a processor (where the board has none of that number no call comes, and any caller will do)
@@ -184,13 +190,22 @@ with_changed_context change k cpu = changed_in change k cpu (executor_on k cpu)
 abbrev pub replied : ℕ → Served → KernelState
 replied cpu done = with_changed_context (λ s. written s done.reply) done.kernel cpu
 
+-- a call that is let through and is to be made again
+abbrev pub is_again : KernelState → Result Call Ercd → Bool
+is_again k (Ok call) = comes_again k call
+is_again k (Err code) = false
+
+-- what a call does: where it is to be made again nothing; else the context goes on, and then the call is served
+abbrev pub called_for : KernelState → ℕ → Result Call Ercd → KernelState
+called_for k cpu call =
+    if is_again k call then k else replied cpu (served_call (with_changed_context advanced k cpu) cpu call)
+
 abbrev pub called_in : KernelState → ℕ → Caller → Option State → KernelState
 called_in k cpu caller None = k
-called_in k cpu caller (Some s) = replied cpu (served_call k cpu (read_of s caller))
+called_in k cpu caller (Some s) = called_for k cpu (read_of s caller)
 
--- A SYSCALL: the context goes on as after an ordinary instruction; then the call is read from it and served, and its
--- reply is written.
+-- A SYSCALL: the call is read from the registers. Where it is to be made again, context and kernel stay as they are, so
+-- that it is the processor's next instruction once more. Else the context goes on as after an ordinary instruction, the
+-- call is served, and its reply is written.
 unfoldable pub called : KernelState → ℕ → KernelState
-called k cpu =
-    let on = with_changed_context advanced k cpu in
-    called_in on cpu (caller_of k cpu) (context_on on cpu)
+called k cpu = called_in k cpu (caller_of k cpu) (context_on k cpu)

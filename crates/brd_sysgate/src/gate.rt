@@ -26,6 +26,8 @@ pub enum Caller {
         locked: bool,
         /// Whether dispatching is disabled on its processor.
         disabled: bool,
+        /// Whether its processor holds a spin lock.
+        holding: bool,
     },
     /// An interrupt handler.
     Handler,
@@ -80,7 +82,7 @@ fn service(number: u32, arguments: [u32; 4]) -> Option<Asked>
         12 => (Place::Task, Call::DisDsp),
         13 => (Place::Task, Call::EnaDsp),
         14 => (Place::LockedTask, Call::LocCpu),
-        15 => (Place::LockedTask, Call::UnlCpu),
+        15 => (Place::NotHolding, Call::UnlCpu),
         16 => (Place::Waiting, Call::TslpTsk(FOREVER)),
         17 => (Place::Waiting, Call::TslpTsk(a0)),
         18 => (Place::Task, Call::WupTsk(a0)),
@@ -118,6 +120,9 @@ fn service(number: u32, arguments: [u32; 4]) -> Option<Asked>
         56 => (Place::Handler, Call::GetTid),
         57 => (Place::Handler, Call::ImactTsk(a0, a1)),
         58 => (Place::Handler, Call::RetInt),
+        60 => (Place::Task, Call::LocSpn(a0)),
+        61 => (Place::Task, Call::TrySpn(a0)),
+        62 => (Place::LockedTask, Call::UnlSpn(a0)),
         _ => return None,
     };
     Some(Asked { place, call })
@@ -134,9 +139,11 @@ fn may_call(caller: Caller, place: Place, named: u32) -> bool
             id,
             locked,
             disabled,
+            holding,
         } => match place {
             Place::Task => !locked,
             Place::LockedTask => true,
+            Place::NotHolding => !holding,
             Place::Waiting => !locked && !disabled,
             Place::OnTask => !locked && !(disabled && is_oneself(id, named)),
             Place::Handler => false,

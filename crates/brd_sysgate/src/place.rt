@@ -9,6 +9,8 @@ pub enum Place {
     Task,
     /// From a task, also a CPU-locked one.
     LockedTask,
+    /// As `LockedTask`, but not while the task's processor holds a spin lock.
+    NotHolding,
     /// From a task that is neither CPU-locked nor has dispatching disabled: the call may wait.
     Waiting,
     /// As `Task`, but with dispatching disabled not of oneself.

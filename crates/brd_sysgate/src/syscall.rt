@@ -2,23 +2,26 @@
 
 ghost use Rattle.std.specs.Prelude.{◌≡◌, ◌<◌};
 ghost use Rattle.brd_exec.specs.State.{advanced};
-ghost use Rattle.brd_sysgate.specs.Gate.{caller_of, with_changed_context, written, served_call, called};
+ghost use Rattle.brd_sysgate.specs.Gate.{caller_of, with_changed_context, written, served_call, is_again, called};
 
 use crate::gate::{Caller, read, write};
 use brd_kernel::{Call, Ercd, Kernel, Reply};
 
 /// A SYSCALL on a processor: its context goes on as after an ordinary instruction, the call is served, and its reply is
-/// written where the context lies.
+/// written where the context lies. A call that is to be made again changes nothing.
 #[tactic(auto, unfolding(crate::specs::Gate::called))]
 pub fn call(kernel: &mut Kernel, cpu: u8)
     ensures { kernel.new ≡ called kernel.old cpu }
 {
     let caller = caller(kernel, cpu);
-    advance(kernel, cpu);
     let Some(context) = kernel.context(cpu) else {
         return
     };
     let call = read(context, caller);
+    if is_again(kernel, call) {
+        return;
+    }
+    advance(kernel, cpu);
     let reply = serve(kernel, cpu, call);
     answer(kernel, cpu, reply);
 }
@@ -37,6 +40,17 @@ fn caller(kernel: &Kernel, cpu: u8) -> Caller
         id: kernel.caller(cpu),
         locked: processor.locked,
         disabled: processor.disabled,
+        holding: processor.spin.is_some(),
+    }
+}
+
+/// Whether a call is let through and is to be made again.
+fn is_again(kernel: &Kernel, call: Result<Call, Ercd>) -> bool
+    ensures { result ≡ is_again kernel.now call }
+{
+    match call {
+        Ok(call) => kernel.comes_again(call),
+        Err(_) => false,
     }
 }
 

@@ -43,7 +43,7 @@ same-at-by : {A : Type 0} → (small : Bool) (n at : ℕ) (x : A) → nat_lt at 
 same-at-by true n at x test = get_or-replicate n at x x (grind (arith, nat_tests, test))
 same-at-by false n at x test = get_or-eq_default (replicate n x) x (grind (arith, nat_tests, test, length-replicate))
 
--- a list of the same, also behind its end
+-- a list of the same, also after its end
 pub same-at : {A : Type 0} → (n at : ℕ) (x : A) → slice_index_or (replicate n x) at x ≡ x
 same-at n at x = same-at-by (nat_lt at n) n at x refl
 

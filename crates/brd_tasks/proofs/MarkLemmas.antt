@@ -3,7 +3,7 @@ use Rattle.std.proofs.Common.{◌≡◌, ◌<◌, ◌≤◌, ◌≢◌, ℕ, ◌
 use Rattle.std.specs.Prelude.{Bool, true, false, ◌==◌, ◌&&◌, nat_lt, if◌then◌else◌, slice_index_or, slice_set}
 use Rattle.std.specs.Int.{bit_at, bit_not, w64, trailing_zeros}
 use Rattle.std.proofs.lemmas.Bool.Decides.{nat_tests}
-use Rattle.std.proofs.lemmas.Nat.Bits.{bit_at_set_same, bit_at_set_other, bit_at_clear_same, bit_at_clear_other, bit_at-zero, bit_at-trailing_zeros}
+use Rattle.std.proofs.lemmas.Nat.Bits.{bit_at_set_same, bit_at_set_other, bit_at_clear_same, bit_at_clear_other, bit_at-trailing_zeros}
 use Rattle.std.proofs.lemmas.Grind.{get_or-set_at}
 use Rattle.std.proofs.lemmas.List.{get_or-set_other}
 use Rattle.brd_tasks.specs.Marks.{word_of, mark_at, with_mark, without_mark}
@@ -78,9 +78,3 @@ word-first marks cpu i at at_is few some small before =
       ap (λ w. bit_at (slice_index_or marks w 0) ((i * 64 + trailing_zeros w64 (slice_index_or marks at 0)) % 64)) word ∙ ap (bit_at (slice_index_or marks at 0)) bit ∙ lowest.1,
       λ q below. word-below (nat_lt q (i * 64)) marks cpu i at q refl at_is before (trailing_zeros w64 (slice_index_or marks at 0)) below (omega (arith, lowest.0)) lowest.2,
     )
-
--- a word that is 0 has no mark
-pub word-empty : (marks : List ℕ) (cpu i at : ℕ) → at ≡ cpu * 4 + i * 64 / 64 → slice_index_or marks at 0 ≡ 0 → ((q : ℕ) → q < i * 64 → mark_at marks cpu q ≡ 0) →
-    (q : ℕ) → q < (i + 1) * 64 → mark_at marks cpu q ≡ 0
-word-empty marks cpu i at at_is empty before q below =
-    word-below (nat_lt q (i * 64)) marks cpu i at q refl at_is before 64 (omega (arith, below)) (omega arith) (λ b within. ap (λ w. bit_at w b) empty ∙ bit_at-zero b)

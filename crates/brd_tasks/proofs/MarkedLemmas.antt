@@ -45,17 +45,9 @@ own-mark true marks cpu p c q test =
     ap (λ d. mark_at marks d q) (sym cpu_is) ∙ ap (mark_at marks cpu) (sym p_is) ∙ rw test refl
 own-mark false marks cpu p c q test = rw test refl
 
-mark_of-head : (xs : List ℕ) → is_some (head_of xs) ≡ true → mark_of xs ≡ 1
-mark_of-head [] some = absurd (true≢false (sym some))
-mark_of-head (x ∷ xs) some = refl
-
 mark_of-none : (xs : List ℕ) → is_some (head_of xs) ≡ false → mark_of xs ≡ 0
 mark_of-none [] none = refl
 mark_of-none (x ∷ xs) none = absurd (true≢false none)
-
-mark_of-has : (xs : List ℕ) (id : ℕ) → has_node id xs ≡ true → mark_of xs ≡ 1
-mark_of-has [] id there = absurd (true≢false (sym there))
-mark_of-has (x ∷ xs) id there = refl
 
 -- the marks still tell it where a ring has changed
 pub marked-changed : (rings : List (List ℕ)) (marks new : List ℕ) (cpu p value : ℕ) (xs : List ℕ) → IsMarked rings marks → cpu < 9 → p < 256 → length new ≡ 36 →
@@ -78,19 +70,6 @@ pub marked-emptied : (rings : List (List ℕ)) (marks : List ℕ) (cpu p : ℕ) 
 marked-emptied rings marks cpu p xs was listed small empty =
     marked-changed rings marks (without_mark cpu p marks) cpu p 0 xs was listed small (length-set marks (word_of cpu p) _ ∙ was.long)
     (λ c q within. mark_at-without cpu p c q marks was.long listed small within) (sym empty)
-
-pub marked-stays : (rings : List (List ℕ)) (marks : List ℕ) (cpu p : ℕ) (xs : List ℕ) → IsMarked rings marks → cpu < 9 → p < 256 → mark_of xs ≡ mark_of (ring_at rings (number_of cpu p)) →
-    IsMarked (slice_set rings (number_of cpu p) xs) marks
-marked-stays rings marks cpu p xs was listed small same =
-    marked-changed rings marks marks cpu p (mark_at marks cpu p) xs was listed small was.long
-    (λ c q within. own-mark ((cpu == c) && (p == q)) marks cpu p c q refl) (was.marked cpu p listed small ∙ sym same)
-
-mark_of-turned : (xs : List ℕ) → mark_of (turned xs) ≡ mark_of xs
-mark_of-turned [] = refl
-mark_of-turned (x ∷ xs) = mark_of-more xs x
-
-pub marked-turned : (rings : List (List ℕ)) (marks : List ℕ) (cpu p : ℕ) → IsMarked rings marks → cpu < 9 → p < 256 → IsMarked (slice_set rings (number_of cpu p) (turned (ring_at rings (number_of cpu p)))) marks
-marked-turned rings marks cpu p was listed small = marked-stays rings marks cpu p (turned (ring_at rings (number_of cpu p))) was listed small (mark_of-turned (ring_at rings (number_of cpu p)))
 
 -- Who is in which ring.
 
@@ -213,19 +192,6 @@ pub in-ring-as : (rings : List (List ℕ)) (now : List (List Plain)) (cpu p id r
 in-ring-as rings now cpu p id ring view listed number there =
     ap (λ r. has_node id (ring_at rings r)) number ∙ in-ring rings cpu p id listed (ap (λ l. priority_in id (slice_index_or l cpu [])) view ∙ there)
 
--- a ring that nobody is in any more, or that has somebody as before
-pub marked-left-as : (rings after : List (List ℕ)) (marks : List ℕ) (cpu p id ring : ℕ) (head : Option ℕ) → IsMarked rings marks → cpu < 9 → p < 256 → has_node id (ring_at rings ring) ≡ true → ring ≡ number_of cpu p →
-    after ≡ slice_set rings ring (without_node id (ring_at rings ring)) → head ≡ head_of (ring_at after ring) → is_some head ≡ true → IsMarked after marks
-marked-left-as rings after marks cpu p id ring head was listed small there number is at_head some =
-    subst (λ r. after ≡ slice_set rings r (without_node id (ring_at rings r)) → has_node id (ring_at rings r) ≡ true → head ≡ head_of (ring_at after r) → IsMarked after marks) (sym number)
-    (λ made stood first.
-    let within : number_of cpu p < length rings = omega (arith, number-small cpu p listed small, was.count) in
-    let ring_is : ring_at after (number_of cpu p) ≡ without_node id (ring_at rings (number_of cpu p)) =
-    ap (λ l. ring_at l (number_of cpu p)) made ∙ get_or-set_at rings (number_of cpu p) (number_of cpu p) (without_node id (ring_at rings (number_of cpu p))) [] refl within in
-    let full : mark_of (without_node id (ring_at rings (number_of cpu p))) ≡ 1 = mark_of-head (without_node id (ring_at rings (number_of cpu p))) (ap is_some (sym (first ∙ ap head_of ring_is)) ∙ some) in
-    subst (λ l. IsMarked l marks) (sym made) (marked-stays rings marks cpu p (without_node id (ring_at rings (number_of cpu p))) was listed small (full ∙ sym (mark_of-has (ring_at rings (number_of cpu p)) id stood))))
-    is there at_head
-
 pub marked-emptied-as : (rings after : List (List ℕ)) (marks new : List ℕ) (cpu p id ring : ℕ) (head : Option ℕ) → IsMarked rings marks → cpu < 9 → p < 256 → ring ≡ number_of cpu p →
     after ≡ slice_set rings ring (without_node id (ring_at rings ring)) → head ≡ head_of (ring_at after ring) → is_some head ≡ false → new ≡ without_mark cpu p marks → IsMarked after new
 marked-emptied-as rings after marks new cpu p id ring head was listed small number is at_head none new_is =
@@ -265,9 +231,3 @@ lists-turned-as rings after marks now cpu p ring was view listed small apart num
     subst (λ l. lists_of after ≡ slice_set l cpu (rotated p (slice_index_or l cpu []))) view
     (subst (λ r. after ≡ slice_set rings r (turned (ring_at rings r)) → lists_of after ≡ slice_set (lists_of rings) cpu (rotated p (slice_index_or (lists_of rings) cpu []))) (sym number)
     (λ made. ap lists_of made ∙ lists-turned rings cpu p was.count listed small apart) is)
-
-pub marked-turned-as : (rings after : List (List ℕ)) (marks : List ℕ) (cpu p ring : ℕ) → IsMarked rings marks → cpu < 9 → p < 256 → ring ≡ number_of cpu p →
-    after ≡ slice_set rings ring (turned (ring_at rings ring)) → IsMarked after marks
-marked-turned-as rings after marks cpu p ring was listed small number is =
-    subst (λ r. after ≡ slice_set rings r (turned (ring_at rings r)) → IsMarked after marks) (sym number)
-    (λ made. subst (λ l. IsMarked l marks) (sym made) (marked-turned rings marks cpu p was listed small)) is

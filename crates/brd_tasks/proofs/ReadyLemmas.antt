@@ -30,7 +30,7 @@ entries-more : (id p : ℕ) (xs : List ℕ) (rest : List Plain) → entries p (x
 entries-more id p [] rest = refl
 entries-more id p (x ∷ xs) rest = ap (λ l. entry p x ∷ l) (entries-more id p xs rest)
 
--- behind those of a priority that isn't lower
+-- after those of a priority that isn't lower
 behind-entries : (e : Plain) (p : ℕ) (xs : List ℕ) (rest : List Plain) → p ≤ e.priority → behind_equals e (entries p xs ++ rest) ≡ entries p xs ++ behind_equals e rest
 behind-entries e p [] rest order = refl
 behind-entries e p (x ∷ xs) rest order = grind (arith, nat_tests, order, behind-entries e p xs rest order)
@@ -351,7 +351,7 @@ turned-by rings cpu p (x ∷ xs) ring count listed small apart =
     (λ r below. entered-ring (r == p) between cpu p r x refl long listed small) in
     ap (λ l. joined l cpu 0 256) new ∙ back ∙ ap (behind_equals (entry p x)) gone ∙ ap (λ l. moved_behind (option_map (entry p) (head_of l)) (joined rings cpu 0 256)) (sym ring)
 
--- the first of a priority goes behind its equals
+-- the first of a priority goes after its equals
 ready-turned : (rings : List (List ℕ)) (cpu p : ℕ) → length rings ≡ 2304 → cpu < 9 → p < 256 → IsApart rings →
     ready_of (slice_set rings (number_of cpu p) (turned (ring_at rings (number_of cpu p)))) cpu ≡ rotated p (ready_of rings cpu)
 unfolding ready_of

@@ -1,4 +1,5 @@
--- The marks of the priorities of each processor: bits, 64 in a word. Only the contracts of private functions name these.
+-- The marks of the priorities of each processor: bits, 64 in a word. Only the contracts of private functions name
+-- these.
 use Rattle.std.specs.Prelude.{ℕ, ◌+◌, ◌*◌, ◌/◌, ◌%◌, ◌^◌, List, bit_and, bit_or, slice_index_or, slice_set}
 use Rattle.std.specs.Int.{bit_at, bit_not, w64}
 

@@ -1,5 +1,5 @@
--- How the ready lists lie in rings: that of a priority on a processor has the number 256 * processor + priority. Only the
--- contracts of private functions name these.
+-- How the ready lists lie in rings: that of a priority on a processor has the number 256 * processor + priority. Only
+-- the contracts of private functions name these.
 use Rattle.std.specs.Prelude.{◌≡◌, ◌<◌, ℕ, zero, suc, ◌+◌, ◌*◌, List, [], ◌∷◌, ◌++◌, length, map}
 use Rattle.std.specs.List.{range_with_len}
 use Rattle.brd_queue.specs.Queue.{Plain}
@@ -17,7 +17,7 @@ entries priority (x ∷ xs) = entry priority x ∷ entries priority xs
 abbrev pub number_of : ℕ → ℕ → ℕ
 number_of cpu priority = cpu * 256 + priority
 
--- the rings of a processor from a priority on, so many of them
+-- the rings of a processor from a priority on, n of them
 abbrev pub joined : List (List ℕ) → ℕ → ℕ → ℕ → List Plain
 joined rings cpu priority zero = []
 joined rings cpu priority (suc count) = entries priority (ring_at rings (number_of cpu priority)) ++ joined rings cpu (suc priority) count

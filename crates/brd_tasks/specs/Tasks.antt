@@ -99,13 +99,13 @@ left id None ready = ready
 left id (Some task) ready =
     if is_ready task.status then slice_set ready task.cpu (without id (slice_index_or ready task.cpu [])) else ready
 
--- the ready lists with a task that is ready, behind its equals
+-- the ready lists with a task that is ready, after its equals
 abbrev pub entered : ℕ → Task → List (List Plain) → List (List Plain)
 entered id task ready =
     if is_ready task.status then slice_set ready task.cpu (behind_equals (record { id = id; priority = task.priority; wanted = tt }) (slice_index_or ready task.cpu []))
     else ready
 
--- A task is written anew: it leaves the ready list in which it was, and where it is ready comes behind its equals on
+-- A task is written anew: it leaves the ready list in which it was, and where it is ready comes after its equals on
 -- its processor.
 abbrev pub placed : TaskTable → ℕ → Task → TaskTable
 placed t id task = record t { rows = slice_set t.rows id (Some task); ready = entered id task (left id (task_at t id) t.ready) }
@@ -164,7 +164,7 @@ released_to t id answer second task (Some status) =
 abbrev pub released_with : TaskTable → ℕ → ℕ → Option ℕ → TaskTable
 released_with t id answer second = where_there t (task_at t id) (λ task. released_to t id answer second task (released task.status))
 
--- a task is given another priority or processor; one that is ready comes behind its equals, also where nothing has
+-- a task is given another priority or processor; one that is ready comes after its equals, also where nothing has
 -- changed
 abbrev pub changed : (Task → Task) → TaskTable → ℕ → TaskTable
 changed change t id = where_there t (task_at t id) (λ task. placed t id (change task))
@@ -186,7 +186,7 @@ with_wakeup queued task = record task { wakeup = queued && not (is_dormant task.
 abbrev pub without_activation : Task → Task
 without_activation task = record task { activation = None }
 
--- the first ready task of a priority on a processor goes behind its equals
+-- the first ready task of a priority on a processor goes after its equals
 abbrev pub turned : TaskTable → ℕ → ℕ → TaskTable
 turned t cpu priority = record t { ready = slice_set t.ready cpu (rotated priority (ready_on t cpu)) }
 

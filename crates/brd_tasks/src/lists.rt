@@ -85,7 +85,7 @@ impl ReadyLists {
         }
     }
 
-    /// Puts a task that is ready behind its equals.
+    /// Puts a task that is ready after its equals.
     pub fn enter(&mut self, id: TaskId, task: Task)
         requires small { id < 256 }
         requires listed { task.cpu < 9 }
@@ -97,7 +97,7 @@ impl ReadyLists {
         }
     }
 
-    /// Puts the first task of a priority on a processor behind its equals.
+    /// Puts the first task of a priority on a processor after its equals.
     pub fn rotate(&mut self, cpu: u8, priority: u8)
         requires { cpu < 9 }
         ensures is { self.new ≡ slice_set self.old cpu (rotated priority (slice_index_or self.old cpu [])) }

@@ -241,7 +241,7 @@ impl Tasks {
         self.place(id, Task { status, ..task });
     }
 
-    /// Gives a task another priority. One that is ready comes behind its equals, also where it has that priority
+    /// Gives a task another priority. One that is ready comes after its equals, also where it has that priority
     /// already.
     pub fn set_priority(&mut self, id: TaskId, priority: u8)
         ensures is { self.new ≡ changed (with_priority priority) self.old id }
@@ -251,7 +251,7 @@ impl Tasks {
         self.place(id, Task { priority, ..task });
     }
 
-    /// Assigns a task to another processor. One that is ready comes behind its equals there.
+    /// Assigns a task to another processor. One that is ready comes after its equals there.
     pub fn migrate(&mut self, id: TaskId, cpu: u8)
         requires { IsProcessor cpu }
         ensures is { self.new ≡ changed (on_processor cpu) self.old id }
@@ -286,7 +286,7 @@ impl Tasks {
         );
     }
 
-    /// Puts the first ready task of a priority on a processor behind its equals.
+    /// Puts the first ready task of a priority on a processor after its equals.
     pub fn rotate(&mut self, cpu: u8, priority: u8)
         requires { IsProcessor cpu }
         ensures { self.new ≡ turned self.old cpu priority }
@@ -330,7 +330,7 @@ impl Tasks {
         self.contexts[id as usize] = task.setup.opening();
     }
 
-    /// Writes a task, and puts it behind its equals where it is ready.
+    /// Writes a task, and puts it after its equals where it is ready.
     #[tactic(auto, using(crate::proofs::ThereLemmas::there_set))]
     fn place(&mut self, id: TaskId, task: Task)
         requires known { IsSome (task_at self.old id) }

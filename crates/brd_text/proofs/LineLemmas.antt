@@ -1,4 +1,4 @@
--- The first line of a text, and those behind it; lines and the newlines between them.
+-- The first line of a text, and those after it; lines and the newlines between them.
 use Rattle.std.proofs.Common.{◌≡◌, ℕ, suc, ◌+◌, true, false, eqb, List, [], ◌∷◌, ◌++◌, length, take, drop, refl, sym, ap, ◌∙◌, inl, inr, arith}
 use Rattle.std.specs.Prelude.{Option, Some, None}
 use Rattle.std.specs.List.{prefix_len, list_all, AllByRecursion, join_with_byte}
@@ -13,7 +13,7 @@ in_line : (b : ℕ) → eqb b 10 ≡ false → stays_on b ≡ true
 unfolding stays_on
 in_line b e = rw e refl
 
--- the text behind the first byte
+-- the text after the first byte
 abbrev behind_end : List ℕ → Option (List ℕ)
 behind_end [] = None
 behind_end (b ∷ bs) = Some bs
@@ -38,7 +38,7 @@ pub only_line : (bs line end : List ℕ) (n : ℕ) → n ≡ prefix_len stays_on
 only_line bs line [] n len front back none = first_line bs ∙ rw (← len, ← back, ← front) refl
 only_line bs line (b ∷ bs') n len front back none = absurd (omega (arith, none))
 
--- the line of a number, by the first line and those behind it
+-- the line of a number, by the first line and those after it
 pub line_further : (text line behind : List ℕ) (n : ℕ) → lines_of text ≡ line ∷ lines_behind (Some behind) → line_at behind (suc n) ≡ line_at text (suc (suc n))
 line_further text line behind n e = rw e refl
 

@@ -84,7 +84,7 @@ newline_ends line b left bs e f = rw (e, f) refl
 
 -- ---- tokens
 
--- behind the run that stands here
+-- after the run that stands here
 pub run_rest : (line : ℕ) (bs : List ℕ) → tokens_in InRun line bs ≡ tokens_in Between line (drop (prefix_len is_run_byte bs) bs)
 run_rest line [] = refl
 run_rest line (b ∷ bs) =

@@ -22,7 +22,7 @@ in_line line (b ∷ bs) rest h =
     let parts = and_parts (not (nat_eq b 10)) (list_all (λ b. not (nat_eq b 10)) bs) h in
     rw (not-true (nat_eq b 10) parts.0) (in_line line bs rest parts.1)
 
--- a slash behind these bytes, whatever follows the comment
+-- a slash after these bytes, whatever follows the comment
 slash_behind : (bs rest : List ℕ) → begins_with 47 (bs ++ 42 ∷ 47 ∷ rest) ≡ begins_with 47 bs
 slash_behind [] rest = refl
 slash_behind (b ∷ bs) rest = refl

@@ -6,7 +6,7 @@ use Rattle.brd_text.specs.Tokens.Place.{Between, InBlock}
 use Rattle.brd_text.specs.declared.gap.Gap.{Gap}
 use Rattle.brd_text.specs.declared.gap.Gap.TheVariants.{Closed, Open}
 
--- the tokens behind a gap
+-- the tokens after a gap
 abbrev pub tokens_behind : Gap → Text
 tokens_behind (Closed rest line) = tokens_in Between line rest.now
 tokens_behind (Open line) = at_end InBlock line
@@ -16,7 +16,7 @@ abbrev pub room_of : Gap → ℕ
 room_of (Closed rest line) = line + length rest.now
 room_of (Open line) = line
 
--- the bytes that are left behind a gap
+-- the bytes that are left after a gap
 abbrev pub left_of : Gap → List ℕ
 left_of (Closed rest line) = rest.now
 left_of (Open line) = []
@@ -29,7 +29,7 @@ abbrev pub IsAtToken : Gap → Type 0
 IsAtToken (Closed rest line) = begins_token rest.now ≡ true
 IsAtToken (Open line) = Unit {0}
 
--- A text begins with this token, and goes on so behind it, whatever its line.
+-- A text begins with this token, and goes on so after it, whatever its line.
 pub record Begins (text : List ℕ) (front : Token) (behind : List ℕ) : Type 0 where
   pub token : (line : ℕ) → first (tokens_in Between line text) ≡ record { token = front; line = line }
   pub rest : (line : ℕ) → others (tokens_in Between line text) ≡ tokens_in Between line behind

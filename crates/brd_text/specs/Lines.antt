@@ -11,7 +11,7 @@ abbrev pub lines_of : List ℕ → List (List ℕ)
 lines_of [] = [] ∷ []
 lines_of (b ∷ bs) = if b == 10 then [] ∷ lines_of bs else in_front b (lines_of bs)
 
--- the lines behind a line: those of the text behind its newline, and none where no newline ends it
+-- the lines after a line: those of the text after its newline, and none where no newline ends it
 abbrev pub lines_behind : Option (List ℕ) → List (List ℕ)
 lines_behind None = []
 lines_behind (Some text) = lines_of text
@@ -21,7 +21,7 @@ abbrev pub line_at : List ℕ → ℕ → List ℕ
 line_at text zero = []
 line_at text (suc n) = slice_index_or (lines_of text) n []
 
--- the number of the line behind a byte of a line
+-- the number of the line after a byte of a line
 abbrev pub line_after : ℕ → ℕ → ℕ
 line_after line b = if b == 10 then line + 1 else line
 

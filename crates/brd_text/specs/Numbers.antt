@@ -1,4 +1,4 @@
--- Numbers as they are written: decimal digits up to a greatest value, and decimal digits or hexadecimal ones behind 0x,
+-- Numbers as they are written: decimal digits up to a greatest value, and decimal digits or hexadecimal ones after 0x,
 -- below 2 to the 32nd.
 use Rattle.std.specs.Prelude.{ℕ, ◌+◌, ◌-◌, ◌*◌, Bool, false, not, ◌&&◌, nat_le, ◌==◌, if◌then◌else◌, List, [], ◌∷◌, length, Option, Some, None, option_and_then}
 
@@ -19,7 +19,7 @@ at_most most (Some v) = if nat_le v most then Some v else None
 unfoldable pub digit_of : ℕ → ℕ → Option ℕ
 digit_of base b = at_most (base - 1) (hex_digit_value b)
 
--- the value of digits behind others that stand for v; none where a byte is no digit
+-- the value of digits after others that stand for v; none where a byte is no digit
 abbrev pub value_behind : ℕ → Option ℕ → List ℕ → Option ℕ
 value_behind base v [] = v
 value_behind base None (b ∷ bs) = None

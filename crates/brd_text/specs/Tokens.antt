@@ -23,7 +23,7 @@ pub record Text : Type 0 where
   pub tokens : List Placed
   pub end : ℕ
 
--- Where in a text a byte stands: between tokens; behind a byte of a run; in a comment to the end of the line; at the
+-- Where in a text a byte stands: between tokens; after a byte of a run; in a comment to the end of the line; at the
 -- star of an opening /*; in a comment to */; at the slash of that */.
 pub data Place : Type 0 where
   Between : Place
@@ -91,7 +91,7 @@ first_of (p ∷ ps) end = p
 abbrev pub first : Text → Placed
 first t = first_of t.tokens t.end
 
--- the tokens behind the first
+-- the tokens after the first
 abbrev pub others : Text → Text
 others t = record { tokens = drop 1 t.tokens; end = t.end }
 

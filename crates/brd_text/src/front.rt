@@ -7,7 +7,7 @@ ghost use Rattle.brd_text.specs.Bytes as bytes;
 
 use crate::byte::is_run_byte;
 
-/// The bytes behind `byte`, where they begin with it.
+/// The bytes after `byte`, where they begin with it.
 pub fn behind(byte: u8, rest: &[u8]) -> Option<&[u8]>
     ensures found { IfSome result (λ x. rest.now ≡ byte ∷ x.now) }
     ensures none { IfNone result (begins_with byte rest.now ≡ false) }

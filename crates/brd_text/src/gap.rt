@@ -12,7 +12,7 @@ use crate::token::Token;
 
 /// Where a gap between tokens ends.
 pub(crate) enum Gap<'a> {
-    /// The bytes behind it, and their line.
+    /// The bytes after it, and their line.
     Closed(&'a [u8], usize),
     /// The text ends on this line, in a comment.
     Open(usize),
@@ -33,7 +33,7 @@ fn line_end(rest: &[u8]) -> &[u8]
     left
 }
 
-/// What is behind bytes of a comment that neither end it nor their line.
+/// What is after bytes of a comment that neither end it nor their line.
 fn behind_comment_bytes(rest: &[u8]) -> &[u8]
     ensures same { (line : ℕ) → tokens_in InBlock line rest.now ≡ tokens_in InBlock line result.now }
     ensures room { length result.now ≤ length rest.now }
@@ -48,7 +48,7 @@ fn behind_comment_bytes(rest: &[u8]) -> &[u8]
     left
 }
 
-/// What is behind a comment that ends with `*/`.
+/// What is after a comment that ends with `*/`.
 fn after_block(rest: &[u8], line: usize) -> Gap<'_>
     requires { line + length rest.now < 2 ^ 64 }
     ensures same { tokens_in InBlock line rest.now ≡ tokens_behind result }
@@ -69,7 +69,7 @@ fn after_block(rest: &[u8], line: usize) -> Gap<'_>
     Gap::Open(at)
 }
 
-/// What is behind blanks, newlines and comments.
+/// What is after blanks, newlines and comments.
 pub(crate) fn after_gap(rest: &[u8], line: usize) -> Gap<'_>
     requires { line + length rest.now < 2 ^ 64 }
     ensures same { tokens_in Between line rest.now ≡ tokens_behind result }
@@ -105,7 +105,7 @@ pub(crate) fn after_gap(rest: &[u8], line: usize) -> Gap<'_>
     Gap::Closed(left, at)
 }
 
-/// The token at the front, and what is behind it.
+/// The token at the front, and what is after it.
 pub(crate) fn token_at(text: &[u8]) -> (Token<'_>, &[u8])
     requires { begins_token text.now ≡ true }
     ensures token { Begins text.now (seen result.0) result.1.now }

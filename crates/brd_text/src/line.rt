@@ -4,7 +4,7 @@ ghost use Rattle.std.specs.Prelude.{◌≡◌, ◌+◌, ◌<◌, ◌≤◌, ◌^
 ghost use Rattle.std.specs.List.{prefix_len};
 ghost use Rattle.brd_text.specs.Lines as lines;
 
-/// The first line, without the newline that ends it, and the text behind that newline. `None` where the line ends with
+/// The first line, without the newline that ends it, and the text after that newline. `None` where the line ends with
 /// the text: then it is the last.
 pub fn split_line(text: &[u8]) -> (&[u8], Option<&[u8]>)
     ensures lines { lines.lines_of text.now ≡ result.0.now ∷ lines.lines_behind (option_map (λ behind. behind.now) result.1) }
@@ -35,7 +35,7 @@ pub fn line_at(text: &[u8], number: usize) -> &[u8]
     line
 }
 
-/// The number of the line behind a byte of a line.
+/// The number of the line after a byte of a line.
 pub fn line_after(line: usize, byte: u8) -> usize
     requires { line + 1 < 2 ^ 64 }
     ensures number { result ≡ lines.line_after line byte }

@@ -1,4 +1,4 @@
-//! Numbers as they are written: decimal digits up to a greatest value, and decimal digits or hexadecimal ones behind
+//! Numbers as they are written: decimal digits up to a greatest value, and decimal digits or hexadecimal ones after
 //! `0x`, below 2 to the 32nd.
 
 ghost use Rattle.std.specs.Prelude.{◌≡◌, ◌<◌, ◌≤◌, ◌^◌, IfSome};

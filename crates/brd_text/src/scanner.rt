@@ -38,7 +38,7 @@ impl<'a> Scanner<'a> {
         }
     }
 
-    /// Takes the first token, and says on which line it begins. `End` stands behind the last token, as often as it is
+    /// Takes the first token, and says on which line it begins. `End` stands after the last token, as often as it is
     /// asked for, with the line on which the text ends.
     pub fn next(&mut self) -> (Token<'a>, usize)
         ensures token { first self.old ≡ record { token = seen result.0; line = result.1 } }

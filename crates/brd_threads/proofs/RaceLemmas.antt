@@ -40,7 +40,7 @@ before_worked quotas before more all i default within =
     let long : i < length (before ++ more) = omega (arith, length-append before more) in
     subst (λ w. HasWorked (i + 1) (slice_index_or quotas i 0) w) (get_or_append_left before more default i within) (all i default long)
 
--- the last one is looked at, and those behind it were
+-- the last one is looked at, and those after it were
 pub next_looked : (R : ℕ → ℕ → Type 0) (quotas : List ℕ) (events : List Event) (before : List (Counted × Result Bool RaceFault)) (worked : Counted × Result Bool RaceFault) (len : ℕ)
     → len ≡ length before → HaveWorked quotas (before ++ worked ∷ []) → R (steps worked.0.cpu events) (slice_index_or quotas len 0)
     → ((i : ℕ) → length (before ++ worked ∷ []) ≤ i → i < length quotas → R (steps (i + 1) events) (slice_index_or quotas i 0))
@@ -51,7 +51,7 @@ next_looked R quotas events before worked len is all here more =
     (subst (λ n. R (steps (length before + 1) events) (slice_index_or quotas n 0)) is (subst (λ cpu. R (steps cpu events) (slice_index_or quotas len 0)) last.0 here))
     (λ i from to. more i (omega (arith, length-append before (worked ∷ []), from)) to)
 
--- what is known of a station behind the joins
+-- what is known of a station after the joins
 pub has_raced : {boot : BoardState} {script : List Outer} {quotas : List ℕ} {limit : ℕ} {station : StationState} → (station.boot ≡ boot) × (station.script ≡ script)
     → station.journal.order ≡ station.boot.memory.order → length (runs_of station.journal.events) ≤ limit → outers station.journal.events ≡ take station.taken station.script → AreWithin quotas station
     → ((board_of station).kernel.off ≡ false → outers station.journal.events ≡ station.script) → ((board_of station).kernel.off ≡ false → AreMet quotas station)

@@ -20,7 +20,7 @@ pub at_of : (script : List Outer) (n : ℕ) (rest line : List ℕ) (behind : Opt
     → lines_of rest ≡ line ∷ lines_behind behind → lines_read script n (lines_of rest) ≡ total → At script n rest line behind total
 at_of script n rest line behind total lines so_far = record { lines = lines; so_far = so_far }
 
--- the reading of a line behind which there is another
+-- the reading of a line after which there is another
 one_line : (script : List Outer) (n : ℕ) (line after : List ℕ)
     → lines_read script n (line ∷ lines_of after) ≡ (or_fault (Syntax n) (with_line script line) >>= λ more. lines_read more (n + 1) (lines_of after))
 one_line script n line after = let some = some_line after in rw some.2 refl

@@ -15,13 +15,13 @@ use Rattle.brd_threads.specs.Outers.{event_of, outers, steps}
 use Rattle.brd_threads.specs.Station.{IsReplay, with_more}
 use Rattle.brd_threads.proofs.StepLemmas.{steps-append, outers-append, outers-steps, steps-own, steps-other, outers-entry, steps-entry}
 
--- the books, with so many more steps of a processor
+-- the books, with n more steps of a processor
 books_kept : (books : List ℕ) (events : List Event) (cpu n : ℕ) → cpu < length books → ((k : ℕ) → slice_index_or books k 0 ≡ steps k events)
     → (k : ℕ) → slice_index_or (slice_set books cpu (slice_index_or books cpu 0 + n)) k 0 ≡ steps k (events ++ replicate n (Step cpu))
 books_kept books events cpu n within counted k =
     grind (arith, nat_tests, steps-append k events (replicate n (Step cpu)), steps-own cpu n, steps-other cpu k n, counted k, counted cpu, get_or-set_at {X = ℕ}, get_or-set_other {A = ℕ})
 
--- a processor does so many steps
+-- a processor does n steps
 pub run_kept : {boot board next : BoardState} {journal : JournalState} {script : List Outer} {taken : ℕ} {books : List ℕ} (cpu n : ℕ)
     → cpu < length books → IsReplay boot board journal script taken books → next ≡ after board (replicate n (Step cpu))
     → IsReplay boot next (with_more journal (replicate n (Step cpu))) script taken (slice_set books cpu (slice_index_or books cpu 0 + n))

@@ -18,7 +18,7 @@ outers-append front more = filter_map-append outer_of front more
 pub steps_few : (cpu : ℕ) (events : List Event) → steps cpu events ≤ length events
 steps_few cpu events = count_by-le-length (is_step_of cpu) events
 
--- a processor's steps, so many times
+-- a processor's steps, n times
 
 pub outers-steps : (cpu n : ℕ) → outers (replicate n (Step cpu)) ≡ []
 outers-steps cpu zero = refl

@@ -19,8 +19,8 @@ pub record StationState : Type 0 where
   pub taken : ℕ  -- how many entries of the script have happened
 
 -- What a station's type says. The board is what the journal's events make of the boot, and the journal has the boot's
--- byte order; of what comes from outside, the journal has the entries of the script that were taken, in their order; and
--- the books have the steps of each processor.
+-- byte order; of what comes from outside, the journal has the entries of the script that were taken, in their order;
+-- and the books have the steps of each processor.
 pub record IsReplay (boot board : BoardState) (journal : JournalState) (script : List Outer) (taken : ℕ) (books : List ℕ) : Type 0 where
   pub replay : board ≡ after boot journal.events
   pub order : journal.order ≡ boot.memory.order

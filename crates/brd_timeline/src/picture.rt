@@ -19,7 +19,8 @@ use brd_base::NoMemory;
 pub const MOST_DRAWN: usize = 5_000;
 
 /// Puts a timeline at the end as a picture ("Scalable Vector Graphics (SVG) 1.1", W3C): a lane for each processor and
-/// each task, a legend above, and the axes of events and ticks below. Where memory runs out, a front of it may be there.
+/// each task, a legend above, and the axes of events and ticks below. Where memory runs out, a front of it may be
+/// there.
 ///
 /// # Errors
 ///

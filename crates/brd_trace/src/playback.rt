@@ -29,8 +29,8 @@ pub struct Moved {
 }
 
 impl Playback {
-    /// Does the next event of a journal, and those of its run after it that do nothing, up to a position. `None` at that
-    /// position.
+    /// Does the next event of a journal, and those of its run after it that do nothing, up to a position. `None` at
+    /// that position.
     pub fn advance(&mut self, journal: &Journal, to: u64) -> Option<Moved>
         requires on { self.old.at ≤ to }
         requires within { to ≤ length journal.now.events }

@@ -12,9 +12,9 @@ use brd_board::{Standing, TaskState};
 use std::alloc::Global;
 
 impl Tracer {
-    /// Puts at the end what stands after the events that were played: whether the board is off, what each processor does
-    /// and its last exception, what each task is, whether nothing can release those that wait, and which calls were
-    /// refused.
+    /// Puts at the end what stands after the events that were played: whether the board is off, what each processor
+    /// does and its last exception, what each task is, whether nothing can release those that wait, and which calls
+    /// were refused.
     pub fn put_summary(
         &self,
         alloc: Global,

@@ -67,18 +67,6 @@ pub(crate) fn put_count(
     Ok(())
 }
 
-/// Puts bytes at the end: what isn't printable ASCII as `?`.
-pub(crate) fn put_printable(out: &mut Vec<u8>, bytes: &[u8]) -> Result<(), NoMemory> {
-    for byte in bytes {
-        let shown = match *byte {
-            b' '..=b'~' => *byte,
-            _ => b'?',
-        };
-        out.push(shown)?;
-    }
-    Ok(())
-}
-
 /// Puts blanks at the end until a column is so wide that began there, at least one.
 pub(crate) fn put_blanks(out: &mut Vec<u8>, start: usize, width: usize) -> Result<(), NoMemory> {
     out.push(b' ')?;

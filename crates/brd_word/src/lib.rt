@@ -1,7 +1,7 @@
 //! Words of 32 bits: what the instructions of MIPS32 compute with them.
 //!
-//! A word is a `u32`. Its signed reading subtracts 2^32 from values of 2^31 and above. In memory its bytes lie in one of
-//! two orders.
+//! A word is a `u32`. Its signed reading subtracts 2^32 from values of 2^31 and above. In memory its bytes lie in one
+//! of two orders.
 #![tactic(auto)]
 
 ghost use Rattle.std.specs.Prelude.{◌≡◌, ℤ, ◌*ℤ◌, int_div, int_rem};

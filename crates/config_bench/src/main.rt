@@ -14,7 +14,7 @@ const CLASS: &str =
     "CLASS(TCL_8) { /* a comment that is read and left out, as are the blanks and the tabs \
                      around it    \t    */ }\n";
 
-/// A text of about so many bytes: a board, every object once for each ID, then classes and comments.
+/// A text of about n bytes: a board, every object once for each ID, then classes and comments.
 fn text_of(alloc: Global, size: usize) -> Result<Vec<u8>, AllocError> {
     let mut text = String::from_str(alloc, BOARD)?;
     for id in 1..=255u32 {
@@ -57,7 +57,7 @@ fn small(rt: &(impl Print + AllocGlobal)) -> io::Result<()> {
     report(rt, text.len(), &parse(rt.alloc(), text.as_slice()))
 }
 
-/// How many bytes a text of so many mebibytes has, of no more than 64.
+/// How many bytes a text of n mebibytes has, of no more than 64.
 fn size_of(mebibytes: usize) -> usize {
     1_048_576 * mebibytes.min(64)
 }

@@ -1,6 +1,6 @@
 //! Prints what the texts of a table say: for each line `| TEXT` of standard input its answer and the line, every other
 //! line as it is. `\n`, `\r`, `\t`, `\0`, `\xHH` and `\\` stand for bytes of a text. A line `= TEXT` gives what stands
-//! before each text behind it.
+//! before each text after it.
 #![tactic(auto)]
 
 use brd_config::{ConfigFault, parse};
@@ -26,7 +26,7 @@ fn byte_of(high: u8, low: u8) -> u8 {
     }
 }
 
-/// What a byte behind a backslash begins, and the byte that both stand for, if they do.
+/// What a byte after a backslash begins, and the byte that both stand for, if they do.
 fn escaped(byte: u8) -> (Escape, Option<u8>) {
     match byte {
         b'n' => (Escape::Nothing, Some(b'\n')),
@@ -38,7 +38,7 @@ fn escaped(byte: u8) -> (Escape, Option<u8>) {
     }
 }
 
-/// The same of a byte behind what the one before has begun.
+/// The same of a byte after what the one before has begun.
 fn read_byte(escape: Escape, byte: u8) -> (Escape, Option<u8>) {
     match escape {
         Escape::Nothing if byte == b'\\' => (Escape::Backslash, None),
@@ -92,7 +92,7 @@ fn answer(alloc: Global, text: &[u8]) -> Result<String, AllocError> {
     }
 }
 
-/// The answer to the text of a row, behind these bytes in front.
+/// The answer to the text of a row, after these bytes in front.
 fn answer_to(alloc: Global, front: &[u8], row: &str) -> Result<String, AllocError> {
     let mut text = Vec::from_slice(alloc, front)?;
     match put_unescaped(&mut text, row) {
@@ -101,7 +101,7 @@ fn answer_to(alloc: Global, front: &[u8], row: &str) -> Result<String, AllocErro
     }
 }
 
-/// Prints a line, where it is a row behind its answer. `front` is what stands before each text.
+/// Prints a line, where it is a row after its answer. `front` is what stands before each text.
 fn heed(rt: &(impl Print + AllocGlobal), front: &mut Vec<u8>, line: &str) -> io::Result<()> {
     if let Some(row) = line.strip_prefix("| ") {
         let answer = answer_to(rt.alloc(), front.as_slice(), row)?;

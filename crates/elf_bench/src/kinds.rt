@@ -98,7 +98,7 @@ pub fn file(alloc: Global, kind: Kind, size: Size) -> Result<Vec<u8>, AllocError
     }
 }
 
-/// The ELF header, with `programs` program headers behind it or `sections` section headers there.
+/// The ELF header, with `programs` program headers after it or `sections` section headers there.
 fn header(alloc: Global, programs: u16, sections: u16) -> Result<Vec<u8>, AllocError> {
     let mut out = Vec::new(alloc);
     out.extend_from_slice(b"\x7fELF\x01\x02\x01\0\0\0\0\0\0\0\0\0\0\x02\0\x08\0\0\0\x01")?;

@@ -4,10 +4,10 @@
 //!     elf_bench FILE    reads that file
 //!     elf_bench time    reads a large file of each kind, and says how long each takes
 //!
-//! Of a file that is an image it prints `little-endian` if it is, the entry, each segment with its size and the sum of its bytes, and each
-//! symbol. `firmware.elf` was made by GNU as and ld with `examples/firmware.ld` from a program of a few lines: it loads
-//! 112 bytes, of which the last 16 aren't in the file, and has the program headers PT_MIPS_ABIFLAGS, PT_MIPS_REGINFO
-//! and PT_GNU_STACK. `little.elf` is the same with `-EL`.
+//! Of a file that is an image it prints `little-endian` if it is, the entry, each segment with its size and the sum of
+//! its bytes, and each symbol. `firmware.elf` was made by GNU as and ld with `examples/firmware.ld` from a program of a
+//! few lines: it loads 112 bytes, of which the last 16 aren't in the file, and has the program headers
+//! PT_MIPS_ABIFLAGS, PT_MIPS_REGINFO and PT_GNU_STACK. `little.elf` is the same with `-EL`.
 #![tactic(auto)]
 
 mod kinds;

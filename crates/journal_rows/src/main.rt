@@ -1,6 +1,6 @@
 //! Prints what the texts of a table say: for each line `| LIMIT TEXT` of standard input its answer and the line, every
 //! other line as it is. In a text `/` stands for a newline, `~` for a carriage return, `_` for a tab and `^` for the
-//! byte 0. A text that says a journal is answered by its byte order and its runs, each behind a comma and a space; the
+//! byte 0. A text that says a journal is answered by its byte order and its runs, each after a comma and a space; the
 //! journal is also written and read again, and made once more event by event and run by run.
 #![tactic(auto)]
 

@@ -6,5 +6,6 @@ mod exec;
 mod kernel;
 mod objects;
 mod ready;
+mod rows;
 mod sysgate;
 mod tasks;

@@ -1,6 +1,6 @@
 //! Lets stations do steps, ticks, interrupts and leases, and races, for two tests. One refuses each growth: then
 //! station and share are as they were, and what was refused is done; a race, which gives its station up, is begun anew.
-//! The other counts how often memory is asked for. Standard input says how often each event is done; behind that stands
+//! The other counts how often memory is asked for. Standard input says how often each event is done; after that stands
 //! `alone` where there is to be no race. What is printed doesn't depend on the schedule.
 #![tactic(auto)]
 
@@ -131,7 +131,7 @@ fn done_surely<K: Race>(station: &mut Station<K>, share: &mut Share<K>, deed: De
     Ok(done(station, share, deed)?)
 }
 
-/// Does a deed so often.
+/// Does a deed n times.
 fn done_often<K: Race>(
     station: &mut Station<K>,
     share: &mut Share<K>,
@@ -144,7 +144,7 @@ fn done_often<K: Race>(
     Ok(())
 }
 
-/// Does each deed so often with each share: ticks with the first, raises with the second, ticks with the third.
+/// Does each deed n times with each share: ticks with the first, raises with the second, ticks with the third.
 fn all_done<K: Race>(
     station: &mut Station<K>,
     shares: &mut [Share<K>],
@@ -264,7 +264,7 @@ fn raced_surely<R: Threads + Wait + Sync>(
     }
 }
 
-/// Ticks, raises and ticks, each so often. Asks for memory once, however many they are.
+/// Ticks, raises and ticks, each n times. Asks for memory once, however many they are.
 fn script_of_all(alloc: Global, often: usize) -> Result<Vec<Outer>> {
     let mut script = Vec::with_capacity(alloc, often.saturating_mul(3))?;
     for entry in [Outer::Tick, Outer::Raise(4), Outer::Tick] {

@@ -64,7 +64,7 @@ fn number(text: &str) -> u64 {
     text.parse::<u64>().unwrap_or(0)
 }
 
-/// A word, and the text behind the space after it.
+/// A word, and the text after the space after it.
 fn word(text: &str) -> (&str, &str) {
     text.split_once(" ").unwrap_or((text, ""))
 }

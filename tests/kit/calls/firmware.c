@@ -13,7 +13,7 @@
 static struct {
     const char *call;
     INT answer;
-} handled[16];
+} handled[17];
 static INT calls;
 static ID other_processor;
 static VP_INT other_argument;
@@ -36,6 +36,7 @@ void handler(INHNO line)
     HANDLED(iget_tid(&running));
     HANDLED(running);
     HANDLED(wup_tsk(MAIN));
+    HANDLED(try_spn(ONE));
     HANDLED(put_chr('x'));
     HANDLED(printf("not from a handler\n"));
     ret_int();
@@ -145,6 +146,23 @@ static void queue(void)
     SAY_RESULT(trcv_dtq(2, &result, TMO_POL));
 }
 
+static void spin_locks(void)
+{
+    ER locked = loc_spn(ONE);
+    ER again = try_spn(ONE);
+    ER unlocked = unl_cpu();
+    ER refused = printf("not while the spin lock is held\n");
+    SAY((unl_spn(ONE), locked));
+    SAY(again);
+    SAY(unlocked);
+    SAY(refused);
+    locked = try_spn(ONE);
+    SAY((unl_spn(ONE), locked));
+    SAY(unl_spn(ONE));
+    SAY(loc_spn(2));
+    SAY(try_spn(256));
+}
+
 static void marks(void)
 {
     ER locked;
@@ -171,6 +189,7 @@ void all_calls(VP_INT unused)
     waits();
     objects();
     queue();
+    spin_locks();
     marks();
     SAY(slp_tsk());
     for (INT i = 0; i < calls; i++)

@@ -144,7 +144,7 @@ fn agree(marks: &[bool]) -> bool
     compares_words(marks)
 }
 
-/// Whether they agree on so many places with one mark, and with a second one at the end.
+/// Whether they agree on n places with one mark, and with a second one at the end.
 fn agree_with_mark(len: usize, place: usize) -> bool
     requires { (len ≤ LONGEST) × (place < len) }
 {
@@ -178,7 +178,7 @@ fn agrees_with_a_plain_loop(_rt: HostRuntime) -> Result<(), Fail> {
     none_wrong(first_wrong_length())
 }
 
-/// Whether the links of a set, to words in the block, end, but for one, and the others, to words before it and behind
+/// Whether the links of a set, to words in the block, end, but for one, and the others, to words before it and after
 /// it, don't.
 fn breaks_a_set(set: u8, except: u8, valid: u8) -> bool
     requires { except < 8 }

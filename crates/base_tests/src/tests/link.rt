@@ -15,7 +15,7 @@ const STORES: &[(u32, bool, u32, bool)] = &[
     // The first byte of the next block, and the last one of the block before.
     (WORD, false, WORD + 16, true),
     (WORD, false, WORD - 1, true),
-    // The last word of the block is linked: its first byte, and the word behind it.
+    // The last word of the block is linked: its first byte, and the word after it.
     (WORD + 12, false, WORD, false),
     (WORD + 12, false, WORD + 16, true),
     // Stores of its own.
@@ -65,7 +65,7 @@ const TAKES: &[(&[u32], u32, bool)] = &[
     (&[WORD, WORD + 64], WORD + 64, true),
 ];
 
-/// Whether an SC to an address may store behind these LLs, where a second one behind it may not.
+/// Whether an SC to an address may store after these LLs, where a second one after it may not.
 fn takes(linked: &[u32], address: u32) -> bool {
     let mut links = Links::new();
     for word in linked {

@@ -7,7 +7,7 @@ use std::alloc::Global;
 use std::test::Fail;
 use test_help::none_wrong;
 
-/// How many bytes, and whether RAM can have so many.
+/// How many bytes, and whether RAM can have them.
 const SIZES: &[(u32, bool)] = &[
     (0, false),
     (65_535, false),

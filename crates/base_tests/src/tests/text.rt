@@ -146,7 +146,7 @@ fn hexadecimals(rt: HostRuntime) -> Result<(), Fail> {
     none_wrong(first_wrong_word())
 }
 
-/// A text, its first line, and what is behind that line's end, if it has one.
+/// A text, its first line, and what is after that line's end, if it has one.
 const SPLITS: &[(&[u8], &[u8], Option<&[u8]>)] = &[
     (b"a\r\nb", b"a\r", Some(b"b")),
     (b"\n", b"", Some(b"")),

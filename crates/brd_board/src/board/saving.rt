@@ -9,8 +9,8 @@ use crate::snapshot::Snapshot;
 use brd_base::{NoMemory, copy_with_room};
 
 impl Board {
-    /// A snapshot over a boot whose RAM has the same size and order, as `snapshot` takes it. It shares the pages of RAM that an
-    /// earlier one of this boot has too.
+    /// A snapshot over a boot whose RAM has the same size and order, as `snapshot` takes it. It shares the pages of RAM
+    /// that an earlier one of this boot has too.
     pub fn snapshot_after(&self, boot: &Board, earlier: &Snapshot) -> Result<Snapshot, NoMemory>
         requires sizes { size_of self.now.memory ≡ size_of boot.now.memory }
         requires orders { self.now.memory.order ≡ boot.now.memory.order }
@@ -44,8 +44,8 @@ impl Board {
         Ok(())
     }
 
-    /// Becomes equal to a board whose RAM has the same size and order. Of RAM it writes only pages to which anything was
-    /// ever written. A refusal leaves it as it is.
+    /// Becomes equal to a board whose RAM has the same size and order. Of RAM it writes only pages to which anything
+    /// was ever written. A refusal leaves it as it is.
     pub fn copy_from(&mut self, other: &Board) -> Result<(), NoMemory>
         requires sizes { size_of self.old.memory ≡ size_of other.now.memory }
         requires orders { self.old.memory.order ≡ other.now.memory.order }

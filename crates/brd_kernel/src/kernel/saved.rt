@@ -20,6 +20,7 @@ pub struct SavedKernel {
     semaphores: SavedSemaphores,
     flags: SavedFlags,
     queues: SavedQueues,
+    spin_locks: Vec<bool>,
     processors: [Option<Processor>; 9],
     executing: [Option<TaskId>; 9],
     handler_contexts: Vec<Context>,
@@ -42,6 +43,7 @@ impl Model for SavedKernel {
       semaphores = k.semaphores;
       flags = k.flags;
       queues = k.queues;
+      spin_locks = k.spin_locks.items;
       processors = k.processors;
       handler_contexts = k.handler_contexts.items;
       lines = k.lines.items;
@@ -56,6 +58,7 @@ impl Model for SavedKernel {
           semaphores = k.semaphores;
           flags = k.flags;
           queues = k.queues;
+          spin_locks = k.spin_locks.items;
           processors = k.processors;
           handler_contexts = k.handler_contexts.items;
           lines = k.lines.items;
@@ -75,6 +78,7 @@ impl Drop for SavedKernel {
             semaphores: _,
             flags: _,
             queues: _,
+            spin_locks: _,
             processors: _,
             executing: _,
             handler_contexts: _,
@@ -97,6 +101,7 @@ impl Kernel {
             semaphores: self.semaphores.save()?,
             flags: self.flags.save()?,
             queues: self.queues.save()?,
+            spin_locks: copy_with_room(&self.spin_locks, 0)?,
             processors: self.processors,
             executing: self.executing,
             handler_contexts: copy_with_room(&self.handler_contexts, 0)?,
@@ -119,6 +124,7 @@ impl SavedKernel {
             semaphores: self.semaphores.restore()?,
             flags: self.flags.restore()?,
             queues: self.queues.restore()?,
+            spin_locks: copy_with_room(&self.spin_locks, 0)?,
             processors: self.processors,
             executing: self.executing,
             handler_contexts: copy_with_room(&self.handler_contexts, 0)?,

@@ -96,6 +96,9 @@ impl Kernel {
             Call::PutChr(word) => self.put_chr(word),
             Call::ExtKer => self.ext_ker(),
             Call::RetInt => self.ret_int(cpu),
+            Call::LocSpn(id) => self.loc_spn(cpu, id),
+            Call::TrySpn(id) => self.try_spn(cpu, id),
+            Call::UnlSpn(id) => self.unl_spn(cpu, id),
         }
     }
 

@@ -40,7 +40,7 @@ impl Kernel {
         }
     }
 
-    /// The tick at which a wait ends that begins now and takes so many.
+    /// The tick at which a wait ends that begins now and takes n ticks.
     pub(super) fn due_after(&self, ticks: u32) -> u64
         ensures is { result ≡ due_after self.now ticks }
         ensures counted { result < 2 ^ 64 - 1 }

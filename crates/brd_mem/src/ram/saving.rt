@@ -9,8 +9,8 @@ use crate::pages::{PAGE_SIZE, Page, Pages, SharedPage};
 use brd_base::NoMemory;
 
 impl Ram {
-    /// The pages in which it differs from a RAM of its size and order, as `pages` gives them. One that stands among earlier pages
-    /// too, which are by ascending number, is shared with them, and takes no memory.
+    /// The pages in which it differs from a RAM of its size and order, as `pages` gives them. One that stands among
+    /// earlier pages too, which are by ascending number, is shared with them, and takes no memory.
     pub fn pages_after(&self, base: &Ram, earlier: &Pages) -> Result<Pages, NoMemory>
         requires sizes { size_of self.now ≡ size_of base.now }
         requires orders { self.now.order ≡ base.now.order }

@@ -253,8 +253,8 @@ fn first_wrong_request<T: Threads + Wait + Sync>(rt: &T, alloc: Global) -> Optio
     None
 }
 
-/// `words` touches no file, `asm` neither standard input nor output, `run` and `race` no standard input. (The files hold
-/// a source, so that `run` and `race` read all of them, and then refuse the object file.)
+/// `words` touches no file, `asm` neither standard input nor output, `run` and `race` no standard input. (The files
+/// hold a source, so that `run` and `race` read all of them, and then refuse the object file.)
 #[test]
 fn requests(rt: HostRuntime) -> Result<(), Fail> {
     none_wrong(first_wrong_request(&rt, rt.alloc()))

@@ -39,8 +39,8 @@ impl Outputs {
     }
 }
 
-/// A race of three steps a processor. The input at this place fails at the read of this number; none fails where that is
-/// 0.
+/// A race of three steps a processor. The input at this place fails at the read of this number; none fails where that
+/// is 0.
 fn race_failing<R: Threads + Wait + Sync>(
     rt: &R,
     alloc: Global,

@@ -123,7 +123,7 @@ fn put_little_every(text: &mut String) -> Result<(), AllocError> {
     text.push_str(every::SYMBOLS)
 }
 
-/// Puts `every::SOURCE` at the end, behind a line that says that it is little-endian.
+/// Puts `every::SOURCE` at the end, after a line that says that it is little-endian.
 fn put_little_source(text: &mut String) -> Result<(), AllocError> {
     text.push_str(".byteorder little\n")?;
     text.push_str(every::SOURCE)

@@ -83,8 +83,8 @@ fn is_read_as(alloc: Global, file: &[u8], expected: &str) -> bool {
     }
 }
 
-/// The place of a byte of a field in `SHORT`, or else in `ASSEMBLED`, where the fields are in the other byte order. Each
-/// field begins at a multiple of its size.
+/// The place of a byte of a field in `SHORT`, or else in `ASSEMBLED`, where the fields are in the other byte order.
+/// Each field begins at a multiple of its size.
 fn turned_place(is_short: bool, place: usize) -> usize {
     let is_half = (16 <= place && place < 20) || (40 <= place && place < 52);
     let in_symbol = place % 16;

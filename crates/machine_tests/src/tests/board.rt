@@ -63,7 +63,7 @@ fn first_other_ends(alloc: Global, words: &[u32]) -> Option<usize> {
     None
 }
 
-/// Whether so many of these words are too many for a board.
+/// Whether n of these words are too many for a board.
 fn are_too_many(alloc: Global, words: &[u32], count: usize) -> bool {
     match words.get(..count) {
         Some(front) => is_outside(alloc, front),
@@ -192,7 +192,7 @@ fn lists_of_events(rt: HostRuntime) {
     assert!(rt; goes_well(rt.alloc(), &words, Scene::Steps));
 }
 
-/// Whether the console is full behind 65,536 put_chr, the last of them of 0xff, and the next one is refused.
+/// Whether the console is full after 65,536 put_chr, the last of them of 0xff, and the next one is refused.
 fn is_full_at_last(board: &mut Board) -> bool {
     board.repeat(Event::Step(1), 4 * 65_536 + 2);
     let console = board.console();
@@ -219,7 +219,7 @@ fn full_console(rt: HostRuntime) {
     assert!(rt; goes_well(rt.alloc(), &words, Scene::Console));
 }
 
-/// Whether two boards are the same, are so behind an event of the first alone just where that changes nothing, and are
+/// Whether two boards are the same, are so after an event of the first alone just where that changes nothing, and are
 /// so again where the second has done it too.
 fn part_and_meet(board: &mut Board, copy: &mut Board, event: Event, changes: bool) -> bool {
     let was_same = board.same(copy);

@@ -107,7 +107,7 @@ fn done(
 /// An instruction of a processor, and how it ends.
 type Ended = (u8, u32, Outcome);
 
-/// Instructions before an SC of processor 1, and the word that lies at `BLOCK` behind it.
+/// Instructions before an SC of processor 1, and the word that lies at `BLOCK` after it.
 type Case = (&'static [Ended], u32);
 
 /// Whether instructions end as they say.
@@ -150,12 +150,12 @@ fn first_wrong(ram: &mut Ram, cases: &[Case]) -> Option<usize> {
     None
 }
 
-/// Stores of another processor behind an LL, and the word that the SC leaves.
+/// Stores of another processor after an LL, and the word that the SC leaves.
 const STORES: &[(u32, u32)] = &[
-    // A word of the block, and one behind it.
+    // A word of the block, and one after it.
     (SW + 4, 0),
     (SW + 0x10, LAST),
-    // The block's last byte, and the byte behind it.
+    // The block's last byte, and the byte after it.
     (SB + 0xf, 0),
     (SB + 0x10, LAST),
     // A halfword of the block.
@@ -163,11 +163,11 @@ const STORES: &[(u32, u32)] = &[
     // Parts of a word.
     (SWL + 0xd, 0),
     (SWR + 0x5, 0),
-    // The right part behind the block.
+    // The right part after the block.
     (SWR + 0x11, LAST),
 ];
 
-/// The first of `STORES` behind which an SC leaves another word.
+/// The first of `STORES` after which an SC leaves another word.
 fn first_wrong_store(ram: &mut Ram, cpu: u8) -> Option<usize> {
     for (n, (store, left)) in STORES.iter().enumerate() {
         let before = [(1, LL, Outcome::Done), (cpu, *store, Outcome::Done)];
@@ -202,7 +202,7 @@ const OF_ANOTHER: &[Case] = &[
     (&[OTHER_LINKED], 0),
     // An LL.
     (&[LINKED, OTHER_LINKED], LAST),
-    // An SC without LL, and one behind it.
+    // An SC without LL, and one after it.
     (&[LINKED, OTHER_SC], LAST),
     (&[LINKED, OTHER_LINKED, OTHER_SC], 0),
     // A store that raises.

@@ -1,16 +1,16 @@
 use super::configs::{START, flag, queue, semaphore, setup};
 use brd_base::NoMemory;
-use brd_config::{FlagConfig, QueueConfig, SemaphoreConfig};
+use brd_config::{FlagConfig, QueueConfig, SemaphoreConfig, SpinLockConfig};
 use brd_exec::Outcome;
-use brd_kernel::{Call, Handler, Kernel, LineSetup, Reply, Standing, TaskState};
+use brd_kernel::{Call, Handler, Kernel, LineSetup, Marks, Reply, Spin, Standing, TaskState};
 use brd_link::Links;
 use brd_mem::Ram;
 use brd_tasks::are_setups;
 use brd_word::Order;
 use std::alloc::Global;
 
-/// A kernel of two processors with these objects, of which these tasks have been started. Tasks 1 and 2 are of
-/// processor 1 and of priorities 2 and 3, tasks 3 and 4 of processor 2 and of priorities 5 and 9.
+/// A kernel of two processors with these objects and with spin locks 1 and 255, of which these tasks have been started.
+/// Tasks 1 and 2 are of processor 1 and of priorities 2 and 3, tasks 3 and 4 of processor 2 and of priorities 5 and 9.
 fn of_four(
     alloc: Global,
     semaphores: &[SemaphoreConfig],
@@ -27,7 +27,8 @@ fn of_four(
     if !are_setups(&setups) {
         return Err(NoMemory);
     }
-    let mut kernel = Kernel::new(alloc, 2, &setups, &[], semaphores, flags, queues)?;
+    let locks = [SpinLockConfig { id: 1 }, SpinLockConfig { id: 255 }];
+    let mut kernel = Kernel::new(alloc, 2, &setups, &[], semaphores, flags, queues, &locks)?;
     for id in started {
         kernel.start(*id);
     }
@@ -74,10 +75,10 @@ const POLL: u32 = 0;
 
 const BAD: u32 = 0xffff_fffe;
 
-/// A call from a processor, what it answers, and which processors' running tasks change by the dispatch behind it.
+/// A call from a processor, what it answers, and which processors' running tasks change by the dispatch after it.
 type Served = (u8, Call, Reply, u8);
 
-/// Whether a call from a processor, with a dispatch behind it, is answered so and lets these running tasks change.
+/// Whether a call from a processor, with a dispatch after it, is answered so and lets these running tasks change.
 fn serves(kernel: &mut Kernel, cpu: u8, call: Call, reply: Reply, changed: u8) -> bool {
     let told = kernel.serve(cpu, call);
     kernel.dispatch() == changed && told == reply
@@ -130,6 +131,7 @@ enum Scene {
     Refusals,
     OfProcessors,
     Held(Call, Call),
+    SpinLocks,
     OneProcessor,
     EightProcessors,
     OfObjects,
@@ -165,6 +167,7 @@ fn does(alloc: Global, kernel: &mut Kernel, scene: Scene) -> bool {
         Scene::Refusals => first_other_of_one(kernel, REFUSALS).is_none(),
         Scene::OfProcessors => refuses_of_processors(kernel),
         Scene::Held(mark, unmark) => holds(kernel, mark, unmark),
+        Scene::SpinLocks => locks(kernel),
         Scene::OneProcessor => !kernel.raise(32) && handles_all(kernel),
         Scene::EightProcessors => handle_their_own(kernel),
         Scene::OfObjects => refuses_of_objects(kernel),
@@ -293,6 +296,55 @@ fn held(rt: HostRuntime) {
     );
 }
 
+/// Calls for spin locks. Who ends while its processor holds one leaves it free.
+const SPIN_LOCKS: &[Served] = &[
+    (1, Call::LocSpn(0), ID, 0),
+    (1, Call::TrySpn(256), ID, 0),
+    (1, Call::UnlSpn(0x101), ID, 0),
+    (1, Call::LocSpn(2), NOEXS, 0),
+    (1, Call::TrySpn(254), NOEXS, 0),
+    (1, Call::UnlSpn(2), NOEXS, 0),
+    (1, Call::UnlSpn(1), ILUSE, 0),
+    (1, Call::LocSpn(1), OK, 0),
+    (2, Call::LocSpn(1), Reply::Again, 0),
+    (2, Call::TrySpn(1), OBJ, 0),
+    (2, Call::UnlSpn(1), ILUSE, 0),
+    (2, Call::TrySpn(255), OK, 0),
+    (2, Call::TerTsk(1), OBJ, 0),
+    (1, Call::UnlSpn(255), ILUSE, 0),
+    (1, Call::UnlSpn(1), OK, 0),
+    (2, Call::UnlSpn(255), OK, 0),
+    (2, Call::LocSpn(1), OK, 0),
+    (1, Call::LocSpn(1), Reply::Again, 0),
+    (2, Call::ExtTsk, Reply::Silent, 2),
+    (1, Call::LocSpn(1), OK, 0),
+    (1, Call::ExtKer, Reply::Silent, 0),
+];
+
+/// Whether calls for spin locks are served so, and who holds which lock then.
+fn locks(kernel: &mut Kernel) -> bool {
+    first_other(kernel, SPIN_LOCKS).is_none()
+        && kernel.spin(0).is_none()
+        && kernel.spin(1) == Some(Spin::Held(1))
+        && kernel.spin(2).is_none()
+        && kernel.spin(255) == Some(Spin::Free)
+        && kernel.marks(1)
+            == Some(Marks {
+                locked: true,
+                disabled: false,
+                spin: Some(1),
+            })
+        && kernel.comes_again(Call::LocSpn(1))
+        && !kernel.comes_again(Call::LocSpn(255))
+        && !kernel.comes_again(Call::LocSpn(257))
+        && !kernel.comes_again(Call::TrySpn(1))
+}
+
+#[test]
+fn spin_locks(rt: HostRuntime) {
+    assert!(rt; goes_well(rt.alloc(), Scene::SpinLocks));
+}
+
 /// A kernel of eight processors, each idle, whose 32 lines all have handlers: on processor 1, or on each processor in
 /// turn.
 fn with_lines(alloc: Global, in_turn: bool) -> Result<Kernel, NoMemory> {
@@ -307,7 +359,7 @@ fn with_lines(alloc: Global, in_turn: bool) -> Result<Kernel, NoMemory> {
             lines[n].handler.cpu = 1 + n as u8 % 8;
         }
     }
-    Kernel::new(alloc, 8, &[], &lines, &[], &[], &[])
+    Kernel::new(alloc, 8, &[], &lines, &[], &[], &[], &[])
 }
 
 /// Whether a processor accepts the interrupt of a line, and no other until its handler has ended.
@@ -561,7 +613,7 @@ fn runs_the_first(kernel: &mut Kernel, cpu: u8, ram: &mut Ram) -> bool {
     }
 }
 
-/// Whether processor 1 and task 1 go on behind the first instruction.
+/// Whether processor 1 and task 1 go on after the first instruction.
 fn goes_on(kernel: &Kernel) -> bool {
     match (kernel.context(1), kernel.task(1)) {
         (Some(context), Some(task)) => {

@@ -167,7 +167,7 @@ fn serves(table: &mut Semaphores, tasks: &[u16]) -> bool {
 }
 
 /// 255 tasks wait for semaphore 1, the even ones with priority 3, the odd ones with 7. Whether these are served first,
-/// and these behind them where 8 leaves, 255 gets priority 1 and 10 priority 3.
+/// and these after them where 8 leaves, 255 gets priority 1 and 10 priority 3.
 fn serves_in_order(table: &mut Semaphores, first: &[u16], next: &[u16]) -> bool {
     for task in 1..256u16 {
         table.wait(1, task, if task % 2 == 0 { 3 } else { 7 });
@@ -237,7 +237,7 @@ fn a_release_clears(rt: HostRuntime) {
     assert!(rt; flags_go_well(rt.alloc(), 6, Waiting::Clears));
 }
 
-/// Whether the last of so many waiters alone is satisfied by a bit that only it wants.
+/// Whether the last of n waiters alone is satisfied by a bit that only it wants.
 fn satisfies_the_last(table: &mut Flags, count: u16) -> bool {
     for task in 1..count {
         wait(table, task, want(1, Mode::All));

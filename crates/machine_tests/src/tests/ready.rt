@@ -18,7 +18,7 @@ fn started(alloc: Global, setups: &[TaskSetup]) -> Result<Tasks, NoMemory> {
     Ok(tasks)
 }
 
-/// 255 tasks over so many processors and 16 priorities in turn.
+/// 255 tasks over n processors and 16 priorities in turn.
 fn spread(alloc: Global, processors: u16) -> Result<Vec<TaskSetup>, AllocError> {
     let mut setups = Vec::new(alloc);
     for id in 1..256u16 {

@@ -18,32 +18,46 @@ const TASK: Caller = Caller::Task {
     id: 7,
     locked: false,
     disabled: false,
+    holding: false,
 };
 
 const LOCKED: Caller = Caller::Task {
     id: 7,
     locked: true,
     disabled: false,
+    holding: false,
+};
+
+/// A task whose processor holds a spin lock, and so is CPU-locked.
+const HOLDING: Caller = Caller::Task {
+    id: 7,
+    locked: true,
+    disabled: false,
+    holding: true,
 };
 
 const DISABLED: Caller = Caller::Task {
     id: 7,
     locked: false,
     disabled: true,
+    holding: false,
 };
 
-/// From where a call may come: from a task, a CPU-locked one, one with dispatching disabled, a handler.
-type Places = (bool, bool, bool, bool);
+/// From where a call may come: from a task, a CPU-locked one, one whose processor holds a spin lock, one with
+/// dispatching disabled, a handler.
+type Places = (bool, bool, bool, bool, bool);
 
-const TASKS: Places = (true, false, true, false);
+const TASKS: Places = (true, false, false, true, false);
 
-const ALSO_LOCKED: Places = (true, true, true, false);
+const ALSO_LOCKED: Places = (true, true, true, true, false);
 
-const WAITS: Places = (true, false, false, false);
+const NOT_HOLDING: Places = (true, true, false, true, false);
 
-const HANDLERS: Places = (false, false, false, true);
+const WAITS: Places = (true, false, false, false, false);
 
-/// A call by its name and its arguments, with zeros behind them.
+const HANDLERS: Places = (false, false, false, false, true);
+
+/// A call by its name and its arguments, with zeros after them.
 type Named = (&'static str, [u32; 4]);
 
 /// What an argument is that stands for no end.
@@ -65,7 +79,7 @@ const NUMBERS: &[(u32, Places, Named)] = &[
     (12, TASKS, ("dis_dsp", [0, 0, 0, 0])),
     (13, TASKS, ("ena_dsp", [0, 0, 0, 0])),
     (14, ALSO_LOCKED, ("loc_cpu", [0, 0, 0, 0])),
-    (15, ALSO_LOCKED, ("unl_cpu", [0, 0, 0, 0])),
+    (15, NOT_HOLDING, ("unl_cpu", [0, 0, 0, 0])),
     (16, WAITS, ("tslp_tsk", [FOREVER, 0, 0, 0])),
     (17, WAITS, ("tslp_tsk", [11, 0, 0, 0])),
     (18, TASKS, ("wup_tsk", [11, 0, 0, 0])),
@@ -103,6 +117,9 @@ const NUMBERS: &[(u32, Places, Named)] = &[
     (56, HANDLERS, ("get_tid", [0, 0, 0, 0])),
     (57, HANDLERS, ("imact_tsk", [11, 22, 0, 0])),
     (58, HANDLERS, ("ret_int", [0, 0, 0, 0])),
+    (60, TASKS, ("loc_spn", [11, 0, 0, 0])),
+    (61, TASKS, ("try_spn", [11, 0, 0, 0])),
+    (62, ALSO_LOCKED, ("unl_spn", [11, 0, 0, 0])),
 ];
 
 /// The name of a call.
@@ -145,10 +162,13 @@ fn name_of(call: Call) -> &'static str {
         Call::PutChr(_) => "put_chr",
         Call::ExtKer => "ext_ker",
         Call::RetInt => "ret_int",
+        Call::LocSpn(_) => "loc_spn",
+        Call::TrySpn(_) => "try_spn",
+        Call::UnlSpn(_) => "unl_spn",
     }
 }
 
-/// The arguments of a call, with zeros behind them.
+/// The arguments of a call, with zeros after them.
 fn arguments_of(call: Call) -> [u32; 4] {
     match call {
         Call::ActTsk(first)
@@ -167,6 +187,9 @@ fn arguments_of(call: Call) -> [u32; 4] {
         | Call::RsmTsk(first)
         | Call::DlyTsk(first)
         | Call::SigSem(first)
+        | Call::LocSpn(first)
+        | Call::TrySpn(first)
+        | Call::UnlSpn(first)
         | Call::PutChr(first) => [first, 0, 0, 0],
         Call::ChgPri(first, second)
         | Call::MactTsk(first, second)
@@ -193,10 +216,11 @@ fn is_read(number: u32, caller: Caller, may: bool, wanted: Named) -> bool {
 
 /// The first number that isn't read as it should be from somewhere.
 fn first_wrong() -> Option<u32> {
-    for (number, (task, locked, disabled, handler), call) in NUMBERS {
+    for (number, (task, locked, holding, disabled, handler), call) in NUMBERS {
         let number = *number;
         if !is_read(number, TASK, *task, *call)
             || !is_read(number, LOCKED, *locked, *call)
+            || !is_read(number, HOLDING, *holding, *call)
             || !is_read(number, DISABLED, *disabled, *call)
             || !is_read(number, Caller::Handler, *handler, *call)
         {
@@ -212,22 +236,7 @@ fn numbers(rt: HostRuntime) {
     assert!(rt; first_wrong().is_none());
 }
 
-const NO_NUMBERS: &[u32] = &[
-    0,
-    42,
-    43,
-    44,
-    45,
-    46,
-    47,
-    59,
-    60,
-    61,
-    62,
-    99,
-    0x101,
-    0xffff_ffff,
-];
+const NO_NUMBERS: &[u32] = &[0, 42, 43, 44, 45, 46, 47, 59, 63, 99, 0x101, 0xffff_ffff];
 
 /// Whether a number is no call's from a caller.
 fn is_none(number: u32, caller: Caller) -> bool {
@@ -243,6 +252,7 @@ fn first_known() -> Option<u32> {
         let number = *number;
         if !is_none(number, TASK)
             || !is_none(number, LOCKED)
+            || !is_none(number, HOLDING)
             || !is_none(number, DISABLED)
             || !is_none(number, Caller::Handler)
         {
@@ -298,6 +308,7 @@ fn is_written(reply: Reply, v0: u32, v1: u32) -> bool {
 fn replies(rt: HostRuntime) {
     assert!(rt;
         is_written(Reply::Silent, 6, 0)
+            && is_written(Reply::Again, 6, 0)
             && is_written(Reply::Answer(0xffff_fff6, None), 0xffff_fff6, 0)
             && is_written(Reply::Answer(0, Some(9)), 0, 9)
     );

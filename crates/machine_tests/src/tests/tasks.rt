@@ -27,7 +27,7 @@ fn four(alloc: Global) -> Result<Tasks, NoMemory> {
     )
 }
 
-/// Whether a task is in this state, with this priority, on this processor, and with so many activations and wake-ups
+/// Whether a task is in this state, with this priority, on this processor, and with n activations and m wake-ups
 /// queued.
 fn is_so(tasks: &Tasks, id: u16, state: TaskState, numbers: (u8, u8, u8, u8)) -> bool {
     let (priority, cpu, activations, wakeups) = numbers;
@@ -156,7 +156,7 @@ fn run_by_priority(tasks: &mut Tasks) -> bool {
     ran_3 && runs(tasks, 1, 2)
 }
 
-/// Ready tasks of one priority are turned, put behind and moved. Whether the right ones run.
+/// Ready tasks of one priority are turned, put last and moved. Whether the right ones run.
 fn run_in_turn(tasks: &mut Tasks) -> bool {
     tasks.rotate(1, 5);
     let ran_1 = runs(tasks, 1, 1);
@@ -190,7 +190,7 @@ fn starts_on_3(tasks: &mut Tasks) -> bool {
     was_so && is_so(tasks, 1, TaskState::Ready, (5, 3, 0, 0)) && has_words(tasks, 1, 0, 0, 1)
 }
 
-/// Task 1 ends with a request queued, and is on another processor then; and ends once more behind a request that was
+/// Task 1 ends with a request queued, and is on another processor then; and ends once more after a request that was
 /// taken back.
 fn starts_where_it_is(tasks: &mut Tasks) -> bool {
     tasks.activate(1, Request::Assigned);
@@ -251,7 +251,7 @@ fn waits(rt: HostRuntime) {
     assert!(rt; goes_well(rt.alloc(), Scene::Waits));
 }
 
-/// Whether task 1 is dormant still behind calls that don't touch a dormant task.
+/// Whether task 1 is dormant still after calls that don't touch a dormant task.
 fn stays_dormant(tasks: &mut Tasks) -> bool {
     tasks.set_wakeup(1, true);
     tasks.block(1, WaitReason::Sleep);
@@ -295,7 +295,7 @@ fn activate_all(tasks: &mut Tasks) {
     }
 }
 
-/// 255 tasks of one processor, each of which goes behind the others in turn.
+/// 255 tasks of one processor, each of which goes after the others in turn.
 #[test]
 fn every_number(rt: HostRuntime) -> Result<(), Fail> {
     let setups = all_setups(rt.alloc())?;

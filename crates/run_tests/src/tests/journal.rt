@@ -138,7 +138,7 @@ const FULL_RUNS: &[Appended] = &[
     (Event::Step(0), 1, true, &[MOST_TICKS, ONE_LESS]),
 ];
 
-/// Whether a journal has so many events, of which the last is a tick.
+/// Whether a journal has n events, of which the last is a tick.
 fn ends_with_a_tick(journal: &Journal, len: u64) -> bool {
     journal.len() == len
         && len != 0
@@ -146,7 +146,7 @@ fn ends_with_a_tick(journal: &Journal, len: u64) -> bool {
         && journal.event_at(len).is_none()
 }
 
-/// A run that has no room left, and what goes behind it.
+/// A run that has no room left, and what goes after it.
 #[test]
 fn full_runs(rt: HostRuntime) {
     let mut journal = Journal::new(rt.alloc(), 2, Order::Big);

@@ -1,4 +1,4 @@
--- The bytes so far, and behind them the string that is left, make the string.
+-- The bytes so far, and after them the string that is left, make the string.
 use Rattle.std.proofs.Common.{◌≡◌, ◌++◌, take, drop}
 use Rattle.std.specs.Prelude.{option_map}
 use Rattle.brd_elf.specs.Symbols.{string_of}

@@ -1,4 +1,4 @@
--- What is still to be loaded behind the segments so far makes all segments.
+-- What is still to be loaded after the segments so far makes all segments.
 use Rattle.std.proofs.Common.{◌≡◌, ◌+◌, ◌*◌, ◌-◌, []}
 use Rattle.brd_elf.specs.Segments.{loaded_from}
 use Rattle.brd_elf.proofs.segments.load_all.Given as goal

@@ -1,4 +1,4 @@
--- What the segments that are left have, behind the bytes so far, makes the whole.
+-- What the segments that are left have, after the bytes so far, makes the whole.
 use Rattle.std.proofs.Common.{◌≡◌, ◌+◌, ◌^◌, ◌≤◌, min, length, drop}
 use Rattle.brd_elf.specs.File.{data_of}
 use Rattle.brd_elf.proofs.size.data_len.Given as goal

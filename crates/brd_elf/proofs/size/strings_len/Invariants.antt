@@ -1,4 +1,4 @@
--- What the names that are left have, behind the bytes so far, makes the whole.
+-- What the names that are left have, after the bytes so far, makes the whole.
 use Rattle.std.proofs.Common.{◌≡◌, ◌+◌, ◌^◌, ◌≤◌, min, length, drop}
 use Rattle.std.specs.Prelude.{flat_map}
 use Rattle.brd_elf.specs.File.{strings}

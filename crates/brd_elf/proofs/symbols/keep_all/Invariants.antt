@@ -1,4 +1,4 @@
--- What is still to be kept behind the symbols so far makes all symbols.
+-- What is still to be kept after the symbols so far makes all symbols.
 use Rattle.std.proofs.Common.{◌≡◌, ◌+◌, ◌*◌, ◌-◌, []}
 use Rattle.brd_elf.specs.Symbols.{kept_from}
 use Rattle.brd_elf.proofs.symbols.keep_all.Given as goal

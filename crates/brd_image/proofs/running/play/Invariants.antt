@@ -1,4 +1,4 @@
--- The events that are left lead from here to where all of them lead, and their reports come behind those so far.
+-- The events that are left lead from here to where all of them lead, and their reports come after those so far.
 use Rattle.std.proofs.Common.{◌≡◌, ◌++◌, drop}
 use Rattle.brd_board.specs.Board.{after}
 use Rattle.brd_image.specs.Headline.{reports_of}

@@ -1,4 +1,4 @@
--- The entry goes behind what was passed.
+-- The entry goes after what was passed.
 use Rattle.std.proofs.Common.{◌≡◌, ◌++◌, take, drop}
 use Rattle.brd_queue.specs.Queue.{behind_equals}
 use Rattle.brd_queue.proofs.queue.place_of.Given as goal

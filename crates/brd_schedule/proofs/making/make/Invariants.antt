@@ -1,4 +1,4 @@
--- So many events so far, each as planned, and the byte order.
+-- n events so far, each as planned, and the byte order.
 use Rattle.std.proofs.Common.{◌≡◌, length}
 use Rattle.brd_schedule.specs.Schedule.{ArePlanned}
 use Rattle.brd_schedule.proofs.making.make.Given as goal

@@ -1,4 +1,4 @@
--- The line that is sought is so many lines further in what is left.
+-- The line that is sought is n lines further in what is left.
 use Rattle.std.proofs.Common.{◌≡◌, ◌+◌, ◌-◌}
 use Rattle.brd_text.specs.Lines.{line_at}
 use Rattle.brd_text.proofs.line.line_at.Given as goal

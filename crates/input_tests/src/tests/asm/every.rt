@@ -148,7 +148,7 @@ value2:another: .space 4 // zeros\n\
 _start:\n\
 .word value, _start\n";
 
-/// Where in `WORDS` the halfwords begin, and the bytes behind them; before them there are words.
+/// Where in `WORDS` the halfwords begin, and the bytes after them; before them there are words.
 pub const HALVES_AT: usize = 127;
 
 pub const BYTES_AT: usize = 130;

@@ -8,7 +8,7 @@ use std::alloc::{AllocError, Global};
 /// How many names, and how many stretches of bytes.
 const MANY: u32 = 100_000;
 
-/// The address of a stretch by its number: each is of a byte, with a gap behind it.
+/// The address of a stretch by its number: each is of a byte, with a gap after it.
 fn place_of(number: u32) -> u32 {
     0x8000_0000u32.wrapping_add(number.wrapping_mul(2))
 }
@@ -61,7 +61,7 @@ fn is_of_many(alloc: Global, source: &str) -> bool {
     }
 }
 
-/// 100,000 names, each of a byte with a gap behind it.
+/// 100,000 names, each of a byte with a gap after it.
 #[test]
 fn many_names(rt: HostRuntime) {
     let mut source = String::new(rt.alloc());
@@ -69,7 +69,7 @@ fn many_names(rt: HostRuntime) {
     assert!(rt; is_put && is_of_many(rt.alloc(), source.as_str()));
 }
 
-/// Puts a word at the end, and one behind 1,000 labels of its line.
+/// Puts a word at the end, and one after 1,000 labels of its line.
 fn put_line(source: &mut String) -> Result<(), AllocError> {
     source.push_str("nop\n")?;
     put_all(source, "l#:", 0, 999)?;
@@ -157,7 +157,7 @@ fn many_values_on_a_line(rt: HostRuntime) {
     assert!(rt; is_put && is_of_values(rt.alloc(), source.as_str()));
 }
 
-/// Puts a string of 100,000 letters, with a byte 0 behind it.
+/// Puts a string of 100,000 letters, with a byte 0 after it.
 fn put_text(source: &mut String) -> Result<(), AllocError> {
     source.push_str(".asciiz \"")?;
     put_all(source, "a", 1, MANY)?;

@@ -4,7 +4,7 @@
 use super::super::changed::{Language, changes, fronts};
 use super::EVERY;
 
-/// More than ten fronts are fine: behind BOARD, behind each statement and each blank, newline or comment outside of
+/// More than ten fronts are fine: after BOARD, after each statement and each blank, newline or comment outside of
 /// classes.
 #[test]
 fn fronts_of_every(rt: HostRuntime) {

@@ -4,11 +4,12 @@ use super::super::numbered::put_all;
 use brd_config::{Config, TaskConfig, parse};
 use std::alloc::{AllocError, Global};
 
-/// A task, a semaphore, a flag and a queue of an ID.
+/// A task, a semaphore, a flag, a queue and a spin lock of an ID.
 const OBJECTS: &str = "CRE_TSK(#, {TA_ACT, #, task, 16, 256, NULL});
 CRE_SEM(#, {TA_TPRI, #, 255});
 CRE_FLG(#, {TA_WMUL, #});
 CRE_DTQ(#, {TA_TFIFO, #, NULL});
+CRE_SPN(#, {TA_NULL});
 ";
 
 /// A handler of a line.
@@ -37,6 +38,7 @@ fn has_all(config: &Config) -> bool {
         && config.semaphores.len() == 255
         && config.flags.len() == 255
         && config.queues.len() == 255
+        && config.spin_locks.len() == 255
         && config.handlers.len() == 32
         && are_in_order(config.tasks.as_slice())
 }
@@ -52,6 +54,9 @@ fn has_last_ones(config: &Config) -> bool {
     let [.., queue] = config.queues.as_slice() else {
         return false;
     };
+    let [.., spin_lock] = config.spin_locks.as_slice() else {
+        return false;
+    };
     let [.., handler] = config.handlers.as_slice() else {
         return false;
     };
@@ -62,6 +67,7 @@ fn has_last_ones(config: &Config) -> bool {
         && flag.pattern == 255
         && queue.id == 255
         && queue.capacity == 255
+        && spin_lock.id == 255
         && handler.line == 31
         && handler.processor == 1
 }

@@ -86,6 +86,14 @@ fn has_queues(config: &Config) -> bool {
     is_queue(large, 4, 0, 256) && is_queue(none, 5, 1, 0)
 }
 
+/// Whether the spin locks are those of the text.
+fn has_spin_locks(config: &Config) -> bool {
+    let [last, sixth] = config.spin_locks.as_slice() else {
+        return false;
+    };
+    last.id == 255 && sixth.id == 6
+}
+
 /// Whether the handlers are those of the text.
 fn has_handlers(config: &Config) -> bool {
     let [timer, zero] = config.handlers.as_slice() else {
@@ -113,6 +121,8 @@ fn wrong_part(config: &Config) -> Option<&'static str> {
         Some("a flag")
     } else if !has_queues(config) {
         Some("a queue")
+    } else if !has_spin_locks(config) {
+        Some("a spin lock")
     } else if !has_handlers(config) {
         Some("a handler")
     } else {
@@ -157,7 +167,7 @@ const TEXTS: &[(ConfigFault, &str)] = &[
     ),
     (
         ConfigFault::BadAttribute { line: 3 },
-        "line 3: found an attribute that the object does not have, expected bits of CRE_TSK 3, CRE_FLG 7, others 1",
+        "line 3: found an attribute that the object does not have, expected bits of CRE_TSK 3, CRE_FLG 7, CRE_SPN 0, others 1",
     ),
     (
         ConfigFault::BadPriority { line: 40 },

@@ -15,7 +15,7 @@ const SHORT_ACCEPTED: &[Row] = &[
     (&[(47, 39), (32, 1)], SHORT_SHOWN),
     // Skipped: the table begins at the ELF header, whose first word is no type that is known.
     (&[(31, 0), (45, 1)], "80000000"),
-    // No bytes in the file, at an offset behind its end.
+    // No bytes in the file, at an offset after its end.
     (&[(56, 0xff), (71, 0)], "80000000 80000100:0000000000000000"),
     // Nothing in memory either.
     (&[(71, 0), (75, 0)], "80000000"),
@@ -41,7 +41,7 @@ const ASSEMBLED_ACCEPTED: &[Row] = &[
         &[(135, 6)],
         "80000000 80000000:3c0880008d09000c0000000000000007 _start=80000000 t=8000000c",
     ),
-    // No sections, no symbol table, an empty one behind the end of the file.
+    // No sections, no symbol table, an empty one after the end of the file.
     (&[(49, 0)], UNNAMED_SHOWN),
     (&[(34, 0), (35, 0)], UNNAMED_SHOWN),
     (&[(235, 11)], UNNAMED_SHOWN),
@@ -58,7 +58,7 @@ const ASSEMBLED_ACCEPTED: &[Row] = &[
         &[(195, 3), (207, 0x94), (211, 10), (255, 0)],
         ASSEMBLED_SHOWN,
     ),
-    // The strings begin where the symbols do, and all names lie behind the symbols.
+    // The strings begin where the symbols do, and all names lie after the symbols.
     (
         &[(287, 0x64), (291, 0x3a), (119, 0x31), (135, 0x38)],
         ASSEMBLED_SHOWN,

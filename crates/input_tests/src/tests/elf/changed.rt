@@ -140,7 +140,7 @@ fn first_wrong_digit(
 }
 
 /// The first byte of these rows, and place of a file, for which the digit is wrong. Digits that are too few or too many
-/// for the file are wrong behind the last one.
+/// for the file are wrong after the last one.
 fn first_wrong(
     alloc: Global,
     file: &mut [u8],
@@ -170,7 +170,7 @@ fn each_byte_of_the_assembled_file(rt: HostRuntime) -> Result<(), Fail> {
     none_wrong(first_wrong(rt.alloc(), &mut file, ASSEMBLED_CHANGED, ASSEMBLED_SHOWN))
 }
 
-/// What is missing from a file of so many bytes, by the header that describes it. `table` and `segment` are where the
+/// What is missing from a file of n bytes, by the header that describes it. `table` and `segment` are where the
 /// program headers end, and the bytes that they load.
 fn fault_of_cut(len: usize, table: usize, segment: usize) -> &'static str {
     if len < 4 {

@@ -107,7 +107,7 @@ fn as_many_names_as_symbols(rt: HostRuntime) {
 /// short by far.
 const COUNTS: &[(u32, bool)] = &[(0, true), (65_534, true), (65_535, false)];
 
-/// Puts so many segments of one byte each at the end. Says whether there was memory for them.
+/// Puts n segments of one byte each at the end. Says whether there was memory for them.
 fn put_segments(alloc: Global, out: &mut Segments, count: u32) -> bool {
     for i in 0..count {
         if !put_segment(alloc, out, 0x8000_0000 + i % 0x100_0000, b"a") {
@@ -117,7 +117,7 @@ fn put_segments(alloc: Global, out: &mut Segments, count: u32) -> bool {
     true
 }
 
-/// Whether an image of so many segments fits or doesn't, as it should.
+/// Whether an image of n segments fits or doesn't, as it should.
 fn is_right(alloc: Global, count: u32, is_fit: bool) -> bool {
     match Image::from_words(alloc, &[]) {
         Ok(mut image) => {

@@ -8,7 +8,7 @@ use brd_mem::is_plain;
 use std::alloc::Global;
 use test_help::put_byte;
 
-/// The source of `ASSEMBLED`, behind a line that says that it is little-endian.
+/// The source of `ASSEMBLED`, after a line that says that it is little-endian.
 const SOURCE: &str =
     ".byteorder little\n_start: lui $t0, %hi(d)\nlw $t1, %lo(d)($t0)\nnop\nd: .word 7\n";
 
@@ -50,8 +50,8 @@ fn is_written(alloc: Global, source: &str, wanted: &[u8]) -> bool {
     }
 }
 
-/// Each byte of the file is that of `ASSEMBLED`, where it lies with the other byte order: 348 bytes, the sixth a 1, from
-/// 84 on the words.
+/// Each byte of the file is that of `ASSEMBLED`, where it lies with the other byte order: 348 bytes, the sixth a 1,
+/// from 84 on the words.
 #[test]
 fn of_a_little_endian_source(rt: HostRuntime) {
     let mut file = ASSEMBLED;

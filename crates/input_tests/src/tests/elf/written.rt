@@ -7,7 +7,7 @@ use std::alloc::Global;
 use std::test::Fail;
 use test_help::none_wrong;
 
-/// An image of words, of further segments and of symbols, and what its file has: so many bytes, these among them from a
+/// An image of words, of further segments and of symbols, and what its file has: n bytes, these among them from a
 /// place on, and that is read from it.
 struct Written {
     words: &'static [u32],

@@ -31,10 +31,10 @@ const OF_CONFIGURATIONS: &[(&str, BuildFault)] = &[
     ),
 ];
 
-/// A source with a segment behind RAM.
+/// A source with a segment after RAM.
 const OUTSIDE: &str = "_start: nop\n.org 0x80010000\n.byte 1";
 
-/// The same for `OUTSIDE`: its fault is one of the boot, and comes behind those of the configuration.
+/// The same for `OUTSIDE`: its fault is one of the boot, and comes after those of the configuration.
 const OF_OUTSIDE: &[(&str, BuildFault)] = &[
     (ONE_TASK, BuildFault::Boot(BootFault::Outside)),
     (UNKNOWN, BuildFault::Boot(BootFault::Outside)),

@@ -27,7 +27,7 @@ const REPORTS: &[Report] = &[
     Report::Ran(0x8000_0008),
 ];
 
-/// What the board of `FOUR_WORDS` shows behind them.
+/// What the board of `FOUR_WORDS` shows after them.
 const SHOWN: Shown = Shown {
     is_off: false,
     pc: 0x8000_000c,

@@ -6,7 +6,7 @@ use brd_image::BuildFault;
 use std::alloc::{AllocError, Global};
 use std::test::Fail;
 
-/// A source of so many bytes, each alone: so many segments.
+/// A source of n bytes, each alone: n segments.
 fn separate(alloc: Global, count: u32) -> Result<String, AllocError> {
     let mut source = String::new(alloc);
     for place in 0..count {

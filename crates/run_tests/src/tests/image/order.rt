@@ -20,7 +20,7 @@ const REPORTS: &[Report] = &[
     Report::Ran(0x8000_0018),
 ];
 
-/// Whether a source reports that it goes on from one instruction to the next, so many times, and shows this then.
+/// Whether a source reports that it goes on from one instruction to the next, n times, and shows this then.
 fn goes_on(alloc: Global, source: &str, count: usize, shown: &Shown) -> bool {
     match REPORTS.get(..count) {
         Some(reports) => tells(alloc, source, ONE_TASK, reports, shown),

@@ -16,7 +16,7 @@ pub const REPORTS: &[Report] = &[
     Report::Off,
 ];
 
-/// What it shows behind them.
+/// What it shows after them.
 pub const SHOWN: Shown = Shown {
     is_off: true,
     pc: 0x8000_0014,
@@ -86,7 +86,7 @@ fn a_greeting(rt: HostRuntime) {
 /// How many events a long run has.
 const MANY: usize = 100_000;
 
-/// Whether the board of a source and a configuration greets in so many steps.
+/// Whether the board of a source and a configuration greets in n steps.
 fn greets_in(alloc: Global, count: usize) -> Result<bool, AllocError> {
     let events = vec![in alloc; Event::Step(1); count]?;
     Ok(

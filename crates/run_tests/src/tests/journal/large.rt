@@ -20,7 +20,7 @@ fn fill(journal: &mut Journal) -> Result<(), JournalFault> {
     Ok(())
 }
 
-/// Whether a text is read as a journal of so many runs, and refused where there is room for one less.
+/// Whether a text is read as a journal of n runs, and refused where there is room for one less.
 fn is_read_again(alloc: Global, text: &[u8]) -> bool {
     match read_text(alloc, text, MOST_RUNS) {
         Ok(again) => again.len() == LEN && is_full_one_below(alloc, text),

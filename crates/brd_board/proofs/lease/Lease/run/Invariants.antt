@@ -1,4 +1,4 @@
--- So many instructions were done.
+-- n instructions were done.
 use Rattle.std.proofs.Common.{◌≡◌, ◌+◌, Some}
 use Rattle.brd_board.specs.Lease.{lent_more}
 use Rattle.brd_board.proofs.lease.Lease.run.Given as goal

@@ -1,0 +1,128 @@
+//! Many steps of one processor, in rows of decoded instructions.
+
+ghost use Rattle.std.specs.Prelude.{◌≡◌, ◌≤◌, replicate, IfSome};
+ghost use Rattle.brd_kernel.specs.Kernel.{executor_on};
+ghost use Rattle.brd_kernel.specs.Always.{HasPlace};
+ghost use Rattle.brd_board.specs.Board.{after};
+ghost use Rattle.brd_board.specs.declared.event.Event.TheVariants.{Step};
+ghost use Rattle.brd_board.specs.InARow.{GoesRow};
+
+use super::Board;
+use brd_fast::{Table, go};
+use brd_kernel::Kernel;
+use brd_link::Links;
+use brd_mem::Ram;
+
+/// From how many steps on a row of decoded instructions is worth its beginning and its end (measured).
+const FEW: u32 = 4;
+
+/// How many steps are done one by one after a row that was shorter than that (own choice).
+const STRETCH: u32 = 64;
+
+/// How many steps that could have been in a row are done before there is a table of decoded instructions (own choice:
+/// they take about as much time as it does to make one).
+const PATIENCE: u32 = 0x4000;
+
+/// The decoded instructions of a board.
+#[derive(Drop)]
+pub(super) enum Code {
+    /// There are none yet; this many steps were done one by one that could have been in rows.
+    Unread(u32),
+    /// They are in this table.
+    Read(Table),
+    /// There was no memory for them, and it isn't asked for again.
+    NoMemory,
+}
+
+impl Board {
+    /// Lets a processor do `count` steps.
+    pub(super) fn many_steps(&mut self, cpu: u8, count: u32)
+        ensures { self.new ≡ after self.old (replicate count (Step cpu)) }
+    {
+        if count < FEW || !self.has_read(count) {
+            let _ = self.steps(cpu, count);
+            return;
+        }
+        self.rows(cpu, count);
+    }
+
+    /// Lets a processor do `count` steps, in rows where it can. After a short row it does some one by one, so that where
+    /// rows end soon their beginnings and ends cost little.
+    fn rows(&mut self, cpu: u8, count: u32)
+        ensures { self.new ≡ after self.old (replicate count (Step cpu)) }
+    {
+        let mut left = count;
+        while left > 0 {
+            let done = self.row(cpu, left);
+            left -= done;
+            let apart = left.min(if done < FEW { STRETCH } else { 1 });
+            let _ = self.steps(cpu, apart);
+            left -= apart;
+        }
+    }
+
+    /// Lets a processor do steps in a row, up to `limit` of them. Answers how many it did.
+    fn row(&mut self, cpu: u8, limit: u32) -> u32
+        ensures few { result ≤ limit }
+        ensures done { self.new ≡ after self.old (replicate result (Step cpu)) }
+    {
+        if self.is_off() || self.kernel.deliverable(cpu).is_some() {
+            return 0;
+        }
+        match &mut self.code {
+            Code::Read(table) => {
+                run_row(
+                    &mut self.kernel,
+                    cpu,
+                    table,
+                    &mut self.ram,
+                    &mut self.links,
+                    limit,
+                )
+            }
+            Code::Unread(_) | Code::NoMemory => 0,
+        }
+    }
+
+    /// Whether the board has a table of decoded instructions, before `count` more steps.
+    fn has_read(&mut self, count: u32) -> bool
+        ensures { self.new ≡ self.old }
+    {
+        if let Code::Unread(steps) = self.code {
+            self.code = self.read(steps.saturating_add(count));
+        }
+        matches!(self.code, Code::Read(_))
+    }
+
+    /// The decoded instructions of a board that has done this many steps without any.
+    fn read(&self, steps: u32) -> Code {
+        if steps < PATIENCE {
+            return Code::Unread(steps);
+        }
+        match Table::new(*self.faults.allocator()) {
+            Ok(table) => Code::Read(table),
+            Err(_) => Code::NoMemory,
+        }
+    }
+}
+
+/// Lets a processor do steps in a row where somebody executes on it, in the context where it lies: up to `limit` of
+/// them. Answers how many it did.
+fn run_row(
+    kernel: &mut Kernel,
+    cpu: u8,
+    table: &mut Table,
+    ram: &mut Ram,
+    links: &mut Links,
+    limit: u32,
+) -> u32
+    ensures few { result ≤ limit }
+    ensures place { IfSome (executor_on kernel.old cpu) (HasPlace kernel.old cpu) }
+    ensures is { GoesRow (executor_on kernel.old cpu) cpu result kernel.old ram.old links.old kernel.new ram.new links.new }
+{
+    let Some(who) = kernel.executor(cpu) else {
+        return 0;
+    };
+    let context = kernel.context_mut(cpu, who);
+    go(table, cpu, context, ram, links, limit)
+}

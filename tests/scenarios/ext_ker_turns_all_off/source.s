@@ -1,4 +1,0 @@
-# Ext_ker on one processor turns all off.
-one: nop
-two: addiu $v0, $0, 41
-syscall

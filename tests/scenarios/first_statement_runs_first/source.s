@@ -1,3 +1,0 @@
-# Of equal priorities the task whose statement comes first runs.
-t: addiu $v0, $0, 3
-syscall
