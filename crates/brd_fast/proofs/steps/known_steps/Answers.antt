@@ -11,7 +11,7 @@ steps-preserved c =
     let first : Machine = record { state = c.args.context.now; memory = c.args.ram.now; links = c.args.links.now } in
     let more : n ≡ c.args.count - c.steps.left + 1 = omega (arith, c.steps.invariant.few, c.steps-test.true) in
     let sum : c.args.count - (c.steps.left - 1 - k) ≡ n + k =
-        omega (arith, c.steps.invariant.few, c.empty_slot-left.ensures.few) in
+    omega (arith, c.steps.invariant.few, c.empty_slot-left.ensures.few) in
     let middle : Machine = record { state = state_of c.step.new.context c.step.new.place; memory = c.step.new.ram; links = c.step.new.links } in
     record {
       few = omega (arith, c.steps.invariant.few);
