@@ -1,14 +1,16 @@
 //! Many steps of one processor.
 
-ghost use Rattle.std.specs.Prelude.{◌≡◌, ◌≤◌, ◌*◌, ◌+◌, ◌<◌, ◌^◌, Some};
+ghost use Rattle.std.specs.Prelude.{◌≡◌, ◌≤◌, ◌*◌, ◌+◌, ◌<◌, ◌^◌, ℕ, length, Some};
 ghost use Rattle.brd_mem.specs.Memory.{size_of};
+ghost use Rattle.brd_link.specs.LinkSet.{LinkSet};
+ghost use Rattle.brd_exec.specs.State.{State};
 ghost use Rattle.brd_exec.specs.Went.{Machine, went};
 ghost use Rattle.brd_fast.specs.Place.{state_of};
 ghost use Rattle.brd_fast.specs.Steps.{MaySteps};
 
 use crate::entries::carry_out;
 use crate::place::Place;
-use crate::table::Table;
+use crate::table::{Known, Table, entry_in};
 use brd_base::BASE;
 use brd_exec::Context;
 use brd_link::Links;
@@ -32,7 +34,7 @@ pub fn go(
 {
     let mut done = 0;
     'passes: for _ in 0..count {
-        done += known_steps(table, cpu, context, ram, links, count - done);
+        done += known_steps(table.known(), cpu, context, ram, links, count - done);
         if done == count || !learns(table, context.pc(), ram) {
             break;
         }
@@ -53,14 +55,15 @@ fn learns(table: &mut Table, address: u32, ram: &Ram) -> bool {
 /// Does steps, as `go` does, but ends also where the table doesn't have the next word.
 #[inline(never)]
 fn known_steps(
-    table: &Table,
+    known: &[Known],
     cpu: u8,
     context: &mut Context,
     ram: &mut Ram,
     links: &mut Links,
     count: u32,
 ) -> u32
-    requires { (1 ≤ cpu) × (cpu ≤ 8) }
+    requires processor { (1 ≤ cpu) × (cpu ≤ 8) }
+    requires table { length known.now ≡ 2 ^ 14 }
     ensures few { result ≤ count }
     ensures steps { went cpu result (record { state = context.old; memory = ram.old; links = links.old })
         ≡ Some (record { state = context.new; memory = ram.new; links = links.new }) }
@@ -69,10 +72,11 @@ fn known_steps(
     let mut place = Place::of(context);
     let mut left = count;
     'steps: while left > 0 {
-        if !step(table, cpu, context, &mut place, ram, links, words) {
+        if !step(known, cpu, context, &mut place, ram, links, words) {
             break;
         }
         left -= 1;
+        left -= empty_slot(&mut place, ram, words, left);
     }
     context.go_to(place.pc, place.npc, place.slot);
     count - left
@@ -82,7 +86,7 @@ fn known_steps(
 /// whether it did; else nothing has changed.
 #[inline(always)]
 fn step(
-    table: &Table,
+    known: &[Known],
     cpu: u8,
     context: &mut Context,
     place: &mut Place,
@@ -91,6 +95,7 @@ fn step(
     words: usize,
 ) -> bool
     requires processor { (1 ≤ cpu) × (cpu ≤ 8) }
+    requires table { length known.now ≡ 2 ^ 14 }
     requires size { 4 * words ≤ size_of ram.old }
     requires few { words ≤ 2 ^ 22 }
     ensures step { MaySteps cpu
@@ -103,10 +108,32 @@ fn step(
         return false;
     }
     let word = ram.fetch_at(4 * index);
-    match table.entry(index, word) {
+    match entry_in(known, index, word) {
         Some(entry) => carry_out(entry, cpu, context, place, ram, links),
         None => false,
     }
+}
+
+/// Does the step of a delay slot whose word is 0, a NOP, where that is one of the first `words` of RAM and `limit` isn't
+/// 0: no entry has to be looked up for it. Answers how many steps it did.
+#[inline(always)]
+fn empty_slot(place: &mut Place, ram: &Ram, words: usize, limit: u32) -> u32
+    requires size { 4 * words ≤ size_of ram.now }
+    requires few { words ≤ 2 ^ 22 }
+    ensures few { result ≤ limit }
+    ensures steps { (cpu : ℕ) (s : State) (links : LinkSet) →
+        went cpu result (record { state = state_of s place.old; memory = ram.now; links = links })
+        ≡ Some (record { state = state_of s place.new; memory = ram.now; links = links }) }
+{
+    if !place.slot || limit == 0 {
+        return 0;
+    }
+    let index = index_of(place.pc);
+    if index >= words || ram.fetch_at(4 * index) != 0 {
+        return 0;
+    }
+    place.advance();
+    1
 }
 
 /// How many words lie between RAM's first and an address; a number that is too large for every RAM where the address
