@@ -3,19 +3,19 @@ use Rattle.std.proofs.Common.{◌≡◌, ℕ, ◌+◌, Bool, true, false, ◌&&�
 use Rattle.std.specs.Prelude.{zero, suc, Ok, Err}
 use Rattle.std.proofs.Math.Logic.{∥∥₁_elim}
 use Rattle.std.proofs.Props.{props}
-use Rattle.brd_isa.specs.declared.instruction.{Insn.Insn, ShiftOp.ShiftOp}
+use Rattle.brd_isa.specs.declared.instruction.Insn.{Insn}
 use Rattle.brd_isa.specs.Decoding.{decoded}
 use Rattle.brd_mem.specs.Memory.{Memory, size_of}
 use Rattle.brd_mem.specs.Access.{fetched}
 use Rattle.brd_link.specs.LinkSet.{LinkSet}
 use Rattle.brd_exec.specs.declared.outcome.ExceptionCode.{ExceptionCode}
-use Rattle.brd_exec.specs.State.{State, advanced}
+use Rattle.brd_exec.specs.State.{State}
 use Rattle.brd_exec.specs.Action.{Action, action}
 use Rattle.brd_exec.specs.Step.{Effect, done, has_slot, of_word, of_fetch, of_next, next_instruction, effect, ended, ran}
 use Rattle.brd_exec.specs.Went.{Machine, went_by, went_on, went}
 use Rattle.brd_exec.proofs.FormLemmas.{form-ran}
 use Rattle.brd_entries.specs.declared.entry.Entry.{Entry}
-use Rattle.brd_entries.specs.Means.{Means, GoesOn}
+use Rattle.brd_entries.specs.Means.{Means}
 use Rattle.brd_fast.specs.Plans.{Plan, planned, carried_out}
 use Rattle.brd_fast.specs.Moves.{Acts}
 use Rattle.brd_fast.specs.Steps.{MaySteps}
@@ -53,21 +53,6 @@ unfolding effect next_instruction
 entry-goes entry cpu s memory links word after fetch means is =
     ap (λ f. went_by (of_next cpu s memory links (of_fetch s f))) fetch
     ∙ plan-goes (planned entry s) cpu s memory links (decoded word) after (stands entry (decoded word) s means) is
-
-zero-goes-on : GoesOn (Insn.Shift ShiftOp.Sll 0 0 0)
-zero-goes-on = record { on = λ s. refl; slot = refl }
-
-zero-decoded : decoded 0 ≡ Some (Insn.Shift ShiftOp.Sll 0 0 0)
-unfolding decoded
-zero-decoded = refl
-
--- the word 0 is a NOP
-pub zero-steps : (cpu : ℕ) (s : State) (memory : Memory) (links : LinkSet) (word : ℕ) → fetched memory s.pc ≡ Ok word → word ≡ 0 →
-    went cpu 1 (record { state = s; memory = memory; links = links })
-    ≡ Some (record { state = advanced s; memory = memory; links = links })
-zero-steps cpu s memory links word fetch is =
-    entry-goes Entry.Nop cpu s memory links 0 (record { state = advanced s; memory = memory; links = links })
-    (fetch ∙ ap Ok is) (Insn.Shift ShiftOp.Sll 0 0 0, zero-decoded, zero-goes-on) refl
 
 machine-is : (after : Machine) (s : State) (memory : Memory) (links : LinkSet) → s ≡ after.state → memory ≡ after.memory → links ≡ after.links →
     Some after ≡ Some (record { state = s; memory = memory; links = links })

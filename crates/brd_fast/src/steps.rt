@@ -1,9 +1,7 @@
 //! Many steps of one processor.
 
-ghost use Rattle.std.specs.Prelude.{◌≡◌, ◌≤◌, ◌*◌, ◌+◌, ◌<◌, ◌^◌, ℕ, length, Some};
+ghost use Rattle.std.specs.Prelude.{◌≡◌, ◌≤◌, ◌*◌, ◌+◌, ◌<◌, ◌^◌, length, Some};
 ghost use Rattle.brd_mem.specs.Memory.{size_of};
-ghost use Rattle.brd_link.specs.LinkSet.{LinkSet};
-ghost use Rattle.brd_exec.specs.State.{State};
 ghost use Rattle.brd_exec.specs.Went.{Machine, went};
 ghost use Rattle.brd_fast.specs.Place.{state_of};
 ghost use Rattle.brd_fast.specs.Steps.{MaySteps};
@@ -76,7 +74,6 @@ fn known_steps(
             break;
         }
         left -= 1;
-        left -= empty_slot(&mut place, ram, words, left);
     }
     context.go_to(place.pc, place.npc, place.slot);
     count - left
@@ -112,28 +109,6 @@ fn step(
         Some(entry) => carry_out(entry, cpu, context, place, ram, links),
         None => false,
     }
-}
-
-/// Does the step of a delay slot whose word is 0, a NOP, where that is one of the first `words` of RAM and `limit` isn't
-/// 0: no entry has to be looked up for it. Answers how many steps it did.
-#[inline(always)]
-fn empty_slot(place: &mut Place, ram: &Ram, words: usize, limit: u32) -> u32
-    requires size { 4 * words ≤ size_of ram.now }
-    requires few { words ≤ 2 ^ 22 }
-    ensures few { result ≤ limit }
-    ensures steps { (cpu : ℕ) (s : State) (links : LinkSet) →
-        went cpu result (record { state = state_of s place.old; memory = ram.now; links = links })
-        ≡ Some (record { state = state_of s place.new; memory = ram.now; links = links }) }
-{
-    if !place.slot || limit == 0 {
-        return 0;
-    }
-    let index = index_of(place.pc);
-    if index >= words || ram.fetch_at(4 * index) != 0 {
-        return 0;
-    }
-    place.advance();
-    1
 }
 
 /// How many words lie between RAM's first and an address; a number that is too large for every RAM where the address
