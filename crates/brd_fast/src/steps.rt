@@ -1,6 +1,6 @@
 //! Many steps of one processor.
 
-ghost use Rattle.std.specs.Prelude.{◌≡◌, ◌≤◌, ◌*◌, ◌+◌, ◌<◌, ◌^◌, Some};
+ghost use Rattle.std.specs.Prelude.{◌≡◌, ◌≤◌, ◌*◌, ◌+◌, ◌<◌, ◌^◌, length, Some};
 ghost use Rattle.brd_mem.specs.Memory.{size_of};
 ghost use Rattle.brd_exec.specs.Went.{Machine, went};
 ghost use Rattle.brd_fast.specs.Place.{state_of};
@@ -8,7 +8,7 @@ ghost use Rattle.brd_fast.specs.Steps.{MaySteps};
 
 use crate::entries::carry_out;
 use crate::place::Place;
-use crate::table::Table;
+use crate::table::{Known, Table, entry_in};
 use brd_base::BASE;
 use brd_exec::Context;
 use brd_link::Links;
@@ -32,7 +32,7 @@ pub fn go(
 {
     let mut done = 0;
     'passes: for _ in 0..count {
-        done += known_steps(table, cpu, context, ram, links, count - done);
+        done += known_steps(table.known(), cpu, context, ram, links, count - done);
         if done == count || !learns(table, context.pc(), ram) {
             break;
         }
@@ -53,14 +53,15 @@ fn learns(table: &mut Table, address: u32, ram: &Ram) -> bool {
 /// Does steps, as `go` does, but ends also where the table doesn't have the next word.
 #[inline(never)]
 fn known_steps(
-    table: &Table,
+    known: &[Known],
     cpu: u8,
     context: &mut Context,
     ram: &mut Ram,
     links: &mut Links,
     count: u32,
 ) -> u32
-    requires { (1 ≤ cpu) × (cpu ≤ 8) }
+    requires processor { (1 ≤ cpu) × (cpu ≤ 8) }
+    requires table { length known.now ≡ 2 ^ 14 }
     ensures few { result ≤ count }
     ensures steps { went cpu result (record { state = context.old; memory = ram.old; links = links.old })
         ≡ Some (record { state = context.new; memory = ram.new; links = links.new }) }
@@ -69,7 +70,7 @@ fn known_steps(
     let mut place = Place::of(context);
     let mut left = count;
     'steps: while left > 0 {
-        if !step(table, cpu, context, &mut place, ram, links, words) {
+        if !step(known, cpu, context, &mut place, ram, links, words) {
             break;
         }
         left -= 1;
@@ -82,7 +83,7 @@ fn known_steps(
 /// whether it did; else nothing has changed.
 #[inline(always)]
 fn step(
-    table: &Table,
+    known: &[Known],
     cpu: u8,
     context: &mut Context,
     place: &mut Place,
@@ -91,6 +92,7 @@ fn step(
     words: usize,
 ) -> bool
     requires processor { (1 ≤ cpu) × (cpu ≤ 8) }
+    requires table { length known.now ≡ 2 ^ 14 }
     requires size { 4 * words ≤ size_of ram.old }
     requires few { words ≤ 2 ^ 22 }
     ensures step { MaySteps cpu
@@ -103,7 +105,7 @@ fn step(
         return false;
     }
     let word = ram.fetch_at(4 * index);
-    match table.entry(index, word) {
+    match entry_in(known, index, word) {
         Some(entry) => carry_out(entry, cpu, context, place, ram, links),
         None => false,
     }

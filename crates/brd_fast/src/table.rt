@@ -14,7 +14,7 @@ const SIZE: usize = 0x4000;
 
 /// A word and its entry.
 #[derive(Clone, Copy)]
-struct Known {
+pub struct Known {
     word: u32,
     entry: Entry,
     ghost right: { ∥ Means entry (decoded word) ∥₁ },
@@ -51,16 +51,12 @@ impl Table {
         Ok(Table { known })
     }
 
-    /// The entry of a word, which has this index in memory, where the table has it.
+    /// The words and entries that the table has now.
     #[inline(always)]
-    pub fn entry(&self, index: usize, word: u32) -> Option<&Entry>
-        ensures { IfSome result (λ entry. ∥ Means entry.now (decoded word) ∥₁) }
+    pub fn known(&self) -> &[Known]
+        ensures { length result.now ≡ 2 ^ 14 }
     {
-        let known = &self.known[index % SIZE];
-        if known.word != word {
-            return None;
-        }
-        Some(&known.entry)
+        self.known.as_slice()
     }
 
     /// Puts a word with its entry in the place of another. Answers whether it did, and didn't have that word already.
@@ -72,4 +68,17 @@ impl Table {
         self.known[at] = Known::of(word);
         true
     }
+}
+
+/// The entry of a word, which has this index in memory, where a table's words have it.
+#[inline(always)]
+pub fn entry_in(known: &[Known], index: usize, word: u32) -> Option<&Entry>
+    requires { length known.now ≡ 2 ^ 14 }
+    ensures { IfSome result (λ entry. ∥ Means entry.now (decoded word) ∥₁) }
+{
+    let known = &known[index % SIZE];
+    if known.word != word {
+        return None;
+    }
+    Some(&known.entry)
 }

@@ -1,5 +1,4 @@
 use Rattle.std.proofs.Common.{◌≡◌, ◌+◌, ◌-◌, arith}
-use Rattle.brd_exec.specs.Went.{Machine}
 use Rattle.brd_fast.specs.Place.{state_of}
 use Rattle.brd_fast.proofs.StepLemmas.{went-more}
 use Rattle.brd_fast.proofs.steps.known_steps.Goals as goal
