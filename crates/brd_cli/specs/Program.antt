@@ -1,5 +1,5 @@
 -- How the program ends on the words of its command line, of which the first is its name: on files, standard input and
--- standard output, each before and behind the program. `opened` to `written` are as in brd_command/specs/Request.antt.
+-- standard output, each before and after the program. `opened` to `written` are as in brd_command/specs/Request.antt.
 use Rattle.std.specs.Prelude.{◌≡◌, ℕ, List, Option, Result, Ok, Err}
 use Rattle.std.specs.declared.io.Error.{Error}
 use Rattle.clap.specs.Words.{Text}

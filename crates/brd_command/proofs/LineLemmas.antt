@@ -38,7 +38,7 @@ left_further : (text rest more : List ℕ) (b : ℕ) → rest ≡ b ∷ more →
 left_further text rest more b is (front, whole) =
     (front ++ b ∷ [], whole ∙ ap (λ xs. front ++ xs) is ∙ sym (append_assoc front (b ∷ []) more))
 
--- Of a text these bytes were taken for a line, and this is left; so many bytes were taken before them, and so many are
+-- Of a text these bytes were taken for a line, and this is left; n bytes were taken before them, and m are
 -- now.
 abbrev pub IsTaken : List ℕ → List ℕ → Option (List ℕ) → ℕ → ℕ → Type 0
 IsTaken text line left before now =
@@ -86,7 +86,7 @@ module _ (text : List ℕ) (left after : Option (List ℕ)) (before : ℕ) (old 
       (lines ∙ ap command_lines step.0, step.1, omega (arith, counted, ap length step.0, same.0))
   text_ends (b ∷ bs) taken is-found empty = absurd (omega (arith, empty))
 
-  -- the text had ended behind bytes of a line
+  -- the text had ended after bytes of a line
   pub last_line_ends : (line : List ℕ) → IsTaken text line left before old.bytes → found ≡ None → length line ≢ 0
       → (rest : List ℕ) × (after ≡ Some rest) × (command_lines text ≡ line ∷ command_lines rest) × (new.bytes + length rest ≡ before + length text)
       × IsLeftOf text rest

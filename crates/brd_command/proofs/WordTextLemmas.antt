@@ -1,4 +1,4 @@
--- One turn of the loop over a text: it takes a run, and what is left begins behind it.
+-- One turn of the loop over a text: it takes a run, and what is left begins after it.
 use Rattle.std.proofs.Common.{◌≡◌, ℕ, ◌+◌, ◌-◌, ◌<◌, List, [], ◌∷◌, ◌++◌, length, take, drop, suc, refl, ap, sym, ◌∙◌, arith, append_assoc, length-append}
 use Rattle.std.specs.Prelude.{Bool, true, false, Option, Some, None, Result, Ok, Err}
 use Rattle.std.specs.List.{prefix_len}

@@ -20,7 +20,7 @@ ended bytes = bytes ++ 10 ∷ []
 abbrev pub goto_text : DebuggerState → ℕ → List ℕ
 goto_text d n = if nat_le n (length d.events) then number_line (codes "at") n else number_line (codes "past") (length d.events)
 
--- the debugger behind `goto`: at the position, where there are so many events
+-- the debugger after `goto`: at the position, where there are n events
 abbrev pub after_goto : DebuggerState → ℕ → DebuggerState
 after_goto d n = if nat_le n (length d.events) then record d { position = n } else d
 
@@ -50,7 +50,7 @@ abbrev pub byte_text : Option ℕ → List ℕ
 byte_text None = ended (codes "outside")
 byte_text (Some byte) = ended (drop 6 (hex_of byte))
 
--- A debugger does a command: what it answers, and the debugger behind it. `quit` has no answer, and ends.
+-- A debugger does a command: what it answers, and the debugger after it. `quit` has no answer, and ends.
 abbrev pub Does : DebuggerState → DebugCommand → List ℕ → DebuggerState → Type 0
 Does d (Goto n) answer next = (answer ≡ goto_text d n) × (next ≡ after_goto d n)
 Does d Next answer next =

@@ -6,18 +6,18 @@ use Rattle.brd_text.specs.Hex.{hex_word_of}
 use Rattle.brd_command.specs.declared.debug_line.DebugCommand.{DebugCommand}
 use Rattle.brd_command.specs.declared.debug_line.DebugCommand.TheVariants.{Goto, Next, Back, Break, Watch, Registers, Memory, Quit, Unknown}
 
--- a front, and behind it a number below a limit, in decimal digits without leading zeros
+-- a front, and after it a number below a limit, in decimal digits without leading zeros
 pub record HasNumber (front : List ℕ) (line : List ℕ) (number limit : ℕ) : Type 0 where
   pub text : line ≡ front ++ decimal number
   pub below : number < limit
 
--- a front, and behind it the eight hexadecimal digits of an address, of either case
+-- a front, and after it the eight hexadecimal digits of an address, of either case
 pub record HasAddress (front : List ℕ) (line : List ℕ) (address : ℕ) : Type 0 where
   pub digits : List ℕ
   pub text : line ≡ front ++ digits
   pub are_of : hex_word_of digits ≡ Some address
 
--- A line says a command: a word, or a word, one space and an argument, and nothing before or behind them. No line says
+-- A line says a command: a word, or a word, one space and an argument, and nothing before or after them. No line says
 -- the unknown.
 abbrev pub Says : List ℕ → DebugCommand → Type 0
 Says line (Goto position) = HasNumber (codes "goto ") line position (2 ^ 64)

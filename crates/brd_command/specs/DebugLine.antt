@@ -8,7 +8,7 @@ use Rattle.brd_command.specs.declared.debug_line.DebugCommand.{DebugCommand}
 use Rattle.brd_command.specs.declared.debug_line.DebugCommand.TheVariants.{Goto, Next, Back, Break, Watch, Registers, Memory, Quit, Unknown}
 
 -- The lines of an input. A newline ends a line, and the last one may lack it; newlines belong to no line. So an input
--- that ends with a newline has no empty line behind it.
+-- that ends with a newline has no empty line after it.
 abbrev pub command_lines : List ℕ → List (List ℕ)
 command_lines [] = []
 command_lines (b ∷ bs) = if b == 10 then [] ∷ command_lines bs else in_front b (command_lines bs)
@@ -37,7 +37,7 @@ abbrev pub or_unknown : Option DebugCommand → DebugCommand
 or_unknown None = Unknown
 or_unknown (Some command) = command
 
--- The command that a line says. Nothing stands before or behind it, and one space between word and argument.
+-- The command that a line says. Nothing stands before or after it, and one space between word and argument.
 abbrev pub command_of : List ℕ → DebugCommand
 command_of line =
     if bytes_eq line (codes "next") then Next

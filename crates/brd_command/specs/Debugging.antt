@@ -54,7 +54,7 @@ pub record AnswersCutShort (d : DebuggerState) (commands : List DebugCommand) (b
   pub cut : bytes ≡ before ++ front
 
 -- Nothing is left to do, where these commands and this text are left: the input has ended; or the next command is
--- `quit`, and what stands behind it isn't read.
+-- `quit`, and what stands after it isn't read.
 abbrev pub IsOver : List DebugCommand → List ℕ → Type 0
 IsOver [] rest = rest ≡ []
 IsOver (command ∷ left) rest = (command ≡ Quit) × (left ≡ commands_of rest)

@@ -18,7 +18,7 @@ use Rattle.brd_threads.specs.declared.fault.ScriptFault.TheVariants as script_fa
 use Rattle.brd_command.specs.declared.file_kind.FileKind.{FileKind}
 use Rattle.brd_command.specs.declared.file_kind.FileKind.TheVariants.{ObjectFile, Configuration, Journal, Script, Source, Empty}
 
--- the first word, behind blanks and comments, is BOARD
+-- the first word, after blanks and comments, is BOARD
 abbrev pub begins_with_board : List ℕ → Bool
 begins_with_board bytes = is_board (first (tokens_of bytes)).token
 

@@ -11,8 +11,8 @@ use Rattle.brd_command.specs.declared.fault.CommandFault.{CommandFault}
 use Rattle.brd_command.specs.declared.fault.CommandFault.TheVariants.{NoMemory, Schedule, Write}
 use Rattle.brd_command.specs.declared.journal_options.JournalOptions.{JournalOptions}
 
--- the text of a journal of so many events, of which each is a raise, a tick where one is asked for, or a step of one of
--- so many processors, for boards of the byte order that is asked for
+-- the text of a journal of n events, of which each is a raise, a tick where one is asked for, or a step of one of
+-- m processors, for boards of the byte order that is asked for
 pub record MakesJournal (cpus events : ℕ) (options : JournalOptions) (bytes : List ℕ) : Type 0 where
   pub plan : Plan
   pub made : List Event

@@ -39,7 +39,7 @@ abbrev pub CountsLine : Taken → Option (List ℕ) → Taken → Type 0
 CountsLine old None new = (new.bytes ≤ most_bytes) × (new.ended ≡ true)
 CountsLine old (Some line) new = (old.bytes < new.bytes) × (new.bytes ≤ most_bytes)
 
--- What may keep standard input, of which so many bytes were taken and these are left, from being read on. One that is
+-- What may keep standard input, of which n bytes were taken and these are left, from being read on. One that is
 -- called too long has a line next that doesn't end within the bytes that an input may have. That memory ran out is said
 -- as such.
 abbrev pub KeepsFromTaking : Taken → List ℕ → CommandFault → Type 0

@@ -63,7 +63,7 @@ tasks_shown b = flat_map (λ id. task_line id (task_of b id)) (range_with_len 1 
 abbrev pub console_shown : List ℕ → List ℕ
 console_shown bytes = number_line (codes "console") (length bytes) ++ bytes ++ 10 ∷ []
 
--- the report of a board to which so many events happened
+-- the report of a board to which n events happened
 abbrev pub report_of : ℕ → BoardState → List ℕ
 report_of events b =
     number_line (codes "events") events

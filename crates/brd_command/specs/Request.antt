@@ -1,4 +1,4 @@
--- How a request ends, on files, standard input and standard output, each before and behind the command. `opened`,
+-- How a request ends, on files, standard input and standard output, each before and after the command. `opened`,
 -- `created` and `closed` say what calls on files did, `remaining` what a file has left to read, `contents` what a file
 -- holds that is written; `unread` says what standard input has left to read, `written` what standard output has taken.
 use Rattle.std.specs.Prelude.{◌≡◌, ℕ, List, Option, IfSome, Result}

@@ -21,14 +21,14 @@ use Rattle.brd_command.specs.declared.trace_options.TraceOptions.{TraceOptions}
 abbrev pub IsTraceStart : List ℕ → List ℕ → List ℕ → TraceStart → Type 0
 IsTraceStart image config journal it = IsStart image config journal it.start
 
--- the positions that the options ask for in a journal with so many events: of the first one, and the one after the last
+-- the positions that the options ask for in a journal with n events: of the first one, and the one after the last
 abbrev pub first_of : TraceOptions → ℕ
 first_of options = unwrap_or options.from 0
 
 abbrev pub end_of : TraceOptions → ℕ → ℕ
 end_of options len = min (unwrap_or options.to len) len
 
--- the part of a journal with so many events that the options ask for
+-- the part of a journal with n events that the options ask for
 pub record IsPart (options : TraceOptions) (len : ℕ) (part : Part) : Type 0 where
   pub format : options.format ≡ Some part.format
   pub from : part.from ≡ first_of options
@@ -36,7 +36,7 @@ pub record IsPart (options : TraceOptions) (len : ℕ) (part : Part) : Type 0 wh
   pub ordered : part.from ≤ part.to
   pub within : part.to ≤ len
 
--- Why the options give no trace of a journal with so many events: they name no form, or their first event comes after
+-- Why the options give no trace of a journal with n events: they name no form, or their first event comes after
 -- their last; or they ask for a picture, which has too much to draw.
 abbrev pub KeepsFromTracing : TraceOptions → ℕ → TraceFault → Type 0
 KeepsFromTracing options len NoSuchFormat = options.format ≡ None
@@ -85,7 +85,7 @@ EndsDrawing (Ok done) old new = Writes (EndsWith (codes "</svg>\n")) old new
 EndsDrawing (Err (Trace fault)) old new = (fault ≡ TooMuch) × Keeps old new
 EndsDrawing (Err fault) old new = IsOfWriting fault
 
--- How a trace ends of a board and a journal with so many events. Where the options give none, nothing is written.
+-- How a trace ends of a board and a journal with n events. Where the options give none, nothing is written.
 abbrev pub EndsTracing : Result Unit CommandFault → TraceOptions → ℕ → Option (List ℕ) → Option (List ℕ) → Type 0
 EndsTracing (Ok done) options len old new = (first_of options ≤ end_of options len) × WritesTrace options old new
 EndsTracing (Err (Trace fault)) options len old new = KeepsFromTracing options len fault × Keeps old new

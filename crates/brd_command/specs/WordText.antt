@@ -30,7 +30,7 @@ abbrev pub with_front : List ℕ → Result (List ℕ) WordsFault → Result (Li
 with_front front (Ok words) = Ok (front ++ words)
 with_front front (Err fault) = Err fault
 
--- what a run gives, where there is room for so many words: its word, or its fault
+-- what a run gives, where there is room for n words: its word, or its fault
 abbrev pub word_or_fault : ℕ → ℕ → Option ℕ → Result ℕ WordsFault
 word_or_fault room line None = Err (Syntax line)
 word_or_fault room line (Some word) = if room == 0 then Err TooMany else Ok word
@@ -40,7 +40,7 @@ abbrev pub with_word : Result ℕ WordsFault → Result (List ℕ) WordsFault �
 with_word (Ok word) others = with_front (word ∷ []) others
 with_word (Err fault) others = Err fault
 
--- the words of the runs, where there is room for so many; or the first fault
+-- the words of the runs, where there is room for n; or the first fault
 abbrev pub words_of_runs : ℕ → List Run → Result (List ℕ) WordsFault
 words_of_runs room [] = Ok []
 words_of_runs room (run ∷ runs) =

@@ -15,13 +15,13 @@ use Rattle.brd_command.specs.declared.fault.CommandFault.{CommandFault}
 use Rattle.brd_command.specs.declared.input_name.InputName.TheVariants.{StandardInput}
 use Rattle.brd_command.specs.declared.fault.CommandFault.TheVariants.{NoMemory, Argument, Words, Source, ImageTooLarge, Open, Read, TooLong, TooManyReads, Build, Journal, OtherOrder, Script, Race, Trace, Schedule, Write}
 
--- the bytes that show the board of these words after so many steps of processor 1
+-- the bytes that show the board of these words after n steps of processor 1
 pub record ShowsWords (words : List ℕ) (steps : ℕ) (bytes : List ℕ) : Type 0 where
   pub board : BoardState
   pub boots : boot_words words ≡ Ok board
   pub shown : bytes ≡ board_shown (after board (replicate steps (Step 1)))
 
--- the bytes that show the board of a text's words after so many steps of processor 1
+-- the bytes that show the board of a text's words after n steps of processor 1
 pub record ShowsText (text : List ℕ) (steps : ℕ) (bytes : List ℕ) : Type 0 where
   pub words : List ℕ
   pub are_words : words_of_text text ≡ Ok words

@@ -38,7 +38,7 @@ impl Clue {
         self.kind.is_none() && !self.hint.is_none()
     }
 
-    /// What is said of the kind of file, behind the fault.
+    /// What is said of the kind of file, after the fault.
     fn likeness(&self) -> &'static str {
         looks(self.kind)
     }

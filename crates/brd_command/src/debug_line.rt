@@ -8,7 +8,7 @@ use brd_text::{hex_word, plain_decimal};
 /// What a line asks of the debugger.
 #[derive(Clone, Copy, PartialEq, Eq)]
 pub enum DebugCommand {
-    /// Goes to a position: shows the board after so many events.
+    /// Goes to a position: shows the board after n events.
     Goto(u64),
     /// Goes to the next stop.
     Next,

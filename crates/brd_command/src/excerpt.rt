@@ -68,7 +68,7 @@ impl fmt::Display for Excerpt {
     }
 }
 
-/// No more than so many bytes.
+/// No more than n bytes.
 pub fn front_of(text: &[u8], most: usize) -> &[u8]
     ensures { result.now ≡ take most text.now }
 {

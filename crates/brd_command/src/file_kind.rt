@@ -86,7 +86,7 @@ fn begins_with_entry(bytes: &[u8]) -> bool
     bytes.starts_with(TICKS) || bytes.starts_with(RAISES)
 }
 
-/// Whether the first word, behind blanks and comments, is `BOARD`.
+/// Whether the first word, after blanks and comments, is `BOARD`.
 fn begins_with_board(bytes: &[u8]) -> bool
     ensures { result ≡ kinds.begins_with_board bytes.now }
 {
@@ -116,7 +116,7 @@ fn is_text_byte(byte: u8) -> bool
     is_blank(byte) || matches!(byte, b' '..=b'~')
 }
 
-/// What a fault says behind itself of the kind of which its file looks.
+/// What a fault says after itself of the kind of which its file looks.
 pub fn looks(kind: Option<FileKind>) -> &'static str {
     match kind {
         None => "",

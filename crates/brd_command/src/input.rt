@@ -27,7 +27,7 @@ pub fn read_whole<R: Read>(
     read_within(alloc, input, reader, MOST_READS)
 }
 
-/// All the bytes that the reader of an input has left. It gives up past 134,217,728 bytes, and after so many reads.
+/// All the bytes that the reader of an input has left. It gives up past 134,217,728 bytes, and after 268,435,456 reads.
 fn read_within<R: Read>(
     alloc: Global,
     input: InputName,

@@ -14,7 +14,7 @@ use brd_word::Order;
 use std::alloc::Global;
 use std::io::Write;
 
-/// Writes the journal that is asked for: so many events, of which each is a raise, a tick or a step of one of so many
+/// Writes the journal that is asked for: n events, of which each is a raise, a tick or a step of one of m
 /// processors. Nothing is written where the options have a fault.
 pub fn journal<W: Write>(
     alloc: Global,

@@ -36,7 +36,7 @@ pub struct JournalOptions<'a> {
 /// How likely it is in a thousand that a processor is drawn before a step, unless it is said.
 const USUAL_SWITCH: u32 = 500;
 
-/// Who takes the steps of so many processors.
+/// Who takes the steps of n processors.
 pub(crate) fn rule_of(cpus: u8, options: &JournalOptions) -> Result<Rule, ScheduleFault> {
     let is_drawn = options.switch.is_some() || options.weights.is_some();
     let Some(seed) = options.seed else {
@@ -68,7 +68,7 @@ pub(crate) fn rule_of(cpus: u8, options: &JournalOptions) -> Result<Rule, Schedu
     })
 }
 
-/// The weights of so many processors: each 1 where nothing is said.
+/// The weights of n processors: each 1 where nothing is said.
 fn weights_of(cpus: u8, text: Option<&str>) -> Result<[u32; 8], ScheduleFault> {
     let mut weights = [0u32; 8];
     let Some(text) = text else {
@@ -148,12 +148,12 @@ fn raise_of(word: &[u8]) -> Option<Raise> {
     })
 }
 
-/// What stands before the first comma, and what is behind it.
+/// What stands before the first comma, and what is after it.
 fn piece(text: &[u8]) -> (&[u8], Option<&[u8]>) {
     parted(text, b',')
 }
 
-/// What stands before the first such byte, and what is behind it.
+/// What stands before the first such byte, and what is after it.
 fn parted(text: &[u8], mark: u8) -> (&[u8], Option<&[u8]>) {
     for (i, byte) in text.iter().enumerate() {
         if *byte == mark {

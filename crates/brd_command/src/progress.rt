@@ -12,7 +12,7 @@ pub(crate) const PIECE: u32 = 4_194_304;
 
 /// What is told how far a command is. It is told nothing else, so all that it can change is what it is itself.
 pub trait Progress {
-    /// So many of so many events are done.
+    /// n of m events are done.
     fn show(&mut self, done: u64, all: u64);
 
     /// Output is written next, which is to stand alone.

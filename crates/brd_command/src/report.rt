@@ -21,7 +21,7 @@ use brd_exec::Context;
 use brd_text::hex_digits;
 use std::alloc::Global;
 
-/// The report of a board to which so many events happened.
+/// The report of a board to which n events happened.
 pub fn report(alloc: Global, board: &Board, events: u64) -> Result<Vec<u8>, NoMemory>
     ensures { IfOk result (λ report. report.items ≡ report_of events board.now) }
 {

@@ -17,7 +17,7 @@ use std::thread::Threads;
 /// What a command line asks for.
 #[derive(Clone, Copy)]
 pub enum Request<'a> {
-    /// The board of the words on standard input, after so many steps, on standard output.
+    /// The board of the words on standard input, after n steps, on standard output.
     Words {
         steps: u32,
     },
@@ -55,7 +55,7 @@ pub enum Request<'a> {
         journal: &'a str,
         options: TraceOptions,
     },
-    /// A journal of so many events, of which each is a step of one of so many processors or what the options say, on
+    /// A journal of n events, of which each is a step of one of m processors or what the options say, on
     /// standard output.
     Journal {
         cpus: u32,

@@ -147,7 +147,7 @@ struct Part {
     to: u64,
 }
 
-/// The part of a journal with so many events that the options ask for.
+/// The part of a journal with n events that the options ask for.
 fn part_of(options: TraceOptions, len: u64) -> Result<Part, TraceFault>
     ensures { MatchResult result (IsPart options len) (KeepsFromTracing options len) }
 {

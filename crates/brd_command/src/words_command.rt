@@ -15,7 +15,7 @@ use brd_board::{Board, BootFault, Event};
 use std::alloc::Global;
 use std::io::{Read, Write};
 
-/// Reads words to the input's end, lets processor 1 of their board execute so many instructions, and writes task 1's
+/// Reads words to the input's end, lets processor 1 of their board execute n instructions, and writes task 1's
 /// context and the last fault. Nothing is written before a fault of the input is known.
 pub fn words<R: Read, W: Write>(
     alloc: Global,

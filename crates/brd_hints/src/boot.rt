@@ -133,7 +133,7 @@ fn outside<'a>(image: &[u8], config: &'a [u8]) -> Option<Finding<'a>> {
     None
 }
 
-/// Whether so many bytes from an address on aren't in a RAM of this size.
+/// Whether n bytes from an address on aren't in a RAM of this size.
 fn is_outside(start: u64, len: u64, ram: u64) -> bool {
     start < RAM || start.saturating_add(len) > RAM.saturating_add(ram)
 }

@@ -125,9 +125,9 @@ struct Reading<'a> {
     form: &'a [u8],
     /// The attributes that it may have.
     allowed: &'a [u8],
-    /// Behind an attribute: another may follow.
+    /// After an attribute: another may follow.
     attribute: bool,
-    /// Behind a `|`: another does follow.
+    /// After a `|`: another does follow.
     again: bool,
     has_board: bool,
     in_class: bool,

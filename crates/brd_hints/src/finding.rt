@@ -37,7 +37,7 @@ impl<'a> Finding<'a> {
         }
     }
 
-    /// With so many bytes less behind the place.
+    /// With n bytes less after the place.
     pub(crate) fn shortened(self, by: usize) -> Self {
         Finding {
             rest: self.rest.saturating_sub(by),
@@ -80,7 +80,7 @@ impl<'a> Finding<'a> {
     }
 }
 
-/// The text of what was found in a line of that number and of so many bytes, of the input that is called so. No text
+/// The text of what was found in a line of that number and of n bytes, of the input that is called so. No text
 /// where nothing was found.
 pub(crate) fn told(input: &[u8], line: usize, len: usize, found: Option<Finding>) -> Hint {
     let mut hint = Hint::none();

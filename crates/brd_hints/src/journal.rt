@@ -115,7 +115,7 @@ fn byte_fault(line: &[u8]) -> Option<Finding<'_>> {
     None
 }
 
-/// What is wrong with a line behind the first one of a journal, or with a line of a script.
+/// What is wrong with a line after the first one of a journal, or with a line of a script.
 fn line_fault(line: &[u8], is_ended: bool, is_journal: bool) -> Option<Finding<'_>> {
     if let Some(found) = byte_fault(line) {
         return Some(found);
@@ -181,7 +181,7 @@ fn space_fault(line: &[u8]) -> Option<Finding<'_>> {
     None
 }
 
-/// The first field of a line, and what is behind the space that ends it.
+/// The first field of a line, and what is after the space that ends it.
 fn field(line: &[u8]) -> (&[u8], &[u8]) {
     match place_of(line, b' ') {
         Some(place) => {
@@ -192,7 +192,7 @@ fn field(line: &[u8]) -> (&[u8], &[u8]) {
     }
 }
 
-/// What is wrong with the fields behind the letter of a line of this form.
+/// What is wrong with the fields after the letter of a line of this form.
 fn fields_fault<'a>(line: &'a [u8], form: &'a [u8], rest: &'a [u8]) -> Option<Finding<'a>> {
     let (_, mut names) = field(form);
     let mut left = rest;
@@ -262,7 +262,7 @@ fn are_digits(text: &[u8]) -> bool {
     true
 }
 
-/// The diagnosis of a journal that needs more runs than so many: the line that needs one more.
+/// The diagnosis of a journal that needs more than n runs: the line that needs one more.
 pub fn full_hint(text: &[u8], limit: u64) -> Hint {
     let (_, mut rest) = split_line(text);
     let mut line = 2usize;
@@ -296,7 +296,7 @@ pub fn full_hint(text: &[u8], limit: u64) -> Hint {
     Hint::none()
 }
 
-/// How many runs so many equal events need.
+/// How many runs n equal events need.
 fn pieces(total: u64) -> u64 {
     total / MOST_COUNT + (total % MOST_COUNT).min(1)
 }

@@ -17,7 +17,7 @@ pub fn object_file_hint(bytes: &[u8], at: usize, outside: bool) -> Hint {
     told_of_input(OBJECT_FILE, found)
 }
 
-/// The byte at an offset, 0 behind the end.
+/// The byte at an offset, 0 after the end.
 fn byte_at(bytes: &[u8], at: usize) -> u8 {
     match bytes.get(at) {
         Some(byte) => *byte,

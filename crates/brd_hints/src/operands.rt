@@ -8,7 +8,7 @@ use crate::scan::{
 use crate::values::{is_numeric_label, is_register, is_register_name};
 use brd_text::{is_digit, is_name, is_run_byte, number};
 
-/// What is wrong with the operands of a word that takes those of a form, and so many at least.
+/// What is wrong with the operands of a word that takes those of a form, and n at least.
 pub(crate) fn operand_fault<'a>(
     word: &'a [u8],
     form: &'a [u8],
@@ -214,7 +214,7 @@ fn sum_fault(name: &[u8], next: u8, after: &[u8]) -> Option<&'static [u8]> {
     None
 }
 
-/// The text behind a `-` at its front.
+/// The text after a `-` at its front.
 fn without_minus(text: &[u8]) -> &[u8] {
     if first(text) == b'-' {
         behind(text, 1)

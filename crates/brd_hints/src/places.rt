@@ -13,7 +13,7 @@ use brd_text::{is_name, is_run_byte, split_line};
 /// How many names of a line are looked at.
 const MOST_NAMES: usize = 16;
 
-/// Where what comes first stands, and the first address behind all that can be filled.
+/// Where what comes first stands, and the first address after all that can be filled.
 const START: u64 = 0x8000_0000;
 
 const END: u64 = 0x8100_0000;
@@ -97,7 +97,7 @@ pub(crate) fn unknown<'a>(text: &[u8], number: usize, parts: &Parts<'a>) -> Opti
     None
 }
 
-/// From the next name on, behind registers, numbers and marks.
+/// From the next name on, after registers, numbers and marks.
 fn next_name(text: &[u8]) -> &[u8] {
     let mut rest = text;
     for _ in 0..text.len() {
@@ -197,7 +197,7 @@ fn string_len(operands: &[u8]) -> u64 {
     len
 }
 
-/// The place behind what a line has, which is reached at this place. A place that isn't written out stays so up to the
+/// The place after what a line has, which is reached at this place. A place that isn't written out stays so up to the
 /// next `.org` with a number.
 fn place_behind(line: &[u8], at: Option<u64>) -> Option<u64> {
     let parts = parts_of(line);
@@ -297,7 +297,7 @@ fn most_of(word: &[u8]) -> i64 {
     }
 }
 
-/// An operand without the base behind its offset.
+/// An operand without the base after its offset.
 fn without_base(operand: &[u8]) -> &[u8] {
     let value = token(operand);
     if first(operand) != b'-' && is_run_byte(first(value)) {

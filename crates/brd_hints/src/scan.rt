@@ -2,7 +2,7 @@
 
 use brd_text::{is_blank, run_len};
 
-/// The first so many bytes, and what is behind them.
+/// The first n bytes, and what is after them.
 pub(crate) fn cut(text: &[u8], at: usize) -> (&[u8], &[u8]) {
     if at > text.len() {
         return (text, &[]);
@@ -10,13 +10,13 @@ pub(crate) fn cut(text: &[u8], at: usize) -> (&[u8], &[u8]) {
     text.split_at(at)
 }
 
-/// What is behind the first so many bytes.
+/// What is after the first n bytes.
 pub(crate) fn behind(text: &[u8], at: usize) -> &[u8] {
     let (_, rest) = cut(text, at);
     rest
 }
 
-/// The text behind the blanks at its front.
+/// The text after the blanks at its front.
 pub(crate) fn skip_blanks(text: &[u8]) -> &[u8] {
     for (i, byte) in text.iter().enumerate() {
         if !is_blank(*byte) {
@@ -38,7 +38,7 @@ pub(crate) fn trim_end(text: &[u8]) -> &[u8] {
     front
 }
 
-/// The run at the front, and what is behind it.
+/// The run at the front, and what is after it.
 pub(crate) fn run(text: &[u8]) -> (&[u8], &[u8]) {
     cut(text, run_len(text))
 }
@@ -79,7 +79,7 @@ pub(crate) fn count(text: &[u8], wanted: u8) -> usize {
     count
 }
 
-/// What is behind so many commas, without the blanks at its front. `None` where there are fewer.
+/// What is after n commas, without the blanks at its front. `None` where there are fewer.
 pub(crate) fn behind_commas(text: &[u8], commas: usize) -> Option<&[u8]> {
     if commas == 0 {
         return Some(skip_blanks(text));

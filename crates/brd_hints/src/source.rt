@@ -152,7 +152,7 @@ fn byte_advice(byte: u8) -> Option<&'static [u8]> {
     None
 }
 
-/// Whether a byte may stand behind a `\` in a string.
+/// Whether a byte may stand after a `\` in a string.
 fn is_escape(byte: u8) -> bool {
     matches!(byte, b'n' | b't' | b'0' | b'\\' | b'"')
 }

@@ -55,7 +55,7 @@ pub(crate) const DIRECTIVES: &[(&[u8], usize, &[u8])] = &[
     (BYTE_ORDERS, 1, b".byteorder"),
 ];
 
-/// The names of the registers behind `$`, beside their numbers.
+/// The names of the registers after `$`, beside their numbers.
 pub(crate) const REGISTERS: &[u8] =
     b"zero at v0 v1 a0 a1 a2 a3 t0 t1 t2 t3 t4 t5 t6 t7 s0 s1 s2 s3 s4 s5 s6 s7 \
 t8 t9 k0 k1 gp sp fp ra s8";

@@ -13,7 +13,7 @@ pub(crate) struct Parts<'a> {
     pub statement: &'a [u8],
     /// That word.
     pub word: &'a [u8],
-    /// What is behind it, without the blanks at the front.
+    /// What is after it, without the blanks at the front.
     pub operands: &'a [u8],
 }
 
@@ -30,7 +30,7 @@ pub(crate) fn parts_of(line: &[u8]) -> Parts<'_> {
     }
 }
 
-/// The text behind the labels at its front.
+/// The text after the labels at its front.
 fn behind_labels(code: &[u8]) -> &[u8] {
     let mut rest = skip_blanks(code);
     for _ in 0..code.len() {
@@ -42,7 +42,7 @@ fn behind_labels(code: &[u8]) -> &[u8] {
     rest
 }
 
-/// The text behind the label at its front, if there is one.
+/// The text after the label at its front, if there is one.
 pub(crate) fn behind_label(text: &[u8]) -> Option<&[u8]> {
     let (word, after) = run(text);
     let after = skip_blanks(after);

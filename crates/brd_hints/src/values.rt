@@ -11,7 +11,7 @@ pub(crate) fn is_register(word: &[u8]) -> bool {
     first(word) == b'$' && (plain_decimal(name, 31).is_some() || is_register_name(name))
 }
 
-/// Whether a run would be a register behind `$`.
+/// Whether a run would be a register after `$`.
 pub(crate) fn is_register_name(name: &[u8]) -> bool {
     has_name(REGISTERS, name) && !has_upper(name)
 }

@@ -23,7 +23,7 @@ pub(crate) enum Problem {
 /// A statement whose form is right.
 #[derive(Clone, Copy)]
 pub(crate) struct Valued<'a> {
-    /// Its word; nothing behind the last statement.
+    /// Its word; nothing after the last statement.
     pub word: &'a [u8],
     /// Its line.
     pub line: usize,
@@ -329,7 +329,7 @@ fn other_limit<'a>(read: &Valued<'a>, problem: Problem, processors: u64) -> Opti
     )
 }
 
-/// What is defined for the second time, where so many statements stand before it.
+/// What is defined for the second time, where n statements stand before it.
 fn duplicate<'a>(text: &[u8], statements: usize, again: &Valued<'a>) -> Option<Finding<'a>> {
     let mut scanner = Scanner::new(text);
     for _ in 0..statements {

@@ -11,7 +11,7 @@ is_printable b = nat_le 32 b && nat_le b 126
 abbrev pub two_digits : ℕ → List ℕ
 two_digits b = hex_digit (b / 16 % 16) ∷ hex_digit (b % 16) ∷ []
 
--- A byte in a string of JSON (RFC 8259, section 7): " and \ stand behind a \, printable ASCII stands for itself, and
+-- A byte in a string of JSON (RFC 8259, section 7): " and \ stand after a \, printable ASCII stands for itself, and
 -- any other byte is the character of its number, \u00XX.
 abbrev pub json_byte : ℕ → List ℕ
 json_byte b =

@@ -82,7 +82,7 @@ fn labels_for(greatest: u64) -> u64 {
     if greatest < LONG { LABELS } else { LONG_LABELS }
 }
 
-/// The least of 1, 2, 5, 10, 20, 50 and so on of which at most so many make up a length.
+/// The least of 1, 2, 5, 10, 20, 50 and so on of which at most n make up a length.
 fn step_of(length: u64, most: u64) -> u64 {
     let mut power = 1u64;
     for _ in 0..20 {

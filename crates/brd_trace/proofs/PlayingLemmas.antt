@@ -15,7 +15,7 @@ use Rattle.brd_journal.proofs.StillLemmas.{Rests, rests, after-still}
 use Rattle.brd_trace.specs.declared.playback.Playback.{Playback}
 use Rattle.brd_trace.specs.Playing.{board_at, IsPlayed, AreStill}
 
--- from a position on the event of a run comes at least so often
+-- from a position on the event of a run comes at least n times
 abbrev pub IsLeft : List Event → ℕ → Run → Type 0
 IsLeft events at rest = drop at events ≡ copies rest.event rest.count ++ drop (at + rest.count) events
 

@@ -6,11 +6,11 @@ use Rattle.brd_board.specs.declared.event.Event.TheVariants.{Step, Tick, Raise}
 use Rattle.brd_board.specs.Board.{BoardState, after, registers_of}
 use Rattle.brd_trace.specs.declared.playback.Playback.{Playback}
 
--- the board after the first so many events
+-- the board after the first n events
 abbrev pub board_at : BoardState → List Event → ℕ → BoardState
 board_at boot events position = after boot (take position events)
 
--- a board has played the first so many events
+-- a board has played the first n events
 pub record IsPlayed (boot : BoardState) (events : List Event) (playback : Playback) : Type 0 where
   pub board : playback.board ≡ board_at boot events playback.at
   pub within : playback.at ≤ length events

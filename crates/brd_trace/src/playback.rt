@@ -41,7 +41,7 @@ impl Playback {
     ) -> Option<Moved>
         requires on { self.old.at ≤ to }
         requires within { to ≤ length journal.now.events }
-        // It goes on by so many events as it says, at least one, and not past the position.
+        // It goes on by as many events as it says, at least one, and not past the position.
         ensures goes { IfSome result (λ moved. (1 ≤ moved.count) × (self.new.at ≡ self.old.at + moved.count)) }
         ensures to { self.new.at ≤ to }
         ensures ends { result ≡ None → (self.new ≡ self.old) × (self.new.at ≡ to) }
@@ -49,7 +49,7 @@ impl Playback {
         ensures event { IfSome result (λ moved. slice_get journal.now.events self.old.at ≡ Some moved.event) }
         ensures report { IfSome result (λ moved. moved.report ≡ (happens self.old.board moved.event).report) }
         ensures before { IfSome result (λ moved. context.new ≡ executing self.old.board moved.event) }
-        // The board is that of the definition after so many events, and those after the first one did nothing.
+        // The board is that of the definition after n events, and those after the first one did nothing.
         ensures played { (boot : BoardOf) → IsPlayed boot journal.now.events self.old → IsPlayed boot journal.now.events self.new }
         ensures still { (boot : BoardOf) → IsPlayed boot journal.now.events self.old
             → AreStill boot journal.now.events (self.old.at + 1) self.new.at }

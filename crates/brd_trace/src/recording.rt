@@ -39,7 +39,7 @@ pub(crate) struct Recording {
 }
 
 impl Recording {
-    /// The timeline of a run of so many processors and these tasks, from a position on.
+    /// The timeline of a run of n processors and these tasks, from a position on.
     pub(crate) fn new(
         alloc: Global,
         standings: &Standings,

@@ -155,7 +155,7 @@ fn ends_by_a_read(alloc: Global, tested: Tested, number: usize) -> bool {
     is_refused(alloc, tested, &mut reader, tested.unread(), 4) && reader.reads == number
 }
 
-/// Whether a command reads so often, and then writes its output.
+/// Whether a command reads n times, and then writes its output.
 fn reads_so_often(alloc: Global, tested: Tested, number: usize, output: &[u8]) -> bool {
     let mut reader = Bytewise::new(tested.input());
     writes(alloc, tested, &mut reader, output) && reader.reads == number
@@ -243,7 +243,7 @@ fn is_unwritten(alloc: Global, ended: &Result<(), CommandFault>, kind: ErrorKind
     }
 }
 
-/// Whether the write behind so many bytes fails, and is the last one.
+/// Whether the write after n bytes fails, and is the last one.
 fn ends_by_a_write(
     alloc: Global,
     tested: Tested,
@@ -266,7 +266,7 @@ fn writes_bytes(alloc: Global, tested: Tested, output: &[u8]) -> bool {
     tested.run(alloc, &mut reader, &mut writer).is_ok() && writer.has_flushed(output)
 }
 
-/// Behind how many bytes the first write fails in another way, or one more than all where too few or too many are
+/// After how many bytes the first write fails in another way, or one more than all where too few or too many are
 /// written.
 fn first_wrong_write(alloc: Global, tested: Tested, output: &[u8]) -> Option<usize> {
     let all = output.len();
@@ -280,7 +280,7 @@ fn first_wrong_write(alloc: Global, tested: Tested, output: &[u8]) -> Option<usi
     (!writes_bytes(alloc, tested, output)).then_some(all.saturating_add(1))
 }
 
-/// An output of n bytes takes n writes; then the writer is flushed. Behind one that fails there is none.
+/// An output of n bytes takes n writes; then the writer is flushed. After one that fails there is none.
 #[test]
 fn each_write_fails(rt: HostRuntime) -> Result<(), Fail> {
     none_wrong(first_wrong(rt.alloc(), Scene::Writes))

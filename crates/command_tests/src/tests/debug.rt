@@ -75,7 +75,7 @@ fn ends_by_a_file(
     is_fault(alloc, &ended, text, 4) && commands.reads == 0 && writer.writes == 0
 }
 
-/// The first read of a file of so many bytes that fails in another way.
+/// The first read of a file of n bytes that fails in another way.
 fn first_wrong_read_of(
     alloc: Global,
     inputs: [&[u8]; 3],
@@ -195,7 +195,7 @@ const READS: &[(&[u8], usize)] = &[
     (b"goto 1\nquit\ngoto 2\n", 12),
 ];
 
-/// Whether commands are read by so many reads.
+/// Whether commands are read by n reads.
 fn are_read_by(alloc: Global, image: &[u8], commands: &[u8], number: usize) -> bool {
     let mut commands = Bytewise::new(commands);
     let mut writer = Taking::new(alloc);
@@ -213,7 +213,7 @@ fn first_wrong_reads(alloc: Global, image: &[u8]) -> Option<usize> {
     None
 }
 
-/// The end of the commands is found by one read, also behind a last line without a newline. Behind `quit` none is done.
+/// The end of the commands is found by one read, also after a last line without a newline. After `quit` none is done.
 #[test]
 fn the_end_of_commands_is_read_once(rt: HostRuntime) -> Result<(), Fail> {
     let image = image(rt.alloc())?;

@@ -10,7 +10,7 @@ use std::test::Fail;
 use std::thread::Threads;
 use test_help::none_wrong;
 
-/// Files that note what is done with them, one thing behind the other. All that are read hold the same; of a name that
+/// Files that note what is done with them, one thing after the other. All that are read hold the same; of a name that
 /// begins with `no `, none can be opened or created.
 #[derive(Drop)]
 struct Noted<'a> {
@@ -104,7 +104,7 @@ fn cannot_be_opened(alloc: Global, name: &str, text: &str) -> bool {
     is_fault(alloc, &ended, text, 4)
 }
 
-/// Puts a front, so many times ten digits, and an end at the end.
+/// Puts a front, n times ten digits, and an end at the end.
 fn put_digits(text: &mut String, front: &str, tens: u8, end: &str) -> Result<(), AllocError> {
     text.push_str(front)?;
     for _ in 0..tens {

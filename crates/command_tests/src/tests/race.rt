@@ -92,7 +92,7 @@ fn ends_by_a_read<R: Threads + Wait + Sync>(
     is_fault(alloc, &ended, text, 4) && outputs.are_empty()
 }
 
-/// The first read of an input of so many bytes that fails in another way.
+/// The first read of an input of n bytes that fails in another way.
 fn first_wrong_read<R: Threads + Wait + Sync>(
     rt: &R,
     alloc: Global,
@@ -188,7 +188,7 @@ fn reads_of_the_script_end(rt: HostRuntime) -> Result<(), Fail> {
     Ok(())
 }
 
-/// Whether the write after so many bytes of the journal fails, and is the last one.
+/// Whether the write after n bytes of the journal fails, and is the last one.
 fn ends_in_the_journal<R: Threads + Wait + Sync>(
     rt: &R,
     alloc: Global,
@@ -203,7 +203,7 @@ fn ends_in_the_journal<R: Threads + Wait + Sync>(
         && outputs.report.writes == 0
 }
 
-/// Whether the write after so many bytes of the report fails, and is the last one; the journal is whole.
+/// Whether the write after n bytes of the report fails, and is the last one; the journal is whole.
 fn ends_in_the_report<R: Threads + Wait + Sync>(
     rt: &R,
     alloc: Global,

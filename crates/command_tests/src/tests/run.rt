@@ -80,7 +80,7 @@ fn ends_by_a_read(
     is_fault(alloc, &ended, text, 4) && writer.writes == 0
 }
 
-/// The first read of an input of so many bytes that fails in another way.
+/// The first read of an input of n bytes that fails in another way.
 fn first_wrong_read(
     alloc: Global,
     inputs: [&[u8]; 3],
@@ -163,7 +163,7 @@ fn reads_of_the_journal_end(rt: HostRuntime) -> Result<(), Fail> {
     Ok(())
 }
 
-/// Whether the write behind so many bytes of the report fails, and is the last one.
+/// Whether the write after n bytes of the report fails, and is the last one.
 fn ends_by_a_write(alloc: Global, image: &[u8], taken: usize) -> bool {
     let mut writer = Taking::new(alloc);
     writer.fails_at = taken.saturating_add(1);
@@ -178,7 +178,7 @@ fn writes_the_report(alloc: Global, image: &[u8]) -> bool {
     ended.is_ok() && writer.has_flushed(REPORT)
 }
 
-/// Behind how many bytes the first write fails in another way, or one more than all where too few or too many are
+/// After how many bytes the first write fails in another way, or one more than all where too few or too many are
 /// written.
 fn first_wrong_write(alloc: Global, image: &[u8]) -> Option<usize> {
     for taken in 0..=REPORT.len() {
@@ -356,7 +356,7 @@ fn fault_in(place: usize) -> &'static str {
     }
 }
 
-/// Whether a file in this place has its fault, with this behind it.
+/// Whether a file in this place has its fault, with this after it.
 fn is_misplaced<'a>(
     alloc: Global,
     image: &'a [u8],
