@@ -2,8 +2,8 @@
 use Rattle.std.proofs.Common.{◌≤◌, ◌-◌}
 use Rattle.brd_command.proofs.trace_command.Traced.play.Given as goal
 
-abbrev pub invariant-loop : goal.invariant-loop
-invariant-loop g l = l.tracer.playback.at ≤ l.to
+abbrev pub invariant-loop-tracer : goal.invariant-loop-tracer
+invariant-loop-tracer g l = l.tracer.playback.at ≤ l.to
 
-abbrev pub decreases-loop : goal.decreases-loop
-decreases-loop g l = l.to - l.tracer.playback.at
+abbrev pub decreases-loop-tracer : goal.decreases-loop-tracer
+decreases-loop-tracer g l = l.to - l.tracer.playback.at

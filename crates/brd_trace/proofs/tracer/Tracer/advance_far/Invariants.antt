@@ -5,12 +5,12 @@ use Rattle.brd_board.specs.Board.{BoardState}
 use Rattle.brd_trace.specs.Playing.{IsPlayed}
 use Rattle.brd_trace.proofs.tracer.Tracer.advance_far.Given as goal
 
-abbrev pub invariant-loop : goal.invariant-loop
-invariant-loop l = record {
+abbrev pub invariant-loop-self : goal.invariant-loop-self
+invariant-loop-self l = record {
   on : l.self.playback.at ≤ l.to;
   above : l.fn.self.playback.at ≤ l.self.playback.at;
   played : (boot : BoardState) → IsPlayed boot l.journal.events l.fn.self.playback → IsPlayed boot l.journal.events l.self.playback;
 }
 
-abbrev pub decreases-loop : goal.decreases-loop
-decreases-loop l = l.to - l.self.playback.at
+abbrev pub decreases-loop-self : goal.decreases-loop-self
+decreases-loop-self l = l.to - l.self.playback.at
