@@ -111,6 +111,14 @@ pub fn code_at(first: u32, seed: u32, closed: bool) -> Code {
     code
 }
 
+/// A row of a table, or ADDIU past its end. (It is a function of its own, so that no proof looks into the table.)
+fn row_at(rows: &[Row], at: u32) -> Row {
+    match rows.get(at as usize) {
+        Some(row) => *row,
+        None => ("addiu", ADDIU, Form::Immediate),
+    }
+}
+
 impl Code {
     fn put(&mut self, word: u32) {
         if self.len < LENGTH {
@@ -253,10 +261,10 @@ impl Code {
 
     /// A row of the table. Those that are rare are mostly drawn again.
     fn row(&mut self) -> Row {
-        let row = ROWS[self.random.below(COUNT) as usize];
+        let row = row_at(ROWS, self.random.below(COUNT));
         let (_, _, form) = row;
         if form.is_rare() && !self.random.once_in(8) {
-            return ROWS[self.random.below(COUNT) as usize];
+            return row_at(ROWS, self.random.below(COUNT));
         }
         row
     }

@@ -62,7 +62,7 @@ impl Seen {
     /// Prints the instructions that weren't done so, and whether at least a third of the events ran an instruction.
     pub fn print(&self, rt: &impl Print) -> anyhow::Result<()> {
         for (name, word, form) in ROWS {
-            if !self.has(word, form) {
+            if !self.has(*word, *form) {
                 println!(rt; "not done both outside a slot and in one: {name}")?;
             }
         }

@@ -50,7 +50,7 @@ pub type Row = (&'static str, u32, Form);
 pub const COUNT: u32 = 91;
 
 /// The instructions.
-pub const ROWS: [Row; 91] = [
+pub const ROWS: &[Row] = &[
     ("sll", 0x0000_0000, Form::Shift),
     ("srl", 0x0000_0002, Form::Shift),
     ("sra", 0x0000_0003, Form::Shift),
