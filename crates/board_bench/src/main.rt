@@ -1,9 +1,9 @@
 //! How fast the board runs: `board_bench EVENTS` does so many events of two small loops on a board of words, of the
 //! first of them on a booted board of two processors and four tasks, on one processor and on both in turn, of a loop
-//! that touches only registers, step by step and by leases, of tasks that call the kernel, of ticks, of long ready
-//! lists, of loops by `Board::repeat`, and of two processors that take turns by it; it prints millions of events a
-//! second, beside a bare loop of about the same work. With a number behind EVENTS it does that work alone, counted
-//! from 0. Without EVENTS it does 16,000 events of each and prints how often the loops were gone through.
+//! that touches only registers, step by step and by leases, of tasks that call the kernel, of ticks, and of long ready
+//! lists; it prints millions of events a second, beside a bare loop of about the same work. With a number behind EVENTS
+//! it does that work alone, counted from 0. Without EVENTS it does 16,000 events of each and prints how often the loops
+//! were gone through.
 #![tactic(auto)]
 
 use brd_board::{Board, BootFault, Event, Report};
@@ -51,42 +51,6 @@ const LOCAL: [u32; 8] = [
     0x1520_fffb, // bne $t1, $0, -5: to the addiu
     0x0149_5825, // or $t3, $t2, $t1, in the slot
     0x1000_fff9, // beq $0, $0, -7: to the addiu
-    0x0000_0000, // sll $0, $0, 0
-];
-
-/// A loop of eight instructions that loads a word and stores another.
-const MEMORY: [u32; 10] = [
-    0x3c04_8000, // lui $a0, 0x8000
-    0x3484_0100, // ori $a0, $a0, 0x100
-    0x8c88_0000, // lw $t0, 0($a0)
-    0x2508_0003, // addiu $t0, $t0, 3
-    0xac88_0004, // sw $t0, 4($a0)
-    0x0109_5026, // xor $t2, $t0, $t1
-    0x0148_5821, // addu $t3, $t2, $t0
-    0x2529_0001, // addiu $t1, $t1, 1
-    0x1520_fff9, // bne $t1, $0, -7: to the lw
-    0x0000_0000, // sll $0, $0, 0
-];
-
-/// A loop of four instructions with a store in the slot.
-const SLOTS: [u32; 6] = [
-    0x3c04_8000, // lui $a0, 0x8000
-    0x3484_0100, // ori $a0, $a0, 0x100
-    0x2529_0001, // addiu $t1, $t1, 1
-    0x0109_4021, // addu $t0, $t0, $t1
-    0x1520_fffd, // bne $t1, $0, -3: to the addiu
-    0xac88_0000, // sw $t0, 0($a0), in the slot
-];
-
-/// A loop of seven instructions of which three change another one each time.
-const REWRITES: [u32; 8] = [
-    0x3c04_8000, // lui $a0, 0x8000
-    0x8c88_0010, // lw $t0, 16($a0)
-    0x3908_0001, // xori $t0, $t0, 1
-    0xac88_0010, // sw $t0, 16($a0)
-    0x254a_0002, // addiu $t2, $t2, 2: or 3
-    0x2529_0001, // addiu $t1, $t1, 1
-    0x1520_fffa, // bne $t1, $0, -6: to the lw
     0x0000_0000, // sll $0, $0, 0
 ];
 
@@ -230,10 +194,6 @@ enum Deed {
     Leases,
     /// A tick passes, after so many steps of processor 1.
     Ticks(u64),
-    /// Processor 1 does all its steps by one `repeat`.
-    Repeat,
-    /// Two processors take turns, each of so many steps by one `repeat`.
-    Turns(u32),
 }
 
 /// What is done on which board.
@@ -245,7 +205,7 @@ struct Work {
     deed: Deed,
 }
 
-const WORKS: [Work; 24] = [
+const WORKS: [Work; 14] = [
     Work {
         name: "plain loop",
         words: &PLAIN,
@@ -329,66 +289,6 @@ const WORKS: [Work; 24] = [
         words: &CHANGES,
         setting: Setting::Led,
         deed: Deed::Steps(1),
-    },
-    Work {
-        name: "plain loop, by one repeat",
-        words: &PLAIN,
-        setting: Setting::Words,
-        deed: Deed::Repeat,
-    },
-    Work {
-        name: "wide loop, by one repeat",
-        words: &WIDE,
-        setting: Setting::Words,
-        deed: Deed::Repeat,
-    },
-    Work {
-        name: "local loop, by one repeat",
-        words: &LOCAL,
-        setting: Setting::Words,
-        deed: Deed::Repeat,
-    },
-    Work {
-        name: "memory loop, by one repeat",
-        words: &MEMORY,
-        setting: Setting::Words,
-        deed: Deed::Repeat,
-    },
-    Work {
-        name: "loop with a store in the slot, by one repeat",
-        words: &SLOTS,
-        setting: Setting::Words,
-        deed: Deed::Repeat,
-    },
-    Work {
-        name: "loop that changes itself, by one repeat",
-        words: &REWRITES,
-        setting: Setting::Words,
-        deed: Deed::Repeat,
-    },
-    Work {
-        name: "plain loop, on two processors in turns of 1 step",
-        words: &PLAIN,
-        setting: Setting::Text(TASKS),
-        deed: Deed::Turns(1),
-    },
-    Work {
-        name: "plain loop, on two processors in turns of 2 steps",
-        words: &PLAIN,
-        setting: Setting::Text(TASKS),
-        deed: Deed::Turns(2),
-    },
-    Work {
-        name: "plain loop, on two processors in turns of 8 steps",
-        words: &PLAIN,
-        setting: Setting::Text(TASKS),
-        deed: Deed::Turns(8),
-    },
-    Work {
-        name: "plain loop, on two processors in turns of 64 steps",
-        words: &PLAIN,
-        setting: Setting::Text(TASKS),
-        deed: Deed::Turns(64),
     },
 ];
 
@@ -494,14 +394,7 @@ fn count_turns_on(rt: &HostRuntime, board: &mut Board, work: Work) -> anyhow::Re
     let name = work.name;
     let ran = run(board, work.deed, 16_000);
     let (count, now) = (count_of(board), board.now());
-    match ran {
-        Some(ran) => {
-            println!(rt;
-                "{name}: {ran} of 16000 events ran an instruction, {count} turns, {now} ticks"
-            )?;
-        }
-        None => println!(rt; "{name}: {count} turns, {now} ticks")?,
-    }
+    println!(rt; "{name}: {ran} of 16000 events ran an instruction, {count} turns, {now} ticks")?;
     Ok(())
 }
 
@@ -542,20 +435,12 @@ fn prepare(board: &mut Board, deed: Deed) {
     }
 }
 
-/// Does so many events, and counts those that ran an instruction, where each is reported.
-fn run(board: &mut Board, deed: Deed, events: u64) -> Option<u64> {
+/// Does so many events, and counts those that ran an instruction.
+fn run(board: &mut Board, deed: Deed, events: u64) -> u64 {
     match deed {
-        Deed::Steps(processors) => Some(run_steps(board, processors, events)),
-        Deed::Leases => Some(run_leases(board, events / 64)),
-        Deed::Ticks(_) => Some(run_ticks(board, events)),
-        Deed::Repeat => {
-            board.repeat(Event::Step(1), u32::try_from(events).unwrap_or(u32::MAX));
-            None
-        }
-        Deed::Turns(steps) => {
-            run_turns(board, steps, events);
-            None
-        }
+        Deed::Steps(processors) => run_steps(board, processors, events),
+        Deed::Leases => run_leases(board, events / 64),
+        Deed::Ticks(_) => run_ticks(board, events),
     }
 }
 
@@ -600,16 +485,6 @@ fn run_ticks(board: &mut Board, events: u64) -> u64 {
         let _ = board.event(Event::Tick);
     }
     0
-}
-
-/// Lets two processors take turns of so many steps, until there are about so many events.
-#[inline(never)]
-fn run_turns(board: &mut Board, steps: u32, events: u64) {
-    let both = u64::from(steps).saturating_mul(2).max(1);
-    for _ in 0..events / both {
-        board.repeat(Event::Step(1), steps);
-        board.repeat(Event::Step(2), steps);
-    }
 }
 
 /// How often processor 1 went through the loop.
