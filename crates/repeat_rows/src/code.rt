@@ -214,7 +214,7 @@ impl Code {
         self.put(0);
     }
 
-    /// The next instruction or the next few. `in_slot`: it is behind a branch or a jump. Answers whether it is one.
+    /// The next instruction or the next few. `in_slot`: it is after a branch or a jump. Answers whether it is one.
     fn put_some(&mut self, in_slot: bool) -> bool {
         match self.random.below(48) {
             0..=3 => self.put_copy(),
@@ -248,7 +248,7 @@ impl Code {
         self.put(with_low(SB, register, CODE_BASE, place));
     }
 
-    /// Any instruction. Behind a branch or a jump another one is seldom. Answers whether it is one.
+    /// Any instruction. After a branch or a jump another one is seldom. Answers whether it is one.
     fn put_any(&mut self, in_slot: bool) -> bool {
         let (_, mut word, mut form) = self.row();
         if in_slot && form.has_slot() && !self.random.once_in(16) {

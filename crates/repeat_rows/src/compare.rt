@@ -14,7 +14,7 @@ pub const TURNS: u32 = 48;
 /// How many steps a turn may have.
 const STEPS: [u32; 12] = [0, 1, 1, 2, 3, 4, 5, 8, 17, 64, 65, 200];
 
-/// The first count after which a board that is as `boot` at first differs from one that did so many single steps.
+/// The first count after which a board that is as `boot` at first differs from one that did n single steps.
 pub fn first_other_count(boot: &Board, seen: &mut Seen) -> Result<Option<u32>, NoMemory> {
     let mut single = boot.try_copy()?;
     first_other_count_on(boot, &mut single, seen)
@@ -34,7 +34,7 @@ fn first_other_count_on(
     Ok(None)
 }
 
-/// Whether a copy that repeats a step of processor 1 so many times is as another board.
+/// Whether a copy that repeats a step of processor 1 n times is as another board.
 fn agrees(boot: &Board, single: &Board, count: u32) -> Result<bool, NoMemory> {
     let mut many = boot.try_copy()?;
     many.repeat(Event::Step(1), count);
@@ -81,7 +81,7 @@ fn turn_of(random: &mut Random) -> (Event, u32) {
     (event, STEPS[random.below(12) as usize])
 }
 
-/// Does one event so many times, one by one.
+/// Does one event n times, one by one.
 fn do_singly(board: &mut Board, event: Event, count: u32, seen: &mut Seen) {
     for _ in 0..count {
         seen.event(board, event);

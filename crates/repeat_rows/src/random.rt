@@ -34,7 +34,7 @@ impl Random {
         (self.word() >> 8) % limit
     }
 
-    /// True once in so many times.
+    /// True once in n times.
     pub fn once_in(&mut self, times: u32) -> bool
         requires { 0 < times }
     {
