@@ -138,7 +138,14 @@ mistake "a stack that overflows, unseen" 0 "ok: firmware.journal" firmware.c "$o
 mistake "a stack that overflows" 2 '*' firmware.c "$overflow" test STACK_CHECK=1
 verdict "kit: the stack that overflowed" "$(
     grep -qE '^\+the stack of task 1 \(processor 1\) has no room for the function at 80[0-9a-f]{6}$' "$work/said" &&
+        grep -qE '^task 1 .*, at board_overflow\+0x[0-9a-f]+ \(80[0-9a-f]{6}\)$' "$work/said" &&
         grep -qE '^80[0-9a-f]{6} is greet firmware.c:[0-9]+$' "$work/said" || cat "$work/said")"
+# The summary of the trace names the function, its line and the cause.
+mistake "a store outside RAM" 2 '*' firmware.c 's/ER answer = wai_sem/*(volatile INT *)16 = i; &/' test OPTIMIZE=-O0
+verdict "kit: the store outside RAM" "$(
+    cause='last exception at event [0-9]+, of task 1 at greet\+0x[0-9a-f]+ \(80[0-9a-f]{6}\): DBE: store to 00000010, outside RAM'
+    grep -qE "^  $cause\$" "$work/said" &&
+        grep -qE '^80[0-9a-f]{6} is greet firmware.c:1[0-9]$' "$work/said" || cat "$work/said")"
 mistake "a handler's stack that overflows" 2 "cpu 1 stopped" ids.h '' test STACK_CHECK=1 HANDLER_STACK=16
 mistake "a large stack" 0 "ok: firmware.journal" firmware.cfg 's/1024/40000/' test STACK_CHECK=1
 mistake "an assertion in a task" 2 "+firmware.c:16: this doesn't hold: i < 2 (task 1, processor 1)" \
