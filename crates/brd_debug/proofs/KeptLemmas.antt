@@ -13,9 +13,6 @@ use Rattle.brd_board.proofs.FormLemmas.{size-after, order-after}
 use Rattle.brd_debug.specs.declared.playback.Playback.{Playback}
 use Rattle.brd_debug.specs.Kept.{IsPlayed, AreKept, DoFit, SnapshotsState, plan_of, last_of, noted}
 
-pub kept-fit : (boot : BoardState) (events : List Event) (kept : List Kept) → AreKept boot events kept → DoFit boot kept
-kept-fit boot events kept are k d within = (are k d within).fits
-
 pub size-played : (boot : BoardState) (events : List Event) (p : Playback) → IsPlayed boot events p → size_of p.board.memory ≡ size_of boot.memory
 size-played boot events p is = ap (λ (b : BoardState). size_of b.memory) is.board ∙ size-after boot (take p.at events)
 

@@ -116,9 +116,6 @@ left-at events at rest k left few =
     sym (left-event events (at + k) (record { event = rest.event; count = rest.count - k })
     (left-more events at rest.event rest.count k left (omega (arith, few))) (omega (arith, few)))
 
-pub none-left : (events : List Event) (at : ℕ) → length events ≤ at → None ≡ slice_get events at
-none-left events at past = sym (slice_get_past events at past)
-
 pub left-none : (events : List Event) (at : ℕ) (rest : Run) → rest.count ≡ 0 → IsLeft events at rest
 left-none events at rest none =
     let here : at + 0 ≡ at = omega arith in

@@ -153,11 +153,6 @@ unfolding kept_from
 kept_more order bytes texts at count symbols none =
     ap (λ (step : Result (List Symbol) ElfFault). step >>= λ more. kept_from order bytes texts (at + 16) count more) (skipped texts at (entry_at order (drop at bytes)) symbols none)
 
-null_kind : (order : Order) (rest : List ℕ) → word_at order (replicate 40 0 ++ rest) 4 ≡ 0
-unfolding word_at
-null_kind Big rest = refl
-null_kind Little rest = refl
-
 pub null_section : (order : Order) (rest : List ℕ) → half_at order (replicate 16 0 ++ rest) 14 ≡ 0
 unfolding half_at
 null_section Big rest = refl

@@ -13,6 +13,7 @@ use brd_base::BASE;
 use brd_exec::Context;
 use brd_link::Links;
 use brd_mem::Ram;
+use brd_word::{Order, bytes_of, word_of};
 
 /// Does steps of a processor's context, one after the other, as many as `count` at most, and answers how many it did.
 /// It ends early at whatever is unusual: an exception, a SYSCALL, LL, SC, a branch in a delay slot. That is left to do,
@@ -104,7 +105,8 @@ fn step(
     if index >= words {
         return false;
     }
-    let word = ram.fetch_at(4 * index);
+    let raw = ram.raw_at(4 * index);
+    let word = word_of(bytes_of(raw, Order::Little), ram.order());
     match entry_in(known, index, word) {
         Some(entry) => carry_out(entry, cpu, context, place, ram, links),
         None => false,

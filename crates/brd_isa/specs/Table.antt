@@ -40,29 +40,7 @@ StandsFor word (Insn.Prefetch hint base offset) = IType word 0x33 base hint offs
 
 -- the instructions for which the field sa says nothing
 abbrev pub IgnoresSa : Insn → Type 0
-IgnoresSa (Insn.Shift op rd rt sa) = ⊥
-IgnoresSa (Insn.ShiftVariable op rd rt rs) = ⊥
-IgnoresSa (Insn.ThreeRegisters op rd rs rt) = ⊥
-IgnoresSa (Insn.Multiply rd rs rt) = ⊥
 IgnoresSa (Insn.JumpRegister rs) = Unit {0}
 IgnoresSa (Insn.JumpLinkRegister rd rs) = Unit {0}
-IgnoresSa (Insn.Syscall code) = ⊥
-IgnoresSa (Insn.Break code) = ⊥
 IgnoresSa Insn.Sync = Unit {0}
-IgnoresSa (Insn.MoveFrom op rd) = ⊥
-IgnoresSa (Insn.MoveTo op rs) = ⊥
-IgnoresSa (Insn.Product op rs rt) = ⊥
-IgnoresSa (Insn.Accumulate op rs rt) = ⊥
-IgnoresSa (Insn.Count op rd rs) = ⊥
-IgnoresSa (Insn.Trap op rs rt code) = ⊥
-IgnoresSa (Insn.TrapImmediate op rs immediate) = ⊥
-IgnoresSa (Insn.Jump op index) = ⊥
-IgnoresSa (Insn.Branch op rs rt offset) = ⊥
-IgnoresSa (Insn.BranchZero op rs offset) = ⊥
-IgnoresSa (Insn.BranchRegimm op rs offset) = ⊥
-IgnoresSa (Insn.WithImmediate op rt rs immediate) = ⊥
-IgnoresSa (Insn.LoadUpper rt immediate) = ⊥
-IgnoresSa (Insn.Load op rt base offset) = ⊥
-IgnoresSa (Insn.Store op rt base offset) = ⊥
-IgnoresSa (Insn.Linked op rt base offset) = ⊥
-IgnoresSa (Insn.Prefetch hint base offset) = ⊥
+IgnoresSa _ = ⊥

@@ -78,10 +78,6 @@ room_at (r ∷ []) e (suc i) h = absurd (omega arith)
 room_at (r ∷ s ∷ rs) e zero h = absurd (omega arith)
 room_at (r ∷ s ∷ rs) e (suc i) h = room_at (s ∷ rs) e i (omega arith)
 
-pub room_none : (rs : List Run) (e : Event) → None ≡ slice_get rs (length rs - 1) → 0 ≡ room_in rs e
-room_none [] e h = refl
-room_none (r ∷ rs) e h = absurd (none-some _ (h ∙ slice_get-get_or (r ∷ rs) (length (r ∷ rs) - 1) r (omega arith)))
-
 room_last : (rs : List Run) (e : Event) (r : Run) → Some r ≡ slice_get rs (length rs - 1) → room_in rs e ≡ cond (same_event r.event e) (most_count - r.count) 0
 unfolding room_of
 room_last rs e r h =

@@ -76,11 +76,3 @@ unfolding journal_of
 behind_first limit order text line rest behind lines more right =
     let some = some_line rest in
     rw (lines, more, some.2, right) refl
-
--- a text whose first line is none
-pub no_order : (limit : ℕ) (text line rest : List ℕ) (behind : Option (List ℕ)) → lines_of text ≡ line ∷ lines_behind behind → behind ≡ Some rest → order_of_line line ≡ None
-    → journal_of limit text ≡ Err (Syntax 1)
-unfolding journal_of
-no_order limit text line rest behind lines more none =
-    let some = some_line rest in
-    rw (lines, more, some.2, none) refl

@@ -42,10 +42,6 @@ pub known-small : (t : TaskTable) (running : Option ℕ) → IsConsistent t → 
 known-small t None was known = tt
 known-small t (Some id) was known = there-small t id was (sym (there-is t id) ∙ known)
 
-pub some-known : (t : TaskTable) (running : Option ℕ) → IfSome running (λ id. IsSome (task_at t id)) → is_task_or_none (are_there t) running ≡ true
-some-known t None there = refl
-some-known t (Some id) there = there-is t id ∙ there
-
 -- of a processor, where there is one
 
 pub some-run : (there : List Bool) (p : Option Processor) → is_task_or_none there (running_in p) ≡ true →

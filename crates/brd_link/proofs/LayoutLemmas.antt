@@ -186,13 +186,6 @@ layout-end addresses mask cpu is from to few = record {
   ];
 }
 
-pub layout-erased : (addresses : List ℕ) (mask : ℕ) (new : List ℕ) → length new ≡ 8 → mask < 2 ^ 8 → IsErased addresses mask new → IsLayout new mask
-layout-erased addresses mask new eight few erased = record {
-  eight = eight;
-  few = few;
-  unused = λ j lt clear. erased.address j lt ∙ rw clear refl;
-}
-
 AllFrom-before : (cpu : ℕ) (linked : Option ℕ) (rest : List Link) → cpu ≤ 8 → AllFrom (suc cpu) rest → AllFrom cpu (before cpu linked rest)
 AllFrom-before cpu None rest le is = later rest (suc cpu) cpu (omega arith) is
 AllFrom-before cpu (Some linked) rest le is = (le_refl cpu, le, is)

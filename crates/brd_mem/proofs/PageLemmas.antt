@@ -96,10 +96,3 @@ page-same order at p xs within =
     ap (λ bytes. with_bytes (memory_of_bytes order bytes) at (take p (drop at xs))) (sym (take-append-drop at xs))
     ∙ page-put order at p xs xs within
     ∙ ap (memory_of_bytes order) (take-append-drop (at + p) xs)
-
--- all of the one, and nothing of the other
-pub halves-all : (at : ℕ) (xs ys : List ℕ) → length xs ≡ length ys → at ≡ length xs → halves at xs ys ≡ xs
-halves-all at xs ys sizes whole =
-    ap (λ front. front ++ drop at ys) (take_all at xs (omega (arith, whole)))
-    ∙ ap (λ rest. xs ++ rest) (drop_all at ys (omega (arith, whole, sizes)))
-    ∙ append-nil xs

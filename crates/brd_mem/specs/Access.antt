@@ -1,6 +1,8 @@
 -- What a fetch, a load and a store do.
 use Rattle.std.specs.Prelude.{◌≡◌, ℕ, ◌-◌, ◌%◌, ◌==◌, if◌then◌else◌, Result, Ok, Err}
 use Rattle.brd_base.specs.Space.{base}
+use Rattle.brd_word.specs.declared.order.Order.{Order}
+use Rattle.brd_word.specs.Words.{bytes_of_word, word_of_bytes}
 use Rattle.brd_mem.specs.Memory.{Memory, size_of, contains, byte_from, put_byte, half_at, put_half, word_at, put_word}
 use Rattle.brd_mem.specs.declared.fault.Exc.{Exc}
 
@@ -19,6 +21,10 @@ at_place found (Err exc) = Err exc
 -- the instruction word at an address
 abbrev pub fetched : Memory → ℕ → Result ℕ Exc
 fetched memory address = at_place (word_at memory) (place_of memory address 4 Exc.AdEL Exc.IBE)
+
+-- the word of four bytes that make this number in the little-endian order, read in an order
+abbrev pub read_raw : Order → ℕ → ℕ
+read_raw order raw = word_of_bytes order (bytes_of_word Order.Little raw)
 
 -- the data byte, halfword and word at an address
 abbrev pub loaded8 : Memory → ℕ → Result ℕ Exc

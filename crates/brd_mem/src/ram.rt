@@ -7,6 +7,7 @@ ghost use Rattle.brd_mem.specs.Memory.{Memory, memory_of_bytes, size_of, zeros, 
 ghost use Rattle.brd_mem.specs.Access.{
   place_of,
   fetched,
+  read_raw,
   loaded8,
   loaded16,
   loaded32,
@@ -135,14 +136,15 @@ impl Ram {
         Ok(word_of(self.bytes_at(at), self.order))
     }
 
-    /// The instruction word at an aligned address in RAM, given by its place: how many bytes lie before it.
+    /// The four bytes of an instruction word at an aligned address in RAM, given by its place (how many bytes lie before
+    /// it), as one number: the little-endian word of them, in either order of RAM.
     #[inline(always)]
-    pub fn fetch_at(&self, at: usize) -> u32
+    pub fn raw_at(&self, at: usize) -> u32
         requires aligned { at % 4 ≡ 0 }
         requires inside { at + 4 ≤ size_of self.now }
-        ensures { fetched self.now (base + at) ≡ Ok result }
+        ensures { fetched self.now (base + at) ≡ Ok (read_raw self.now.order result) }
     {
-        word_of(self.bytes_at(at), self.order)
+        word_of(self.bytes_at(at), Order::Little)
     }
 
     /// The 64 words of the aligned 256 bytes round an address; None where these don't lie in RAM.

@@ -3,7 +3,7 @@ use Rattle.std.proofs.Common.{◌≡◌, ℕ, suc, ◌+◌, true, false, eqb, Li
 use Rattle.std.specs.Prelude.{Option, Some, None}
 use Rattle.std.specs.List.{prefix_len, list_all, AllByRecursion, join_with_byte}
 use Rattle.std.proofs.lemmas.Bool.{cases_Bool, not-true, and_parts, eqb-true}
-use Rattle.brd_text.specs.Lines.{in_front, lines_of, stays_on, lines_behind, line_at}
+use Rattle.brd_text.specs.Lines.{in_front, lines_of, stays_on, lines_behind}
 
 ends_line : (b : ℕ) → eqb b 10 ≡ true → stays_on b ≡ false
 unfolding stays_on
@@ -37,16 +37,6 @@ line_and_more bs line end behind n b len front back more = first_line bs ∙ rw 
 pub only_line : (bs line end : List ℕ) (n : ℕ) → n ≡ prefix_len stays_on bs → line ≡ take n bs → end ≡ drop n bs → length end ≡ 0 → lines_of bs ≡ line ∷ lines_behind None
 only_line bs line [] n len front back none = first_line bs ∙ rw (← len, ← back, ← front) refl
 only_line bs line (b ∷ bs') n len front back none = absurd (omega (arith, none))
-
--- the line of a number, by the first line and those after it
-pub line_further : (text line behind : List ℕ) (n : ℕ) → lines_of text ≡ line ∷ lines_behind (Some behind) → line_at behind (suc n) ≡ line_at text (suc (suc n))
-line_further text line behind n e = rw e refl
-
-pub line_beyond : (text line : List ℕ) (n : ℕ) → lines_of text ≡ line ∷ lines_behind None → line_at text (suc (suc n)) ≡ []
-line_beyond text line n e = rw e refl
-
-pub line_first : (text line : List ℕ) (behind : Option (List ℕ)) → lines_of text ≡ line ∷ lines_behind behind → line_at text 1 ≡ line
-line_first text line behind e = rw e refl
 
 -- ---- lines and the newlines between them
 

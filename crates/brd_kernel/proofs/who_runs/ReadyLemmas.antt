@@ -37,9 +37,6 @@ all-keep t was = record { orderly = was; ready = λ at cpu is. is }
 pub but-one : (t new : TaskTable) (id : ℕ) → KeepsReady t new → KeepsOthers t new id
 but-one t new id all = record { orderly = all.orderly; ready = λ at cpu other. all.ready at cpu }
 
-pub then-keep : (t between new : TaskTable) → KeepsReady t between → KeepsReady between new → KeepsReady t new
-then-keep t between new one other = record { orderly = other.orderly; ready = λ at cpu is. other.ready at cpu (one.ready at cpu is) }
-
 -- a table of which one row was written
 abbrev Wrote : TaskTable → TaskTable → ℕ → Task → Type 0
 Wrote t new id other = (at : ℕ) → task_at new at ≡ (if id == at then Some other else task_at t at)
