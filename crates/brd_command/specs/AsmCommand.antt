@@ -16,7 +16,7 @@ use Rattle.brd_command.specs.Input.{most_bytes}
 use Rattle.brd_command.specs.Output.{Writes, WritesFront}
 use Rattle.brd_command.specs.declared.fault.CommandFault.{CommandFault}
 use Rattle.brd_command.specs.declared.input_name.InputName.TheVariants as input_name
-use Rattle.brd_command.specs.declared.fault.CommandFault.TheVariants.{NoMemory, Argument, Words, Source, ImageTooLarge, Open, Read, TooLong, TooManyReads, Build, Journal, OtherOrder, Script, Race, Trace, Schedule, Write}
+use Rattle.brd_command.specs.declared.fault.CommandFault.TheVariants.{NoMemory, Source, ImageTooLarge, Read, TooLong, TooManyReads, Write}
 
 -- the object file of a source: the file of its image, which is read as that image again
 pub record IsObjectFile (source bytes : List ℕ) : Type 0 where
@@ -55,25 +55,16 @@ KeepsFromAssembling source _ = ⊥
 -- A source that was read whole is no longer than an input may be.
 abbrev pub RefusesSource : CommandFault → List ℕ → Option (List ℕ) → Option (List ℕ) → Type 0
 RefusesSource NoMemory source old new = Keeps old new
-RefusesSource Argument source old new = ⊥
-RefusesSource (Words fault) source old new = ⊥
 RefusesSource (Source fault excerpt kind) source old new =
     (length source ≤ most_bytes) × KeepsFromAssembling source (Source fault excerpt kind) × Keeps old new
 RefusesSource ImageTooLarge source old new =
     (length source ≤ most_bytes) × KeepsFromAssembling source ImageTooLarge × Keeps old new
-RefusesSource (Open name error) source old new = ⊥
 RefusesSource (Read input error) source old new =
     (input ≡ input_name.Source) × (error_kind error ≢ OutOfMemory) × Keeps old new
 RefusesSource (TooLong input) source old new = (input ≡ input_name.Source) × (most_bytes < length source) × Keeps old new
 RefusesSource (TooManyReads input) source old new = (input ≡ input_name.Source) × Keeps old new
-RefusesSource (Build fault kind) source old new = ⊥
-RefusesSource (Journal fault kind) source old new = ⊥
-RefusesSource (OtherOrder order) source old new = ⊥
-RefusesSource (Script fault kind) source old new = ⊥
-RefusesSource (Race fault) source old new = ⊥
-RefusesSource (Trace fault) source old new = ⊥
-RefusesSource (Schedule fault) source old new = ⊥
 RefusesSource (Write error) source old new = (length source ≤ most_bytes) × WritesFront (IsObjectFile source) old new
+RefusesSource _ source old new = ⊥
 
 -- how `asm` ends: the source's object file was written, or it was refused
 abbrev pub AsmEnds : Result Unit CommandFault → List ℕ → Option (List ℕ) → Option (List ℕ) → Type 0

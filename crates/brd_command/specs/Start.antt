@@ -15,7 +15,7 @@ use Rattle.brd_threads.specs.declared.fault.ScriptFault.TheVariants as script_fa
 use Rattle.brd_command.specs.FileKinds.{build_looks_like, journal_looks_like, script_looks_like}
 use Rattle.brd_command.specs.Input.{most_bytes}
 use Rattle.brd_command.specs.declared.fault.CommandFault.{CommandFault}
-use Rattle.brd_command.specs.declared.fault.CommandFault.TheVariants.{NoMemory, Argument, Words, Source, ImageTooLarge, Open, Read, TooLong, TooManyReads, Build, Journal, OtherOrder, Script, Race, Trace, Schedule, Write}
+use Rattle.brd_command.specs.declared.fault.CommandFault.TheVariants.{NoMemory, Read, TooLong, TooManyReads, Build, Journal, OtherOrder, Script}
 use Rattle.brd_command.specs.declared.input_name.InputName.{InputName}
 use Rattle.brd_command.specs.declared.input_name.InputName.TheVariants as input_name
 use Rattle.brd_command.specs.declared.start.Start.{Start}
@@ -64,12 +64,11 @@ KeepsFromMaking last image config text _ = ⊥
 
 -- the input of this name is one of the three, and those before it were read
 abbrev pub IsReached : InputName → List ℕ → List ℕ → InputName → Type 0
-IsReached last image config input_name.StandardInput = ⊥
-IsReached last image config input_name.Source = ⊥
 IsReached last image config input_name.Image = Unit {0}
 IsReached last image config input_name.Configuration = length image ≤ most_bytes
 IsReached last image config input_name.Journal = (last ≡ input_name.Journal) × (length image ≤ most_bytes) × (length config ≤ most_bytes)
 IsReached last image config input_name.Script = (last ≡ input_name.Script) × (length image ≤ most_bytes) × (length config ≤ most_bytes)
+IsReached last image config _ = ⊥
 
 -- how many bytes the input of this name has, of the three
 abbrev pub length_of : List ℕ → List ℕ → List ℕ → InputName → ℕ
@@ -85,11 +84,6 @@ IsTooLong last image config text input = IsReached last image config input × (m
 -- none.
 abbrev pub KeepsFromStarting : InputName → List ℕ → List ℕ → List ℕ → CommandFault → Type 0
 KeepsFromStarting last image config text NoMemory = Unit {0}
-KeepsFromStarting last image config text Argument = ⊥
-KeepsFromStarting last image config text (Words fault) = ⊥
-KeepsFromStarting last image config text (Source fault excerpt kind) = ⊥
-KeepsFromStarting last image config text ImageTooLarge = ⊥
-KeepsFromStarting last image config text (Open name error) = ⊥
 KeepsFromStarting last image config text (Read input error) = IsReached last image config input × (error_kind error ≢ OutOfMemory)
 KeepsFromStarting last image config text (TooLong input) = IsTooLong last image config text input
 KeepsFromStarting last image config text (TooManyReads input) = IsReached last image config input
@@ -97,7 +91,4 @@ KeepsFromStarting last image config text (Build fault kind) = AreWithin image co
 KeepsFromStarting last image config text (Journal fault kind) = AreWithin image config text × KeepsFromMaking last image config text (Journal fault kind)
 KeepsFromStarting last image config text (OtherOrder order) = AreWithin image config text × KeepsFromMaking last image config text (OtherOrder order)
 KeepsFromStarting last image config text (Script fault kind) = AreWithin image config text × KeepsFromMaking last image config text (Script fault kind)
-KeepsFromStarting last image config text (Race fault) = ⊥
-KeepsFromStarting last image config text (Trace fault) = ⊥
-KeepsFromStarting last image config text (Schedule fault) = ⊥
-KeepsFromStarting last image config text (Write error) = ⊥
+KeepsFromStarting last image config text _ = ⊥

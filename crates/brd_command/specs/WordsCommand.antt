@@ -13,7 +13,7 @@ use Rattle.brd_command.specs.WordText.{words_of_text}
 use Rattle.brd_command.specs.declared.word_text.WordsFault.TheVariants as words_fault
 use Rattle.brd_command.specs.declared.fault.CommandFault.{CommandFault}
 use Rattle.brd_command.specs.declared.input_name.InputName.TheVariants.{StandardInput}
-use Rattle.brd_command.specs.declared.fault.CommandFault.TheVariants.{NoMemory, Argument, Words, Source, ImageTooLarge, Open, Read, TooLong, TooManyReads, Build, Journal, OtherOrder, Script, Race, Trace, Schedule, Write}
+use Rattle.brd_command.specs.declared.fault.CommandFault.TheVariants.{NoMemory, Words, Read, TooLong, TooManyReads, Write}
 
 -- the bytes that show the board of these words after n steps of processor 1
 pub record ShowsWords (words : List ℕ) (steps : ℕ) (bytes : List ℕ) : Type 0 where
@@ -31,23 +31,13 @@ pub record ShowsText (text : List ℕ) (steps : ℕ) (bytes : List ℕ) : Type 0
 -- output was written. An input that was read whole is no longer than an input may be.
 abbrev pub RefusesWords : CommandFault → List ℕ → ℕ → Option (List ℕ) → Option (List ℕ) → Type 0
 RefusesWords NoMemory input steps old new = Keeps old new
-RefusesWords Argument input steps old new = ⊥
 RefusesWords (Words fault) input steps old new =
     (length input ≤ most_bytes) × (words_of_text input ≡ Err fault) × (fault ≢ words_fault.NoMemory) × Keeps old new
-RefusesWords (Source fault excerpt kind) input steps old new = ⊥
-RefusesWords ImageTooLarge input steps old new = ⊥
-RefusesWords (Open name error) input steps old new = ⊥
 RefusesWords (Read from error) input steps old new = (from ≡ StandardInput) × (error_kind error ≢ OutOfMemory) × Keeps old new
 RefusesWords (TooLong from) input steps old new = (from ≡ StandardInput) × (most_bytes < length input) × Keeps old new
 RefusesWords (TooManyReads from) input steps old new = (from ≡ StandardInput) × Keeps old new
-RefusesWords (Build fault kind) input steps old new = ⊥
-RefusesWords (Journal fault kind) input steps old new = ⊥
-RefusesWords (OtherOrder order) input steps old new = ⊥
-RefusesWords (Script fault kind) input steps old new = ⊥
-RefusesWords (Race fault) input steps old new = ⊥
-RefusesWords (Trace fault) input steps old new = ⊥
-RefusesWords (Schedule fault) input steps old new = ⊥
 RefusesWords (Write error) input steps old new = (length input ≤ most_bytes) × WritesFront (ShowsText input steps) old new
+RefusesWords _ input steps old new = ⊥
 
 -- how `words` ends: the board of the input was written, or it was refused
 abbrev pub WordsEnds : Result Unit CommandFault → List ℕ → ℕ → Option (List ℕ) → Option (List ℕ) → Type 0

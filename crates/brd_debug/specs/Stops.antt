@@ -13,18 +13,11 @@ abbrev pub IsBreak : List ℕ → Report → Type 0
 IsBreak breaks (report.Ran address) = Contains breaks address
 IsBreak breaks (report.Called address) = Contains breaks address
 IsBreak breaks (report.Faulted address) = Contains breaks address
-IsBreak breaks (report.Accepted line) = ⊥
-IsBreak breaks report.Idle = ⊥
-IsBreak breaks report.Stopped = ⊥
-IsBreak breaks report.NoSuch = ⊥
-IsBreak breaks report.Ticked = ⊥
-IsBreak breaks report.TimeOver = ⊥
-IsBreak breaks report.Raised = ⊥
-IsBreak breaks report.Off = ⊥
+IsBreak breaks _ = ⊥
 
 -- A watched byte differs between two memories.
 abbrev pub Differs : List ℕ → Memory → Memory → Type 0
-Differs watches before behind = (address : ℕ) × Contains watches address × (byte_at before address ≢ byte_at behind address)
+Differs watches old new = (address : ℕ) × Contains watches address × (byte_at old address ≢ byte_at new address)
 
 -- an event, as it happens to a board, is one at which a debugger stops
 abbrev pub StopsAt : Stops → BoardState → Event → Type 0

@@ -75,6 +75,4 @@ pub record IsObjectFile (source elf : List ℕ) : Type 0 where
 abbrev pub KeepsFromAssembling : List ℕ → BuildFault → Type 0
 KeepsFromAssembling source NoMemory = Unit {0}
 KeepsFromAssembling source (Asm fault) = program_of source ≡ Err fault
-KeepsFromAssembling source (Elf fault) = ⊥
-KeepsFromAssembling source (Config fault) = ⊥
-KeepsFromAssembling source (Boot fault) = ⊥
+KeepsFromAssembling source _ = ⊥
