@@ -16,12 +16,6 @@ use brd_asm::{AsmFault, assemble};
 use std::alloc::Global;
 use std::io::{Read, Write};
 
-/// The mark of extended numbering, which no count of segments may reach.
-const EXTENDED: usize = 0xffff;
-
-/// The greatest length of an object file, whose offsets are words.
-const MOST_BYTES: usize = 0xffff_ffff;
-
 /// Reads assembler source to its end and writes the object file of its image. Nothing is written before a fault of the
 /// source is known.
 pub fn asm<R: Read, W: Write>(
@@ -46,7 +40,7 @@ pub fn asm<R: Read, W: Write>(
     }
 }
 
-/// The object file of a source.
+/// The object file of a source. An image that no file can hold is refused before its file is made.
 fn object_file(alloc: Global, source: &[u8]) -> Result<Vec<u8>, CommandFault>
     ensures { MatchResult result (λ file. IsObjectFile source.now file.items) (KeepsFromAssembling source.now) }
 {
@@ -59,14 +53,10 @@ fn object_file(alloc: Global, source: &[u8]) -> Result<Vec<u8>, CommandFault>
             return Err(CommandFault::Source(fault, excerpt, clue));
         }
     };
-    if image.segments.len() >= EXTENDED {
+    if !brd_elf::fits(&image) {
         return Err(CommandFault::ImageTooLarge);
     }
-    let file = brd_elf::write(alloc, &image)?;
-    if file.len() > MOST_BYTES {
-        return Err(CommandFault::ImageTooLarge);
-    }
-    Ok(file)
+    Ok(brd_elf::write(alloc, &image)?)
 }
 
 /// The line that a fault is in, counted from 1.
