@@ -1,7 +1,7 @@
 -- What the files of a command give it, and how `asm`, `run`, `race`, `debug` and `trace` end on them. `opened` and
 -- `created` say what a call on files did: the files before, a name, what the call gave, and the files after; `closed`
 -- says what letting a written file go did. `remaining` says what a file has left to read, `contents` what a file holds
--- that is written; `before` and `behind` are what standard output held before and after the command.
+-- that is written; `before` and `after` are what standard output held before and after the command.
 use Rattle.std.specs.Prelude.{◌≡◌, ℕ, List, Option, IfSome, Result, Ok, Err, IsErrAnd}
 use Rattle.std.specs.declared.io.Error.{Error}
 use Rattle.brd_command.specs.AsmCommand.{AsmEnds}
@@ -52,13 +52,13 @@ pub data OpensInputs {F R : Type 0} (opened : F → List ℕ → Result R Error 
 -- The report is written only where all three files were opened; else nothing was written.
 pub data RunFilesEnd {F R : Type 0}
     (opened : F → List ℕ → Result R Error → F → Type 0) (remaining : R → Option (List ℕ))
-    (old : F) (image config journal : List ℕ) (before behind : Option (List ℕ)) (result : Result Unit CommandFault) (new : F) : Type 0 where
-  not_opened : {fault : CommandFault} → OpensInputs opened old image config journal (Err fault) new → result ≡ Err fault → before ≡ behind →
-      RunFilesEnd opened remaining old image config journal before behind result new
+    (old : F) (image config journal : List ℕ) (before after : Option (List ℕ)) (result : Result Unit CommandFault) (new : F) : Type 0 where
+  not_opened : {fault : CommandFault} → OpensInputs opened old image config journal (Err fault) new → result ≡ Err fault → before ≡ after →
+      RunFilesEnd opened remaining old image config journal before after result new
   ended : {inputs : Inputs R} → OpensInputs opened old image config journal (Ok inputs) new →
       IfSome (remaining inputs.image) (λ file. IfSome (remaining inputs.config) (λ statements. IfSome (remaining inputs.last) (λ events.
-      RunEnds result file statements events before behind))) →
-      RunFilesEnd opened remaining old image config journal before behind result new
+      RunEnds result file statements events before after))) →
+      RunFilesEnd opened remaining old image config journal before after result new
 
 -- OUT is created only where all three files were opened; what `race` writes is written only where it was created too,
 -- and then OUT is let go as `race` left it. The fault of OUT has its name; unless all four were opened, nothing is
@@ -66,41 +66,41 @@ pub data RunFilesEnd {F R : Type 0}
 pub data RaceFilesEnd {F R W : Type 0}
     (opened : F → List ℕ → Result R Error → F → Type 0) (created : F → List ℕ → Result W Error → F → Type 0)
     (closed : F → W → F → Type 0) (remaining : R → Option (List ℕ)) (contents : W → Option (List ℕ))
-    (old : F) (image config script : List ℕ) (quota : ℕ) (out : List ℕ) (before behind : Option (List ℕ))
+    (old : F) (image config script : List ℕ) (quota : ℕ) (out : List ℕ) (before after : Option (List ℕ))
     (result : Result Unit CommandFault) (new : F) : Type 0 where
-  not_opened : {fault : CommandFault} → OpensInputs opened old image config script (Err fault) new → result ≡ Err fault → before ≡ behind →
-      RaceFilesEnd opened created closed remaining contents old image config script quota out before behind result new
+  not_opened : {fault : CommandFault} → OpensInputs opened old image config script (Err fault) new → result ≡ Err fault → before ≡ after →
+      RaceFilesEnd opened created closed remaining contents old image config script quota out before after result new
   not_created : {all : F} {inputs : Inputs R} {error : Error} → OpensInputs opened old image config script (Ok inputs) all →
-      created all out (Err error) new → IsErrAnd result (IsOfOpen out error) → before ≡ behind →
-      RaceFilesEnd opened created closed remaining contents old image config script quota out before behind result new
+      created all out (Err error) new → IsErrAnd result (IsOfOpen out error) → before ≡ after →
+      RaceFilesEnd opened created closed remaining contents old image config script quota out before after result new
   ended : {all both : F} {inputs : Inputs R} {writer last : W} → OpensInputs opened old image config script (Ok inputs) all →
       created all out (Ok writer) both → closed both last new →
       IfSome (remaining inputs.image) (λ file. IfSome (remaining inputs.config) (λ statements. IfSome (remaining inputs.last) (λ text.
-      RaceEnds result quota file statements text (contents writer) (contents last) before behind))) →
-      RaceFilesEnd opened created closed remaining contents old image config script quota out before behind result new
+      RaceEnds result quota file statements text (contents writer) (contents last) before after))) →
+      RaceFilesEnd opened created closed remaining contents old image config script quota out before after result new
 
 -- Standard input, which had `input_first` in it and has `input` left, is read, and answers are written, only where all
 -- three files were opened; else neither was.
 pub data DebugFilesEnd {F R C : Type 0}
     (opened : F → List ℕ → Result R Error → F → Type 0) (remaining : R → Option (List ℕ)) (unread : C → Option (List ℕ))
-    (old : F) (image config journal : List ℕ) (input_first input : C) (before behind : Option (List ℕ))
+    (old : F) (image config journal : List ℕ) (input_first input : C) (before after : Option (List ℕ))
     (result : Result Unit CommandFault) (new : F) : Type 0 where
-  not_opened : {fault : CommandFault} → OpensInputs opened old image config journal (Err fault) new → result ≡ Err fault → before ≡ behind →
+  not_opened : {fault : CommandFault} → OpensInputs opened old image config journal (Err fault) new → result ≡ Err fault → before ≡ after →
       input ≡ input_first →
-      DebugFilesEnd opened remaining unread old image config journal input_first input before behind result new
+      DebugFilesEnd opened remaining unread old image config journal input_first input before after result new
   ended : {inputs : Inputs R} → OpensInputs opened old image config journal (Ok inputs) new →
       IfSome (remaining inputs.image) (λ file. IfSome (remaining inputs.config) (λ statements. IfSome (remaining inputs.last) (λ events.
-      DebugEnds unread file statements events input_first input result before behind))) →
-      DebugFilesEnd opened remaining unread old image config journal input_first input before behind result new
+      DebugEnds unread file statements events input_first input result before after))) →
+      DebugFilesEnd opened remaining unread old image config journal input_first input before after result new
 
 -- The trace is written only where all three files were opened; else nothing was written.
 pub data TraceFilesEnd {F R : Type 0}
     (opened : F → List ℕ → Result R Error → F → Type 0) (remaining : R → Option (List ℕ))
-    (old : F) (image config journal : List ℕ) (options : TraceOptions) (before behind : Option (List ℕ))
+    (old : F) (image config journal : List ℕ) (options : TraceOptions) (before after : Option (List ℕ))
     (result : Result Unit CommandFault) (new : F) : Type 0 where
-  not_opened : {fault : CommandFault} → OpensInputs opened old image config journal (Err fault) new → result ≡ Err fault → before ≡ behind →
-      TraceFilesEnd opened remaining old image config journal options before behind result new
+  not_opened : {fault : CommandFault} → OpensInputs opened old image config journal (Err fault) new → result ≡ Err fault → before ≡ after →
+      TraceFilesEnd opened remaining old image config journal options before after result new
   ended : {inputs : Inputs R} → OpensInputs opened old image config journal (Ok inputs) new →
       IfSome (remaining inputs.image) (λ file. IfSome (remaining inputs.config) (λ statements. IfSome (remaining inputs.last) (λ events.
-      TraceEnds result options file statements events before behind))) →
-      TraceFilesEnd opened remaining old image config journal options before behind result new
+      TraceEnds result options file statements events before after))) →
+      TraceFilesEnd opened remaining old image config journal options before after result new

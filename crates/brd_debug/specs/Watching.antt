@@ -9,4 +9,4 @@ AreBytesAt addresses memory bytes =
 
 -- unless they may differ, nothing is watched, or two memories are the same
 abbrev pub IsSameUnless : Bool → List ℕ → Memory → Memory → Type 0
-IsSameUnless may_differ addresses before behind = may_differ ≡ false → (addresses ≡ []) ⊎ (behind ≡ before)
+IsSameUnless may_differ addresses old new = may_differ ≡ false → (addresses ≡ []) ⊎ (new ≡ old)

@@ -256,7 +256,7 @@ fn ends_by_a_write(
     writer.fails_at = taken.saturating_add(1);
     writer.kind = kind;
     let ended = tested.run(alloc, &mut reader, &mut writer);
-    is_unwritten(alloc, &ended, kind) && writer.has_failed_behind(output, taken)
+    is_unwritten(alloc, &ended, kind) && writer.has_failed_after(output, taken)
 }
 
 /// Whether a command writes its output a byte a write, and flushes it.

@@ -104,7 +104,7 @@ impl Taking {
     }
 
     /// Whether a write failed after n bytes of an output, and was the last one.
-    pub fn has_failed_behind(&self, output: &[u8], count: usize) -> bool {
+    pub fn has_failed_after(&self, output: &[u8], count: usize) -> bool {
         self.writes == self.fails_at
             && self.taken.len() == count
             && output.starts_with(self.taken.as_slice())

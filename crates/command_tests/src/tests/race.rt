@@ -199,7 +199,7 @@ fn ends_in_the_journal<R: Threads + Wait + Sync>(
     outputs.journal.fails_at = taken.saturating_add(1);
     let ended = race_failing(rt, alloc, [image, CONFIG, SCRIPT], 0, 0, &mut outputs);
     is_fault(alloc, &ended, UNWRITTEN, 4)
-        && outputs.journal.has_failed_behind(JOURNAL, taken)
+        && outputs.journal.has_failed_after(JOURNAL, taken)
         && outputs.report.writes == 0
 }
 
@@ -214,7 +214,7 @@ fn ends_in_the_report<R: Threads + Wait + Sync>(
     outputs.report.fails_at = taken.saturating_add(1);
     let ended = race_failing(rt, alloc, [image, CONFIG, SCRIPT], 0, 0, &mut outputs);
     is_fault(alloc, &ended, UNWRITTEN, 4)
-        && outputs.report.has_failed_behind(REPORT, taken)
+        && outputs.report.has_failed_after(REPORT, taken)
         && outputs.journal.has_flushed(JOURNAL)
 }
 

@@ -168,7 +168,7 @@ fn ends_by_a_write(alloc: Global, image: &[u8], taken: usize) -> bool {
     let mut writer = Taking::new(alloc);
     writer.fails_at = taken.saturating_add(1);
     let ended = run_failing(alloc, [image, CONFIG, JOURNAL], 0, 0, &mut writer);
-    is_fault(alloc, &ended, UNWRITTEN, 4) && writer.has_failed_behind(REPORT, taken)
+    is_fault(alloc, &ended, UNWRITTEN, 4) && writer.has_failed_after(REPORT, taken)
 }
 
 /// Whether the report is written a byte a write, and flushed.
