@@ -1,4 +1,5 @@
-//! Prints what boards do. Standard input tells firmware and events, and is printed with what each board shows:
+//! Prints what boards do. Standard input tells firmware and events, and is printed, without source and configuration,
+//! with what each board shows:
 //!
 //! - `= NAME` begins anew, without source and configuration;
 //! - `s LINE` is a line of assembler source, `c LINE` one of the configuration;
@@ -373,15 +374,15 @@ fn told(alloc: Global, scene: &mut Scene, line: &str) -> Result<Option<String>, 
     Ok(None)
 }
 
-/// Prints a line, does what it says, and prints what that shows.
+/// Takes a line of source or configuration. Prints any other line, does what it says, and prints what that shows.
 fn heed(rt: &(impl Print + AllocGlobal), scene: &mut Scene, line: &str) -> io::Result<()> {
     let alloc = rt.alloc();
+    if took(scene, line)? {
+        return Ok(());
+    }
     println!(rt; "{line}")?;
     if line.starts_with("= ") {
         *scene = begun(alloc);
-        return Ok(());
-    }
-    if took(scene, line)? {
         return Ok(());
     }
     if let Some(shown) = told(alloc, scene, line)? {
