@@ -33,8 +33,8 @@ for commands in examples/*/*.commands; do
     debug "$name" 0 "$name.answers" "" "$work/image" "$name.cfg" "$name.journal"
 done
 
-# The example of docs/DEBUGGING.md (whose answers tests/documents.sh compares) has the commands of its file.
-sed -n 's/^> //p' docs/DEBUGGING.md > "$work/in"
+# The page of an example (whose answers tests/documents.sh compares) has the commands of its file.
+sed -n 's/^> //p' examples/fault/README.md > "$work/in"
 verdict "the document" "$(cmp "$work/in" examples/fault/fault.commands 2>&1)"
 
 # Ten events of five words in a loop, of which the third is executed at 2 and 7. (The bytes of lines that only look like
