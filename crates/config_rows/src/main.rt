@@ -1,6 +1,6 @@
-//! Prints what the texts of a table say: for each line `| TEXT` of standard input its answer and the line, every other
-//! line as it is. `\n`, `\r`, `\t`, `\0`, `\xHH` and `\\` stand for bytes of a text. A line `= TEXT` gives what stands
-//! before each text after it.
+//! Tries the rows of a table, `ANSWER | TEXT`, on standard input: prints each whose text has another answer, and how many
+//! there are. `\n`, `\r`, `\t`, `\0`, `\xHH` and `\\` stand for bytes of a text. A line `= TEXT` gives what stands before
+//! each text after it.
 #![tactic(auto)]
 
 use brd_config::{ConfigFault, parse};
@@ -101,26 +101,33 @@ fn answer_to(alloc: Global, front: &[u8], row: &str) -> Result<String, AllocErro
     }
 }
 
-/// Prints a line, where it is a row after its answer. `front` is what stands before each text.
-fn heed(rt: &(impl Print + AllocGlobal), front: &mut Vec<u8>, line: &str) -> io::Result<()> {
-    if let Some(row) = line.strip_prefix("| ") {
-        let answer = answer_to(rt.alloc(), front.as_slice(), row)?;
-        return println!(rt; "{answer} {line}");
-    }
+/// Tries a line, where it is a row, and answers whether it is one. `front` is what stands before each text.
+fn heed(rt: &(impl Print + AllocGlobal), front: &mut Vec<u8>, line: &str) -> io::Result<bool> {
     if let Some(text) = line.strip_prefix("= ") {
         front.clear();
         put_unescaped(front, text)?;
+        return Ok(false);
     }
-    println!(rt; "{line}")
+    let Some((expected, row)) = line.split_once(" | ") else {
+        return Ok(false);
+    };
+    let answer = answer_to(rt.alloc(), front.as_slice(), row)?;
+    if answer.as_str() != expected {
+        println!(rt; "{answer}, not {line}")?;
+    }
+    Ok(true)
 }
 
 /// Heeds each line of standard input.
 fn heed_all(rt: &(impl Input + Print + AllocGlobal), front: &mut Vec<u8>) -> io::Result<()> {
+    let mut rows = 0u32;
     for line in BufReader::new(rt.alloc(), rt.reader())?.lines(rt.alloc()) {
         let line = line?;
-        heed(rt, front, line.as_str())?;
+        if heed(rt, front, line.as_str())? {
+            rows = rows.wrapping_add(1);
+        }
     }
-    Ok(())
+    println!(rt; "{rows} rows")
 }
 
 fn run(rt: &(impl Input + Print + AllocGlobal)) -> io::Result<()> {

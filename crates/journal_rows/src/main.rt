@@ -1,5 +1,5 @@
-//! Prints what the texts of a table say: for each line `| LIMIT TEXT` of standard input its answer and the line, every
-//! other line as it is. In a text `/` stands for a newline, `~` for a carriage return, `_` for a tab and `^` for the
+//! Tries the rows of a table, `ANSWER | LIMIT TEXT`, on standard input: prints each whose text has another answer, and
+//! how many there are. In a text `/` stands for a newline, `~` for a carriage return, `_` for a tab and `^` for the
 //! byte 0. A text that says a journal is answered by its byte order and its runs, each after a comma and a space; the
 //! journal is also written and read again, and made once more event by event and run by run.
 #![tactic(auto)]
@@ -122,27 +122,41 @@ fn answer(alloc: Global, text: &[u8], limit: u32) -> Result<String, AllocError> 
     format!(in alloc; "{runs}; read again: {again}; made again: {made}")
 }
 
-/// The answer to a row, if it is one.
-fn answer_to(alloc: Global, line: &str) -> Result<Option<String>, AllocError> {
-    let Some((limit, text)) = line.strip_prefix("| ").and_then(|row| row.split_once(" ")) else {
+/// What a row says is answered, and the answer, if a line is a row.
+fn answer_to(alloc: Global, line: &str) -> Result<Option<(&str, String)>, AllocError> {
+    let Some((expected, row)) = line.split_once(" | ") else {
+        return Ok(None);
+    };
+    let Some((limit, text)) = row.split_once(" ") else {
         return Ok(None);
     };
     let Ok(limit) = limit.parse::<u32>() else {
         return Ok(None);
     };
     let text = bytes_of(alloc, text.as_bytes())?;
-    Ok(Some(answer(alloc, &text, limit)?))
+    Ok(Some((expected, answer(alloc, &text, limit)?)))
+}
+
+/// Tries a line, where it is a row, and answers whether it is one.
+fn heed(rt: &(impl Print + AllocGlobal), line: &str) -> io::Result<bool> {
+    let Some((expected, answer)) = answer_to(rt.alloc(), line)? else {
+        return Ok(false);
+    };
+    if answer.as_str() != expected {
+        println!(rt; "{answer}, not {line}")?;
+    }
+    Ok(true)
 }
 
 fn run(rt: &(impl Input + Print + AllocGlobal)) -> io::Result<()> {
+    let mut rows = 0u32;
     for line in BufReader::new(rt.alloc(), rt.reader())?.lines(rt.alloc()) {
         let line = line?;
-        match answer_to(rt.alloc(), line.as_str())? {
-            Some(answer) => println!(rt; "{answer} {line}")?,
-            None => println!(rt; "{line}")?,
+        if heed(rt, line.as_str())? {
+            rows = rows.wrapping_add(1);
         }
     }
-    Ok(())
+    println!(rt; "{rows} rows")
 }
 
 fn main(rt: HostRuntime) -> io::Result<()> {

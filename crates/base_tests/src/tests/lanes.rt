@@ -19,15 +19,9 @@ const WAITS: &[(&[u32], &[u32], u32, usize, Option<usize>)] = &[
 
 /// The first row of waits that isn't as it says.
 fn first_wrong_wait() -> Option<usize> {
-    for (row, (patterns, modes, current, from, expected)) in WAITS.iter().enumerate() {
-        if patterns.len() != modes.len()
-            || *from > patterns.len()
-            || first_match(*patterns, *modes, *current, *from) != *expected
-        {
-            return Some(row);
-        }
-    }
-    None
+    WAITS.iter().position(|(patterns, modes, current, from, expected)| patterns.len() != modes.len()
+        || *from > patterns.len()
+        || first_match(*patterns, *modes, *current, *from) != *expected)
 }
 
 #[test]
@@ -45,12 +39,7 @@ const DUES: &[(&[u64], u64, Option<usize>)] = &[
 
 /// The first row of ticks that isn't as it says.
 fn first_wrong_due() -> Option<usize> {
-    for (row, (dues, now, expected)) in DUES.iter().enumerate() {
-        if next_due(*dues, *now, 0) != *expected {
-            return Some(row);
-        }
-    }
-    None
+    DUES.iter().position(|(dues, now, expected)| next_due(*dues, *now, 0) != *expected)
 }
 
 #[test]
@@ -86,12 +75,7 @@ const LONGEST: usize = 40;
 
 /// The plain loop: the least place from `from` on that is marked.
 fn first_marked(marks: &[bool], from: usize) -> Option<usize> {
-    for i in from..marks.len() {
-        if marks[i] {
-            return Some(i);
-        }
-    }
-    None
+    (from..marks.len()).find(|i| marks[*i])
 }
 
 /// Waits for all (mode 0) and for some (other modes) of their bits in turn, of which the pattern 5 satisfies those that

@@ -40,12 +40,8 @@ fn stays(linked: u32, is_own: bool, stored: u32) -> bool {
 
 /// The first row of stores that isn't as it says.
 fn first_wrong_store() -> Option<usize> {
-    for (row, (linked, is_own, stored, expected)) in STORES.iter().enumerate() {
-        if stays(*linked, *is_own, *stored) != *expected {
-            return Some(row);
-        }
-    }
-    None
+    STORES.iter().position(|(linked, is_own, stored, expected)| stays(*linked, *is_own, *stored)
+        != *expected)
 }
 
 #[test]
@@ -76,12 +72,7 @@ fn takes(linked: &[u32], address: u32) -> bool {
 
 /// The first row of SCs that isn't as it says.
 fn first_wrong_take() -> Option<usize> {
-    for (row, (linked, address, expected)) in TAKES.iter().enumerate() {
-        if takes(*linked, *address) != *expected {
-            return Some(row);
-        }
-    }
-    None
+    TAKES.iter().position(|(linked, address, expected)| takes(*linked, *address) != *expected)
 }
 
 #[test]

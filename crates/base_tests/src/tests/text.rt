@@ -62,12 +62,9 @@ const NUMBERS: &[(&[u8], Option<u32>)] = &[
 
 /// The first number that isn't as it should be.
 fn first_wrong_number() -> Option<usize> {
-    for (row, (text, expected)) in NUMBERS.iter().enumerate() {
-        if number(*text) != *expected {
-            return Some(row);
-        }
-    }
-    None
+    NUMBERS
+        .iter()
+        .position(|(text, expected)| number(*text) != *expected)
 }
 
 #[test]
@@ -99,12 +96,9 @@ const DECIMALS: &[(&[u8], u64, Option<u64>, Option<u64>)] = &[
 
 /// The first row of decimals that isn't as it says.
 fn first_wrong_decimal() -> Option<usize> {
-    for (row, (text, largest, expected, plain)) in DECIMALS.iter().enumerate() {
-        if decimal(*text, *largest) != *expected || plain_decimal(*text, *largest) != *plain {
-            return Some(row);
-        }
-    }
-    None
+    DECIMALS.iter().position(|(text, largest, expected, plain)| decimal(*text, *largest)
+        != *expected
+        || plain_decimal(*text, *largest) != *plain)
 }
 
 #[test]
@@ -132,12 +126,9 @@ const HEX_WORDS: &[(&[u8], Option<u32>)] = &[
 
 /// The first row of hexadecimal words that isn't as it says.
 fn first_wrong_word() -> Option<usize> {
-    for (row, (text, expected)) in HEX_WORDS.iter().enumerate() {
-        if hex_word(*text) != *expected {
-            return Some(row);
-        }
-    }
-    None
+    HEX_WORDS
+        .iter()
+        .position(|(text, expected)| hex_word(*text) != *expected)
 }
 
 #[test]
@@ -179,12 +170,9 @@ const LINES: &[(&[u8], usize, &[u8])] = &[
 
 /// The first row of lines that isn't as it says.
 fn first_wrong_line() -> Option<usize> {
-    for (row, (text, number, line)) in LINES.iter().enumerate() {
-        if line_at(*text, *number) != *line {
-            return Some(row);
-        }
-    }
-    None
+    LINES
+        .iter()
+        .position(|(text, number, line)| line_at(*text, *number) != *line)
 }
 
 #[test]
@@ -217,17 +205,11 @@ const BYTES: &[(u8, bool, bool, bool, bool, bool)] = &[
 
 /// The first row of bytes that isn't as it says.
 fn first_wrong_byte() -> Option<usize> {
-    for (row, (byte, letter, digit, space, blank, run)) in BYTES.iter().enumerate() {
-        if is_letter(*byte) != *letter
-            || is_digit(*byte) != *digit
-            || is_space(*byte) != *space
-            || is_blank(*byte) != *blank
-            || is_run_byte(*byte) != *run
-        {
-            return Some(row);
-        }
-    }
-    None
+    BYTES.iter().position(|(byte, letter, digit, space, blank, run)| is_letter(*byte) != *letter
+        || is_digit(*byte) != *digit
+        || is_space(*byte) != *space
+        || is_blank(*byte) != *blank
+        || is_run_byte(*byte) != *run)
 }
 
 const NAMES: &[(&[u8], bool)] = &[
@@ -242,12 +224,9 @@ const NAMES: &[(&[u8], bool)] = &[
 
 /// The first row of names that isn't as it says.
 fn first_wrong_name() -> Option<usize> {
-    for (row, (text, expected)) in NAMES.iter().enumerate() {
-        if is_name(*text) != *expected {
-            return Some(row);
-        }
-    }
-    None
+    NAMES
+        .iter()
+        .position(|(text, expected)| is_name(*text) != *expected)
 }
 
 #[test]

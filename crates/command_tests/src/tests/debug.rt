@@ -75,28 +75,14 @@ fn ends_by_a_file(
     is_fault(alloc, &ended, text, 4) && commands.reads == 0 && writer.writes == 0
 }
 
-/// The first read of a file of n bytes that fails in another way.
-fn first_wrong_read_of(
-    alloc: Global,
-    inputs: [&[u8]; 3],
-    place: usize,
-    len: usize,
-    text: &str,
-) -> Option<usize> {
-    for number in 1..=len.saturating_add(1) {
-        if !ends_by_a_file(alloc, inputs, place, number, text) {
-            return Some(number);
-        }
-    }
-    None
-}
-
 /// The first file, by its place, and read of it that fails in another way.
 fn first_wrong_file(alloc: Global, image: &[u8]) -> Option<(usize, usize)> {
     let inputs = [image, CONFIG, JOURNAL];
     for (place, text) in UNREAD.iter().enumerate() {
-        let len = inputs[place].len();
-        if let Some(number) = first_wrong_read_of(alloc, inputs, place, len, *text) {
+        let mut reads = 1..=inputs[place].len().saturating_add(1);
+        if let Some(number) = reads.find(|number| !ends_by_a_file(
+            alloc, inputs, place, *number, *text,
+        )) {
             return Some((place, number));
         }
     }
@@ -167,12 +153,7 @@ fn ends_by_a_read(alloc: Global, image: &[u8], number: usize) -> bool {
 
 /// The first read that fails in another way.
 fn first_wrong_read(alloc: Global, image: &[u8]) -> Option<usize> {
-    for number in 1..=COMMANDS.len().saturating_add(1) {
-        if !ends_by_a_read(alloc, image, number) {
-            return Some(number);
-        }
-    }
-    None
+    (1..=COMMANDS.len().saturating_add(1)).find(|number| !ends_by_a_read(alloc, image, *number))
 }
 
 /// n bytes of commands take n + 1 reads, the last of which finds the end. Where one fails, the answers to the lines
@@ -205,12 +186,7 @@ fn are_read_by(alloc: Global, image: &[u8], commands: &[u8], number: usize) -> b
 
 /// The first of `READS` that takes more or fewer.
 fn first_wrong_reads(alloc: Global, image: &[u8]) -> Option<usize> {
-    for (row, (commands, number)) in READS.iter().enumerate() {
-        if !are_read_by(alloc, image, *commands, *number) {
-            return Some(row);
-        }
-    }
-    None
+    READS.iter().position(|(commands, number)| !are_read_by(alloc, image, *commands, *number))
 }
 
 /// The end of the commands is found by one read, also after a last line without a newline. After `quit` none is done.
@@ -231,12 +207,7 @@ fn ends_by_a_write(alloc: Global, image: &[u8], number: usize) -> bool {
 
 /// The first write that fails in another way: of the answers, and three flushes.
 fn first_wrong_write(alloc: Global, image: &[u8]) -> Option<usize> {
-    for number in 1..=ANSWERS.len().saturating_add(3) {
-        if !ends_by_a_write(alloc, image, number) {
-            return Some(number);
-        }
-    }
-    None
+    (1..=ANSWERS.len().saturating_add(3)).find(|number| !ends_by_a_write(alloc, image, *number))
 }
 
 /// Each answer is written and flushed. Where a write fails, a front of the answers has been written.
@@ -288,12 +259,7 @@ fn are_answered(alloc: Global, image: &[u8], commands: &[u8], answers: &[u8]) ->
 
 /// The first of `LINES` that are answered otherwise.
 fn first_wrong_answer(alloc: Global, image: &[u8]) -> Option<usize> {
-    for (row, (commands, answers)) in LINES.iter().enumerate() {
-        if !are_answered(alloc, image, *commands, *answers) {
-            return Some(row);
-        }
-    }
-    None
+    LINES.iter().position(|(commands, answers)| !are_answered(alloc, image, *commands, *answers))
 }
 
 /// What lines answer that say something, nearly something, and nothing.

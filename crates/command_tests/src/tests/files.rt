@@ -255,12 +255,7 @@ fn is_done<T: Threads + Wait + Sync>(rt: &T, alloc: Global, row: &Done) -> bool 
 
 /// The first of `REQUESTS` that does something else.
 fn first_wrong_request<T: Threads + Wait + Sync>(rt: &T, alloc: Global) -> Option<usize> {
-    for (number, row) in REQUESTS.iter().enumerate() {
-        if !is_done(rt, alloc, row) {
-            return Some(number);
-        }
-    }
-    None
+    REQUESTS.iter().position(|row| !is_done(rt, alloc, row))
 }
 
 /// `words` touches no file, `asm` neither standard input nor output, `run` and `race` no standard input. (The files

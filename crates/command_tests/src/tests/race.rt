@@ -92,23 +92,6 @@ fn ends_by_a_read<R: Threads + Wait + Sync>(
     is_fault(alloc, &ended, text, 4) && outputs.are_empty()
 }
 
-/// The first read of an input of n bytes that fails in another way.
-fn first_wrong_read<R: Threads + Wait + Sync>(
-    rt: &R,
-    alloc: Global,
-    inputs: [&[u8]; 3],
-    place: usize,
-    len: usize,
-    text: &str,
-) -> Option<usize> {
-    for number in 1..=len.saturating_add(1) {
-        if !ends_by_a_read(rt, alloc, inputs, place, number, text) {
-            return Some(number);
-        }
-    }
-    None
-}
-
 /// The first input, by its place, and read of it that fails in another way.
 fn first_wrong_input<R: Threads + Wait + Sync>(
     rt: &R,
@@ -117,8 +100,10 @@ fn first_wrong_input<R: Threads + Wait + Sync>(
 ) -> Option<(usize, usize)> {
     let inputs = [image, CONFIG, b"T 1\n".as_slice()];
     for (place, text) in UNREAD.iter().enumerate() {
-        let len = inputs[place].len();
-        if let Some(number) = first_wrong_read(rt, alloc, inputs, place, len, *text) {
+        let mut reads = 1..=inputs[place].len().saturating_add(1);
+        if let Some(number) = reads.find(|number| !ends_by_a_read(
+            rt, alloc, inputs, place, *number, *text,
+        )) {
             return Some((place, number));
         }
     }
@@ -231,12 +216,7 @@ fn first_wrong_in_the_journal<R: Threads + Wait + Sync>(
     alloc: Global,
     image: &[u8],
 ) -> Option<usize> {
-    for taken in 0..=JOURNAL.len() {
-        if !ends_in_the_journal(rt, alloc, image, taken) {
-            return Some(taken);
-        }
-    }
-    None
+    (0..=JOURNAL.len()).find(|taken| !ends_in_the_journal(rt, alloc, image, *taken))
 }
 
 /// After how many bytes the first write of the report fails in another way.
@@ -245,12 +225,7 @@ fn first_wrong_in_the_report<R: Threads + Wait + Sync>(
     alloc: Global,
     image: &[u8],
 ) -> Option<usize> {
-    for taken in 0..=REPORT.len() {
-        if !ends_in_the_report(rt, alloc, image, taken) {
-            return Some(taken);
-        }
-    }
-    None
+    (0..=REPORT.len()).find(|taken| !ends_in_the_report(rt, alloc, image, *taken))
 }
 
 /// The journal is written before the report; each takes a write for each byte, and a flush.
@@ -315,12 +290,12 @@ fn first_wrong_fault<R: Threads + Wait + Sync>(
     alloc: Global,
     image: &[u8],
 ) -> Option<usize> {
-    for (row, (config, script, text)) in FAULTS.iter().enumerate() {
-        if !are_refused(rt, alloc, [image, *config, *script], *text) {
-            return Some(row);
-        }
-    }
-    None
+    FAULTS.iter().position(|(config, script, text)| !are_refused(
+        rt,
+        alloc,
+        [image, *config, *script],
+        *text,
+    ))
 }
 
 /// Of several faults that of the object file comes first, then those of the configuration, the boot and the script.

@@ -80,28 +80,14 @@ fn ends_by_a_read(
     is_fault(alloc, &ended, text, 4) && writer.writes == 0
 }
 
-/// The first read of an input of n bytes that fails in another way.
-fn first_wrong_read(
-    alloc: Global,
-    inputs: [&[u8]; 3],
-    place: usize,
-    len: usize,
-    text: &str,
-) -> Option<usize> {
-    for number in 1..=len.saturating_add(1) {
-        if !ends_by_a_read(alloc, inputs, place, number, text) {
-            return Some(number);
-        }
-    }
-    None
-}
-
 /// The first input, by its place, and read of it that fails in another way.
 fn first_wrong_input(alloc: Global, image: &[u8]) -> Option<(usize, usize)> {
     let inputs = [image, CONFIG, JOURNAL];
     for (place, text) in UNREAD.iter().enumerate() {
-        let len = inputs[place].len();
-        if let Some(number) = first_wrong_read(alloc, inputs, place, len, *text) {
+        let mut reads = 1..=inputs[place].len().saturating_add(1);
+        if let Some(number) = reads.find(|number| !ends_by_a_read(
+            alloc, inputs, place, *number, *text,
+        )) {
             return Some((place, number));
         }
     }
@@ -375,12 +361,13 @@ fn is_misplaced<'a>(
 
 /// The first of `MISPLACED` that has another fault.
 fn first_wrong_place(alloc: Global, image: &[u8]) -> Option<usize> {
-    for (row, (place, file, hint)) in MISPLACED.iter().enumerate() {
-        if !is_misplaced(alloc, image, *place, file.unwrap_or(image), *hint) {
-            return Some(row);
-        }
-    }
-    None
+    MISPLACED.iter().position(|(place, file, hint)| !is_misplaced(
+        alloc,
+        image,
+        *place,
+        file.unwrap_or(image),
+        *hint,
+    ))
 }
 
 /// A file in the place of another: its fault says of which kind it looks, where that is another than it should be of,

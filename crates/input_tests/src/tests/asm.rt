@@ -25,12 +25,8 @@ fn has_answer(alloc: Global, source: &str, answer: &str) -> bool {
 
 /// The first of these rows whose source has another answer.
 fn first_wrong(alloc: Global, rows: &[Row]) -> Option<usize> {
-    for (row, (source, answer)) in rows.iter().enumerate() {
-        if !has_answer(alloc, *source, *answer) {
-            return Some(row);
-        }
-    }
-    None
+    rows.iter()
+        .position(|(source, answer)| !has_answer(alloc, *source, *answer))
 }
 
 /// Four words: `%hi` and `%lo` of a label, a load, a value.

@@ -85,12 +85,9 @@ fn words_that_fit(rt: HostRuntime) -> Result<(), Fail> {
 
 /// The first of these events that reports something else.
 fn first_other(board: &mut Board, wanted: &[(Event, Report)]) -> Option<usize> {
-    for (n, (event, report)) in wanted.iter().enumerate() {
-        if board.event(*event) != *report {
-            return Some(n);
-        }
-    }
-    None
+    wanted
+        .iter()
+        .position(|(event, report)| board.event(*event) != *report)
 }
 
 /// Whether task 1 is dormant, with 7 in $8.

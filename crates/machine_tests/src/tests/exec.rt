@@ -142,12 +142,9 @@ fn leaves(ram: &mut Ram, before: &[Ended], left: u32) -> bool {
 
 /// The first of these cases that leaves another word.
 fn first_wrong(ram: &mut Ram, cases: &[Case]) -> Option<usize> {
-    for (n, (before, left)) in cases.iter().enumerate() {
-        if !leaves(ram, before, *left) {
-            return Some(n);
-        }
-    }
-    None
+    cases
+        .iter()
+        .position(|(before, left)| !leaves(ram, before, *left))
 }
 
 /// Stores of another processor after an LL, and the word that the SC leaves.
