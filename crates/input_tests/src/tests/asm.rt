@@ -25,8 +25,12 @@ fn has_answer(alloc: Global, source: &str, answer: &str) -> bool {
 
 /// The first of these rows whose source has another answer.
 fn first_wrong(alloc: Global, rows: &[Row]) -> Option<usize> {
-    rows.iter()
-        .position(|(source, answer)| !has_answer(alloc, *source, *answer))
+    for (row, (source, answer)) in rows.iter().enumerate() {
+        if !has_answer(alloc, *source, *answer) {
+            return Some(row);
+        }
+    }
+    None
 }
 
 /// Four words: `%hi` and `%lo` of a label, a load, a value.

@@ -159,9 +159,12 @@ fn is_changed_read_as(alloc: Global, file: &[u8], changes: &[(usize, u8)], expec
 
 /// The first of these changes of a file with which something else is read.
 fn first_wrong(alloc: Global, file: &[u8], rows: &[Row]) -> Option<usize> {
-    rows.iter().position(|(changes, expected)| !is_changed_read_as(
-        alloc, file, *changes, *expected,
-    ))
+    for (row, (changes, expected)) in rows.iter().enumerate() {
+        if !is_changed_read_as(alloc, file, *changes, *expected) {
+            return Some(row);
+        }
+    }
+    None
 }
 
 /// Puts a segment at the end. Says whether there was memory for it.

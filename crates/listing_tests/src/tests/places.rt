@@ -41,12 +41,12 @@ fn first_wrong(alloc: Global) -> Option<usize> {
     let Ok(image) = assemble(alloc, SOURCE.as_bytes()) else {
         return Some(0);
     };
-    PLACES.iter().position(|(address, wanted)| !is_written(
-        alloc,
-        image.symbols.as_slice(),
-        *address,
-        *wanted,
-    ))
+    for (row, (address, wanted)) in PLACES.iter().enumerate() {
+        if !is_written(alloc, image.symbols.as_slice(), *address, *wanted) {
+            return Some(row);
+        }
+    }
+    None
 }
 
 #[test]

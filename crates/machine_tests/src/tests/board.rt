@@ -85,9 +85,12 @@ fn words_that_fit(rt: HostRuntime) -> Result<(), Fail> {
 
 /// The first of these events that reports something else.
 fn first_other(board: &mut Board, wanted: &[(Event, Report)]) -> Option<usize> {
-    wanted
-        .iter()
-        .position(|(event, report)| board.event(*event) != *report)
+    for (n, (event, report)) in wanted.iter().enumerate() {
+        if board.event(*event) != *report {
+            return Some(n);
+        }
+    }
+    None
 }
 
 /// Whether task 1 is dormant, with 7 in $8.

@@ -142,9 +142,12 @@ fn leaves(ram: &mut Ram, before: &[Ended], left: u32) -> bool {
 
 /// The first of these cases that leaves another word.
 fn first_wrong(ram: &mut Ram, cases: &[Case]) -> Option<usize> {
-    cases
-        .iter()
-        .position(|(before, left)| !leaves(ram, before, *left))
+    for (n, (before, left)) in cases.iter().enumerate() {
+        if !leaves(ram, before, *left) {
+            return Some(n);
+        }
+    }
+    None
 }
 
 /// Stores of another processor after an LL, and the word that the SC leaves.

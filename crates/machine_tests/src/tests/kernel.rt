@@ -86,15 +86,22 @@ fn serves(kernel: &mut Kernel, cpu: u8, call: Call, reply: Reply, changed: u8) -
 
 /// The first of these calls, one after the other, that isn't served so.
 fn first_other(kernel: &mut Kernel, rows: &[Served]) -> Option<usize> {
-    rows.iter().position(|(cpu, call, reply, changed)| !serves(
-        kernel, *cpu, *call, *reply, *changed,
-    ))
+    for (n, (cpu, call, reply, changed)) in rows.iter().enumerate() {
+        if !serves(kernel, *cpu, *call, *reply, *changed) {
+            return Some(n);
+        }
+    }
+    None
 }
 
 /// The same for calls from processor 1 that let no running task change.
 fn first_other_of_one(kernel: &mut Kernel, rows: &[(Call, Reply)]) -> Option<usize> {
-    rows.iter()
-        .position(|(call, reply)| !serves(kernel, 1, *call, *reply, 0))
+    for (n, (call, reply)) in rows.iter().enumerate() {
+        if !serves(kernel, 1, *call, *reply, 0) {
+            return Some(n);
+        }
+    }
+    None
 }
 
 /// Whether a kernel is one of `two` to which nothing has happened.

@@ -188,11 +188,12 @@ fn fault_of_cut(len: usize, table: usize, segment: usize) -> &'static str {
 
 /// The first length of a file, cut off there, from which something else is read.
 fn first_wrong_cut(alloc: Global, file: &[u8], table: usize, segment: usize) -> Option<usize> {
-    (0..file.len()).find(|len| !is_read_as(
-        alloc,
-        &file[..*len],
-        fault_of_cut(*len, table, segment),
-    ))
+    for len in 0..file.len() {
+        if !is_read_as(alloc, &file[..len], fault_of_cut(len, table, segment)) {
+            return Some(len);
+        }
+    }
+    None
 }
 
 /// Each file cut to each length: which header describes what is missing.

@@ -46,7 +46,12 @@ fn is_right(alloc: Global, changed: Changed, input: &[u8]) -> bool {
 
 /// The length of the first front of an input that is answered wrongly.
 fn first_wrong_front(alloc: Global, changed: Changed, input: &[u8]) -> Option<usize> {
-    (0..=input.len()).find(|len| !is_right(alloc, changed, &input[..*len]))
+    for len in 0..=input.len() {
+        if !is_right(alloc, changed, &input[..len]) {
+            return Some(len);
+        }
+    }
+    None
 }
 
 /// The bytes that each byte is changed to.

@@ -62,22 +62,22 @@ const OF_SOURCES: &[(&str, BuildFault)] = &[
 
 /// The first of these configurations that has another fault with a source.
 fn first_wrong(alloc: Global, source: &str, rows: &[(&str, BuildFault)]) -> Option<usize> {
-    rows.iter().position(|(config, fault)| !has_fault(
-        alloc,
-        source.as_bytes(),
-        config.as_bytes(),
-        *fault,
-    ))
+    for (n, (config, fault)) in rows.iter().enumerate() {
+        if !has_fault(alloc, source.as_bytes(), config.as_bytes(), *fault) {
+            return Some(n);
+        }
+    }
+    None
 }
 
 /// The first of `OF_SOURCES` that has another fault with a configuration.
 fn first_wrong_source(alloc: Global, config: &str) -> Option<usize> {
-    OF_SOURCES.iter().position(|(source, fault)| !has_fault(
-        alloc,
-        source.as_bytes(),
-        config.as_bytes(),
-        *fault,
-    ))
+    for (n, (source, fault)) in OF_SOURCES.iter().enumerate() {
+        if !has_fault(alloc, source.as_bytes(), config.as_bytes(), *fault) {
+            return Some(n);
+        }
+    }
+    None
 }
 
 #[test]

@@ -75,9 +75,12 @@ const OF_CONFIGURATIONS: &[(&[u8], BuildFault)] = &[
 
 /// The first of `OF_CONFIGURATIONS` that has another fault with a file.
 fn first_wrong(alloc: Global, file: &[u8]) -> Option<usize> {
-    OF_CONFIGURATIONS.iter().position(|(config, fault)| !has_load_fault(
-        alloc, file, config, *fault,
-    ))
+    for (n, (config, fault)) in OF_CONFIGURATIONS.iter().enumerate() {
+        if !has_load_fault(alloc, file, config, *fault) {
+            return Some(n);
+        }
+    }
+    None
 }
 
 /// Whether a file has this fault with a configuration that has none, and with an empty one.
