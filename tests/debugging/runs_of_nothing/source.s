@@ -1,8 +1,8 @@
-# 1,008 runs of M = 4,294,967,295 events, of which eleven do anything: the others are passed over, in a moment and not
-# in a day. From 0 on they are of processor 0 and line 9 in turn, from 1000 M on of processor 3: none of them is there.
-# 1001 M: task 1, which sleeps from its second step on. 1002 M: line 0 is raised, and then pending. 1003 M: processor 1
-# accepts it; the handler stores a byte at 1003 M + 3, and stops the processor with the next event. 1004 M: line 0 is
-# pending again, for good. 1005 M: task 2, which turns the board off at its second step. From 1006 M on ticks and steps
+# 108 runs of M = 4,294,967,295 events, of which eleven do anything: the others are passed over, in a moment and not
+# in hours. From 0 on they are of processor 0 and line 9 in turn, from 100 M on of processor 3: none of them is there.
+# 101 M: task 1, which sleeps from its second step on. 102 M: line 0 is raised, and then pending. 103 M: processor 1
+# accepts it; the handler stores a byte at 103 M + 3, and stops the processor with the next event. 104 M: line 0 is
+# pending again, for good. 105 M: task 2, which turns the board off at its second step. From 106 M on ticks and steps
 # of a board that is off.
 one:    addiu   $v0, $0, 16     # 80000000
         syscall                 # 80000004: slp_tsk
