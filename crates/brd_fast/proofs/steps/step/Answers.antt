@@ -15,6 +15,7 @@ returns-in-Some-clause-step c =
     c.carry_out.new.links
     (subst (λ pc. fetched c.args.ram.now pc ≡ Ok c.word_of-word.result) at
     (c.raw_at-raw.ensures ∙ ap (λ bytes. Ok (word_of_bytes c.args.ram.now.order bytes)) (sym c.bytes_of.ensures.is)
+    ∙ ap (λ order. Ok (word_of_bytes order c.bytes_of.result)) (sym c.order.ensures)
     ∙ ap Ok (sym c.word_of-word.ensures.is)))
     c.in-Some.ensures c.carry_out.ensures
 
