@@ -9,6 +9,7 @@ pub record Place : Type 0 where
   pub left : ℕ  -- how many steps are left of those that are asked for
   pub words : ℕ  -- how many words of RAM may be executed here
   pub on : Bool  -- whether the next step may be done
+  pub room : Bool  -- whether the next two may be
 
 -- the address of a word, of those that RAM has
 abbrev pub address_of_word : ℕ → ℕ

@@ -41,7 +41,7 @@ pub fn branch(line: &mut Line, taken: bool, reach: u32) -> bool
         (state_of s line.old) result (state_of s line.new) }
     ensures leaves { Leaves line.old result line.new }
 {
-    if line.is_in_slot() {
+    if !line.has_room() {
         return false;
     }
     if taken {
@@ -66,7 +66,7 @@ pub fn branch_likely(line: &mut Line, taken: bool, reach: u32) -> bool
         (state_of s line.old) result (state_of s line.new) }
     ensures leaves { Leaves line.old result line.new }
 {
-    if line.is_in_slot() {
+    if !line.has_room() {
         return false;
     }
     if taken {
@@ -100,7 +100,7 @@ pub fn call(context: &mut Context, line: &mut Line, taken: bool, reach: u32) -> 
         (state_of context.old line.old) result (state_of context.new line.new) }
     ensures leaves { Leaves line.old result line.new }
 {
-    if line.is_in_slot() {
+    if !line.has_room() {
         return false;
     }
     let Some(target) = line.ahead(if taken { reach } else { PAST_SLOT }) else {
@@ -119,7 +119,7 @@ pub fn call_likely(context: &mut Context, line: &mut Line, taken: bool, reach: u
         (state_of context.old line.old) result (state_of context.new line.new) }
     ensures leaves { Leaves line.old result line.new }
 {
-    if line.is_in_slot() {
+    if !line.has_room() {
         return false;
     }
     let Some(target) = line.ahead(if taken { reach } else { PAST_SLOT }) else {
@@ -142,7 +142,7 @@ pub fn jump(line: &mut Line, index: JumpIndex) -> bool
         (state_of s line.old) result (state_of s line.new) }
     ensures leaves { Leaves line.old result line.new }
 {
-    if line.is_in_slot() {
+    if !line.has_room() {
         return false;
     }
     let Some(target) = line.indexed(index) else {
@@ -161,7 +161,7 @@ pub fn jump_and_link(context: &mut Context, line: &mut Line, index: JumpIndex) -
         (state_of context.old line.old) result (state_of context.new line.new) }
     ensures leaves { Leaves line.old result line.new }
 {
-    if line.is_in_slot() {
+    if !line.has_room() {
         return false;
     }
     let Some(target) = line.indexed(index) else {
@@ -180,7 +180,7 @@ pub fn jump_register(context: &Context, line: &mut Line, rs: Source) -> bool
         (state_of context.now line.old) result (state_of context.now line.new) }
     ensures leaves { Leaves line.old result line.new }
 {
-    if line.is_in_slot() {
+    if !line.has_room() {
         return false;
     }
     let Some(target) = line.addressed(word(context, rs)) else {
@@ -199,7 +199,7 @@ pub fn call_register(context: &mut Context, line: &mut Line, rd: Destination, rs
         (read context.old rs)) (state_of context.old line.old) result (state_of context.new line.new) }
     ensures leaves { Leaves line.old result line.new }
 {
-    if line.is_in_slot() {
+    if !line.has_room() {
         return false;
     }
     let Some(target) = line.addressed(word(context, rs)) else {

@@ -18,10 +18,10 @@ use std::marker::Model;
 enum Next {
     /// The word after it.
     Following,
-    /// A delay slot, and then this word. The line is empty.
-    Slot(usize),
-    /// This word. The line is a delay slot.
-    Target(usize),
+    /// A delay slot, and then the target. The line is empty.
+    Slot,
+    /// The target. The line is a delay slot.
+    Target,
 }
 
 /// Instructions that lie one after the other, which a processor does without a look at where it is. Places are counted
@@ -39,6 +39,8 @@ pub struct Line {
     /// How many words there are.
     words: usize,
     next: Next,
+    /// The word of the target, where one comes after the line.
+    target: usize,
 }
 
 impl Model for Line {
@@ -47,9 +49,9 @@ impl Model for Line {
 
     ghost Value = { Place };
 
-    ghost view = { λ line. placed line.at line.end line.stop line.words line.next };
+    ghost view = { λ line. placed line.at line.end line.stop line.words line.next line.target };
 
-    ghost invariant = { λ line. IsLine line.at line.end line.stop line.words line.next };
+    ghost invariant = { λ line. IsLine line.at line.end line.stop line.words line.next line.target };
 }
 
 impl Line {
@@ -62,7 +64,7 @@ impl Line {
         ensures words { IfSome result (λ line. line.words ≡ words) }
     {
         let at = index_of(context.pc());
-        if at >= words {
+        if at >= words || count == 0 {
             return None;
         }
         if context.slot() {
@@ -73,9 +75,10 @@ impl Line {
             return Some(Line {
                 at,
                 end: at,
-                stop: target + count as usize,
+                stop: target + count as usize - 1,
                 words,
-                next: Next::Slot(target),
+                next: Next::Slot,
+                target,
             });
         }
         if context.npc() != context.pc().wrapping_add(4) {
@@ -88,6 +91,7 @@ impl Line {
             stop,
             words,
             next: Next::Following,
+            target: at,
         })
     }
 
@@ -96,18 +100,11 @@ impl Line {
         ensures { context.new ≡ state_of context.old self.now }
     {
         let at = address_of(self.at);
+        let target = address_of(self.target);
         match self.next {
             Next::Following => context.go_to(at, at + 4, false),
-            Next::Slot(target) => context.go_to(at, address_of(target), true),
-            Next::Target(target) if self.at < self.end => context.go_to(
-                at,
-                address_of(target),
-                true,
-            ),
-            Next::Target(target) => {
-                let address = address_of(target);
-                context.go_to(address, address + 4, false);
-            }
+            Next::Target if self.at == self.end => context.go_to(target, target + 4, false),
+            Next::Slot | Next::Target => context.go_to(at, target, true),
         }
     }
 
@@ -117,8 +114,8 @@ impl Line {
     {
         match self.next {
             Next::Following => (self.stop - self.at) as u32,
-            Next::Slot(target) => (self.stop - target) as u32,
-            Next::Target(target) => (self.stop - target + usize::from(self.at < self.end)) as u32,
+            Next::Target if self.at == self.end => (self.stop - self.target) as u32,
+            Next::Slot | Next::Target => (self.stop - self.target + 1) as u32,
         }
     }
 
@@ -150,13 +147,14 @@ impl Line {
         address_of(self.at)
     }
 
-    /// Whether the next instruction is in a delay slot.
+    /// Whether there is room for a branch with its delay slot: never where the next instruction is in one.
     #[inline(always)]
-    pub fn is_in_slot(&self) -> bool
+    pub fn has_room(&self) -> bool
         requires on { self.now.on ≡ true }
-        ensures { result ≡ self.now.slot }
+        ensures is { result ≡ self.now.room }
+        ensures outside { result ≡ true → self.now.slot ≡ false }
     {
-        !matches!(self.next, Next::Following)
+        self.at + 2 <= self.end
     }
 
     /// Goes on to the next instruction, or to the target after the delay slot.
@@ -216,23 +214,22 @@ impl Line {
     /// Goes on to the delay slot of a branch or a jump, which this word follows.
     #[inline(always)]
     pub fn turn(&mut self, target: usize)
-        requires on { self.old.on ≡ true }
-        requires outside { self.old.slot ≡ false }
+        requires room { self.old.room ≡ true }
         requires inside { target ≤ self.old.words }
         ensures is { IsAt self.new self.old.npc (address_of_word target) true }
         ensures leaves { Leaves self.old true self.new }
     {
-        self.stop = target + (self.stop - self.at - 1);
+        self.stop = target + (self.stop - self.at - 2);
         self.at += 1;
         self.end = self.at;
-        self.next = Next::Slot(target);
+        self.next = Next::Slot;
+        self.target = target;
     }
 
     /// Goes on from the word after the delay slot of a branch-likely that isn't taken.
     #[inline(always)]
     pub fn skip(&mut self, next: usize)
-        requires on { self.old.on ≡ true }
-        requires outside { self.old.slot ≡ false }
+        requires room { self.old.room ≡ true }
         requires inside { next ≤ self.old.words }
         requires past { address_of_word next ≡ (self.old.npc + 4) % 2 ^ 32 }
         ensures is { IsAt self.new (address_of_word next) ((self.old.npc + 8) % 2 ^ 32) false }
@@ -253,25 +250,21 @@ impl Line {
     {
         match self.next {
             Next::Following => false,
-            Next::Target(target) => {
-                self.at = target;
+            Next::Target => {
+                self.at = self.target;
                 self.end = self.stop.min(self.words);
                 self.next = Next::Following;
                 true
             }
-            Next::Slot(target) => {
-                if self.stop == target || self.at >= self.words {
-                    return false;
-                }
-                self.stop -= 1;
+            Next::Slot => {
                 if ram.raw_at(4 * self.at) == 0 {
-                    self.at = target;
+                    self.at = self.target;
                     self.end = self.stop.min(self.words);
                     self.next = Next::Following;
                     return true;
                 }
                 self.end = self.at + 1;
-                self.next = Next::Target(target);
+                self.next = Next::Target;
                 true
             }
         }

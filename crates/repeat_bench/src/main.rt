@@ -210,16 +210,15 @@ fn measure(rt: &HostRuntime, work: Work, steps: u64) -> anyhow::Result<()> {
     Ok(())
 }
 
-/// Does n steps, of the processors in turns.
+/// Does n steps, of the processors in turns; the last turn may be shorter.
 fn run(board: &mut Board, work: Work, steps: u64) {
+    let turn = work.turn.max(1);
     let mut cpu = 1;
-    let mut left = steps;
-    while left > 0 {
-        let turn = u32::try_from(left).unwrap_or(u32::MAX).min(work.turn.max(1));
+    for _ in 0..steps / u64::from(turn) {
         board.repeat(Event::Step(cpu), turn);
-        left -= u64::from(turn);
         cpu = if cpu < work.processors { cpu + 1 } else { 1 };
     }
+    board.repeat(Event::Step(cpu), (steps % u64::from(turn)) as u32);
 }
 
 /// What processor 1 counts in $t1.
