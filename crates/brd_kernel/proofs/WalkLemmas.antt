@@ -7,6 +7,8 @@ use Rattle.std.proofs.lemmas.Bool.{or_parts, true≢false}
 use Rattle.std.proofs.lemmas.Bool.Decides.{nat_tests}
 use Rattle.brd_tasks.specs.declared.status.WaitReason.{WaitReason}
 use Rattle.brd_tasks.specs.declared.status.WaitReason.TheVariants as reason
+use Rattle.brd_tasks.specs.declared.status.WaitKind.{WaitKind}
+use Rattle.brd_tasks.specs.declared.status.WaitKind.TheVariants as kind
 use Rattle.brd_tasks.specs.declared.task.Task.{Task}
 use Rattle.brd_tasks.specs.declared.task.Request.{Request}
 use Rattle.brd_tasks.specs.declared.task.Request.TheVariants.{Assigned, On}
@@ -54,6 +56,28 @@ in_senders k caller id datum = record k { queues = object_changed (awaited_by_se
 
 abbrev pub in_receivers : KernelState → ℕ → ℕ → KernelState
 in_receivers k caller id = record k { queues = object_changed (awaited_by_receiver caller (callers_priority k caller)) k.queues id }
+
+-- What a caller finds of an object where it begins to wait for it: a semaphore without one, a flag without the bits, a
+-- full data queue, or an empty one.
+pub data Lacks (k : KernelState) (id : ℕ) : Type 0 where
+  No-one : (s : Semaphore) → object_at k.semaphores id ≡ Some s → has_one s ≡ false → Lacks k id
+  No-bits : (want : Want) (f : Flag) → object_at k.flags id ≡ Some f → pattern_for want f ≡ None → want.bits ≢ 0 → Lacks k id
+  No-room : (datum : ℕ) (q : DataQueueState) → object_at k.queues id ≡ Some q → outcome q ≡ Full → Lacks k id
+  No-datum : (q : DataQueueState) → object_at k.queues id ≡ Some q → receipt q ≡ None → Lacks k id
+
+-- what it waits for then
+abbrev pub lacked : {k : KernelState} {id : ℕ} → Lacks k id → WaitKind
+lacked (No-one s there none) = kind.Semaphore
+lacked (No-bits want f there none some) = kind.Flag
+lacked (No-room datum q there full) = kind.Room
+lacked (No-datum q there none) = kind.Datum
+
+-- it stands in the list of that
+abbrev pub entered : (k : KernelState) (caller id : ℕ) → Lacks k id → KernelState
+entered k caller id (No-one s there none) = in_semaphore k caller id
+entered k caller id (No-bits want f there none some) = in_flag k caller id want
+entered k caller id (No-room datum q there full) = in_senders k caller id datum
+entered k caller id (No-datum q there none) = in_receivers k caller id
 
 -- What the gate may have shown of a caller: its processor isn't held; it is the task that runs there, and no handler;
 -- its processor holds no spin lock.
@@ -115,27 +139,21 @@ pub record Law (Known : Fact → Type 0) (Q : KernelState → Type 0) (k : Kerne
   pub signals : (id : ℕ) (s : Semaphore) → object_at k.semaphores id ≡ Some s →
       Q (with_released (record k { semaphores = object_changed returned k.semaphores id }) (first_waiter s))
   pub takes : (id : ℕ) (s : Semaphore) → object_at k.semaphores id ≡ Some s → Q (record k { semaphores = object_changed taken k.semaphores id })
-  pub awaits_semaphore : (id : ℕ) (due : Option ℕ) (s : Semaphore) → object_at k.semaphores id ≡ Some s → has_one s ≡ false → Known Unheld →
-      Q (with_wait k caller (reason.Semaphore id) due (in_semaphore k caller id))
   -- of an event flag
   pub sets : (id bits : ℕ) (f : Flag) → object_at k.flags id ≡ Some f →
       Q (with_satisfied_released (record k { flags = object_changed (joined bits) k.flags id }) id)
   pub clears : (id bits : ℕ) (f : Flag) → object_at k.flags id ≡ Some f → Q (record k { flags = object_changed (masked bits) k.flags id })
   pub gets : (id : ℕ) (want : Want) (f : Flag) → object_at k.flags id ≡ Some f → Q (record k { flags = object_changed (taken_for want) k.flags id })
-  pub awaits_flag : (id : ℕ) (want : Want) (due : Option ℕ) (f : Flag) → object_at k.flags id ≡ Some f → pattern_for want f ≡ None → want.bits ≢ 0 →
-      Known Unheld →
-      Q (with_wait k caller (reason.Flag id) due (in_flag k caller id want))
   -- of a data queue
   pub sends : (id datum : ℕ) (q : DataQueueState) → object_at k.queues id ≡ Some q →
       Q (handed_over (record k { queues = object_changed (sent datum) k.queues id }) datum (outcome q))
-  pub awaits_send : (id datum : ℕ) (due : Option ℕ) (q : DataQueueState) → object_at k.queues id ≡ Some q → outcome q ≡ Full → Known Unheld →
-      Q (with_wait k caller (reason.Send id) due (in_senders k caller id datum))
   pub forces : (id datum : ℕ) (q : DataQueueState) → object_at k.queues id ≡ Some q →
       Q (handed_over (record k { queues = object_changed (forced datum) k.queues id }) datum (forced_outcome q))
   pub receives : (id : ℕ) (q : DataQueueState) (it : Received) → object_at k.queues id ≡ Some q → receipt q ≡ Some it →
       Q (with_released (record k { queues = object_changed received k.queues id }) it.sender)
-  pub awaits_receive : (id : ℕ) (due : Option ℕ) (q : DataQueueState) → object_at k.queues id ≡ Some q → receipt q ≡ None → Known Unheld →
-      Q (with_wait k caller (reason.Receive id) due (in_receivers k caller id))
+  -- of a wait for an object
+  pub awaits : (id : ℕ) (due : Option ℕ) (lacks : Lacks k id) → Known Unheld →
+      Q (with_wait k caller (reason.On (lacked lacks) id) due (entered k caller id lacks))
   -- of the board
   pub writes : (word : ℕ) → Q (record k { console = k.console ++ word % 2 ^ 8 ∷ [] })
   pub ends_all : Q (record k { off = true })
@@ -220,7 +238,8 @@ got : {Known : Fact → Type 0} (Q : KernelState → Type 0) (k : KernelState) (
     Leaves Q (flag_got k caller id want timeout pattern)
 got Q k cpu caller law id want timeout f (Some pattern) there is some may = law.gets id want f there
 got Q k cpu caller law id want timeout f None there is some may =
-    waits Q k caller (reason.Flag id) timeout (in_flag k caller id want) (λ wait. law.awaits_flag id want (due_by k timeout) f there is some (may wait))
+    waits Q k caller (reason.On kind.Flag id) timeout (in_flag k caller id want)
+    (λ wait. law.awaits id (due_by k timeout) (No-bits want f there is some) (may wait))
 
 sent-to : {Known : Fact → Type 0} (Q : KernelState → Type 0) (k : KernelState) (cpu caller : ℕ) (law : Law Known Q k cpu caller) (id datum timeout : ℕ)
     (q : DataQueueState) (what : Sent) → object_at k.queues id ≡ Some q → outcome q ≡ what → ((timeout == 0) ≡ false → Known Unheld) →
@@ -230,14 +249,16 @@ sent-to Q k cpu caller law id datum timeout q (Handed task) there is may =
 sent-to Q k cpu caller law id datum timeout q Stored there is may =
     subst (λ what. Q (handed_over (record k { queues = object_changed (sent datum) k.queues id }) datum what)) is (law.sends id datum q there)
 sent-to Q k cpu caller law id datum timeout q Full there is may =
-    waits Q k caller (reason.Send id) timeout (in_senders k caller id datum) (λ wait. law.awaits_send id datum (due_by k timeout) q there is (may wait))
+    waits Q k caller (reason.On kind.Room id) timeout (in_senders k caller id datum)
+    (λ wait. law.awaits id (due_by k timeout) (No-room datum q there is) (may wait))
 
 received-by : {Known : Fact → Type 0} (Q : KernelState → Type 0) (k : KernelState) (cpu caller : ℕ) (law : Law Known Q k cpu caller) (id timeout : ℕ)
     (q : DataQueueState) (what : Option Received) → object_at k.queues id ≡ Some q → receipt q ≡ what → ((timeout == 0) ≡ false → Known Unheld) →
     Leaves Q (queue_received k caller id timeout what)
 received-by Q k cpu caller law id timeout q (Some it) there is may = law.receives id q it there is
 received-by Q k cpu caller law id timeout q None there is may =
-    waits Q k caller (reason.Receive id) timeout (in_receivers k caller id) (λ wait. law.awaits_receive id (due_by k timeout) q there is (may wait))
+    waits Q k caller (reason.On kind.Datum id) timeout (in_receivers k caller id)
+    (λ wait. law.awaits id (due_by k timeout) (No-datum q there is) (may wait))
 
 woken : {Known : Fact → Type 0} (Q : KernelState → Type 0) (k : KernelState) (cpu caller : ℕ) (law : Law Known Q k cpu caller) (id : ℕ) →
     Leaves Q (served (table.wup_tsk k id))
@@ -327,8 +348,8 @@ walk Q k cpu caller law (call.SigSem id) may = leaves-row Q (table.sig_sem k id)
 walk Q k cpu caller law (call.TwaiSem id timeout) may =
     leaves-row Q (table.twai_sem k caller id timeout)
     (λ (s : Semaphore) passes. leaves-if Q (has_one s) _ _ (λ one. law.takes id s passes.there)
-    (λ none. waits Q k caller (reason.Semaphore id) timeout (in_semaphore k caller id)
-    (λ wait. law.awaits_semaphore id (due_by k timeout) s passes.there none (may wait))))
+    (λ none. waits Q k caller (reason.On kind.Semaphore id) timeout (in_semaphore k caller id)
+    (λ wait. law.awaits id (due_by k timeout) (No-one s passes.there none) (may wait))))
 walk Q k cpu caller law (call.SetFlg id bits) may = leaves-row Q (table.set_flg k id bits) (λ (f : Flag) passes. law.sets id bits f passes.there)
 walk Q k cpu caller law (call.ClrFlg id bits) may = leaves-row Q (table.clr_flg k id bits) (λ (f : Flag) passes. law.clears id bits f passes.there)
 walk Q k cpu caller law (call.TwaiFlg id bits mode timeout) may =
