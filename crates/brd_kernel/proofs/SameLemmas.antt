@@ -25,7 +25,7 @@ use Rattle.brd_kernel.specs.Kernel.{KernelState, with_tasks, with_processor, pro
 use Rattle.brd_kernel.specs.Waits.{can_wait, with_wait, released_in, reason_of, broken_off, ended_in, reordered_in, answer_by, timed_out, all_timed_out}
 use Rattle.brd_kernel.specs.Services.{unmarked_on, handler_ended, with_released, with_all_released_in, with_satisfied_of, handed_over}
 use Rattle.brd_kernel.proofs.WaitLemmas.{OnlyLists, unlisted-only, reordered-only}
-use Rattle.brd_kernel.proofs.WalkLemmas.{Lacks, No-one, lacked, entered, Fact, OfTask, Holding, Law}
+use Rattle.brd_kernel.proofs.WalkLemmas.{Lacks, No-one, lacked, awaiting, Fact, OfTask, Holding, Law}
 
 pub record Same (new old : KernelState) : Type 0 where
   pub processors : new.processors ≡ old.processors
@@ -96,7 +96,7 @@ same-wait k caller why due entered same =
     (record entered { tasks = through (blocked why) k.tasks caller; time = with_due k.time caller due }) k
     (record { processors = same.processors; spin_locks = same.spin_locks })
 
-pub same-entered : (k : KernelState) (caller id : ℕ) (lacks : Lacks k id) → Same (entered k caller id lacks) k
+pub same-entered : (k : KernelState) (caller id : ℕ) (lacks : Lacks k id) → Same (awaiting k caller id lacks) k
 same-entered k caller id (No-one s there none) = record { processors = refl; spin_locks = refl }
 same-entered k caller id _ = record { processors = refl; spin_locks = refl }
 
@@ -151,7 +151,7 @@ same-law Q k cpu caller law = record {
       let only = same-released (record k { queues = object_changed received k.queues id }) it.sender in
       law.same _ (record { processors = only.processors; spin_locks = only.spin_locks });
   awaits = λ id due lacks may.
-      law.same _ (same-wait k caller (reason.On (lacked lacks) id) due (entered k caller id lacks) (same-entered k caller id lacks));
+      law.same _ (same-wait k caller (reason.On (lacked lacks) id) due (awaiting k caller id lacks) (same-entered k caller id lacks));
   writes = λ word. law.same _ (record { processors = refl; spin_locks = refl });
   ends_all = law.same _ (record { processors = refl; spin_locks = refl });
 }

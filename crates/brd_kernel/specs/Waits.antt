@@ -66,8 +66,8 @@ reason_in (Some task) = waiting_of task.status
 abbrev pub reason_of : KernelState → ℕ → Option WaitReason
 reason_of k id = reason_in (task_at k.tasks id)
 
--- What becomes of a task in the list of what it waits for: of each kind of object, what becomes of it there. It becomes
--- so of all objects of that kind: the task stands in no other list.
+-- A change in the list of what a task waits for: what becomes of an object, by its kind. It is made of all objects of
+-- that kind, and is one of the object in whose list the task stands: it stands in no other.
 
 pub record Change : Type 0 where
   pub semaphore : Semaphore → Semaphore

@@ -21,7 +21,7 @@ use Rattle.brd_kernel.specs.Waiting.{SleeperIsKept, EachIsKept}
 use Rattle.brd_kernel.proofs.nobody_waits.ObjectLemmas.{returned-kept, taken-kept, semaphore-awaited, masked-kept, taken-for, flag-awaited, sent-kept, forced-kept, received-kept, sender-awaited, receiver-awaited}
 use Rattle.brd_kernel.proofs.who_waits.RowLemmas.{suspended-keeps, resumed-keeps}
 use Rattle.brd_kernel.proofs.nobody_waits.SleeperLemmas as sleeper
-use Rattle.brd_kernel.proofs.WalkLemmas.{Anything, Law, Lacks, No-one, No-bits, No-room, No-datum, lacked, entered, serve-always}
+use Rattle.brd_kernel.proofs.WalkLemmas.{Anything, Law, Lacks, No-one, No-bits, No-room, No-datum, lacked, awaiting, serve-always}
 use Rattle.brd_kernel.proofs.nobody_waits.EachLemmas.{others-kept, processor-kept, tasks-kept, semaphore-changed, flag-changed, queue-changed, released-kept, broken-kept, ended-kept, reordered-by, wait-kept, no-sleep, released-if, set-stays, handed-kept}
 
 -- a task that is awake has a wake-up queued
@@ -43,7 +43,7 @@ exit-kept k cpu None was = was
 exit-kept k cpu (Some p) was = processor-kept k cpu (unmarked p) was
 
 -- the caller stands in the list of what it didn't find
-entered-kept : (k : KernelState) (caller id : ℕ) (lacks : Lacks k id) → EachIsKept k → EachIsKept (entered k caller id lacks)
+entered-kept : (k : KernelState) (caller id : ℕ) (lacks : Lacks k id) → EachIsKept k → EachIsKept (awaiting k caller id lacks)
 entered-kept k caller id (No-one s there none) was =
     let p : ℕ = callers_priority k caller in
     semaphore-changed (semaphore_awaited caller p) k id (λ x at. semaphore-awaited caller p x (ap has_one_in (sym at ∙ there) ∙ none)) was
@@ -103,7 +103,7 @@ each-law k cpu caller was =
           (queue-changed (forced datum) k id (λ x at. forced-kept datum x) was);
       receives = λ id q (it : Received) there is. released-if (record k { queues = object_changed received k.queues id }) it.sender
           (queue-changed received k id (λ x at. received-kept x) was);
-      awaits = λ id due lacks may. wait-kept k caller (reason.On (lacked lacks) id) due (entered k caller id lacks)
+      awaits = λ id due lacks may. wait-kept k caller (reason.On (lacked lacks) id) due (awaiting k caller id lacks)
           (no-sleep k caller (reason.On (lacked lacks) id) refl) was (entered-kept k caller id lacks was);
       writes = λ word. others-kept k (record k { console = k.console ++ word % 2 ^ 8 ∷ [] }) refl refl refl was.sleepers was;
       ends_all = others-kept k (record k { off = true }) refl refl refl was.sleepers was;

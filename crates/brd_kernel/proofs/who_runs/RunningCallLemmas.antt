@@ -32,7 +32,7 @@ use Rattle.brd_kernel.specs.Services.{runs_held, is_held_elsewhere, is_no_proces
 use Rattle.brd_kernel.specs.Running.{is_ready_on, IsRunning}
 use Rattle.brd_kernel.proofs.who_waits.ListLemmas.{same-number}
 use Rattle.brd_kernel.proofs.WaitLemmas.{unlisted-only, reordered-only}
-use Rattle.brd_kernel.proofs.WalkLemmas.{IsOfBoard, Fact, Unheld, OfTask, HoldsNone, May, Law, lacked, entered, serve-leaves}
+use Rattle.brd_kernel.proofs.WalkLemmas.{IsOfBoard, Fact, Unheld, OfTask, HoldsNone, May, Law, lacked, awaiting, serve-leaves}
 use Rattle.brd_kernel.proofs.SameLemmas.{same-entered}
 use Rattle.brd_kernel.proofs.who_runs.ReadyLemmas.{KeepsReady, activated-keeps, ended-others, wakeup-keeps, cleared-keeps, blocked-active, suspended-active, through-others, resumed-keeps, released-keeps, priority-keeps, migrated-others, turned-keeps}
 use Rattle.brd_kernel.proofs.who_runs.RunningLemmas.{held_in, HoldsReady, IsntHeld, runs-hold, tasks-run, parts-run, marked-runs, others-hold, free-isnt_held, exit-holds, number-there}
@@ -297,7 +297,7 @@ holds-law k cpu p found was =
           runs-hold (handed_over new datum (forced_outcome q)) (handed-runs new datum (forced_outcome q) (parts-run k new refl refl was));
       receives = λ id q (it : Received) there is. let new : KernelState = record k { queues = object_changed received k.queues id } in
           runs-hold (with_released new it.sender) (released-if-runs new it.sender (parts-run k new refl refl was));
-      awaits = λ id due lacks may. wait-holds k cpu caller (reason.On (lacked lacks) id) due (entered k caller id lacks) p
+      awaits = λ id due lacks may. wait-holds k cpu caller (reason.On (lacked lacks) id) due (awaiting k caller id lacks) p
           (same-entered k caller id lacks).processors found may was;
       writes = λ word. parts-hold k (record k { console = k.console ++ word % 2 ^ 8 ∷ [] }) refl refl was;
       ends_all = parts-hold k (record k { off = true }) refl refl was;

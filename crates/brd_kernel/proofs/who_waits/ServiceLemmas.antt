@@ -26,7 +26,7 @@ use Rattle.brd_kernel.specs.Services as table
 use Rattle.brd_kernel.specs.Services.{named, unmarked_on, handler_ended, serve_by, serve_of, caller_on, or_waits, callers_priority, with_released, with_all_released_in, with_satisfied_of, handed_over, flag_got, queue_sent, queue_received}
 use Rattle.brd_kernel.specs.Waiting.{standing_for, WaitsAreKept}
 use Rattle.brd_kernel.proofs.who_waits.ListLemmas.{either}
-use Rattle.brd_kernel.proofs.WalkLemmas.{Anything, Law, lacked, entered, serve-always}
+use Rattle.brd_kernel.proofs.WalkLemmas.{Anything, Law, lacked, awaiting, serve-always}
 use Rattle.brd_kernel.proofs.nobody_waits.SleeperLemmas.{AreKept}
 use Rattle.brd_kernel.proofs.nobody_waits.EachLemmas.{others-kept, tasks-kept, ticked-kept, fault-kept}
 use Rattle.brd_kernel.proofs.nobody_waits.EachCallLemmas.{serve-kept}
@@ -81,7 +81,7 @@ stands-law k cpu caller was = record {
   sends = λ id datum q there. sent-keeps k id datum q there was;
   forces = λ id datum q there. forced-keeps k id datum q there was;
   receives = λ id (q : DataQueueState) it there is. received-keeps k id q it there is was;
-  awaits = λ id due lacks may. wait-keeps k caller (reason.On (lacked lacks) id) due (entered k caller id lacks) tt
+  awaits = λ id due lacks may. wait-keeps k caller (reason.On (lacked lacks) id) due (awaiting k caller id lacks) tt
       (enters-object k caller id lacks was) was;
   writes = λ word. parts-keep k (record k { console = k.console ++ word % 2 ^ 8 ∷ [] }) refl refl refl refl refl was;
   ends_all = parts-keep k (record k { off = true }) refl refl refl refl refl was;

@@ -27,7 +27,7 @@ use Rattle.brd_kernel.specs.Services.{callers_priority, with_priority_in}
 use Rattle.brd_kernel.specs.Waiting.{plain, semaphore_waiters, flag_waiters, senders, receivers, standing_for}
 use Rattle.brd_kernel.proofs.who_waits.ListLemmas.{priority_in-plain, priority_in-placed, priority_in-first, apart-plain, apart-wanting, apart-placed}
 use Rattle.brd_kernel.proofs.WaitLemmas.{unlisted-only, reordered-only}
-use Rattle.brd_kernel.proofs.WalkLemmas.{Lacks, No-one, No-bits, No-room, No-datum, lacked, entered, in_semaphore, in_flag, in_senders, in_receivers}
+use Rattle.brd_kernel.proofs.WalkLemmas.{Lacks, No-one, No-bits, No-room, No-datum, lacked, awaiting, in_semaphore, in_flag, in_senders, in_receivers}
 use Rattle.brd_kernel.proofs.who_waits.StandingLemmas.{stands_in, stands-same, waits_by, waits, IsTimedBy, Stands, StandsIn}
 use Rattle.brd_kernel.proofs.who_waits.KeepingLemmas.{IsEntered, Rewrites, by-lists, by-rows, by-ending, by-beginning, by-priority, by-leaving-one, apart-rewritten}
 use Rattle.brd_kernel.proofs.who_waits.RowLemmas.{IsAsBefore, changed-before, ended-made, released-made, blocked-made, changed-made, row-small}
@@ -209,7 +209,7 @@ enters-placed k new why order e xs list is were all was small =
     (λ at. ap (priority_in at) is ∙ placed-listed order at e xs (standing_for k why) were)
 
 pub enters-object : (k : KernelState) (id object : ℕ) (lacks : Lacks k object) → StandsIn [] k → id < 256 →
-    IsEntered id (reason.On (lacked lacks) object) (callers_priority k id) (standing_for k) (standing_for (entered k id object lacks))
+    IsEntered id (reason.On (lacked lacks) object) (callers_priority k id) (standing_for k) (standing_for (awaiting k id object lacks))
 enters-object k id object (No-one s there none) was small =
     let p : ℕ = callers_priority k id in
     let f : Semaphore → Semaphore = semaphore_awaited id p in
