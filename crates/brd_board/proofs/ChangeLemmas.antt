@@ -11,7 +11,6 @@ use Rattle.brd_exec.specs.declared.outcome.Outcome.TheVariants.{Done, Syscall, E
 use Rattle.brd_link.specs.LinkSet.{LinkSet, linked_address, without}
 use Rattle.brd_link.proofs.LinkLemmas.{linked_address-without_all}
 use Rattle.brd_mem.specs.Memory.{Memory}
-use Rattle.brd_tasks.specs.declared.task.Task.{Task}
 use Rattle.brd_kernel.specs.declared.processor.Processor.{Processor}
 use Rattle.brd_kernel.specs.declared.processor.Executor.{Executor}
 use Rattle.brd_kernel.specs.declared.processor.Executor.TheVariants as executor
@@ -20,18 +19,9 @@ use Rattle.brd_kernel.specs.Dispatch.{dispatched, is_same_task, has_changed, cha
 use Rattle.brd_kernel.proofs.SameLemmas.{Same, same-ended, same-law}
 use Rattle.brd_kernel.proofs.SpinLemmas.{same-ticked}
 use Rattle.brd_kernel.proofs.WalkLemmas.{Anything, Law, serve-always}
-use Rattle.brd_tasks.specs.declared.status.WaitReason.{WaitReason}
-use Rattle.brd_tasks.specs.declared.status.WaitReason.TheVariants as reason
-use Rattle.brd_tasks.specs.Status.{waiting_of}
-use Rattle.brd_tasks.specs.Tasks.{changed, with_priority, noted, without_activation}
+use Rattle.brd_tasks.specs.Tasks.{noted, without_activation}
 use Rattle.brd_time.specs.Time.{last_count, advanced as time_advanced}
-use Rattle.brd_objects.specs.declared.semaphore.Semaphore.{Semaphore}
-use Rattle.brd_objects.specs.declared.sent.Received.{Received}
-use Rattle.brd_objects.specs.Table.{object_at, object_changed}
-use Rattle.brd_objects.specs.Semaphores.{returned, first_waiter}
-use Rattle.brd_objects.specs.Flags.{joined}
-use Rattle.brd_objects.specs.DataQueues.{DataQueueState, sent, outcome, forced, forced_outcome, received}
-use Rattle.brd_kernel.specs.Waits.{with_wait, broken_off, ended_in, ticked_on, faulted_task, faulted_in}
+use Rattle.brd_kernel.specs.Waits.{ended_in, ticked_on, faulted_task, faulted_in}
 use Rattle.brd_kernel.specs.Services.{unmarked_on, caller_on}
 use Rattle.brd_sysgate.specs.Gate.{called}
 use Rattle.brd_board.proofs.CallingLemmas.{Calls, called-leaves}
