@@ -73,6 +73,8 @@ gate-times:
 bench:
 	cd crates/board_bench && rt run >/dev/null
 	crates/board_bench/out/board_bench 100000000
+	cd crates/repeat_bench && rt run >/dev/null
+	crates/repeat_bench/out/repeat_bench 200000000
 	cd crates/lanes_bench && rt run >/dev/null
 	crates/lanes_bench/out/lanes_bench time
 	cd crates/config_bench && rt run >/dev/null

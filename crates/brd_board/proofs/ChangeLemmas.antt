@@ -11,27 +11,17 @@ use Rattle.brd_exec.specs.declared.outcome.Outcome.TheVariants.{Done, Syscall, E
 use Rattle.brd_link.specs.LinkSet.{LinkSet, linked_address, without}
 use Rattle.brd_link.proofs.LinkLemmas.{linked_address-without_all}
 use Rattle.brd_mem.specs.Memory.{Memory}
-use Rattle.brd_tasks.specs.declared.task.Task.{Task}
 use Rattle.brd_kernel.specs.declared.processor.Processor.{Processor}
 use Rattle.brd_kernel.specs.declared.processor.Executor.{Executor}
 use Rattle.brd_kernel.specs.declared.processor.Executor.TheVariants as executor
 use Rattle.brd_kernel.specs.Kernel.{KernelState, with_tasks, processor_at, running_in, running_on, unmarked, executor_on, with_context_of, handles, accepted_line, deliverable, line_at, with_pending, Executed, executed_in, executed}
 use Rattle.brd_kernel.specs.Dispatch.{dispatched, is_same_task, has_changed, changed_processors}
-use Rattle.brd_kernel.proofs.SameLemmas.{Same, same-ended, same-broken, same-reordered, same-satisfied, same-released, same-handed, same-wait}
+use Rattle.brd_kernel.proofs.SameLemmas.{Same, same-ended, same-law}
 use Rattle.brd_kernel.proofs.SpinLemmas.{same-ticked}
-use Rattle.brd_kernel.proofs.WalkLemmas.{Anything, Law, in_semaphore, in_flag, in_senders, in_receivers, serve-always}
-use Rattle.brd_tasks.specs.declared.status.WaitReason.{WaitReason}
-use Rattle.brd_tasks.specs.declared.status.WaitReason.TheVariants as reason
-use Rattle.brd_tasks.specs.Status.{waiting_of}
-use Rattle.brd_tasks.specs.Tasks.{changed, with_priority, noted, without_activation}
+use Rattle.brd_kernel.proofs.WalkLemmas.{Anything, Law, serve-always}
+use Rattle.brd_tasks.specs.Tasks.{noted, without_activation}
 use Rattle.brd_time.specs.Time.{last_count, advanced as time_advanced}
-use Rattle.brd_objects.specs.declared.semaphore.Semaphore.{Semaphore}
-use Rattle.brd_objects.specs.declared.sent.Received.{Received}
-use Rattle.brd_objects.specs.Table.{object_at, object_changed}
-use Rattle.brd_objects.specs.Semaphores.{returned, first_waiter}
-use Rattle.brd_objects.specs.Flags.{joined}
-use Rattle.brd_objects.specs.DataQueues.{DataQueueState, sent, outcome, forced, forced_outcome, received}
-use Rattle.brd_kernel.specs.Waits.{with_wait, broken_off, ended_in, ticked_on, faulted_task, faulted_in}
+use Rattle.brd_kernel.specs.Waits.{ended_in, ticked_on, faulted_task, faulted_in}
 use Rattle.brd_kernel.specs.Services.{unmarked_on, caller_on}
 use Rattle.brd_sysgate.specs.Gate.{called}
 use Rattle.brd_board.proofs.CallingLemmas.{Calls, called-leaves}
@@ -72,50 +62,13 @@ keeps-exit k cpu caller =
     λ at. keeps-unmarked out cpu (processor_at k cpu) (ap (λ ps. slice_index_or ps cpu None) (same-ended k caller).processors) at
     ∙ runs out k (same-ended k caller) at
 
-keeps-wait : (k : KernelState) (caller : ℕ) (why : WaitReason) (due : Option ℕ) (entered : KernelState) → Same entered k →
-    KeepsRunners (with_wait k caller why due entered) k
-keeps-wait k caller why due entered same = runs (with_wait k caller why due entered) k (same-wait k caller why due entered same)
-
 runners-law : (k : KernelState) (cpu caller : ℕ) → Law Anything (λ new. KeepsRunners new k) k cpu caller
-runners-law k cpu caller = record {
-  stays = λ at. refl;
-  activates = λ id request of at. refl;
-  cancels = λ id at. refl;
-  wakes = λ id task there awake at. refl;
-  unwakes = λ id at. refl;
+runners-law k cpu caller = same-law (λ new. KeepsRunners new k) k cpu caller (record {
+  same = λ new is. runs new k is;
   exits = λ may. keeps-exit k cpu caller;
-  ends = λ id task there held other. runs (ended_in k id) k (same-ended k id);
-  prioritizes = λ id priority (task : Task) there.
-      keeps-by (same-reordered (with_tasks k (changed (with_priority priority) k.tasks id)) id priority (waiting_of task.status)).processors;
-  migrates = λ id to task there held absent may at. refl;
-  suspends = λ id task there held may at. refl;
-  resumes = λ id at. refl;
-  rouses = λ id task there asleep at. refl;
-  breaks = λ id answer. runs (broken_off k id answer) k (same-broken k id answer);
-  sleeps = λ due task there none may. keeps-wait k caller reason.Sleep due k (record { processors = refl; spin_locks = refl });
-  delays = λ due may. keeps-wait k caller reason.Delay (Some due) k (record { processors = refl; spin_locks = refl });
-  rotates = λ priority p there at. refl;
   marks = λ p q there same how at. runners-set k.processors cpu at p q there same;
   returns = λ (p : Processor) there at. runners-set k.processors cpu at p (record p { handling = None }) there refl;
-  signals = λ id (s : Semaphore) there.
-      keeps-by (same-released (record k { semaphores = object_changed returned k.semaphores id }) (first_waiter s)).processors;
-  takes = λ id s there at. refl;
-  awaits_semaphore = λ id due s there none may. keeps-wait k caller (reason.Semaphore id) due (in_semaphore k caller id) (record { processors = refl; spin_locks = refl });
-  sets = λ id bits f there. let set : KernelState = record k { flags = object_changed (joined bits) k.flags id } in
-      keeps-by (same-satisfied set id (object_at set.flags id)).processors;
-  clears = λ id bits f there at. refl;
-  gets = λ id want f there at. refl;
-  awaits_flag = λ id want due f there none some may. keeps-wait k caller (reason.Flag id) due (in_flag k caller id want) (record { processors = refl; spin_locks = refl });
-  sends = λ id datum (q : DataQueueState) there.
-      keeps-by (same-handed (record k { queues = object_changed (sent datum) k.queues id }) datum (outcome q)).processors;
-  awaits_send = λ id datum due q there full may. keeps-wait k caller (reason.Send id) due (in_senders k caller id datum) (record { processors = refl; spin_locks = refl });
-  forces = λ id datum (q : DataQueueState) there.
-      keeps-by (same-handed (record k { queues = object_changed (forced datum) k.queues id }) datum (forced_outcome q)).processors;
-  receives = λ id q (it : Received) there is. keeps-by (same-released (record k { queues = object_changed received k.queues id }) it.sender).processors;
-  awaits_receive = λ id due q there none may. keeps-wait k caller (reason.Receive id) due (in_receivers k caller id) (record { processors = refl; spin_locks = refl });
-  writes = λ word at. refl;
-  ends_all = λ at. refl;
-}
+})
 
 keeps-context : (k : KernelState) (cpu : ℕ) (who : Executor) (s : State) → KeepsRunners (with_context_of k cpu who s) k
 keeps-context k cpu executor.Handler s = λ at. refl

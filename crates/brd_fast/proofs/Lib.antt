@@ -1,3 +1,5 @@
 pub mod PlanLemmas
 pub mod StepLemmas
-pub mod TurnLemmas
+pub mod LineLemmas
+pub mod KnownLemmas
+pub mod GoneLemmas

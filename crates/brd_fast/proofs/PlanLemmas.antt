@@ -19,7 +19,7 @@ use Rattle.brd_fast.specs.Plans.{Plan, branched_by, calling, planned}
 abbrev pub Stands : Plan → Option Insn → State → Type 0
 Stands Plan.Declines found s = Unit {0}
 Stands (Plan.Does act) found s = (insn : Insn) × (found ≡ Some insn) × (action insn s ≡ act) × (has_slot insn ≡ false)
-Stands (Plan.Branches act) found s = (insn : Insn) × (found ≡ Some insn) × (action insn s ≡ act)
+Stands (Plan.Jumps after) found s = (insn : Insn) × (found ≡ Some insn) × (action insn s ≡ Action.Local after)
 
 reach-ahead : (npc ahead : ℕ) → (npc + 4 * ((ahead + 1) % 2 ^ 32) + (2 ^ 32 - 4)) % 2 ^ 32 ≡ (npc + 4 * ahead) % 2 ^ 32
 reach-ahead npc ahead = omega arith

@@ -15,13 +15,10 @@ abbrev pub Leads : Result State Stop → State → Bool → State → Type 0
 Leads (Ok after) old result new = (result ≡ true) × (new ≡ after)
 Leads (Err stop) old result new = (result ≡ false) × (new ≡ old)
 
--- a branch or a jump: it was done, and this context is there; or it is in a delay slot, and nothing was done
-abbrev pub TurnsOutside : Bool → State → State → Bool → State → Type 0
-TurnsOutside true after old result new = (result ≡ false) × (new ≡ old)
-TurnsOutside false after old result new = (result ≡ true) × (new ≡ after)
-
+-- a branch or a jump: it was done outside of a delay slot, and this context is there; or nothing was done
 abbrev pub Turns : State → State → Bool → State → Type 0
-Turns after old result new = TurnsOutside old.slot after old result new
+Turns after old true new = (old.slot ≡ false) × (new ≡ after)
+Turns after old false new = new ≡ old
 
 -- it was done, and this is there; or there is nothing to be done, and nothing was
 abbrev pub Acts : Option Machine → State → Memory → LinkSet → Bool → State → Memory → LinkSet → Type 0

@@ -1,7 +1,7 @@
 -- What an entry does, as far as the context tells: one line an entry. It is what its instruction does, with the
 -- immediate or the offset that is extended already.
 use Rattle.std.specs.Prelude.{ℕ, ◌+◌, ◌%◌, ◌^◌, ◌==◌, nat_lt, bit_and, bit_or, bit_xor, Bool, true, false, not}
-use Rattle.std.specs.Prelude.{if◌then◌else◌, Option, None}
+use Rattle.std.specs.Prelude.{◌≡◌, if◌then◌else◌, None}
 use Rattle.std.specs.Int.{w32, bit_not}
 use Rattle.brd_isa.specs.declared.instruction.{ShiftOp.ShiftOp, ShiftVariableOp.ShiftVariableOp, ProductOp.ProductOp}
 use Rattle.brd_isa.specs.declared.instruction.{AccumulateOp.AccumulateOp, CountOp.CountOp, LoadOp.LoadOp}
@@ -17,14 +17,15 @@ use Rattle.brd_exec.specs.Values.{count_gives, sum_of, difference_of, unless_ove
 use Rattle.brd_exec.specs.Values.{is_zero_branch_taken, is_regimm_branch_taken}
 use Rattle.brd_exec.specs.Action.{Action, with_word}
 use Rattle.brd_exec.specs.Step.{done}
-use Rattle.brd_exec.specs.Went.{Machine, went_by}
+use Rattle.brd_exec.specs.Went.{went_by}
 use Rattle.brd_entries.specs.declared.entry.Entry.{Entry}
 use Rattle.brd_fast.specs.Place.{reached}
+use Rattle.brd_fast.specs.Moves.{Acts, Turns}
 
 pub data Plan : Type 0 where
   Declines : Plan  -- nothing is said of it
   Does : Action → Plan  -- this action
-  Branches : Action → Plan  -- this action, outside of delay slots
+  Jumps : State → Plan  -- this is what a branch or a jump leaves, outside of delay slots
 
 -- on to the delay slot of a branch with this target; a branch-likely that isn't taken does without it
 abbrev pub branched_by : State → Bool → Bool → ℕ → State
@@ -130,62 +131,49 @@ planned (Entry.Sh rt base offset) s = Plan.Does (Action.Stores StoreOp.Sh rt (su
 planned (Entry.Swl rt base offset) s = Plan.Does (Action.Stores StoreOp.Swl rt (sum_of (read s base) offset))
 planned (Entry.Sw rt base offset) s = Plan.Does (Action.Stores StoreOp.Sw rt (sum_of (read s base) offset))
 planned (Entry.Swr rt base offset) s = Plan.Does (Action.Stores StoreOp.Swr rt (sum_of (read s base) offset))
-planned (Entry.J index) s = Plan.Branches (Action.Local (jumped s (jump_target s index)))
-planned (Entry.Jal index) s = Plan.Branches (Action.Local (jumped (calling s) (jump_target s index)))
-planned (Entry.Jr rs) s = Plan.Branches (Action.Local (jumped s (read s rs)))
-planned (Entry.Jalr rd rs) s = Plan.Branches (Action.Local (jumped (write s rd (return_address_of s)) (read s rs)))
+planned (Entry.J index) s = Plan.Jumps (jumped s (jump_target s index))
+planned (Entry.Jal index) s = Plan.Jumps (jumped (calling s) (jump_target s index))
+planned (Entry.Jr rs) s = Plan.Jumps (jumped s (read s rs))
+planned (Entry.Jalr rd rs) s = Plan.Jumps (jumped (write s rd (return_address_of s)) (read s rs))
 planned (Entry.Beq rs rt reach) s =
-    Plan.Branches (Action.Local (branched_by s false (read s rs == read s rt) (reached s.npc reach)))
+    Plan.Jumps (branched_by s false (read s rs == read s rt) (reached s.npc reach))
 planned (Entry.Bne rs rt reach) s =
-    Plan.Branches (Action.Local (branched_by s false (not (read s rs == read s rt)) (reached s.npc reach)))
+    Plan.Jumps (branched_by s false (not (read s rs == read s rt)) (reached s.npc reach))
 planned (Entry.Beql rs rt reach) s =
-    Plan.Branches (Action.Local (branched_by s true (read s rs == read s rt) (reached s.npc reach)))
+    Plan.Jumps (branched_by s true (read s rs == read s rt) (reached s.npc reach))
 planned (Entry.Bnel rs rt reach) s =
-    Plan.Branches (Action.Local (branched_by s true (not (read s rs == read s rt)) (reached s.npc reach)))
+    Plan.Jumps (branched_by s true (not (read s rs == read s rt)) (reached s.npc reach))
 planned (Entry.Blez rs reach) s =
-    Plan.Branches
-    (Action.Local (branched_by s false (is_zero_branch_taken BranchZeroOp.Blez (read s rs)) (reached s.npc reach)))
+    Plan.Jumps (branched_by s false (is_zero_branch_taken BranchZeroOp.Blez (read s rs)) (reached s.npc reach))
 planned (Entry.Bgtz rs reach) s =
-    Plan.Branches
-    (Action.Local (branched_by s false (is_zero_branch_taken BranchZeroOp.Bgtz (read s rs)) (reached s.npc reach)))
+    Plan.Jumps (branched_by s false (is_zero_branch_taken BranchZeroOp.Bgtz (read s rs)) (reached s.npc reach))
 planned (Entry.Blezl rs reach) s =
-    Plan.Branches
-    (Action.Local (branched_by s true (is_zero_branch_taken BranchZeroOp.Blezl (read s rs)) (reached s.npc reach)))
+    Plan.Jumps (branched_by s true (is_zero_branch_taken BranchZeroOp.Blezl (read s rs)) (reached s.npc reach))
 planned (Entry.Bgtzl rs reach) s =
-    Plan.Branches
-    (Action.Local (branched_by s true (is_zero_branch_taken BranchZeroOp.Bgtzl (read s rs)) (reached s.npc reach)))
+    Plan.Jumps (branched_by s true (is_zero_branch_taken BranchZeroOp.Bgtzl (read s rs)) (reached s.npc reach))
 planned (Entry.Bltz rs reach) s =
-    Plan.Branches
-    (Action.Local (branched_by s false (is_regimm_branch_taken BranchRegimmOp.Bltz (read s rs)) (reached s.npc reach)))
+    Plan.Jumps (branched_by s false (is_regimm_branch_taken BranchRegimmOp.Bltz (read s rs)) (reached s.npc reach))
 planned (Entry.Bgez rs reach) s =
-    Plan.Branches
-    (Action.Local (branched_by s false (is_regimm_branch_taken BranchRegimmOp.Bgez (read s rs)) (reached s.npc reach)))
+    Plan.Jumps (branched_by s false (is_regimm_branch_taken BranchRegimmOp.Bgez (read s rs)) (reached s.npc reach))
 planned (Entry.Bltzl rs reach) s =
-    Plan.Branches
-    (Action.Local (branched_by s true (is_regimm_branch_taken BranchRegimmOp.Bltzl (read s rs)) (reached s.npc reach)))
+    Plan.Jumps (branched_by s true (is_regimm_branch_taken BranchRegimmOp.Bltzl (read s rs)) (reached s.npc reach))
 planned (Entry.Bgezl rs reach) s =
-    Plan.Branches
-    (Action.Local (branched_by s true (is_regimm_branch_taken BranchRegimmOp.Bgezl (read s rs)) (reached s.npc reach)))
+    Plan.Jumps (branched_by s true (is_regimm_branch_taken BranchRegimmOp.Bgezl (read s rs)) (reached s.npc reach))
 planned (Entry.Bltzal rs reach) s =
-    Plan.Branches
-    (Action.Local
-    (branched_by (calling s) false (is_regimm_branch_taken BranchRegimmOp.Bltzal (read s rs)) (reached s.npc reach)))
+    Plan.Jumps (branched_by (calling s) false (is_regimm_branch_taken BranchRegimmOp.Bltzal (read s rs)) (reached s.npc reach))
 planned (Entry.Bgezal rs reach) s =
-    Plan.Branches
-    (Action.Local
-    (branched_by (calling s) false (is_regimm_branch_taken BranchRegimmOp.Bgezal (read s rs)) (reached s.npc reach)))
+    Plan.Jumps (branched_by (calling s) false (is_regimm_branch_taken BranchRegimmOp.Bgezal (read s rs)) (reached s.npc reach))
 planned (Entry.Bltzall rs reach) s =
-    Plan.Branches
-    (Action.Local
-    (branched_by (calling s) true (is_regimm_branch_taken BranchRegimmOp.Bltzall (read s rs)) (reached s.npc reach)))
+    Plan.Jumps (branched_by (calling s) true (is_regimm_branch_taken BranchRegimmOp.Bltzall (read s rs)) (reached s.npc reach))
 planned (Entry.Bgezall rs reach) s =
-    Plan.Branches
-    (Action.Local
-    (branched_by (calling s) true (is_regimm_branch_taken BranchRegimmOp.Bgezall (read s rs)) (reached s.npc reach)))
+    Plan.Jumps (branched_by (calling s) true (is_regimm_branch_taken BranchRegimmOp.Bgezall (read s rs)) (reached s.npc reach))
 
--- what the plan leaves; none where it declines, and where the instruction stops
-abbrev pub carried_out : ℕ → State → Memory → LinkSet → Plan → Option Machine
-carried_out cpu s memory links Plan.Declines = None
-carried_out cpu s memory links (Plan.Does action) = went_by (done cpu s memory links action)
-carried_out cpu s memory links (Plan.Branches action) =
-    if s.slot then None else went_by (done cpu s memory links action)
+-- What an entry may make of a context, memory and links: what its plan says; or nothing is done, where the plan declines,
+-- and where its action stops. A branch or a jump may be left undone.
+abbrev pub CarriesOut : ℕ → Plan → State → Memory → LinkSet → Bool → State → Memory → LinkSet → Type 0
+CarriesOut cpu Plan.Declines s memory links result new_s new_memory new_links =
+    Acts None s memory links result new_s new_memory new_links
+CarriesOut cpu (Plan.Does action) s memory links result new_s new_memory new_links =
+    Acts (went_by (done cpu s memory links action)) s memory links result new_s new_memory new_links
+CarriesOut cpu (Plan.Jumps after) s memory links result new_s new_memory new_links =
+    Turns after s result new_s × (new_memory ≡ memory) × (new_links ≡ links)

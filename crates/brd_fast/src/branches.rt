@@ -1,18 +1,21 @@
-//! Branches and jumps, done in a context whose place is kept apart. In a delay slot they aren't done (MD00086 says of
-//! them UNPREDICTABLE; the step raises an exception).
+//! Branches and jumps, done in a context whose place is kept apart. They are left undone in a delay slot (MD00086 says
+//! of them UNPREDICTABLE; the step raises an exception), and where they go to no word that may be executed here.
 
 ghost use Rattle.std.specs.Prelude.{◌≡◌, ◌+◌, ◌*◌, ◌/◌, ◌%◌, ◌^◌, true, false, ◌||◌, ◌==◌};
 ghost use Rattle.brd_exec.specs.State.{State, read, write, jumped, jump_target, return_address_of};
 ghost use Rattle.brd_exec.specs.Values.{is_negative, is_jump_calling};
-ghost use Rattle.brd_fast.specs.Place.{state_of, reached};
+ghost use Rattle.brd_fast.specs.Place.{state_of, reached, Leaves};
 ghost use Rattle.brd_fast.specs.Plans.{branched_by, calling};
 ghost use Rattle.brd_fast.specs.Moves.{Turns};
 
-use crate::place::Place;
+use crate::line::Line;
 use crate::registers::word;
 use brd_entries::{Destination, Source};
 use brd_exec::Context;
-use brd_isa::{JumpIndex, JumpOp};
+use brd_isa::JumpIndex;
+
+/// How many words after a branch that lies which goes on after its delay slot.
+const PAST_SLOT: u32 = 2;
 
 /// Whether the sign bit is set.
 #[inline(always)]
@@ -32,150 +35,177 @@ pub fn is_at_most_zero(word: u32) -> bool
 
 /// Does a branch, which its delay slot follows whether it is taken or not (MD00086, "Branch Delay Slots").
 #[inline(always)]
-pub fn branch(place: &mut Place, taken: bool, reach: u32) -> bool
-    ensures { (s : State) → Turns (branched_by (state_of s place.old) false taken (reached place.old.npc reach))
-        (state_of s place.old) result (state_of s place.new) }
+pub fn branch(line: &mut Line, taken: bool, reach: u32) -> bool
+    requires { line.old.on ≡ true }
+    ensures is { (s : State) → Turns (branched_by (state_of s line.old) false taken (reached line.old.npc reach))
+        (state_of s line.old) result (state_of s line.new) }
+    ensures leaves { Leaves line.old result line.new }
 {
-    if place.slot {
+    if !line.has_room() {
         return false;
     }
     if taken {
-        let target = place.target(reach);
-        place.jump(target);
+        let Some(target) = line.ahead(reach) else {
+            return false;
+        };
+        line.turn(target);
         return true;
     }
-    place.pass();
+    let Some(target) = line.ahead(PAST_SLOT) else {
+        return false;
+    };
+    line.turn(target);
     true
 }
 
 /// Does a branch-likely, which goes on after its delay slot where it isn't taken (MD00086, BEQL).
 #[inline(always)]
-pub fn branch_likely(place: &mut Place, taken: bool, reach: u32) -> bool
-    ensures { (s : State) → Turns (branched_by (state_of s place.old) true taken (reached place.old.npc reach))
-        (state_of s place.old) result (state_of s place.new) }
+pub fn branch_likely(line: &mut Line, taken: bool, reach: u32) -> bool
+    requires { line.old.on ≡ true }
+    ensures is { (s : State) → Turns (branched_by (state_of s line.old) true taken (reached line.old.npc reach))
+        (state_of s line.old) result (state_of s line.new) }
+    ensures leaves { Leaves line.old result line.new }
 {
-    if place.slot {
+    if !line.has_room() {
         return false;
     }
     if taken {
-        let target = place.target(reach);
-        place.jump(target);
+        let Some(target) = line.ahead(reach) else {
+            return false;
+        };
+        line.turn(target);
         return true;
     }
-    place.skip();
+    let Some(next) = line.ahead(PAST_SLOT) else {
+        return false;
+    };
+    line.skip(next);
     true
 }
 
 /// Writes the return address to register 31: that of the instruction after the delay slot.
 #[inline(always)]
-fn put_return_address(context: &mut Context, place: &Place)
-    ensures { context.new ≡ write context.old 31 ((place.now.pc + 8) % 2 ^ 32) }
+fn put_return_address(context: &mut Context, line: &Line)
+    requires { line.now.on ≡ true }
+    ensures { context.new ≡ write context.old 31 ((line.now.pc + 8) % 2 ^ 32) }
 {
-    context.put(31, place.pc.wrapping_add(8));
+    context.put(31, line.pc().wrapping_add(8));
 }
 
 /// Does a branch that writes the return address, taken or not.
 #[inline(always)]
-pub fn call(context: &mut Context, place: &mut Place, taken: bool, reach: u32) -> bool
-    ensures { Turns (branched_by (calling (state_of context.old place.old)) false taken (reached place.old.npc reach))
-        (state_of context.old place.old) result (state_of context.new place.new) }
+pub fn call(context: &mut Context, line: &mut Line, taken: bool, reach: u32) -> bool
+    requires { line.old.on ≡ true }
+    ensures is { Turns (branched_by (calling (state_of context.old line.old)) false taken (reached line.old.npc reach))
+        (state_of context.old line.old) result (state_of context.new line.new) }
+    ensures leaves { Leaves line.old result line.new }
 {
-    if place.slot {
+    if !line.has_room() {
         return false;
     }
-    put_return_address(context, place);
-    if taken {
-        let target = place.target(reach);
-        place.jump(target);
-        return true;
-    }
-    place.pass();
+    let Some(target) = line.ahead(if taken { reach } else { PAST_SLOT }) else {
+        return false;
+    };
+    put_return_address(context, line);
+    line.turn(target);
     true
 }
 
 /// Does a branch-likely that writes the return address, taken or not.
 #[inline(always)]
-pub fn call_likely(context: &mut Context, place: &mut Place, taken: bool, reach: u32) -> bool
-    ensures { Turns (branched_by (calling (state_of context.old place.old)) true taken (reached place.old.npc reach))
-        (state_of context.old place.old) result (state_of context.new place.new) }
+pub fn call_likely(context: &mut Context, line: &mut Line, taken: bool, reach: u32) -> bool
+    requires { line.old.on ≡ true }
+    ensures is { Turns (branched_by (calling (state_of context.old line.old)) true taken (reached line.old.npc reach))
+        (state_of context.old line.old) result (state_of context.new line.new) }
+    ensures leaves { Leaves line.old result line.new }
 {
-    if place.slot {
+    if !line.has_room() {
         return false;
     }
-    put_return_address(context, place);
+    let Some(target) = line.ahead(if taken { reach } else { PAST_SLOT }) else {
+        return false;
+    };
+    put_return_address(context, line);
     if taken {
-        let target = place.target(reach);
-        place.jump(target);
+        line.turn(target);
         return true;
     }
-    place.skip();
+    line.skip(target);
     true
-}
-
-/// The target of a jump by an index: the top four bits are those of the delay slot's address (MD00086, J).
-#[inline(always)]
-fn target_of(place: &Place, index: JumpIndex) -> u32
-    ensures { result ≡ place.now.npc / 2 ^ 28 * 2 ^ 28 + 4 * index }
-{
-    ((place.npc >> 28) << 28) + (index.words() << 2)
 }
 
 /// Does `j target`.
 #[inline(always)]
-pub fn jump(place: &mut Place, index: JumpIndex) -> bool
-    ensures { (s : State) → Turns (jumped (state_of s place.old) (jump_target (state_of s place.old) index))
-        (state_of s place.old) result (state_of s place.new) }
+pub fn jump(line: &mut Line, index: JumpIndex) -> bool
+    requires { line.old.on ≡ true }
+    ensures is { (s : State) → Turns (jumped (state_of s line.old) (jump_target (state_of s line.old) index))
+        (state_of s line.old) result (state_of s line.new) }
+    ensures leaves { Leaves line.old result line.new }
 {
-    if place.slot {
+    if !line.has_room() {
         return false;
     }
-    let target = target_of(place, index);
-    place.jump(target);
+    let Some(target) = line.indexed(index) else {
+        return false;
+    };
+    line.turn(target);
     true
 }
 
 /// Does `jal target`.
 #[inline(always)]
-pub fn jump_and_link(context: &mut Context, place: &mut Place, index: JumpIndex) -> bool
-    ensures { Turns
-        (jumped (calling (state_of context.old place.old)) (jump_target (state_of context.old place.old) index))
-        (state_of context.old place.old) result (state_of context.new place.new) }
+pub fn jump_and_link(context: &mut Context, line: &mut Line, index: JumpIndex) -> bool
+    requires { line.old.on ≡ true }
+    ensures is { Turns
+        (jumped (calling (state_of context.old line.old)) (jump_target (state_of context.old line.old) index))
+        (state_of context.old line.old) result (state_of context.new line.new) }
+    ensures leaves { Leaves line.old result line.new }
 {
-    if place.slot {
+    if !line.has_room() {
         return false;
     }
-    let target = target_of(place, index);
-    put_return_address(context, place);
-    place.jump(target);
+    let Some(target) = line.indexed(index) else {
+        return false;
+    };
+    put_return_address(context, line);
+    line.turn(target);
     true
 }
 
 /// Does `jr rs`.
 #[inline(always)]
-pub fn jump_register(context: &Context, place: &mut Place, rs: Source) -> bool
-    ensures { Turns (jumped (state_of context.now place.old) (read context.now rs))
-        (state_of context.now place.old) result (state_of context.now place.new) }
+pub fn jump_register(context: &Context, line: &mut Line, rs: Source) -> bool
+    requires { line.old.on ≡ true }
+    ensures is { Turns (jumped (state_of context.now line.old) (read context.now rs))
+        (state_of context.now line.old) result (state_of context.now line.new) }
+    ensures leaves { Leaves line.old result line.new }
 {
-    if place.slot {
+    if !line.has_room() {
         return false;
     }
-    let target = word(context, rs);
-    place.jump(target);
+    let Some(target) = line.addressed(word(context, rs)) else {
+        return false;
+    };
+    line.turn(target);
     true
 }
 
 /// Does `jalr rd, rs`. The target is what the register was before the return address was written.
 #[inline(always)]
-pub fn call_register(context: &mut Context, place: &mut Place, rd: Destination, rs: Source) -> bool
-    ensures { Turns
-        (jumped (write (state_of context.old place.old) rd (return_address_of (state_of context.old place.old)))
-        (read context.old rs)) (state_of context.old place.old) result (state_of context.new place.new) }
+pub fn call_register(context: &mut Context, line: &mut Line, rd: Destination, rs: Source) -> bool
+    requires { line.old.on ≡ true }
+    ensures is { Turns
+        (jumped (write (state_of context.old line.old) rd (return_address_of (state_of context.old line.old)))
+        (read context.old rs)) (state_of context.old line.old) result (state_of context.new line.new) }
+    ensures leaves { Leaves line.old result line.new }
 {
-    if place.slot {
+    if !line.has_room() {
         return false;
     }
-    let target = word(context, rs);
-    context.put(rd.number(), place.pc.wrapping_add(8));
-    place.jump(target);
+    let Some(target) = line.addressed(word(context, rs)) else {
+        return false;
+    };
+    context.put(rd.number(), line.pc().wrapping_add(8));
+    line.turn(target);
     true
 }

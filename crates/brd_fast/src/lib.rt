@@ -5,8 +5,9 @@
 
 mod branches;
 mod entries;
+mod known;
+mod line;
 mod memory;
-mod place;
 mod registers;
 mod steps;
 mod table;

@@ -1,15 +1,15 @@
 //! Loads and stores, done in a context whose place is kept apart.
 
-ghost use Rattle.std.specs.Prelude.{◌≡◌, ◌≤◌};
+ghost use Rattle.std.specs.Prelude.{◌≡◌, ◌≤◌, true};
 ghost use Rattle.brd_exec.specs.State.{read};
 ghost use Rattle.brd_exec.specs.Values.{sum_of};
 ghost use Rattle.brd_exec.specs.Action.{Action, with_word};
 ghost use Rattle.brd_exec.specs.Step.{load_gives, store_gives, stores, with_code};
 ghost use Rattle.brd_exec.specs.Went.{went_by};
-ghost use Rattle.brd_fast.specs.Place.{state_of};
+ghost use Rattle.brd_fast.specs.Place.{state_of, Leaves};
 ghost use Rattle.brd_fast.specs.Moves.{Leads, Acts};
 
-use crate::place::Place;
+use crate::line::Line;
 use crate::registers::{set, word};
 use brd_entries::{Destination, Source};
 use brd_exec::Context;
@@ -21,20 +21,22 @@ use brd_mem::Ram;
 #[inline(always)]
 pub fn load(
     context: &mut Context,
-    place: &mut Place,
+    line: &mut Line,
     ram: &Ram,
     op: LoadOp,
     rt: Destination,
     base: Source,
     offset: u32,
 ) -> bool
-    ensures { Leads (with_word (state_of context.old place.old) rt
+    requires { line.old.on ≡ true }
+    ensures is { Leads (with_word (state_of context.old line.old) rt
         (with_code (load_gives op ram.now (sum_of (read context.old base) offset) (read context.old rt))))
-        (state_of context.old place.old) result (state_of context.new place.new) }
+        (state_of context.old line.old) result (state_of context.new line.new) }
+    ensures leaves { Leaves line.old result line.new }
 {
     let address = word(context, base).wrapping_add(offset);
     match brd_exec::load(op, ram, address, context.word(rt.number())) {
-        Ok(word) => set(context, place, rt, word),
+        Ok(word) => set(context, line, rt, word),
         Err(_) => false,
     }
 }
@@ -44,7 +46,7 @@ pub fn load(
 #[inline(always)]
 pub fn store(
     context: &Context,
-    place: &mut Place,
+    line: &mut Line,
     cpu: u8,
     ram: &mut Ram,
     links: &mut Links,
@@ -53,17 +55,19 @@ pub fn store(
     base: Source,
     offset: u32,
 ) -> bool
-    requires { (1 ≤ cpu) × (cpu ≤ 8) }
-    ensures { Acts (went_by
-        (stores cpu (state_of context.now place.old) links.old (sum_of (read context.now base) offset)
+    requires processor { (1 ≤ cpu) × (cpu ≤ 8) }
+    requires on { line.old.on ≡ true }
+    ensures is { Acts (went_by
+        (stores cpu (state_of context.now line.old) links.old (sum_of (read context.now base) offset)
         (store_gives op ram.old (sum_of (read context.now base) offset) (read context.now rt))))
-        (state_of context.now place.old) ram.old links.old result (state_of context.now place.new) ram.new links.new }
+        (state_of context.now line.old) ram.old links.old result (state_of context.now line.new) ram.new links.new }
+    ensures leaves { Leaves line.old result line.new }
 {
     let address = word(context, base).wrapping_add(offset);
     match brd_exec::store(op, ram, address, word(context, rt)) {
         Ok(()) => {
             links.stored(cpu, address);
-            place.advance();
+            line.advance();
             true
         }
         Err(_) => false,

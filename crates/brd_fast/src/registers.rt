@@ -14,10 +14,10 @@ ghost use Rattle.brd_exec.specs.Values.{
   unless_overflow,
 };
 ghost use Rattle.brd_exec.specs.Action.{with_word};
-ghost use Rattle.brd_fast.specs.Place.{state_of};
+ghost use Rattle.brd_fast.specs.Place.{state_of, IsAt, Leaves};
 ghost use Rattle.brd_fast.specs.Moves.{Moves, Leads};
 
-use crate::place::Place;
+use crate::line::Line;
 use brd_entries::{Destination, Source};
 use brd_exec::{
     Context, accumulate_value, count_value, product_value, shift_value, shift_variable_value,
@@ -35,21 +35,25 @@ pub fn word(context: &Context, source: Source) -> u32
 
 /// Goes on to the next instruction.
 #[inline(always)]
-pub fn pass(place: &mut Place) -> bool
+pub fn pass(line: &mut Line) -> bool
+    requires { line.old.on ≡ true }
     ensures done { result ≡ true }
-    ensures is { place.new ≡ (record { pc = place.old.npc; npc = (place.old.npc + 4) % 2 ^ 32; slot = false }) }
+    ensures is { IsAt line.new line.old.npc ((line.old.npc + 4) % 2 ^ 32) false }
+    ensures leaves { Leaves line.old result line.new }
 {
-    place.advance();
+    line.advance();
     true
 }
 
 /// Goes on to the next instruction with this word in a register.
 #[inline(always)]
-pub fn set(context: &mut Context, place: &mut Place, rd: Destination, word: u32) -> bool
-    ensures { Moves (with_register (state_of context.old place.old) rd word) result (state_of context.new place.new) }
+pub fn set(context: &mut Context, line: &mut Line, rd: Destination, word: u32) -> bool
+    requires { line.old.on ≡ true }
+    ensures is { Moves (with_register (state_of context.old line.old) rd word) result (state_of context.new line.new) }
+    ensures leaves { Leaves line.old result line.new }
 {
     context.put(rd.number(), word);
-    place.advance();
+    line.advance();
     true
 }
 
@@ -57,123 +61,137 @@ pub fn set(context: &mut Context, place: &mut Place, rd: Destination, word: u32)
 #[inline(always)]
 pub fn set_if(
     context: &mut Context,
-    place: &mut Place,
+    line: &mut Line,
     sets: bool,
     rd: Destination,
     rs: Source,
 ) -> bool
-    ensures { Moves
-        (with_register (state_of context.old place.old) rd (if sets then read context.old rs else read context.old rd))
-        result (state_of context.new place.new) }
+    requires { line.old.on ≡ true }
+    ensures is { Moves
+        (with_register (state_of context.old line.old) rd (if sets then read context.old rs else read context.old rd))
+        result (state_of context.new line.new) }
+    ensures leaves { Leaves line.old result line.new }
 {
     let word = context.word(if sets { rs.number() } else { rd.number() });
-    set(context, place, rd, word)
+    set(context, line, rd, word)
 }
 
 /// Does `op rd, rt, sa`.
 #[inline(always)]
 pub fn shift(
     context: &mut Context,
-    place: &mut Place,
+    line: &mut Line,
     op: ShiftOp,
     rd: Destination,
     rt: Source,
     sa: ShiftAmount,
 ) -> bool
-    ensures { Moves (with_register (state_of context.old place.old) rd (shift_gives op (read context.old rt) sa))
-        result (state_of context.new place.new) }
+    requires { line.old.on ≡ true }
+    ensures is { Moves (with_register (state_of context.old line.old) rd (shift_gives op (read context.old rt) sa))
+        result (state_of context.new line.new) }
+    ensures leaves { Leaves line.old result line.new }
 {
     let word = shift_value(op, word(context, rt), sa);
-    set(context, place, rd, word)
+    set(context, line, rd, word)
 }
 
 /// Does `op rd, rt, rs`.
 #[inline(always)]
 pub fn shift_variable(
     context: &mut Context,
-    place: &mut Place,
+    line: &mut Line,
     op: ShiftVariableOp,
     rd: Destination,
     rt: Source,
     rs: Source,
 ) -> bool
-    ensures { Moves (with_register (state_of context.old place.old) rd
+    requires { line.old.on ≡ true }
+    ensures is { Moves (with_register (state_of context.old line.old) rd
         (shift_variable_gives op (read context.old rt) (read context.old rs % 2 ^ 5)))
-        result (state_of context.new place.new) }
+        result (state_of context.new line.new) }
+    ensures leaves { Leaves line.old result line.new }
 {
     let amount = ShiftAmount::low(word(context, rs));
     let word = shift_variable_value(op, word(context, rt), amount);
-    set(context, place, rd, word)
+    set(context, line, rd, word)
 }
 
 /// Does `op rd, rs`.
 #[inline(always)]
 pub fn count(
     context: &mut Context,
-    place: &mut Place,
+    line: &mut Line,
     op: CountOp,
     rd: Destination,
     rs: Source,
 ) -> bool
-    ensures { Moves (with_register (state_of context.old place.old) rd (count_gives op (read context.old rs)))
-        result (state_of context.new place.new) }
+    requires { line.old.on ≡ true }
+    ensures is { Moves (with_register (state_of context.old line.old) rd (count_gives op (read context.old rs)))
+        result (state_of context.new line.new) }
+    ensures leaves { Leaves line.old result line.new }
 {
     let word = count_value(op, word(context, rs));
-    set(context, place, rd, word)
+    set(context, line, rd, word)
 }
 
 /// Adds a word to a register's, unless the sum overflows.
 #[inline(always)]
-pub fn add(context: &mut Context, place: &mut Place, rd: Destination, rs: Source, b: u32) -> bool
-    ensures { Leads (with_word (state_of context.old place.old) rd
+pub fn add(context: &mut Context, line: &mut Line, rd: Destination, rs: Source, b: u32) -> bool
+    requires { line.old.on ≡ true }
+    ensures is { Leads (with_word (state_of context.old line.old) rd
         (unless_overflow (sum_overflows (read context.old rs) b) (sum_of (read context.old rs) b)))
-        (state_of context.old place.old) result (state_of context.new place.new) }
+        (state_of context.old line.old) result (state_of context.new line.new) }
+    ensures leaves { Leaves line.old result line.new }
 {
     let a = word(context, rs);
     if add_overflows(a, b) {
         return false;
     }
-    set(context, place, rd, a.wrapping_add(b))
+    set(context, line, rd, a.wrapping_add(b))
 }
 
 /// Subtracts a register's word from another's, unless the difference overflows.
 #[inline(always)]
 pub fn subtract(
     context: &mut Context,
-    place: &mut Place,
+    line: &mut Line,
     rd: Destination,
     rs: Source,
     rt: Source,
 ) -> bool
-    ensures { Leads (with_word (state_of context.old place.old) rd
+    requires { line.old.on ≡ true }
+    ensures is { Leads (with_word (state_of context.old line.old) rd
         (unless_overflow (difference_overflows (read context.old rs) (read context.old rt))
         (difference_of (read context.old rs) (read context.old rt))))
-        (state_of context.old place.old) result (state_of context.new place.new) }
+        (state_of context.old line.old) result (state_of context.new line.new) }
+    ensures leaves { Leaves line.old result line.new }
 {
     let a = word(context, rs);
     let b = word(context, rt);
     if sub_overflows(a, b) {
         return false;
     }
-    set(context, place, rd, a.wrapping_sub(b))
+    set(context, line, rd, a.wrapping_sub(b))
 }
 
 /// Does `op rs, rt`, to HI and LO.
 #[inline(always)]
 pub fn product(
     context: &mut Context,
-    place: &mut Place,
+    line: &mut Line,
     op: ProductOp,
     rs: Source,
     rt: Source,
 ) -> bool
-    ensures { Moves (write_product (advanced (state_of context.old place.old))
+    requires { line.old.on ≡ true }
+    ensures is { Moves (write_product (advanced (state_of context.old line.old))
         (product_gives op (read context.old rs) (read context.old rt)))
-        result (state_of context.new place.new) }
+        result (state_of context.new line.new) }
+    ensures leaves { Leaves line.old result line.new }
 {
     let product = product_value(op, word(context, rs), word(context, rt));
     context.set_product(product);
-    place.advance();
+    line.advance();
     true
 }
 
@@ -181,17 +199,19 @@ pub fn product(
 #[inline(always)]
 pub fn accumulate(
     context: &mut Context,
-    place: &mut Place,
+    line: &mut Line,
     op: AccumulateOp,
     rs: Source,
     rt: Source,
 ) -> bool
-    ensures { Moves (write_product (advanced (state_of context.old place.old))
+    requires { line.old.on ≡ true }
+    ensures is { Moves (write_product (advanced (state_of context.old line.old))
         (accumulate_gives op (product_in context.old) (read context.old rs) (read context.old rt)))
-        result (state_of context.new place.new) }
+        result (state_of context.new line.new) }
+    ensures leaves { Leaves line.old result line.new }
 {
     let product = accumulate_value(op, context.product(), word(context, rs), word(context, rt));
     context.set_product(product);
-    place.advance();
+    line.advance();
     true
 }

@@ -1,23 +1,23 @@
 //! Many steps of one processor.
 
-ghost use Rattle.std.specs.Prelude.{◌≡◌, ◌≤◌, ◌*◌, ◌+◌, ◌<◌, ◌^◌, length, Some};
+ghost use Rattle.std.specs.Prelude.{◌≡◌, ◌≤◌, ◌*◌, length, All, Some, true};
 ghost use Rattle.brd_mem.specs.Memory.{size_of};
-ghost use Rattle.brd_exec.specs.Went.{Machine, went};
-ghost use Rattle.brd_fast.specs.Place.{state_of};
-ghost use Rattle.brd_fast.specs.Steps.{MaySteps};
+ghost use Rattle.brd_exec.specs.Went.{went};
+ghost use Rattle.brd_fast.specs.Known.{IsRight};
+ghost use Rattle.brd_fast.specs.Place.{Leaves};
+ghost use Rattle.brd_fast.specs.Steps.{MaySteps, machine_at};
 
 use crate::entries::carry_out;
-use crate::place::Place;
-use crate::table::{Known, Table, entry_in};
-use brd_base::BASE;
+use crate::known::Known;
+use crate::line::{Line, index_of};
+use crate::table::Table;
 use brd_exec::Context;
 use brd_link::Links;
 use brd_mem::Ram;
-use brd_word::{Order, bytes_of, word_of};
 
 /// Does steps of a processor's context, one after the other, as many as `count` at most, and answers how many it did.
-/// It ends early at whatever is unusual: an exception, a SYSCALL, LL, SC, a branch in a delay slot. That is left to do,
-/// and nothing of it is done.
+/// It ends early at whatever is unusual: an exception, a SYSCALL, LL, SC, a branch in a delay slot, words that the table
+/// has no place for. That is left to do, and nothing of it is done. A table for RAM of another byte order does nothing.
 pub fn go(
     table: &mut Table,
     cpu: u8,
@@ -33,6 +33,9 @@ pub fn go(
 {
     let mut done = 0;
     'passes: for _ in 0..count {
+        if table.order() != ram.order() {
+            break;
+        }
         done += known_steps(table.known(), cpu, context, ram, links, count - done);
         if done == count || !learns(table, context.pc(), ram) {
             break;
@@ -41,14 +44,17 @@ pub fn go(
     done
 }
 
-/// Puts the word at an address into the table, where it lies in RAM and the table has another at its place. Answers
+/// Takes the word at an address up into the table, where it lies in RAM and the table has another at its place. Answers
 /// whether it did.
 #[inline(never)]
-fn learns(table: &mut Table, address: u32, ram: &Ram) -> bool {
-    match ram.fetch(address) {
-        Ok(word) => table.learns(index_of(address), word),
-        Err(_) => false,
+fn learns(table: &mut Table, address: u32, ram: &Ram) -> bool
+    ensures { table.new.order ≡ table.old.order }
+{
+    let at = index_of(address);
+    if at >= ram.size() / 4 {
+        return false;
     }
+    table.learns(at, ram.raw_at(4 * at))
 }
 
 /// Does steps, as `go` does, but ends also where the table doesn't have the next word.
@@ -62,63 +68,53 @@ fn known_steps(
     count: u32,
 ) -> u32
     requires processor { (1 ≤ cpu) × (cpu ≤ 8) }
-    requires table { length known.now ≡ 2 ^ 14 }
+    requires right { All (IsRight ram.old.order) known.now }
     ensures few { result ≤ count }
     ensures steps { went cpu result (record { state = context.old; memory = ram.old; links = links.old })
         ≡ Some (record { state = context.new; memory = ram.new; links = links.new }) }
 {
-    let words = ram.size() / 4;
-    let mut place = Place::of(context);
-    let mut left = count;
-    'steps: while left > 0 {
-        if !step(known, cpu, context, &mut place, ram, links, words) {
+    let words = known.len().min(ram.size() / 4);
+    let Some(mut line) = Line::of(context, words, count) else {
+        return 0;
+    };
+    'lines: for _ in 0..count {
+        'steps: while line.is_on() {
+            if !step(known, cpu, context, &mut line, ram, links) {
+                break 'lines;
+            }
+        }
+        if !line.goes_on(ram) {
             break;
         }
-        left -= 1;
     }
-    context.go_to(place.pc, place.npc, place.slot);
-    count - left
+    line.put(context);
+    count - line.left()
 }
 
-/// Does a step by the entry of its word, where that is one of the first `words` of RAM, and the table has it. Answers
-/// whether it did; else nothing has changed.
+/// Does a step by the entry of its word, where the table has it. Answers whether it did; else nothing has changed.
 #[inline(always)]
 fn step(
     known: &[Known],
     cpu: u8,
     context: &mut Context,
-    place: &mut Place,
+    line: &mut Line,
     ram: &mut Ram,
     links: &mut Links,
-    words: usize,
 ) -> bool
     requires processor { (1 ≤ cpu) × (cpu ≤ 8) }
-    requires table { length known.now ≡ 2 ^ 14 }
-    requires size { 4 * words ≤ size_of ram.old }
-    requires few { words ≤ 2 ^ 22 }
-    ensures step { MaySteps cpu
-        (record { state = state_of context.old place.old; memory = ram.old; links = links.old }) result
-        (record { state = state_of context.new place.new; memory = ram.new; links = links.new }) }
-    ensures same_size { size_of ram.new ≡ size_of ram.old }
+    requires right { All (IsRight ram.old.order) known.now }
+    requires on { line.old.on ≡ true }
+    requires size { 4 * line.old.words ≤ size_of ram.old }
+    requires long { line.old.words ≤ length known.now }
+    ensures step { MaySteps cpu (machine_at context.old ram.old links.old line.old) result
+        (machine_at context.new ram.new links.new line.new) }
+    ensures leaves { Leaves line.old result line.new }
+    ensures alike { (size_of ram.new ≡ size_of ram.old) × (ram.new.order ≡ ram.old.order) }
 {
-    let index = index_of(place.pc);
-    if index >= words {
+    let at = line.at();
+    let known = &known[at];
+    if known.raw != ram.raw_at(4 * at) {
         return false;
     }
-    let raw = ram.raw_at(4 * index);
-    let word = word_of(bytes_of(raw, Order::Little), ram.order());
-    match entry_in(known, index, word) {
-        Some(entry) => carry_out(entry, cpu, context, place, ram, links),
-        None => false,
-    }
-}
-
-/// How many words lie between RAM's first and an address; a number that is too large for every RAM where the address
-/// isn't aligned, so that one comparison tests both.
-#[inline(always)]
-fn index_of(address: u32) -> usize
-    ensures { result < 2 ^ 22 → 0x80000000 + 4 * result ≡ address }
-{
-    let ahead = address.wrapping_sub(BASE);
-    ((ahead >> 2) + ahead % 4 * 0x4000_0000) as usize
+    carry_out(&known.entry, cpu, context, line, ram, links)
 }

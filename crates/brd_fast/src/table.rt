@@ -1,84 +1,73 @@
 //! Decoded words, kept for the next time.
 
-ghost use Rattle.std.specs.Prelude.{◌≡◌, ◌^◌, length, IfSome};
-ghost use Rattle.brd_isa.specs.Decoding.{decoded};
-ghost use Rattle.brd_entries.specs.Means.{Means};
+ghost use Rattle.std.specs.Prelude.{◌≡◌, All};
+ghost use Rattle.brd_fast.specs.Known.{IsRight};
 
+use crate::known::Known;
 use brd_base::NoMemory;
-use brd_entries::{Entry, entry_of};
+use brd_mem::Ram;
+use brd_word::Order;
 use std::alloc::Global;
-use std::marker::Model;
 
-/// How many words a table keeps.
-const SIZE: usize = 0x4000;
+/// How many words a table has at most: those of RAM's first MiB (own choice).
+const MOST: usize = 0x40000;
 
-/// A word and its entry.
-#[derive(Clone, Copy)]
-pub struct Known {
-    word: u32,
-    entry: Entry,
-    ghost right: { ∥ Means entry (decoded word) ∥₁ },
-}
-
-impl Known {
-    /// A word with its entry.
-    fn of(word: u32) -> Self
-        ensures { result.word ≡ word }
-    {
-        Known {
-            word,
-            entry: entry_of(word),
-        }
-    }
-}
-
-/// Words with their entries, each at the place that the low bits of its index in memory give. It says nothing of
-/// memory: whoever takes an entry shows the word that memory has, and gets none where the table has another there.
+/// Entries for the first words of a RAM, each beside the bytes of the word that it was made of. The table says nothing
+/// of RAM: whoever takes an entry shows the bytes that RAM has there, and gets none where the table's are others. So a
+/// store doesn't touch it.
 #[derive(Drop)]
 pub struct Table {
     known: Vec<Known>,
-    ghost size: { length known.items ≡ 2 ^ 14 },
+    order: Order,
+    ghost right: { All (IsRight order) known.items },
 }
 
 impl Table {
-    /// A table that is right for every memory.
-    pub fn new(alloc: Global) -> Result<Table, NoMemory> {
-        let mut known = Vec::with_capacity(alloc, SIZE)?;
-        for _ in 0..SIZE {
-            let entry = entry_of(0);
-            known.push(Known { word: 0, entry })?;
+    /// How many words the table of a RAM has.
+    pub fn len_for(ram: &Ram) -> usize {
+        (ram.size() / 4).min(MOST)
+    }
+
+    /// A table for a RAM.
+    pub fn new(alloc: Global, ram: &Ram) -> Result<Table, NoMemory> {
+        let len = Table::len_for(ram);
+        let mut known = Vec::with_capacity(alloc, len)?;
+        for _ in 0..len {
+            let Known { raw, entry } = Known::nop();
+            known.push(Known { raw, entry })?;
         }
-        Ok(Table { known })
+        Ok(Table {
+            known,
+            order: ram.order(),
+        })
+    }
+
+    /// In which order the bytes of its words lie.
+    #[inline(always)]
+    pub fn order(&self) -> Order
+        ensures { result ≡ self.now.order }
+    {
+        self.order
     }
 
     /// The words and entries that the table has now.
     #[inline(always)]
     pub fn known(&self) -> &[Known]
-        ensures { length result.now ≡ 2 ^ 14 }
+        ensures { All (IsRight self.now.order) result.now }
     {
         self.known.as_slice()
     }
 
-    /// Puts a word with its entry in the place of another. Answers whether it did, and didn't have that word already.
-    pub fn learns(&mut self, index: usize, word: u32) -> bool {
-        let at = index % SIZE;
-        if self.known[at].word == word {
-            return false;
+    /// Takes up a word's bytes with its entry. Answers whether the table has its place, and hadn't the word already.
+    pub fn learns(&mut self, at: usize, raw: u32) -> bool
+        ensures { self.new.order ≡ self.old.order }
+    {
+        match self.known.get(at) {
+            Some(known) if known.raw != raw => {
+                self.known[at] = Known::of(raw, self.order);
+                true
+            }
+            _ => false,
         }
-        self.known[at] = Known::of(word);
-        true
     }
-}
-
-/// The entry of a word, which has this index in memory, where a table's words have it.
-#[inline(always)]
-pub fn entry_in(known: &[Known], index: usize, word: u32) -> Option<&Entry>
-    requires { length known.now ≡ 2 ^ 14 }
-    ensures { IfSome result (λ entry. ∥ Means entry.now (decoded word) ∥₁) }
-{
-    let known = &known[index % SIZE];
-    if known.word != word {
-        return None;
-    }
-    Some(&known.entry)
 }

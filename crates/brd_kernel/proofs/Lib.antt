@@ -11,4 +11,5 @@ pub mod WalkLemmas
 pub mod nobody_waits
 pub mod who_runs
 pub mod SameLemmas
+pub mod AgainLemmas
 pub mod SpinLemmas

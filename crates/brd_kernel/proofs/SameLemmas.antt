@@ -2,22 +2,30 @@
 use Rattle.std.proofs.Common.{◌≡◌, ℕ, List, [], ◌∷◌, refl, ◌∙◌}
 use Rattle.std.specs.Prelude.{Bool, true, false, if◌then◌else◌, Option, None, Some}
 use Rattle.brd_tasks.specs.declared.status.WaitReason.{WaitReason}
-use Rattle.brd_tasks.specs.Status.{blocked}
-use Rattle.brd_tasks.specs.Tasks.{task_at, through}
+use Rattle.brd_tasks.specs.declared.status.WaitReason.TheVariants as reason
+use Rattle.brd_tasks.specs.declared.task.Task.{Task}
+use Rattle.brd_tasks.specs.Status.{waiting_of, blocked}
+use Rattle.brd_tasks.specs.Tasks.{task_at, through, changed, with_priority}
 use Rattle.brd_time.specs.Time.{with_due}
 use Rattle.brd_objects.specs.declared.flag.Flag.{Flag}
 use Rattle.brd_objects.specs.declared.sent.Sent.{Sent}
 use Rattle.brd_objects.specs.declared.sent.Sent.TheVariants.{Handed, Stored, Full}
-use Rattle.brd_objects.specs.Table.{object_changed}
-use Rattle.brd_objects.specs.Flags.{all_released, with_all_released}
+use Rattle.brd_objects.specs.declared.semaphore.Semaphore.{Semaphore}
+use Rattle.brd_objects.specs.declared.sent.Received.{Received}
+use Rattle.brd_objects.specs.Table.{object_at, object_changed}
+use Rattle.brd_objects.specs.Semaphores.{returned, first_waiter}
+use Rattle.brd_objects.specs.Flags.{joined, all_released, with_all_released}
+use Rattle.brd_objects.specs.DataQueues.{DataQueueState, sent, outcome, forced, forced_outcome, received}
 use Rattle.brd_kernel.specs.Answer.{e_ok}
 use Rattle.brd_kernel.specs.declared.processor.Executor.{Executor}
 use Rattle.brd_kernel.specs.declared.processor.Executor.TheVariants as executor
 use Rattle.brd_exec.specs.State.{State}
-use Rattle.brd_kernel.specs.Kernel.{KernelState, with_context_of}
+use Rattle.brd_kernel.specs.declared.processor.Processor.{Processor}
+use Rattle.brd_kernel.specs.Kernel.{KernelState, with_tasks, with_processor, processor_at, with_context_of}
 use Rattle.brd_kernel.specs.Waits.{can_wait, with_wait, released_in, reason_of, broken_off, ended_in, reordered_in, answer_by, timed_out, all_timed_out}
-use Rattle.brd_kernel.specs.Services.{with_released, with_all_released_in, with_satisfied_of, handed_over}
+use Rattle.brd_kernel.specs.Services.{unmarked_on, handler_ended, with_released, with_all_released_in, with_satisfied_of, handed_over}
 use Rattle.brd_kernel.proofs.WaitLemmas.{OnlyLists, unlisted-only, reordered-only}
+use Rattle.brd_kernel.proofs.WalkLemmas.{Lacks, No-one, lacked, awaiting, Fact, OfTask, Holding, Law}
 
 pub record Same (new old : KernelState) : Type 0 where
   pub processors : new.processors ≡ old.processors
@@ -87,3 +95,63 @@ same-wait k caller why due entered same =
     same-if (can_wait (task_at k.tasks caller))
     (record entered { tasks = through (blocked why) k.tasks caller; time = with_due k.time caller due }) k
     (record { processors = same.processors; spin_locks = same.spin_locks })
+
+pub same-entered : (k : KernelState) (caller id : ℕ) (lacks : Lacks k id) → Same (awaiting k caller id lacks) k
+same-entered k caller id (No-one s there none) = record { processors = refl; spin_locks = refl }
+same-entered k caller id _ = record { processors = refl; spin_locks = refl }
+
+-- A law of what processors and spin locks tell: few effects change one of them, and the law says what it makes of each.
+pub record ProcessorLaw (Known : Fact → Type 0) (Q : KernelState → Type 0) (k : KernelState) (cpu caller : ℕ) : Type 0 where
+  pub same : (new : KernelState) → Same new k → Q new
+  pub exits : Known OfTask → Q (unmarked_on (ended_in k caller) cpu (processor_at k cpu))
+  pub marks : (p q : Processor) → processor_at k cpu ≡ Some p → q.running ≡ p.running → Holding Known k p q → Q (with_processor k cpu q)
+  pub returns : (p : Processor) → processor_at k cpu ≡ Some p → Q (handler_ended k cpu p)
+
+pub same-law : {Known : Fact → Type 0} (Q : KernelState → Type 0) (k : KernelState) (cpu caller : ℕ) → ProcessorLaw Known Q k cpu caller →
+    Law Known Q k cpu caller
+same-law Q k cpu caller law = record {
+  stays = law.same k (record { processors = refl; spin_locks = refl });
+  activates = λ id request of. law.same _ (record { processors = refl; spin_locks = refl });
+  cancels = λ id. law.same _ (record { processors = refl; spin_locks = refl });
+  wakes = λ id task there awake. law.same _ (record { processors = refl; spin_locks = refl });
+  unwakes = λ id. law.same _ (record { processors = refl; spin_locks = refl });
+  exits = law.exits;
+  ends = λ id task there held other. law.same (ended_in k id) (same-ended k id);
+  prioritizes = λ id priority (task : Task) there.
+      let new : KernelState = with_tasks k (changed (with_priority priority) k.tasks id) in
+      let only = same-reordered new id priority (waiting_of task.status) in
+      law.same _ (record { processors = only.processors; spin_locks = only.spin_locks });
+  migrates = λ id to task there held absent may. law.same _ (record { processors = refl; spin_locks = refl });
+  suspends = λ id task there held may. law.same _ (record { processors = refl; spin_locks = refl });
+  resumes = λ id. law.same _ (record { processors = refl; spin_locks = refl });
+  rouses = λ id task there asleep. law.same _ (record { processors = refl; spin_locks = refl });
+  breaks = λ id answer. law.same _ (same-broken k id answer);
+  sleeps = λ due task there none may. law.same _ (same-wait k caller reason.Sleep due k (record { processors = refl; spin_locks = refl }));
+  delays = λ due may. law.same _ (same-wait k caller reason.Delay (Some due) k (record { processors = refl; spin_locks = refl }));
+  rotates = λ priority p there. law.same _ (record { processors = refl; spin_locks = refl });
+  marks = law.marks;
+  returns = law.returns;
+  signals = λ id (s : Semaphore) there.
+      let only = same-released (record k { semaphores = object_changed returned k.semaphores id }) (first_waiter s) in
+      law.same _ (record { processors = only.processors; spin_locks = only.spin_locks });
+  takes = λ id s there. law.same _ (record { processors = refl; spin_locks = refl });
+  sets = λ id bits f there.
+      let set : KernelState = record k { flags = object_changed (joined bits) k.flags id } in
+      let only = same-satisfied set id (object_at set.flags id) in
+      law.same _ (record { processors = only.processors; spin_locks = only.spin_locks });
+  clears = λ id bits f there. law.same _ (record { processors = refl; spin_locks = refl });
+  gets = λ id want f there. law.same _ (record { processors = refl; spin_locks = refl });
+  sends = λ id datum (q : DataQueueState) there.
+      let only = same-handed (record k { queues = object_changed (sent datum) k.queues id }) datum (outcome q) in
+      law.same _ (record { processors = only.processors; spin_locks = only.spin_locks });
+  forces = λ id datum (q : DataQueueState) there.
+      let only = same-handed (record k { queues = object_changed (forced datum) k.queues id }) datum (forced_outcome q) in
+      law.same _ (record { processors = only.processors; spin_locks = only.spin_locks });
+  receives = λ id q (it : Received) there is.
+      let only = same-released (record k { queues = object_changed received k.queues id }) it.sender in
+      law.same _ (record { processors = only.processors; spin_locks = only.spin_locks });
+  awaits = λ id due lacks may.
+      law.same _ (same-wait k caller (reason.On (lacked lacks) id) due (awaiting k caller id lacks) (same-entered k caller id lacks));
+  writes = λ word. law.same _ (record { processors = refl; spin_locks = refl });
+  ends_all = law.same _ (record { processors = refl; spin_locks = refl });
+}

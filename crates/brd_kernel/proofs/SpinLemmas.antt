@@ -7,17 +7,8 @@ use Rattle.std.proofs.lemmas.Bool.Decides.{nat_tests}
 use Rattle.std.proofs.lemmas.List.FromFn.{length-map-range_with_len, get_or-map-range_with_len}
 use Rattle.std.proofs.Math.ListN.{get_or-eq_default}
 use Rattle.brd_queue.specs.Queue.{Plain}
-use Rattle.brd_tasks.specs.declared.status.WaitReason.TheVariants as reason
-use Rattle.brd_tasks.specs.declared.task.Task.{Task}
-use Rattle.brd_tasks.specs.Status.{waiting_of}
-use Rattle.brd_tasks.specs.Tasks.{changed, with_priority, ready_on, noted, without_activation, first_id}
+use Rattle.brd_tasks.specs.Tasks.{ready_on, noted, without_activation, first_id}
 use Rattle.brd_time.specs.Time.{last_count, advanced, due_from}
-use Rattle.brd_objects.specs.declared.semaphore.Semaphore.{Semaphore}
-use Rattle.brd_objects.specs.declared.sent.Received.{Received}
-use Rattle.brd_objects.specs.Table.{object_at, object_changed}
-use Rattle.brd_objects.specs.Semaphores.{returned, first_waiter}
-use Rattle.brd_objects.specs.Flags.{joined}
-use Rattle.brd_objects.specs.DataQueues.{DataQueueState, sent, outcome, forced, forced_outcome, received}
 use Rattle.brd_kernel.specs.declared.processor.Processor.{Processor}
 use Rattle.brd_kernel.specs.declared.processor.Spin.{Spin}
 use Rattle.brd_kernel.specs.declared.processor.Spin.TheVariants as spin
@@ -30,8 +21,8 @@ use Rattle.brd_kernel.specs.Waits.{ended_in, ticked_on, ticked, faulted_task, fa
 use Rattle.brd_kernel.specs.Services.{unmarked_on, handler_ended, serve_of, caller_on}
 use Rattle.brd_kernel.proofs.who_waits.ListLemmas.{same-number, written-at}
 use Rattle.brd_kernel.proofs.DispatchLemmas.{at-dispatched}
-use Rattle.brd_kernel.proofs.SameLemmas.{Same, same-ended, same-broken, same-reordered, same-timed, same-satisfied, same-released, same-handed, same-wait}
-use Rattle.brd_kernel.proofs.WalkLemmas.{HoldsOn, Holding, Keeps, Opens, Takes, Leaves-none, Law, in_semaphore, in_flag, in_senders, in_receivers, serve-leaves}
+use Rattle.brd_kernel.proofs.SameLemmas.{Same, same-ended, same-timed, same-law}
+use Rattle.brd_kernel.proofs.WalkLemmas.{HoldsOn, Holding, Keeps, Opens, Takes, Leaves-none, Law, serve-leaves}
 use Rattle.brd_kernel.proofs.who_runs.RunningCallLemmas.{IsTaskOf, known_of, MayServe}
 
 -- The same said by processors.
@@ -338,71 +329,13 @@ spin-law : (k : KernelState) (cpu : ℕ) (p : Processor) → processor_at k cpu 
     Law (known_of p (caller_on k cpu)) (Wrote k cpu) k cpu (caller_on k cpu)
 spin-law k cpu p found was =
     let caller : ℕ = caller_on k cpu in
-    let same : (new : KernelState) → Same new k → Wrote k cpu new = λ new is. same-wrote k cpu new was is in
-    record {
-      stays = same k (record { processors = refl; spin_locks = refl });
-      activates = λ id request of. same _ (record { processors = refl; spin_locks = refl });
-      cancels = λ id. same _ (record { processors = refl; spin_locks = refl });
-      wakes = λ id task there awake. same _ (record { processors = refl; spin_locks = refl });
-      unwakes = λ id. same _ (record { processors = refl; spin_locks = refl });
+    same-law (Wrote k cpu) k cpu caller
+    (record {
+      same = λ new is. same-wrote k cpu new was is;
       exits = λ may. unmarked-wrote k (ended_in k caller) cpu (processor_at k cpu) refl (same-ended k caller) was;
-      ends = λ id task there held other. same (ended_in k id) (same-ended k id);
-      prioritizes = λ id priority (task : Task) there.
-          let new : KernelState = with_tasks k (changed (with_priority priority) k.tasks id) in
-          let only = same-reordered new id priority (waiting_of task.status) in
-          same _ (record { processors = only.processors; spin_locks = only.spin_locks });
-      migrates = λ id to task there held absent may. same _ (record { processors = refl; spin_locks = refl });
-      suspends = λ id task there held may. same _ (record { processors = refl; spin_locks = refl });
-      resumes = λ id. same _ (record { processors = refl; spin_locks = refl });
-      rouses = λ id task there asleep. same _ (record { processors = refl; spin_locks = refl });
-      breaks = λ id answer. same _ (same-broken k id answer);
-      sleeps = λ due task there none may. same _
-          (same-wait k caller reason.Sleep due k (record { processors = refl; spin_locks = refl }));
-      delays = λ due may. same _
-          (same-wait k caller reason.Delay (Some due) k (record { processors = refl; spin_locks = refl }));
-      rotates = λ priority q there. same _ (record { processors = refl; spin_locks = refl });
       marks = λ q new there running how. marked-wrote k cpu p q new found there running how was;
       returns = λ q there. returned-wrote k cpu q there was;
-      signals = λ id (s : Semaphore) there.
-          let only = same-released (record k {
-            semaphores =
-                object_changed returned k.semaphores id;
-          }) (first_waiter s) in
-          same _ (record { processors = only.processors; spin_locks = only.spin_locks });
-      takes = λ id s there. same _ (record { processors = refl; spin_locks = refl });
-      awaits_semaphore = λ id due s there none may.
-          same _ (same-wait k caller (reason.Semaphore id) due (in_semaphore k caller id)
-          (record { processors = refl; spin_locks = refl }));
-      sets = λ id bits f there.
-          let set : KernelState = record k { flags = object_changed (joined bits) k.flags id } in
-          let only = same-satisfied set id (object_at set.flags id) in
-          same _ (record { processors = only.processors; spin_locks = only.spin_locks });
-      clears = λ id bits f there. same _ (record { processors = refl; spin_locks = refl });
-      gets = λ id want f there. same _ (record { processors = refl; spin_locks = refl });
-      awaits_flag = λ id want due f there none some may.
-          same _ (same-wait k caller (reason.Flag id) due (in_flag k caller id want)
-          (record { processors = refl; spin_locks = refl }));
-      sends = λ id datum (q : DataQueueState) there.
-          let only = same-handed (record k { queues = object_changed (sent datum) k.queues id }) datum (outcome q) in
-          same _ (record { processors = only.processors; spin_locks = only.spin_locks });
-      awaits_send = λ id datum due q there full may.
-          same _ (same-wait k caller (reason.Send id) due (in_senders k caller id datum)
-          (record { processors = refl; spin_locks = refl }));
-      forces = λ id datum (q : DataQueueState) there.
-          let only = same-handed (record k {
-            queues =
-                object_changed (forced datum) k.queues id;
-          }) datum (forced_outcome q) in
-          same _ (record { processors = only.processors; spin_locks = only.spin_locks });
-      receives = λ id q (it : Received) there is.
-          let only = same-released (record k { queues = object_changed received k.queues id }) it.sender in
-          same _ (record { processors = only.processors; spin_locks = only.spin_locks });
-      awaits_receive = λ id due q there none may.
-          same _ (same-wait k caller (reason.Receive id) due (in_receivers k caller id)
-          (record { processors = refl; spin_locks = refl }));
-      writes = λ word. same _ (record { processors = refl; spin_locks = refl });
-      ends_all = same _ (record { processors = refl; spin_locks = refl });
-    }
+    })
 
 -- a call that the gate lets through
 pub serve-wrote : (k : KernelState) (cpu : ℕ) (p : Processor) (c : Call) → processor_at k cpu ≡ Some p →

@@ -1,7 +1,7 @@
 -- Whoever runs is a task that is there.
 use Rattle.std.proofs.Common.{◌≡◌, ℕ, zero, suc, List, [], ◌∷◌, refl, sym, ◌∙◌}
-use Rattle.std.specs.Prelude.{Bool, true, false, ◌&&◌, slice_index_or, slice_set, Option, None, Some, IsSome, IfSome}
-use Rattle.brd_tasks.specs.Tasks.{TaskTable, task_at, are_there}
+use Rattle.std.specs.Prelude.{Bool, true, false, ◌&&◌, slice_index_or, slice_set, Option, None, Some, IfSome}
+use Rattle.brd_tasks.specs.Tasks.{TaskTable, are_there}
 use Rattle.brd_tasks.specs.Ready.{IsConsistent}
 use Rattle.brd_tasks.proofs.ThereLemmas.{there-is, there-small}
 use Rattle.brd_kernel.specs.declared.processor.Processor.{Processor}

@@ -7,6 +7,8 @@ use Rattle.std.proofs.lemmas.Grind.{get_or-set_at}
 use Rattle.std.proofs.Math.ListN.{get_or-eq_default}
 use Rattle.brd_tasks.specs.declared.status.WaitReason.{WaitReason}
 use Rattle.brd_tasks.specs.declared.status.WaitReason.TheVariants as reason
+use Rattle.brd_tasks.specs.declared.status.WaitKind.{WaitKind}
+use Rattle.brd_tasks.specs.declared.status.WaitKind.TheVariants as kind
 use Rattle.brd_time.specs.Time.{Time, with_due, due_from, next_due_of}
 use Rattle.brd_time.proofs.TimeLemmas.{due-some, due-none, due-above}
 use Rattle.brd_objects.specs.declared.flag.Flag.{Flag}
@@ -18,7 +20,7 @@ use Rattle.brd_objects.specs.Flags.{all_released, with_all_released, released_to
 use Rattle.brd_objects.proofs.LawLemmas.{turn, ended, second, shorter}
 use Rattle.brd_kernel.specs.Answer.{e_ok}
 use Rattle.brd_kernel.specs.Kernel.{KernelState}
-use Rattle.brd_kernel.specs.Waits.{released_in, reason_of, unlisted_from, reordered_in, timed_out, all_timed_out}
+use Rattle.brd_kernel.specs.Waits.{Change, changed_of, changed_for, leaving, moving, released_in, reason_of, unlisted_from, reordered_in, timed_out, all_timed_out}
 use Rattle.brd_kernel.specs.Services.{with_all_released_in, with_satisfied_of, with_satisfied_released}
 
 -- A task that leaves the list of what it waits for, or gets another place there, changes nothing but lists.
@@ -29,15 +31,24 @@ pub record OnlyLists (k new : KernelState) : Type 0 where
   pub processors : new.processors ≡ k.processors
   pub spin_locks : new.spin_locks ≡ k.spin_locks
 
+nothing : (k : KernelState) → OnlyLists k k
+nothing k = record { tasks = refl; time = refl; processors = refl; spin_locks = refl }
+
+of-only : (change : Change) (k : KernelState) (what : WaitKind) → OnlyLists k (changed_of change k what)
+of-only change k kind.Semaphore = record { tasks = refl; time = refl; processors = refl; spin_locks = refl }
+of-only change k _ = record { tasks = refl; time = refl; processors = refl; spin_locks = refl }
+
+for-only : (change : Change) (k : KernelState) (why : Option WaitReason) → OnlyLists k (changed_for change k why)
+for-only change k None = nothing k
+for-only change k (Some reason.Sleep) = nothing k
+for-only change k (Some reason.Delay) = nothing k
+for-only change k (Some (reason.On what object)) = of-only change k what
+
 pub unlisted-only : (k : KernelState) (id : ℕ) (why : Option WaitReason) → OnlyLists k (unlisted_from k id why)
-unlisted-only k id None = record { tasks = refl; time = refl; processors = refl; spin_locks = refl }
-unlisted-only k id (Some reason.Sleep) = record { tasks = refl; time = refl; processors = refl; spin_locks = refl }
-unlisted-only k id (Some _) = record { tasks = refl; time = refl; processors = refl; spin_locks = refl }
+unlisted-only k id why = for-only (leaving id) k why
 
 pub reordered-only : (k : KernelState) (id priority : ℕ) (why : Option WaitReason) → OnlyLists k (reordered_in k id priority why)
-reordered-only k id priority None = record { tasks = refl; time = refl; processors = refl; spin_locks = refl }
-reordered-only k id priority (Some reason.Sleep) = record { tasks = refl; time = refl; processors = refl; spin_locks = refl }
-reordered-only k id priority (Some _) = record { tasks = refl; time = refl; processors = refl; spin_locks = refl }
+reordered-only k id priority why = for-only (moving id priority) k why
 
 -- Waits that end by time.
 

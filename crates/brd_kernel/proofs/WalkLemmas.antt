@@ -2,11 +2,13 @@
 -- that a call can have (`Law`); the walk says of each call which effect it has. A call that has an effect which others
 -- have already is one case here, and nothing in any law.
 use Rattle.std.proofs.Common.{◌≡◌, ◌≢◌, ℕ, ◌%◌, ◌^◌, [], ◌∷◌, ◌++◌, refl, ap, subst, ◌∙◌, arith}
-use Rattle.std.specs.Prelude.{Bool, true, false, ◌==◌, ◌||◌, nat_lt, Option, None, Some, Err}
+use Rattle.std.specs.Prelude.{Bool, true, false, not, ◌==◌, ◌&&◌, ◌||◌, nat_lt, Option, None, Some, Err}
 use Rattle.std.proofs.lemmas.Bool.{or_parts, true≢false}
 use Rattle.std.proofs.lemmas.Bool.Decides.{nat_tests}
 use Rattle.brd_tasks.specs.declared.status.WaitReason.{WaitReason}
 use Rattle.brd_tasks.specs.declared.status.WaitReason.TheVariants as reason
+use Rattle.brd_tasks.specs.declared.status.WaitKind.{WaitKind}
+use Rattle.brd_tasks.specs.declared.status.WaitKind.TheVariants as kind
 use Rattle.brd_tasks.specs.declared.task.Task.{Task}
 use Rattle.brd_tasks.specs.declared.task.Request.{Request}
 use Rattle.brd_tasks.specs.declared.task.Request.TheVariants.{Assigned, On}
@@ -31,10 +33,10 @@ use Rattle.brd_kernel.specs.declared.call.Ercd.TheVariants.{Rlwai, Tmout}
 use Rattle.brd_kernel.specs.Answer.{e_ok, code_of}
 use Rattle.brd_kernel.specs.Kernel.{KernelState, with_tasks, with_processor, processor_at, spin_of, holding, letting_go}
 use Rattle.brd_kernel.specs.Waits.{is_bad_timeout, due_by, due_after, with_wait, released_in, broken_off, ended_in}
-use Rattle.brd_kernel.specs.Row.{served}
+use Rattle.brd_kernel.specs.Row.{served, asks_again}
 use Rattle.brd_kernel.specs.Services as table
-use Rattle.brd_kernel.specs.Services.{named, is_asleep, is_bad_want, is_held_elsewhere, is_no_processor, or_waits, callers_priority, with_released, with_satisfied_released, handed_over, with_priority_in, flag_got, queue_sent, queue_received, unmarked_on, handler_ended, is_taken, lock_taken_by, lock_taken, lock_given_by, serve_by, serve_of, caller_on}
-use Rattle.brd_kernel.proofs.ServedLemmas.{Leaves, leaves-row, leaves-if, leaves-or_refused}
+use Rattle.brd_kernel.specs.Services.{named, is_asleep, is_bad_want, is_held_elsewhere, is_no_processor, or_waits, callers_priority, with_released, with_satisfied_released, handed_over, with_priority_in, flag_got, queue_sent, queue_received, unmarked_on, handler_ended, is_taken, lock_taken_by, lock_taken, lock_given_by, is_no_id, is_there_taken, comes_again, serve_by, serve_of, caller_on}
+use Rattle.brd_kernel.proofs.ServedLemmas.{Wanted, Leaves, leaves-row, leaves-if, leaves-or_refused, again-or_refused}
 
 -- a request names a processor of the board, if it names one
 abbrev pub IsOfBoard : KernelState → Request → Type 0
@@ -54,6 +56,28 @@ in_senders k caller id datum = record k { queues = object_changed (awaited_by_se
 
 abbrev pub in_receivers : KernelState → ℕ → ℕ → KernelState
 in_receivers k caller id = record k { queues = object_changed (awaited_by_receiver caller (callers_priority k caller)) k.queues id }
+
+-- What a caller finds of an object where it begins to wait for it: a semaphore without one, a flag without the bits, a
+-- full data queue, or an empty one.
+pub data Lacks (k : KernelState) (id : ℕ) : Type 0 where
+  No-one : (s : Semaphore) → object_at k.semaphores id ≡ Some s → has_one s ≡ false → Lacks k id
+  No-bits : (want : Want) (f : Flag) → object_at k.flags id ≡ Some f → pattern_for want f ≡ None → want.bits ≢ 0 → Lacks k id
+  No-room : (datum : ℕ) (q : DataQueueState) → object_at k.queues id ≡ Some q → outcome q ≡ Full → Lacks k id
+  No-datum : (q : DataQueueState) → object_at k.queues id ≡ Some q → receipt q ≡ None → Lacks k id
+
+-- what it waits for then
+abbrev pub lacked : {k : KernelState} {id : ℕ} → Lacks k id → WaitKind
+lacked (No-one s there none) = kind.Semaphore
+lacked (No-bits want f there none some) = kind.Flag
+lacked (No-room datum q there full) = kind.Room
+lacked (No-datum q there none) = kind.Datum
+
+-- it stands in the list of that
+abbrev pub awaiting : (k : KernelState) (caller id : ℕ) → Lacks k id → KernelState
+awaiting k caller id (No-one s there none) = in_semaphore k caller id
+awaiting k caller id (No-bits want f there none some) = in_flag k caller id want
+awaiting k caller id (No-room datum q there full) = in_senders k caller id datum
+awaiting k caller id (No-datum q there none) = in_receivers k caller id
 
 -- What the gate may have shown of a caller: its processor isn't held; it is the task that runs there, and no handler;
 -- its processor holds no spin lock.
@@ -115,27 +139,21 @@ pub record Law (Known : Fact → Type 0) (Q : KernelState → Type 0) (k : Kerne
   pub signals : (id : ℕ) (s : Semaphore) → object_at k.semaphores id ≡ Some s →
       Q (with_released (record k { semaphores = object_changed returned k.semaphores id }) (first_waiter s))
   pub takes : (id : ℕ) (s : Semaphore) → object_at k.semaphores id ≡ Some s → Q (record k { semaphores = object_changed taken k.semaphores id })
-  pub awaits_semaphore : (id : ℕ) (due : Option ℕ) (s : Semaphore) → object_at k.semaphores id ≡ Some s → has_one s ≡ false → Known Unheld →
-      Q (with_wait k caller (reason.Semaphore id) due (in_semaphore k caller id))
   -- of an event flag
   pub sets : (id bits : ℕ) (f : Flag) → object_at k.flags id ≡ Some f →
       Q (with_satisfied_released (record k { flags = object_changed (joined bits) k.flags id }) id)
   pub clears : (id bits : ℕ) (f : Flag) → object_at k.flags id ≡ Some f → Q (record k { flags = object_changed (masked bits) k.flags id })
   pub gets : (id : ℕ) (want : Want) (f : Flag) → object_at k.flags id ≡ Some f → Q (record k { flags = object_changed (taken_for want) k.flags id })
-  pub awaits_flag : (id : ℕ) (want : Want) (due : Option ℕ) (f : Flag) → object_at k.flags id ≡ Some f → pattern_for want f ≡ None → want.bits ≢ 0 →
-      Known Unheld →
-      Q (with_wait k caller (reason.Flag id) due (in_flag k caller id want))
   -- of a data queue
   pub sends : (id datum : ℕ) (q : DataQueueState) → object_at k.queues id ≡ Some q →
       Q (handed_over (record k { queues = object_changed (sent datum) k.queues id }) datum (outcome q))
-  pub awaits_send : (id datum : ℕ) (due : Option ℕ) (q : DataQueueState) → object_at k.queues id ≡ Some q → outcome q ≡ Full → Known Unheld →
-      Q (with_wait k caller (reason.Send id) due (in_senders k caller id datum))
   pub forces : (id datum : ℕ) (q : DataQueueState) → object_at k.queues id ≡ Some q →
       Q (handed_over (record k { queues = object_changed (forced datum) k.queues id }) datum (forced_outcome q))
   pub receives : (id : ℕ) (q : DataQueueState) (it : Received) → object_at k.queues id ≡ Some q → receipt q ≡ Some it →
       Q (with_released (record k { queues = object_changed received k.queues id }) it.sender)
-  pub awaits_receive : (id : ℕ) (due : Option ℕ) (q : DataQueueState) → object_at k.queues id ≡ Some q → receipt q ≡ None → Known Unheld →
-      Q (with_wait k caller (reason.Receive id) due (in_receivers k caller id))
+  -- of a wait for an object
+  pub awaits : (id : ℕ) (due : Option ℕ) (lacks : Lacks k id) → Known Unheld →
+      Q (with_wait k caller (reason.On (lacked lacks) id) due (awaiting k caller id lacks))
   -- of the board
   pub writes : (word : ℕ) → Q (record k { console = k.console ++ word % 2 ^ 8 ∷ [] })
   pub ends_all : Q (record k { off = true })
@@ -210,36 +228,39 @@ some-bits bits mode timeout good =
 
 -- Calls that may wait.
 
-waits : (Q : KernelState → Type 0) (k : KernelState) (caller : ℕ) (why : WaitReason) (timeout : ℕ) (entered : KernelState) →
-    ((timeout == 0) ≡ false → Q (with_wait k caller why (due_by k timeout) entered)) → Leaves Q (or_waits k caller why timeout entered)
+waits : (Q : Wanted) (k : KernelState) (caller : ℕ) (why : WaitReason) (timeout : ℕ) (entered : KernelState) →
+    ((timeout == 0) ≡ false → Q.kernel (with_wait k caller why (due_by k timeout) entered)) → Leaves Q (or_waits k caller why timeout entered)
 waits Q k caller why timeout entered leaves = leaves-if Q (timeout == 0) (Err Tmout) _ (λ polls. tt) leaves
 
-got : {Known : Fact → Type 0} (Q : KernelState → Type 0) (k : KernelState) (cpu caller : ℕ) (law : Law Known Q k cpu caller) (id : ℕ) (want : Want)
+got : {Known : Fact → Type 0} (Q : Wanted) (k : KernelState) (cpu caller : ℕ) (law : Law Known Q.kernel k cpu caller) (id : ℕ) (want : Want)
     (timeout : ℕ) (f : Flag) (pattern : Option ℕ) → object_at k.flags id ≡ Some f → pattern_for want f ≡ pattern → want.bits ≢ 0 →
     ((timeout == 0) ≡ false → Known Unheld) →
     Leaves Q (flag_got k caller id want timeout pattern)
 got Q k cpu caller law id want timeout f (Some pattern) there is some may = law.gets id want f there
 got Q k cpu caller law id want timeout f None there is some may =
-    waits Q k caller (reason.Flag id) timeout (in_flag k caller id want) (λ wait. law.awaits_flag id want (due_by k timeout) f there is some (may wait))
+    waits Q k caller (reason.On kind.Flag id) timeout (in_flag k caller id want)
+    (λ wait. law.awaits id (due_by k timeout) (No-bits want f there is some) (may wait))
 
-sent-to : {Known : Fact → Type 0} (Q : KernelState → Type 0) (k : KernelState) (cpu caller : ℕ) (law : Law Known Q k cpu caller) (id datum timeout : ℕ)
+sent-to : {Known : Fact → Type 0} (Q : Wanted) (k : KernelState) (cpu caller : ℕ) (law : Law Known Q.kernel k cpu caller) (id datum timeout : ℕ)
     (q : DataQueueState) (what : Sent) → object_at k.queues id ≡ Some q → outcome q ≡ what → ((timeout == 0) ≡ false → Known Unheld) →
     Leaves Q (queue_sent k caller id datum timeout what)
 sent-to Q k cpu caller law id datum timeout q (Handed task) there is may =
-    subst (λ what. Q (handed_over (record k { queues = object_changed (sent datum) k.queues id }) datum what)) is (law.sends id datum q there)
+    subst (λ what. Q.kernel (handed_over (record k { queues = object_changed (sent datum) k.queues id }) datum what)) is (law.sends id datum q there)
 sent-to Q k cpu caller law id datum timeout q Stored there is may =
-    subst (λ what. Q (handed_over (record k { queues = object_changed (sent datum) k.queues id }) datum what)) is (law.sends id datum q there)
+    subst (λ what. Q.kernel (handed_over (record k { queues = object_changed (sent datum) k.queues id }) datum what)) is (law.sends id datum q there)
 sent-to Q k cpu caller law id datum timeout q Full there is may =
-    waits Q k caller (reason.Send id) timeout (in_senders k caller id datum) (λ wait. law.awaits_send id datum (due_by k timeout) q there is (may wait))
+    waits Q k caller (reason.On kind.Room id) timeout (in_senders k caller id datum)
+    (λ wait. law.awaits id (due_by k timeout) (No-room datum q there is) (may wait))
 
-received-by : {Known : Fact → Type 0} (Q : KernelState → Type 0) (k : KernelState) (cpu caller : ℕ) (law : Law Known Q k cpu caller) (id timeout : ℕ)
+received-by : {Known : Fact → Type 0} (Q : Wanted) (k : KernelState) (cpu caller : ℕ) (law : Law Known Q.kernel k cpu caller) (id timeout : ℕ)
     (q : DataQueueState) (what : Option Received) → object_at k.queues id ≡ Some q → receipt q ≡ what → ((timeout == 0) ≡ false → Known Unheld) →
     Leaves Q (queue_received k caller id timeout what)
 received-by Q k cpu caller law id timeout q (Some it) there is may = law.receives id q it there is
 received-by Q k cpu caller law id timeout q None there is may =
-    waits Q k caller (reason.Receive id) timeout (in_receivers k caller id) (λ wait. law.awaits_receive id (due_by k timeout) q there is (may wait))
+    waits Q k caller (reason.On kind.Datum id) timeout (in_receivers k caller id)
+    (λ wait. law.awaits id (due_by k timeout) (No-datum q there is) (may wait))
 
-woken : {Known : Fact → Type 0} (Q : KernelState → Type 0) (k : KernelState) (cpu caller : ℕ) (law : Law Known Q k cpu caller) (id : ℕ) →
+woken : {Known : Fact → Type 0} (Q : Wanted) (k : KernelState) (cpu caller : ℕ) (law : Law Known Q.kernel k cpu caller) (id : ℕ) →
     Leaves Q (served (table.wup_tsk k id))
 woken Q k cpu caller law id =
     leaves-row Q (table.wup_tsk k id)
@@ -257,111 +278,124 @@ is-free : (lock : Spin) → is_taken lock ≡ false → lock ≡ spin.Free
 is-free spin.Free free = refl
 is-free (spin.Held cpu) free = absurd (true≢false free)
 
-takes-by : {Known : Fact → Type 0} (Q : KernelState → Type 0) (k : KernelState) (cpu caller : ℕ) (law : Law Known Q k cpu caller) (id : ℕ) (lock : Spin)
+is-held : (k : KernelState) (id : ℕ) (lock : Spin) → is_no_id id ≡ false → spin_of k id ≡ Some lock → is_taken lock ≡ true →
+    comes_again k (call.LocSpn id) ≡ true
+is-held k id lock good there taken = ap (λ bad. not bad && is_there_taken (spin_of k id)) good ∙ ap is_there_taken there ∙ taken
+
+takes-by : {Known : Fact → Type 0} (Q : Wanted) (k : KernelState) (cpu caller : ℕ) (law : Law Known Q.kernel k cpu caller) (id : ℕ) (lock : Spin)
     (found : Option Processor) → processor_at k cpu ≡ found → spin_of k id ≡ Some lock → is_taken lock ≡ false → Known OfTask →
-    Q (lock_taken_by k cpu id found)
+    Q.kernel (lock_taken_by k cpu id found)
 takes-by Q k cpu caller law id lock None is there free may = law.stays
 takes-by Q k cpu caller law id lock (Some p) is there free may =
     law.marks p (holding id p) is refl (Takes id (there ∙ ap Some (is-free lock free)) may refl)
 
-takes-lock : {Known : Fact → Type 0} (Q : KernelState → Type 0) (k : KernelState) (cpu caller : ℕ) (law : Law Known Q k cpu caller) (id : ℕ) (lock : Spin) →
-    spin_of k id ≡ Some lock → is_taken lock ≡ false → Known OfTask → Q (lock_taken k cpu id)
+takes-lock : {Known : Fact → Type 0} (Q : Wanted) (k : KernelState) (cpu caller : ℕ) (law : Law Known Q.kernel k cpu caller) (id : ℕ) (lock : Spin) →
+    spin_of k id ≡ Some lock → is_taken lock ≡ false → Known OfTask → Q.kernel (lock_taken k cpu id)
 takes-lock Q k cpu caller law id lock there free may = takes-by Q k cpu caller law id lock (processor_at k cpu) refl there free may
 
-gives-by : {Known : Fact → Type 0} (Q : KernelState → Type 0) (k : KernelState) (cpu caller : ℕ) (law : Law Known Q k cpu caller)
-    (found : Option Processor) → processor_at k cpu ≡ found → Q (lock_given_by k cpu found)
+gives-by : {Known : Fact → Type 0} (Q : Wanted) (k : KernelState) (cpu caller : ℕ) (law : Law Known Q.kernel k cpu caller)
+    (found : Option Processor) → processor_at k cpu ≡ found → Q.kernel (lock_given_by k cpu found)
 gives-by Q k cpu caller law None is = law.stays
 gives-by Q k cpu caller law (Some p) is = law.marks p (letting_go p) is refl (Leaves-none refl)
 
 -- The walk.
 
-walk : {Known : Fact → Type 0} (Q : KernelState → Type 0) (k : KernelState) (cpu caller : ℕ) (law : Law Known Q k cpu caller) (c : Call) →
-    May Known caller c → Leaves Q (serve_by k cpu caller c)
-walk Q k cpu caller law (call.ActTsk t) may = leaves-row Q (table.act_tsk k (named caller t)) (λ task passes. law.activates (named caller t) Assigned tt)
-walk Q k cpu caller law (call.IactTsk t) may = leaves-row Q (table.act_tsk k t) (λ task passes. law.activates t Assigned tt)
-walk Q k cpu caller law (call.MactTsk t to) may =
+walk : {Known : Fact → Type 0} (Q : Wanted) (k : KernelState) (cpu caller : ℕ) (law : Law Known Q.kernel k cpu caller) (c : Call) →
+    May Known caller c → (comes_again k c ≡ true → Q.again) → Leaves Q (serve_by k cpu caller c)
+walk Q k cpu caller law (call.ActTsk t) may told = leaves-row Q (table.act_tsk k (named caller t)) (λ task passes. law.activates (named caller t) Assigned tt)
+walk Q k cpu caller law (call.IactTsk t) may told = leaves-row Q (table.act_tsk k t) (λ task passes. law.activates t Assigned tt)
+walk Q k cpu caller law (call.MactTsk t to) may told =
     leaves-row Q (table.mact_tsk k (named caller t) to) (λ task passes. law.activates (named caller t) (On to) passes.par)
-walk Q k cpu caller law (call.ImactTsk t to) may = leaves-row Q (table.mact_tsk k t to) (λ task passes. law.activates t (On to) passes.par)
-walk Q k cpu caller law (call.CanAct t) may = leaves-row Q (table.can_act k (named caller t)) (λ task passes. law.cancels (named caller t))
-walk Q k cpu caller law call.ExtTsk may = leaves-row Q (table.ext_tsk k cpu caller) (λ task passes. law.exits may)
-walk Q k cpu caller law (call.TerTsk t) may =
+walk Q k cpu caller law (call.ImactTsk t to) may told = leaves-row Q (table.mact_tsk k t to) (λ task passes. law.activates t (On to) passes.par)
+walk Q k cpu caller law (call.CanAct t) may told = leaves-row Q (table.can_act k (named caller t)) (λ task passes. law.cancels (named caller t))
+walk Q k cpu caller law call.ExtTsk may told = leaves-row Q (table.ext_tsk k cpu caller) (λ task passes. law.exits may)
+walk Q k cpu caller law (call.TerTsk t) may told =
     leaves-row Q (table.ter_tsk k cpu caller t)
     (λ (task : Task) passes. law.ends t task passes.there (or-right (is_dormant task.status) (is_held_elsewhere k cpu t task) passes.obj) passes.iluse)
-walk Q k cpu caller law (call.ChgPri t priority) may =
+walk Q k cpu caller law (call.ChgPri t priority) may told =
     leaves-row Q (table.chg_pri k (named caller t) priority)
     (λ (task : Task) passes. law.prioritizes (named caller t) (table.priority_or_initial priority task) task passes.there)
-walk Q k cpu caller law (call.GetPri t) may = leaves-row Q (table.get_pri k (named caller t)) (λ task passes. law.stays)
-walk Q k cpu caller law (call.MigTsk t to) may =
+walk Q k cpu caller law (call.GetPri t) may told = leaves-row Q (table.get_pri k (named caller t)) (λ task passes. law.stays)
+walk Q k cpu caller law (call.MigTsk t to) may told =
     leaves-row Q (table.mig_tsk k cpu (named caller t) to)
     (λ (task : Task) passes. law.migrates (named caller t) to task passes.there
     (last-false (is_dormant task.status) (task.cpu == to) (is_held_elsewhere k cpu (named caller t) task) passes.obj) passes.par may)
-walk Q k cpu caller law call.GetPid may = leaves-row Q (table.get_pid k cpu) (λ x passes. law.stays)
-walk Q k cpu caller law (call.RotRdq priority) may =
+walk Q k cpu caller law call.GetPid may told = leaves-row Q (table.get_pid k cpu) (λ x passes. law.stays)
+walk Q k cpu caller law (call.RotRdq priority) may told =
     leaves-row Q (table.rot_rdq k cpu caller priority)
     (λ p passes. law.rotates (table.priority_or_callers priority (callers_priority k caller)) p passes.there)
-walk Q k cpu caller law (call.IrotRdq priority) may = leaves-row Q (table.irot_rdq k cpu priority) (λ p passes. law.rotates priority p passes.there)
-walk Q k cpu caller law call.GetTid may = leaves-row Q (table.get_tid k caller) (λ x passes. law.stays)
-walk Q k cpu caller law call.DisDsp may =
+walk Q k cpu caller law (call.IrotRdq priority) may told = leaves-row Q (table.irot_rdq k cpu priority) (λ p passes. law.rotates priority p passes.there)
+walk Q k cpu caller law call.GetTid may told = leaves-row Q (table.get_tid k caller) (λ x passes. law.stays)
+walk Q k cpu caller law call.DisDsp may told =
     leaves-row Q (table.mark_dsp k cpu true) (λ (p : Processor) passes. law.marks p (record p { disabled = true }) passes.there refl stays-locked)
-walk Q k cpu caller law call.EnaDsp may =
+walk Q k cpu caller law call.EnaDsp may told =
     leaves-row Q (table.mark_dsp k cpu false) (λ (p : Processor) passes. law.marks p (record p { disabled = false }) passes.there refl stays-locked)
-walk Q k cpu caller law call.LocCpu may =
+walk Q k cpu caller law call.LocCpu may told =
     leaves-row Q (table.mark_cpu k cpu true) (λ (p : Processor) passes. law.marks p (record p { locked = true }) passes.there refl now-locked)
-walk Q k cpu caller law call.UnlCpu may =
+walk Q k cpu caller law call.UnlCpu may told =
     leaves-row Q (table.mark_cpu k cpu false) (λ (p : Processor) passes. law.marks p (record p { locked = false }) passes.there refl (Opens may refl))
-walk Q k cpu caller law (call.TslpTsk timeout) may =
+walk Q k cpu caller law (call.TslpTsk timeout) may told =
     leaves-row Q (table.tslp_tsk k caller timeout)
     (λ (task : Task) passes. leaves-if Q task.wakeup _ _ (λ queued. law.unwakes caller)
     (λ none. waits Q k caller reason.Sleep timeout k (λ wait. law.sleeps (due_by k timeout) task passes.there none (may wait))))
-walk Q k cpu caller law (call.WupTsk t) may = woken Q k cpu caller law (named caller t)
-walk Q k cpu caller law (call.IwupTsk t) may = woken Q k cpu caller law t
-walk Q k cpu caller law (call.CanWup t) may = leaves-row Q (table.can_wup k (named caller t)) (λ task passes. law.unwakes (named caller t))
-walk Q k cpu caller law (call.RelWai t) may = leaves-row Q (table.rel_wai k t) (λ task passes. law.breaks t (code_of Rlwai))
-walk Q k cpu caller law (call.SusTsk t) may =
+walk Q k cpu caller law (call.WupTsk t) may told = woken Q k cpu caller law (named caller t)
+walk Q k cpu caller law (call.IwupTsk t) may told = woken Q k cpu caller law t
+walk Q k cpu caller law (call.CanWup t) may told = leaves-row Q (table.can_wup k (named caller t)) (λ task passes. law.unwakes (named caller t))
+walk Q k cpu caller law (call.RelWai t) may told = leaves-row Q (table.rel_wai k t) (λ task passes. law.breaks t (code_of Rlwai))
+walk Q k cpu caller law (call.SusTsk t) may told =
     leaves-row Q (table.sus_tsk k cpu (named caller t))
     (λ (task : Task) passes. law.suspends (named caller t) task passes.there
     (or-right (is_dormant task.status) (is_held_elsewhere k cpu (named caller t) task) passes.obj) may)
-walk Q k cpu caller law (call.RsmTsk t) may = leaves-row Q (table.rsm_tsk k t) (λ task passes. law.resumes t)
-walk Q k cpu caller law (call.DlyTsk time) may = leaves-row Q (table.dly_tsk k caller time) (λ task passes. law.delays (due_after k time) may)
-walk Q k cpu caller law (call.SigSem id) may = leaves-row Q (table.sig_sem k id) (λ (s : Semaphore) passes. law.signals id s passes.there)
-walk Q k cpu caller law (call.TwaiSem id timeout) may =
+walk Q k cpu caller law (call.RsmTsk t) may told = leaves-row Q (table.rsm_tsk k t) (λ task passes. law.resumes t)
+walk Q k cpu caller law (call.DlyTsk time) may told = leaves-row Q (table.dly_tsk k caller time) (λ task passes. law.delays (due_after k time) may)
+walk Q k cpu caller law (call.SigSem id) may told = leaves-row Q (table.sig_sem k id) (λ (s : Semaphore) passes. law.signals id s passes.there)
+walk Q k cpu caller law (call.TwaiSem id timeout) may told =
     leaves-row Q (table.twai_sem k caller id timeout)
     (λ (s : Semaphore) passes. leaves-if Q (has_one s) _ _ (λ one. law.takes id s passes.there)
-    (λ none. waits Q k caller (reason.Semaphore id) timeout (in_semaphore k caller id)
-    (λ wait. law.awaits_semaphore id (due_by k timeout) s passes.there none (may wait))))
-walk Q k cpu caller law (call.SetFlg id bits) may = leaves-row Q (table.set_flg k id bits) (λ (f : Flag) passes. law.sets id bits f passes.there)
-walk Q k cpu caller law (call.ClrFlg id bits) may = leaves-row Q (table.clr_flg k id bits) (λ (f : Flag) passes. law.clears id bits f passes.there)
-walk Q k cpu caller law (call.TwaiFlg id bits mode timeout) may =
+    (λ none. waits Q k caller (reason.On kind.Semaphore id) timeout (in_semaphore k caller id)
+    (λ wait. law.awaits id (due_by k timeout) (No-one s passes.there none) (may wait))))
+walk Q k cpu caller law (call.SetFlg id bits) may told = leaves-row Q (table.set_flg k id bits) (λ (f : Flag) passes. law.sets id bits f passes.there)
+walk Q k cpu caller law (call.ClrFlg id bits) may told = leaves-row Q (table.clr_flg k id bits) (λ (f : Flag) passes. law.clears id bits f passes.there)
+walk Q k cpu caller law (call.TwaiFlg id bits mode timeout) may told =
     leaves-row Q (table.twai_flg k caller id bits mode timeout)
     (λ (f : Flag) passes. got Q k cpu caller law id (table.want_of bits mode) timeout f (pattern_for (table.want_of bits mode) f) passes.there refl
     (some-bits bits mode timeout passes.par) may)
-walk Q k cpu caller law (call.TsndDtq id datum timeout) may =
+walk Q k cpu caller law (call.TsndDtq id datum timeout) may told =
     leaves-row Q (table.tsnd_dtq k caller id datum timeout)
     (λ (q : DataQueueState) passes. sent-to Q k cpu caller law id datum timeout q (outcome q) passes.there refl may)
-walk Q k cpu caller law (call.FsndDtq id datum) may =
+walk Q k cpu caller law (call.FsndDtq id datum) may told =
     leaves-row Q (table.fsnd_dtq k id datum) (λ (q : DataQueueState) passes. law.forces id datum q passes.there)
-walk Q k cpu caller law (call.TrcvDtq id timeout) may =
+walk Q k cpu caller law (call.TrcvDtq id timeout) may told =
     leaves-row Q (table.trcv_dtq k caller id timeout)
     (λ (q : DataQueueState) passes. received-by Q k cpu caller law id timeout q (receipt q) passes.there refl may)
-walk Q k cpu caller law (call.PutChr word) may = leaves-row Q (table.put_chr k word) (λ x passes. law.writes word)
-walk Q k cpu caller law call.ExtKer may = leaves-row Q (table.ext_ker k) (λ x passes. law.ends_all)
-walk Q k cpu caller law call.RetInt may = leaves-row Q (table.ret_int k cpu) (λ (p : Processor) passes. law.returns p passes.there)
-walk Q k cpu caller law (call.LocSpn id) may =
+walk Q k cpu caller law (call.PutChr word) may told = leaves-row Q (table.put_chr k word) (λ x passes. law.writes word)
+walk Q k cpu caller law call.ExtKer may told = leaves-row Q (table.ext_ker k) (λ x passes. law.ends_all)
+walk Q k cpu caller law call.RetInt may told = leaves-row Q (table.ret_int k cpu) (λ (p : Processor) passes. law.returns p passes.there)
+walk Q k cpu caller law (call.LocSpn id) may told =
     leaves-row Q (table.loc_spn k cpu id)
-    (λ (lock : Spin) passes. leaves-if Q (is_taken lock) _ _ (λ taken. law.stays)
+    (λ (lock : Spin) passes. leaves-if Q (is_taken lock) _ _ (λ taken. (told (is-held k id lock passes.id passes.there taken), law.stays))
     (λ free. takes-lock Q k cpu caller law id lock passes.there free may))
-walk Q k cpu caller law (call.TrySpn id) may =
+walk Q k cpu caller law (call.TrySpn id) may told =
     leaves-row Q (table.try_spn k cpu id) (λ (lock : Spin) passes. takes-lock Q k cpu caller law id lock passes.there passes.obj may)
-walk Q k cpu caller law (call.UnlSpn id) may =
+walk Q k cpu caller law (call.UnlSpn id) may told =
     leaves-row Q (table.unl_spn k cpu id) (λ (lock : Spin) passes. gives-by Q k cpu caller law (processor_at k cpu) refl)
 
 -- what a call leaves, refused or not
 pub serve-leaves : {Known : Fact → Type 0} (Q : KernelState → Type 0) (k : KernelState) (cpu : ℕ) (law : Law Known Q k cpu (caller_on k cpu))
     (c : Call) → May Known (caller_on k cpu) c → Q (serve_of k cpu c).kernel
 serve-leaves Q k cpu law c may =
-    leaves-or_refused Q k (serve_by k cpu (caller_on k cpu) c) law.stays (walk Q k cpu (caller_on k cpu) law c may)
+    let wanted : Wanted = record { kernel = Q; again = Unit {0} } in
+    leaves-or_refused wanted k (serve_by k cpu (caller_on k cpu) c) law.stays (walk wanted k cpu (caller_on k cpu) law c may (λ told. tt))
 
 -- the same, where a law needs to know nothing of the caller
 pub serve-always : (Q : KernelState → Type 0) (k : KernelState) (cpu : ℕ) → Law Anything Q k cpu (caller_on k cpu) → (c : Call) →
     Q (serve_of k cpu c).kernel
 serve-always Q k cpu law c = serve-leaves Q k cpu law c (any-may (caller_on k cpu) (stop_of c))
+
+-- a call that is answered so is one of which it could be told before
+pub serve-says : (Q : KernelState → Type 0) (k : KernelState) (cpu : ℕ) → Law Anything Q k cpu (caller_on k cpu) → (c : Call) →
+    asks_again (serve_of k cpu c).reply ≡ true → comes_again k c ≡ true
+serve-says Q k cpu law c =
+    let wanted : Wanted = record { kernel = Q; again = comes_again k c ≡ true } in
+    again-or_refused wanted k (serve_by k cpu (caller_on k cpu) c)
+    (walk wanted k cpu (caller_on k cpu) law c (any-may (caller_on k cpu) (stop_of c)) (λ told. told))

@@ -66,6 +66,12 @@ silent k = Ok (record { kernel = k; reply = Silent })
 abbrev pub again : KernelState → Result Served Ercd
 again k = Ok (record { kernel = k; reply = Again })
 
+-- the reply to a call that is to be made again
+abbrev pub asks_again : Reply → Bool
+asks_again (Answer code second) = false
+asks_again Silent = false
+asks_again Again = true
+
 -- a refused call changes nothing
 abbrev pub or_refused : KernelState → Result Served Ercd → Served
 or_refused k (Ok outcome) = outcome

@@ -8,6 +8,7 @@ use Rattle.std.specs.Prelude.{List, [], ◌∷◌, ◌++◌, length, slice_set, 
 use Rattle.brd_tasks.specs.declared.status.Status.{Status}
 use Rattle.brd_tasks.specs.declared.status.WaitReason.{WaitReason}
 use Rattle.brd_tasks.specs.declared.status.WaitReason.TheVariants as reason
+use Rattle.brd_tasks.specs.declared.status.WaitKind.TheVariants as kind
 use Rattle.brd_tasks.specs.declared.task.Task.{Task}
 use Rattle.brd_tasks.specs.declared.task.Request.TheVariants.{Assigned, On}
 use Rattle.brd_tasks.specs.Status.{waiting_of, is_dormant, is_waiting, is_suspended, suspended, resumed}
@@ -113,10 +114,7 @@ abbrev pub is_sleep : Option WaitReason → Bool
 is_sleep None = false
 is_sleep (Some reason.Sleep) = true
 is_sleep (Some reason.Delay) = false
-is_sleep (Some (reason.Semaphore id)) = false
-is_sleep (Some (reason.Flag id)) = false
-is_sleep (Some (reason.Send id)) = false
-is_sleep (Some (reason.Receive id)) = false
+is_sleep (Some (reason.On what object)) = false
 
 -- waits for a wake-up, suspended or not
 abbrev pub is_asleep : Status → Bool
@@ -346,7 +344,7 @@ twai_sem k caller id timeout = record (on_semaphore k id) {
   bad_par = is_bad_timeout timeout;
   does = λ s.
       if has_one s then ok (record k { semaphores = object_changed taken k.semaphores id })
-      else or_waits k caller (reason.Semaphore id) timeout
+      else or_waits k caller (reason.On kind.Semaphore id) timeout
       (record k { semaphores = object_changed (semaphore_awaited caller (callers_priority k caller)) k.semaphores id });
 }
 
@@ -364,7 +362,7 @@ clr_flg k id bits = record (on_flag k id) { does = λ f. ok (record k { flags = 
 abbrev pub flag_got : KernelState → ℕ → ℕ → Want → ℕ → Option ℕ → Result Served Ercd
 flag_got k caller id want timeout (Some pattern) = ok_with (record k { flags = object_changed (taken_for want) k.flags id }) pattern
 flag_got k caller id want timeout None =
-    or_waits k caller (reason.Flag id) timeout (record k { flags = object_changed (flag_awaited caller (callers_priority k caller) want) k.flags id })
+    or_waits k caller (reason.On kind.Flag id) timeout (record k { flags = object_changed (flag_awaited caller (callers_priority k caller) want) k.flags id })
 
 -- 30 wai_flg F, bits, mode, 31 pol_flg F, bits, mode, 32 twai_flg F, bits, mode, timeout. Refuses: PAR; ILUSE under
 -- TA_WSGL another task waits. Second result: the pattern. Waits for the bits.
@@ -380,7 +378,7 @@ abbrev pub queue_sent : KernelState → ℕ → ℕ → ℕ → ℕ → Sent →
 queue_sent k caller id datum timeout (Handed task) = ok (released_in (record k { queues = object_changed (sent datum) k.queues id }) task e_ok (Some datum))
 queue_sent k caller id datum timeout Stored = ok (record k { queues = object_changed (sent datum) k.queues id })
 queue_sent k caller id datum timeout Full =
-    or_waits k caller (reason.Send id) timeout (record k { queues = object_changed (awaited_by_sender caller (callers_priority k caller) datum) k.queues id })
+    or_waits k caller (reason.On kind.Room id) timeout (record k { queues = object_changed (awaited_by_sender caller (callers_priority k caller) datum) k.queues id })
 
 -- 33 snd_dtq Q, datum, 34 psnd_dtq Q, datum, 35 tsnd_dtq Q, datum, timeout, 53 ipsnd_dtq Q, datum. Refuses: PAR. Sends
 -- a datum, or waits.
@@ -402,7 +400,7 @@ fsnd_dtq k id datum = record (on_queue k id) {
 abbrev pub queue_received : KernelState → ℕ → ℕ → ℕ → Option Received → Result Served Ercd
 queue_received k caller id timeout (Some it) = ok_with (with_released (record k { queues = object_changed received k.queues id }) it.sender) it.datum
 queue_received k caller id timeout None =
-    or_waits k caller (reason.Receive id) timeout (record k { queues = object_changed (awaited_by_receiver caller (callers_priority k caller)) k.queues id })
+    or_waits k caller (reason.On kind.Datum id) timeout (record k { queues = object_changed (awaited_by_receiver caller (callers_priority k caller)) k.queues id })
 
 -- 37 rcv_dtq Q, 38 prcv_dtq Q, 39 trcv_dtq Q, timeout. Refuses: PAR. Second result: a datum. Receives it, or waits.
 abbrev pub trcv_dtq : KernelState → ℕ → ℕ → ℕ → Row DataQueueState

@@ -11,6 +11,8 @@ use Rattle.brd_queue.specs.Queue.{Plain, has, priority_in, is_empty, AreApart}
 use Rattle.brd_queue.specs.Rule.{IsByPriority}
 use Rattle.brd_tasks.specs.declared.status.WaitReason.{WaitReason}
 use Rattle.brd_tasks.specs.declared.status.WaitReason.TheVariants as reason
+use Rattle.brd_tasks.specs.declared.status.WaitKind.{WaitKind}
+use Rattle.brd_tasks.specs.declared.status.WaitKind.TheVariants as kind
 use Rattle.brd_tasks.specs.declared.task.Task.{Task}
 use Rattle.brd_tasks.specs.Status.{waiting_of}
 use Rattle.brd_tasks.specs.Tasks.{task_at}
@@ -45,22 +47,23 @@ abbrev pub receivers : Option DataQueueState → List Plain
 receivers None = []
 receivers (Some q) = q.receivers
 
+-- the list of those who wait for an object
+abbrev pub waiters_of : KernelState → WaitKind → ℕ → List Plain
+waiters_of k kind.Semaphore object = semaphore_waiters (object_at k.semaphores object)
+waiters_of k kind.Flag object = flag_waiters (object_at k.flags object)
+waiters_of k kind.Room object = senders (object_at k.queues object)
+waiters_of k kind.Datum object = receivers (object_at k.queues object)
+
 -- the list of those who wait for something: a sleep and a delay have none
 abbrev pub standing_for : KernelState → WaitReason → List Plain
 standing_for k reason.Sleep = []
 standing_for k reason.Delay = []
-standing_for k (reason.Semaphore object) = semaphore_waiters (object_at k.semaphores object)
-standing_for k (reason.Flag object) = flag_waiters (object_at k.flags object)
-standing_for k (reason.Send object) = senders (object_at k.queues object)
-standing_for k (reason.Receive object) = receivers (object_at k.queues object)
+standing_for k (reason.On what object) = waiters_of k what object
 
 abbrev pub has_list : WaitReason → Bool
 has_list reason.Sleep = false
 has_list reason.Delay = false
-has_list (reason.Semaphore object) = true
-has_list (reason.Flag object) = true
-has_list (reason.Send object) = true
-has_list (reason.Receive object) = true
+has_list (reason.On what object) = true
 
 -- Where the order is by priority, no task stands in front of one with a higher priority, which is a lower number.
 -- Nothing is said of arrival, neither where the order is by arrival nor among equals: a list doesn't tell who came

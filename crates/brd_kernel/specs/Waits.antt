@@ -4,15 +4,19 @@ use Rattle.std.specs.Prelude.{ℕ, ◌+◌, ◌-◌, ◌^◌, ◌==◌, nat_le, 
 use Rattle.std.specs.Option.{option_map}
 use Rattle.brd_tasks.specs.declared.status.WaitReason.{WaitReason}
 use Rattle.brd_tasks.specs.declared.status.WaitReason.TheVariants as reason
+use Rattle.brd_tasks.specs.declared.status.WaitKind.{WaitKind}
+use Rattle.brd_tasks.specs.declared.status.WaitKind.TheVariants as kind
 use Rattle.brd_tasks.specs.declared.task.Task.{Task}
 use Rattle.brd_tasks.specs.declared.task.TaskView.{TaskView}
 use Rattle.brd_tasks.specs.Status.{waiting_of, is_ready, blocked}
 use Rattle.brd_tasks.specs.Tasks.{task_at, through, released_with, ended, noted, without_activation, view_of}
 use Rattle.brd_time.specs.Time.{Time, due_of, with_due, last_count, advanced, due_from}
+use Rattle.brd_objects.specs.declared.semaphore.Semaphore.{Semaphore}
+use Rattle.brd_objects.specs.declared.flag.Flag.{Flag}
 use Rattle.brd_objects.specs.Table.{objects_changed}
 use Rattle.brd_objects.specs.Semaphores.{semaphore_left, semaphore_reordered}
 use Rattle.brd_objects.specs.Flags.{flag_left, flag_reordered}
-use Rattle.brd_objects.specs.DataQueues.{data_queue_left, data_queue_reordered}
+use Rattle.brd_objects.specs.DataQueues.{DataQueueState, data_queue_left, data_queue_reordered}
 use Rattle.brd_kernel.specs.declared.processor.Processor.{Processor}
 use Rattle.brd_kernel.specs.declared.call.Ercd.TheVariants.{Tmout}
 use Rattle.brd_kernel.specs.Answer.{e_ok, code_of}
@@ -62,16 +66,34 @@ reason_in (Some task) = waiting_of task.status
 abbrev pub reason_of : KernelState → ℕ → Option WaitReason
 reason_of k id = reason_in (task_at k.tasks id)
 
--- a task leaves the list of what it waits for (all lists of that kind: it stands in no other)
+-- A change in the list of what a task waits for: what becomes of an object, by its kind. It is made of all objects of
+-- that kind, and is one of the object in whose list the task stands: it stands in no other.
+
+pub record Change : Type 0 where
+  pub semaphore : Semaphore → Semaphore
+  pub flag : Flag → Flag
+  pub queue : DataQueueState → DataQueueState
+
+abbrev pub changed_of : Change → KernelState → WaitKind → KernelState
+changed_of change k kind.Semaphore = record k { semaphores = objects_changed change.semaphore k.semaphores }
+changed_of change k kind.Flag = record k { flags = objects_changed change.flag k.flags }
+changed_of change k kind.Room = record k { queues = objects_changed change.queue k.queues }
+changed_of change k kind.Datum = record k { queues = objects_changed change.queue k.queues }
+
+-- a sleep and a delay have no list
+abbrev pub changed_for : Change → KernelState → Option WaitReason → KernelState
+changed_for change k None = k
+changed_for change k (Some reason.Sleep) = k
+changed_for change k (Some reason.Delay) = k
+changed_for change k (Some (reason.On what object)) = changed_of change k what
+
+-- a task leaves the list of what it waits for
+
+abbrev pub leaving : ℕ → Change
+leaving id = record { semaphore = semaphore_left id; flag = flag_left id; queue = data_queue_left id }
 
 abbrev pub unlisted_from : KernelState → ℕ → Option WaitReason → KernelState
-unlisted_from k id None = k
-unlisted_from k id (Some reason.Sleep) = k
-unlisted_from k id (Some reason.Delay) = k
-unlisted_from k id (Some (reason.Semaphore object)) = record k { semaphores = objects_changed (semaphore_left id) k.semaphores }
-unlisted_from k id (Some (reason.Flag object)) = record k { flags = objects_changed (flag_left id) k.flags }
-unlisted_from k id (Some (reason.Send object)) = record k { queues = objects_changed (data_queue_left id) k.queues }
-unlisted_from k id (Some (reason.Receive object)) = record k { queues = objects_changed (data_queue_left id) k.queues }
+unlisted_from k id why = changed_for (leaving id) k why
 
 abbrev pub unlisted : KernelState → ℕ → KernelState
 unlisted k id = unlisted_from k id (reason_of k id)
@@ -87,14 +109,11 @@ ended_in k id = let out = unlisted k id in record out { tasks = ended k.tasks id
 -- a task has another priority: in the list of what it waits for it is placed anew where that goes by priority, else it
 -- keeps its place
 
+abbrev pub moving : ℕ → ℕ → Change
+moving id priority = record { semaphore = semaphore_reordered id priority; flag = flag_reordered id priority; queue = data_queue_reordered id priority }
+
 abbrev pub reordered_in : KernelState → ℕ → ℕ → Option WaitReason → KernelState
-reordered_in k id priority None = k
-reordered_in k id priority (Some reason.Sleep) = k
-reordered_in k id priority (Some reason.Delay) = k
-reordered_in k id priority (Some (reason.Semaphore object)) = record k { semaphores = objects_changed (semaphore_reordered id priority) k.semaphores }
-reordered_in k id priority (Some (reason.Flag object)) = record k { flags = objects_changed (flag_reordered id priority) k.flags }
-reordered_in k id priority (Some (reason.Send object)) = record k { queues = objects_changed (data_queue_reordered id priority) k.queues }
-reordered_in k id priority (Some (reason.Receive object)) = record k { queues = objects_changed (data_queue_reordered id priority) k.queues }
+reordered_in k id priority why = changed_for (moving id priority) k why
 
 -- Time.
 
@@ -104,10 +123,7 @@ abbrev pub answer_by : Option WaitReason → ℕ
 answer_by None = code_of Tmout
 answer_by (Some reason.Sleep) = code_of Tmout
 answer_by (Some reason.Delay) = e_ok
-answer_by (Some (reason.Semaphore object)) = code_of Tmout
-answer_by (Some (reason.Flag object)) = code_of Tmout
-answer_by (Some (reason.Send object)) = code_of Tmout
-answer_by (Some (reason.Receive object)) = code_of Tmout
+answer_by (Some (reason.On what object)) = code_of Tmout
 
 abbrev pub timed_out : KernelState → ℕ → KernelState
 timed_out k id = broken_off k id (answer_by (reason_of k id))

@@ -11,7 +11,7 @@ mod lines;
 mod making;
 mod processor;
 
-pub use brd_tasks::{Request, TaskId, TaskSetup, TaskState, TaskView, WaitReason};
+pub use brd_tasks::{Request, TaskId, TaskSetup, TaskState, TaskView, WaitKind, WaitReason};
 pub use call::{Call, Ercd, Reply};
 pub use kernel::{Kernel, SavedKernel};
 pub use processor::{Ended, Executor, Handler, Line, LineSetup, Marks, Processor, Spin, Standing};

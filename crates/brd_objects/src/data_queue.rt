@@ -22,6 +22,7 @@ ghost use Rattle.brd_objects.specs.DataQueues.{
 
 mod saved;
 
+use crate::object::Object;
 use crate::sent::{Received, Sent};
 use bitflags::Flags;
 use brd_base::{NoMemory, Same, copy_with_room};
@@ -76,11 +77,29 @@ impl Same for DataQueue {
     }
 }
 
-impl DataQueue {
-    /// A data queue as the configuration says it: empty, and nobody waits.
-    pub fn new(alloc: Global, config: &QueueConfig) -> Result<DataQueue, NoMemory>
-        ensures { IfOk result (λ queue. queue ≡ data_queue_of config.now) }
-    {
+impl Object for DataQueue {
+    type Config = QueueConfig;
+
+    type Saved = SavedDataQueue;
+
+    ghost id_of = { λ config. config.id };
+
+    ghost made_of = { data_queue_of };
+
+    ghost left = { data_queue_left };
+
+    ghost reordered = { data_queue_reordered };
+
+    ghost restored = { λ saved. saved };
+
+    ghost clones_are_equal = { λ _ _ same. same };
+
+    fn id(config: &QueueConfig) -> u16 {
+        config.id
+    }
+
+    /// It is empty, too.
+    fn new(alloc: Global, config: &QueueConfig) -> Result<DataQueue, NoMemory> {
         Ok(DataQueue {
             capacity: config.capacity,
             order: order_of(config.attributes),
@@ -90,6 +109,28 @@ impl DataQueue {
         })
     }
 
+    /// Its datum goes with it.
+    fn leave(&mut self, task: u16) {
+        let _ = self.senders.leave(task);
+        let _ = self.receivers.leave(task);
+    }
+
+    /// Receivers always wait by arrival.
+    fn reorder(&mut self, task: u16, priority: u8) {
+        self.senders.reorder(self.order, task, priority);
+        self.receivers.reorder(Order::Arrival, task, priority);
+    }
+
+    fn save(&self) -> Result<SavedDataQueue, NoMemory> {
+        self.save()
+    }
+
+    fn restore(saved: &SavedDataQueue) -> Result<DataQueue, NoMemory> {
+        saved.restore()
+    }
+}
+
+impl DataQueue {
     /// How many data it stores.
     pub fn capacity(&self) -> u16
         ensures { result ≡ self.now.capacity }
@@ -188,23 +229,6 @@ impl DataQueue {
             wanted: (),
         };
         self.receivers.place(Order::Arrival, entry);
-    }
-
-    /// A task no longer waits, and its datum goes with it.
-    pub fn leave(&mut self, task: u16)
-        ensures { self.new ≡ data_queue_left task self.old }
-    {
-        let _ = self.senders.leave(task);
-        let _ = self.receivers.leave(task);
-    }
-
-    /// A task, where it waits, is given a priority: by arrival it keeps its place, by priority it comes after its
-    /// equals.
-    pub fn reorder(&mut self, task: u16, priority: u8)
-        ensures { self.new ≡ data_queue_reordered task priority self.old }
-    {
-        self.senders.reorder(self.order, task, priority);
-        self.receivers.reorder(Order::Arrival, task, priority);
     }
 }
 

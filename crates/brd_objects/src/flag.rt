@@ -20,6 +20,7 @@ ghost use Rattle.brd_objects.specs.Waiters.{WantBits};
 
 mod saved;
 
+use crate::object::Object;
 use crate::waiters::Waiters;
 use crate::want::Want;
 use bitflags::Flags;
@@ -51,11 +52,30 @@ impl Same for Flag {
     }
 }
 
-impl Flag {
-    /// A flag as the configuration says it: nobody waits.
-    pub fn new(alloc: Global, config: &FlagConfig) -> Result<Flag, NoMemory>
-        ensures { IfOk result (λ flag. flag ≡ flag_of config.now) }
-    {
+impl Object for Flag {
+    ghost use Rattle.std.proofs.Common.{rules};
+
+    type Config = FlagConfig;
+
+    type Saved = SavedFlag;
+
+    ghost id_of = { λ config. config.id };
+
+    ghost made_of = { flag_of };
+
+    ghost left = { flag_left };
+
+    ghost reordered = { flag_reordered };
+
+    ghost restored = { λ saved. saved };
+
+    ghost clones_are_equal = { λ _ _ same. Prim.search rules };
+
+    fn id(config: &FlagConfig) -> u16 {
+        config.id
+    }
+
+    fn new(alloc: Global, config: &FlagConfig) -> Result<Flag, NoMemory> {
         Ok(Flag {
             pattern: config.pattern,
             order: order_of(config.attributes),
@@ -65,6 +85,24 @@ impl Flag {
         })
     }
 
+    fn leave(&mut self, task: u16) {
+        self.waiters.leave(task);
+    }
+
+    fn reorder(&mut self, task: u16, priority: u8) {
+        self.waiters.reorder(self.order, task, priority);
+    }
+
+    fn save(&self) -> Result<SavedFlag, NoMemory> {
+        self.save()
+    }
+
+    fn restore(saved: &SavedFlag) -> Result<Flag, NoMemory> {
+        saved.restore()
+    }
+}
+
+impl Flag {
     /// The bit pattern.
     pub fn pattern(&self) -> u32
         ensures { result ≡ self.now.pattern }
@@ -146,20 +184,6 @@ impl Flag {
             wanted: want,
         };
         self.waiters.place(self.order, entry);
-    }
-
-    /// A task no longer waits.
-    pub fn leave(&mut self, task: u16)
-        ensures { self.new ≡ flag_left task self.old }
-    {
-        self.waiters.leave(task);
-    }
-
-    /// A task, where it waits, has another priority.
-    pub fn reorder(&mut self, task: u16, priority: u8)
-        ensures { self.new ≡ flag_reordered task priority self.old }
-    {
-        self.waiters.reorder(self.order, task, priority);
     }
 }
 

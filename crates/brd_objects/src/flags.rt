@@ -17,75 +17,22 @@ ghost use Rattle.brd_objects.specs.Flags.{
 };
 ghost use Rattle.brd_objects.specs.Waiters.{WantBits};
 
-mod saved;
-
 use crate::flag::Flag;
+use crate::objects::{Objects, SavedObjects};
 use crate::want::Want;
-use brd_base::{NoMemory, same_slices};
-use brd_config::FlagConfig;
-pub use saved::SavedFlags;
-use std::alloc::Global;
-use std::marker::Model;
 
 /// The event flags of a board by their IDs. Only `new` takes memory.
-pub struct Flags {
-    rows: Vec<Option<Flag>>,
-}
+pub type Flags = Objects<Flag>;
 
-impl Model for Flags {
-    ghost use Rattle.std.specs.Prelude.{◌≡◌, length};
-    ghost use Rattle.brd_objects.specs.Table.{Table};
-    ghost use Rattle.brd_objects.specs.declared.flag.Flag.{Flag};
+/// What a snapshot keeps of them.
+pub type SavedFlags = SavedObjects<Flag>;
 
-    ghost Value = { Table Flag };
-
-    ghost view = { λ f. f.rows.items };
-
-    ghost invariant = { λ f. length f.rows.items ≡ 256 };
-}
-
-/// Written out, so that a function that lets one go is proved with a call, and not with the end of each part.
-impl Drop for Flags {
-    fn drop(self) {
-        let Flags { rows: _ } = self;
-    }
-}
-
-impl Flags {
-    /// The flags of a configuration. Of statements with one ID the first counts.
-    #[tactic(auto, using(crate::proofs::TableLemmas::made_long))]
-    pub fn new(alloc: Global, configs: &[FlagConfig]) -> Result<Flags, NoMemory>
-        ensures { IfOk result (λ flags. flags ≡ made_flags configs.now) }
-    {
-        Ok(Flags {
-            rows: rows_of(alloc, configs)?,
-        })
-    }
-
-    /// Equal flags.
-    pub fn try_copy(&self) -> Result<Flags, NoMemory>
-        ensures { IfOk result (λ copy. copy ≡ self.now) }
-    {
-        Ok(Flags {
-            rows: self.rows.clone()?,
-        })
-    }
-
-    /// Whether both are equal.
-    pub fn same(&self, other: &Flags) -> bool
-        ensures { Decides result (self.now ≡ other.now) }
-    {
-        same_slices(self.rows.as_slice(), other.rows.as_slice())
-    }
-
+impl Objects<Flag> {
     /// The flag of an ID.
     pub fn flag(&self, id: u16) -> Option<&Flag>
         ensures { option_copied result ≡ object_at self.now id }
     {
-        if (id as usize) < self.rows.len() {
-            return self.rows[id as usize].as_ref();
-        }
-        None
+        self.object(id)
     }
 
     /// Sets bits of a flag. Who is released by it says `next_satisfied`.
@@ -151,51 +98,4 @@ impl Flags {
             }
         }
     }
-
-    /// A task no longer waits for any flag.
-    pub fn leave(&mut self, task: u16)
-        ensures { self.new ≡ objects_changed (flag_left task) self.old }
-    {
-        for row in self.rows.iter_mut() {
-            if let Some(flag) = row {
-                flag.leave(task);
-            }
-        }
-    }
-
-    /// A task, where it waits, is given a priority: by arrival it keeps its place, by priority it comes after its
-    /// equals.
-    pub fn reorder(&mut self, task: u16, priority: u8)
-        ensures { self.new ≡ objects_changed (flag_reordered task priority) self.old }
-    {
-        for row in self.rows.iter_mut() {
-            if let Some(flag) = row {
-                flag.reorder(task, priority);
-            }
-        }
-    }
-}
-
-/// The row of each ID.
-#[tactic(auto, using(crate::proofs::TableLemmas::made_more, crate::proofs::TableLemmas::made_none))]
-fn rows_of(alloc: Global, configs: &[FlagConfig]) -> Result<Vec<Option<Flag>>, NoMemory>
-    ensures { IfOk result (λ rows. rows.items ≡ made_flags configs.now) }
-{
-    let mut rows = Vec::new(alloc);
-    for id in 0..256u16 {
-        rows.push(row_of(alloc, configs, id)?)?;
-    }
-    Ok(rows)
-}
-
-/// The flag of an ID at the making.
-fn row_of(alloc: Global, configs: &[FlagConfig], id: u16) -> Result<Option<Flag>, NoMemory>
-    ensures { IfOk result (λ row. row ≡ made_at (λ config. config.id) flag_of configs.now id) }
-{
-    for config in configs {
-        if config.id == id {
-            return Ok(Some(Flag::new(alloc, config)?));
-        }
-    }
-    Ok(None)
 }

@@ -16,6 +16,7 @@ ghost use Rattle.brd_objects.specs.Semaphores.{
 
 mod saved;
 
+use crate::object::Object;
 use bitflags::Flags;
 use brd_base::{NoMemory, Same};
 use brd_config::{SemaphoreAttributes, SemaphoreConfig};
@@ -41,11 +42,30 @@ impl Same for Semaphore {
     }
 }
 
-impl Semaphore {
-    /// A semaphore as the configuration says it: nobody waits.
-    pub fn new(alloc: Global, config: &SemaphoreConfig) -> Result<Semaphore, NoMemory>
-        ensures { IfOk result (λ semaphore. semaphore ≡ semaphore_of config.now) }
-    {
+impl Object for Semaphore {
+    ghost use Rattle.std.proofs.Common.{rules};
+
+    type Config = SemaphoreConfig;
+
+    type Saved = SavedSemaphore;
+
+    ghost id_of = { λ config. config.id };
+
+    ghost made_of = { semaphore_of };
+
+    ghost left = { semaphore_left };
+
+    ghost reordered = { semaphore_reordered };
+
+    ghost restored = { λ saved. saved };
+
+    ghost clones_are_equal = { λ _ _ same. Prim.search rules };
+
+    fn id(config: &SemaphoreConfig) -> u16 {
+        config.id
+    }
+
+    fn new(alloc: Global, config: &SemaphoreConfig) -> Result<Semaphore, NoMemory> {
         Ok(Semaphore {
             count: config.initial,
             maximum: config.maximum,
@@ -54,6 +74,24 @@ impl Semaphore {
         })
     }
 
+    fn leave(&mut self, task: u16) {
+        let _ = self.waiters.leave(task);
+    }
+
+    fn reorder(&mut self, task: u16, priority: u8) {
+        self.waiters.reorder(self.order, task, priority);
+    }
+
+    fn save(&self) -> Result<SavedSemaphore, NoMemory> {
+        self.save()
+    }
+
+    fn restore(saved: &SavedSemaphore) -> Result<Semaphore, NoMemory> {
+        saved.restore()
+    }
+}
+
+impl Semaphore {
     /// Whether one can be taken.
     pub fn has_one(&self) -> bool
         ensures { result ≡ has_one self.now }
@@ -107,21 +145,6 @@ impl Semaphore {
             wanted: (),
         };
         self.waiters.place(self.order, entry);
-    }
-
-    /// A task no longer waits.
-    pub fn leave(&mut self, task: u16)
-        ensures { self.new ≡ semaphore_left task self.old }
-    {
-        let _ = self.waiters.leave(task);
-    }
-
-    /// A task, where it waits, is given a priority: by arrival it keeps its place, by priority it comes after its
-    /// equals.
-    pub fn reorder(&mut self, task: u16, priority: u8)
-        ensures { self.new ≡ semaphore_reordered task priority self.old }
-    {
-        self.waiters.reorder(self.order, task, priority);
     }
 }
 

@@ -14,74 +14,21 @@ ghost use Rattle.brd_objects.specs.Semaphores.{
   has_one_in,
 };
 
-mod saved;
-
+use crate::objects::{Objects, SavedObjects};
 use crate::semaphore::Semaphore;
-use brd_base::{NoMemory, same_slices};
-use brd_config::SemaphoreConfig;
-pub use saved::SavedSemaphores;
-use std::alloc::Global;
-use std::marker::Model;
 
 /// The semaphores of a board by their IDs. Only `new` takes memory.
-pub struct Semaphores {
-    rows: Vec<Option<Semaphore>>,
-}
+pub type Semaphores = Objects<Semaphore>;
 
-impl Model for Semaphores {
-    ghost use Rattle.std.specs.Prelude.{◌≡◌, length};
-    ghost use Rattle.brd_objects.specs.Table.{Table};
-    ghost use Rattle.brd_objects.specs.declared.semaphore.Semaphore.{Semaphore};
+/// What a snapshot keeps of them.
+pub type SavedSemaphores = SavedObjects<Semaphore>;
 
-    ghost Value = { Table Semaphore };
-
-    ghost view = { λ s. s.rows.items };
-
-    ghost invariant = { λ s. length s.rows.items ≡ 256 };
-}
-
-/// Written out, so that a function that lets one go is proved with a call, and not with the end of each part.
-impl Drop for Semaphores {
-    fn drop(self) {
-        let Semaphores { rows: _ } = self;
-    }
-}
-
-impl Semaphores {
-    /// The semaphores of a configuration. Of statements with one ID the first counts.
-    #[tactic(auto, using(crate::proofs::TableLemmas::made_long))]
-    pub fn new(alloc: Global, configs: &[SemaphoreConfig]) -> Result<Semaphores, NoMemory>
-        ensures { IfOk result (λ semaphores. semaphores ≡ made_semaphores configs.now) }
-    {
-        Ok(Semaphores {
-            rows: rows_of(alloc, configs)?,
-        })
-    }
-
-    /// Equal semaphores.
-    pub fn try_copy(&self) -> Result<Semaphores, NoMemory>
-        ensures { IfOk result (λ copy. copy ≡ self.now) }
-    {
-        Ok(Semaphores {
-            rows: self.rows.clone()?,
-        })
-    }
-
-    /// Whether both are equal.
-    pub fn same(&self, other: &Semaphores) -> bool
-        ensures { Decides result (self.now ≡ other.now) }
-    {
-        same_slices(self.rows.as_slice(), other.rows.as_slice())
-    }
-
+impl Objects<Semaphore> {
     /// The semaphore of an ID.
     pub fn semaphore(&self, id: u16) -> Option<&Semaphore>
         ensures { option_copied result ≡ object_at self.now id }
     {
-        if (id as usize) < self.rows.len() {
-            return self.rows[id as usize].as_ref();
-        }
-        None
+        self.object(id)
     }
 
     /// Returns one to a semaphore: the first waiter leaves with it, and is answered; where nobody waits it is counted,
@@ -123,55 +70,4 @@ impl Semaphores {
             }
         }
     }
-
-    /// A task no longer waits for any semaphore.
-    pub fn leave(&mut self, task: u16)
-        ensures { self.new ≡ objects_changed (semaphore_left task) self.old }
-    {
-        for row in self.rows.iter_mut() {
-            if let Some(semaphore) = row {
-                semaphore.leave(task);
-            }
-        }
-    }
-
-    /// A task, where it waits, is given a priority: by arrival it keeps its place, by priority it comes after its
-    /// equals.
-    pub fn reorder(&mut self, task: u16, priority: u8)
-        ensures { self.new ≡ objects_changed (semaphore_reordered task priority) self.old }
-    {
-        for row in self.rows.iter_mut() {
-            if let Some(semaphore) = row {
-                semaphore.reorder(task, priority);
-            }
-        }
-    }
-}
-
-/// The row of each ID.
-#[tactic(auto, using(crate::proofs::TableLemmas::made_more, crate::proofs::TableLemmas::made_none))]
-fn rows_of(alloc: Global, configs: &[SemaphoreConfig]) -> Result<Vec<Option<Semaphore>>, NoMemory>
-    ensures { IfOk result (λ rows. rows.items ≡ made_semaphores configs.now) }
-{
-    let mut rows = Vec::new(alloc);
-    for id in 0..256u16 {
-        rows.push(row_of(alloc, configs, id)?)?;
-    }
-    Ok(rows)
-}
-
-/// The semaphore of an ID at the making.
-fn row_of(
-    alloc: Global,
-    configs: &[SemaphoreConfig],
-    id: u16,
-) -> Result<Option<Semaphore>, NoMemory>
-    ensures { IfOk result (λ row. row ≡ made_at (λ config. config.id) semaphore_of configs.now id) }
-{
-    for config in configs {
-        if config.id == id {
-            return Ok(Some(Semaphore::new(alloc, config)?));
-        }
-    }
-    Ok(None)
 }

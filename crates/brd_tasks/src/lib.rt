@@ -14,6 +14,6 @@ mod tasks;
 
 pub use making::are_setups;
 pub use reply::answer;
-pub use status::{Status, TaskId, TaskState, WaitReason};
+pub use status::{Status, TaskId, TaskState, WaitKind, WaitReason};
 pub use task::{Request, Task, TaskSetup, TaskView};
 pub use tasks::Tasks;

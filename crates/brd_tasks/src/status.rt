@@ -19,6 +19,19 @@ use brd_base::Same;
 /// A task's number, from 1 to 255.
 pub type TaskId = u16;
 
+/// What a task waits for of an object.
+#[derive(Clone, Copy, Debug, PartialEq, Eq)]
+pub enum WaitKind {
+    /// One of a semaphore.
+    Semaphore,
+    /// A pattern of an event flag.
+    Flag,
+    /// Room in a data queue, to send.
+    Room,
+    /// A datum of a data queue, to receive.
+    Datum,
+}
+
 /// What a task waits for (uITRON 4.0 specification, the `tskwait` of ref_tsk).
 #[derive(Clone, Copy, Debug, PartialEq, Eq)]
 pub enum WaitReason {
@@ -26,14 +39,8 @@ pub enum WaitReason {
     Sleep,
     /// The end of a delay.
     Delay,
-    /// One of this semaphore.
-    Semaphore(u16),
-    /// A pattern of this event flag.
-    Flag(u16),
-    /// A place in this data queue.
-    Send(u16),
-    /// A datum of this data queue.
-    Receive(u16),
+    /// This of the object with this ID.
+    On(WaitKind, u16),
 }
 
 /// A task's state (uITRON 4.0 specification, "Task States").

@@ -2,7 +2,7 @@
 
 use crate::text::{put, put_named};
 use brd_base::NoMemory;
-use brd_board::{TaskState, WaitReason};
+use brd_board::{TaskState, WaitKind, WaitReason};
 use std::alloc::Global;
 
 /// The name of a state.
@@ -13,6 +13,16 @@ pub(crate) fn state_name(state: TaskState) -> &'static str {
         TaskState::Waiting => "waiting",
         TaskState::Suspended => "suspended",
         TaskState::WaitingSuspended => "waiting-suspended",
+    }
+}
+
+/// What is waited for of an object; its ID follows.
+fn wait_name(kind: WaitKind) -> &'static str {
+    match kind {
+        WaitKind::Semaphore => "for semaphore",
+        WaitKind::Flag => "for event flag",
+        WaitKind::Room => "to send to data queue",
+        WaitKind::Datum => "to receive from data queue",
     }
 }
 
@@ -27,12 +37,7 @@ pub(crate) fn put_wait(
     match reason {
         WaitReason::Sleep => put(out, "for a wake-up")?,
         WaitReason::Delay => put(out, "for time to pass")?,
-        WaitReason::Semaphore(id) => put_named(alloc, out, "for semaphore", u64::from(id))?,
-        WaitReason::Flag(id) => put_named(alloc, out, "for event flag", u64::from(id))?,
-        WaitReason::Send(id) => put_named(alloc, out, "to send to data queue", u64::from(id))?,
-        WaitReason::Receive(id) => {
-            put_named(alloc, out, "to receive from data queue", u64::from(id))?;
-        }
+        WaitReason::On(kind, id) => put_named(alloc, out, wait_name(kind), u64::from(id))?,
     }
     match due {
         Some(tick) => put_named(alloc, out, ", until tick", tick),

@@ -19,10 +19,6 @@ const FEW: u32 = 5;
 /// How many steps are done one by one after a row that was shorter than that (own choice).
 const STRETCH: u32 = 256;
 
-/// How many steps that could have been in a row are done before there is a table of decoded instructions (own choice:
-/// they take about as much time as it does to make one).
-const PATIENCE: u32 = 0x4000;
-
 /// The decoded instructions of a board.
 #[derive(Drop)]
 pub(super) enum Code {
@@ -108,12 +104,13 @@ impl Board {
         matches!(self.code, Code::Read(_))
     }
 
-    /// The decoded instructions of a board that has done this many steps without any.
+    /// The decoded instructions of a board that has done this many steps without any: none before there were as many
+    /// steps as the table has words (own choice: they take about as much time as it does to make one).
     fn read(&self, steps: u32) -> Code {
-        if steps < PATIENCE {
+        if (steps as usize) < Table::len_for(&self.ram) {
             return Code::Unread(steps);
         }
-        match Table::new(*self.faults.allocator()) {
+        match Table::new(*self.faults.allocator(), &self.ram) {
             Ok(table) => Code::Read(table),
             Err(_) => Code::NoMemory,
         }

@@ -21,7 +21,7 @@ use Rattle.brd_kernel.specs.Waiting.{SleeperIsKept, EachIsKept}
 use Rattle.brd_kernel.proofs.nobody_waits.ObjectLemmas.{returned-kept, taken-kept, semaphore-awaited, masked-kept, taken-for, flag-awaited, sent-kept, forced-kept, received-kept, sender-awaited, receiver-awaited}
 use Rattle.brd_kernel.proofs.who_waits.RowLemmas.{suspended-keeps, resumed-keeps}
 use Rattle.brd_kernel.proofs.nobody_waits.SleeperLemmas as sleeper
-use Rattle.brd_kernel.proofs.WalkLemmas.{Anything, Law, in_semaphore, in_flag, in_senders, in_receivers, serve-always}
+use Rattle.brd_kernel.proofs.WalkLemmas.{Anything, Law, Lacks, No-one, No-bits, No-room, No-datum, lacked, awaiting, serve-always}
 use Rattle.brd_kernel.proofs.nobody_waits.EachLemmas.{others-kept, processor-kept, tasks-kept, semaphore-changed, flag-changed, queue-changed, released-kept, broken-kept, ended-kept, reordered-by, wait-kept, no-sleep, released-if, set-stays, handed-kept}
 
 -- a task that is awake has a wake-up queued
@@ -42,9 +42,24 @@ exit-kept : (k : KernelState) (cpu : ℕ) (found : Option Processor) → EachIsK
 exit-kept k cpu None was = was
 exit-kept k cpu (Some p) was = processor-kept k cpu (unmarked p) was
 
+-- the caller stands in the list of what it didn't find
+entered-kept : (k : KernelState) (caller id : ℕ) (lacks : Lacks k id) → EachIsKept k → EachIsKept (awaiting k caller id lacks)
+entered-kept k caller id (No-one s there none) was =
+    let p : ℕ = callers_priority k caller in
+    semaphore-changed (semaphore_awaited caller p) k id (λ x at. semaphore-awaited caller p x (ap has_one_in (sym at ∙ there) ∙ none)) was
+entered-kept k caller id (No-bits want f there none some) was =
+    let p : ℕ = callers_priority k caller in
+    flag-changed (flag_awaited caller p want) k id
+    (λ g at. flag-awaited caller p want g some (ap (pattern_for_in want) (sym at ∙ there) ∙ none)) was
+entered-kept k caller id (No-room datum q there full) was =
+    let p : ℕ = callers_priority k caller in
+    queue-changed (awaited_by_sender caller p datum) k id (λ x at. sender-awaited caller p datum x (ap outcome_in (sym at ∙ there) ∙ full)) was
+entered-kept k caller id (No-datum q there none) was =
+    let p : ℕ = callers_priority k caller in
+    queue-changed (awaited_by_receiver caller p) k id (λ x at. receiver-awaited caller p x (ap receipt_in (sym at ∙ there) ∙ none)) was
+
 each-law : (k : KernelState) (cpu caller : ℕ) → EachIsKept k → Law Anything EachIsKept k cpu caller
 each-law k cpu caller was =
-    let priority : ℕ = callers_priority k caller in
     record {
       stays = was;
       activates = λ id request of. tasks-kept k (activated k.tasks id request) (sleeper.activated-kept k.tasks id request was.sleepers) was;
@@ -79,27 +94,17 @@ each-law k cpu caller was =
       signals = λ id s there. released-if (record k { semaphores = object_changed returned k.semaphores id }) (first_waiter s)
           (semaphore-changed returned k id (λ x at. returned-kept x) was);
       takes = λ id s there. semaphore-changed taken k id (λ x at. taken-kept x) was;
-      awaits_semaphore = λ id due s there none may. wait-kept k caller (reason.Semaphore id) due (in_semaphore k caller id) (no-sleep k caller (reason.Semaphore id) refl) was
-          (semaphore-changed (semaphore_awaited caller priority) k id
-          (λ x at. semaphore-awaited caller priority x (ap has_one_in (sym at ∙ there) ∙ none)) was);
       sets = λ id bits f there. set-stays k id bits f there was;
       clears = λ id bits f there. flag-changed (masked bits) k id (λ g at. masked-kept bits g) was;
       gets = λ id want f there. flag-changed (taken_for want) k id (λ g at. taken-for want g) was;
-      awaits_flag = λ id want due f there none some may. wait-kept k caller (reason.Flag id) due (in_flag k caller id want) (no-sleep k caller (reason.Flag id) refl) was
-          (flag-changed (flag_awaited caller priority want) k id
-          (λ g at. flag-awaited caller priority want g some (ap (pattern_for_in want) (sym at ∙ there) ∙ none)) was);
       sends = λ id datum q there. handed-kept (record k { queues = object_changed (sent datum) k.queues id }) datum (outcome q)
           (queue-changed (sent datum) k id (λ x at. sent-kept datum x) was);
-      awaits_send = λ id datum due q there full may. wait-kept k caller (reason.Send id) due (in_senders k caller id datum) (no-sleep k caller (reason.Send id) refl) was
-          (queue-changed (awaited_by_sender caller priority datum) k id
-          (λ x at. sender-awaited caller priority datum x (ap outcome_in (sym at ∙ there) ∙ full)) was);
       forces = λ id datum q there. handed-kept (record k { queues = object_changed (forced datum) k.queues id }) datum (forced_outcome q)
           (queue-changed (forced datum) k id (λ x at. forced-kept datum x) was);
       receives = λ id q (it : Received) there is. released-if (record k { queues = object_changed received k.queues id }) it.sender
           (queue-changed received k id (λ x at. received-kept x) was);
-      awaits_receive = λ id due q there none may. wait-kept k caller (reason.Receive id) due (in_receivers k caller id) (no-sleep k caller (reason.Receive id) refl) was
-          (queue-changed (awaited_by_receiver caller priority) k id
-          (λ x at. receiver-awaited caller priority x (ap receipt_in (sym at ∙ there) ∙ none)) was);
+      awaits = λ id due lacks may. wait-kept k caller (reason.On (lacked lacks) id) due (awaiting k caller id lacks)
+          (no-sleep k caller (reason.On (lacked lacks) id) refl) was (entered-kept k caller id lacks was);
       writes = λ word. others-kept k (record k { console = k.console ++ word % 2 ^ 8 ∷ [] }) refl refl refl was.sleepers was;
       ends_all = others-kept k (record k { off = true }) refl refl refl was.sleepers was;
     }

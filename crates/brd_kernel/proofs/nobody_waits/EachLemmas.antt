@@ -5,6 +5,8 @@ use Rattle.std.specs.Prelude.{true, false, is_some, Option, None, Some, IfSome}
 use Rattle.std.proofs.lemmas.Bool.{false≢true}
 use Rattle.brd_tasks.specs.declared.status.WaitReason.{WaitReason}
 use Rattle.brd_tasks.specs.declared.status.WaitReason.TheVariants as reason
+use Rattle.brd_tasks.specs.declared.status.WaitKind.{WaitKind}
+use Rattle.brd_tasks.specs.declared.status.WaitKind.TheVariants as kind
 use Rattle.brd_tasks.specs.declared.task.Task.{Task}
 use Rattle.brd_tasks.specs.Tasks.{TaskTable, task_at, noted, without_activation}
 use Rattle.brd_time.specs.Time.{Time, advanced, due_from}
@@ -13,13 +15,12 @@ use Rattle.brd_objects.specs.declared.flag.Flag.{Flag}
 use Rattle.brd_objects.specs.declared.sent.Sent.{Sent}
 use Rattle.brd_objects.specs.declared.sent.Sent.TheVariants.{Handed, Stored, Full}
 use Rattle.brd_objects.specs.Table.{Table, object_at, object_changed, objects_changed}
-use Rattle.brd_objects.specs.Semaphores.{semaphore_left, semaphore_reordered}
-use Rattle.brd_objects.specs.Flags.{joined, flag_left, flag_reordered, all_released, with_all_released}
-use Rattle.brd_objects.specs.DataQueues.{DataQueueState, data_queue_left, data_queue_reordered}
+use Rattle.brd_objects.specs.Flags.{joined, all_released, with_all_released}
+use Rattle.brd_objects.specs.DataQueues.{DataQueueState}
 use Rattle.brd_kernel.specs.declared.processor.Processor.{Processor}
 use Rattle.brd_kernel.specs.Answer.{e_ok}
 use Rattle.brd_kernel.specs.Kernel.{KernelState, with_tasks, with_processor, processor_at, unmarked}
-use Rattle.brd_kernel.specs.Waits.{can_wait, with_wait, released_in, reason_of, unlisted_from, unlisted, broken_off, ended_in, reordered_in, answer_by, timed_out, all_timed_out, ticked_on, faulted_task, faulted_in, ended_by_fault}
+use Rattle.brd_kernel.specs.Waits.{Change, changed_of, changed_for, leaving, moving, can_wait, with_wait, released_in, reason_of, unlisted_from, unlisted, broken_off, ended_in, reordered_in, answer_by, timed_out, all_timed_out, ticked_on, faulted_task, faulted_in, ended_by_fault}
 use Rattle.brd_kernel.specs.Services as table
 use Rattle.brd_kernel.specs.Services.{is_sleep, or_waits, with_released, with_all_released_in, with_satisfied_of, handed_over}
 use Rattle.brd_kernel.specs.Waiting.{SemaphoreIsKept, FlagIsKept, QueueIsKept, EachIsKept}
@@ -78,41 +79,45 @@ queue-changed f k id keeps was = record {
   queues = λ at. one-keeps (λ q. QueueIsKept q) f k.queues id at keeps was.queues;
 }
 
-all-semaphores : (f : Semaphore → Semaphore) (k : KernelState) → ((s : Semaphore) → SemaphoreIsKept s → SemaphoreIsKept (f s)) → EachIsKept k →
-    EachIsKept (record k { semaphores = objects_changed f k.semaphores })
-all-semaphores f k keeps was = record {
-  sleepers = was.sleepers;
-  semaphores = λ at. all-keep (λ s. SemaphoreIsKept s) f k.semaphores at keeps (was.semaphores at);
-  flags = was.flags;
-  queues = was.queues;
-}
+-- a change that keeps each object
+record KeepsEach (change : Change) : Type 0 where
+  semaphore : (s : Semaphore) → SemaphoreIsKept s → SemaphoreIsKept (change.semaphore s)
+  flag : (f : Flag) → FlagIsKept f → FlagIsKept (change.flag f)
+  queue : (q : DataQueueState) → QueueIsKept q → QueueIsKept (change.queue q)
 
-all-flags : (f : Flag → Flag) (k : KernelState) → ((g : Flag) → FlagIsKept g → FlagIsKept (f g)) → EachIsKept k →
-    EachIsKept (record k { flags = objects_changed f k.flags })
-all-flags f k keeps was = record {
-  sleepers = was.sleepers;
-  semaphores = was.semaphores;
-  flags = λ at. all-keep (λ g. FlagIsKept g) f k.flags at keeps (was.flags at);
-  queues = was.queues;
-}
-
-all-queues : (f : DataQueueState → DataQueueState) (k : KernelState) → ((q : DataQueueState) → QueueIsKept q → QueueIsKept (f q)) → EachIsKept k →
-    EachIsKept (record k { queues = objects_changed f k.queues })
-all-queues f k keeps was = record {
+queues-kept : (change : Change) (k : KernelState) → KeepsEach change → EachIsKept k → EachIsKept (record k { queues = objects_changed change.queue k.queues })
+queues-kept change k keeps was = record {
   sleepers = was.sleepers;
   semaphores = was.semaphores;
   flags = was.flags;
-  queues = λ at. all-keep (λ q. QueueIsKept q) f k.queues at keeps (was.queues at);
+  queues = λ at. all-keep (λ q. QueueIsKept q) change.queue k.queues at keeps.queue (was.queues at);
 }
+
+of-kept : (change : Change) (k : KernelState) (what : WaitKind) → KeepsEach change → EachIsKept k → EachIsKept (changed_of change k what)
+of-kept change k kind.Semaphore keeps was = record {
+  sleepers = was.sleepers;
+  semaphores = λ at. all-keep (λ s. SemaphoreIsKept s) change.semaphore k.semaphores at keeps.semaphore (was.semaphores at);
+  flags = was.flags;
+  queues = was.queues;
+}
+of-kept change k kind.Flag keeps was = record {
+  sleepers = was.sleepers;
+  semaphores = was.semaphores;
+  flags = λ at. all-keep (λ f. FlagIsKept f) change.flag k.flags at keeps.flag (was.flags at);
+  queues = was.queues;
+}
+of-kept change k kind.Room keeps was = queues-kept change k keeps was
+of-kept change k kind.Datum keeps was = queues-kept change k keeps was
+
+for-kept : (change : Change) (k : KernelState) (why : Option WaitReason) → KeepsEach change → EachIsKept k → EachIsKept (changed_for change k why)
+for-kept change k (Some (reason.On what object)) keeps was = of-kept change k what keeps was
+for-kept change k _ keeps was = was
 
 -- Waits that begin and end, and priorities.
 
 unlisted-by : (k : KernelState) (id : ℕ) (why : Option WaitReason) → EachIsKept k → EachIsKept (unlisted_from k id why)
-unlisted-by k id (Some (reason.Semaphore object)) was = all-semaphores (semaphore_left id) k (semaphore-left id) was
-unlisted-by k id (Some (reason.Flag object)) was = all-flags (flag_left id) k (flag-left id) was
-unlisted-by k id (Some (reason.Send object)) was = all-queues (data_queue_left id) k (queue-left id) was
-unlisted-by k id (Some (reason.Receive object)) was = all-queues (data_queue_left id) k (queue-left id) was
-unlisted-by k id _ was = was
+unlisted-by k id why was =
+    for-kept (leaving id) k why (record { semaphore = semaphore-left id; flag = flag-left id; queue = queue-left id }) was
 
 unlisted-kept : (k : KernelState) (id : ℕ) → EachIsKept k → EachIsKept (unlisted k id)
 unlisted-kept k id was = unlisted-by k id (reason_of k id) was
@@ -129,15 +134,9 @@ ended-kept k id was =
     others-kept (unlisted k id) (ended_in k id) refl refl refl (sleeper.ended-kept k.tasks id was.sleepers) (unlisted-kept k id was)
 
 pub reordered-by : (k : KernelState) (id priority : ℕ) (why : Option WaitReason) → EachIsKept k → EachIsKept (reordered_in k id priority why)
-reordered-by k id priority (Some (reason.Semaphore object)) was =
-    all-semaphores (semaphore_reordered id priority) k (semaphore-reordered id priority) was
-reordered-by k id priority (Some (reason.Flag object)) was =
-    all-flags (flag_reordered id priority) k (flag-reordered id priority) was
-reordered-by k id priority (Some (reason.Send object)) was =
-    all-queues (data_queue_reordered id priority) k (queue-reordered id priority) was
-reordered-by k id priority (Some (reason.Receive object)) was =
-    all-queues (data_queue_reordered id priority) k (queue-reordered id priority) was
-reordered-by k id priority _ was = was
+reordered-by k id priority why was =
+    for-kept (moving id priority) k why
+    (record { semaphore = semaphore-reordered id priority; flag = flag-reordered id priority; queue = queue-reordered id priority }) was
 
 -- a wait begins: of who begins to sleep no wake-up is queued
 abbrev MaySleep : KernelState → ℕ → WaitReason → Type 0

@@ -32,7 +32,8 @@ use Rattle.brd_kernel.specs.Services.{runs_held, is_held_elsewhere, is_no_proces
 use Rattle.brd_kernel.specs.Running.{is_ready_on, IsRunning}
 use Rattle.brd_kernel.proofs.who_waits.ListLemmas.{same-number}
 use Rattle.brd_kernel.proofs.WaitLemmas.{unlisted-only, reordered-only}
-use Rattle.brd_kernel.proofs.WalkLemmas.{IsOfBoard, Fact, Unheld, OfTask, HoldsNone, May, Law, in_semaphore, in_flag, in_senders, in_receivers, serve-leaves}
+use Rattle.brd_kernel.proofs.WalkLemmas.{IsOfBoard, Fact, Unheld, OfTask, HoldsNone, May, Law, lacked, awaiting, serve-leaves}
+use Rattle.brd_kernel.proofs.SameLemmas.{same-entered}
 use Rattle.brd_kernel.proofs.who_runs.ReadyLemmas.{KeepsReady, activated-keeps, ended-others, wakeup-keeps, cleared-keeps, blocked-active, suspended-active, through-others, resumed-keeps, released-keeps, priority-keeps, migrated-others, turned-keeps}
 use Rattle.brd_kernel.proofs.who_runs.RunningLemmas.{held_in, HoldsReady, IsntHeld, runs-hold, tasks-run, parts-run, marked-runs, others-hold, free-isnt_held, exit-holds, number-there}
 
@@ -286,22 +287,18 @@ holds-law k cpu p found was =
       signals = λ id (s : Semaphore) there. let new : KernelState = record k { semaphores = object_changed returned k.semaphores id } in
           runs-hold (with_released new (first_waiter s)) (released-if-runs new (first_waiter s) (parts-run k new refl refl was));
       takes = λ id s there. parts-hold k (record k { semaphores = object_changed taken k.semaphores id }) refl refl was;
-      awaits_semaphore = λ id due s there none may. wait-holds k cpu caller (reason.Semaphore id) due (in_semaphore k caller id) p refl found may was;
       sets = λ id bits f there. let set : KernelState = record k { flags = object_changed (joined bits) k.flags id } in
           runs-hold (with_satisfied_released set id) (satisfied-run set id (object_at set.flags id) (parts-run k set refl refl was));
       clears = λ id bits f there. parts-hold k (record k { flags = object_changed (masked bits) k.flags id }) refl refl was;
       gets = λ id want f there. parts-hold k (record k { flags = object_changed (taken_for want) k.flags id }) refl refl was;
-      awaits_flag = λ id want due f there none some may.
-          wait-holds k cpu caller (reason.Flag id) due (in_flag k caller id want) p refl found may was;
       sends = λ id datum (q : DataQueueState) there. let new : KernelState = record k { queues = object_changed (sent datum) k.queues id } in
           runs-hold (handed_over new datum (outcome q)) (handed-runs new datum (outcome q) (parts-run k new refl refl was));
-      awaits_send = λ id datum due q there full may.
-          wait-holds k cpu caller (reason.Send id) due (in_senders k caller id datum) p refl found may was;
       forces = λ id datum (q : DataQueueState) there. let new : KernelState = record k { queues = object_changed (forced datum) k.queues id } in
           runs-hold (handed_over new datum (forced_outcome q)) (handed-runs new datum (forced_outcome q) (parts-run k new refl refl was));
       receives = λ id q (it : Received) there is. let new : KernelState = record k { queues = object_changed received k.queues id } in
           runs-hold (with_released new it.sender) (released-if-runs new it.sender (parts-run k new refl refl was));
-      awaits_receive = λ id due q there none may. wait-holds k cpu caller (reason.Receive id) due (in_receivers k caller id) p refl found may was;
+      awaits = λ id due lacks may. wait-holds k cpu caller (reason.On (lacked lacks) id) due (awaiting k caller id lacks) p
+          (same-entered k caller id lacks).processors found may was;
       writes = λ word. parts-hold k (record k { console = k.console ++ word % 2 ^ 8 ∷ [] }) refl refl was;
       ends_all = parts-hold k (record k { off = true }) refl refl was;
     }

@@ -7,6 +7,7 @@ use Rattle.brd_queue.specs.declared.entry.Entry.{Entry}
 use Rattle.brd_queue.specs.Queue.{Plain, has, priority_in, first_of, AreApart}
 use Rattle.brd_tasks.specs.declared.status.WaitReason.{WaitReason}
 use Rattle.brd_tasks.specs.declared.status.WaitReason.TheVariants as reason
+use Rattle.brd_tasks.specs.declared.status.WaitKind.TheVariants as kind
 use Rattle.brd_objects.specs.declared.semaphore.Semaphore.{Semaphore}
 use Rattle.brd_objects.specs.declared.flag.Flag.{Flag}
 use Rattle.brd_objects.specs.declared.want.Want.{Want}
@@ -51,7 +52,7 @@ pub semaphore-stays : (f : Semaphore → Semaphore) (k : KernelState) (id : ℕ)
     (f s).waiters ≡ s.waiters → StandsIn [] k →
     StandsIn [] (record k { semaphores = object_changed f k.semaphores id })
 semaphore-stays f k id s there same was =
-    unchanged-keeps k (standing_for (record k { semaphores = object_changed f k.semaphores id })) (reason.Semaphore id) (f s).waiters
+    unchanged-keeps k (standing_for (record k { semaphores = object_changed f k.semaphores id })) (reason.On kind.Semaphore id) (f s).waiters
     (semaphore-rewrites f k id s there) (same ∙ ap semaphore_waiters (sym there)) was
 
 pub returned-keeps : (k : KernelState) (id : ℕ) (s : Semaphore) (ws : List Plain) → object_at k.semaphores id ≡ Some s → s.waiters ≡ ws →
@@ -62,9 +63,9 @@ returned-keeps k id s [] there is was =
 returned-keeps k id s (first ∷ others) there is was =
     let new : KernelState = record k { semaphores = object_changed returned k.semaphores id } in
     released-keep new first.id e_ok None []
-    (first-out k (standing_for new) (reason.Semaphore id) first others
+    (first-out k (standing_for new) (reason.On kind.Semaphore id) first others
     (λ other. semaphore-rewrites returned k id s there other
-    ∙ ap (λ l. if stands_in (reason.Semaphore id) other then (returned_to s l).waiters else standing_for k other) is)
+    ∙ ap (λ l. if stands_in (reason.On kind.Semaphore id) other then (returned_to s l).waiters else standing_for k other) is)
     (ap semaphore_waiters there ∙ is) was)
 
 -- Event flags.
@@ -72,7 +73,7 @@ returned-keeps k id s (first ∷ others) there is was =
 pub flag-stays : (f : Flag → Flag) (k : KernelState) (id : ℕ) (g : Flag) → object_at k.flags id ≡ Some g → (f g).waiters ≡ g.waiters → StandsIn [] k →
     StandsIn [] (record k { flags = object_changed f k.flags id })
 flag-stays f k id g there same was =
-    unchanged-keeps k (standing_for (record k { flags = object_changed f k.flags id })) (reason.Flag id) (plain (f g).waiters)
+    unchanged-keeps k (standing_for (record k { flags = object_changed f k.flags id })) (reason.On kind.Flag id) (plain (f g).waiters)
     (flag-rewrites f k id g there) (ap plain same ∙ ap flag_waiters (sym there)) was
 
 pattern-by : (test : Bool) (f : Flag) (pattern : ℕ) → (if test then record f { pattern = pattern } else f).waiters ≡ f.waiters
@@ -99,9 +100,9 @@ satisfied-keep k id None there was = was
 satisfied-keep k id (Some f) there was =
     let new : KernelState = record k { flags = object_changed with_all_released k.flags id } in
     let list : List (Entry Want) = (with_all_released f).waiters in
-    let apart : AreApart f.waiters = apart-wanting f.waiters (subst (λ o. AreApart (flag_waiters o)) there (was.apart (reason.Flag id))) in
+    let apart : AreApart f.waiters = apart-wanting f.waiters (subst (λ o. AreApart (flag_waiters o)) there (was.apart (reason.On kind.Flag id))) in
     all-released-keep new (all_released f) f.pattern
-    (by-leaving-one (all_released f) k.tasks k.time (standing_for k) (standing_for new) (reason.Flag id) (plain list)
+    (by-leaving-one (all_released f) k.tasks k.time (standing_for k) (standing_for new) (reason.On kind.Flag id) (plain list)
     (flag-rewrites with_all_released k id f there)
     (apart-plain list (apart-kept f.clears f.pattern f.waiters apart))
     (λ at released. ap (λ o. has at (flag_waiters o)) there ∙ has-by (has at f.waiters) f at refl released)
@@ -116,7 +117,7 @@ queue-stays : (f : DataQueueState → DataQueueState) (k : KernelState) (id : �
     (f q).senders ≡ q.senders → (f q).receivers ≡ q.receivers →
     StandsIn [] k → StandsIn [] (record k { queues = object_changed f k.queues id })
 queue-stays f k id q there same also was =
-    unchanged-keeps k (standing_for (record k { queues = object_changed f k.queues id })) (reason.Receive id) (f q).receivers
+    unchanged-keeps k (standing_for (record k { queues = object_changed f k.queues id })) (reason.On kind.Datum id) (f q).receivers
     (receiver-rewrites f k id q there same) (also ∙ ap receivers (sym there)) was
 
 -- `q` is the queue with the room that is made, where a datum is forced in; `w` is the one that is there
@@ -133,9 +134,9 @@ handed-keep f k id datum q w [] there is same also none was =
 handed-keep f k id datum q w (first ∷ others) there is same also some was =
     let new : KernelState = record k { queues = object_changed f k.queues id } in
     released-keep new first.id e_ok (Some datum) []
-    (first-out k (standing_for new) (reason.Receive id) first others
+    (first-out k (standing_for new) (reason.On kind.Datum id) first others
     (λ other. receiver-rewrites f k id w there (ap (λ x. x.senders) is ∙ same) other
-    ∙ ap (λ x. if stands_in (reason.Receive id) other then x.receivers else standing_for k other) is)
+    ∙ ap (λ x. if stands_in (reason.On kind.Datum id) other then x.receivers else standing_for k other) is)
     (ap receivers there ∙ some) was)
 
 pub sent-keeps : (k : KernelState) (id datum : ℕ) (q : DataQueueState) → object_at k.queues id ≡ Some q → StandsIn [] k →
@@ -176,9 +177,9 @@ sender-leaves k id q stored first others there stored_is senders_are left same w
     let new : KernelState = record k { queues = object_changed received k.queues id } in
     let is : received q ≡ received_by q stored (first ∷ others) = both-are q stored (first ∷ others) stored_is senders_are in
     released-keep new first.id e_ok None []
-    (first-out k (standing_for new) (reason.Send id) (record { id = first.id; priority = first.priority; wanted = tt }) (plain others)
+    (first-out k (standing_for new) (reason.On kind.Room id) (record { id = first.id; priority = first.priority; wanted = tt }) (plain others)
     (λ other. sender-rewrites received k id q there (ap (λ x. x.receivers) is ∙ same) other
-    ∙ ap (λ l. if stands_in (reason.Send id) other then plain l else standing_for k other) (ap (λ x. x.senders) is ∙ left))
+    ∙ ap (λ l. if stands_in (reason.On kind.Room id) other then plain l else standing_for k other) (ap (λ x. x.senders) is ∙ left))
     (ap senders there ∙ ap plain senders_are) was)
 
 taken-from : (k : KernelState) (id : ℕ) (q : DataQueueState) (stored : List ℕ) (ss : List (Entry ℕ)) →

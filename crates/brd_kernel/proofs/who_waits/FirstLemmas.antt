@@ -10,6 +10,7 @@ use Rattle.brd_queue.specs.declared.entry.Order.TheVariants.{Arrival, Priority}
 use Rattle.brd_queue.specs.Queue.{Plain, priority_in, AreApart}
 use Rattle.brd_tasks.specs.declared.status.WaitReason.{WaitReason}
 use Rattle.brd_tasks.specs.declared.status.WaitReason.TheVariants as reason
+use Rattle.brd_tasks.specs.declared.status.WaitKind.TheVariants as kind
 use Rattle.brd_tasks.specs.declared.task.TaskSetup.{TaskSetup}
 use Rattle.brd_tasks.specs.declared.task.Request.{Request}
 use Rattle.brd_tasks.specs.Tasks.{activated, unstarted, first_rows}
@@ -67,13 +68,13 @@ nobody-waits : (processors : ℕ) (setups : List TaskSetup) (lines : List LineSe
     standing_for (made_kernel processors setups lines semaphores flags queues spin_locks) why ≡ []
 nobody-waits processors setups lines semaphores flags queues spin_locks reason.Sleep = refl
 nobody-waits processors setups lines semaphores flags queues spin_locks reason.Delay = refl
-nobody-waits processors setups lines semaphores flags queues spin_locks (reason.Semaphore object) =
+nobody-waits processors setups lines semaphores flags queues spin_locks (reason.On kind.Semaphore object) =
     nobody-made (λ config. config.id) semaphore_of semaphores object semaphore_waiters refl (λ c. refl)
-nobody-waits processors setups lines semaphores flags queues spin_locks (reason.Flag object) =
+nobody-waits processors setups lines semaphores flags queues spin_locks (reason.On kind.Flag object) =
     nobody-made (λ config. config.id) flag_of flags object flag_waiters refl (λ c. refl)
-nobody-waits processors setups lines semaphores flags queues spin_locks (reason.Send object) =
+nobody-waits processors setups lines semaphores flags queues spin_locks (reason.On kind.Room object) =
     nobody-made (λ config. config.id) data_queue_of queues object senders refl (λ c. refl)
-nobody-waits processors setups lines semaphores flags queues spin_locks (reason.Receive object) =
+nobody-waits processors setups lines semaphores flags queues spin_locks (reason.On kind.Datum object) =
     nobody-made (λ config. config.id) data_queue_of queues object receivers refl (λ c. refl)
 
 -- a task that hasn't started waits for nothing

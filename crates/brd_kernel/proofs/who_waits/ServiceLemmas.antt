@@ -26,14 +26,14 @@ use Rattle.brd_kernel.specs.Services as table
 use Rattle.brd_kernel.specs.Services.{named, unmarked_on, handler_ended, serve_by, serve_of, caller_on, or_waits, callers_priority, with_released, with_all_released_in, with_satisfied_of, handed_over, flag_got, queue_sent, queue_received}
 use Rattle.brd_kernel.specs.Waiting.{standing_for, WaitsAreKept}
 use Rattle.brd_kernel.proofs.who_waits.ListLemmas.{either}
-use Rattle.brd_kernel.proofs.WalkLemmas.{Anything, Law, in_semaphore, in_flag, in_senders, in_receivers, serve-always}
+use Rattle.brd_kernel.proofs.WalkLemmas.{Anything, Law, lacked, awaiting, serve-always}
 use Rattle.brd_kernel.proofs.nobody_waits.SleeperLemmas.{AreKept}
 use Rattle.brd_kernel.proofs.nobody_waits.EachLemmas.{others-kept, tasks-kept, ticked-kept, fault-kept}
 use Rattle.brd_kernel.proofs.nobody_waits.EachCallLemmas.{serve-kept}
 use Rattle.brd_kernel.proofs.who_waits.StandingLemmas.{waits_by, waits, StandsIn, stands, kept}
 use Rattle.brd_kernel.proofs.who_waits.KeepingLemmas.{by-lists, by-count}
 use Rattle.brd_kernel.proofs.who_waits.RowLemmas.{noted-before, activated-before, migrated-before, turned-before, suspended-keeps, resumed-keeps, through-before}
-use Rattle.brd_kernel.proofs.who_waits.WaitingLemmas.{lists-by, parts-keep, processor-keeps, tasks-keep, released-keep, broken-keeps, ended-keeps, asleep-out, wait-keeps, enters-none, enters-semaphore, enters-flag, enters-sender, enters-receiver, priority-keeps}
+use Rattle.brd_kernel.proofs.who_waits.WaitingLemmas.{lists-by, parts-keep, processor-keeps, tasks-keep, released-keep, broken-keeps, ended-keeps, asleep-out, wait-keeps, enters-none, enters-object, priority-keeps}
 use Rattle.brd_kernel.proofs.who_waits.CallLemmas.{sleep-none, delay-none, taken-by, semaphore-stays, returned-keeps, flag-stays, taken-keeps, satisfied-keep, sent-keeps, forced-keeps, received-keeps}
 
 -- Service calls.
@@ -74,21 +74,15 @@ stands-law k cpu caller was = record {
   returns = λ p there. parts-keep k (handler_ended k cpu p) refl refl refl refl refl was;
   signals = λ id (s : Semaphore) there. returned-keeps k id s s.waiters there refl was;
   takes = λ id (s : Semaphore) there. semaphore-stays taken k id s there (taken-by (s.count == 0) s _) was;
-  awaits_semaphore = λ id due s there none may. wait-keeps k caller (reason.Semaphore id) due (in_semaphore k caller id) tt
-      (enters-semaphore k caller (callers_priority k caller) id s there was) was;
   sets = λ id bits f there. let set : KernelState = record k { flags = object_changed (joined bits) k.flags id } in
       satisfied-keep set id (object_at set.flags id) refl (flag-stays (joined bits) k id f there refl was);
   clears = λ id bits f there. flag-stays (masked bits) k id f there refl was;
   gets = λ id want f there. taken-keeps k id want f there was;
-  awaits_flag = λ id want due f there none some may. wait-keeps k caller (reason.Flag id) due (in_flag k caller id want) tt
-      (enters-flag k caller (callers_priority k caller) id want f there was) was;
   sends = λ id datum q there. sent-keeps k id datum q there was;
-  awaits_send = λ id datum due q there full may. wait-keeps k caller (reason.Send id) due (in_senders k caller id datum) tt
-      (enters-sender k caller (callers_priority k caller) id datum q there was) was;
   forces = λ id datum q there. forced-keeps k id datum q there was;
   receives = λ id (q : DataQueueState) it there is. received-keeps k id q it there is was;
-  awaits_receive = λ id due q there none may. wait-keeps k caller (reason.Receive id) due (in_receivers k caller id) tt
-      (enters-receiver k caller (callers_priority k caller) id q there was) was;
+  awaits = λ id due lacks may. wait-keeps k caller (reason.On (lacked lacks) id) due (awaiting k caller id lacks) tt
+      (enters-object k caller id lacks was) was;
   writes = λ word. parts-keep k (record k { console = k.console ++ word % 2 ^ 8 ∷ [] }) refl refl refl refl refl was;
   ends_all = parts-keep k (record k { off = true }) refl refl refl refl refl was;
 }

@@ -1,12 +1,14 @@
 -- Who stands in the lists of waiters, while some have left them whose waits haven't ended yet.
 use Rattle.std.proofs.Common.{◌≡◌, ℕ, List, [], length, refl, sym, ap, subst, ◌∙◌, arith}
-use Rattle.std.specs.Prelude.{Bool, true, false, ◌==◌, if◌then◌else◌, Option, None, Some, is_some}
-use Rattle.std.proofs.lemmas.Bool.{true≢false, false≢true}
+use Rattle.std.specs.Prelude.{Bool, true, false, ◌==◌, ◌&&◌, if◌then◌else◌, Option, None, Some, is_some}
+use Rattle.std.proofs.lemmas.Bool.{and_parts, true≢false, false≢true}
 use Rattle.std.proofs.lemmas.Bool.Decides.{nat_tests}
 use Rattle.brd_queue.specs.Queue.{Plain, has, priority_in, AreApart}
 use Rattle.brd_queue.proofs.PriorityLemmas.{has-priority_in}
 use Rattle.brd_tasks.specs.declared.status.WaitReason.{WaitReason}
 use Rattle.brd_tasks.specs.declared.status.WaitReason.TheVariants as reason
+use Rattle.brd_tasks.specs.declared.status.WaitKind.{WaitKind}
+use Rattle.brd_tasks.specs.declared.status.WaitKind.TheVariants as kind
 use Rattle.brd_tasks.specs.declared.task.Task.{Task}
 use Rattle.brd_tasks.specs.Status.{waiting_of}
 use Rattle.brd_tasks.specs.Tasks.{TaskTable, task_at}
@@ -16,19 +18,33 @@ use Rattle.brd_kernel.specs.Waits.{reason_in, reason_of}
 use Rattle.brd_kernel.specs.Waiting.{standing_for, has_list, EachIsKept, WaitsAreKept}
 use Rattle.brd_kernel.proofs.who_waits.ListLemmas.{among, priority_in-absent, same-number}
 
+abbrev pub is_same : WaitKind → WaitKind → Bool
+is_same kind.Semaphore kind.Semaphore = true
+is_same kind.Flag kind.Flag = true
+is_same kind.Room kind.Room = true
+is_same kind.Datum kind.Datum = true
+is_same what other = false
+
+same-kind : (what other : WaitKind) → is_same what other ≡ true → what ≡ other
+same-kind kind.Semaphore kind.Semaphore is = refl
+same-kind kind.Flag kind.Flag is = refl
+same-kind kind.Room kind.Room is = refl
+same-kind kind.Datum kind.Datum is = refl
+same-kind what other is = absurd (false≢true is)
+
+kind-itself : (what : WaitKind) → is_same what what ≡ true
+kind-itself kind.Semaphore = refl
+kind-itself _ = refl
+
 -- who waits for the one stands in the list of the other
 abbrev pub stands_in : WaitReason → WaitReason → Bool
-stands_in (reason.Semaphore object) (reason.Semaphore other) = object == other
-stands_in (reason.Flag object) (reason.Flag other) = object == other
-stands_in (reason.Send object) (reason.Send other) = object == other
-stands_in (reason.Receive object) (reason.Receive other) = object == other
+stands_in (reason.On what object) (reason.On other at) = is_same what other && object == at
 stands_in why other = false
 
 pub stands-same : (why other : WaitReason) → stands_in why other ≡ true → why ≡ other
-stands-same (reason.Semaphore object) (reason.Semaphore other) is = ap reason.Semaphore (same-number object other is)
-stands-same (reason.Flag object) (reason.Flag other) is = ap reason.Flag (same-number object other is)
-stands-same (reason.Send object) (reason.Send other) is = ap reason.Send (same-number object other is)
-stands-same (reason.Receive object) (reason.Receive other) is = ap reason.Receive (same-number object other is)
+stands-same (reason.On what object) (reason.On other at) is =
+    let parts = and_parts (is_same what other) (object == at) is in
+    ap (λ w. reason.On w object) (same-kind what other parts.0) ∙ ap (reason.On other) (same-number object at parts.1)
 stands-same why other is = absurd (false≢true is)
 
 itself : (n : ℕ) → (n == n) ≡ true
@@ -37,10 +53,7 @@ itself n = grind (arith, nat_tests)
 stands-itself : (why : WaitReason) → stands_in why why ≡ has_list why
 stands-itself reason.Sleep = refl
 stands-itself reason.Delay = refl
-stands-itself (reason.Semaphore object) = itself object
-stands-itself (reason.Flag object) = itself object
-stands-itself (reason.Send object) = itself object
-stands-itself (reason.Receive object) = itself object
+stands-itself (reason.On what object) = ap (λ b. b && object == object) (kind-itself what) ∙ itself object
 
 -- what a task waits for, and with which priority
 abbrev pub waits_by : Option WaitReason → ℕ → Option (WaitReason × ℕ)

@@ -2,15 +2,17 @@
 use Rattle.std.proofs.Common.{◌≡◌, ℕ, zero, suc, List, [], ◌∷◌, refl, sym, ap, subst, ◌∙◌}
 use Rattle.std.specs.Prelude.{Bool, true, false, ◌==◌, if◌then◌else◌, Option, None, Some, slice_set}
 use Rattle.std.specs.Option.{option_map}
-use Rattle.std.proofs.lemmas.Bool.{true≢false}
-use Rattle.brd_queue.specs.Queue.{Plain, AreApart}
+use Rattle.brd_queue.specs.Queue.{Plain}
 use Rattle.brd_tasks.specs.declared.status.WaitReason.{WaitReason}
 use Rattle.brd_tasks.specs.declared.status.WaitReason.TheVariants as reason
+use Rattle.brd_tasks.specs.declared.status.WaitKind.{WaitKind}
+use Rattle.brd_tasks.specs.declared.status.WaitKind.TheVariants as kind
 use Rattle.brd_objects.specs.declared.semaphore.Semaphore.{Semaphore}
 use Rattle.brd_objects.specs.declared.flag.Flag.{Flag}
 use Rattle.brd_objects.specs.Table.{Table, object_at, object_changed, objects_changed}
 use Rattle.brd_objects.specs.DataQueues.{DataQueueState}
 use Rattle.brd_kernel.specs.Kernel.{KernelState}
+use Rattle.brd_kernel.specs.Waits.{Change, changed_of}
 use Rattle.brd_kernel.specs.Waiting.{plain, semaphore_waiters, flag_waiters, senders, receivers, standing_for}
 use Rattle.brd_kernel.proofs.who_waits.ListLemmas.{if-lift, same-number, written-at}
 use Rattle.brd_kernel.proofs.who_waits.StandingLemmas.{stands_in, wanted}
@@ -25,16 +27,16 @@ object-changed f table id at x there =
 pub semaphore-rewrites : (f : Semaphore → Semaphore) (k : KernelState) (id : ℕ) (s : Semaphore) → object_at k.semaphores id ≡ Some s →
     (other : WaitReason) →
     standing_for (record k { semaphores = object_changed f k.semaphores id }) other ≡
-    (if stands_in (reason.Semaphore id) other then (f s).waiters else standing_for k other)
-semaphore-rewrites f k id s there (reason.Semaphore object) =
+    (if stands_in (reason.On kind.Semaphore id) other then (f s).waiters else standing_for k other)
+semaphore-rewrites f k id s there (reason.On kind.Semaphore object) =
     ap semaphore_waiters (object-changed f k.semaphores id object s there)
     ∙ if-lift semaphore_waiters (id == object) (Some (f s)) (object_at k.semaphores object)
 semaphore-rewrites f k id s there _ = refl
 
 pub flag-rewrites : (f : Flag → Flag) (k : KernelState) (id : ℕ) (g : Flag) → object_at k.flags id ≡ Some g → (other : WaitReason) →
     standing_for (record k { flags = object_changed f k.flags id }) other ≡
-    (if stands_in (reason.Flag id) other then plain (f g).waiters else standing_for k other)
-flag-rewrites f k id g there (reason.Flag object) =
+    (if stands_in (reason.On kind.Flag id) other then plain (f g).waiters else standing_for k other)
+flag-rewrites f k id g there (reason.On kind.Flag object) =
     ap flag_waiters (object-changed f k.flags id object g there) ∙ if-lift flag_waiters (id == object) (Some (f g)) (object_at k.flags object)
 flag-rewrites f k id g there _ = refl
 
@@ -49,20 +51,20 @@ list-stays false list table id at q new test there same = refl
 pub sender-rewrites : (f : DataQueueState → DataQueueState) (k : KernelState) (id : ℕ) (q : DataQueueState) → object_at k.queues id ≡ Some q →
     (f q).receivers ≡ q.receivers → (other : WaitReason) →
     standing_for (record k { queues = object_changed f k.queues id }) other ≡
-    (if stands_in (reason.Send id) other then plain (f q).senders else standing_for k other)
-sender-rewrites f k id q there same (reason.Send object) =
+    (if stands_in (reason.On kind.Room id) other then plain (f q).senders else standing_for k other)
+sender-rewrites f k id q there same (reason.On kind.Room object) =
     ap senders (object-changed f k.queues id object q there) ∙ if-lift senders (id == object) (Some (f q)) (object_at k.queues object)
-sender-rewrites f k id q there same (reason.Receive object) =
+sender-rewrites f k id q there same (reason.On kind.Datum object) =
     ap receivers (object-changed f k.queues id object q there) ∙ list-stays (id == object) receivers k.queues id object q (f q) refl there same
 sender-rewrites f k id q there same _ = refl
 
 pub receiver-rewrites : (f : DataQueueState → DataQueueState) (k : KernelState) (id : ℕ) (q : DataQueueState) → object_at k.queues id ≡ Some q →
     (f q).senders ≡ q.senders → (other : WaitReason) →
     standing_for (record k { queues = object_changed f k.queues id }) other ≡
-    (if stands_in (reason.Receive id) other then (f q).receivers else standing_for k other)
-receiver-rewrites f k id q there same (reason.Send object) =
+    (if stands_in (reason.On kind.Datum id) other then (f q).receivers else standing_for k other)
+receiver-rewrites f k id q there same (reason.On kind.Room object) =
     ap senders (object-changed f k.queues id object q there) ∙ list-stays (id == object) senders k.queues id object q (f q) refl there (ap plain same)
-receiver-rewrites f k id q there same (reason.Receive object) =
+receiver-rewrites f k id q there same (reason.On kind.Datum object) =
     ap receivers (object-changed f k.queues id object q there) ∙ if-lift receivers (id == object) (Some (f q)) (object_at k.queues object)
 receiver-rewrites f k id q there same _ = refl
 
@@ -73,47 +75,49 @@ mapped-at f [] at = refl
 mapped-at f (x ∷ xs) zero = refl
 mapped-at f (x ∷ xs) (suc at) = mapped-at f xs at
 
-pub semaphores-all : (R : List Plain → List Plain → Type 0) (f : Semaphore → Semaphore) (k : KernelState) (object p : ℕ) →
-    ((found : Option Semaphore) → R (semaphore_waiters (option_map f found)) (semaphore_waiters found)) →
-    ((other : WaitReason) → wanted (Some (reason.Semaphore object, p)) other ≡ None → R (standing_for k other) (standing_for k other)) →
-    (other : WaitReason) → R (standing_for (record k { semaphores = objects_changed f k.semaphores }) other) (standing_for k other)
-semaphores-all R f k object p own rest (reason.Semaphore at) =
-    subst (λ x. R (semaphore_waiters x) (semaphore_waiters (object_at k.semaphores at))) (sym (mapped-at f k.semaphores at))
-    (own (object_at k.semaphores at))
-semaphores-all R f k object p own rest other = rest other refl
+-- what a change makes of the list of each object; where there is no object, the list is empty
+pub record OfEach (R : List Plain → List Plain → Type 0) (change : Change) : Type 0 where
+  pub nobody : R [] []
+  pub semaphore : (s : Semaphore) → R (plain (change.semaphore s).waiters) (plain s.waiters)
+  pub flag : (f : Flag) → R (plain (change.flag f).waiters) (plain f.waiters)
+  pub room : (q : DataQueueState) → R (plain (change.queue q).senders) (plain q.senders)
+  pub datum : (q : DataQueueState) → R (plain (change.queue q).receivers) (plain q.receivers)
 
-pub flags-all : (R : List Plain → List Plain → Type 0) (f : Flag → Flag) (k : KernelState) (object p : ℕ) →
-    ((found : Option Flag) → R (flag_waiters (option_map f found)) (flag_waiters found)) →
-    ((other : WaitReason) → wanted (Some (reason.Flag object, p)) other ≡ None → R (standing_for k other) (standing_for k other)) →
-    (other : WaitReason) → R (standing_for (record k { flags = objects_changed f k.flags }) other) (standing_for k other)
-flags-all R f k object p own rest (reason.Flag at) =
-    subst (λ x. R (flag_waiters x) (flag_waiters (object_at k.flags at))) (sym (mapped-at f k.flags at)) (own (object_at k.flags at))
-flags-all R f k object p own rest other = rest other refl
+pub plain-same : (xs : List Plain) → plain xs ≡ xs
+plain-same [] = refl
+plain-same (x ∷ xs) = ap (λ l. x ∷ l) (plain-same xs)
 
-abbrev pub of_queue : WaitReason → Bool
-of_queue (reason.Send object) = true
-of_queue (reason.Receive object) = true
-of_queue _ = false
+as-plain : (R : List Plain → List Plain → Type 0) (new old : List Plain) → R (plain new) (plain old) → R new old
+as-plain R new old is = subst (λ l. R l old) (plain-same new) (subst (λ l. R (plain new) l) (plain-same old) is)
 
-pub queues-all : (R : List Plain → List Plain → Type 0) (f : DataQueueState → DataQueueState) (k : KernelState) →
-    ((found : Option DataQueueState) → R (senders (option_map f found)) (senders found)) →
-    ((found : Option DataQueueState) → R (receivers (option_map f found)) (receivers found)) →
-    ((other : WaitReason) → of_queue other ≡ false → R (standing_for k other) (standing_for k other)) →
-    (other : WaitReason) → R (standing_for (record k { queues = objects_changed f k.queues }) other) (standing_for k other)
-queues-all R f k own-senders own-receivers rest (reason.Send at) =
-    subst (λ x. R (senders x) (senders (object_at k.queues at))) (sym (mapped-at f k.queues at)) (own-senders (object_at k.queues at))
-queues-all R f k own-senders own-receivers rest (reason.Receive at) =
-    subst (λ x. R (receivers x) (receivers (object_at k.queues at))) (sym (mapped-at f k.queues at)) (own-receivers (object_at k.queues at))
-queues-all R f k own-senders own-receivers rest other = rest other refl
+found-by : {X : Type 0} → (R : List Plain → List Plain → Type 0) (list : Option X → List Plain) (f : X → X) (found : Option X) →
+    R (list None) (list None) → ((x : X) → R (list (Some (f x))) (list (Some x))) → R (list (option_map f found)) (list found)
+found-by R list f None none some = none
+found-by R list f (Some x) none some = some x
 
-pub send-elsewhere : (object p : ℕ) (other : WaitReason) → of_queue other ≡ false → wanted (Some (reason.Send object, p)) other ≡ None
-send-elsewhere object p (reason.Send at) not_queue = absurd (true≢false not_queue)
-send-elsewhere object p _ not_queue = refl
+at-by : {X : Type 0} → (R : List Plain → List Plain → Type 0) (list : Option X → List Plain) (f : X → X) (table : Table X) (at : ℕ) →
+    R (list None) (list None) → ((x : X) → R (list (Some (f x))) (list (Some x))) →
+    R (list (object_at (objects_changed f table) at)) (list (object_at table at))
+at-by R list f table at none some =
+    subst (λ x. R (list x) (list (object_at table at))) (sym (mapped-at f table at)) (found-by R list f (object_at table at) none some)
 
-pub receive-elsewhere : (object p : ℕ) (other : WaitReason) → of_queue other ≡ false → wanted (Some (reason.Receive object, p)) other ≡ None
-receive-elsewhere object p (reason.Receive at) not_queue = absurd (true≢false not_queue)
-receive-elsewhere object p _ not_queue = refl
+-- the lists of others stay
+pub changed-all : (R : List Plain → List Plain → Type 0) (change : Change) (k : KernelState) (what : WaitKind) → OfEach R change →
+    ((other : WaitReason) → ((object : ℕ) → stands_in (reason.On what object) other ≡ false) → R (standing_for k other) (standing_for k other)) →
+    (other : WaitReason) → R (standing_for (changed_of change k what) other) (standing_for k other)
+changed-all R change k kind.Semaphore each rest (reason.On kind.Semaphore at) =
+    at-by R semaphore_waiters change.semaphore k.semaphores at each.nobody
+    (λ (s : Semaphore). as-plain R (change.semaphore s).waiters s.waiters (each.semaphore s))
+changed-all R change k kind.Flag each rest (reason.On kind.Flag at) = at-by R flag_waiters change.flag k.flags at each.nobody each.flag
+changed-all R change k kind.Room each rest (reason.On kind.Room at) = at-by R senders change.queue k.queues at each.nobody each.room
+changed-all R change k kind.Room each rest (reason.On kind.Datum at) = at-by R receivers change.queue k.queues at each.nobody
+    (λ (q : DataQueueState). as-plain R (change.queue q).receivers q.receivers (each.datum q))
+changed-all R change k kind.Datum each rest (reason.On kind.Room at) = at-by R senders change.queue k.queues at each.nobody each.room
+changed-all R change k kind.Datum each rest (reason.On kind.Datum at) = at-by R receivers change.queue k.queues at each.nobody
+    (λ (q : DataQueueState). as-plain R (change.queue q).receivers q.receivers (each.datum q))
+changed-all R change k what each rest other = rest other (λ object. refl)
 
--- none stands twice in a list that none stood in twice
-abbrev pub StaysApart : List Plain → List Plain → Type 0
-StaysApart new old = AreApart old → AreApart new
+-- who waits for something stands in no list of others
+pub elsewhere-none : (what : WaitKind) (object p : ℕ) (other : WaitReason) → ((at : ℕ) → stands_in (reason.On what at) other ≡ false) →
+    wanted (Some (reason.On what object, p)) other ≡ None
+elsewhere-none what object p other none = ap (λ test. if test then Some p else None) (none object)

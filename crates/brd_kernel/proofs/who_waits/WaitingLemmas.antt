@@ -8,6 +8,7 @@ use Rattle.brd_queue.specs.declared.entry.Order.TheVariants.{Arrival}
 use Rattle.brd_queue.specs.Queue.{Plain, has, priority_in, placed, AreApart}
 use Rattle.brd_tasks.specs.declared.status.WaitReason.{WaitReason}
 use Rattle.brd_tasks.specs.declared.status.WaitReason.TheVariants as reason
+use Rattle.brd_tasks.specs.declared.status.WaitKind.TheVariants as kind
 use Rattle.brd_tasks.specs.declared.status.Status.{Status}
 use Rattle.brd_tasks.specs.declared.status.Status.TheVariants.{Dormant, Ready, Waiting, Suspended, WaitingSuspended}
 use Rattle.brd_tasks.specs.declared.task.Task.{Task}
@@ -15,9 +16,7 @@ use Rattle.brd_tasks.specs.Status.{waiting_of, is_ready, blocked}
 use Rattle.brd_tasks.specs.Tasks.{TaskTable, task_at, through, changed, with_priority, ended, released_with}
 use Rattle.brd_time.specs.Time.{with_due}
 use Rattle.brd_objects.specs.declared.semaphore.Semaphore.{Semaphore}
-use Rattle.brd_objects.specs.declared.flag.Flag.{Flag}
-use Rattle.brd_objects.specs.declared.want.Want.{Want}
-use Rattle.brd_objects.specs.Table.{object_at, object_changed}
+use Rattle.brd_objects.specs.Table.{object_at}
 use Rattle.brd_objects.specs.Semaphores.{semaphore_awaited}
 use Rattle.brd_objects.specs.Flags.{flag_awaited}
 use Rattle.brd_objects.specs.DataQueues.{DataQueueState, awaited_by_sender, awaited_by_receiver}
@@ -28,10 +27,11 @@ use Rattle.brd_kernel.specs.Services.{callers_priority, with_priority_in}
 use Rattle.brd_kernel.specs.Waiting.{plain, semaphore_waiters, flag_waiters, senders, receivers, standing_for}
 use Rattle.brd_kernel.proofs.who_waits.ListLemmas.{priority_in-plain, priority_in-placed, priority_in-first, apart-plain, apart-wanting, apart-placed}
 use Rattle.brd_kernel.proofs.WaitLemmas.{unlisted-only, reordered-only}
+use Rattle.brd_kernel.proofs.WalkLemmas.{Lacks, No-one, No-bits, No-room, No-datum, lacked, awaiting, in_semaphore, in_flag, in_senders, in_receivers}
 use Rattle.brd_kernel.proofs.who_waits.StandingLemmas.{stands_in, stands-same, waits_by, waits, IsTimedBy, Stands, StandsIn}
 use Rattle.brd_kernel.proofs.who_waits.KeepingLemmas.{IsEntered, Rewrites, by-lists, by-rows, by-ending, by-beginning, by-priority, by-leaving-one, apart-rewritten}
 use Rattle.brd_kernel.proofs.who_waits.RowLemmas.{IsAsBefore, changed-before, ended-made, released-made, blocked-made, changed-made, row-small}
-use Rattle.brd_kernel.proofs.who_waits.WaitersLemmas.{semaphore-rewrites, flag-rewrites, sender-rewrites, receiver-rewrites}
+use Rattle.brd_kernel.proofs.who_waits.WaitersLemmas.{plain-same, semaphore-rewrites, flag-rewrites, sender-rewrites, receiver-rewrites}
 use Rattle.brd_kernel.proofs.who_waits.LeavingLemmas.{or-false, sleeps-nowhere, out-of-none, unlisted-out}
 use Rattle.brd_kernel.proofs.who_waits.MovingLemmas.{IsMoved, moved-by-reason}
 
@@ -41,10 +41,10 @@ pub lists-by : (k new : KernelState) → new.semaphores ≡ k.semaphores → new
     standing_for new why ≡ standing_for k why
 lists-by k new semaphores flags queues reason.Sleep = refl
 lists-by k new semaphores flags queues reason.Delay = refl
-lists-by k new semaphores flags queues (reason.Semaphore object) = ap (λ table. semaphore_waiters (object_at table object)) semaphores
-lists-by k new semaphores flags queues (reason.Flag object) = ap (λ table. flag_waiters (object_at table object)) flags
-lists-by k new semaphores flags queues (reason.Send object) = ap (λ table. senders (object_at table object)) queues
-lists-by k new semaphores flags queues (reason.Receive object) = ap (λ table. receivers (object_at table object)) queues
+lists-by k new semaphores flags queues (reason.On kind.Semaphore object) = ap (λ table. semaphore_waiters (object_at table object)) semaphores
+lists-by k new semaphores flags queues (reason.On kind.Flag object) = ap (λ table. flag_waiters (object_at table object)) flags
+lists-by k new semaphores flags queues (reason.On kind.Room object) = ap (λ table. senders (object_at table object)) queues
+lists-by k new semaphores flags queues (reason.On kind.Datum object) = ap (λ table. receivers (object_at table object)) queues
 
 pub parts-keep : (k new : KernelState) → new.tasks ≡ k.tasks → new.time ≡ k.time → new.semaphores ≡ k.semaphores → new.flags ≡ k.flags →
     new.queues ≡ k.queues → StandsIn [] k → StandsIn [] new
@@ -198,56 +198,44 @@ placed-listed order at e xs old is =
     priority_in-plain at (placed order e xs) ∙ priority_in-placed order at e xs
     ∙ ap (λ q. if e.id == at then Some e.priority else q) (sym (priority_in-plain at xs) ∙ ap (priority_in at) (sym is))
 
-pub enters-semaphore : (k : KernelState) (id p object : ℕ) (s : Semaphore) → object_at k.semaphores object ≡ Some s → StandsIn [] k → id < 256 →
-    IsEntered id (reason.Semaphore object) p (standing_for k)
-    (standing_for (record k { semaphores = object_changed (semaphore_awaited id p) k.semaphores object }))
-enters-semaphore k id p object s there was small =
-    enters id p (reason.Semaphore object) (semaphore_awaited id p s).waiters (standing_for k)
-    (standing_for (record k { semaphores = object_changed (semaphore_awaited id p) k.semaphores object }))
-    (semaphore-rewrites (semaphore_awaited id p) k object s there)
-    (apart-placed s.order (record { id = id; priority = p; wanted = tt }) s.waiters small
-    (subst (λ o. AreApart (semaphore_waiters o)) there (was.apart (reason.Semaphore object))))
+-- the task is placed in one list
+enters-placed : {W : Type 0} → (k : KernelState) (new : WaitReason → List Plain) (why : WaitReason) (order : Order) (e : Entry W) (xs : List (Entry W))
+    (list : List Plain) → list ≡ plain (placed order e xs) → standing_for k why ≡ plain xs → Rewrites why list (standing_for k) new → StandsIn [] k →
+    e.id < 256 → IsEntered e.id why e.priority (standing_for k) new
+enters-placed k new why order e xs list is were all was small =
+    enters e.id e.priority why list (standing_for k) new all
+    (subst AreApart (sym is) (placed-apart order e xs small (subst AreApart were (was.apart why))))
     was.apart
-    (λ at. priority_in-placed s.order at (record { id = id; priority = p; wanted = tt }) s.waiters
-    ∙ ap (λ o. if id == at then Some p else priority_in at (semaphore_waiters o)) (sym there))
+    (λ at. ap (priority_in at) is ∙ placed-listed order at e xs (standing_for k why) were)
 
-pub enters-flag : (k : KernelState) (id p object : ℕ) (want : Want) (f : Flag) → object_at k.flags object ≡ Some f → StandsIn [] k → id < 256 →
-    IsEntered id (reason.Flag object) p (standing_for k) (standing_for (record k { flags = object_changed (flag_awaited id p want) k.flags object }))
-enters-flag k id p object want f there was small =
-    enters id p (reason.Flag object) (plain (flag_awaited id p want f).waiters) (standing_for k)
-    (standing_for (record k { flags = object_changed (flag_awaited id p want) k.flags object }))
-    (flag-rewrites (flag_awaited id p want) k object f there)
-    (placed-apart f.order (record { id = id; priority = p; wanted = want }) f.waiters small
-    (subst (λ o. AreApart (flag_waiters o)) there (was.apart (reason.Flag object))))
-    was.apart
-    (λ at. placed-listed f.order at (record { id = id; priority = p; wanted = want }) f.waiters (standing_for k (reason.Flag object))
-    (ap flag_waiters there))
-
-pub enters-sender : (k : KernelState) (id p object datum : ℕ) (q : DataQueueState) → object_at k.queues object ≡ Some q → StandsIn [] k → id < 256 →
-    IsEntered id (reason.Send object) p (standing_for k) (standing_for
-    (record k { queues = object_changed (awaited_by_sender id p datum) k.queues object }))
-enters-sender k id p object datum q there was small =
-    enters id p (reason.Send object) (plain (awaited_by_sender id p datum q).senders) (standing_for k)
-    (standing_for (record k { queues = object_changed (awaited_by_sender id p datum) k.queues object }))
-    (sender-rewrites (awaited_by_sender id p datum) k object q there refl)
-    (placed-apart q.order (record { id = id; priority = p; wanted = datum }) q.senders small
-    (subst (λ o. AreApart (senders o)) there (was.apart (reason.Send object))))
-    was.apart
-    (λ at. placed-listed q.order at (record { id = id; priority = p; wanted = datum }) q.senders (standing_for k (reason.Send object))
-    (ap senders there))
-
-pub enters-receiver : (k : KernelState) (id p object : ℕ) (q : DataQueueState) → object_at k.queues object ≡ Some q → StandsIn [] k → id < 256 →
-    IsEntered id (reason.Receive object) p (standing_for k) (standing_for
-    (record k { queues = object_changed (awaited_by_receiver id p) k.queues object }))
-enters-receiver k id p object q there was small =
-    enters id p (reason.Receive object) (awaited_by_receiver id p q).receivers (standing_for k)
-    (standing_for (record k { queues = object_changed (awaited_by_receiver id p) k.queues object }))
-    (receiver-rewrites (awaited_by_receiver id p) k object q there refl)
-    (apart-placed Arrival (record { id = id; priority = p; wanted = tt }) q.receivers small
-    (subst (λ o. AreApart (receivers o)) there (was.apart (reason.Receive object))))
-    was.apart
-    (λ at. priority_in-placed Arrival at (record { id = id; priority = p; wanted = tt }) q.receivers
-    ∙ ap (λ o. if id == at then Some p else priority_in at (receivers o)) (sym there))
+pub enters-object : (k : KernelState) (id object : ℕ) (lacks : Lacks k object) → StandsIn [] k → id < 256 →
+    IsEntered id (reason.On (lacked lacks) object) (callers_priority k id) (standing_for k) (standing_for (awaiting k id object lacks))
+enters-object k id object (No-one s there none) was small =
+    let p : ℕ = callers_priority k id in
+    let f : Semaphore → Semaphore = semaphore_awaited id p in
+    enters-placed k (standing_for (in_semaphore k id object)) (reason.On kind.Semaphore object) s.order
+    (record { id = id; priority = p; wanted = tt }) s.waiters
+    (f s).waiters (sym (plain-same (f s).waiters)) (ap semaphore_waiters there ∙ sym (plain-same s.waiters))
+    (semaphore-rewrites f k object s there) was small
+enters-object k id object (No-bits want f there none some) was small =
+    let p : ℕ = callers_priority k id in
+    enters-placed k (standing_for (in_flag k id object want)) (reason.On kind.Flag object) f.order
+    (record { id = id; priority = p; wanted = want }) f.waiters
+    (plain (flag_awaited id p want f).waiters) refl (ap flag_waiters there)
+    (flag-rewrites (flag_awaited id p want) k object f there) was small
+enters-object k id object (No-room datum q there full) was small =
+    let p : ℕ = callers_priority k id in
+    enters-placed k (standing_for (in_senders k id object datum)) (reason.On kind.Room object) q.order
+    (record { id = id; priority = p; wanted = datum }) q.senders
+    (plain (awaited_by_sender id p datum q).senders) refl (ap senders there)
+    (sender-rewrites (awaited_by_sender id p datum) k object q there refl) was small
+enters-object k id object (No-datum q there none) was small =
+    let p : ℕ = callers_priority k id in
+    let f : DataQueueState → DataQueueState = awaited_by_receiver id p in
+    enters-placed k (standing_for (in_receivers k id object)) (reason.On kind.Datum object) Arrival
+    (record { id = id; priority = p; wanted = tt }) q.receivers
+    (f q).receivers (sym (plain-same (f q).receivers)) (ap receivers there ∙ sym (plain-same q.receivers))
+    (receiver-rewrites f k object q there refl) was small
 
 -- Another priority.
 
@@ -265,8 +253,9 @@ priority-keeps k id p task (Some why) there waiting was =
     let made = changed-made k.tasks id p why task there waiting in
     let stood : Stands [] k.tasks k.time (standing_for on) =
     by-lists [] k.tasks k.time (standing_for k) (standing_for on) (lists-by k on refl refl refl) was in
-    let moved : IsMoved id p (standing_for on) (standing_for new) = moved-by-reason on k.tasks k.time id p task.priority why is stood in
+    let moved : (other : WaitReason) → IsMoved id p (standing_for new other) (standing_for on other) =
+    moved-by-reason on k.tasks k.time id p task.priority why is stood in
     subst (λ x. Stands [] x new.time (standing_for new)) (sym (reordered-only on id p (Some why)).tasks)
     (subst (λ m. Stands [] t m (standing_for new)) (sym (reordered-only on id p (Some why)).time)
     (by-priority id p (why, task.priority) k.tasks t k.time (standing_for on)
-    (standing_for new) made.long is made.now moved.apart moved.listed stood))
+    (standing_for new) made.long is made.now (λ other. (moved other).apart (stood.apart other)) (λ at other. (moved other).listed at) stood))

@@ -16,7 +16,7 @@ use super::serve::{OK, id_in_range};
 use super::waits::is_bad_timeout;
 use crate::call::{Ercd, Reply};
 use brd_objects::{Mode, Sent, Want};
-use brd_tasks::{TaskId, WaitReason};
+use brd_tasks::{TaskId, WaitKind, WaitReason};
 
 impl Kernel {
     pub(super) fn sig_sem(&mut self, id: u32) -> Result<Reply, Ercd>
@@ -56,7 +56,7 @@ impl Kernel {
             let due = self.due_by(timeout);
             let priority = self.priority(caller);
             self.semaphores.wait(id, caller, priority);
-            self.block(caller, WaitReason::Semaphore(id), due);
+            self.block(caller, WaitReason::On(WaitKind::Semaphore, id), due);
         }
         Ok(Reply::Silent)
     }
@@ -116,7 +116,7 @@ impl Kernel {
             let due = self.due_by(timeout);
             let priority = self.priority(caller);
             self.flags.wait(id, caller, priority, want);
-            self.block(caller, WaitReason::Flag(id), due);
+            self.block(caller, WaitReason::On(WaitKind::Flag, id), due);
         }
         Ok(Reply::Silent)
     }
@@ -153,7 +153,7 @@ impl Kernel {
             let due = self.due_by(timeout);
             let priority = self.priority(caller);
             self.queues.wait_to_send(id, caller, priority, datum);
-            self.block(caller, WaitReason::Send(id), due);
+            self.block(caller, WaitReason::On(WaitKind::Room, id), due);
         }
         Ok(Reply::Silent)
     }
@@ -196,7 +196,7 @@ impl Kernel {
             let due = self.due_by(timeout);
             let priority = self.priority(caller);
             self.queues.wait_to_receive(id, caller, priority);
-            self.block(caller, WaitReason::Receive(id), due);
+            self.block(caller, WaitReason::On(WaitKind::Datum, id), due);
         }
         Ok(Reply::Silent)
     }

@@ -24,7 +24,7 @@ ghost use Rattle.brd_kernel.specs.Kernel.{with_tasks};
 
 use super::Kernel;
 use crate::call::Ercd;
-use brd_tasks::{TaskId, WaitReason};
+use brd_tasks::{TaskId, WaitKind, WaitReason};
 
 /// A wait without an end (TMO_FEVR, -1).
 const FOREVER: u32 = 0xffff_ffff;
@@ -102,12 +102,13 @@ impl Kernel {
     fn leave_list(&mut self, id: TaskId, reason: Option<WaitReason>)
         ensures { self.new ≡ unlisted_from self.old id reason }
     {
-        let Some(reason) = reason else { return };
-        match reason {
-            WaitReason::Sleep | WaitReason::Delay => {}
-            WaitReason::Semaphore(_) => self.semaphores.leave(id),
-            WaitReason::Flag(_) => self.flags.leave(id),
-            WaitReason::Send(_) | WaitReason::Receive(_) => self.queues.leave(id),
+        let Some(WaitReason::On(kind, _)) = reason else {
+            return
+        };
+        match kind {
+            WaitKind::Semaphore => self.semaphores.leave(id),
+            WaitKind::Flag => self.flags.leave(id),
+            WaitKind::Room | WaitKind::Datum => self.queues.leave(id),
         }
     }
 
@@ -135,12 +136,13 @@ impl Kernel {
     pub(super) fn reorder(&mut self, id: TaskId, priority: u8, reason: Option<WaitReason>)
         ensures { self.new ≡ reordered_in self.old id priority reason }
     {
-        let Some(reason) = reason else { return };
-        match reason {
-            WaitReason::Sleep | WaitReason::Delay => {}
-            WaitReason::Semaphore(_) => self.semaphores.reorder(id, priority),
-            WaitReason::Flag(_) => self.flags.reorder(id, priority),
-            WaitReason::Send(_) | WaitReason::Receive(_) => self.queues.reorder(id, priority),
+        let Some(WaitReason::On(kind, _)) = reason else {
+            return
+        };
+        match kind {
+            WaitKind::Semaphore => self.semaphores.reorder(id, priority),
+            WaitKind::Flag => self.flags.reorder(id, priority),
+            WaitKind::Room | WaitKind::Datum => self.queues.reorder(id, priority),
         }
     }
 

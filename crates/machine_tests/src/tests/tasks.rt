@@ -237,7 +237,7 @@ fn sleeps_suspended(tasks: &mut Tasks) -> bool {
 fn waits_resumed(tasks: &mut Tasks) -> bool {
     tasks.resume(1);
     let ran = runs(tasks, 1, 1);
-    tasks.block(1, WaitReason::Flag(9));
+    tasks.block(1, WaitReason::On(WaitKind::Flag, 9));
     tasks.suspend(1);
     tasks.resume(1);
     let waited = is_so(tasks, 1, TaskState::Waiting, (5, 1, 0, 0));

@@ -1,31 +1,29 @@
-use Rattle.std.proofs.Common.{◌≡◌, ◌+◌, ◌*◌, ◌<◌, ◌^◌, subst, sym, ap, ◌∙◌, arith}
+use Rattle.std.proofs.Common.{◌≡◌, ◌<◌, length, subst, sym, arith}
 use Rattle.std.specs.Prelude.{Ok}
-use Rattle.brd_word.specs.Words.{word_of_bytes}
-use Rattle.brd_mem.specs.Access.{fetched}
+use Rattle.brd_isa.specs.Decoding.{decoded}
+use Rattle.brd_mem.specs.Access.{fetched, read_raw}
+use Rattle.brd_entries.specs.Means.{Means}
+use Rattle.brd_fast.specs.Known.{IsRight}
 use Rattle.brd_fast.specs.Place.{state_of}
-use Rattle.brd_fast.proofs.StepLemmas.{entry-steps, step-size}
+use Rattle.brd_fast.specs.Steps.{machine_at}
+use Rattle.brd_fast.proofs.StepLemmas.{entry-steps, step-alike}
 use Rattle.brd_fast.proofs.steps.step.Goals as goal
 
-pub returns-in-Some-clause-step : goal.returns-in-Some-clause-step
-returns-in-Some-clause-step c =
-    let small : c.index_of-index.result < 2 ^ 22 = omega (arith, c.requires.few, c.if-index-words.false) in
-    let at : 0x80000000 + 4 * c.index_of-index.result ≡ c.args.place.now.pc = c.index_of-index.ensures small in
-    entry-steps c.in-Some.entry.now c.args.cpu (state_of c.args.context.now c.args.place.now) c.args.ram.now c.args.links.now
-    c.word_of-word.result c.carry_out.result (state_of c.carry_out.new.context c.carry_out.new.place) c.carry_out.new.ram
-    c.carry_out.new.links
-    (subst (λ pc. fetched c.args.ram.now pc ≡ Ok c.word_of-word.result) at
-    (c.raw_at-raw.ensures ∙ ap (λ bytes. Ok (word_of_bytes c.args.ram.now.order bytes)) (sym c.bytes_of.ensures.is)
-    ∙ ap Ok (sym c.word_of-word.ensures.is)))
-    c.in-Some.ensures c.carry_out.ensures
+pub returns-clause-step : goal.returns-clause-step
+returns-clause-step c =
+    let order = c.args.ram.now.order in
+    let known = c.index-known-at.result in
+    let inside : c.at-at.result < length c.args.known.now = omega (arith, c.at-at.ensures.inside, c.requires.long) in
+    let right = subst (λ k. IsRight order k) (sym c.index-known-at.is) (c.requires.right c.at-at.result known inside) in
+    entry-steps known.entry c.args.cpu (state_of c.args.context.now c.args.line.now) c.args.ram.now c.args.links.now
+    (read_raw order c.raw_at.result) c.carry_out.result (state_of c.carry_out.new.context c.carry_out.new.line)
+    c.carry_out.new.ram c.carry_out.new.links
+    (subst (λ pc. fetched c.args.ram.now pc ≡ Ok (read_raw order c.raw_at.result)) (sym c.at-at.ensures.is) c.raw_at.ensures)
+    (subst (λ raw. ∥ Means known.entry (decoded (read_raw order raw)) ∥₁) c.if-known-raw_at.false right)
+    c.carry_out.ensures.is
 
-pub returns-in-Some-clause-same_size : goal.returns-in-Some-clause-same_size
-returns-in-Some-clause-same_size c =
-    step-size c.args.cpu
-    (record { state = state_of c.args.context.now c.args.place.now; memory = c.args.ram.now; links = c.args.links.now })
-    c.carry_out.result
-    (record {
-      state = state_of c.carry_out.new.context c.carry_out.new.place;
-      memory = c.carry_out.new.ram;
-      links = c.carry_out.new.links;
-    })
-    (returns-in-Some-clause-step c)
+pub returns-clause-alike : goal.returns-clause-alike
+returns-clause-alike c =
+    step-alike c.args.cpu (machine_at c.args.context.now c.args.ram.now c.args.links.now c.args.line.now) c.carry_out.result
+    (machine_at c.carry_out.new.context c.carry_out.new.ram c.carry_out.new.links c.carry_out.new.line)
+    (returns-clause-step c)

@@ -1,8 +1,0 @@
--- In each semaphore that was passed the task has the priority.
-use Rattle.std.proofs.Common.{◌≡◌, ◌++◌, take, drop}
-use Rattle.brd_objects.specs.Table.{objects_changed}
-use Rattle.brd_objects.specs.Semaphores.{semaphore_reordered}
-use Rattle.brd_objects.proofs.semaphores.Semaphores.reorder.Given as goal
-
-abbrev pub invariant-loop-row : goal.invariant-loop-row
-invariant-loop-row l = objects_changed (semaphore_reordered l.task l.priority) l.fn.self ≡ take l.row-index l.row-items ++ objects_changed (semaphore_reordered l.task l.priority) (drop l.row-index l.row-items)
