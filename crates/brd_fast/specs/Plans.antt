@@ -160,16 +160,20 @@ planned (Entry.Bltzl rs reach) s =
 planned (Entry.Bgezl rs reach) s =
     Plan.Jumps (branched_by s true (is_regimm_branch_taken BranchRegimmOp.Bgezl (read s rs)) (reached s.npc reach))
 planned (Entry.Bltzal rs reach) s =
-    Plan.Jumps (branched_by (calling s) false (is_regimm_branch_taken BranchRegimmOp.Bltzal (read s rs)) (reached s.npc reach))
+    Plan.Jumps
+    (branched_by (calling s) false (is_regimm_branch_taken BranchRegimmOp.Bltzal (read s rs)) (reached s.npc reach))
 planned (Entry.Bgezal rs reach) s =
-    Plan.Jumps (branched_by (calling s) false (is_regimm_branch_taken BranchRegimmOp.Bgezal (read s rs)) (reached s.npc reach))
+    Plan.Jumps
+    (branched_by (calling s) false (is_regimm_branch_taken BranchRegimmOp.Bgezal (read s rs)) (reached s.npc reach))
 planned (Entry.Bltzall rs reach) s =
-    Plan.Jumps (branched_by (calling s) true (is_regimm_branch_taken BranchRegimmOp.Bltzall (read s rs)) (reached s.npc reach))
+    Plan.Jumps
+    (branched_by (calling s) true (is_regimm_branch_taken BranchRegimmOp.Bltzall (read s rs)) (reached s.npc reach))
 planned (Entry.Bgezall rs reach) s =
-    Plan.Jumps (branched_by (calling s) true (is_regimm_branch_taken BranchRegimmOp.Bgezall (read s rs)) (reached s.npc reach))
+    Plan.Jumps
+    (branched_by (calling s) true (is_regimm_branch_taken BranchRegimmOp.Bgezall (read s rs)) (reached s.npc reach))
 
--- What an entry may make of a context, memory and links: what its plan says; or nothing is done, where the plan declines,
--- and where its action stops. A branch or a jump may be left undone.
+-- What an entry may make of a context, memory and links: what its plan says; or nothing is done, where the plan
+-- declines, and where its action stops. A branch or a jump may be left undone.
 abbrev pub CarriesOut : ℕ → Plan → State → Memory → LinkSet → Bool → State → Memory → LinkSet → Type 0
 CarriesOut cpu Plan.Declines s memory links result new_s new_memory new_links =
     Acts None s memory links result new_s new_memory new_links

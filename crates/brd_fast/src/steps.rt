@@ -16,8 +16,9 @@ use brd_link::Links;
 use brd_mem::Ram;
 
 /// Does steps of a processor's context, one after the other, as many as `count` at most, and answers how many it did.
-/// It ends early at whatever is unusual: an exception, a SYSCALL, LL, SC, a branch in a delay slot, words that the table
-/// has no place for. That is left to do, and nothing of it is done. A table for RAM of another byte order does nothing.
+/// It ends early at whatever is unusual: an exception, a SYSCALL, LL, SC, a branch in a delay slot, words for which the
+/// table has no place. That is left to do, and nothing of it is done. With a table for RAM of another byte order it does
+/// nothing.
 pub fn go(
     table: &mut Table,
     cpu: u8,
