@@ -9,31 +9,92 @@ printf 'board-journal 1\nS 1 500000000\n' > "$work/long"
 printf 'board-journal 1\nS 1 100000000\n' > "$work/traced"
 printf 'board-journal 1\nS 1 4000000000\nS 1 4000000000\nS 1 4000000000\n' > "$work/endless"
 "$board" asm "$work/source" "$work/image"
+boot=("$work/image" "$work/config")
 line='(\\r[0-9]+ of [0-9]+ events \([0-9]+ %\)\\x1b\[K)+'
 emptied='\\r\\x1b\[K'
 
-# shows NAME STATUS WHEN PATTERN COMMAND JOURNAL OPTION..: runs a command on a terminal, which shows this. Where it ends by
+# The file that a command reads as its standard input.
+input=/dev/null
+
+# on_terminal STATUS WHEN PATTERN COMMAND ARGUMENT..: what is wrong with a command on a terminal, which shows this.
+on_terminal() {
+    local wanted=$1 when=$2 pattern=$3 got
+    shift 3
+    # shellcheck disable=SC2016
+    tests/terminal "$when" "$work/out" sh -c 'exec "$@" < "$0"' "$input" "$board" "$@" > "$work/shown"
+    got=$?
+    [ $got = "$wanted" ] || echo -n "; status $got, wanted $wanted"
+    grep -qE "^b'$pattern'\$" "$work/shown" || echo -n "; the terminal shows $(head -c 600 "$work/shown")"
+}
+
+# without_terminal COMMAND ARGUMENT..: what is wrong with the command without a terminal: another output, or something on
+# standard error.
+without_terminal() {
+    "$board" "$@" < "$input" > "$work/plain" 2> "$work/err"
+    cmp -s "$work/out" "$work/plain" || echo -n "; another output than without a terminal"
+    [ -s "$work/err" ] && echo -n "; without a terminal standard error is $(head -c 600 "$work/err")"
+}
+
+# shows NAME STATUS WHEN PATTERN COMMAND ARGUMENT..: runs a command on a terminal, which shows this. Where it ends by
 # itself, its output is that of a run without one, where nothing is shown.
 shows() {
-    local name=$1 wanted=$2 when=$3 pattern=$4 command=$5 journal=$6 wrong= got
-    shift 6
-    tests/terminal "$when" "$work/out" "$board" "$command" "$work/image" "$work/config" "$work/$journal" "$@" > "$work/shown"
-    got=$?
-    [ $got = "$wanted" ] || wrong="status $got, wanted $wanted"
-    grep -qE "^b'$pattern'\$" "$work/shown" || wrong="$wrong; the terminal shows $(head -c 600 "$work/shown")"
-    if [ $when = never ]; then
-        "$board" "$command" "$work/image" "$work/config" "$work/$journal" "$@" > "$work/plain" 2> "$work/err"
-        cmp -s "$work/out" "$work/plain" || wrong="$wrong; another output than without a terminal"
-        [ -s "$work/err" ] && wrong="$wrong; without a terminal standard error is $(head -c 600 "$work/err")"
-    fi
+    local name=$1 when=$3 wrong
+    shift
+    wrong=$(on_terminal "$@")
+    shift 3
+    [ "$when" = never ] && wrong="$wrong$(without_terminal "$@")"
     verdict "progress: $name" "$wrong"
 }
 
-shows "a short run" 0 never "" run short
-shows "a long run" 0 never "$line$emptied" run long
-shows "a long trace" 0 never "$line$emptied" trace traced --summary
-shows "Ctrl-C in a run" 130 shown "$line.*" run endless
-shows "Ctrl-C in a trace" 130 shown "$line.*" trace endless
-shows "Ctrl-C before a trace's first event" 130 shown "$line.*" trace endless --from 12000000000
+shows "a short run" 0 never "" run "${boot[@]}" "$work/short"
+shows "a long run" 0 never "$line$emptied" run "${boot[@]}" "$work/long"
+shows "a long trace" 0 never "$line$emptied" trace "${boot[@]}" "$work/traced" --summary
+shows "Ctrl-C in a run" 130 shown "$line.*" run "${boot[@]}" "$work/endless"
+shows "Ctrl-C in a trace" 130 shown "$line.*" trace "${boot[@]}" "$work/endless"
+shows "Ctrl-C before a trace's first event" 130 shown "$line.*" trace "${boot[@]}" "$work/endless" --from 12000000000
+
+# ---- debug: each move for itself
+
+# moves COMMAND..: what `debug` reads.
+moves() {
+    printf '%s\n' "$@" > "$work/moves"
+    input=$work/moves
+}
+
+moves "goto 30" "next" "goto 5" "back" "regs 1"
+shows "short moves" 0 never "" debug "${boot[@]}" "$work/long"
+moves "goto 500000000" "regs 1"
+shows "a long move" 0 never "$line$emptied" debug "${boot[@]}" "$work/long"
+moves "break 80001000" "next"
+shows "a long search" 0 never "$line$emptied" debug "${boot[@]}" "$work/traced"
+moves "watch 80001000" "goto 100000000" "back"
+shows "a long search back" 0 never "$line$emptied($line$emptied)?" debug "${boot[@]}" "$work/traced"
+moves "goto 12000000000"
+shows "Ctrl-C in a move" 130 shown "$line.*" debug "${boot[@]}" "$work/endless"
+moves "break 80001000" "next"
+shows "Ctrl-C in a search" 130 shown "$line.*" debug "${boot[@]}" "$work/endless"
+
+# A move is as long as it takes; how long its command was waited for doesn't count.
+mkfifo "$work/pipe"
+{ sleep 1.5; echo "goto 10000000"; } > "$work/pipe" &
+input=$work/pipe
+verdict "progress: a short move after a long wait" "$(on_terminal 0 never "" debug "${boot[@]}" "$work/long")"
+wait
+input=/dev/null
+
+# ---- race: processors that are idle take the longest
+
+echo 'BOARD(8, 0x10000);' > "$work/idle"
+echo 'T 1000000' > "$work/ticks"
+race=(race "$work/image" "$work/idle" "$work/ticks")
+shows "a short race" 0 never "" "${race[@]}" 30 "$work/raced"
+began=${EPOCHREALTIME/[.,]/}
+"$board" "${race[@]}" 1000000 "$work/raced" > "$work/out"
+if [ $((${EPOCHREALTIME/[.,]/} - began)) -ge 1500000 ]; then
+    shows "a long race" 0 never "$line$emptied" "${race[@]}" 1000000 "$work/raced"
+    shows "Ctrl-C in a race" 130 shown "$line.*" "${race[@]}" 1000000 "$work/raced"
+else
+    echo "skipped: progress of a race: the longest takes less than 1.5 seconds here"
+fi
 
 summary

@@ -15,7 +15,14 @@ use std::thread::Threads;
 /// Does what the words of a command line ask for, of which the first is the program's name, on files, standard input
 /// and standard output. Nothing is touched where they are refused, or ask for help. How far a long command is, is told on
 /// the way.
-pub fn carry_out<S: AsStr, F: Files, R: Read, W: Write, P: Progress, T: Threads + Wait + Sync>(
+pub fn carry_out<
+    S: AsStr,
+    F: Files,
+    R: Read,
+    W: Write,
+    P: Progress + Send,
+    T: Threads + Wait + Sync,
+>(
     rt: &T,
     alloc: Global,
     words: &[S],

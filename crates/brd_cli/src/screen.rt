@@ -4,7 +4,7 @@ use brd_command::Progress;
 use std::io::IsTerminal;
 use std::time::{Duration, Instant};
 
-/// How many milliseconds a command works before it is shown how far it is (own choice).
+/// How many milliseconds of work pass before it is shown how far it is (own choice).
 const PATIENCE: u64 = 1_000;
 
 /// How many milliseconds what is shown stays at least (own choice).
@@ -14,7 +14,7 @@ const PAUSE: u64 = 200;
 #[derive(Drop)]
 pub struct Screen<'a> {
     rt: &'a HostRuntime,
-    /// When the command began; `None` where nothing is shown.
+    /// When the program began; `None` where nothing is shown.
     start: Option<Instant>,
     /// How long after that it is shown next.
     due: Duration,
@@ -22,7 +22,7 @@ pub struct Screen<'a> {
 }
 
 impl<'a> Screen<'a> {
-    /// The line of a command that begins now.
+    /// The line of a program that begins now.
     pub fn new(rt: &'a HostRuntime) -> Screen<'a> {
         Screen {
             rt,
@@ -35,15 +35,24 @@ impl<'a> Screen<'a> {
             is_shown: false,
         }
     }
+
+    /// How long the program has run, where something is shown.
+    fn now(&self) -> Option<Duration> {
+        self.start?.elapsed(self.rt).ok()
+    }
 }
 
 impl<'a> Progress for Screen<'a> {
+    /// Shows nothing while the work takes less than a second.
+    fn begin(&mut self) {
+        if let Some(now) = self.now() {
+            self.due = now.saturating_add(Duration::from_millis(PATIENCE));
+        }
+    }
+
     /// Writes the line anew, where it is time for that.
     fn show(&mut self, done: u64, all: u64) {
-        let Some(start) = self.start else {
-            return;
-        };
-        let Ok(now) = start.elapsed(self.rt) else {
+        let Some(now) = self.now() else {
             return;
         };
         if now < self.due {

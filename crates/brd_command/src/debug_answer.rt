@@ -12,22 +12,25 @@ use crate::shown::show_context;
 use brd_base::NoMemory;
 use brd_board::Board;
 use brd_debug::{DebugFault, Debugger};
+use brd_progress::Progress;
 use brd_text::hex_digits;
 use std::alloc::Global;
 
-/// Does a command. What is answered to it; `None` to `quit`, which has no answer, and ends.
-pub fn answer(
+/// Does a command. What is answered to it; `None` to `quit`, which has no answer, and ends. How far a move is, is told
+/// on the way.
+pub fn answer<P: Progress>(
     alloc: Global,
     debugger: &mut Debugger,
     command: DebugCommand,
+    progress: &mut P,
 ) -> Result<Option<Vec<u8>>, NoMemory>
     ensures { IfOk result (λ answer.
         answers.DoesOrQuits debugger.old command (option_map (λ bytes. bytes.items) answer) debugger.new) }
 {
     let answer = match command {
-        DebugCommand::Goto(position) => goto(alloc, debugger, position)?,
-        DebugCommand::Next => found(alloc, debugger.next_stop()?)?,
-        DebugCommand::Back => found(alloc, debugger.last_stop()?)?,
+        DebugCommand::Goto(position) => goto(alloc, debugger, position, progress)?,
+        DebugCommand::Next => found(alloc, debugger.next_stop_telling(progress)?)?,
+        DebugCommand::Back => found(alloc, debugger.last_stop_telling(progress)?)?,
         DebugCommand::Break(address) => set(alloc, debugger.add_break(address))?,
         DebugCommand::Watch(address) => set(alloc, debugger.add_watch(address))?,
         DebugCommand::Registers(cpu) => registers(alloc, debugger.show(), cpu)?,
@@ -39,11 +42,16 @@ pub fn answer(
 }
 
 /// Goes to a position, where there is one, and says so.
-fn goto(alloc: Global, debugger: &mut Debugger, position: u64) -> Result<Vec<u8>, NoMemory>
+fn goto<P: Progress>(
+    alloc: Global,
+    debugger: &mut Debugger,
+    position: u64,
+    progress: &mut P,
+) -> Result<Vec<u8>, NoMemory>
     ensures { IfOk result (λ text.
         (text.items ≡ answers.goto_text debugger.old position) × (debugger.new ≡ answers.after_goto debugger.old position)) }
 {
-    match debugger.goto(position) {
+    match debugger.goto_telling(position, progress) {
         Ok(()) => number(alloc, "at", position),
         Err(DebugFault::Past { len }) => number(alloc, "past", len),
         Err(DebugFault::NoMemory) => Err(NoMemory),

@@ -8,11 +8,11 @@ ghost use Rattle.brd_command.specs.RaceCommand.{RaceEnds};
 use crate::asm_command::asm;
 use crate::debug_command::debug;
 use crate::fault::CommandFault;
-use crate::progress::Progress;
 use crate::race_command::race;
 use crate::run_command::run;
 use crate::trace_command::trace;
 use crate::trace_options::TraceOptions;
+use brd_progress::Progress;
 use brd_threads::Blanks;
 use std::alloc::Global;
 use std::io::{self, Read, Write};
@@ -145,7 +145,7 @@ pub fn run_files<F: Files, W: Write, P: Progress>(
 
 /// Does `race` on its files: IMAGE is opened, then CONFIG, then SCRIPT, then OUT is created or emptied, and then the
 /// three are read. The report is written, and OUT is let go as `race` left it.
-pub fn race_files<F: Files, W: Write, R: Threads + Wait + Sync>(
+pub fn race_files<F: Files, W: Write, P: Progress + Send, R: Threads + Wait + Sync>(
     rt: &R,
     alloc: Global,
     files: &mut F,
@@ -155,6 +155,7 @@ pub fn race_files<F: Files, W: Write, R: Threads + Wait + Sync>(
     quota: u32,
     out: &str,
     output: &mut W,
+    progress: &mut P,
 ) -> Result<(), CommandFault>
     ensures { RaceFilesEnd F.opened F.created F.closed F.Input.remaining F.Output.contents
         files.old image.now config.now script.now quota out.now (W.contents output.old) (W.contents output.new) result files.new }
@@ -167,26 +168,35 @@ pub fn race_files<F: Files, W: Write, R: Threads + Wait + Sync>(
         Ok(journal) => journal,
         Err(error) => return Err(CommandFault::of_open(alloc, out, error)),
     };
-    let ended = race_on(rt, alloc, &mut inputs, quota, &mut journal, output);
+    let ended = race_on(
+        rt,
+        alloc,
+        &mut inputs,
+        quota,
+        &mut journal,
+        output,
+        progress,
+    );
     files.close(journal);
     ended
 }
 
 /// Does `race` on files that are open, with ledgers of its own.
-fn race_on<I: Read, O: Write, W: Write, R: Threads + Wait + Sync>(
+fn race_on<I: Read, O: Write, W: Write, P: Progress + Send, R: Threads + Wait + Sync>(
     rt: &R,
     alloc: Global,
     inputs: &mut Inputs<I>,
     quota: u32,
     out: &mut O,
     output: &mut W,
+    progress: &mut P,
 ) -> Result<(), CommandFault>
     ensures { IfSome (I.remaining inputs.old.image) (λ file. IfSome (I.remaining inputs.old.config) (λ statements.
         IfSome (I.remaining inputs.old.last) (λ text.
         RaceEnds result quota file statements text (O.contents out.old) (O.contents out.new)
         (W.contents output.old) (W.contents output.new)))) }
 {
-    race::<Brand, I, O, W, R>(
+    race::<Brand, I, O, W, P, R>(
         rt,
         alloc,
         &mut inputs.image,
@@ -195,13 +205,14 @@ fn race_on<I: Read, O: Write, W: Write, R: Threads + Wait + Sync>(
         quota,
         out,
         output,
+        progress,
         Blanks::new(),
     )
 }
 
 /// Does `debug` on its files: IMAGE is opened, then CONFIG, then JOURNAL, and then all are read. The commands come from
 /// `input`, and the answers are written.
-pub fn debug_files<F: Files, R: Read, W: Write>(
+pub fn debug_files<F: Files, R: Read, W: Write, P: Progress>(
     alloc: Global,
     files: &mut F,
     image: &str,
@@ -209,6 +220,7 @@ pub fn debug_files<F: Files, R: Read, W: Write>(
     journal: &str,
     input: &mut R,
     output: &mut W,
+    progress: &mut P,
 ) -> Result<(), CommandFault>
     ensures { DebugFilesEnd F.opened F.Input.remaining R.remaining files.old image.now config.now journal.now
         input.old input.new (W.contents output.old) (W.contents output.new) result files.new }
@@ -224,6 +236,7 @@ pub fn debug_files<F: Files, R: Read, W: Write>(
         &mut inputs.last,
         input,
         output,
+        progress,
     )
 }
 

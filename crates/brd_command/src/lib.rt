@@ -22,6 +22,7 @@ mod journal_command;
 mod journal_options;
 pub mod laws;
 mod lines;
+mod meter;
 mod output;
 mod progress;
 mod race_command;
@@ -37,6 +38,7 @@ mod word_text;
 mod words_command;
 
 pub use asm_command::asm;
+pub use brd_progress::{Progress, Quiet};
 pub use brd_threads::{Blanks, Race};
 pub use brd_word::Order;
 pub use clue::Clue;
@@ -48,7 +50,6 @@ pub use files::{Files, asm_files, debug_files, race_files, run_files, trace_file
 pub use input_name::InputName;
 pub use journal_command::journal;
 pub use journal_options::JournalOptions;
-pub use progress::{Progress, Quiet};
 pub use race_command::race;
 pub use request::{Request, perform};
 pub use run_command::run;

@@ -6,28 +6,10 @@ ghost use Rattle.brd_journal.specs.Runs.{copies};
 
 use brd_board::Board;
 use brd_journal::{Journal, Run};
+use brd_progress::Progress;
 
 /// How many events are done at most between two times that it is told how many are done (own choice).
 pub(crate) const PIECE: u32 = 4_194_304;
-
-/// What is told how far a command is. It is told nothing else, so all that it can change is what it is itself.
-pub trait Progress {
-    /// n of m events are done.
-    fn show(&mut self, done: u64, all: u64);
-
-    /// Output is written next, which is to stand alone.
-    fn hide(&mut self);
-}
-
-/// What says nothing of how far a command is.
-#[derive(Clone, Copy)]
-pub struct Quiet;
-
-impl Progress for Quiet {
-    fn show(&mut self, _done: u64, _all: u64) {}
-
-    fn hide(&mut self) {}
-}
 
 /// How many events are done, and how many there are.
 #[derive(Clone, Copy)]

@@ -8,12 +8,14 @@ ghost use Rattle.brd_threads.specs.Processors.{processors_of};
 ghost use Rattle.brd_command.specs.RaceCommand.{IsShown, KeepsFromRacing, RaceEnds, ShowsStation};
 
 use crate::fault::CommandFault;
+use crate::meter::Meter;
 use crate::output::write_whole;
 use crate::report::report;
 use crate::start::{RaceStart, read_race_start};
 use brd_base::NoMemory;
 use brd_journal::MOST_RUNS;
-use brd_threads::{Blanks, Open, Race, Station, processors};
+use brd_progress::Progress;
+use brd_threads::{Blanks, Race, Station, processors};
 use std::alloc::Global;
 use std::io::{Read, Write};
 use std::sync::Wait;
@@ -31,9 +33,16 @@ struct Shown {
 /// Reads an object file, a configuration and a script to their ends, in this order. Lets a thread of the host work for
 /// each processor of the board that the first two make, until that has done `quota` steps or the board is off, and one
 /// for the script. Then it writes the text of the journal of what happened on `out`, and the board's report on
-/// `writer`. Nothing is written where memory or threads ran out, or where what was read or the race has a fault. The
-/// ledgers of the race are made of the blanks.
-pub fn race<K: Race + Send + Sync, I: Read, O: Write, W: Write, R: Threads + Wait + Sync>(
+/// `writer`. Nothing is written where memory or threads ran out, or where what was read or the race has a fault. How
+/// far the race is, is told on the way, by one of its threads at a time. Its ledgers are made of the blanks.
+pub fn race<
+    K: Race + Send + Sync,
+    I: Read,
+    O: Write,
+    W: Write,
+    P: Progress + Send,
+    R: Threads + Wait + Sync,
+>(
     rt: &R,
     alloc: Global,
     image: &mut I,
@@ -42,6 +51,7 @@ pub fn race<K: Race + Send + Sync, I: Read, O: Write, W: Write, R: Threads + Wai
     quota: u32,
     out: &mut O,
     writer: &mut W,
+    progress: &mut P,
     blanks: Blanks,
 ) -> Result<(), CommandFault>
     requires { AreOf K.names blanks }
@@ -54,10 +64,11 @@ pub fn race<K: Race + Send + Sync, I: Read, O: Write, W: Write, R: Threads + Wai
         Ok(start) => start,
         Err(fault) => return Err(fault),
     };
-    let shown = match raced::<K, R>(rt, alloc, &start, quota, blanks) {
+    let shown = match raced::<K, P, R>(rt, alloc, &start, quota, progress, blanks) {
         Ok(shown) => shown,
         Err(fault) => return Err(fault),
     };
+    progress.hide();
     match write_whole(out, &shown.journal) {
         Ok(()) => {}
         Err(error) => return Err(CommandFault::Write(error)),
@@ -69,11 +80,12 @@ pub fn race<K: Race + Send + Sync, I: Read, O: Write, W: Write, R: Threads + Wai
 }
 
 /// What is shown of the station that a race leaves.
-fn raced<K: Race + Send + Sync, R: Threads + Wait + Sync>(
+fn raced<K: Race + Send + Sync, P: Progress + Send, R: Threads + Wait + Sync>(
     rt: &R,
     alloc: Global,
     start: &RaceStart,
     quota: u32,
+    progress: &mut P,
     blanks: Blanks,
 ) -> Result<Shown, CommandFault>
     requires { AreOf K.names blanks }
@@ -83,14 +95,16 @@ fn raced<K: Race + Send + Sync, R: Threads + Wait + Sync>(
     let Ok(quotas) = vec![in alloc; quota as u64; processors(&start.board)] else {
         return Err(CommandFault::NoMemory);
     };
-    let raced = brd_threads::race::<K, Open, R>(
+    let steps = u64::from(quota).saturating_mul(processors(&start.board) as u64);
+    let meter = Meter::new(steps, progress);
+    let raced = brd_threads::race::<K, Meter<'_, P>, R>(
         rt,
         alloc,
         &start.board,
         &start.script,
         &quotas,
         MOST_RUNS,
-        &Open,
+        &meter,
         blanks,
     );
     match raced {

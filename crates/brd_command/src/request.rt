@@ -6,9 +6,9 @@ use crate::fault::CommandFault;
 use crate::files::{Files, asm_files, debug_files, race_files, run_files, trace_files};
 use crate::journal_command::journal;
 use crate::journal_options::JournalOptions;
-use crate::progress::Progress;
 use crate::trace_options::TraceOptions;
 use crate::words_command::words;
+use brd_progress::Progress;
 use std::alloc::Global;
 use std::io::{Read, Write};
 use std::sync::Wait;
@@ -67,8 +67,8 @@ pub enum Request<'a> {
 /// Does what was asked for, on files, standard input and standard output. `words` and `journal` touch no file; `asm`
 /// neither reads standard input nor writes standard output; `run`, `race`, `trace` and `journal` don't read standard
 /// input. `debug` reads that only where its files could be opened and make a debugger. Threads of the host are started
-/// only for `race`. How far `run` and `trace` are, is told on the way.
-pub fn perform<F: Files, R: Read, W: Write, P: Progress, T: Threads + Wait + Sync>(
+/// only for `race`. How far `run`, `race`, `debug` and `trace` are, is told on the way.
+pub fn perform<F: Files, R: Read, W: Write, P: Progress + Send, T: Threads + Wait + Sync>(
     rt: &T,
     alloc: Global,
     files: &mut F,
@@ -94,12 +94,16 @@ pub fn perform<F: Files, R: Read, W: Write, P: Progress, T: Threads + Wait + Syn
             script,
             quota,
             out,
-        } => race_files(rt, alloc, files, image, config, script, quota, out, output),
+        } => race_files(
+            rt, alloc, files, image, config, script, quota, out, output, progress,
+        ),
         Request::Debug {
             image,
             config,
             journal,
-        } => debug_files(alloc, files, image, config, journal, input, output),
+        } => debug_files(
+            alloc, files, image, config, journal, input, output, progress,
+        ),
         Request::Trace {
             image,
             config,

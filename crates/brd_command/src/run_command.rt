@@ -7,10 +7,11 @@ ghost use Rattle.brd_command.specs.RunCommand.{RunEnds};
 
 use crate::fault::CommandFault;
 use crate::output::write_whole;
-use crate::progress::{Progress, replay};
+use crate::progress::replay;
 use crate::report::report;
 use crate::start::{Start, read_start};
 use brd_base::NoMemory;
+use brd_progress::Progress;
 use std::alloc::Global;
 use std::io::{Read, Write};
 

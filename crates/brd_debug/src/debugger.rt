@@ -15,6 +15,7 @@ use crate::stops::Stops;
 use brd_base::NoMemory;
 use brd_board::Board;
 use brd_journal::Journal;
+use brd_progress::{Progress, Quiet};
 use std::alloc::Global;
 use std::marker::Model;
 
@@ -107,11 +108,24 @@ impl Debugger {
         ensures ok { OnOk result (self.new ≡ record self.old { position = position }) }
         ensures err { OnErr result (self.new ≡ self.old) }
     {
+        self.goto_telling(position, &mut Quiet)
+    }
+
+    /// Goes to a position as `goto` does, and tells on the way how many of the events from where it begins it has done.
+    pub fn goto_telling<P: Progress>(
+        &mut self,
+        position: u64,
+        progress: &mut P,
+    ) -> Result<(), DebugFault>
+        ensures goes { Goes self.old position result }
+        ensures ok { OnOk result (self.new ≡ record self.old { position = position }) }
+        ensures err { OnErr result (self.new ≡ self.old) }
+    {
         let len = self.journal.len();
         if position > len {
             return Err(DebugFault::Past { len });
         }
-        self.show_at(position)?;
+        self.show_at(position, progress)?;
         Ok(())
     }
 
@@ -122,15 +136,29 @@ impl Debugger {
         ensures moved { IfOk result (λ found. self.new ≡ went self.old found) }
         ensures err { OnErr result (self.new ≡ self.old) }
     {
+        self.next_stop_telling(&mut Quiet)
+    }
+
+    /// Goes to the first stop after its position as `next_stop` does, and tells on the way how many of the events up to
+    /// the journal's end it has looked at.
+    pub fn next_stop_telling<P: Progress>(
+        &mut self,
+        progress: &mut P,
+    ) -> Result<Option<u64>, NoMemory>
+        ensures least { IfOk result (IsLeast (IsStop self.old.stops self.old.boot self.old.events) (self.old.position + 1) (length self.old.events)) }
+        ensures moved { IfOk result (λ found. self.new ≡ went self.old found) }
+        ensures err { OnErr result (self.new ≡ self.old) }
+    {
         let found = next_stop(
             &self.boot,
             &self.journal,
             &self.stops,
             &mut self.snapshots,
             &self.shown,
+            progress,
         )?;
         if let Some(position) = found {
-            self.show_at(position)?;
+            self.show_at(position, progress)?;
         }
         Ok(found)
     }
@@ -142,21 +170,35 @@ impl Debugger {
         ensures moved { IfOk result (λ found. self.new ≡ went self.old found) }
         ensures err { OnErr result (self.new ≡ self.old) }
     {
+        self.last_stop_telling(&mut Quiet)
+    }
+
+    /// Goes back to the last stop before its position as `last_stop` does, and tells on the way how many of the events
+    /// before its position it has looked at.
+    pub fn last_stop_telling<P: Progress>(
+        &mut self,
+        progress: &mut P,
+    ) -> Result<Option<u64>, NoMemory>
+        ensures greatest { IfOk result (IsGreatest (IsStop self.old.stops self.old.boot self.old.events) 0 self.old.position) }
+        ensures moved { IfOk result (λ found. self.new ≡ went self.old found) }
+        ensures err { OnErr result (self.new ≡ self.old) }
+    {
         let found = stop_before(
             &self.boot,
             &self.journal,
             &self.stops,
             &self.snapshots,
             &self.shown,
+            progress,
         )?;
         if let Some(position) = found {
-            self.show_at(position)?;
+            self.show_at(position, progress)?;
         }
         Ok(found)
     }
 
     /// Shows the board after n events. It goes on or back in place where no snapshot may be due on the way.
-    fn show_at(&mut self, position: u64) -> Result<(), NoMemory>
+    fn show_at<P: Progress>(&mut self, position: u64, progress: &mut P) -> Result<(), NoMemory>
         requires { position ≤ length self.old.events }
         ensures ok { OnOk result (self.new ≡ record self.old { position = position }) }
         ensures err { OnErr result (self.new ≡ self.old) }
@@ -189,6 +231,7 @@ impl Debugger {
             &mut self.snapshots,
             &self.shown,
             position,
+            progress,
         )?;
         Ok(())
     }

@@ -12,15 +12,17 @@ use crate::stops::Stops;
 use brd_base::NoMemory;
 use brd_board::Board;
 use brd_journal::Journal;
+use brd_progress::Progress;
 
 /// A board that has played up to a position: from the one that is shown, from a snapshot or from the boot, whichever is
-/// nearest. It takes snapshots on its way.
-pub(crate) fn played_to(
+/// nearest. It takes snapshots on its way, and tells how far it is.
+pub(crate) fn played_to<P: Progress>(
     boot: &Board,
     journal: &Journal,
     snapshots: &mut Snapshots,
     shown: &Playback,
     to: u64,
+    progress: &mut P,
 ) -> Result<Playback, NoMemory>
     requires shown { IsPlayed boot.now journal.now.events shown.now }
     requires kept { AreKept boot.now journal.now.events snapshots.old.kept }
@@ -31,17 +33,18 @@ pub(crate) fn played_to(
     ensures noted { IfOk result (λ _. IsNotedUpTo boot.now journal.now.events snapshots.old shown.now.at to (plan_of snapshots.new)) }
 {
     let mut playback = nearest(boot, snapshots, shown, to)?;
-    play_on(boot, journal, snapshots, &mut playback, to)?;
+    play_on(boot, journal, snapshots, &mut playback, to, progress)?;
     Ok(playback)
 }
 
-/// Lets a board play on up to a position, and takes snapshots on its way.
-fn play_on(
+/// Lets a board play on up to a position. It takes snapshots on its way, and tells at each how far it is.
+fn play_on<P: Progress>(
     boot: &Board,
     journal: &Journal,
     snapshots: &mut Snapshots,
     playback: &mut Playback,
     to: u64,
+    progress: &mut P,
 ) -> Result<(), NoMemory>
     requires played { IsPlayed boot.now journal.now.events playback.old }
     requires kept { AreKept boot.now journal.now.events snapshots.old.kept }
@@ -53,10 +56,12 @@ fn play_on(
     ensures noted { OnOk result (IsNoted boot.now journal.now.events (plan_of snapshots.old) playback.old.at (to - playback.old.at) (plan_of snapshots.new)) }
 {
     let len = journal.len();
+    let from = playback.at;
     while playback.at < to {
         snapshots.note(boot, playback)?;
         let end = snapshots.next(playback.at).min(to);
         playback.play_to(journal, end, to);
+        progress.show(playback.at.saturating_sub(from), to.saturating_sub(from));
     }
     Ok(())
 }
@@ -110,13 +115,15 @@ pub(crate) fn go_back(
     Ok(())
 }
 
-/// The first stop after the position of the board that is shown. It takes snapshots on its way.
-pub(crate) fn next_stop(
+/// The first stop after the position of the board that is shown. It takes snapshots on its way, and tells how far it
+/// is.
+pub(crate) fn next_stop<P: Progress>(
     boot: &Board,
     journal: &Journal,
     stops: &Stops,
     snapshots: &mut Snapshots,
     shown: &Playback,
+    progress: &mut P,
 ) -> Result<Option<u64>, NoMemory>
     requires shown { IsPlayed boot.now journal.now.events shown.now }
     requires kept { AreKept boot.now journal.now.events snapshots.old.kept }
@@ -128,18 +135,26 @@ pub(crate) fn next_stop(
         return Ok(None);
     }
     let mut playback = shown.try_copy()?;
-    play_on(boot, journal, snapshots, &mut playback, shown.at + 1)?;
-    stop_from(boot, journal, stops, snapshots, &mut playback)
+    play_on(
+        boot,
+        journal,
+        snapshots,
+        &mut playback,
+        shown.at + 1,
+        progress,
+    )?;
+    stop_from(boot, journal, stops, snapshots, &mut playback, progress)
 }
 
-/// The first stop from the position of a board on. It lets the board play on, to wherever the search ends, and takes
-/// snapshots on its way.
-fn stop_from(
+/// The first stop from the position of a board on. It lets the board play on, to wherever the search ends. It takes
+/// snapshots on its way, and tells at each how far it is.
+fn stop_from<P: Progress>(
     boot: &Board,
     journal: &Journal,
     stops: &Stops,
     snapshots: &mut Snapshots,
     playback: &mut Playback,
+    progress: &mut P,
 ) -> Result<Option<u64>, NoMemory>
     requires played { IsPlayed boot.now journal.now.events playback.old }
     requires kept { AreKept boot.now journal.now.events snapshots.old.kept }
@@ -148,6 +163,7 @@ fn stop_from(
     ensures noted { OnOk result (IsNoted boot.now journal.now.events (plan_of snapshots.old) playback.old.at (playback.new.at - playback.old.at) (plan_of snapshots.new)) }
 {
     let len = journal.len();
+    let from = playback.at;
     while playback.at < len {
         snapshots.note(boot, playback)?;
         let end = snapshots.next(playback.at).min(len);
@@ -155,18 +171,20 @@ fn stop_from(
         if found.is_some() {
             return Ok(found);
         }
+        progress.show(playback.at.saturating_sub(from), len.saturating_sub(from));
     }
     Ok(None)
 }
 
 /// The last stop before the position of the board that is shown. It looks from one snapshot to the next, and then from
-/// the one before that.
-pub(crate) fn stop_before(
+/// the one before that, and tells at each how far it is.
+pub(crate) fn stop_before<P: Progress>(
     boot: &Board,
     journal: &Journal,
     stops: &Stops,
     snapshots: &Snapshots,
     shown: &Playback,
+    progress: &mut P,
 ) -> Result<Option<u64>, NoMemory>
     requires shown { IsPlayed boot.now journal.now.events shown.now }
     requires kept { AreKept boot.now journal.now.events snapshots.now.kept }
@@ -182,6 +200,7 @@ pub(crate) fn stop_before(
             return Ok(found);
         }
         to = from;
+        progress.show(shown.at.saturating_sub(to), shown.at);
     }
     Ok(None)
 }

@@ -17,8 +17,8 @@ use std::sync::{Mutex, Wait};
 /// Takes turns until the share counts the quota, and answers true then, or until the board is off, and answers false.
 /// A turn lends under the lock, runs the lease with no lock held, between the calls of the gate and within what remains
 /// of the quota, and then commits it under the lock. Without a lease, with nothing done under it, or where it is stale,
-/// the turn does one step under the lock. (Today only the journal asks for memory, by the allocator that it was made
-/// with.)
+/// the turn does one step under the lock. At its end the gate is told how many steps it was. (Today only the journal
+/// asks for memory, by the allocator that it was made with.)
 #[tactic(auto, unfolding(crate::specs::Races::HasWorked))]
 pub fn worker<K: Race, G: Gate, R: Wait>(
     rt: &R,
@@ -39,10 +39,13 @@ pub fn worker<K: Race, G: Gate, R: Wait>(
             return (share, Ok(false));
         };
         let run = run_apart(gate, cpu, left, lent);
+        let before = share.count();
         let mut guard = station.lock(rt);
         if let Err(fault) = commit_or_step(&mut guard, cpu, run, &mut share) {
             return (share, Err(RaceFault::from(fault)));
         }
+        drop(guard);
+        gate.count(cpu, share.count() - before);
     }
     (share, Ok(true))
 }

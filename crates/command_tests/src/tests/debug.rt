@@ -3,7 +3,7 @@
 use super::fakes::{Busy, Bytewise, Taking};
 use super::run::{CONFIG, JOURNAL, OTHER_ORDERS, UNREAD, image, little_image};
 use super::{UNWRITTEN, is_fault};
-use brd_command::{CommandFault, debug};
+use brd_command::{CommandFault, Quiet, debug};
 use std::alloc::Global;
 use std::io::Read;
 use std::test::Fail;
@@ -30,6 +30,7 @@ fn debug_by<R: Read>(
         &mut journal,
         commands,
         writer,
+        &mut Quiet,
     )
 }
 
@@ -58,6 +59,7 @@ fn debug_failing(
         &mut journal,
         commands,
         writer,
+        &mut Quiet,
     )
 }
 

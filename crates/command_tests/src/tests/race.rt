@@ -3,7 +3,7 @@
 use super::fakes::{Busy, Bytewise, Taking};
 use super::run::{CONFIG, REPORT, image, little_image};
 use super::{UNWRITTEN, is_fault};
-use brd_command::{Blanks, CommandFault, race};
+use brd_command::{Blanks, CommandFault, Quiet, race};
 use brd_threads::RaceFault;
 use std::alloc::Global;
 use std::marker::Brand;
@@ -58,7 +58,7 @@ fn race_failing<R: Threads + Wait + Sync>(
         1 => config.fails_at = fails_at,
         _ => script.fails_at = fails_at,
     }
-    race::<Brand, Bytewise<'_>, Taking, Taking, R>(
+    race::<Brand, Bytewise<'_>, Taking, Taking, Quiet, R>(
         rt,
         alloc,
         &mut image,
@@ -67,6 +67,7 @@ fn race_failing<R: Threads + Wait + Sync>(
         3,
         &mut outputs.journal,
         &mut outputs.report,
+        &mut Quiet,
         Blanks::new(),
     )
 }
@@ -130,7 +131,7 @@ fn gives_up<R: Threads + Wait + Sync>(
     let mut config = Busy::new(CONFIG, place != 1);
     let mut script = Busy::new(SCRIPT, place != 2);
     let mut outputs = Outputs::new(alloc);
-    let ended = race::<Brand, Busy<'_>, Taking, Taking, R>(
+    let ended = race::<Brand, Busy<'_>, Taking, Taking, Quiet, R>(
         rt,
         alloc,
         &mut image,
@@ -139,6 +140,7 @@ fn gives_up<R: Threads + Wait + Sync>(
         3,
         &mut outputs.journal,
         &mut outputs.report,
+        &mut Quiet,
         Blanks::new(),
     );
     let reads = match place {

@@ -5,7 +5,7 @@ use Rattle.brd_debug.proofs.NotedLemmas.{noted-on, noted-both, noted-nowhere}
 use Rattle.brd_debug.proofs.search.play_on.Goals as goal
 
 pub loop-playback-init : goal.loop-playback-init
-loop-playback-init c = record {
+loop-playback-init g c = record {
   from = omega arith;
   on = c.requires.on;
   played = c.requires.played;
@@ -14,13 +14,13 @@ loop-playback-init c = record {
 }
 
 pub note-requires-clause-sizes : goal.note-requires-clause-sizes
-note-requires-clause-sizes c = size-played c.args.boot.now c.args.journal.now.events c.loop-playback.playback c.loop-playback.invariant.played
+note-requires-clause-sizes g c = size-played c.args.boot.now c.args.journal.now.events c.loop-playback.playback c.loop-playback.invariant.played
 
 pub note-requires-clause-orders : goal.note-requires-clause-orders
-note-requires-clause-orders c = order-played c.args.boot.now c.args.journal.now.events c.loop-playback.playback c.loop-playback.invariant.played
+note-requires-clause-orders g c = order-played c.args.boot.now c.args.journal.now.events c.loop-playback.playback c.loop-playback.invariant.played
 
 pub loop-playback-preserved : goal.loop-playback-preserved
-loop-playback-preserved c =
+loop-playback-preserved g c =
     let more : c.loop-playback.playback.at < c.play_to.new.self.at =
     omega (arith, c.play_to.ensures.at.0, c.min-end.ensures, c.next.ensures.after, c.loop-playback-test.true) in
     record {
@@ -37,5 +37,5 @@ loop-playback-preserved c =
     }
 
 pub returns-in_err-note-clause-kept : goal.returns-in_err-note-clause-kept
-returns-in_err-note-clause-kept c =
+returns-in_err-note-clause-kept g c =
     c.in_err-note.ensures.kept c.args.journal.now.events c.loop-playback.invariant.played c.loop-playback.invariant.kept

@@ -4,7 +4,7 @@ use Rattle.brd_debug.specs.Kept.{IsPlayed, AreKept, IsNoted, plan_of}
 use Rattle.brd_debug.proofs.search.play_on.Given as goal
 
 abbrev pub invariant-loop-playback : goal.invariant-loop-playback
-invariant-loop-playback l = record {
+invariant-loop-playback g l = record {
   from : l.fn.playback.at ≤ l.playback.at;
   on : l.playback.at ≤ l.to;
   played : IsPlayed l.boot l.journal.events l.playback;
@@ -13,4 +13,4 @@ invariant-loop-playback l = record {
 }
 
 abbrev pub decreases-loop-playback : goal.decreases-loop-playback
-decreases-loop-playback l = l.to - l.playback.at
+decreases-loop-playback g l = l.to - l.playback.at

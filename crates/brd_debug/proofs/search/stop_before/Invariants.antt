@@ -6,11 +6,11 @@ use Rattle.brd_debug.proofs.SearchLemmas.{NoneFrom}
 use Rattle.brd_debug.proofs.search.stop_before.Given as goal
 
 abbrev pub invariant-loop-to : goal.invariant-loop-to
-invariant-loop-to l = record {
+invariant-loop-to g l = record {
   played : IsPlayed l.boot l.journal.events l.playback;
   below : l.to ≤ l.shown.at;
   none : NoneFrom (IsStop l.stops l.boot l.journal.events) l.to l.shown.at;
 }
 
 abbrev pub decreases-loop-to : goal.decreases-loop-to
-decreases-loop-to l = l.to
+decreases-loop-to g l = l.to

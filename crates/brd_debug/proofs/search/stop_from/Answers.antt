@@ -7,13 +7,13 @@ use Rattle.brd_debug.proofs.NotedLemmas.{noted-on, noted-both, noted-nowhere}
 use Rattle.brd_debug.proofs.search.stop_from.Goals as goal
 
 pub note-requires-clause-sizes : goal.note-requires-clause-sizes
-note-requires-clause-sizes c = size-played c.args.boot.now c.args.journal.now.events c.loop-playback.playback c.loop-playback.invariant.played
+note-requires-clause-sizes g c = size-played c.args.boot.now c.args.journal.now.events c.loop-playback.playback c.loop-playback.invariant.played
 
 pub note-requires-clause-orders : goal.note-requires-clause-orders
-note-requires-clause-orders c = order-played c.args.boot.now c.args.journal.now.events c.loop-playback.playback c.loop-playback.invariant.played
+note-requires-clause-orders g c = order-played c.args.boot.now c.args.journal.now.events c.loop-playback.playback c.loop-playback.invariant.played
 
 pub loop-playback-init : goal.loop-playback-init
-loop-playback-init c = record {
+loop-playback-init g c = record {
   from = omega arith;
   none = λ m above below stop. omega (arith, above, below);
   played = c.requires.played;
@@ -22,14 +22,14 @@ loop-playback-init c = record {
 }
 
 pub returns-then-is_some-clause-least : goal.returns-then-is_some-clause-least
-returns-then-is_some-clause-least c =
+returns-then-is_some-clause-least g c =
     found-least (IsStop c.args.stops.now c.args.boot.now c.args.journal.now.events) c.args.playback.now.at c.loop-playback.playback.at
     c.first_stop-found.new.self.at (length c.args.journal.now.events) c.first_stop-found.result (sym c.is_some.ensures ∙ c.if-is_some.true)
     c.loop-playback.invariant.from (omega (arith, c.first_stop-found.ensures.at.1, c.len-len.ensures.len)) c.loop-playback.invariant.none
     (c.first_stop-found.ensures.least c.args.boot.now c.loop-playback.invariant.played)
 
 pub returns-then-is_some-clause-noted : goal.returns-then-is_some-clause-noted
-returns-then-is_some-clause-noted c =
+returns-then-is_some-clause-noted g c =
     let more : c.loop-playback.playback.at < c.first_stop-found.new.self.at =
     found-more (IsStop c.args.stops.now c.args.boot.now c.args.journal.now.events) c.loop-playback.playback.at c.first_stop-found.new.self.at
     c.first_stop-found.result (sym c.is_some.ensures ∙ c.if-is_some.true) (c.first_stop-found.ensures.least c.args.boot.now c.loop-playback.invariant.played) in
@@ -41,7 +41,7 @@ returns-then-is_some-clause-noted c =
     (c.first_stop-found.ensures.still c.args.boot.now c.loop-playback.invariant.played))
 
 pub loop-playback-preserved : goal.loop-playback-preserved
-loop-playback-preserved c =
+loop-playback-preserved g c =
     let far : c.min-end.result ≤ c.first_stop-found.new.self.at =
     c.first_stop-found.ensures.none (none-of c.first_stop-found.result (sym c.is_some.ensures ∙ c.if-is_some.false)) in
     let more : c.loop-playback.playback.at < c.first_stop-found.new.self.at =
@@ -64,13 +64,13 @@ loop-playback-preserved c =
     }
 
 pub returns-clause-least : goal.returns-clause-least
-returns-clause-least c = λ m above below stop.
+returns-clause-least g c = λ m above below stop.
     c.loop-playback.invariant.none m above (omega (arith, below, c.loop-playback-test.false, c.len-len.ensures.len)) stop
 
 pub returns-in_err-note-clause-kept : goal.returns-in_err-note-clause-kept
-returns-in_err-note-clause-kept c =
+returns-in_err-note-clause-kept g c =
     c.in_err-note.ensures.kept c.args.journal.now.events c.loop-playback.invariant.played c.loop-playback.invariant.kept
 
 pub returns-then-is_some-clause-kept : goal.returns-then-is_some-clause-kept
-returns-then-is_some-clause-kept c =
+returns-then-is_some-clause-kept g c =
     c.in_ok-note.ensures.kept c.args.journal.now.events c.loop-playback.invariant.played c.loop-playback.invariant.kept

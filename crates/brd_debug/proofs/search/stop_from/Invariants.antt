@@ -6,7 +6,7 @@ use Rattle.brd_debug.proofs.SearchLemmas.{NoneFrom}
 use Rattle.brd_debug.proofs.search.stop_from.Given as goal
 
 abbrev pub invariant-loop-playback : goal.invariant-loop-playback
-invariant-loop-playback l = record {
+invariant-loop-playback g l = record {
   from : l.fn.playback.at ≤ l.playback.at;
   none : NoneFrom (IsStop l.stops l.boot l.journal.events) l.fn.playback.at l.playback.at;
   played : IsPlayed l.boot l.journal.events l.playback;
@@ -15,4 +15,4 @@ invariant-loop-playback l = record {
 }
 
 abbrev pub decreases-loop-playback : goal.decreases-loop-playback
-decreases-loop-playback l = length l.journal.events - l.playback.at
+decreases-loop-playback g l = length l.journal.events - l.playback.at

@@ -1,0 +1,26 @@
+//! What is told how far long work is.
+#![tactic(auto)]
+
+/// What is told how far work is. It is told nothing else, so all that it can change is what it is itself.
+pub trait Progress {
+    /// Work begins, of which it is told from now on.
+    fn begin(&mut self);
+
+    /// n of m events are done.
+    fn show(&mut self, done: u64, all: u64);
+
+    /// Output is written next, which is to stand alone.
+    fn hide(&mut self);
+}
+
+/// What says nothing of how far work is.
+#[derive(Clone, Copy)]
+pub struct Quiet;
+
+impl Progress for Quiet {
+    fn begin(&mut self) {}
+
+    fn show(&mut self, _done: u64, _all: u64) {}
+
+    fn hide(&mut self) {}
+}
