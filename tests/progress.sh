@@ -21,7 +21,7 @@ on_terminal() {
     local wanted=$1 when=$2 pattern=$3 got
     shift 3
     # shellcheck disable=SC2016
-    tests/terminal "$when" "$work/out" sh -c 'exec "$@" < "$0"' "$input" "$board" "$@" > "$work/shown"
+    tests/terminal "$when" "$work/out" /bin/sh -c 'exec "$@" < "$0"' "$input" "$board" "$@" > "$work/shown"
     got=$?
     [ $got = "$wanted" ] || echo -n "; status $got, wanted $wanted"
     grep -qE "^b'$pattern'\$" "$work/shown" || echo -n "; the terminal shows $(head -c 600 "$work/shown")"
