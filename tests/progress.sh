@@ -5,7 +5,7 @@ have python3 "progress" || { summary; exit; }
 printf 'main: addiu $t0, $t0, 1\nj main\nnop\n' > "$work/source"
 echo 'BOARD(1, 0x10000); CRE_TSK(1, {TA_ACT, 0, main, 1, 256, NULL});' > "$work/config"
 printf 'board-journal 1\nS 1 30\n' > "$work/short"
-printf 'board-journal 1\nS 1 500000000\n' > "$work/long"
+printf 'board-journal 1\nS 1 2000000000\n' > "$work/long"
 printf 'board-journal 1\nS 1 100000000\n' > "$work/traced"
 printf 'board-journal 1\nS 1 4000000000\nS 1 4000000000\nS 1 4000000000\n' > "$work/endless"
 "$board" asm "$work/source" "$work/image"
@@ -61,9 +61,11 @@ moves() {
     input=$work/moves
 }
 
-moves "goto 30" "next" "goto 5" "back" "regs 1"
-shows "short moves" 0 never "" debug "${boot[@]}" "$work/long"
-moves "goto 500000000" "regs 1"
+moves "goto 30" "back" "goto 5" "next" "regs 1"
+shows "short moves" 0 never "" debug "${boot[@]}" "$work/short"
+moves "goto 30" "goto 5" "regs 1"
+shows "short moves of a long journal" 0 never "" debug "${boot[@]}" "$work/long"
+moves "goto 2000000000" "regs 1"
 shows "a long move" 0 never "$line$emptied" debug "${boot[@]}" "$work/long"
 moves "break 80001000" "next"
 shows "a long search" 0 never "$line$emptied" debug "${boot[@]}" "$work/traced"
