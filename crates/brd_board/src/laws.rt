@@ -31,14 +31,18 @@ ghost use Rattle.brd_board.specs.SpinLocks.{LocksGoOn};
 /// After every list of events from a boot each processor that isn't held runs the first of its ready tasks, or none
 /// where none is ready. No event ends this.
 pub fn each_processor_runs_its_first()
-    ensures boot { (image : ImageOf) (config : Configuration) (board : BoardState) (events : List EventOf) → boot image config ≡ Ok board → IsSettled (after board events).kernel }
-    ensures event { (board : BoardState) (event : EventOf) → IsSettled board.kernel → IsSettled (happens board event).board.kernel }
+    ensures boot { (image : ImageOf) (config : Configuration) (board : BoardState) (events : List EventOf) →
+        boot image config ≡ Ok board → IsSettled (after board events).kernel }
+    ensures event { (board : BoardState) (event : EventOf) → IsSettled board.kernel →
+        IsSettled (happens board event).board.kernel }
 {}
 
 /// A processor on which another task runs after an event than before it, or none, or one where none ran, has no link
 /// after it.
 pub fn a_change_of_task_ends_the_link()
-    ensures { (board : BoardState) (event : EventOf) (cpu : ℕ) → 1 ≤ cpu → cpu ≤ 8 → has_changed board.kernel (happens board event).board.kernel cpu ≡ true → linked_address (happens board event).board.links cpu ≡ None }
+    ensures { (board : BoardState) (event : EventOf) (cpu : ℕ) → 1 ≤ cpu → cpu ≤ 8 →
+        has_changed board.kernel (happens board event).board.kernel cpu ≡ true →
+        linked_address (happens board event).board.links cpu ≡ None }
 {}
 
 /// After every list of events from a boot each task that waits for a semaphore, for bits of an event flag, or to send
@@ -47,8 +51,10 @@ pub fn a_change_of_task_ends_the_link()
 /// priority; no task waits for something that it could have at once; only a task that waits has a due tick, and a delay
 /// has one. No event ends this.
 pub fn who_waits_stands_in_its_list()
-    ensures boot { (image : ImageOf) (config : Configuration) (board : BoardState) (events : List EventOf) → boot image config ≡ Ok board → WaitsAreKept (after board events).kernel }
-    ensures event { (board : BoardState) (event : EventOf) → WaitsAreKept board.kernel → WaitsAreKept (happens board event).board.kernel }
+    ensures boot { (image : ImageOf) (config : Configuration) (board : BoardState) (events : List EventOf) →
+        boot image config ≡ Ok board → WaitsAreKept (after board events).kernel }
+    ensures event { (board : BoardState) (event : EventOf) → WaitsAreKept board.kernel →
+        WaitsAreKept (happens board event).board.kernel }
 {}
 
 /// After every list of events from a boot no task waits for something that it could have at once: none for a wake-up
@@ -60,7 +66,8 @@ pub fn who_waits_stands_in_its_list()
 /// This is the part `each` of `WaitsAreKept`, and speaks of the waiting lists; that each task that waits for an object
 /// stands in its list is said by `who_waits_stands_in_its_list`.
 pub fn nobody_waits_for_what_is_there()
-    ensures { (image : ImageOf) (config : Configuration) (board : BoardState) (events : List EventOf) → boot image config ≡ Ok board → EachIsKept (after board events).kernel }
+    ensures { (image : ImageOf) (config : Configuration) (board : BoardState) (events : List EventOf) →
+        boot image config ≡ Ok board → EachIsKept (after board events).kernel }
 {}
 
 /// When an SC stores, and what its word was. This is for who writes locks.
@@ -124,7 +131,8 @@ pub fn who_runs_is_ready()
 /// differs in anything, nor does a register of another processor; who runs, the marks of processors, ready lists,
 /// objects, interrupt lines, faults, console and count of ticks are as they were.
 pub fn an_instruction_changes_only_its_own()
-    ensures boot { (image : ImageOf) (config : Configuration) (board : BoardState) (events : List EventOf) (event : EventOf) (address : ℕ) →
+    ensures boot { (image : ImageOf) (config : Configuration) (board : BoardState) (events : List EventOf)
+        (event : EventOf) (address : ℕ) →
         IsConfiguration config → boot image config ≡ Ok board →
         (happens (after board events) event).report ≡ report.Ran address →
         ChangesOnlyItsOwn (after board events) event address (happens (after board events) event).board }
@@ -136,12 +144,14 @@ pub fn an_instruction_changes_only_its_own()
 /// After every list of events from a boot each task stands in the ready list of a processor exactly where it is ready
 /// and assigned to it, and stands there once.
 pub fn who_is_ready_stands_in_its_list()
-    ensures listed { (image : ImageOf) (config : Configuration) (board : BoardState) (events : List EventOf) (id cpu : ℕ) →
+    ensures listed { (image : ImageOf) (config : Configuration) (board : BoardState) (events : List EventOf)
+        (id cpu : ℕ) →
         IsConfiguration config → boot image config ≡ Ok board →
         has id (ready_on (after board events).kernel.tasks cpu)
         ≡ is_ready_on (task_at (after board events).kernel.tasks id) cpu }
     ensures once { (image : ImageOf) (config : Configuration) (board : BoardState) (events : List EventOf) (cpu : ℕ) →
-        IsConfiguration config → boot image config ≡ Ok board → AreApart (ready_on (after board events).kernel.tasks cpu) }
+        IsConfiguration config → boot image config ≡ Ok board →
+        AreApart (ready_on (after board events).kernel.tasks cpu) }
 {}
 
 /// No event changes the size of RAM.

@@ -12,7 +12,8 @@ ghost use Rattle.brd_command.specs.declared.debug_line.DebugCommand.TheVariants.
 /// A line of `debug` is read as a command just where it says that command, and as none that is known just where it says
 /// none.
 pub fn lines_follow_the_grammar()
-    ensures says { (line : List ℕ) (command : DebugCommand) → command ≢ Unknown → (command_of line ≡ command) ↔ Says line command }
+    ensures says { (line : List ℕ) (command : DebugCommand) → command ≢ Unknown →
+        (command_of line ≡ command) ↔ Says line command }
     ensures unknown { (line : List ℕ) → (command_of line ≡ Unknown) ↔ ((command : DebugCommand) → ¬ Says line command) }
 {}
 

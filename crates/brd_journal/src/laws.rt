@@ -27,13 +27,15 @@ pub fn lines_follow_the_grammar()
 
 /// A text is read as a journal just where it spells runs that make that journal.
 pub fn texts_follow_the_grammar()
-    ensures { (limit : ℕ) (text : List ℕ) (journal : JournalState) → (journal_of limit text ≡ Ok journal) ↔ Says limit text journal }
+    ensures { (limit : ℕ) (text : List ℕ) (journal : JournalState) →
+        (journal_of limit text ≡ Ok journal) ↔ Says limit text journal }
 {}
 
 /// A text has a fault just where that is the fault of its first wrong line: the text spells what stands before that
 /// line, and the limit suffices for it.
 pub fn the_first_wrong_line_decides()
-    ensures { (limit : ℕ) (text : List ℕ) (fault : JournalFault) → (journal_of limit text ≡ Err fault) ↔ IsFirstFault limit text fault }
+    ensures { (limit : ℕ) (text : List ℕ) (fault : JournalFault) →
+        (journal_of limit text ≡ Err fault) ↔ IsFirstFault limit text fault }
 {}
 
 /// The text of a byte order and a list of events is read as these, where the limit suffices.

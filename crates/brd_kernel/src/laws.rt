@@ -28,8 +28,10 @@ pub fn checks_in_order<X>()
 /// one that is held is as it was; where there is no processor there is none after it.
 pub fn dispatch_gives_each_its_first()
     ensures settled { (k : KernelState) → IsSettled (dispatched k) }
-    ensures free { (k : KernelState) (cpu : ℕ) (p : ProcessorOf) → processor_at k cpu ≡ Some p → is_held p ≡ false → processor_at (dispatched k) cpu ≡ Some (record p { running = top_of k.tasks cpu }) }
-    ensures held { (k : KernelState) (cpu : ℕ) (p : ProcessorOf) → processor_at k cpu ≡ Some p → is_held p ≡ true → processor_at (dispatched k) cpu ≡ Some p }
+    ensures free { (k : KernelState) (cpu : ℕ) (p : ProcessorOf) → processor_at k cpu ≡ Some p → is_held p ≡ false →
+        processor_at (dispatched k) cpu ≡ Some (record p { running = top_of k.tasks cpu }) }
+    ensures held { (k : KernelState) (cpu : ℕ) (p : ProcessorOf) → processor_at k cpu ≡ Some p → is_held p ≡ true →
+        processor_at (dispatched k) cpu ≡ Some p }
     ensures none { (k : KernelState) (cpu : ℕ) → processor_at k cpu ≡ None → processor_at (dispatched k) cpu ≡ None }
 {}
 
@@ -39,8 +41,12 @@ pub fn dispatch_gives_each_its_first()
 /// priority, no task stands in front of one with a higher priority; no task waits for something that it could have at
 /// once; only a task that waits has a due tick, and a delay has one.
 pub fn who_waits_stands_in_its_list()
-    ensures made { (processors : ℕ) (setups : List SetupOf) (lines : List LineOf) (semaphores : List SemaphoreConfig) (flags : List FlagConfig) (queues : List QueueConfig) (spin_locks : List SpinLockConfig) → WaitsAreKept (made_kernel processors setups lines semaphores flags queues spin_locks) }
-    ensures call { (k : KernelState) (cpu : ℕ) (asked : CallOf) → WaitsAreKept k → WaitsAreKept (serve_of k cpu asked).kernel }
+    ensures made { (processors : ℕ) (setups : List SetupOf) (lines : List LineOf)
+        (semaphores : List SemaphoreConfig) (flags : List FlagConfig) (queues : List QueueConfig)
+        (spin_locks : List SpinLockConfig) →
+        WaitsAreKept (made_kernel processors setups lines semaphores flags queues spin_locks) }
+    ensures call { (k : KernelState) (cpu : ℕ) (asked : CallOf) → WaitsAreKept k →
+        WaitsAreKept (serve_of k cpu asked).kernel }
     ensures tick { (k : KernelState) → WaitsAreKept k → WaitsAreKept (ticked k) }
     ensures fault { (k : KernelState) (cpu : ℕ) → WaitsAreKept k → WaitsAreKept (ended_by_fault k cpu) }
 {}
@@ -50,7 +56,10 @@ pub fn who_waits_stands_in_its_list()
 /// one processor holds it; and a processor that holds one is CPU-locked, handles no interrupt and isn't stopped, and a
 /// task runs on it.
 pub fn a_spin_lock_has_one_holder()
-    ensures made { (processors : ℕ) (setups : List SetupOf) (lines : List LineOf) (semaphores : List SemaphoreConfig) (flags : List FlagConfig) (queues : List QueueConfig) (spin_locks : List SpinLockConfig) → AreLocks (made_kernel processors setups lines semaphores flags queues spin_locks) }
+    ensures made { (processors : ℕ) (setups : List SetupOf) (lines : List LineOf)
+        (semaphores : List SemaphoreConfig) (flags : List FlagConfig) (queues : List QueueConfig)
+        (spin_locks : List SpinLockConfig) →
+        AreLocks (made_kernel processors setups lines semaphores flags queues spin_locks) }
     ensures tick { (k : KernelState) → AreLocks k → AreLocks (ticked k) }
     ensures fault { (k : KernelState) (cpu : ℕ) → AreLocks k → AreLocks (ended_by_fault k cpu) }
     ensures dispatch { (k : KernelState) → AreLocks k → AreLocks (dispatched k) }

@@ -9,7 +9,10 @@ ghost use Rattle.brd_listing.specs.Places.{is_below, nearest_of};
 /// Of the symbols below an address none has a greater value than the nearest; where there is no nearest one, none is
 /// below the address.
 pub fn nearest_has_the_greatest_value()
-    ensures below { (symbols : List Symbol) (address : ℕ) (s : Symbol) → nearest_of symbols address ≡ Some s → is_below address s ≡ true }
-    ensures greatest { (symbols : List Symbol) (address : ℕ) (s : Symbol) → nearest_of symbols address ≡ Some s → AllByRecursion (λ t. is_below address t ≡ true → t.value ≤ s.value) symbols }
-    ensures none { (symbols : List Symbol) (address : ℕ) → address < top → nearest_of symbols address ≡ None → AllByRecursion (λ t. is_below address t ≡ false) symbols }
+    ensures below { (symbols : List Symbol) (address : ℕ) (s : Symbol) → nearest_of symbols address ≡ Some s →
+        is_below address s ≡ true }
+    ensures greatest { (symbols : List Symbol) (address : ℕ) (s : Symbol) → nearest_of symbols address ≡ Some s →
+        AllByRecursion (λ t. is_below address t ≡ true → t.value ≤ s.value) symbols }
+    ensures none { (symbols : List Symbol) (address : ℕ) → address < top → nearest_of symbols address ≡ None →
+        AllByRecursion (λ t. is_below address t ≡ false) symbols }
 {}

@@ -27,12 +27,14 @@ pub fn lines_have_names()
 
 /// The instruction of a line has the operands that its mnemonic takes, none left out.
 pub fn instructions_have_their_operands()
-    ensures { (bytes : List ℕ) (line : Line) (i : Instruction) → line_of bytes ≡ Some line → line.statement ≡ Instruct i → are_of (form_of i.mnemonic) i.operands ≡ true }
+    ensures { (bytes : List ℕ) (line : Line) (i : Instruction) → line_of bytes ≡ Some line →
+        line.statement ≡ Instruct i → are_of (form_of i.mnemonic) i.operands ≡ true }
 {}
 
 /// What is read as a line is just what has the form of one, by the tokens that its bytes have, and so by any tokens
 /// that its bytes spell; and it is read as what these say.
 pub fn lines_follow_the_grammar()
     ensures exact { (bytes : List ℕ) (line : Line) → (line_of bytes ≡ Some line) ↔ LineIs (tokens_of bytes) line }
-    ensures spelled { (bytes : List ℕ) (line : Line) → (line_of bytes ≡ Some line) ↔ ((tokens : List Token) × SpellsLine bytes tokens × LineIs tokens line) }
+    ensures spelled { (bytes : List ℕ) (line : Line) →
+        (line_of bytes ≡ Some line) ↔ ((tokens : List Token) × SpellsLine bytes tokens × LineIs tokens line) }
 {}

@@ -17,7 +17,9 @@ pub fn spelled_tokens_are_scanned()
 pub fn lines_are_what_newlines_part()
     ensures joined { (text : List ℕ) → join_with_byte 10 (lines_of text) ≡ text }
     ensures apart { (text : List ℕ) → AllByRecursion (λ line. list_all stays_on line ≡ true) (lines_of text) }
-    ensures only { (line : List ℕ) (others : List (List ℕ)) → AllByRecursion (λ line. list_all stays_on line ≡ true) (line ∷ others) → lines_of (join_with_byte 10 (line ∷ others)) ≡ line ∷ others }
+    ensures only { (line : List ℕ) (others : List (List ℕ)) →
+        AllByRecursion (λ line. list_all stays_on line ≡ true) (line ∷ others) →
+        lines_of (join_with_byte 10 (line ∷ others)) ≡ line ∷ others }
 {}
 
 /// The digits of a word spell that word.
