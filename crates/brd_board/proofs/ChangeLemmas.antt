@@ -47,9 +47,6 @@ runners-set (x ∷ ps) (suc cpu) (suc at) p q is same = runners-set ps cpu at p 
 runs : (new old : KernelState) → Same new old → KeepsRunners new old
 runs new old same = λ at. ap (λ ps. running_in (slice_index_or ps at None)) same.processors
 
-keeps-by : {new old : List (Option Processor)} → new ≡ old → (at : ℕ) → running_in (slice_index_or new at None) ≡ running_in (slice_index_or old at None)
-keeps-by same at = ap (λ ps. running_in (slice_index_or ps at None)) same
-
 -- Service calls.
 
 keeps-unmarked : (k : KernelState) (cpu : ℕ) (found : Option Processor) → processor_at k cpu ≡ found → KeepsRunners (unmarked_on k cpu found) k

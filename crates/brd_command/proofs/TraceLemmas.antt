@@ -38,11 +38,6 @@ first-some IsFirst old mid new first is written more =
 
 -- How writing ended, by how its last part did.
 
-pub rest-some : (old mid new : Option (List ℕ)) (result : Result Unit CommandFault) → AppendsSome old mid
-    → MatchResult result (λ _. AppendsSome mid new) IsOfWriting → MatchResult result (λ _. AppendsSome old new) IsOfWriting
-rest-some old mid new (Ok done) so_far more = some-some old mid new so_far more
-rest-some old mid new (Err fault) so_far of = of
-
 pub last-some : (old mid new : Option (List ℕ)) (bytes : List ℕ) (result : Result Unit CommandFault) → AppendsSome old mid
     → MatchResult result (λ _. Appends mid new bytes) IsOfWriting → MatchResult result (λ _. AppendsSome old new) IsOfWriting
 last-some old mid new bytes (Ok done) so_far more = some-more old mid new bytes so_far more

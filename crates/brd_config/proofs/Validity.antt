@@ -319,9 +319,6 @@ board_ok line processors ram c e =
       handler_lines = λ i j d lt below. absurd (omega arith);
     })
 
-abbrev starting : State × Text → Result (State × Text) ConfigFault
-starting x = Ok x
-
 first_board_ok : (line : ℕ) (t : Text) (s : State × Text) → first_board line t ≡ Ok s → IsState s.0
 unfolding first_board
 first_board_ok line t s e =

@@ -38,13 +38,6 @@ marked-by false rings marks new cpu p value xs c q test was listed small now is 
     let mark : mark_at new c q ≡ mark_at marks c q = grind (arith, nat_tests, now, test) in
     mark ∙ was.marked c q on within ∙ ap mark_of (sym ring)
 
-own-mark : (own : Bool) (marks : List ℕ) (cpu p c q : ℕ) → ((cpu == c) && (p == q)) ≡ own → mark_at marks c q ≡ (if (cpu == c) && (p == q) then mark_at marks cpu p else mark_at marks c q)
-own-mark true marks cpu p c q test =
-    let cpu_is : cpu ≡ c = grind (arith, nat_tests, test) in
-    let p_is : p ≡ q = grind (arith, nat_tests, test) in
-    ap (λ d. mark_at marks d q) (sym cpu_is) ∙ ap (mark_at marks cpu) (sym p_is) ∙ rw test refl
-own-mark false marks cpu p c q test = rw test refl
-
 mark_of-none : (xs : List ℕ) → is_some (head_of xs) ≡ false → mark_of xs ≡ 0
 mark_of-none [] none = refl
 mark_of-none (x ∷ xs) none = absurd (true≢false none)
