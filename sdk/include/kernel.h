@@ -115,7 +115,8 @@ KERNEL_CALL ER prcv_dtq(ID dtqid, VP_INT *p_data) { return kernel_second(kernel_
 KERNEL_CALL ER trcv_dtq(ID dtqid, VP_INT *p_data, TMO tmout)
 { return kernel_second(kernel_2(39, dtqid, tmout), (UINT *)p_data); }
 
-/* Spin locks between processors, as in TOPPERS/FMP. Who holds one is CPU-locked until unl_spn. */
+/* Spin locks between processors: the calls are those of TOPPERS/FMP, how they behave is the board's own. Who holds one
+   is CPU-locked until unl_spn. */
 KERNEL_CALL ER loc_spn(ID spnid) { return kernel_1(60, spnid).first; }
 KERNEL_CALL ER try_spn(ID spnid) { return kernel_1(61, spnid).first; }
 KERNEL_CALL ER unl_spn(ID spnid) { return kernel_1(62, spnid).first; }

@@ -247,14 +247,14 @@ one-moves (Step at) cpu other is also = sym (same-number at other also) ∙ same
 one-moves Tick cpu other is also = absurd (false≢true is)
 one-moves (Raise line) cpu other is also = absurd (false≢true is)
 
-freed-by : (one two : Bool) (event : Event) (k new : KernelState) (id cpu other : ℕ) → mover event cpu ≡ one →
+stays-by : (one two : Bool) (event : Event) (k new : KernelState) (id cpu other : ℕ) → mover event cpu ≡ one →
     mover event other ≡ two →
     Passes (mover event) k new → IsLocking k → holds id (processor_at k cpu) ≡ true → holds id
     (processor_at new other) ≡ true → other ≡ cpu
-freed-by true true event k new id cpu other test also passes was held now = one-moves event cpu other test also
-freed-by one false event k new id cpu other test also passes was held now =
+stays-by true true event k new id cpu other test also passes was held now = one-moves event cpu other test also
+stays-by one false event k new id cpu other test also passes was held now =
     was.one cpu other id held (sym (passes.others other id also) ∙ now)
-freed-by false two event k new id cpu other test also passes was held now =
+stays-by false two event k new id cpu other test also passes was held now =
     passes.locking.one cpu other id (passes.others cpu id test ∙ held) now
 
 goes-on : (b : BoardState) (event : Event) → IsLocking b.kernel → LocksGoOn b event (happens b event).board
@@ -265,7 +265,7 @@ goes-on b event was =
       kept = λ id cpu is other.
           holds-held new id cpu passes.locking
           (passes.others cpu id (other-moves event cpu other) ∙ held-holds b.kernel id cpu was is);
-      freed = λ id cpu other is now. freed-by (mover event cpu)
+      stays = λ id cpu other is now. stays-by (mover event cpu)
           (mover event other) event b.kernel new id cpu other refl refl passes was
           (held-holds b.kernel id cpu was is) (held-holds new id other passes.locking now);
       taken = λ id cpu is now. taken-by (mover event cpu) event b new id cpu refl passes is was

@@ -12,9 +12,9 @@ pub record LocksGoOn (b : BoardState) (event : Event) (new : BoardState) : Type 
   pub kept : (id cpu : ℕ) → spin_lock_of b id ≡ Some (Held cpu) → (event ≡ Step cpu → ⊥) →
       spin_lock_of new id ≡ Some (Held cpu)
   -- it never passes from one processor to another in one event
-  pub freed : (id cpu other : ℕ) → spin_lock_of b id ≡ Some (Held cpu) → spin_lock_of new id ≡ Some (Held other) →
+  pub stays : (id cpu other : ℕ) → spin_lock_of b id ≡ Some (Held cpu) → spin_lock_of new id ≡ Some (Held other) →
       other ≡ cpu
   -- who takes one does so by a step
   pub taken : (id cpu : ℕ) → spin_lock_of b id ≡ Some Free → spin_lock_of new id ≡ Some (Held cpu) → event ≡ Step cpu
-  -- whose task runs on a processor that holds one after the event, ran on it before: the one that took it, or has it
+  -- a processor that holds one after the event runs the task that it ran before it: the one that took the lock
   pub runs : (id cpu : ℕ) → spin_lock_of new id ≡ Some (Held cpu) → running_on new.kernel cpu ≡ running_on b.kernel cpu

@@ -273,7 +273,8 @@ get_tid k caller = record (on_nothing k) { does = λ x. ok_with k caller }
 abbrev pub mark_dsp : KernelState → ℕ → Bool → Row Processor
 mark_dsp k cpu disabled = record (on_own_processor k cpu) { does = λ p. ok (with_processor k cpu (record p { disabled = disabled })) }
 
--- 14 loc_cpu, 15 unl_cpu. From then on the caller's processor is CPU-locked, or not; it may have been so before.
+-- 14 loc_cpu, 15 unl_cpu. From then on the caller's processor is CPU-locked, or not; it may have been so before. (While
+-- the processor holds a spin lock, the gate refuses unl_cpu: CTX.)
 abbrev pub mark_cpu : KernelState → ℕ → Bool → Row Processor
 mark_cpu k cpu locked = record (on_own_processor k cpu) { does = λ p. ok (with_processor k cpu (record p { locked = locked })) }
 
@@ -388,7 +389,7 @@ tsnd_dtq k caller id datum timeout = record (on_queue k id) {
   does = λ q. queue_sent k caller id datum timeout (outcome q);
 }
 
--- 36 fsnd_dtq Q, datum, 54 ifsnd_dtq Q, datum. Refuses: ILUSE it stores nothing. Sends a datum, for which a full queue
+-- 36 fsnd_dtq Q, datum, 54 ifsnd_dtq Q, datum. Refuses: ILUSE its capacity is 0. Sends a datum, for which a full queue
 -- gives its oldest one up.
 abbrev pub fsnd_dtq : KernelState → ℕ → ℕ → Row DataQueueState
 fsnd_dtq k id datum = record (on_queue k id) {
@@ -409,7 +410,7 @@ trcv_dtq k caller id timeout = record (on_queue k id) {
   does = λ q. queue_received k caller id timeout (receipt q);
 }
 
--- 40 put_chr byte. Refuses: QOVR the console is full.
+-- 40 put_chr byte. Refuses: QOVR the console is full. Appends the low byte to the console.
 abbrev pub put_chr : KernelState → ℕ → Row (Unit {0})
 put_chr k word = record (on_nothing k) {
   qovr = λ x. nat_le console_size (length k.console);

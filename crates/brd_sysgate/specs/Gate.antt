@@ -205,7 +205,7 @@ called_in k cpu caller None = k
 called_in k cpu caller (Some s) = called_for k cpu (read_of s caller)
 
 -- A SYSCALL: the call is read from the registers. Where it is to be made again, context and kernel stay as they are, so
--- that it is the processor's next instruction once more. Else the context goes on as after an ordinary instruction, the
+-- that it is the caller's next instruction once more. Else the context goes on as after an ordinary instruction, the
 -- call is served, and its reply is written.
 unfoldable pub called : KernelState → ℕ → KernelState
 called k cpu = called_in k cpu (caller_of k cpu) (context_on k cpu)
