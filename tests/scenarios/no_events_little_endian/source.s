@@ -1,0 +1,3 @@
+# A journal without events that says the byte order: the little-endian board as it was booted.
+        .byteorder little
+_start: nop
