@@ -64,6 +64,10 @@ verdict "race: a little-endian board: its journal" "$(replays "$work/little" "$w
 report 6 3 80000000
 race "a script alone" 0 "$work/report" "" "$work/loop" "$work/one" "$work/script" 0
 records "a script alone" "T 2" "R 31 3" "T 1"
+printf 'T 2\nT 3\n' > "$work/text"
+report 5 5 80000000
+race "ticks in two lines" 0 "$work/report" "" "$work/loop" "$work/one" "$work/text" 0
+records "ticks in two lines" "T 5"
 report 1000006 3 80000000
 race "the greatest quota" 0 "$work/report" "" "$work/loop" "$work/one" "$work/script" 1000000
 verdict "race: the greatest quota: its steps" "$([ "$(counted 'S 1')" = 1000000 ] || echo "there are $(counted 'S 1')")"
