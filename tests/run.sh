@@ -42,7 +42,7 @@ for report in examples/*/*.report; do
 done
 
 # Processors that add to one word, fifty times each, under a spin lock: they step in turn, and nothing is lost.
-# added PROCESSORS EVENTS CONFIG COUNT: the word at the end is COUNT, four hexadecimal digits, and all are idle.
+# added PROCESSORS EVENTS CONFIG WORD: the word at the end is WORD, a byte after the other, and all are idle.
 added() {
     awk -v n="$1" -v events="$2" 'BEGIN {
         print "board-journal 1"
@@ -50,13 +50,14 @@ added() {
     }' > "$work/journal"
     "$board" run "$work/image" "$3" "$work/journal" > "$work/out" 2>&1
     idle=$(grep -c '^cpu [1-8] idle$' "$work/out")
-    count=$(printf 'goto %s\nmem 80001002\nmem 80001003\n' "$2" | "$board" debug "$work/image" "$3" "$work/journal" 2>&1)
+    word=$(printf 'goto %s\nmem 80001000\nmem 80001001\nmem 80001002\nmem 80001003\n' "$2" \
+        | "$board" debug "$work/image" "$3" "$work/journal" 2>&1)
     verdict "run: $1 processors add under a spin lock" \
-        "$([ "$idle ${count//$'\n'/ }" = "$1 at $2 ${4:0:2} ${4:2:2}" ] || echo "$idle are idle; the count: ${count//$'\n'/ }")"
+        "$([ "$idle ${word//$'\n'/ }" = "$1 at $2 $4" ] || echo "$idle are idle; the word: ${word//$'\n'/ }")"
 }
 "$board" asm tests/locked/adders.s "$work/image" 2> "$work/err" || fail "run: the adders" "$(cat "$work/err")"
-added 2 10000 tests/locked/two.cfg 0064
-added 8 40000 tests/locked/eight.cfg 0190
+added 2 10000 tests/locked/two.cfg "00 00 00 64"
+added 8 40000 tests/locked/eight.cfg "00 00 01 90"
 
 # The files are opened in the order of the arguments, before any is read.
 hello=tests/scenarios/hello
