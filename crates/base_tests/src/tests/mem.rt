@@ -19,10 +19,18 @@ const SIZES: &[(u32, bool)] = &[
     (4_294_967_295, false),
 ];
 
+/// Whether RAM has this size where it fits, and is refused as of a bad size where it doesn't.
+fn is_made_or_bad(alloc: Global, size: u32, fits: bool) -> bool {
+    match Ram::new(alloc, size, Order::Big) {
+        Ok(_) => fits,
+        Err(fault) => !fits && matches!(fault, RamFault::BadSize),
+    }
+}
+
 /// The first size that isn't as it says.
 fn first_wrong_size(alloc: Global) -> Option<u32> {
     for (size, fits) in SIZES {
-        if is_ram_size(*size) != *fits || Ram::new(alloc, *size, Order::Big).is_ok() != *fits {
+        if is_ram_size(*size) != *fits || !is_made_or_bad(alloc, *size, *fits) {
             return Some(*size);
         }
     }
