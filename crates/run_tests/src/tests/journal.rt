@@ -89,7 +89,9 @@ fn appended_up_to_the_limit(rt: HostRuntime) {
     let mut journal = Journal::new(rt.alloc(), 2, Order::Big);
     assert!(rt;
         push_all(&mut journal, EVENTS) == 4
+            && is_answer(journal.push(Event::Step(2)), true)
             && is_answer(journal.push(Event::Raise(4)), true)
+            && journal.len() == 4
             && has_runs(&journal, FOUR)
     );
 }
