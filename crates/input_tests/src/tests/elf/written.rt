@@ -1,7 +1,7 @@
 //! Files that are written.
 
 use super::{ASSEMBLED, ASSEMBLED_SHOWN, is_read_as, put_segment};
-use brd_elf::{ElfFault, read, write};
+use brd_elf::write;
 use brd_mem::{Bytes, Image, Segments, Symbol, Symbols, is_plain};
 use std::alloc::Global;
 use std::test::Fail;
@@ -131,48 +131,4 @@ fn first_wrong(alloc: Global) -> Option<usize> {
 #[test]
 fn images_are_written(rt: HostRuntime) -> Result<(), Fail> {
     none_wrong(first_wrong(rt.alloc()))
-}
-
-/// Whether an image is that of `ASSEMBLED`, which takes no memory to see. `words` are the bytes of its words.
-fn is_of_assembled(image: &Image, words: &[u8]) -> bool {
-    let [segment] = image.segments.as_slice() else {
-        return false;
-    };
-    let [start, d] = image.symbols.as_slice() else {
-        return false;
-    };
-    image.entry == 0x8000_0000
-        && segment.bytes.as_slice() == words
-        && start.name.as_slice() == b"_start".as_slice()
-        && d.name.as_slice() == b"d".as_slice()
-}
-
-/// Whether memory runs out when an image is written, or this is its file.
-fn is_written_or_refused(alloc: Global, image: &Image, file: &[u8]) -> bool {
-    if !is_plain(image) {
-        return false;
-    }
-    match write(alloc, image) {
-        Ok(written) => written.as_slice() == file,
-        Err(_) => true,
-    }
-}
-
-/// Whether memory runs out when the file `ASSEMBLED` is read, or its image is right, and is written so.
-fn is_read_or_refused(alloc: Global, file: &[u8]) -> bool {
-    let Some(words) = file.get(84..100) else {
-        return false;
-    };
-    match read(alloc, file) {
-        Ok(image) => {
-            is_of_assembled(&image, words) && is_written_or_refused(alloc, &image, file)
-        }
-        Err(fault) => fault == ElfFault::NoMemory,
-    }
-}
-
-/// For a run in which a growth is refused (`rt try --test --fail-alloc N`): memory ran out, or the answer is the same.
-#[test]
-fn refused_growths(rt: HostRuntime) {
-    assert!(rt; is_read_or_refused(rt.alloc(), &ASSEMBLED));
 }
