@@ -13,8 +13,8 @@ use brd_board::Board;
 use brd_config::parse;
 use brd_mem::Image;
 use brd_threads::{
-    Blanks, CommitFault, Open, Outer, Race, RaceFault, ScriptFault, Share, Station, processors,
-    race, read_script,
+    Blanks, CommitFault, Open, Outer, Race, RaceFault, ScriptFault, Share, Station, StationFault,
+    processors, race, read_script,
 };
 use std::alloc::Global;
 use std::io;
@@ -177,8 +177,10 @@ fn stationed<K: Race>(
 ) -> Result<Option<Left>>
     requires { AreOf K.names blanks }
 {
-    let Ok((mut station, mut shares)) = Station::<K>::new(alloc, boot, script, LIMIT, blanks) else {
-        return Ok(None);
+    let (mut station, mut shares) = match Station::<K>::new(alloc, boot, script, LIMIT, blanks) {
+        Ok(made) => made,
+        Err(StationFault::NoMemory) => return Ok(None),
+        Err(fault) => bail!("{fault}"),
     };
     all_done(&mut station, shares.as_mut_slice(), often)?;
     Ok(Some(left_of(&station)))
