@@ -5,6 +5,7 @@ ghost use Rattle.brd_ledgers.specs.Blanks.{AreOf};
 
 use crate::tests::boards::{LOOP, TWO, board_of};
 use brd_board::{Board, Event, Report};
+use brd_journal::Run;
 use brd_threads::{Blanks, CommitFault, Outer, Race, Share, Station, StationFault};
 use std::alloc::Global;
 use std::marker::Brand;
@@ -53,6 +54,12 @@ fn does_each<K: Race>(station: &mut Station<K>, share: &mut Share<K>) -> bool {
         && station.is_done()
 }
 
+/// 64 steps of processor 1 in a row.
+const LEASED: &[Run] = &[Run {
+    event: Event::Step(1),
+    count: 64,
+}];
+
 /// Whether a lease is good for 64 local instructions, and their commit for as many steps.
 fn leases_all<K: Race>(station: &mut Station<K>, share: &mut Share<K>) -> bool {
     let cpu = share.cpu();
@@ -66,7 +73,7 @@ fn leases_all<K: Race>(station: &mut Station<K>, share: &mut Share<K>) -> bool {
         return false;
     }
     station.commit(lease, share) == Ok(64)
-        && station.journal().len() == 64
+        && station.journal().runs() == LEASED
         && station.steps(cpu) == Some(64)
         && share.count() == 64
 }
@@ -146,7 +153,7 @@ fn goes_well(alloc: Global, boot: &Board, limit: u32, scene: Scene) -> bool
 #[derive(Clone, Copy)]
 struct Between {
     name: &'static str,
-    /// The code of task 2, which runs on processor 2, from 0x80000100 on.
+    /// The code of task 2, which runs on processor 2, from 0x80001000 on.
     code: &'static [u32],
     /// How many steps processor 2 does.
     steps: u32,
@@ -158,7 +165,7 @@ struct Between {
 const THREE: &str = "BOARD(2, 0x10000);
 CRE_TSK(1, {TA_ACT, 0, 0x80000000, 2, 256, NULL});
 CRE_TSK(3, {0, 0, 0x80000000, 1, 256, NULL});
-CLASS(TCL_2) { CRE_TSK(2, {TA_ACT, 0, 0x80000100, 1, 256, NULL}); }
+CLASS(TCL_2) { CRE_TSK(2, {TA_ACT, 0, 0x80001000, 1, 256, NULL}); }
 ";
 
 const BETWEEN: &[Between] = &[
@@ -200,7 +207,7 @@ fn board_between(alloc: Global, case: &Between) -> Option<Board> {
     for word in LOOP {
         words.push(*word).ok()?;
     }
-    for _ in LOOP.len()..64 {
+    for _ in LOOP.len()..1024 {
         words.push(0).ok()?;
     }
     for word in case.code {
