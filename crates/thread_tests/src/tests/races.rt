@@ -7,6 +7,7 @@ ghost use Rattle.brd_threads.specs.Processors.{processors_of};
 
 use crate::tests::boards::{LOOP, TWO, board_of};
 use brd_board::{Board, Event};
+use brd_journal::Journal;
 use brd_threads::{
     Blanks, Gate, Open, Outer, Race, RaceFault, Station, driver, processors, race, worker,
 };
@@ -18,8 +19,14 @@ use std::thread::Threads;
 /// What is seen of a station after a race.
 #[derive(Clone, Copy, Debug, PartialEq, Eq)]
 pub struct Totals {
+    /// The steps of processor 1 in the journal.
+    pub first: u64,
+    /// Those of processor 2.
+    pub second: u64,
     /// The steps of all processors.
     pub steps: u64,
+    /// The ticks in the journal.
+    pub ticks: u64,
     /// The ticks and raises.
     pub outers: u64,
     /// The runs of the journal.
@@ -48,6 +55,17 @@ fn steps_of<K: Race>(station: &Station<K>) -> u64 {
     steps
 }
 
+/// How often an event is in a journal.
+fn count_of(journal: &Journal, event: Event) -> u64 {
+    let mut count = 0u64;
+    for run in journal.runs() {
+        if run.event == event {
+            count = count.saturating_add(u64::from(run.count));
+        }
+    }
+    count
+}
+
 /// What a race leaves, on ledgers of these blanks.
 fn raced<K: Race + Send + Sync, G: Gate + Sync, R: Threads + Wait + Sync>(
     rt: &R,
@@ -66,7 +84,10 @@ fn raced<K: Race + Send + Sync, G: Gate + Sync, R: Threads + Wait + Sync>(
     let station = race::<K, G, R>(rt, alloc, boot, script, quotas, limit, gate, blanks)?;
     let steps = steps_of(&station);
     Ok(Totals {
+        first: count_of(station.journal(), Event::Step(1)),
+        second: count_of(station.journal(), Event::Step(2)),
         steps,
+        ticks: count_of(station.journal(), Event::Tick),
         outers: station.journal().len().saturating_sub(steps),
         runs: station.journal().runs().len(),
         is_off: station.board().is_off(),
@@ -113,6 +134,33 @@ CLASS(TCL_7) { CRE_TSK(7, {TA_ACT, 0, 0x80000000, 1, 256, NULL}); }
 CLASS(TCL_8) { CRE_TSK(8, {TA_ACT, 0, 0x80000000, 1, 256, NULL}); }
 ";
 
+/// Each task adds 1 to the word at 0x80001000 fifty times, each time while its processor holds spin lock 1
+/// (`tests/locked/adders.s`).
+const ADDERS: &[u32] = &[
+    0x3c10_8000, // lui $s0, 0x8000
+    0x2411_0032, // addiu $s1, $0, 50
+    0x2404_0001, // addiu $a0, $0, 1
+    0x2402_003c, // addiu $v0, $0, 60: loc_spn
+    0x0000_000c, // syscall
+    0x8e08_1000, // lw $t0, 0x1000($s0)
+    0x2508_0001, // addiu $t0, $t0, 1
+    0xae08_1000, // sw $t0, 0x1000($s0)
+    0x2402_003e, // addiu $v0, $0, 62: unl_spn
+    0x0000_000c, // syscall
+    0x2631_ffff, // addiu $s1, $s1, -1
+    0x1620_fff7, // bnez $s1, to the call of loc_spn
+    0x0000_0000, // nop
+    0x2402_0003, // addiu $v0, $0, 3: ext_tsk
+    0x0000_000c, // syscall
+];
+
+/// Two processors with a task each, at the first word, and a spin lock.
+const LOCKED: &str = "BOARD(2, 0x10000);
+CRE_SPN(1, {TA_NULL});
+CRE_TSK(1, {TA_ACT, 0, 0x80000000, 1, 256, NULL});
+CLASS(TCL_2) { CRE_TSK(2, {TA_ACT, 0, 0x80000000, 1, 256, NULL}); }
+";
+
 /// Two processors: task 1 calls ext_ker with its second instruction, task 2 is a loop.
 const OFF_WORDS: &[u32] = &[0x2402_0029, 0x0000_000c, 0x1000_ffff, 0];
 
@@ -130,7 +178,13 @@ fn all_is_done(rt: HostRuntime) {
     };
     let done = raced_on(&rt, alloc, &boot, TICKS, &[100, 100], 1000, &Open);
     assert!(rt;
-        matches!(done, Ok(left) if left.steps == 200 && left.outers == 5 && left.is_replay && !left.is_off),
+        matches!(done, Ok(left) if left.first == 100
+            && left.second == 100
+            && left.steps == 200
+            && left.ticks == 5
+            && left.outers == 5
+            && left.is_replay
+            && !left.is_off),
         "{done:?}"
     );
     let nothing = raced_on(&rt, alloc, &boot, &[], &[0, 0], 0, &Open);
@@ -156,26 +210,32 @@ fn journal_of_one_run(rt: HostRuntime) {
     );
 }
 
-/// Eight processors.
+/// The words and the configuration of a board on which every quota is met, the quotas, and how many steps these are.
+type Met = (&'static [u32], &'static str, &'static [u64], u64);
+
+const MET: &[Met] = &[
+    (LOOP, EIGHT, &[20, 20, 20, 20, 20, 20, 20, 20], 160),
+    (ADDERS, LOCKED, &[1_000, 1_000], 2_000),
+];
+
+/// Whether a race does that, and its journal makes its board.
+fn meets<R: Threads + Wait + Sync>(rt: &R, alloc: Global, row: &Met) -> bool {
+    let (words, config, quotas, steps) = *row;
+    match board_of(alloc, words, config) {
+        Some(boot) => matches!(
+            raced_on(rt, alloc, &boot, TICKS, quotas, 100_000, &Open),
+            Ok(left) if left.steps == steps && left.outers == 5 && left.is_replay
+        ),
+        None => false,
+    }
+}
+
+/// Eight processors; two that want one spin lock.
 #[test]
-fn eight_workers(rt: HostRuntime) {
-    let alloc = rt.alloc();
-    let Some(boot) = board_of(alloc, LOOP, EIGHT) else {
-        return assert!(rt; false, "no board");
-    };
-    let done = raced_on(
-        &rt,
-        alloc,
-        &boot,
-        TICKS,
-        &[20, 20, 20, 20, 20, 20, 20, 20],
-        1000,
-        &Open,
-    );
-    assert!(rt;
-        matches!(done, Ok(left) if left.steps == 160 && left.outers == 5 && left.is_replay),
-        "{done:?}"
-    );
+fn quotas_are_met(rt: HostRuntime) {
+    for row in MET {
+        assert!(rt; meets(&rt, rt.alloc(), row), "{}", row.1);
+    }
 }
 
 /// A board that goes off in the middle ends the race, which isn't broken.
