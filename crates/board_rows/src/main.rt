@@ -7,6 +7,7 @@
 //!   a tick, `a` to `z` are raises of lines 0 to 25. After it stand the reports, a byte each (r `Ran`, c `Called`, f
 //!   `Faulted`, i `Idle`, s `Stopped`, o `Off`, n `NoSuch`, t `Ticked`, O `TimeOver`, a `Accepted`, R `Raised`), and
 //!   what the board shows;
+//! - `t EVENTS` does the same, and after the letter of a report stands its address or its line, where it has one;
 //! - `l CPU` boots the board, if it isn't yet, and has it lend a processor, in place of what it lent before; tells
 //!   `lent` or `none`;
 //! - `r LIMIT` does instructions under the lease, at most n, and tells how many they are, and how many in all;
@@ -79,12 +80,29 @@ fn letter_of(report: Report) -> char {
     }
 }
 
-/// Does events, and tells their reports.
-fn play(alloc: Global, board: &mut Board, events: &str) -> Result<String, AllocError> {
+/// Tells the address or the line that a report has.
+fn tell_place(text: &mut String, report: Report) -> Result<(), AllocError> {
+    match report {
+        Report::Ran(at) | Report::Called(at) | Report::Faulted(at) => write!(text, "({at:08x})"),
+        Report::Accepted(line) => write!(text, "({line})"),
+        _ => Ok(()),
+    }
+}
+
+/// Does events, and tells their reports, also the places that these have if they are wanted.
+fn play(
+    alloc: Global,
+    board: &mut Board,
+    events: &str,
+    with_places: bool,
+) -> Result<String, AllocError> {
     let mut reports = String::new(alloc);
     for byte in events.as_bytes() {
         let report = board.event(event_of(*byte));
         reports.push(letter_of(report))?;
+        if with_places {
+            tell_place(&mut reports, report)?;
+        }
     }
     Ok(reports)
 }
@@ -226,16 +244,21 @@ fn boot(alloc: Global, scene: &mut Scene) -> Result<Option<&'static str>, AllocE
     Ok(None)
 }
 
-/// Does events on the board of a scene, which is booted first if it isn't yet. Tells the reports and what the board
-/// shows.
-fn played(alloc: Global, scene: &mut Scene, events: &str) -> Result<String, AllocError> {
+/// Does events on the board of a scene, which is booted first if it isn't yet. Tells the reports, also their places if
+/// these are wanted, and what the board shows.
+fn played(
+    alloc: Global,
+    scene: &mut Scene,
+    events: &str,
+    with_places: bool,
+) -> Result<String, AllocError> {
     if let Some(fault) = boot(alloc, scene)? {
         return String::from_str(alloc, fault);
     }
     let Some(board) = &mut scene.board else {
         return Ok(String::new(alloc));
     };
-    let mut text = play(alloc, board, events)?;
+    let mut text = play(alloc, board, events, with_places)?;
     show(&mut text, board)?;
     Ok(text)
 }
@@ -349,7 +372,10 @@ fn took(scene: &mut Scene, line: &str) -> Result<bool, AllocError> {
 /// What is printed after a line, if anything is.
 fn told(alloc: Global, scene: &mut Scene, line: &str) -> Result<Option<String>, AllocError> {
     if let Some(events) = line.strip_prefix("e ") {
-        return Ok(Some(played(alloc, scene, events)?));
+        return Ok(Some(played(alloc, scene, events, false)?));
+    }
+    if let Some(events) = line.strip_prefix("t ") {
+        return Ok(Some(played(alloc, scene, events, true)?));
     }
     if let Some(cpu) = line.strip_prefix("l ") {
         let told = lent(alloc, scene, cpu)?;
