@@ -19,7 +19,7 @@ pub fn lines_follow_the_grammar()
 
 /// A race is its journal's run: for the journal that `race` writes, `run` shows the report that `race` prints, over the
 /// same object file and configuration, where that journal is no longer than an input may be. (Its 4,194,304 runs, in
-/// lines of at most 17 bytes, come to 71,303,184 with the first line.)
+/// lines of at most 17 bytes, come to at most 71,303,191 with the first line.)
 pub fn races_replay()
     ensures { (quota : ℕ) (image config text journal report : List ℕ) → length journal ≤ most_bytes
         → ShowsRace quota image config text journal report → ShowsRun image config journal report }

@@ -1,8 +1,8 @@
 //! The commands of the program `board`, over readers, writers and files.
 //!
 //! `specs/WordsCommand.antt`, `specs/AsmCommand.antt`, `specs/RunCommand.antt`, `specs/RaceCommand.antt`,
-//! `specs/JournalCommand.antt` and `specs/Debugging.antt` say what a command writes for what it reads, and which faults
-//! keep it from that; `specs/Files.antt` which files are opened, and in which order.
+//! `specs/TraceCommand.antt`, `specs/JournalCommand.antt` and `specs/Debugging.antt` say what a command writes for what
+//! it reads, and which faults keep it from that; `specs/Files.antt` which files are opened, and in which order.
 #![tactic(auto)]
 
 mod asm_command;

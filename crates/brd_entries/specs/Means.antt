@@ -13,13 +13,13 @@ use Rattle.brd_exec.specs.Step.{has_slot}
 use Rattle.brd_entries.specs.declared.entry.Entry.{Entry}
 
 -- an instruction that goes on to the next one and changes nothing else, whatever the context is
-pub record GoesOn (insn : Insn) : Type 0 where
+pub record OnlyGoesOn (insn : Insn) : Type 0 where
   pub on : (s : State) → action insn s ≡ Action.Local (advanced s)
   pub slot : has_slot insn ≡ false
 
 -- the word is one that stands for such an instruction
 abbrev pub IsNop : Option Insn → Type 0
-IsNop decoded = (insn : Insn) × (decoded ≡ Some insn) × GoesOn insn
+IsNop decoded = (insn : Insn) × (decoded ≡ Some insn) × OnlyGoesOn insn
 
 -- how many words a branch's target is ahead of the branch: its offset counts from the delay slot
 abbrev pub reach_of : ℕ → ℕ
@@ -30,8 +30,8 @@ abbrev pub Extends : (ℕ → Insn) → ℕ → Option Insn → Type 0
 Extends insn_with word decoded = (n : ℕ) × (decoded ≡ Some (insn_with n)) × (word ≡ sign_extended16 n)
 
 -- the instruction with an immediate of 16 bits, of which the entry has the word with that high half
-abbrev pub Raises : (ℕ → Insn) → ℕ → Option Insn → Type 0
-Raises insn_with word decoded = (n : ℕ) × (decoded ≡ Some (insn_with n)) × (word ≡ n * 2 ^ 16)
+abbrev pub InHighHalf : (ℕ → Insn) → ℕ → Option Insn → Type 0
+InHighHalf insn_with word decoded = (n : ℕ) × (decoded ≡ Some (insn_with n)) × (word ≡ n * 2 ^ 16)
 
 -- the branch with an offset of which the entry has the reach
 abbrev pub Reaches : (ℕ → Insn) → ℕ → Option Insn → Type 0
@@ -66,7 +66,7 @@ Means (Entry.Sltiu rt rs word) decoded = Extends (λ n. Insn.WithImmediate Immed
 Means (Entry.Andi rt rs immediate) decoded = decoded ≡ Some (Insn.WithImmediate ImmediateOp.Andi rt rs immediate)
 Means (Entry.Ori rt rs immediate) decoded = decoded ≡ Some (Insn.WithImmediate ImmediateOp.Ori rt rs immediate)
 Means (Entry.Xori rt rs immediate) decoded = decoded ≡ Some (Insn.WithImmediate ImmediateOp.Xori rt rs immediate)
-Means (Entry.Lui rt word) decoded = Raises (λ n. Insn.LoadUpper rt n) word decoded
+Means (Entry.Lui rt word) decoded = InHighHalf (λ n. Insn.LoadUpper rt n) word decoded
 Means (Entry.Mfhi rd) decoded = decoded ≡ Some (Insn.MoveFrom MoveFromOp.Mfhi rd)
 Means (Entry.Mflo rd) decoded = decoded ≡ Some (Insn.MoveFrom MoveFromOp.Mflo rd)
 Means (Entry.Mthi rs) decoded = decoded ≡ Some (Insn.MoveTo MoveToOp.Mthi rs)

@@ -1,5 +1,5 @@
-//! The entry of an instruction, by the form of its operands. What writes to register 0 changes nothing, unless it may
-//! raise an exception.
+//! The entry of an instruction, by the form of its operands. What writes to register 0 changes nothing, unless it jumps
+//! or may raise an exception.
 
 ghost use Rattle.std.specs.Prelude.{◌≡◌, if◌then◌else◌, Some};
 ghost use Rattle.brd_isa.specs.declared.instruction.Insn.{Insn};
@@ -16,8 +16,8 @@ use brd_isa::{
 };
 use brd_word::sign16;
 
-/// The entry of an instruction that would write to register 0: local ones do nothing, and the others may raise an
-/// exception.
+/// The entry of an instruction that is no jump and would write to register 0: local ones do nothing, and the others may
+/// raise an exception.
 fn nop_if_local(insn: Insn) -> Entry
     ensures { result ≡ (if is_local insn then Entry.Nop else Entry.Slow) }
 {

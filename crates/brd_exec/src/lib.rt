@@ -22,6 +22,6 @@ pub use local::run_local;
 pub use outcome::{ExceptionCode, Outcome};
 pub use storing::may_store;
 pub use value::{
-    accumulate_value, count_value, is_signed_below, multiply_value, product_value, shift_value,
-    shift_variable_value,
+    accumulate_value, count_value, is_below_zero, is_signed_below, multiply_value, product_value,
+    shift_value, shift_variable_value,
 };

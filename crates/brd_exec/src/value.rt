@@ -81,7 +81,7 @@ fn shift_with_sign(word: u32, amount: ShiftAmount) -> u32
 
 /// Whether the sign bit is set.
 #[inline(always)]
-fn is_below_zero(word: u32) -> bool
+pub fn is_below_zero(word: u32) -> bool
     ensures { result ≡ is_negative word }
 {
     word >= 0x8000_0000

@@ -4,9 +4,9 @@ use Rattle.brd_isa.specs.declared.instruction.{Insn.Insn, ShiftOp.ShiftOp}
 use Rattle.brd_isa.specs.Decoding.{decoded}
 use Rattle.brd_word.specs.declared.order.Order.{Order}
 use Rattle.brd_mem.specs.Access.{read_raw}
-use Rattle.brd_entries.specs.Means.{GoesOn, IsNop}
+use Rattle.brd_entries.specs.Means.{IsNop, OnlyGoesOn}
 
-zero-goes-on : GoesOn (Insn.Shift ShiftOp.Sll 0 0 0)
+zero-goes-on : OnlyGoesOn (Insn.Shift ShiftOp.Sll 0 0 0)
 zero-goes-on = record { on = λ s. refl; slot = refl }
 
 zero-decoded : decoded 0 ≡ Some (Insn.Shift ShiftOp.Sll 0 0 0)

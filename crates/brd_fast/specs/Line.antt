@@ -1,4 +1,4 @@
--- The place of a line: where it stands when its words and steps are counted.
+-- Only private contracts name this: the place of a line, where it stands when its words and steps are counted.
 use Rattle.std.specs.Prelude.{◌≡◌, ℕ, ◌+◌, ◌-◌, ◌^◌, ◌<◌, ◌≤◌, nat_lt, nat_le, Bool, true, false, if◌then◌else◌}
 use Rattle.brd_fast.specs.declared.line.Next.{Next}
 use Rattle.brd_fast.specs.Place.{Place, address_of_word}

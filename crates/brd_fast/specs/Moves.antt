@@ -1,4 +1,4 @@
--- What the functions that do an entry leave and answer: only private functions' contracts name these.
+-- Only private contracts name this: what the functions that do an entry leave and answer.
 use Rattle.std.specs.Prelude.{◌≡◌, Bool, true, false, Option, None, Some, Result, Ok, Err}
 use Rattle.brd_mem.specs.Memory.{Memory}
 use Rattle.brd_link.specs.LinkSet.{LinkSet}

@@ -1,4 +1,4 @@
--- Where a processor is, apart from its context's registers.
+-- Only private contracts name this: where a processor is, apart from its context's registers.
 use Rattle.std.specs.Prelude.{◌≡◌, ℕ, ◌+◌, ◌-◌, ◌*◌, ◌%◌, ◌^◌, Bool, true, false}
 use Rattle.brd_exec.specs.State.{State}
 

@@ -1,5 +1,5 @@
--- What an entry does, as far as the context tells: one line an entry. It is what its instruction does, with the
--- immediate or the offset that is extended already.
+-- Only private contracts name this: what an entry does, as far as the context tells, one line an entry. It is what its
+-- instruction does, with the immediate or the offset that is extended already.
 use Rattle.std.specs.Prelude.{ℕ, ◌+◌, ◌%◌, ◌^◌, ◌==◌, nat_lt, bit_and, bit_or, bit_xor, Bool, true, false, not}
 use Rattle.std.specs.Prelude.{◌≡◌, if◌then◌else◌, None}
 use Rattle.std.specs.Int.{w32, bit_not}

@@ -1,9 +1,10 @@
 //! Branches and jumps, done in a context whose place is kept apart. They are left undone in a delay slot (MD00086 says
-//! of them UNPREDICTABLE; the step raises an exception), and where they go to no word that may be executed here.
+//! of them UNPREDICTABLE; the step raises an exception), where their own slot isn't among the steps and the words that
+//! may be executed here, and where they go far from these words.
 
-ghost use Rattle.std.specs.Prelude.{◌≡◌, ◌+◌, ◌*◌, ◌/◌, ◌%◌, ◌^◌, true, false, ◌||◌, ◌==◌};
+ghost use Rattle.std.specs.Prelude.{◌≡◌, ◌+◌, ◌%◌, ◌^◌, true, false, ◌||◌, ◌==◌};
 ghost use Rattle.brd_exec.specs.State.{State, read, write, jumped, jump_target, return_address_of};
-ghost use Rattle.brd_exec.specs.Values.{is_negative, is_jump_calling};
+ghost use Rattle.brd_exec.specs.Values.{is_negative};
 ghost use Rattle.brd_fast.specs.Place.{state_of, reached, Leaves};
 ghost use Rattle.brd_fast.specs.Plans.{branched_by, calling};
 ghost use Rattle.brd_fast.specs.Moves.{Turns};
@@ -11,19 +12,11 @@ ghost use Rattle.brd_fast.specs.Moves.{Turns};
 use crate::line::Line;
 use crate::registers::word;
 use brd_entries::{Destination, Source};
-use brd_exec::Context;
+use brd_exec::{Context, is_below_zero};
 use brd_isa::JumpIndex;
 
-/// How many words after a branch that lies which goes on after its delay slot.
+/// How many words ahead of a branch the instruction after its delay slot lies.
 const PAST_SLOT: u32 = 2;
-
-/// Whether the sign bit is set.
-#[inline(always)]
-pub fn is_below_zero(word: u32) -> bool
-    ensures { result ≡ is_negative word }
-{
-    word >= 0x8000_0000
-}
 
 /// Whether a word, read signed, is 0 or below.
 #[inline(always)]

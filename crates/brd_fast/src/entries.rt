@@ -5,8 +5,8 @@ ghost use Rattle.brd_fast.specs.Place.{state_of, Leaves};
 ghost use Rattle.brd_fast.specs.Plans.{planned, CarriesOut};
 
 use crate::branches::{
-    branch, branch_likely, call, call_likely, call_register, is_at_most_zero, is_below_zero, jump,
-    jump_and_link, jump_register,
+    branch, branch_likely, call, call_likely, call_register, is_at_most_zero, jump, jump_and_link,
+    jump_register,
 };
 use crate::line::Line;
 use crate::memory::{load, store};
@@ -14,14 +14,15 @@ use crate::registers::{
     accumulate, add, count, pass, product, set, set_if, shift, shift_variable, subtract, word,
 };
 use brd_entries::Entry;
-use brd_exec::{Context, is_signed_below, multiply_value};
+use brd_exec::{Context, is_below_zero, is_signed_below, multiply_value};
 use brd_isa::{AccumulateOp, CountOp, LoadOp, ProductOp, ShiftOp, ShiftVariableOp, StoreOp};
 use brd_link::Links;
 use brd_mem::Ram;
 
 /// Does an entry in a context whose place is kept apart, for a processor, over memory and the processors' links.
 /// Answers whether it did; else nothing has changed: the entry says nothing, its instruction would raise an exception,
-/// or it is a branch or a jump in a delay slot or to where the line can't go. Each arm ends with its own answer.
+/// or it is a branch or a jump in a delay slot, without room for its own slot, or to where the line can't go. Each arm
+/// ends with its own answer.
 #[inline(always)]
 pub fn carry_out(
     entry: &Entry,

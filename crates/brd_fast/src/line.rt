@@ -1,9 +1,9 @@
 //! Where a processor is in RAM, and how far it may go.
 
-ghost use Rattle.std.specs.Prelude.{◌≡◌, ◌+◌, ◌*◌, ◌/◌, ◌%◌, ◌^◌, ◌≤◌, ◌<◌, ℕ, true, false, not, IfSome};
-ghost use Rattle.brd_mem.specs.Memory.{Memory, size_of};
+ghost use Rattle.std.specs.Prelude.{◌≡◌, ◌+◌, ◌*◌, ◌/◌, ◌%◌, ◌^◌, ◌≤◌, ◌<◌, ℕ, true, false, IfSome};
+ghost use Rattle.brd_mem.specs.Memory.{size_of};
 ghost use Rattle.brd_link.specs.LinkSet.{LinkSet};
-ghost use Rattle.brd_exec.specs.State.{State, jump_target};
+ghost use Rattle.brd_exec.specs.State.{State};
 ghost use Rattle.brd_fast.specs.Place.{Place, IsAt, Leaves, address_of_word, state_of, reached};
 ghost use Rattle.brd_fast.specs.Steps.{GoesFrom};
 
@@ -25,9 +25,9 @@ enum Next {
 }
 
 /// Instructions that lie one after the other, which a processor does without a look at where it is. Places are counted
-/// in words from RAM's first, and the end of the line is the only test of a step: it stands for the end of the words
-/// that are decoded, for the delay slot that a branch makes of the next word, and for the last of the steps that are
-/// asked for.
+/// in words from RAM's first, and the end of the line is the only test of where a step is: it stands for the end of the
+/// words that have entries, for the delay slot that a branch makes of the next word, and for the last of the steps that
+/// are asked for.
 #[derive(Drop)]
 pub struct Line {
     /// The next instruction's word.
@@ -56,7 +56,8 @@ impl Model for Line {
 
 impl Line {
     /// The line of a context that is to do `count` steps in the first `words` of RAM; None where its next instruction,
-    /// or the target after the delay slot in which that is, isn't one of them.
+    /// or the target after the delay slot in which that is, isn't one of them, where no step is to be done, and where
+    /// outside of a delay slot another instruction than the next word's comes after it.
     pub fn of(context: &Context, words: usize, count: u32) -> Option<Line>
         requires few { words ≤ 2 ^ 22 }
         ensures place { IfSome result (λ line. state_of context.now line ≡ context.now) }
@@ -167,7 +168,8 @@ impl Line {
         self.at += 1;
     }
 
-    /// The word that lies so far ahead of the next instruction, where there is one: where a branch goes that is taken.
+    /// The word that lies so far ahead of the next instruction, where there is one or it would be the first past the
+    /// last: where a branch goes that is taken.
     #[inline(always)]
     pub fn ahead(&self, reach: u32) -> Option<usize>
         requires on { self.now.on ≡ true }
@@ -182,8 +184,8 @@ impl Line {
         Some(target)
     }
 
-    /// The word that a jump by an index goes to, where there is one: the top four bits of its address are those of the
-    /// delay slot's (MD00086, J).
+    /// The word that a jump by an index goes to, where there is one or it would be the first past the last: the top four
+    /// bits of its address are those of the delay slot's (MD00086, J).
     #[inline(always)]
     pub fn indexed(&self, index: JumpIndex) -> Option<usize>
         requires on { self.now.on ≡ true }
@@ -211,7 +213,7 @@ impl Line {
         Some(target)
     }
 
-    /// Goes on to the delay slot of a branch or a jump, which this word follows.
+    /// Goes on to the delay slot of a branch or a jump to this word.
     #[inline(always)]
     pub fn turn(&mut self, target: usize)
         requires room { self.old.room ≡ true }
@@ -226,7 +228,7 @@ impl Line {
         self.target = target;
     }
 
-    /// Goes on from the word after the delay slot of a branch-likely that isn't taken.
+    /// Goes on to the word after the delay slot of a branch-likely that isn't taken.
     #[inline(always)]
     pub fn skip(&mut self, next: usize)
         requires room { self.old.room ≡ true }

@@ -3,7 +3,7 @@
 ghost use Rattle.std.specs.Prelude.{◌≡◌, ◌≤◌, true};
 ghost use Rattle.brd_exec.specs.State.{read};
 ghost use Rattle.brd_exec.specs.Values.{sum_of};
-ghost use Rattle.brd_exec.specs.Action.{Action, with_word};
+ghost use Rattle.brd_exec.specs.Action.{with_word};
 ghost use Rattle.brd_exec.specs.Step.{load_gives, store_gives, stores, with_code};
 ghost use Rattle.brd_exec.specs.Went.{went_by};
 ghost use Rattle.brd_fast.specs.Place.{state_of, Leaves};

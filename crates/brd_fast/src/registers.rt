@@ -1,6 +1,6 @@
 //! The instructions that compute in registers, HI and LO, done in a context whose place is kept apart.
 
-ghost use Rattle.std.specs.Prelude.{◌≡◌, ◌+◌, ◌%◌, ◌^◌, ◌==◌, true, false, if◌then◌else◌};
+ghost use Rattle.std.specs.Prelude.{◌≡◌, ◌+◌, ◌%◌, ◌^◌, true, false, if◌then◌else◌};
 ghost use Rattle.brd_word.specs.Words.{sum_overflows, difference_overflows};
 ghost use Rattle.brd_exec.specs.State.{read, write_product, product_in, advanced, with_register};
 ghost use Rattle.brd_exec.specs.Values.{

@@ -16,8 +16,9 @@ use brd_link::Links;
 use brd_mem::Ram;
 
 /// Does steps of a processor's context, one after the other, as many as `count` at most, and answers how many it did.
-/// It ends early at whatever is unusual: an exception, a SYSCALL, LL, SC, a branch in a delay slot, words for which the
-/// table has no place. That is left to do, and nothing of it is done. With a table for RAM of another byte order it does
+/// It ends early at whatever is unusual: what has no entry (`Entry::Slow`) or would raise an exception; a branch or a
+/// jump in a delay slot, to a word for which the table has no place, or whose own slot lies past these words or past the
+/// last of the steps. That is left to do, and nothing of it is done. With a table for RAM of another byte order it does
 /// nothing.
 pub fn go(
     table: &mut Table,

@@ -1,6 +1,6 @@
 //! Decoded words, kept for the next time.
 
-ghost use Rattle.std.specs.Prelude.{◌≡◌, All};
+ghost use Rattle.std.specs.Prelude.{◌≡◌, All, IfOk};
 ghost use Rattle.brd_fast.specs.Known.{IsRight};
 
 use crate::known::Known;
@@ -13,8 +13,8 @@ use std::alloc::Global;
 const MOST: usize = 0x40000;
 
 /// Entries for the first words of a RAM, each beside the bytes of the word that it was made of. The table says nothing
-/// of RAM: whoever takes an entry shows the bytes that RAM has there, and gets none where the table's are others. So a
-/// store doesn't touch it.
+/// of RAM: whoever takes an entry compares these bytes with those that RAM has there, and does it only where they are
+/// the same. So a store doesn't touch it.
 #[derive(Drop)]
 pub struct Table {
     known: Vec<Known>,
@@ -29,7 +29,9 @@ impl Table {
     }
 
     /// A table for a RAM.
-    pub fn new(alloc: Global, ram: &Ram) -> Result<Table, NoMemory> {
+    pub fn new(alloc: Global, ram: &Ram) -> Result<Table, NoMemory>
+        ensures { IfOk result (λ table. table.order ≡ ram.now.order) }
+    {
         let len = Table::len_for(ram);
         let mut known = Vec::with_capacity(alloc, len)?;
         for _ in 0..len {

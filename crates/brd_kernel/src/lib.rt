@@ -1,7 +1,8 @@
 //! The kernel: service calls, dispatch, interrupts.
 //!
 //! `specs/Services.antt` has the service table, `specs/Row.antt` the order of refusals, `specs/Dispatch.antt` which
-//! task runs, `specs/Kernel.antt` everything else. No call but `Kernel::new` takes memory.
+//! task runs, `specs/Kernel.antt` everything else. No call takes memory but those that make a kernel, copy, save or
+//! restore one.
 #![tactic(auto)]
 
 mod call;

@@ -1,6 +1,7 @@
 //! Objects that tasks wait for: semaphores, event flags and data queues.
 //!
-//! `specs/` says what each call makes of them. No call but the `new` of each table takes memory.
+//! `specs/` says what each call makes of them. No call takes memory but those that make a table, copy, save or restore
+//! one.
 #![tactic(auto)]
 
 mod data_queue;

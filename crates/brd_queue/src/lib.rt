@@ -1,4 +1,4 @@
-//! Queues of tasks: ready lists, and lists of those that wait.
+//! Queues of tasks: lists of those that wait. (Ready lists, which brd_rings keeps, are spoken of in the same words.)
 //!
 //! `specs/Queue.antt` says what each call makes of a queue, `specs/Rule.antt` by which rule a queue in the order of
 //! priority serves.

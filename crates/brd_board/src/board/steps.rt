@@ -22,7 +22,7 @@ const STRETCH: u32 = 256;
 /// The decoded instructions of a board.
 #[derive(Drop)]
 pub(super) enum Code {
-    /// There are none yet; this many steps were done one by one that could have been in rows.
+    /// There are none yet; this many steps were asked for that could have been in rows.
     Unread(u32),
     /// They are in this table.
     Read(Table),
@@ -104,8 +104,9 @@ impl Board {
         matches!(self.code, Code::Read(_))
     }
 
-    /// The decoded instructions of a board that has done this many steps without any: none before there were as many
-    /// steps as the table has words (own choice: they take about as much time as it does to make one).
+    /// The decoded instructions of a board that was asked for this many steps, the next ones among them, without any:
+    /// none before they are as many as the table has words (own choice: these take about as much time as it does to make
+    /// one).
     fn read(&self, steps: u32) -> Code {
         if (steps as usize) < Table::len_for(&self.ram) {
             return Code::Unread(steps);

@@ -1,4 +1,4 @@
-use Rattle.std.proofs.Common.{◌≡◌, ◌+◌, ◌-◌, ◌≤◌, ◌^◌, ◌∙◌, refl, ap, sym, subst, nat_lt, arith}
+use Rattle.std.proofs.Common.{◌+◌, ◌-◌, ◌∙◌, refl, ap, sym, subst, nat_lt, arith}
 use Rattle.std.specs.Prelude.{nat_le}
 use Rattle.brd_fast.specs.Line.{placed, Comes}
 use Rattle.brd_fast.proofs.LineLemmas.{empty-slot}
