@@ -124,10 +124,15 @@ int printf(const char *format, ...)
     return so_far;
 }
 
-/* Who calls: FALSE in an interrupt handler, where unl_cpu is refused, and with it all that follows. */
+/* Who calls: FALSE in an interrupt handler, where all of this is refused. A task gives up the CPU lock and the spin lock
+ * that it holds: under them nothing can be written. */
 static BOOL is_task(ID *task, ID *processor)
 {
-    return unl_cpu() == E_OK && get_tid(task) == E_OK && get_pid(processor) == E_OK;
+    ID lock = 1;
+    if (unl_cpu() != E_OK)
+        while (lock <= 255 && unl_spn(lock) != E_OK)
+            lock++;
+    return get_tid(task) == E_OK && get_pid(processor) == E_OK;
 }
 
 /* A handler can neither write nor turn the board off: the exception of __builtin_trap stops its processor for good. */

@@ -106,13 +106,8 @@ fn byte_fault(code: &[u8]) -> Option<Finding<'_>> {
     let mut escaped = false;
     for (i, byte) in code.iter().enumerate() {
         let rest = behind(code, i);
-        if *byte > 126 || (*byte < b' ' && !is_blank(*byte)) {
-            return Some(Finding::at(
-                rest,
-                b"the byte ? isn't printable ASCII: it can stand in comments only",
-                &[],
-            )
-            .with_number(*byte as u64));
+        if let Some(template) = stray_advice(*byte, quoted.is_some()) {
+            return Some(Finding::at(rest, template, &[]).with_number(*byte as u64));
         }
         if escaped {
             if !is_escape(*byte) {
@@ -140,6 +135,17 @@ fn byte_fault(code: &[u8]) -> Option<Finding<'_>> {
         b"the string isn't closed: a \" is missing at its end",
         &[],
     ))
+}
+
+/// What is said of a byte that isn't printable: comments may have any, strings those of ASCII.
+fn stray_advice(byte: u8, is_quoted: bool) -> Option<&'static [u8]> {
+    if byte > 127 {
+        return Some(b"the byte ? isn't printable ASCII: it can stand in comments only");
+    }
+    if !is_quoted && (byte == 127 || (byte < b' ' && !is_blank(byte))) {
+        return Some(b"the byte ? isn't printable ASCII: it can stand in comments and strings only");
+    }
+    None
 }
 
 /// What is said of a byte outside of strings.

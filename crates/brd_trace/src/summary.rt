@@ -125,7 +125,8 @@ impl Tracer {
         }
     }
 
-    /// Whether tasks wait, none is ready, no handler runs, no line is pending, and no tick ends a wait.
+    /// Whether tasks wait, none is ready, no handler runs, no line is pending that may be accepted, and no tick ends a
+    /// wait.
     fn is_stuck(&self) -> bool {
         let mut waits = false;
         for task in self.teller.tasks.as_slice() {

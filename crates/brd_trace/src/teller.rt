@@ -177,14 +177,19 @@ impl Teller {
         }
     }
 
-    /// Whether no line is pending.
+    /// Whether no line is pending on a processor that may still accept it: one that is stopped never does.
     pub(crate) fn is_quiet(&self) -> bool {
         for i in 0..32usize {
-            if self.pending[i] {
+            if self.pending[i] && !self.has_stopped(self.options.lines[i]) {
                 return false;
             }
         }
         true
+    }
+
+    /// Whether a processor is stopped for good.
+    fn has_stopped(&self, cpu: u8) -> bool {
+        matches!(self.standings.at(cpu), Some(Standing::Stopped))
     }
 
     /// Events that do nothing: they join those before them, or begin a line.
