@@ -153,10 +153,6 @@ mistake "an assertion in a task" 2 "+firmware.c:16: this doesn't hold: i < 2 (ta
 mistake "an assertion of a CPU-locked task" 2 \
     "+firmware.c:16: this doesn't hold: loc_cpu() != E_OK (task 1, processor 1)" \
     firmware.c 's/answer == E_OK/loc_cpu() != E_OK/' test CFLAGS=-w
-mistake "an assertion under a spin lock" 2 \
-    "+firmware.c:16: this doesn't hold: loc_spn(3) != E_OK (task 1, processor 1)" \
-    firmware.c 's/answer == E_OK/loc_spn(3) != E_OK/' test CFLAGS=-w \
-    FIRMWARE_CFG_TODO
 mistake "an assertion in a handler" 2 "cpu 1 stopped" firmware.c 's/line == BUTTON/line != BUTTON/' test
 cp "$sdk"/project/* "$new"
 sed -i 's/answer == E_OK/loc_spn(3) != E_OK/' "$new/firmware.c"
