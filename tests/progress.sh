@@ -84,11 +84,20 @@ verdict "progress: a short move after a long wait" "$(on_terminal 0 never "" deb
 wait
 input=/dev/null
 
-# ---- race: processors that are idle take the longest
+# ---- race: stores take the longest, since no lease does them; the journal has room for a run for each event
 
-echo 'BOARD(8, 0x10000);' > "$work/idle"
-echo 'T 1000000' > "$work/ticks"
-race=(race "$work/image" "$work/idle" "$work/ticks")
+{
+    echo 'main: lui $t0, 0x8000'
+    yes '      sw $zero, 0x1000($t0)' | head -n 100
+    printf '      j main\n      nop\n'
+} > "$work/source"
+"$board" asm "$work/source" "$work/storing"
+echo 'BOARD(4, 0x10000);' > "$work/four"
+for cpu in 1 2 3 4; do
+    echo "CLASS(TCL_$cpu) { CRE_TSK($cpu, {TA_ACT, 0, main, 1, 256, NULL}); }"
+done >> "$work/four"
+echo 'T 100000' > "$work/ticks"
+race=(race "$work/storing" "$work/four" "$work/ticks")
 shows "a short race" 0 never "" "${race[@]}" 30 "$work/raced"
 began=${EPOCHREALTIME/[.,]/}
 "$board" "${race[@]}" 1000000 "$work/raced" > "$work/out"
