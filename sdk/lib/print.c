@@ -124,8 +124,8 @@ int printf(const char *format, ...)
     return so_far;
 }
 
-/* Who calls: FALSE in an interrupt handler, where all of this is refused. A task gives up the CPU lock and the spin lock
- * that it holds: under them nothing can be written. */
+/* Who calls: FALSE in an interrupt handler, where all of this is refused. A task gives up the CPU lock and the spin
+ * lock that it holds: under them nothing can be written. */
 static BOOL is_task(ID *task, ID *processor)
 {
     ID lock = 1;
