@@ -1,5 +1,5 @@
-# board: an emulated MIPS32 board for real-time software, proved. `make demo`, `make check`, `make compare` and `make
-# fuzz` need no toolchain; all else needs Rattle's `rt`.
+# board: an emulated MIPS32 board for real-time software, proved. `make demo`, `make check`, `make compare`, `make
+# qemu` and `make fuzz` need no toolchain; all else needs Rattle's `rt`.
 BOARD = build/board
 
 # The crates whose wrong bodies `make attack` tries (none: all), as in `make attack CRATES="brd_exec brd_isa"`.
@@ -12,7 +12,7 @@ SEED = 1
 # How many inputs `make fuzz` tries, from the seed SEED on.
 INPUTS = 5000
 
-.PHONY: unpack demo check board dist test attack compare fuzz gate-times bench clean
+.PHONY: unpack demo check board dist test attack compare qemu fuzz gate-times bench clean
 
 # Runs the examples on the program of dist/.
 demo: unpack
@@ -56,6 +56,10 @@ attack:
 # Random boards beside a model in Python, which shares nothing with the program: BOARDS of them, from the seed SEED on.
 compare: $(BOARD)
 	tests/model/compare $(BOARD) --boards $(BOARDS) --seed $(SEED) --counts
+
+# The same instructions on QEMU and on the board, in both byte orders. It wants Debian's package qemu-system-mips.
+qemu: $(BOARD)
+	tests/qemu/compare $(BOARD) --qemu
 
 # Random and spoiled inputs of every command: INPUTS of them, from the seed SEED on. Those that end wrongly are kept in
 # build/fuzz.
