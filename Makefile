@@ -18,8 +18,8 @@ INPUTS = 5000
 demo: unpack
 	examples/demo $(BOARD)
 
-# All tests that need no toolchain, on the program of dist/: 'N passed, M failed'. What needs a tool that is missing says
-# that it is skipped.
+# All tests that need no toolchain, on the program of dist/: 'N passed, M failed, K skipped'. What needs a tool that is
+# missing is skipped, and says so.
 check: unpack
 	tests/commands --without-toolchain $(BOARD)
 

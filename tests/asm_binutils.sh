@@ -5,8 +5,8 @@
 #
 #   tests/asm_binutils.sh [BOARD]       BOARD: the program, by default build/board
 #
-# One line for each byte order; the status is 1 if the bytes differ. Without the package it prints which tool it wants, and
-# no more.
+# One line for each byte order; the status is 1 if the bytes differ. Without the package it prints which tool it wants,
+# and no more.
 set -u
 top=$(cd "$(dirname "$0")/.." && pwd)
 board=${1:-$top/build/board}

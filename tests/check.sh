@@ -73,8 +73,8 @@ have() {
     command -v "$1" > /dev/null || { skip "$2" "$1"; return 1; }
 }
 
-# check_script NAME COMMAND..: runs a test of its own, which prints one line for each thing that it tried. One that can't
-# be made here prints nothing but `wants TOOL`.
+# check_script NAME COMMAND..: runs a test of its own, which prints one line for each thing that it tried. One that
+# can't be made here prints nothing but `wants TOOL`.
 check_script() {
     local name=$1 said
     shift
