@@ -26,6 +26,8 @@ WRITES_IN_PARTS = ("debug", "trace")
 # The ways in which streams fail: what becomes of descriptors 0, 1 and 2.
 STREAMS = ("without 0", "without 1", "without 2", "without 012", "a full output", "a pipe that nobody reads",
            "a pipe that ends")
+REFUSED = "a growth refused"
+WAYS = (REFUSED, *STREAMS)
 
 
 class Ended:
@@ -75,8 +77,9 @@ class Runs:
         for name, data in case.files.items():
             write(f"{self.folder}/{name}", data)
 
-    def is_wrong(self, case):
-        """What is wrong with the end of a run, nothing where it is right: first as it is, then mostly in another way."""
+    def is_wrong(self, case, way=None):
+        """What is wrong with the end of a run, nothing where it is right: first as it is, then in this or mostly in
+        another way."""
         try:
             self.begin(case)
             ended = self.run(case.arguments, case.given)
@@ -85,12 +88,10 @@ class Runs:
             if wrong or case.kind == "line":
                 return wrong
             random = chance.Random(f"{case.seed} another way")
-            draw = random.random()
-            if draw < .3 and self.refuser:
+            way = way or random.choice((None, None, REFUSED, random.choice(STREAMS), random.choice(STREAMS)))
+            if way == REFUSED and self.refuser:
                 return self.refused(case, ended, random)
-            if draw < .6:
-                return self.failing(case, ended, random.choice(STREAMS), random.randrange(1, 200))
-            return None
+            return self.failing(case, ended, way, random.randrange(1, 200)) if way in STREAMS else None
         except subprocess.TimeoutExpired:
             return f"no end within {SECONDS} seconds"
 
@@ -128,6 +129,9 @@ class Runs:
         ended = self.run(case.arguments, case.given, {"LD_PRELOAD": self.refuser, "REFUSE": str(number)})
         if ended.status not in (ample.status, 3):
             return f"{self.way}: status {ended.status}, and {ample.status} with ample memory"
+        if ended.status == 2 and not ended.stderr and not ended.stdout:
+            # What clap says of a wrong command line takes memory itself; then the status alone tells it.
+            return None
         wrong = self.form(case, ended)
         if wrong or ended.status == 3 and ample.status != 3:
             wrong = wrong or self.unfinished(case, ended, ample)
