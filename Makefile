@@ -57,8 +57,8 @@ attack:
 compare: $(BOARD)
 	tests/model/compare $(BOARD) --boards $(BOARDS) --seed $(SEED) --counts
 
-# Random and spoiled inputs of every command: INPUTS of them, from the seed SEED on. Those that end wrongly are kept in
-# build/fuzz.
+# Random and spoiled inputs of every command, also with memory refused or a stream that fails: INPUTS of them, from the
+# seed SEED on. Those that end wrongly are kept in build/fuzz.
 fuzz: $(BOARD)
 	tests/fuzz $(BOARD) --count $(INPUTS) --seed $(SEED) --counts
 
