@@ -23,7 +23,7 @@ add_verdict() {
 # made here, since it wants a tool, or whatever else WANTS says in several words.
 pass() {
     passed=$((passed + 1))
-    add_verdict passed "$1"
+    add_verdict passed "${1:-a test}"
 }
 fail() {
     failed=$((failed + 1))
