@@ -18,8 +18,8 @@ INPUTS = 5000
 demo: unpack
 	examples/demo $(BOARD)
 
-# All tests that need no toolchain, on the program of dist/: 'N passed, M failed'. What needs a tool that is missing says
-# that it is skipped.
+# All tests that need no toolchain, on the program of dist/: 'N passed, M failed, K skipped'. What needs a tool that is
+# missing is skipped, and says so.
 check: unpack
 	tests/commands --without-toolchain $(BOARD)
 
@@ -61,8 +61,8 @@ compare: $(BOARD)
 qemu: $(BOARD)
 	tests/qemu/compare $(BOARD) --qemu
 
-# Random and spoiled inputs of every command: INPUTS of them, from the seed SEED on. Those that end wrongly are kept in
-# build/fuzz.
+# Random and spoiled inputs of every command, also with memory refused or a stream that fails: INPUTS of them, from the
+# seed SEED on. Those that end wrongly are kept in build/fuzz.
 fuzz: $(BOARD)
 	tests/fuzz $(BOARD) --count $(INPUTS) --seed $(SEED) --counts
 

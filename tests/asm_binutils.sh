@@ -5,13 +5,14 @@
 #
 #   tests/asm_binutils.sh [BOARD]       BOARD: the program, by default build/board
 #
-# One line for each byte order; the status is 1 if the bytes differ. Without the package it is skipped, which it says.
+# One line for each byte order; the status is 1 if the bytes differ. Without the package it prints which tool it wants,
+# and no more.
 set -u
 top=$(cd "$(dirname "$0")/.." && pwd)
 board=${1:-$top/build/board}
 for tool in mips-linux-gnu-as mips-linux-gnu-ld mips-linux-gnu-objcopy; do
   if ! command -v "$tool" >/dev/null; then
-    echo "skipped: asm_binutils: $tool is missing (Debian: binutils-mips-linux-gnu)"
+    echo "wants $tool"
     exit 0
   fi
 done

@@ -1,6 +1,7 @@
 # shellcheck shell=bash
 # What the tests of every command share: each tests/NAME.sh reads this file, is run with the program, and ends with
-# `summary`. $board is the program, $work a folder for files, $work/nothing an empty one.
+# `summary`. $board is the program, $work a folder for files, $work/nothing an empty one. Where the environment's
+# VERDICTS names a file, each test adds a line to it: `passed tests/NAME.sh: TEST`, or `failed` or `skipped` in front.
 set -u
 unset MAKEFLAGS MAKELEVEL MFLAGS
 [ $# = 1 ] || { echo "use: $0 PROGRAM" >&2; exit 2; }
@@ -11,19 +12,33 @@ trap 'rm -rf "$work"' EXIT
 : > "$work/nothing"
 passed=0
 failed=0
+skipped=0
 
-# pass, fail NAME WHAT: counts a test.
+# add_verdict VERDICT NAME: adds a test's line to the file of verdicts.
+add_verdict() {
+    [ -z "${VERDICTS:-}" ] || echo "$1 tests/${0##*/}: ${2//$'\n'/ }" >> "$VERDICTS"
+}
+
+# pass NAME, fail NAME WHAT, skip NAME WANTS: counts a test that passed, one that failed by WHAT, and one that can't be
+# made here, since it wants a tool, or whatever else WANTS says in several words.
 pass() {
     passed=$((passed + 1))
+    add_verdict passed "${1:-a test}"
 }
 fail() {
     failed=$((failed + 1))
+    add_verdict failed "$1"
     echo "FAILED $1: $2"
+}
+skip() {
+    skipped=$((skipped + 1))
+    add_verdict skipped "$1"
+    echo "SKIP $1: wants $2"
 }
 
 # verdict NAME WRONG: counts a test that passed if nothing is wrong.
 verdict() {
-    if [ -z "$2" ]; then pass; else fail "$1" "${2#; }"; fi
+    if [ -z "$2" ]; then pass "$1"; else fail "$1" "${2#; }"; fi
 }
 
 # differs STATUS OUTPUT-FILE GOT-STATUS: what is wrong with the status and the output of a run that left $work/out.
@@ -53,19 +68,23 @@ check_usage() {
     verdict "$1" "${wrong:+$wrong: $(head -c 600 "$work/err")}"
 }
 
-# have TOOL WHAT: whether a tool is there; a line says what is skipped where it isn't.
+# have TOOL NAME: whether a tool is there; the test is skipped where it isn't.
 have() {
-    command -v "$1" > /dev/null || { echo "skipped: $2: $1 is missing"; return 1; }
+    command -v "$1" > /dev/null || { skip "$2" "$1"; return 1; }
 }
 
-# check_script NAME COMMAND..: runs a test of its own, which prints one line for each thing that it tried. One that is
-# skipped, since a tool is missing, says so and isn't counted.
+# check_script NAME COMMAND..: runs a test of its own, which prints one line for each thing that it tried. One that
+# can't be made here prints nothing but `wants TOOL`.
 check_script() {
     local name=$1 said
     shift
     if said=$("$@" 2>&1); then
-        [[ "$said" == skipped:* ]] || pass
-        echo "$said"
+        if [[ "$said" == "wants "* ]]; then
+            skip "$name" "${said#wants }"
+        else
+            pass "$name"
+            echo "$said"
+        fi
     else
         fail "$name" "$said"
     fi
@@ -77,7 +96,9 @@ is_missing="$(LC_ALL=C cat "$work/nosuch" 2>&1 | sed 's/.*: //') (os error 2)"
 is_directory="$(LC_ALL=C cat / 2>&1 | sed 's/.*: //') (os error 21)"
 is_full="$(echo x | LC_ALL=C cat 2>&1 > /dev/full | sed 's/.*: //') (os error 28)"
 
+# The closing line says how many tests passed, failed and were skipped.
+closing='^([0-9]+) passed, ([0-9]+) failed, ([0-9]+) skipped$'
 summary() {
-    echo "$passed passed, $failed failed"
+    echo "$passed passed, $failed failed, $skipped skipped"
     [ "$failed" -eq 0 ]
 }

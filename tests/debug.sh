@@ -338,6 +338,15 @@ sed 's/goto/at/' "$work/in" > "$work/wanted"
 (ulimit -t 30; exec "$board" debug "$work/image" $long/config.cfg $long/journal) < "$work/in" > "$work/out" 2> "$work/err"
 check "debug: 5,000 far moves in 30 processor seconds" 0 "$work/wanted" "" $?
 
+# Moves to positions that have a snapshot (4,096, 8,192, 12,288: 1, 2 and 3 modulo 5), from behind and from before it, and
+# on from there.
+printf '%s\n' 'break 80000008' 'goto 13000' 'goto 8192' 'regs 1' back 'goto 8192' next 'goto 4096' 'regs 1' next \
+    'goto 0' 'goto 12288' 'regs 1' back 'goto 0' 'goto 8192' 'regs 1' next > "$work/in"
+printf '%s\n' ok 'at 13000' 'at 8192' 'pc 80000008' '$29 80010000' 'at 8187' 'at 8192' 'at 8197' 'at 4096' 'pc 80000004' \
+    '$29 80010000' 'at 4097' 'at 0' 'at 12288' 'pc 8000000c' '$29 80010000' 'at 12287' 'at 0' 'at 8192' 'pc 80000008' \
+    '$29 80010000' 'at 8197' > "$work/wanted"
+debug "moves to positions that have a snapshot" 0 "$work/wanted" "" "$work/image" $long/config.cfg $long/journal
+
 # Memory, also where snapshots are taken and played from.
 printf '%s\n' 'break 80000008' next 'regs 1' 'watch 80000000' 'goto 10' back 'mem 80000000' 'goto 5000001' stop \
     'goto 9000' next back 'goto 4097' back 'goto 8200' back > "$work/in"

@@ -11,9 +11,10 @@ check_script "the links" tests/links
 lines=$(tests/documents "$board")
 more=$(tail -n 1 <<< "$lines")
 sed '$d' <<< "$lines"
-if [[ "$more" =~ ^([0-9]+)\ passed,\ ([0-9]+)\ failed$ ]]; then
+if [[ "$more" =~ $closing ]]; then
     passed=$((passed + BASH_REMATCH[1]))
     failed=$((failed + BASH_REMATCH[2]))
+    skipped=$((skipped + BASH_REMATCH[3]))
 else
     fail "the commands of the documents" "$more"
 fi

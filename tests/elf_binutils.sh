@@ -3,7 +3,7 @@
 #
 #   tests/elf_binutils.sh [PROGRAM]     PROGRAM: elf_bench, by default as `rt ci` leaves it
 #
-# One line for each case; the status is 1 if one failed. Without the package all are skipped, which it says.
+# One line for each case; the status is 1 if one failed. Without the package it prints which tool it wants, and no more.
 set -u
 top=$(cd "$(dirname "$0")/.." && pwd)
 program=${1:-$top/crates/elf_bench/out/elf_bench}
@@ -13,7 +13,7 @@ if ! [ -x "$program" ]; then
 fi
 for tool in mips-linux-gnu-as mips-linux-gnu-ld; do
   if ! command -v "$tool" >/dev/null; then
-    echo "skipped: elf_binutils: $tool is missing (Debian: binutils-mips-linux-gnu)"
+    echo "wants $tool"
     exit 0
   fi
 done

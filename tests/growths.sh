@@ -1,6 +1,6 @@
 # shellcheck shell=bash
 # Read by tests that refuse each growth of a program in turn, after check.sh: a growth is a call of the C library for
-# memory. It takes a C compiler; without one, such a test says that it is skipped.
+# memory. It takes a C compiler; without one, such a test is skipped.
 can_refuse=no
 if command -v cc > /dev/null && cc -shared -fPIC -O1 -o "$work/refuse.so" tests/refuse.c -ldl; then
     can_refuse=yes
@@ -13,7 +13,7 @@ refuse_each() {
     local name="$1, each growth refused in turn" refusal=$2 text=$3 n status=1 wrong=""
     shift 3
     if [ "$can_refuse" = no ]; then
-        echo "skipped: $name: there is no C compiler (cc)"
+        skip "$name" cc
         return
     fi
     for ((n = 1; n < 20000; n++)); do

@@ -65,7 +65,7 @@ what="programs in C, as Clang makes them"
 if ! have clang "$what" || ! have ld.lld "$what"; then
     :
 elif ! clang --target=mips-linux-gnu -x c -c -o "$work/object" /dev/null 2> /dev/null; then
-    echo "skipped: $what: this Clang has no MIPS"
+    skip "$what" "a Clang with MIPS"
 else
     for folder in "${projects[@]}"; do
         for level in -O0 -Os; do
@@ -75,7 +75,7 @@ else
     done
 fi
 
-have mips-linux-gnu-gcc "programs in C, as GCC for MIPS makes them (Debian: gcc-mips-linux-gnu)" || { summary; exit; }
+have mips-linux-gnu-gcc "programs in C, as GCC for MIPS makes them" || { summary; exit; }
 for folder in "${projects[@]}"; do
     name=$(basename "$folder")
     for level in -O0 -O1 -O2 -Os; do

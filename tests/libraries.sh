@@ -14,9 +14,9 @@ debuggers=crates/debug_rows/out/debug_rows
 threads=crates/thread_rows/out/thread_rows
 timelines=crates/timeline_rows/out/timeline_rows
 
-# built PROGRAM: whether `rt ci` has left it; a line says that its tests are skipped where it hasn't.
+# built PROGRAM: whether `rt ci` has left it; its tests are skipped where it hasn't.
 built() {
-    [ -x "$1" ] || { echo "skipped: ${1##*/}: $1 isn't there"; return 1; }
+    [ -x "$1" ] || { skip "the tests by ${1##*/}" "$1, which rt ci leaves"; return 1; }
 }
 
 # The texts of the table, a few at a time: a growth that is refused ends the program.

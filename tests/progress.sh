@@ -105,7 +105,7 @@ if [ $((${EPOCHREALTIME/[.,]/} - began)) -ge 1500000 ]; then
     shows "a long race" 0 never "$line$emptied" "${race[@]}" 1000000 "$work/raced"
     shows "Ctrl-C in a race" 130 shown "$line.*" "${race[@]}" 1000000 "$work/raced"
 else
-    echo "skipped: progress of a race: the longest takes less than 1.5 seconds here"
+    skip "progress: a long race" "a machine on which the longest race takes 1.5 seconds"
 fi
 
 summary

@@ -197,4 +197,19 @@ report 1 0 80000004
 cp "$work/report" "$work/wanted"
 refuse_each "board race" 3 "board: out of memory" "$board" race "$work/loop" "$work/one" "$work/nothing" 1 "$journal"
 
+# Threads that can't be started: the stacks of nine find no room where those of two do.
+report 100 0 80000000
+for count in one eight; do
+    printf 'something else' > "$journal"
+    (ulimit -v 60000; exec "$board" race "$work/loop" "$work/$count" "$work/nothing" 100 "$journal") > "$work/out" 2> "$work/err"
+    got=$?
+    if [ $count = one ]; then
+        check "race: threads that can be started" 0 "$work/report" "" $got
+        records "threads that can be started" "S 1 100"
+    else
+        check "race: threads that can't be started" 3 "$work/nothing" "board: out of memory" $got
+        verdict "race: threads that can't be started: OUT" "$([ -e "$journal" ] && [ ! -s "$journal" ] || echo "it isn't empty")"
+    fi
+done
+
 summary

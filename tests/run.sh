@@ -205,7 +205,7 @@ if [ "$can_refuse" = yes ]; then
     echo 6 > "$work/wanted"
     check "run: these events are of each kind" 0 "$work/wanted" "" 0
 else
-    echo "skipped: run: an event takes no memory: there is no C compiler (cc)"
+    skip "run: an event takes no memory" cc
 fi
 
 summary

@@ -127,16 +127,72 @@ class Texts:
                 for _ in range(self.random.choice((0, 1, 9, 80)))]
         return self.among(" ", "\n", "\r\n ").join(f"{word:08x}" for word in made).encode()
 
+    # Options of trace, arguments of journal
+
+    def number(self):
+        """A number, now and then one that isn't right."""
+        return self.among(*map(str, (0, 1, 2, 3, 5, 9, 30, 200, 5000)), str(self.random.randrange(40)),
+                          self.among("4194304", "4294967295", "4294967296", "18446744073709551615", str(10 ** 22), "-1",
+                                     "x", "", "01", "+3", "1.5"))
+
+    def trace_options(self):
+        words = []
+        for option, chosen in (("--from", .3), ("--to", .4), ("--cpu", .25)):
+            if self.often(chosen):
+                words += [option, self.number()]
+        if self.often(.4):
+            words.append("--instructions")
+        if self.often(.2):
+            words.append("--summary")
+        if self.often(.6):
+            words += ["--format", self.among("text", "json", "json", "svg", "svg", "SVG", "xml", "")]
+        if self.often(.05):
+            words.append(self.among("--instructions", "--summary", "--steps", "--from", "-", "--format=json"))
+        return words
+
+    def journal_options(self, cpus):
+        """Options that mostly go together."""
+        if self.often(.4):
+            return ["--turn", self.number()] if self.often(.7) else []
+        words = ["--random", self.among(self.number(), str(self.random.getrandbits(64)))]
+        if self.often(.3):
+            return words + ["--pct", self.number()]
+        if self.often(.5):
+            words += ["--switch", self.among("0", "1", "50", "500", "1000", self.number())]
+        if self.often(.4):
+            weights = [self.among("0", "1", "3", "1000000", self.number()) for _ in range(cpus)]
+            words += ["--weights", ",".join(weights)]
+        return words
+
+    def journal_arguments(self):
+        count = self.among(1, 2, 2, 3, 4, 8)
+        cpus = str(count) if self.often(.9) else self.number()
+        words = [cpus, self.among("0", "1", "7", "150", "2000", "30000", self.number()), *self.journal_options(count)]
+        if self.often(.4):
+            words += ["--tick-every", self.among("1", "2", "10", "100", self.number())]
+        if self.often(.3):
+            count = self.among(1, 2, 5)
+            raises = [f"{self.random.randrange(32)}@{self.random.randrange(1, 200)}" for _ in range(count)]
+            wrong = self.among("4", "4@", "@4", "256@1", "4@0", "", ",")
+            words += ["--raise", ",".join(raises) if self.often(.8) else wrong]
+        if self.often(.3):
+            words += ["--order", self.among("big", "little", "little", "middle")]
+        if self.often(.05):
+            words += self.among(["--pct", "3"], ["--turn", "1"], ["--switch", "1"], ["--format", "svg"], ["x"])
+        return words
+
     # Command lines
 
     def arguments(self):
         """A command line, mostly a wrong one. No name has a slash in it, so that files are made in one folder alone."""
-        words = ("words", "asm", "run", "debug", "race", "help", "-h", "--help", "--version", "-V", "--", "-", "", "x",
-                 "1", "-1", "1000001", "18446744073709551616", "--STEPS", "--steps=1", "\x1b[31m", "a\nb", "a\tb",
+        words = ("words", "asm", "run", "debug", "race", "trace", "journal", "help", "-h", "--help", "--version", "-V",
+                 "--", "-", "", "x", "1", "-1", "1000001", "18446744073709551616", "--STEPS", "--steps=1", "\x1b[31m",
+                 "a\nb", "a\tb",
+                 "--from", "--format", "--random", "--raise", "--summary", "--instructions", "--cpu=1",
                  "\u00e9\u202e", "x" * 4000, "image.elf", "board.cfg", "board.journal", "source.s", "%s%n", "{}", "'")
         made = [self.random.choice(words).encode() for _ in range(self.random.choice((0, 1, 1, 2, 2, 3, 4, 5, 9)))]
         if made and self.often(.3):
-            made[0] = self.random.choice((b"words", b"asm", b"run", b"debug", b"help"))
+            made[0] = self.random.choice((b"words", b"asm", b"run", b"debug", b"trace", b"journal", b"help"))
         if made and self.often(.1):
             made[self.random.randrange(len(made))] = self.random.randbytes(6).replace(b"\0", b"").replace(b"/", b"_")
         return made
