@@ -261,7 +261,6 @@ impl Teller {
         let now = Standings::of(it.board);
         let concerned = now.put_changes(it.alloc, what, &self.standings, self.options.cpu)?;
         self.standings = now;
-        self.see(it.alloc, before.position.saturating_add(1))?;
         if self.off.is_none() && it.board.is_off() {
             self.off = Some(before.position);
             put(what, ", the board is off")?;
@@ -275,6 +274,7 @@ impl Teller {
             let Some(old) = self.tasks.get(i).copied() else {
                 return Ok(());
             };
+        self.see(it.alloc, before.position.saturating_add(1))?;
             let Some(now) = task_seen(it.board, old.id) else {
                 return Ok(());
             };
