@@ -84,13 +84,16 @@ segments 65535
 : > "$work/wanted"
 asm "65,535 segments" 1 "${front}its image has more segments or bytes than an object file can hold"
 
-# The examples, which readelf reads too.
+# The examples, which readelf reads too; but firmware.s, whose source is one for GNU as.
 readelf=
 have readelf "readelf of the examples" && readelf=yes
-for example in examples/*.s; do
+for example in examples/*.s examples/*/*.s; do
     [ "$example" = examples/firmware.s ] && continue
+    : > "$work/object"
     "$board" asm "$example" "$work/object" > "$work/out" 2> "$work/err"
-    check "asm: $example" 0 "$work/nothing" "" $?
+    got=$?
+    [ -s "$work/object" ] || got="$got, and OUT is empty"
+    check "asm: $example" 0 "$work/nothing" "" "$got"
     if [ $readelf ]; then
         readelf -a "$work/object" > /dev/null 2> "$work/err"
         got=$?

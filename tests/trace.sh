@@ -1,13 +1,35 @@
 #!/bin/bash
 # The tests of `board trace`: tests/trace.sh PROGRAM. Each folder of tests/tracing is a scene: `source.s`, which is
-# assembled; `config.cfg`; `journal`; `trace`, what is printed; and `summary`, what `--summary` prints. The head of the
-# source says what happens in it. What no folder can say follows.
+# assembled; `config.cfg`; `journal`; `trace`, what is printed; `summary`, what `--summary` prints; and in some
+# `instructions`, what `--instructions` prints. The head of the source says what happens in it. What no folder can say
+# follows. Each test runs the program, and wants some text of it.
 . "$(dirname "$0")/check.sh"
 
-# trace NAME STATUS OUTPUT-FILE ERROR ARGUMENTS..: runs `board trace`.
+# run_trace ARGUMENTS..: runs `board trace`, which leaves $work/out and $work/err. The status is its own.
+run_trace() {
+    "$board" trace "$@" < /dev/null > "$work/out" 2> "$work/err"
+}
+
+# trace NAME OUTPUT-FILE ARGUMENTS..: `board trace` prints the file, which isn't empty, and nothing else.
 trace() {
-    "$board" trace "${@:5}" < /dev/null > "$work/out" 2> "$work/err"
-    check "trace: $1" "$2" "$3" "$4" $?
+    run_trace "${@:3}"
+    local got=$?
+    [ -s "$2" ] || got="$got with an output that is empty"
+    check "trace: $1" 0 "$2" "" "$got"
+}
+
+# refused NAME STATUS ERROR ARGUMENTS..: `board trace` prints nothing but one line of an error.
+refused() {
+    run_trace "${@:4}"
+    check "trace: $1" "$2" "$work/nothing" "${3:?}" $?
+}
+
+# has NAME LINES-FILE PATTERN: the lines of $work/out with the pattern are those of the file, which isn't empty.
+has() {
+    local wrong=
+    [ -s "$2" ] || wrong="; no line is wanted"
+    grep -E -- "$3" "$work/out" | cmp -s - "$2" || wrong="$wrong; other lines have '$3'"
+    verdict "trace: $1" "$wrong"
 }
 
 # assembled NAME SOURCE: makes $work/image of a source.
@@ -15,88 +37,149 @@ assembled() {
     "$board" asm "$2" "$work/image" 2> "$work/err" || fail "trace: $1" "$(cat "$work/err")"
 }
 
+# example NAME: makes $work/image of an example's source, and `files` what `board trace` reads of it.
+example() {
+    assembled "$1" "examples/$1.s"
+    files=("$work/image" "examples/$1.cfg" "examples/$1.journal")
+}
+
+# scene NAME: makes $work/image of a scene's source, and `files` what `board trace` reads of it.
+scene() {
+    folder=tests/tracing/$1
+    assembled "$1" "$folder/source.s"
+    files=("$work/image" "$folder/config.cfg" "$folder/journal")
+}
+
 for folder in tests/tracing/*/; do
     name=$(basename "$folder")
-    assembled "$name" "$folder/source.s"
-    trace "$name" 0 "$folder/trace" "" "$work/image" "$folder/config.cfg" "$folder/journal"
-    trace "$name, summary" 0 "$folder/summary" "" --summary "$work/image" "$folder/config.cfg" "$folder/journal"
+    scene "$name"
+    trace "$name" "$folder/trace" "${files[@]}"
+    trace "$name, summary" "$folder/summary" --summary "${files[@]}"
+    [ -e "$folder/instructions" ] &&
+        trace "$name, instructions" "$folder/instructions" --instructions "${files[@]}"
 done
-
-# Instructions are read in the board's byte order.
-folder=tests/tracing/little_endian
-assembled "little-endian instructions" $folder/source.s
-trace "little-endian instructions" 0 $folder/instructions "" \
-    --instructions "$work/image" $folder/config.cfg $folder/journal
 
 # The summaries and the pictures of the examples, where they have them.
 for summary_file in examples/*/*.summary; do
-    name=${summary_file%.summary}
-    assembled "$name" "$name.s"
-    trace "$name, summary" 0 "$summary_file" "" --summary "$work/image" "$name.cfg" "$name.journal"
-    trace "$name, picture" 0 "$name.svg" "" --format svg "$work/image" "$name.cfg" "$name.journal"
+    name=${summary_file#examples/}
+    name=${name%.summary}
+    example "$name"
+    trace "$name, summary" "$summary_file" --summary "${files[@]}"
+    trace "$name, picture" "examples/$name.svg" --format svg "${files[@]}"
 done
+
+# told NAME PATTERN: some scene's `trace` has lines with the pattern, and the program prints these of that scene.
+told() {
+    local found
+    found=$(grep -lE -- "$2" tests/tracing/*/trace | head -n 1)
+    [ "$found" ] || { fail "trace: $1" "no scene has it"; return; }
+    scene "$(basename "$(dirname "$found")")"
+    grep -E -- "$2" "$found" > "$work/lines"
+    run_trace "${files[@]}"
+    has "$1" "$work/lines" "$2"
+}
 
 # Every service call of the documents, every answer and every exception is in some scene's trace.
-cat tests/tracing/*/trace > "$work/all"
 for call in $(sed -nE 's/^\| [0-9]+ \| `([a-z_]+)` \|.*/\1/p' docs/KERNEL.md); do
-    grep -q " $call(" "$work/all" && missing= || missing="no scene has it"
-    verdict "trace: $call" "$missing"
+    told "$call" " $call\\("
 done
 for answer in $(sed -nE 's/^\| (E_[A-Z]+) \|.*/\1/p' docs/KERNEL.md); do
-    grep -q " = $answer" "$work/all" && missing= || missing="no scene has it"
-    verdict "trace: $answer" "$missing"
+    told "$answer" " = $answer"
 done
 for exception in AdEL AdES IBE DBE Bp RI Ov Tr; do
-    grep -q " $exception: " "$work/all" && missing= || missing="no scene has it"
-    verdict "trace: $exception" "$missing"
+    told "$exception" " $exception: "
 done
 
-# Parts of a journal: the lines of the parts are those of the whole, but for the one that begins each.
-assembled "parts" examples/data_queue/data_queue.s
-files="$work/image examples/data_queue/data_queue.cfg examples/data_queue/data_queue.journal"
-# shellcheck disable=SC2086
-{
-    "$board" trace $files | grep -v begins > "$work/whole"
-    "$board" trace --to 60 $files | grep -v begins > "$work/parts"
-    "$board" trace --from 60 $files | grep -v begins | tail -n +2 >> "$work/parts"
-    verdict "trace: two parts" "$(cmp "$work/whole" "$work/parts" 2>&1)"
-    "$board" trace --cpu 2 $files > "$work/second"
-    verdict "trace: one processor" "$(grep -vE '^ *[0-9]+ (2|1 .*cpu 2 |  .*(cpu 2 |begins))' "$work/second" | tail -n +2)"
-    # Each event is told of once: with instructions, the lines and the counts add up to the journal.
-    "$board" trace --instructions --to 115 $files | grep -v begins | tail -n +2 > "$work/each"
-    lines=$(grep -vcE ' idle, [0-9]+ steps?$' "$work/each")
-    more=$(sed -nE 's/.* idle, ([0-9]+) steps?$/\1/p' "$work/each" | paste -sd+ | bc)
-    [ $((lines + more)) = 115 ] && missing= || missing="$lines lines and $more steps"
-    verdict "trace: each event once" "$missing"
-    trace "from above to" 2 "$work/nothing" "board: the trace: there are no events from 5 to 3: the journal has 125" --from 5 --to 3 $files
-    trace "from above the length" 2 "$work/nothing" "board: the trace: there are no events from 126 to 125: the journal has 125" --from 126 $files
-    trace "no such format" 2 "$work/nothing" "board: the trace: its formats are text, json and svg" --format png $files
-    trace "to past the end" 0 <("$board" trace $files) "" --to 18446744073709551615 $files
-    trace "no such processor" 0 <("$board" trace $files | head -n 2) "" --cpu 9 $files
-    : > "$work/out"
-    "$board" trace $files > /dev/full 2> "$work/err"
-    check "trace: a full disk" 4 "$work/nothing" "board: can't write the output: $is_full" $?
-    "$board" trace --format json $files > /dev/full 2> "$work/err"
-    check "trace: a full disk, json" 4 "$work/nothing" "board: can't write the output: $is_full" $?
-}
-trace "no journal" 4 "$work/nothing" "board: can't open missing: $is_missing" "$work/image" examples/data_queue/data_queue.cfg missing
-trace "no object file" 1 "$work/nothing" "board: the object file: no ELF file: it doesn't begin with the bytes 7F 45 4C 46; it looks like a journal" \
-    examples/data_queue/data_queue.journal examples/data_queue/data_queue.cfg examples/data_queue/data_queue.journal
+# Since when a task that waits is suspended, resumed, suspended again, and woken: after so many events, this line.
+scene suspended
+while read -r to line; do
+    echo "$line" > "$work/lines"
+    run_trace --summary --to "$to" "${files[@]}"
+    has "since when, after $to events" "$work/lines" '^task 1 '
+done < tests/tracing/suspended/since
 
-# What a timeline says, read by a parser: slices of a track don't overlap, and cover it.
+# Parts of a journal: the lines of the parts are those of the whole, but for the one that begins each.
+example data_queue/data_queue
+"$board" trace "${files[@]}" > "$work/whole"
+"$board" trace --to 60 "${files[@]}" > "$work/parts"
+"$board" trace --from 60 "${files[@]}" | tail -n +3 >> "$work/parts"
+lines=$(wc -l < "$work/whole")
+[ "$lines" -gt 20 ] && wrong= || wrong="; the whole has $lines lines"
+verdict "trace: two parts" "$wrong$(cmp "$work/whole" "$work/parts" 2>&1)"
+
+# One processor: the lines of its steps, and those that say what it runs from then on. They are all there.
+head -n 2 "$work/whole" > "$work/second"
+tail -n +3 "$work/whole" | grep -E '^ *[0-9]+ (2 |.*[, ]cpu 2 (runs|idle|stopped))' >> "$work/second"
+lines=$(wc -l < "$work/second")
+[ "$lines" -gt 5 ] || fail "trace: one processor" "only $lines lines are wanted"
+trace "one processor" "$work/second" --cpu 2 "${files[@]}"
+head -n 2 "$work/whole" > "$work/first"
+trace "no such processor" "$work/first" --cpu 9 "${files[@]}"
+trace "to past the end" "$work/whole" --to 18446744073709551615 "${files[@]}"
+
+# Each event is told of once: with instructions, the lines and the counts add up to the journal.
+"$board" trace --instructions --to 115 "${files[@]}" | tail -n +3 > "$work/each"
+lines=$(grep -vcE ' idle, [0-9]+ steps?$' "$work/each")
+more=$(sed -nE 's/.* idle, ([0-9]+) steps?$/\1/p' "$work/each" | awk '{ sum += $1 } END { print sum + 0 }')
+[ $((lines + more)) = 115 ] && missing= || missing="$lines lines and $more steps"
+verdict "trace: each event once" "$missing"
+
+# What is refused, and faults of files.
+refused "from above to" 2 "board: the trace: there are no events from 5 to 3: the journal has 125" \
+    --from 5 --to 3 "${files[@]}"
+refused "from above the length" 2 "board: the trace: there are no events from 126 to 125: the journal has 125" \
+    --from 126 "${files[@]}"
+refused "no such format" 2 "board: the trace: its formats are text, json and svg" --format png "${files[@]}"
+refused "no journal" 4 "board: can't open missing: $is_missing" "$work/image" examples/data_queue/data_queue.cfg missing
+refused "no object file" 1 \
+    "board: the object file: no ELF file: it doesn't begin with the bytes 7F 45 4C 46; it looks like a journal" \
+    examples/data_queue/data_queue.journal "${files[@]:1}"
+: > "$work/out"
+"$board" trace "${files[@]}" > /dev/full 2> "$work/err"
+check "trace: a full disk" 4 "$work/nothing" "board: can't write the output: $is_full" $?
+"$board" trace --format json "${files[@]}" > /dev/full 2> "$work/err"
+check "trace: a full disk, json" 4 "$work/nothing" "board: can't write the output: $is_full" $?
+
+# entries ARGUMENTS..: leaves what `--format json` prints in $work/out, without the commas between the entries.
+entries() {
+    run_trace --format json "$@"
+    sed -i 's/,$//' "$work/out"
+}
+
+# off LENGTH START: the slices of a board of two processors and three tasks that is off.
+off() {
+    local lane
+    for lane in '1,"tid":1' '1,"tid":2' '2,"tid":3' '2,"tid":4' '2,"tid":5'; do
+        echo "{\"ph\":\"X\",\"pid\":$lane,\"dur\":$1,\"ts\":$2,\"cat\":\"off\",\"name\":\"off\"}"
+    done
+}
+
+# A raise is an instant of the processor that handles the line.
+example interrupt/interrupt
+printf '{"ph":"i","pid":1,"tid":1,"s":"t","ts":%s,"cat":"interrupt","name":"the interrupt of line 4 is raised"}\n' \
+    9 27 > "$work/lines"
+entries "${files[@]}"
+has "raises as json" "$work/lines" '"name":"the interrupt of line 4 is raised"'
+
+# The event of position 91 turns this board off: it is off from 92 to 110, where the journal ends.
+example lost_update/racy
+off 18 92 > "$work/lines"
+entries "${files[@]}"
+has "off as json" "$work/lines" '"off"'
+off 10 100 > "$work/lines"
+entries --from 100 "${files[@]}"
+has "off from the first event on" "$work/lines" '"ph":"X"'
+
 if have python3 "the timelines"; then
+    # What a timeline says, read by a parser: slices of a track don't overlap, and cover it.
     for name in data_queue/data_queue interrupt/interrupt lost_update/racy deadlock/deadlock; do
-        assembled "$name" "examples/$name.s"
-        "$board" trace --format json "$work/image" "examples/$name.cfg" "examples/$name.journal" > "$work/out"
+        example "$name"
+        "$board" trace --format json "${files[@]}" > "$work/out"
         verdict "trace: $name as json" "$(python3 tests/tracks "$work/out" 2>&1)"
     done
-    # A raise is an instant of the processor that handles the line.
-    assembled "a raise" examples/interrupt/interrupt.s
-    "$board" trace --format json "$work/image" examples/interrupt/interrupt.cfg examples/interrupt/interrupt.journal |
-        grep '"name":"the interrupt of line 4 is raised"' > "$work/out"
-    printf '{"ph":"i","pid":1,"tid":1,"s":"t","ts":%s,"cat":"interrupt","name":"the interrupt of line 4 is raised"},\n' \
-        9 27 > "$work/raises"
-    verdict "trace: raises as json" "$(diff "$work/raises" "$work/out")"
+    # Random boards beside the model: states and since when, slices, and what instructions change and load.
+    wrong=$(tests/model/traces "$board" 2>&1) && wrong=
+    verdict "trace: random boards beside the model" "$(head -n 3 <<< "$wrong")"
 fi
 
 summary

@@ -8,7 +8,7 @@ use crate::timeline::{Kind, MarkKind, Timeline, kind_name, mark_name};
 use brd_base::NoMemory;
 
 /// The kinds in the order of the legend.
-const KINDS: [Kind; 10] = [
+const KINDS: [Kind; 11] = [
     Kind::Task,
     Kind::Handler,
     Kind::Idle,
@@ -19,6 +19,7 @@ const KINDS: [Kind; 10] = [
     Kind::Suspended,
     Kind::WaitingSuspended,
     Kind::Dormant,
+    Kind::Off,
 ];
 
 /// The kinds of marks in the order of the legend.

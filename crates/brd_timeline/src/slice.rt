@@ -32,6 +32,7 @@ pub(crate) fn colour_of(kind: Kind) -> &'static str {
         Kind::Suspended => "#cc79a7",
         Kind::WaitingSuspended => "#0072b2",
         Kind::Dormant => "#bdbdbd",
+        Kind::Off => "#000000",
     }
 }
 
@@ -43,12 +44,12 @@ fn ink_of(kind: Kind) -> &'static str {
     }
 }
 
-/// How high a kind's slices are: those of a dormant task are a thin line.
+/// How high a kind's slices are: those of a dormant task, and of a board that is off, are a thin line.
 pub(crate) fn height_of(kind: Kind) -> u32
     ensures { result ≤ 200 }
 {
     match kind {
-        Kind::Dormant => HEIGHT / 5,
+        Kind::Dormant | Kind::Off => HEIGHT / 5,
         _ => HEIGHT,
     }
 }

@@ -32,6 +32,8 @@ pub enum Kind {
     WaitingSuspended,
     /// The task is in the state DORMANT.
     Dormant,
+    /// The board is off.
+    Off,
 }
 
 /// What happened in a lane at a position.
@@ -116,6 +118,7 @@ pub(crate) fn kind_name(kind: Kind) -> &'static str {
         Kind::Suspended => "suspended",
         Kind::WaitingSuspended => "waiting-suspended",
         Kind::Dormant => "dormant",
+        Kind::Off => "off",
     }
 }
 

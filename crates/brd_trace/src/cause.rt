@@ -211,7 +211,7 @@ fn access_of(context: &Context, insn: &Insn) -> Option<Access> {
 }
 
 /// Whether an operation is SC.
-pub(crate) fn is_sc(op: LinkedOp) -> bool {
+fn is_sc(op: LinkedOp) -> bool {
     match op {
         LinkedOp::Ll => false,
         LinkedOp::Sc => true,

@@ -1,6 +1,6 @@
 //! The timeline of what is told.
 
-use crate::recording::Recording;
+use crate::recording::{Known, Recording};
 use crate::teller::{Before, Teller};
 use brd_base::NoMemory;
 use brd_timeline::{MarkKind, Timeline};
@@ -9,8 +9,12 @@ use std::alloc::Global;
 impl Teller {
     /// From a position on a timeline is made.
     pub(crate) fn record(&mut self, alloc: Global, from: u64) -> Result<(), NoMemory> {
-        let recording = Recording::new(alloc, &self.standings, self.tasks.as_slice(), from)?;
-        self.recording = Some(recording);
+        let known = Known {
+            standings: &self.standings,
+            tasks: self.tasks.as_slice(),
+            is_off: self.off.is_some(),
+        };
+        self.recording = Some(Recording::new(alloc, known, from)?);
         Ok(())
     }
 
@@ -29,8 +33,13 @@ impl Teller {
 
     /// Records what goes on from a position on.
     pub(crate) fn see(&mut self, alloc: Global, at: u64) -> Result<(), NoMemory> {
+        let known = Known {
+            standings: &self.standings,
+            tasks: self.tasks.as_slice(),
+            is_off: self.off.is_some(),
+        };
         match &mut self.recording {
-            Some(recording) => recording.see(alloc, &self.standings, self.tasks.as_slice(), at),
+            Some(recording) => recording.see(alloc, known, at),
             None => Ok(()),
         }
     }

@@ -6,6 +6,7 @@ ghost use Rattle.brd_journal.specs.Runs.{copies};
 ghost use Rattle.brd_journal.specs.Still.{does_no_more};
 ghost use Rattle.brd_trace.specs.Playing.{AreStill, IsPlayed, executing};
 
+use crate::cause::word_at;
 use brd_board::{Board, Event, Report};
 use brd_exec::Context;
 use brd_journal::{Journal, Run, does_no_more};
@@ -73,6 +74,13 @@ impl Playback {
             report,
             count,
         })
+    }
+
+    /// The word that lies where the next event's processor goes on, if that is a step of one that executes.
+    pub(crate) fn next_word(&self, journal: &Journal) -> Option<u32> {
+        let rest = journal.rest_at(self.at)?;
+        let context = registers(&self.board, rest.event)?;
+        word_at(&self.board, context.pc())
     }
 }
 

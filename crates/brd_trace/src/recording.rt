@@ -28,6 +28,17 @@ struct Open {
     from: u64,
 }
 
+/// What is known of a board at a position.
+#[derive(Clone, Copy)]
+pub(crate) struct Known<'a> {
+    /// What its processors do.
+    pub standings: &'a Standings,
+    /// Its tasks.
+    pub tasks: &'a [TaskSeen],
+    /// Whether it is off.
+    pub is_off: bool,
+}
+
 /// A timeline that is being made.
 #[derive(Drop)]
 pub(crate) struct Recording {
@@ -39,13 +50,8 @@ pub(crate) struct Recording {
 }
 
 impl Recording {
-    /// The timeline of a run of n processors and these tasks, from a position on.
-    pub(crate) fn new(
-        alloc: Global,
-        standings: &Standings,
-        tasks: &[TaskSeen],
-        from: u64,
-    ) -> Result<Recording, NoMemory> {
+    /// The timeline of a run, from a position on.
+    pub(crate) fn new(alloc: Global, known: Known, from: u64) -> Result<Recording, NoMemory> {
         let mut recording = Recording {
             timeline: Timeline {
                 lanes: Vec::new(alloc),
@@ -60,14 +66,14 @@ impl Recording {
             open: Vec::new(alloc),
         };
         for cpu in 1..9u8 {
-            if let Some(standing) = standings.at(cpu) {
+            if known.standings.at(cpu).is_some() {
                 recording.processors.push(cpu)?;
-                let doing = of_processor(Some(standing));
+                let doing = known.of_processor(cpu);
                 recording.begin(alloc, "cpu", u64::from(cpu), Group::Processor, doing)?;
             }
         }
-        for task in tasks {
-            let doing = of_task(task, standings);
+        for task in known.tasks {
+            let doing = known.of_task(task);
             recording.begin(alloc, "task", u64::from(task.id), Group::Task, doing)?;
         }
         Ok(recording)
@@ -91,23 +97,17 @@ impl Recording {
     }
 
     /// What goes on at a position, from which on it does.
-    pub(crate) fn see(
-        &mut self,
-        alloc: Global,
-        standings: &Standings,
-        tasks: &[TaskSeen],
-        at: u64,
-    ) -> Result<(), NoMemory> {
+    pub(crate) fn see(&mut self, alloc: Global, known: Known, at: u64) -> Result<(), NoMemory> {
         for i in 0..self.processors.len() {
             let Some(cpu) = self.processors.get(i).copied() else {
                 return Ok(());
             };
-            let doing = of_processor(standings.at(cpu));
-            self.turn(alloc, i, doing, at)?;
+            self.turn(alloc, i, known.of_processor(cpu), at)?;
         }
         let first = self.processors.len();
+        let tasks = known.tasks;
         for i in 0..tasks.len() {
-            let doing = of_task(&tasks[i], standings);
+            let doing = known.of_task(&tasks[i]);
             self.turn(alloc, first.saturating_add(i), doing, at)?;
         }
         Ok(())
@@ -207,8 +207,35 @@ impl Recording {
     }
 }
 
-/// What goes on in the lane of a processor.
-fn of_processor(standing: Option<Standing>) -> Doing {
+impl<'a> Known<'a> {
+    /// What goes on in the lane of a processor.
+    fn of_processor(&self, cpu: u8) -> Doing {
+        if self.is_off {
+            return off();
+        }
+        of_standing(self.standings.at(cpu))
+    }
+
+    /// What goes on in the lane of a task.
+    fn of_task(&self, task: &TaskSeen) -> Doing {
+        if self.is_off {
+            return off();
+        }
+        of_state(task, self.standings)
+    }
+}
+
+/// What goes on in the lanes of a board that is off.
+fn off() -> Doing {
+    Doing {
+        kind: Kind::Off,
+        number: 0,
+        waiting: None,
+    }
+}
+
+/// What goes on in the lane of a processor that is on.
+fn of_standing(standing: Option<Standing>) -> Doing {
     let (kind, number) = match standing {
         Some(Standing::Task(id)) => (Kind::Task, id),
         Some(Standing::Handler(line)) => (Kind::Handler, u16::from(line)),
@@ -222,8 +249,8 @@ fn of_processor(standing: Option<Standing>) -> Doing {
     }
 }
 
-/// What goes on in the lane of a task.
-fn of_task(task: &TaskSeen, standings: &Standings) -> Doing {
+/// What goes on in the lane of a task of a board that is on.
+fn of_state(task: &TaskSeen, standings: &Standings) -> Doing {
     let kind = match task.state {
         TaskState::Dormant => Kind::Dormant,
         TaskState::Ready if standings.runs(task.id) => Kind::Running,

@@ -95,20 +95,23 @@ pub(crate) struct Cause {
 impl TaskSeen {
     /// The task as it stands after another event, with since when it has been in its state.
     pub(crate) fn after(self, now: TaskSeen, cause: Cause) -> TaskSeen {
-        if self.state == now.state || (self.waiting.is_some() && now.waiting.is_some()) {
-            return TaskSeen {
-                since: self.since,
-                place: self.place,
-                ..now
-            };
-        }
-        let place = if cause.caller == Some(self.id) {
+        let same_state = self.state == now.state;
+        let same_wait = self.waiting == now.waiting;
+        let since = if same_state && same_wait {
+            self.since
+        } else {
+            Some(cause.position)
+        };
+        // A task that is suspended or resumed while it waits is still where it waits.
+        let place = if same_wait && (same_state || now.waiting.is_some()) {
+            self.place
+        } else if cause.caller == Some(self.id) {
             cause.address
         } else {
             now.pc
         };
         TaskSeen {
-            since: Some(cause.position),
+            since,
             place,
             ..now
         }

@@ -63,6 +63,8 @@ pub(crate) struct Before {
     pub who: Option<Standing>,
     /// The context in which it executed, if it did.
     pub context: Option<Context>,
+    /// The word that was there to be fetched, where lines of instructions are shown and RAM had one.
+    pub word: Option<u32>,
 }
 
 impl Before {
@@ -129,8 +131,14 @@ impl Teller {
         !self.options.instructions && matches!(report, Report::Ran(_))
     }
 
-    /// What was there before an event, of which the context in which it executed is known.
-    pub(crate) fn before(&self, position: u64, event: Event, context: Option<Context>) -> Before {
+    /// What was there before an event, of which the context in which it executed and the word there are known.
+    pub(crate) fn before(
+        &self,
+        position: u64,
+        event: Event,
+        context: Option<Context>,
+        word: Option<u32>,
+    ) -> Before {
         let cpu = match event {
             Event::Step(cpu) => cpu,
             Event::Tick | Event::Raise(_) => 0,
@@ -140,6 +148,7 @@ impl Teller {
             cpu,
             who: self.standings.at(cpu),
             context,
+            word,
         }
     }
 
@@ -261,11 +270,11 @@ impl Teller {
         let now = Standings::of(it.board);
         let concerned = now.put_changes(it.alloc, what, &self.standings, self.options.cpu)?;
         self.standings = now;
-        self.see(it.alloc, before.position.saturating_add(1))?;
         if self.off.is_none() && it.board.is_off() {
             self.off = Some(before.position);
             put(what, ", the board is off")?;
         }
+        self.see(it.alloc, before.position.saturating_add(1))?;
         self.put_line(it, out, before, place, what, concerned)
     }
 

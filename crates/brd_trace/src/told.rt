@@ -24,7 +24,7 @@ impl Teller {
         address: u32,
     ) -> Result<(), NoMemory> {
         let mut what = Vec::new(it.alloc);
-        let word = word_at(it.board, address);
+        let word = before.word;
         put_instruction(&mut what, address, word)?;
         let after = it.board.registers(before.cpu);
         if let (Some(old), Some(new)) = (before.context, after) {

@@ -54,6 +54,12 @@ impl Tracer {
             → IsPlayed boot journal.now.events self.new.playback }
     {
         let position = self.playback.at;
+        // (an instruction may write over itself, so the word is read before it)
+        let word = if self.teller.options.instructions {
+            self.playback.next_word(journal)
+        } else {
+            None
+        };
         let mut context = None;
         let Some(moved) = self.playback.advance(journal, to, &mut context) else {
             return Ok(());
@@ -61,7 +67,7 @@ impl Tracer {
         if self.teller.passes(moved.report) {
             return Ok(());
         }
-        let before = self.teller.before(position, moved.event, context);
+        let before = self.teller.before(position, moved.event, context, word);
         let scene = Scene {
             alloc,
             names,

@@ -20,7 +20,7 @@ use std::io;
 use std::io::{BufRead, BufReader, Write};
 
 /// The kinds of slices and marks by their numbers.
-const KINDS: [Kind; 10] = [
+const KINDS: [Kind; 11] = [
     Kind::Task,
     Kind::Handler,
     Kind::Idle,
@@ -31,6 +31,7 @@ const KINDS: [Kind; 10] = [
     Kind::Suspended,
     Kind::WaitingSuspended,
     Kind::Dormant,
+    Kind::Off,
 ];
 
 const MARKS: [MarkKind; 4] = [
