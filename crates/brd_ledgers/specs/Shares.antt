@@ -1,5 +1,5 @@
 -- What a processor's share is: whose it is, and what it has counted.
-use Rattle.std.specs.Prelude.{◌≡◌, ℕ, ◌+◌, ◌<◌, List, length, slice_index_or}
+use Rattle.std.specs.Prelude.{◌≡◌, ℕ, ◌+◌, ◌<◌, ◌≤◌, List, length, slice_index_or}
 use Rattle.brd_ledgers.specs.declared.share.Token.{Token}
 use Rattle.brd_ledgers.specs.declared.share.Token.TheVariants.{First, Second, Third, Fourth, Fifth, Sixth, Seventh, Eighth}
 
@@ -32,3 +32,7 @@ abbrev pub AreNew : List Counted → Type 0
 AreNew shares =
     (i : ℕ) (default : Counted) → i < length shares
     → ((slice_index_or shares i default).cpu ≡ i + 1) × ((slice_index_or shares i default).count ≡ 0)
+
+-- what books count for this number is for a processor from 1 to `processors`
+abbrev pub IsOwn : ℕ → List ℕ → ℕ → Type 0
+IsOwn processors books cpu = 0 < slice_index_or books cpu 0 → (0 < cpu) × (cpu ≤ processors)

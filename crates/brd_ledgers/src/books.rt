@@ -1,8 +1,8 @@
 //! A station's books: a tally for each processor that there may be.
 
-ghost use Rattle.std.specs.Prelude.{◌≡◌, ℕ, ◌+◌, ◌<◌, ◌≤◌, ◌^◌, ◌∷◌, [], length, slice_index_or, slice_set, vec_len, IfOk};
+ghost use Rattle.std.specs.Prelude.{◌≡◌, ℕ, ◌+◌, ◌<◌, ◌≤◌, ◌^◌, ◌∷◌, [], length, slice_index_or, slice_set, vec_len, Decides, IfOk};
 ghost use Rattle.brd_ledgers.specs.Blanks.{AreOf};
-ghost use Rattle.brd_ledgers.specs.Shares.{AreNew};
+ghost use Rattle.brd_ledgers.specs.Shares.{AreNew, IsOwn};
 
 use crate::blanks::Blanks;
 use crate::ledger::{Eighth, Fifth, First, Fourth, Race, Second, Seventh, Sixth, Third};
@@ -118,6 +118,27 @@ impl<K: Race> Books<K> {
             8 => self.eighth.count(),
             _ => 0,
         }
+    }
+
+    /// How many numbers there are, with 0, for which nothing is counted.
+    fn len(&self) -> u8
+        ensures is { result ≡ length self.now }
+        ensures first { (processors : ℕ) (cpu : ℕ) → cpu < 1 → IsOwn processors self.now cpu }
+    {
+        let _ = self.first.count();
+        9
+    }
+
+    /// Whether nothing has been counted but for the processors from 1 to `processors`.
+    pub fn are_of_first(&self, processors: usize) -> bool
+        ensures { Decides result ((cpu : ℕ) → IsOwn processors self.now cpu) }
+    {
+        for cpu in 1..self.len() {
+            if usize::from(cpu) > processors && self.count(cpu) > 0 {
+                return false;
+            }
+        }
+        true
     }
 
     /// Counts more for the processor whose share this is, here and in the share.
