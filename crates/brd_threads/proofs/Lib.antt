@@ -4,3 +4,4 @@ pub mod RoomLemmas
 pub mod ScriptLemmas
 pub mod LeaseLemmas
 pub mod RaceLemmas
+pub mod ProcessorLemmas

@@ -1,6 +1,6 @@
 -- A station stays a replay of its journal.
-use Rattle.std.proofs.Common.{◌≡◌, ℕ, ◌+◌, ◌<◌, List, [], ◌∷◌, ◌++◌, length, take, replicate, refl, sym, ap, ◌∙◌, arith}
-use Rattle.std.specs.Prelude.{Some, slice_get, slice_index_or, slice_set}
+use Rattle.std.proofs.Common.{◌≡◌, ℕ, ◌+◌, ◌<◌, ◌≤◌, List, [], ◌∷◌, ◌++◌, length, take, replicate, refl, sym, ap, subst, ◌∙◌, arith}
+use Rattle.std.specs.Prelude.{Bool, Decides, Some, slice_get, slice_index_or, slice_set}
 use Rattle.std.proofs.lemmas.Bool.Decides.{nat_tests}
 use Rattle.std.proofs.lemmas.Grind.{get_or-set_at}
 use Rattle.std.proofs.lemmas.List.{append-nil, get_or-set_other, take_more}
@@ -10,6 +10,7 @@ use Rattle.brd_board.specs.declared.event.Event.TheVariants.{Step}
 use Rattle.brd_board.specs.Board.{BoardState, happens, after}
 use Rattle.brd_journal.specs.Journal.{JournalState}
 use Rattle.brd_journal.proofs.ReplayLemmas.{after-append}
+use Rattle.brd_ledgers.specs.Shares.{IsOwn}
 use Rattle.brd_threads.specs.declared.outer.Outer.{Outer}
 use Rattle.brd_threads.specs.Outers.{event_of, outers, steps}
 use Rattle.brd_threads.specs.Station.{IsReplay, with_more}
@@ -48,3 +49,11 @@ entry_kept {boot = boot} {journal = journal} {script = script} {taken = taken} e
           ∙ sym (take_more script taken entry within ∙ ap (λ x. take taken script ++ x ∷ []) (get_or_from_slice_get script taken entry entry there));
       counted = λ k. was.counted k ∙ grind (arith, steps-append k journal.events (event_of entry ∷ []), steps-entry k entry);
     }
+
+-- the books tell whose steps the journal has
+pub own_steps : (books : List ℕ) (events : List Event) (processors : ℕ) (answer : Bool) → ((cpu : ℕ) → slice_index_or books cpu 0 ≡ steps cpu events)
+    → Decides answer ((cpu : ℕ) → IsOwn processors books cpu) → Decides answer ((cpu : ℕ) → 0 < steps cpu events → (0 < cpu) × (cpu ≤ processors))
+own_steps books events processors answer counted decides = (
+  λ yes cpu some. decides.0 yes cpu (subst (λ n. 0 < n) (sym (counted cpu)) some),
+  λ own. decides.1 (λ cpu some. own cpu (subst (λ n. 0 < n) (counted cpu) some)),
+)

@@ -1,5 +1,5 @@
 -- What becomes of a lease that a station lent.
-use Rattle.std.specs.Prelude.{◌≡◌, ℕ, max, true, false, List, replicate, Option, None, Some, Result, Ok, Err}
+use Rattle.std.specs.Prelude.{◌≡◌, ◌⊎◌, ◌<◌, ℕ, true, false, List, replicate, Option, None, Some, Result, Ok, Err}
 use Rattle.brd_board.specs.declared.event.Event.{Event}
 use Rattle.brd_board.specs.declared.event.Event.TheVariants.{Step}
 use Rattle.brd_board.specs.Lease.{LeaseState, IsFresh}
@@ -25,7 +25,7 @@ pub record IsNewFor (cpu : ℕ) (lease : LeaseState) : Type 0 where
   pub mine : lease.cpu ≡ cpu
   pub new : lease.len ≡ 0
 
--- how many steps a turn may count: those under its lease, and at least one
-abbrev pub most_counted : Option LeaseState → ℕ
-most_counted None = 1
-most_counted (Some lease) = max 1 lease.len
+-- how many steps a turn has counted, by what was run under its lease: as many as that where it is committed, else one
+abbrev pub CountsTurn : Option LeaseState → ℕ → Type 0
+CountsTurn None steps = steps ≡ 1
+CountsTurn (Some lease) steps = (steps ≡ 1) ⊎ ((steps ≡ lease.len) × (0 < lease.len))

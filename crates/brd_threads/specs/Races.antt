@@ -1,16 +1,17 @@
 -- What a race answers, and what its threads do.
-use Rattle.std.specs.Prelude.{◌≡◌, ℕ, ◌+◌, ◌<◌, ◌≤◌, Bool, true, false, List, [], ◌∷◌, length, take, slice_index_or}
+use Rattle.std.specs.Prelude.{◌≡◌, ◌⊎◌, ℕ, ◌+◌, ◌<◌, ◌≤◌, Bool, true, false, List, [], ◌∷◌, length, take, slice_index_or}
 use Rattle.std.specs.Prelude.{Option, None, Some, Result, Ok, Err}
 use Rattle.brd_board.specs.Board.{BoardState}
+use Rattle.brd_board.specs.Lease.{LeaseState, lease_of}
 use Rattle.brd_journal.specs.Runs.{runs_of}
 use Rattle.brd_ledgers.specs.Shares.{Counted}
 use Rattle.brd_threads.specs.declared.fault.RaceFault.{RaceFault}
 use Rattle.brd_threads.specs.declared.fault.RaceFault.TheVariants as race
 use Rattle.brd_threads.specs.declared.fault.StationFault.{StationFault}
 use Rattle.brd_threads.specs.declared.outer.Outer.{Outer}
-use Rattle.brd_threads.specs.Faults.{race_fault_of}
-use Rattle.brd_threads.specs.Outers.{outers, steps}
-use Rattle.brd_threads.specs.Station.{StationState, board_of}
+use Rattle.brd_threads.specs.Faults.{IsFaultFor, race_fault_of}
+use Rattle.brd_threads.specs.Outers.{event_of, outers, steps}
+use Rattle.brd_threads.specs.Station.{StationState, AreOfFirst, board_of, has_room, with_entry}
 
 -- the faults that a worker may have: that something is broken only a race can say
 abbrev pub IsOfWorker : RaceFault → Type 0
@@ -58,10 +59,16 @@ AreWithin quotas station = (i : ℕ) → i < length quotas → steps (i + 1) sta
 abbrev pub AreMet : List ℕ → StationState → Type 0
 AreMet quotas station = (i : ℕ) → i < length quotas → steps (i + 1) station.journal.events ≡ slice_index_or quotas i 0
 
--- What a race answers: a station of this boot and script, whose journal has the boot's byte order. What came from
--- outside is what was taken of the script, all of it unless the board is off. No processor has done more steps than its
--- quota, and each as many, unless the board is off. The journal has no more runs than `limit`. Of numbers that no
--- processor has it says nothing.
+-- each processor does as many steps as its worker's share counts
+abbrev pub AreCounted : List (Counted × Result Bool RaceFault) → StationState → Type 0
+AreCounted workers station =
+    (i : ℕ) (default : Counted × Result Bool RaceFault) → i < length workers
+    → steps (i + 1) station.journal.events ≡ (slice_index_or workers i default).0.count
+
+-- What a race leaves: a station of this boot and script, whose journal has the boot's byte order. What came from
+-- outside is what was taken of the script, all of it unless the board is off. There is a quota for each processor of
+-- the board: no processor has done more steps than its quota, and each as many, unless the board is off; no step is of
+-- another number. The journal has no more runs than `limit`.
 pub record HasRaced (boot : BoardState) (script : List Outer) (quotas : List ℕ) (limit : ℕ) (station : StationState) : Type 0 where
   pub boot_is : station.boot ≡ boot
   pub script_is : station.script ≡ script
@@ -69,5 +76,47 @@ pub record HasRaced (boot : BoardState) (script : List Outer) (quotas : List ℕ
   pub room : length (runs_of station.journal.events) ≤ limit
   pub taken : outers station.journal.events ≡ take station.taken script
   pub within : AreWithin quotas station
+  pub own : AreOfFirst (length quotas) station
   pub whole : (board_of station).kernel.off ≡ false → outers station.journal.events ≡ script
   pub met : (board_of station).kernel.off ≡ false → AreMet quotas station
+
+-- What is answered where no thread had a fault: the station that they left, of whose processors each worker has counted
+-- the steps, if it is what a race leaves; and Broken exactly if it isn't.
+abbrev pub AnswersLeft : List (Counted × Result Bool RaceFault) → StationState → (StationState → Type 0) → Result StationState RaceFault → Type 0
+AnswersLeft workers left Has (Ok station) = (station ≡ left) × AreCounted workers station × Has station
+AnswersLeft workers left Has (Err fault) = (fault ≡ race.Broken) × (Has left → ⊥)
+
+-- what is answered once all threads have ended: their first fault, if there is one
+abbrev pub Answers : Option RaceFault → List (Counted × Result Bool RaceFault) → StationState → (StationState → Type 0) → Result StationState RaceFault → Type 0
+Answers (Some fault) workers left Has answer = answer ≡ Err fault
+Answers None workers left Has answer = AnswersLeft workers left Has answer
+
+-- How a race ends whose threads have all been at work: by what its workers and its driver gave back, and by what they
+-- left.
+pub record HasEnded (boot : BoardState) (script : List Outer) (quotas : List ℕ) (limit : ℕ) (answer : Result StationState RaceFault) : Type 0 where
+  pub workers : List (Counted × Result Bool RaceFault)
+  pub driver : Result Unit StationFault
+  pub left : StationState
+  pub each : length workers ≡ length quotas
+  pub worked : HaveWorked quotas workers
+  pub answers : Answers (first_fault workers driver) workers left (HasRaced boot script quotas limit) answer
+
+-- How a race ends: so; or memory ran out before all threads were at work, or one of them couldn't be started.
+abbrev pub RaceEnds : BoardState → List Outer → List ℕ → ℕ → Result StationState RaceFault → Type 0
+RaceEnds boot script quotas limit answer = (answer ≡ Err race.NoMemory) ⊎ HasEnded boot script quotas limit answer
+
+-- What a turn of the driver answers and leaves, by whether the board is off and by the script's next entry. Where the
+-- board is off or the script is used up, nothing happens, and the driver has ended well. Else that entry happens, and
+-- the driver goes on; or that has a fault and changes nothing, and the driver has ended with it.
+abbrev pub Drives : Bool → Option Outer → StationState → Option (Result Unit StationFault) → StationState → Type 0
+Drives true entry old answer new = (answer ≡ Some (Ok tt)) × (new ≡ old)
+Drives false None old answer new = (answer ≡ Some (Ok tt)) × (new ≡ old)
+Drives false (Some entry) old None new = new ≡ with_entry old entry
+Drives false (Some entry) old (Some (Ok done)) new = ⊥
+Drives false (Some entry) old (Some (Err fault)) new =
+    (new ≡ old) × IsFaultFor (has_room old.journal (event_of entry ∷ [])) fault
+
+-- what a worker is lent: nothing, also no turn, where the board is off; else the lease that there is, if any
+abbrev pub IsLent : StationState → ℕ → Option (Option LeaseState) → Type 0
+IsLent station cpu None = (board_of station).kernel.off ≡ true
+IsLent station cpu (Some lent) = ((board_of station).kernel.off ≡ false) × (lent ≡ lease_of (board_of station) cpu)

@@ -1,5 +1,5 @@
 -- A station: a boot, the journal of what has happened since, and a script of what comes from outside.
-use Rattle.std.specs.Prelude.{◌≡◌, ℕ, ◌+◌, ◌≤◌, Bool, true, nat_le, if◌then◌else◌, List, [], ◌∷◌, ◌++◌, length, take, slice_get, slice_index_or}
+use Rattle.std.specs.Prelude.{◌≡◌, ℕ, ◌+◌, ◌<◌, ◌≤◌, Bool, true, nat_le, if◌then◌else◌, List, [], ◌∷◌, ◌++◌, length, take, slice_get, slice_index_or}
 use Rattle.std.specs.Prelude.{Option, None, Some, Result, Ok, Err}
 use Rattle.brd_board.specs.declared.event.Event.{Event}
 use Rattle.brd_board.specs.declared.event.Report.{Report}
@@ -71,3 +71,7 @@ next_entry station = slice_get station.script station.taken
 -- the steps of a processor in the journal, where there is one of that number
 abbrev pub steps_of : StationState → ℕ → Option ℕ
 steps_of station cpu = if has_processor station.boot cpu then Some (steps cpu station.journal.events) else None
+
+-- each step is of a processor from 1 to this number
+abbrev pub AreOfFirst : ℕ → StationState → Type 0
+AreOfFirst processors station = (cpu : ℕ) → 0 < steps cpu station.journal.events → (0 < cpu) × (cpu ≤ processors)

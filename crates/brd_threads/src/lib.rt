@@ -7,8 +7,10 @@
 #![tactic(auto)]
 
 mod boards;
+mod ended;
 mod fault;
 mod gate;
+pub mod laws;
 mod outer;
 mod races;
 mod script;

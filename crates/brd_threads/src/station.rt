@@ -11,6 +11,7 @@ ghost use Rattle.brd_threads.specs.Leases.{Commits, IsNewFor};
 ghost use Rattle.brd_threads.specs.Outers.{event_of, outers, steps};
 ghost use Rattle.brd_threads.specs.Processors.{processors_of};
 ghost use Rattle.brd_threads.specs.Station.{
+  AreOfFirst,
   EntryHappens,
   board_of,
   begun,
@@ -241,6 +242,13 @@ impl<K: Race> Station<K> {
         ensures share { share.new ≡ share.old }
     {
         self.books.audit(share);
+    }
+
+    /// Whether each step in the journal is of a processor from 1 to this number.
+    pub fn are_of_first(&self, processors: usize) -> bool
+        ensures { Decides result (AreOfFirst processors self.now) }
+    {
+        self.books.are_of_first(processors)
     }
 
     /// Whether the script is used up.

@@ -1,10 +1,10 @@
 //! What a thread does: a processor's worker, and the driver of the script.
 
-ghost use Rattle.std.specs.Prelude.{◌≡◌, ◌+◌, ◌<◌, ◌≤◌, true, false, Ok, IfSome, OnOk, OnErr};
-ghost use Rattle.brd_threads.specs.Leases.{IsNewFor, most_counted};
-ghost use Rattle.brd_board.specs.Lease.{IsFresh};
-ghost use Rattle.brd_threads.specs.Races.{HasWorked};
-ghost use Rattle.brd_threads.specs.Station.{board_of};
+ghost use Rattle.std.specs.Prelude.{◌≡◌, ◌+◌, ◌<◌, ◌≤◌, true, false, None, Some, Ok, IfOk, IfSome, OnErr};
+ghost use Rattle.brd_threads.specs.Leases.{CountsTurn, IsNewFor};
+ghost use Rattle.brd_board.specs.Lease.{IsFresh, most_lent};
+ghost use Rattle.brd_threads.specs.Races.{Drives, HasWorked, IsLent};
+ghost use Rattle.brd_threads.specs.Station.{board_of, next_entry};
 
 use crate::fault::{CommitFault, RaceFault, StationFault};
 use crate::gate::Gate;
@@ -35,36 +35,36 @@ pub fn worker<K: Race, G: Gate, R: Wait>(
     let cpu = share.cpu();
     while share.count() < quota {
         let left = quota - share.count();
-        let Some(lent) = lent(rt, station, cpu) else {
+        let Some(lent) = lent(&station.lock(rt), cpu) else {
             return (share, Ok(false));
         };
         let run = run_apart(gate, cpu, left, lent);
-        let before = share.count();
         let mut guard = station.lock(rt);
-        if let Err(fault) = commit_or_step(&mut guard, cpu, run, &mut share) {
-            return (share, Err(RaceFault::from(fault)));
-        }
+        let steps = match commit_or_step(&mut guard, cpu, run, &mut share) {
+            Ok(steps) => steps,
+            Err(fault) => return (share, Err(RaceFault::from(fault))),
+        };
         drop(guard);
-        gate.count(cpu, share.count() - before);
+        gate.count(cpu, steps);
     }
     (share, Ok(true))
 }
 
-/// What a processor is lent, under the lock: a lease, where there is one. None where the board is off.
-fn lent<K: Race, R: Wait>(rt: &R, station: &Mutex<Station<K>>, cpu: u8) -> Option<Option<Lease>>
-    ensures { IfSome result (λ lent. IfSome lent (IsNewFor cpu)) }
+/// What a processor is lent: a lease, where there is one. None where the board is off.
+fn lent<K: Race>(station: &Station<K>, cpu: u8) -> Option<Option<Lease>>
+    ensures is { IsLent station.now cpu result }
+    ensures new { IfSome result (λ lent. IfSome lent (IsNewFor cpu)) }
 {
-    let guard = station.lock(rt);
-    if guard.board().is_off() {
+    if station.board().is_off() {
         return None;
     }
-    Some(guard.lend(cpu))
+    Some(station.lend(cpu))
 }
 
 /// Runs a lease between the calls of the gate, up to `left` instructions.
 fn run_apart<G: Gate>(gate: &G, cpu: u8, left: u64, lent: Option<Lease>) -> Option<Lease>
     requires { IfSome lent (IsNewFor cpu) }
-    ensures { IfSome result (λ lease. (lease.cpu ≡ cpu) × (lease.len ≤ left)) }
+    ensures { IfSome result (λ lease. (lease.cpu ≡ cpu) × (lease.len ≤ left) × (lease.len ≤ most_lent)) }
 {
     let Some(mut lease) = lent else {
         gate.enter(cpu, None);
@@ -78,27 +78,27 @@ fn run_apart<G: Gate>(gate: &G, cpu: u8, left: u64, lent: Option<Lease>) -> Opti
 }
 
 /// Commits what was done under a lease. Without a lease, with nothing done under it, or where it is stale, does one
-/// step.
+/// step. Answers how many steps the share counts more.
 fn commit_or_step<K: Race>(
     station: &mut Station<K>,
     cpu: u8,
     run: Option<Lease>,
     share: &mut Share<K>,
-) -> Result<(), StationFault>
+) -> Result<u64, StationFault>
     requires mine { cpu ≡ share.old.cpu }
     requires lease { IfSome run (λ lease. lease.cpu ≡ cpu) }
-    ensures cpu { share.new.cpu ≡ share.old.cpu }
-    ensures more { OnOk result (share.old.count < share.new.count) }
-    ensures few { OnOk result (share.new.count ≤ share.old.count + most_counted run) }
+    ensures share { IfOk result (λ steps. share.new ≡ record share.old { count = share.old.count + steps }) }
+    ensures turn { IfOk result (CountsTurn run) }
     ensures err { OnErr result (share.new ≡ share.old) }
 {
-    if let Some(lease) = run
-        && is_committed(station, lease, share)?
-    {
-        return Ok(());
+    if let Some(lease) = run {
+        let steps = u64::from(lease.len());
+        if is_committed(station, lease, share)? {
+            return Ok(steps);
+        }
     }
     station.step(cpu, share)?;
-    Ok(())
+    Ok(1)
 }
 
 /// Commits what was done under a lease. False, and nothing changes, where nothing was done under it or it is stale.
@@ -131,10 +131,24 @@ pub fn driver<K: Race, R: Wait>(
     station: &Mutex<Station<K>>,
 ) -> Result<(), StationFault> {
     for _ in rt.forever() {
-        let mut guard = station.lock(rt);
-        if guard.board().is_off() || guard.script_next()?.is_none() {
-            return Ok(());
+        if let Some(ended) = driven(&mut station.lock(rt)) {
+            return ended;
         }
     }
     unreachable!()
+}
+
+/// Takes the script's next entry. Where the board is off, the script is used up, or it can't, it answers how the driver
+/// has ended.
+fn driven<K: Race>(station: &mut Station<K>) -> Option<Result<(), StationFault>>
+    ensures { Drives (board_of station.old).kernel.off (next_entry station.old) station.old result station.new }
+{
+    if station.board().is_off() {
+        return Some(Ok(()));
+    }
+    match station.script_next() {
+        Ok(Some(_)) => None,
+        Ok(None) => Some(Ok(())),
+        Err(fault) => Some(Err(fault)),
+    }
 }
