@@ -210,6 +210,18 @@ fn journal_of_one_run(rt: HostRuntime) {
     );
 }
 
+/// A race in which no processor does a step, and the journal has no room for the script's first entry: the driver alone
+/// has a fault.
+#[test]
+fn only_the_driver_has_a_fault(rt: HostRuntime) {
+    let alloc = rt.alloc();
+    let Some(boot) = board_of(alloc, LOOP, TWO) else {
+        return assert!(rt; false, "no board");
+    };
+    let full = raced_on(&rt, alloc, &boot, TICKS, &[0, 0], 0, &Open);
+    assert!(rt; full == Err(RaceFault::JournalFull), "{full:?}");
+}
+
 /// The words and the configuration of a board on which every quota is met, the quotas, and how many steps these are.
 type Met = (&'static [u32], &'static str, &'static [u64], u64);
 
