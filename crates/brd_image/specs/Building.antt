@@ -1,6 +1,7 @@
 -- Which board a source, an object file and a configuration make, or which fault comes first.
 use Rattle.std.specs.Prelude.{◌≡◌, ℕ, List, ⊤, Result, Ok, Err}
 use Rattle.std.specs.Bool.{MatchBool}
+use Rattle.brd_text.specs.Faults as text
 use Rattle.brd_text.specs.Faults.{◌>>=◌}
 use Rattle.brd_mem.specs.declared.image.Image.{Image}
 use Rattle.brd_asm.specs.declared.fault.AsmFault.{AsmFault}
@@ -9,8 +10,10 @@ use Rattle.brd_asm.specs.Laws.{HasInstructions}
 use Rattle.brd_elf.specs.File.{file, Fits}
 use Rattle.brd_elf.specs.Meaning.{meaning}
 use Rattle.brd_config.specs.Meaning.{config_of}
+use Rattle.brd_config.specs.View.{view}
 use Rattle.brd_board.specs.Board.{BoardState}
 use Rattle.brd_board.specs.Boot.{boot}
+use Rattle.brd_image.specs.declared.building.Loaded.{Loaded}
 use Rattle.brd_image.specs.declared.fault.BuildFault.{BuildFault}
 use Rattle.brd_image.specs.declared.fault.BuildFault.TheVariants.{NoMemory, Asm, Elf, Config, Boot}
 use Rattle.brd_image.specs.Faults.{is_no_memory}
@@ -31,6 +34,15 @@ abbrev pub loaded : List ℕ → List ℕ → Result BoardState BuildFault
 loaded elf config = do
   image ← step Elf (meaning elf)
   booted image config
+
+-- the image that an object file means, and what a configuration says, stand beside a board
+pub record HasParts (elf config : List ℕ) (it : Loaded) : Type 0 where
+  pub is_image : meaning elf ≡ Ok it.image
+  pub is_configuration : config_of config ≡ Ok (view it.config)
+
+-- the board that was answered, with other things beside it, is the one that is meant, unless memory ran out
+abbrev pub GivesBoard : Result Loaded BuildFault → Result BoardState BuildFault → Type 0
+GivesBoard answer meant = text.Gives is_no_memory (λ it. it.board) answer meant
 
 -- The board of an image whose file is written and read, and a configuration; or the fault of the source, or the first
 -- fault of the others.

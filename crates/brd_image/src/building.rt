@@ -4,15 +4,16 @@ ghost use Rattle.std.specs.Prelude.{◌≡◌, ℕ, List, false, IfOk, IfErr, Ma
 ghost use Rattle.brd_mem.specs.declared.image.Image.{Image as ImageOf};
 ghost use Rattle.brd_elf.specs.File.{Fits, file};
 ghost use Rattle.brd_image.specs.Faults.{Gives, holds_no_memory, is_of_elf};
-ghost use Rattle.brd_image.specs.Building.{Builds, IsImageOf, IsObjectFile, KeepsFromAssembling, booted, loaded};
+ghost use Rattle.brd_image.specs.Building.{Builds, GivesBoard, HasParts, IsImageOf, IsObjectFile, KeepsFromAssembling, booted, loaded};
 ghost use Rattle.brd_image.specs.Headline.{Starts};
 
 use crate::fault::BuildFault;
 use brd_asm::assemble;
 use brd_asm::laws::a_program_has_one_image;
 use brd_board::Board;
-use brd_config::parse;
+use brd_config::{Config, parse};
 use brd_elf::{read, write};
+use brd_mem::Image;
 use std::alloc::Global;
 
 /// The board of an assembler source and a configuration: the source is assembled, the object file of its image is
@@ -56,9 +57,46 @@ pub fn load(alloc: Global, elf: &[u8], config: &[u8]) -> Result<Board, BuildFaul
     // That memory ran out stands in no other fault.
     ensures memory { IfErr result (λ fault. holds_no_memory fault ≡ false) }
 {
+    let Loaded {
+        board,
+        image: _,
+        config: _,
+    } = load_with_parts(alloc, elf, config)?;
+    Ok(board)
+}
+
+/// A board, with what it was made of.
+#[derive(Drop)]
+pub struct Loaded {
+    /// The board.
+    pub board: Board,
+    /// The image that the object file means.
+    pub image: Image,
+    /// What the configuration says.
+    pub config: Config,
+}
+
+/// The board of an object file and a configuration as `load` makes it, with what was read of both.
+///
+/// # Errors
+///
+/// Those of `load`.
+pub fn load_with_parts(alloc: Global, elf: &[u8], config: &[u8]) -> Result<Loaded, BuildFault>
+    // The board that the file and the configuration make, or the first fault.
+    ensures meaning { GivesBoard result (loaded elf.now config.now) }
+    // The image is the file's, and the configuration what its text says.
+    ensures parts { IfOk result (HasParts elf.now config.now) }
+    // That memory ran out stands in no other fault.
+    ensures memory { IfErr result (λ fault. holds_no_memory fault ≡ false) }
+{
     let image = read(alloc, elf)?;
     let config = parse(alloc, config)?;
-    Ok(Board::boot(alloc, &image, &config)?)
+    let board = Board::boot(alloc, &image, &config)?;
+    Ok(Loaded {
+        board,
+        image,
+        config,
+    })
 }
 
 /// The object file of a source.

@@ -2,13 +2,12 @@
 //! board booted.
 //!
 //! `specs/Building.antt` says which board a source, an object file and a configuration make, or which fault comes
-//! first; `specs/Headline.antt` joins the source's instructions, the file's words and the board after any events.
+//! first; `specs/Headline.antt` joins the source's instructions, the file's words and the board after any events. The
+//! laws of brd_command say it of the program's commands.
 #![tactic(auto)]
 
 mod building;
 mod fault;
-mod running;
 
-pub use building::{build, load};
+pub use building::{Loaded, build, load, load_with_parts};
 pub use fault::BuildFault;
-pub use running::{Played, run};

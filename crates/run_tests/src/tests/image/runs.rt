@@ -1,10 +1,9 @@
 //! Boards from their source to their state after events.
 
-use super::{ONE_LETTER, ONE_TASK, STEPS, Shown, tells};
-use brd_board::{Event, Report};
-use brd_image::{Played, run};
-use std::alloc::{AllocError, Global};
-use std::test::Fail;
+use super::{ONE_LETTER, ONE_TASK, Shown, tells};
+use brd_board::{Board, Event, Report};
+use brd_image::build;
+use std::alloc::Global;
 
 /// What the board of `ONE_LETTER` reports in six steps.
 pub const REPORTS: &[Report] = &[
@@ -52,27 +51,20 @@ fn a_letter_and_the_end(rt: HostRuntime) {
     assert!(rt; tells(rt.alloc(), ONE_LETTER, ONE_TASK, REPORTS, &SHOWN));
 }
 
-/// Whether reports are those of a board that is off from this one on.
-fn are_off_from(reports: &[Report], first: usize) -> bool {
-    for (n, report) in reports.iter().enumerate() {
-        if (*report == Report::Off) != (n >= first) {
+/// Whether a board reports that it is off from its 26th step on, and not before, and has said `Hi` after these steps.
+fn has_greeted(board: &mut Board, count: u32) -> bool {
+    for n in 0..count {
+        if (board.event(Event::Step(1)) == Report::Off) != (n >= 25) {
             return false;
         }
     }
-    first < reports.len()
+    board.is_off() && board.console() == b"Hi\n".as_slice()
 }
 
-/// Whether a board has said `Hi`, and is off from its 26th report on.
-fn has_greeted(played: &Played) -> bool {
-    are_off_from(played.reports.as_slice(), 25)
-        && played.board.is_off()
-        && played.board.console() == b"Hi\n".as_slice()
-}
-
-/// Whether the board of a source and a configuration greets in 40 steps.
-fn greets(alloc: Global, source: &str, config: &str) -> bool {
-    match run(alloc, source.as_bytes(), config.as_bytes(), STEPS) {
-        Ok(played) => has_greeted(&played),
+/// Whether the board of a source and a configuration greets in so many steps.
+fn greets(alloc: Global, source: &str, config: &str, count: u32) -> bool {
+    match build(alloc, source.as_bytes(), config.as_bytes()) {
+        Ok(mut board) => has_greeted(&mut board, count),
         Err(_) => false,
     }
 }
@@ -80,33 +72,13 @@ fn greets(alloc: Global, source: &str, config: &str) -> bool {
 /// Two instructions, six for each of three letters, five for the end: off from the 26th step on.
 #[test]
 fn a_greeting(rt: HostRuntime) {
-    assert!(rt; greets(rt.alloc(), HELLO, HELLO_CONFIG));
-}
-
-/// How many events a long run has.
-const MANY: usize = 100_000;
-
-/// Whether the board of a source and a configuration greets in n steps.
-fn greets_in(alloc: Global, count: usize) -> Result<bool, AllocError> {
-    let events = vec![in alloc; Event::Step(1); count]?;
-    Ok(
-        match run(
-            alloc,
-            HELLO.as_bytes(),
-            HELLO_CONFIG.as_bytes(),
-            events.as_slice(),
-        ) {
-            Ok(played) => played.reports.len() == count && has_greeted(&played),
-            Err(_) => false,
-        },
-    )
+    assert!(rt; greets(rt.alloc(), HELLO, HELLO_CONFIG, 40));
 }
 
 /// Each of 100,000 events has its report.
 #[test]
-fn a_long_run(rt: HostRuntime) -> Result<(), Fail> {
-    assert!(rt; greets_in(rt.alloc(), MANY)?);
-    Ok(())
+fn a_long_run(rt: HostRuntime) {
+    assert!(rt; greets(rt.alloc(), HELLO, HELLO_CONFIG, 100_000));
 }
 
 const EMPTY: Shown = Shown {
