@@ -1,0 +1,84 @@
+-- What the turns of a search come to.
+use Rattle.std.proofs.Common.{◌≡◌, ℕ, ◌+◌, ◌<◌, ◌≤◌, List, [], ◌∷◌, ◌++◌, length, take, refl, sym, ap, subst, ◌∙◌, arith}
+use Rattle.std.specs.Prelude.{Bool, true, false, All, ◌&&◌}
+use Rattle.std.proofs.lemmas.Bool.{false≢true}
+use Rattle.std.proofs.lemmas.List.Elements.{All-push}
+use Rattle.brd_board.specs.declared.event.Event.{Event}
+use Rattle.brd_board.specs.Board.{BoardState, happens}
+use Rattle.brd_explore.specs.declared.search.Search.{Search}
+use Rattle.brd_explore.specs.declared.search.Saved.{Saved}
+use Rattle.brd_explore.specs.declared.search.Turn.{Turn}
+use Rattle.brd_explore.specs.declared.search.Turn.TheVariants as turn
+use Rattle.brd_explore.specs.declared.search.Answer.{Answer}
+use Rattle.brd_explore.specs.declared.search.Answer.TheVariants as answer
+use Rattle.brd_explore.specs.declared.wanted.Wanted.{Wanted}
+use Rattle.brd_explore.specs.Schedules.{Place, next}
+use Rattle.brd_explore.specs.Failures.{fails_now}
+use Rattle.brd_explore.specs.Searching.{place_of, place_of_saved, NoneLeft, NoneFrom, NoneFails, Leads, AreOnPath, IsOnPath, AreAlike, IsSized, Takes, Tries, HasGone, HasStayed, HasGoneBack, LeavesOut, LeadsOn, Finds, Answers}
+use Rattle.brd_explore.proofs.SizeLemmas.{alike-after}
+use Rattle.brd_explore.proofs.SearchLemmas.{none-fails, failing}
+
+taken-alike : (s t : Search) (event : Event) (done : Bool) → done ≡ true → Takes s event t done → AreAlike s.board t.board
+taken-alike s t event true is takes = subst (AreAlike s.board) (ap (λ (p : Place). p.board) (sym takes.1)) (alike-after s.board (event ∷ []))
+taken-alike s t event false is takes = absurd (false≢true is)
+
+-- the place before an event was saved
+pub sized-saved : (s t : Search) (event : Event) (f : Saved) (done : Bool) → done ≡ true → Takes s event t done → place_of_saved f ≡ place_of s → IsSized t →
+    All (λ (x : Saved). AreAlike x.board t.board) (t.saved.items ++ f ∷ [])
+sized-saved s t event f done is takes same sized = All-push (λ (x : Saved). AreAlike x.board t.board) t.saved.items f sized.saved
+    (subst (λ (p : Place). AreAlike p.board t.board) (sym same) (taken-alike s t event done is takes))
+
+pub gone-of : (among : List Event) (s t : Search) (at : ℕ) (done : Bool) → done ≡ true → Tries among s at t done → HasGone among s at t
+gone-of among s t at true is tries = tries
+gone-of among s t at false is tries = absurd (false≢true is)
+
+pub stayed-of : (among : List Event) (s t : Search) (at : ℕ) (done : Bool) → done ≡ false → Tries among s at t done → HasStayed among s at t
+stayed-of among s t at true is tries = absurd (false≢true (sym is))
+stayed-of among s t at false is tries = tries
+
+pub both-true : (a b : Bool) → (a && b) ≡ true → (a ≡ true) × (b ≡ true)
+both-true true b is = (refl, is)
+both-true false b is = absurd (false≢true is)
+
+pub not-both : (a b : Bool) → (a && b) ≡ false → a ≡ true → b ≡ true → ⊥
+not-both a b is one other = false≢true (sym is ∙ ap (λ x. x && b) one ∙ other)
+
+-- the end of a schedule was judged before going back, which shows in the board alone
+pub back-same : (s t u : Search) → t.saved.items ≡ s.saved.items → t.path.items ≡ s.path.items → HasGoneBack t u → HasGoneBack s u
+back-same s t u saved path back = record {
+  f = back.f;
+  saved = sym saved ∙ back.saved;
+  place = back.place;
+  at = back.at;
+  fresh = back.fresh;
+  path = subst (λ es. u.path.items ≡ take back.f.len es) path back.path;
+}
+
+-- how a search begins
+pub record Begins (from : Place) (s : Search) : Type 0 where
+  pub place : place_of s ≡ from
+  pub at : s.at ≡ 0
+  pub fresh : s.fresh ≡ true
+  pub path : s.path.items ≡ []
+  pub saved : s.saved.items ≡ []
+
+begins-on : (among : List Event) (from : Place) (s : Search) → Begins from s → IsOnPath among from s
+begins-on among from s begins = record {
+  here = subst (λ es. Leads among from es (place_of s)) (sym begins.path) (sym begins.place);
+  saved = subst (AreOnPath among from s.path.items 0) (sym begins.saved) (omega arith);
+  tried = λ fresh k less below left. absurd (omega (arith, less, begins.at));
+}
+
+none-begins : (wanted : Wanted) (among : List Event) (from : Place) (s : Search) → Begins from s → fails_now wanted from.board ≡ false →
+    NoneLeft wanted among s → NoneFails wanted among from
+none-begins wanted among from s begins fine none =
+    let fine' : fails_now wanted s.board ≡ false = ap (λ (p : Place). fails_now wanted p.board) begins.place ∙ fine in
+    subst (NoneFails wanted among) begins.place
+    (none-fails wanted among (place_of s) (subst (NoneFrom wanted among (place_of s)) begins.at none.here) (failing wanted among s none begins.fresh fine'))
+
+pub finds : (wanted : Wanted) (among : List Event) (from : Place) (s t : Search) (turn : Turn) (found : Answer) → Begins from s →
+    fails_now wanted from.board ≡ false → LeavesOut wanted among s t turn → ((f : Place) → IsOnPath among f s → LeadsOn wanted among f t turn) →
+    Finds t turn found → Answers wanted among from found
+finds wanted among from s t turn.On found begins fine out on is = subst (Answers wanted among from) (sym is) tt
+finds wanted among from s t turn.Found found begins fine out on is = subst (Answers wanted among from) (sym is) (on from (begins-on among from s begins))
+finds wanted among from s t turn.Over found begins fine out on is = subst (Answers wanted among from) (sym is) (none-begins wanted among from s begins fine out)

@@ -1,0 +1,161 @@
+-- The path of a search leads to where it is.
+use Rattle.std.proofs.Common.{◌≡◌, ℕ, zero, suc, ◌+◌, ◌<◌, ◌≤◌, List, [], ◌∷◌, ◌++◌, length, take, refl, sym, ap, subst, ◌∙◌, arith, ◌⊎◌, inl, inr}
+use Rattle.std.specs.Prelude.{Bool, true, false, if◌then◌else◌}
+use Rattle.std.proofs.lemmas.Bool.{cases_lt, false≢true}
+use Rattle.std.proofs.lemmas.List.{length-take-le, take_all, take-take, take-append-le, length-append}
+use Rattle.brd_board.specs.declared.event.Event.{Event}
+use Rattle.brd_explore.specs.declared.search.Search.{Search}
+use Rattle.brd_explore.specs.declared.search.Saved.{Saved}
+use Rattle.brd_explore.specs.declared.wanted.Wanted.{Wanted}
+use Rattle.brd_explore.specs.Schedules.{Place, does, is_left, next, place_after, event_at, IsAmong, IsWithin, IsEnd}
+use Rattle.brd_explore.specs.Failures.{fails_now, fails_at_end}
+use Rattle.brd_explore.specs.Searching.{FailsAt, Fails, IsTooMuch, place_of, place_of_saved, Leads, AreOnPath, IsOnPath, HasGone, HasStayed, HasGoneBack, KeepsRest}
+
+-- what leads to a place is within the bounds
+
+pub leads-within : (among : List Event) (p : Place) (es : List Event) (to : Place) → Leads among p es to → IsWithin among p es
+leads-within among p [] to leads = tt
+leads-within among p (e ∷ es) to leads =
+    (λ did. (leads.0, leads.1, leads-within among (next p e) es to leads.3), λ none. absurd (false≢true (sym none ∙ leads.2)))
+
+pub leads-after : (among : List Event) (p : Place) (es : List Event) (to : Place) → Leads among p es to → place_after p es ≡ to
+leads-after among p [] to leads = leads
+leads-after among p (e ∷ es) to leads =
+    ap (λ test. if test then place_after (next p e) es else place_after p es) leads.2 ∙ leads-after among (next p e) es to leads.3
+
+leads-on : (among : List Event) (p : Place) (es : List Event) (to : Place) (e : Event) → Leads among p es to →
+    IsAmong among e → is_left to e ≡ true → does to.board e ≡ true → Leads among p (es ++ e ∷ []) (next to e)
+leads-on among p [] to e leads one left did = (
+  one,
+  subst (λ (q : Place). is_left q e ≡ true) (sym leads) left,
+  subst (λ (q : Place). does q.board e ≡ true) (sym leads) did,
+  ap (λ (q : Place). next q e) leads,
+)
+leads-on among p (f ∷ es) to e leads one left did = (leads.0, leads.1, leads.2, leads-on among (next p f) es to e leads.3 one left did)
+
+-- the places that were saved
+
+len-on : (among : List Event) (from : Place) (path : List Event) (len : ℕ) (fs : List Saved) → AreOnPath among from path len fs → len ≤ length path
+len-on among from path len [] on = on
+len-on among from path len (f ∷ fs) on = omega (arith, on.0, len-on among from path f.len fs on.2)
+
+on-more : (among : List Event) (from : Place) (path more : List Event) (len : ℕ) (fs : List Saved) → AreOnPath among from path len fs →
+    AreOnPath among from (path ++ more) len fs
+on-more among from path more len [] on = omega (arith, on, length-append path more)
+on-more among from path more len (f ∷ fs) on = (
+  on.0,
+  subst (λ es. Leads among from es (place_of_saved f)) (sym (take-append-le f.len path more (len-on among from path f.len fs on.2))) on.1,
+  on-more among from path more f.len fs on.2,
+)
+
+on-saved : (among : List Event) (from : Place) (path : List Event) (len : ℕ) (fs : List Saved) (f : Saved) → AreOnPath among from path len fs →
+    f.len ≡ length path → Leads among from path (place_of_saved f) → AreOnPath among from path len (fs ++ f ∷ [])
+on-saved among from path len [] f on is leads = (
+  omega (arith, on, is),
+  subst (λ es. Leads among from es (place_of_saved f)) (sym (take_all f.len path (omega (arith, is)))) leads,
+  omega (arith, is),
+)
+on-saved among from path len (g ∷ fs) f on is leads = (on.0, on.1, on-saved among from path g.len fs f on.2 is leads)
+
+-- without the one that was saved last, on the path that leads there
+
+len-back : (among : List Event) (from : Place) (path : List Event) (len : ℕ) (fs : List Saved) (f : Saved) → AreOnPath among from path len (fs ++ f ∷ []) → len ≤ f.len
+len-back among from path len [] f on = on.0
+len-back among from path len (g ∷ fs) f on = omega (arith, on.0, len-back among from path g.len fs f on.2)
+
+last-on : (among : List Event) (from : Place) (path : List Event) (len : ℕ) (fs : List Saved) (f : Saved) → AreOnPath among from path len (fs ++ f ∷ []) →
+    (f.len ≤ length path) × Leads among from (take f.len path) (place_of_saved f)
+last-on among from path len [] f on = (on.2, on.1)
+last-on among from path len (g ∷ fs) f on = last-on among from path g.len fs f on.2
+
+on-back : (among : List Event) (from : Place) (path : List Event) (len : ℕ) (fs : List Saved) (f : Saved) → AreOnPath among from path len (fs ++ f ∷ []) →
+    AreOnPath among from (take f.len path) len fs
+on-back among from path len [] f on = omega (arith, on.0, on.2, length-take-le f.len path on.2)
+on-back among from path len (g ∷ fs) f on = (
+  on.0,
+  subst (λ es. Leads among from es (place_of_saved g)) (sym (take-take g.len f.len path (len-back among from path g.len fs f on.2))) on.1,
+  on-back among from path g.len fs f on.2,
+)
+
+-- what a turn leaves
+
+on-kept : (among : List Event) (from : Place) (s t : Search) (at : ℕ) → IsOnPath among from s → KeepsRest among s at t →
+    AreOnPath among from s.path.items 0 t.saved.items
+on-kept among from s t at on (inl same) = subst (AreOnPath among from s.path.items 0) (sym same.0) on.saved
+on-kept among from s t at on (inr more) = subst (AreOnPath among from s.path.items 0) (sym more.1)
+    (on-saved among from s.path.items 0 s.saved.items more.0 on.saved more.4
+    (subst (Leads among from s.path.items) (sym more.2) on.here))
+
+leads-gone : (among : List Event) (from : Place) (s t : Search) (at : ℕ) → at < length among → is_left (place_of s) (event_at among at) ≡ true →
+    IsOnPath among from s → HasGone among s at t → Leads among from t.path.items (place_of t)
+leads-gone among from s t at below left on gone =
+    subst (Leads among from t.path.items) (sym gone.place)
+    (subst (λ es. Leads among from es (next (place_of s) (event_at among at))) (sym gone.path)
+    (leads-on among from s.path.items (place_of s) (event_at among at) on.here (record { at = at; within = below; is = refl }) left gone.did))
+
+pub on-gone : (among : List Event) (from : Place) (s t : Search) (at : ℕ) → at < length among → is_left (place_of s) (event_at among at) ≡ true →
+    IsOnPath among from s → HasGone among s at t → IsOnPath among from t
+on-gone among from s t at below left on gone = record {
+  here = leads-gone among from s t at below left on gone;
+  saved = subst (λ es. AreOnPath among from es 0 t.saved.items) (sym gone.path)
+      (on-more among from s.path.items (event_at among at ∷ []) 0 t.saved.items (on-kept among from s t at on gone.saved));
+  tried = λ fresh k less below left. absurd (omega (arith, less, gone.at));
+}
+
+tried-stayed : (among : List Event) (from : Place) (s t : Search) (at : ℕ) → s.at ≤ at → IsTooMuch among (place_of s) s.at at →
+    IsOnPath among from s → HasStayed among s at t → s.fresh ≡ true → (k : ℕ) → k < at + 1 → k < length among →
+    is_left (place_of s) (event_at among k) ≡ true → does s.board (event_at among k) ≡ false
+tried-stayed among from s t at before much on stayed fresh k less below left = elim (cases_lt k s.at) [
+  | inl lt ↦ on.tried fresh k lt below left
+  | inr ge ↦ elim (cases_lt k at) [
+    | inl lt ↦ absurd (false≢true (sym (much k ge lt) ∙ left))
+    | inr more ↦ let same : at ≡ k = omega (arith, more, less) in subst (λ n. does s.board (event_at among n) ≡ false) same stayed.did
+  ]
+]
+
+pub on-stayed : (among : List Event) (from : Place) (s t : Search) (at : ℕ) → s.at ≤ at → IsTooMuch among (place_of s) s.at at →
+    IsOnPath among from s → HasStayed among s at t → IsOnPath among from t
+on-stayed among from s t at before much on stayed = record {
+  here = subst (Leads among from t.path.items) (sym stayed.place) (subst (λ es. Leads among from es (place_of s)) (sym stayed.path) on.here);
+  saved = subst (λ es. AreOnPath among from es 0 t.saved.items) (sym stayed.path) (subst (AreOnPath among from s.path.items 0) (sym stayed.saved) on.saved);
+  tried = λ fresh k less below left.
+      ap (λ (p : Place). does p.board (event_at among k)) stayed.place
+      ∙ tried-stayed among from s t at before much on stayed (sym stayed.fresh ∙ fresh) k (omega (arith, less, stayed.at)) below
+      (subst (λ (p : Place). is_left p (event_at among k) ≡ true) stayed.place left);
+}
+
+pub on-back-gone : (among : List Event) (from : Place) (s t : Search) → IsOnPath among from s → HasGoneBack s t → IsOnPath among from t
+on-back-gone among from s t on back =
+    let saved = subst (AreOnPath among from s.path.items 0) back.saved on.saved in
+    record {
+      here = subst (Leads among from t.path.items) (sym back.place)
+          (subst (λ es. Leads among from es (place_of_saved back.f)) (sym back.path) (last-on among from s.path.items 0 t.saved.items back.f saved).1);
+      saved = subst (λ es. AreOnPath among from es 0 t.saved.items) (sym back.path) (on-back among from s.path.items 0 t.saved.items back.f saved);
+      tried = λ fresh k less below left. absurd (false≢true (sym back.fresh ∙ fresh));
+    }
+
+-- what is found
+
+pub found-now : (wanted : Wanted) (among : List Event) (from : Place) (t : Search) → IsOnPath among from t → fails_now wanted t.board ≡ true →
+    IsWithin among from t.path.items × Fails wanted among from t.path.items
+found-now wanted among from t on fails = (
+  leads-within among from t.path.items (place_of t) on.here,
+  subst (FailsAt wanted among) (sym (leads-after among from t.path.items (place_of t) on.here)) (inl fails),
+)
+
+-- what was tried at an end, and what is too much there
+end-here : (among : List Event) (from : Place) (s : Search) → IsOnPath among from s → s.fresh ≡ true →
+    IsTooMuch among (place_of s) s.at (length among) → IsEnd among (place_of s)
+end-here among from s on fresh much k below left = elim (cases_lt k s.at) [
+  | inl lt ↦ on.tried fresh k lt below left
+  | inr ge ↦ absurd (false≢true (sym (much k ge below) ∙ left))
+]
+
+pub found-end : (wanted : Wanted) (among : List Event) (from : Place) (s : Search) (path : List Event) → IsOnPath among from s →
+    IsTooMuch among (place_of s) s.at (length among) → s.fresh ≡ true → fails_at_end wanted s.board ≡ true → path ≡ s.path.items →
+    IsWithin among from path × Fails wanted among from path
+found-end wanted among from s path on much fresh fails same =
+    subst (λ es. IsWithin among from es × Fails wanted among from es) (sym same) (
+      leads-within among from s.path.items (place_of s) on.here,
+      subst (FailsAt wanted among) (sym (leads-after among from s.path.items (place_of s) on.here)) (inr (end-here among from s on fresh much, fails)),
+    )

@@ -1,0 +1,99 @@
+-- What of a board is a failure, by now or at the end of a schedule.
+use Rattle.std.specs.Prelude.{◌≡◌, ℕ, zero, suc, ◌+◌, ◌%◌, ◌^◌, nat_lt, nat_le, ◌==◌, Bool, true, false, not, ◌&&◌, ◌||◌, if◌then◌else◌, List, [], ◌∷◌, Option, Some, None, is_some}
+use Rattle.std.specs.List.{list_any, starts_with}
+use Rattle.brd_word.specs.declared.order.Order.{Order}
+use Rattle.brd_word.specs.Words.{word_of_bytes}
+use Rattle.brd_mem.specs.Memory.{Memory, byte_at}
+use Rattle.brd_tasks.specs.declared.task.TaskView.{TaskView}
+use Rattle.brd_board.specs.declared.event.Event.{Event}
+use Rattle.brd_board.specs.declared.event.Event.TheVariants.{Step}
+use Rattle.brd_board.specs.Board.{BoardState, after, registers_of, fault_of, task_of}
+use Rattle.brd_explore.specs.Schedules.{does}
+use Rattle.brd_explore.specs.declared.wanted.Failure.{Failure}
+use Rattle.brd_explore.specs.declared.wanted.Failure.TheVariants as failure
+use Rattle.brd_explore.specs.declared.wanted.Wanted.{Wanted}
+
+-- some number below this one has a property
+unfoldable pub some_below : ℕ → (ℕ → Bool) → Bool
+some_below zero has = false
+some_below (suc n) has = some_below n has || has n
+
+-- an exception was kept of some processor: it has ended a task, or stopped the processor
+abbrev pub has_fault : BoardState → Bool
+has_fault b = some_below 9 (λ cpu. is_some (fault_of b cpu))
+
+-- no step of a processor does anything: nobody executes anywhere, and no interrupt is accepted
+abbrev pub nobody_goes : BoardState → Bool
+nobody_goes b = not (some_below 9 (λ cpu. does b (Step cpu)))
+
+abbrev pub waits : Option TaskView → Bool
+waits None = false
+waits (Some task) = is_some task.waiting
+
+abbrev pub has_due : Option TaskView → Bool
+has_due None = false
+has_due (Some task) = is_some task.due
+
+-- A deadlock: the board is on, a task waits, no wait ends by a tick, and nobody goes.
+abbrev pub is_stuck : BoardState → Bool
+is_stuck b =
+    not b.kernel.off && some_below 256 (λ id. waits (task_of b id)) && not (some_below 256 (λ id. has_due (task_of b id))) && nobody_goes b
+
+-- the word at an address, where RAM has its four bytes
+abbrev pub word_in : Order → Option ℕ → Option ℕ → Option ℕ → Option ℕ → Option ℕ
+word_in order (Some a) (Some b) (Some c) (Some d) = Some (word_of_bytes order (a ∷ b ∷ c ∷ d ∷ []))
+word_in order None second third fourth = None
+word_in order (Some a) None third fourth = None
+word_in order (Some a) (Some b) None fourth = None
+word_in order (Some a) (Some b) (Some c) None = None
+
+unfoldable pub word_of : BoardState → ℕ → Option ℕ
+word_of b address =
+    word_in b.memory.order (byte_at b.memory address) (byte_at b.memory ((address + 1) % 2 ^ 32)) (byte_at b.memory ((address + 2) % 2 ^ 32))
+    (byte_at b.memory ((address + 3) % 2 ^ 32))
+
+abbrev pub is_value : ℕ → Option ℕ → Bool
+is_value value None = false
+is_value value (Some word) = word == value
+
+abbrev pub is_between : ℕ → ℕ → Option ℕ → Bool
+is_between least most None = false
+is_between least most (Some word) = nat_le least word && nat_le word most
+
+-- a text begins with another one, or is it
+abbrev pub begins_with : List ℕ → List ℕ → Bool
+begins_with text front = starts_with ◌==◌ text front
+
+-- A board shows a failure, at whatever point of a schedule.
+unfoldable pub fails_by_now : BoardState → Failure → Bool
+fails_by_now b failure.Exception = has_fault b
+fails_by_now b failure.Deadlock = is_stuck b
+fails_by_now b (failure.Console text) = not (begins_with text b.kernel.console)
+fails_by_now b (failure.Word address value) = false
+fails_by_now b (failure.Outside address least most) = not (is_between least most (word_of b address))
+fails_by_now b failure.On = false
+
+-- a board shows a failure where it is the last one: the console lacks something, a word has another value, it is on
+unfoldable pub fails_at_last : BoardState → Failure → Bool
+fails_at_last b failure.Exception = false
+fails_at_last b failure.Deadlock = false
+fails_at_last b (failure.Console text) = not (begins_with b.kernel.console text)
+fails_at_last b (failure.Word address value) = not (is_value value (word_of b address))
+fails_at_last b (failure.Outside address least most) = false
+fails_at_last b failure.On = not b.kernel.off
+
+-- A board shows one of the failures.
+unfoldable pub fails_now : Wanted → BoardState → Bool
+fails_now wanted b = list_any (fails_by_now b) wanted.failures
+
+-- The fair end: a number of rounds of the same events, in which every processor has its turn, and time passes.
+abbrev pub rounds : ℕ → List Event → BoardState → BoardState
+rounds zero round b = b
+rounds (suc n) round b = after (rounds n round b) round
+
+unfoldable pub ended : Wanted → BoardState → BoardState
+ended wanted b = rounds wanted.rounds wanted.round b
+
+-- Where a schedule's last board goes on to its fair end, the board there shows a failure, or one of a last board.
+unfoldable pub fails_at_end : Wanted → BoardState → Bool
+fails_at_end wanted b = fails_now wanted (ended wanted b) || list_any (fails_at_last (ended wanted b)) wanted.failures

@@ -1,0 +1,6 @@
+pub mod Schedules
+pub mod Failures
+pub mod Searching
+pub mod Shrinking
+pub use Rattle.brd_board.specs.Board
+pub use Rattle.brd_journal.specs.Still

@@ -1,0 +1,162 @@
+-- What fails, and what a search has left.
+use Rattle.std.specs.Prelude.{◌≡◌, ◌⊎◌, ℕ, ◌+◌, ◌≤◌, ◌<◌, Bool, true, false, List, [], ◌∷◌, ◌++◌, length, take, All, replicate}
+use Rattle.brd_mem.specs.Memory.{size_of}
+use Rattle.brd_board.specs.declared.event.Event.{Event}
+use Rattle.brd_board.specs.Board.{BoardState}
+use Rattle.brd_explore.specs.declared.wanted.Wanted.{Wanted}
+use Rattle.brd_explore.specs.declared.search.Search.{Search}
+use Rattle.brd_explore.specs.declared.search.Saved.{Saved}
+use Rattle.brd_explore.specs.declared.search.Answer.{Answer}
+use Rattle.brd_explore.specs.declared.search.Answer.TheVariants as answer
+use Rattle.brd_explore.specs.declared.search.Turn.{Turn}
+use Rattle.brd_explore.specs.declared.search.Turn.TheVariants as turn
+use Rattle.brd_explore.specs.Schedules.{Place, does, is_left, next, place_after, event_at, IsAmong, IsWithin, IsEnd}
+use Rattle.brd_explore.specs.Failures.{fails_now, fails_at_end}
+
+-- At a place a schedule fails: its board shows a failure, or the place is an end, and the end shows one.
+abbrev pub FailsAt : Wanted → List Event → Place → Type 0
+FailsAt wanted among p = (fails_now wanted p.board ≡ true) ⊎ (IsEnd among p × (fails_at_end wanted p.board ≡ true))
+
+-- A schedule fails.
+abbrev pub Fails : Wanted → List Event → Place → List Event → Type 0
+Fails wanted among p events = FailsAt wanted among (place_after p events)
+
+-- no schedule from a place fails
+abbrev pub NoneFails : Wanted → List Event → Place → Type 0
+NoneFails wanted among p = (events : List Event) → IsWithin among p events → Fails wanted among p events → ⊥
+
+-- none that begins with an event that does something
+abbrev pub NoneBegins : Wanted → List Event → Place → Event → Type 0
+NoneBegins wanted among p event = does p.board event ≡ true → is_left p event ≡ true → NoneFails wanted among (next p event)
+
+-- none that begins with one of the events from an index on
+abbrev pub NoneFrom : Wanted → List Event → Place → ℕ → Type 0
+NoneFrom wanted among p from = (k : ℕ) → from ≤ k → k < length among → NoneBegins wanted among p (event_at among k)
+
+-- nothing is left for the events of these indices
+abbrev pub IsTooMuch : List Event → Place → ℕ → ℕ → Type 0
+IsTooMuch among p from to = (k : ℕ) → from ≤ k → k < to → is_left p (event_at among k) ≡ false
+
+-- where a search is, and the places to which it goes back
+abbrev pub place_of : Search → Place
+place_of s = record { board = s.board; left = s.left; last = s.last }
+
+abbrev pub place_of_saved : Saved → Place
+place_of_saved s = record { board = s.board; left = s.left; last = s.last }
+
+-- what a search hasn't looked at yet doesn't fail
+pub record NoneLeft (wanted : Wanted) (among : List Event) (s : Search) : Type 0 where
+  pub here : NoneFrom wanted among (place_of s) s.at
+  -- where no event has come here yet, this may be an end
+  pub «end» : s.fresh ≡ true → IsEnd among (place_of s) → fails_at_end wanted s.board ≡ true → ⊥
+  pub saved : All (λ f. NoneFrom wanted among (place_of_saved f) f.at) s.saved.items
+
+-- a list of events leads from a place to another one, all of them within the bounds
+abbrev pub Leads : List Event → Place → List Event → Place → Type 0
+Leads among p [] to = p ≡ to
+Leads among p (event ∷ events) to =
+    IsAmong among event × (is_left p event ≡ true) × (does p.board event ≡ true) × Leads among (next p event) events to
+
+-- Each saved place is on the path, one after the other, and none before this length.
+abbrev pub AreOnPath : List Event → Place → List Event → ℕ → List Saved → Type 0
+AreOnPath among from path len [] = len ≤ length path
+AreOnPath among from path len (f ∷ fs) =
+    (len ≤ f.len) × Leads among from (take f.len path) (place_of_saved f) × AreOnPath among from path f.len fs
+
+-- The path of a search leads to where it is, and what was tried there has done nothing if nothing has come yet.
+pub record IsOnPath (among : List Event) (from : Place) (s : Search) : Type 0 where
+  pub here : Leads among from s.path.items (place_of s)
+  pub saved : AreOnPath among from s.path.items 0 s.saved.items
+  pub tried : s.fresh ≡ true → (k : ℕ) → k < s.at → k < length among → is_left (place_of s) (event_at among k) ≡ true →
+      does s.board (event_at among k) ≡ false
+
+-- boards of one size and order, which can be copied to each other
+pub record AreAlike (a b : BoardState) : Type 0 where
+  pub size : size_of a.memory ≡ size_of b.memory
+  pub order : a.memory.order ≡ b.memory.order
+
+pub record IsSized (s : Search) : Type 0 where
+  pub saved : All (λ f. AreAlike f.board s.board) s.saved.items
+  pub spare : All (λ b. AreAlike b s.board) s.spare.items
+
+-- What a turn of a search has done.
+
+-- The events of later indices are still to be tried at a place that was saved, or nothing is left for them.
+abbrev pub KeepsRest : List Event → Search → ℕ → Search → Type 0
+KeepsRest among s at t =
+    ((t.saved.items ≡ s.saved.items) × IsTooMuch among (place_of s) (at + 1) (length among))
+    ⊎ ((f : Saved) × (t.saved.items ≡ s.saved.items ++ f ∷ []) × (place_of_saved f ≡ place_of s) × (f.at ≡ at + 1) × (f.len ≡ length s.path.items))
+
+-- it has gone on by an event that did something
+pub record HasGone (among : List Event) (s : Search) (n : ℕ) (t : Search) : Type 0 where
+  pub did : does s.board (event_at among n) ≡ true
+  pub place : place_of t ≡ next (place_of s) (event_at among n)
+  pub at : t.at ≡ 0
+  pub fresh : t.fresh ≡ true
+  pub path : t.path.items ≡ s.path.items ++ event_at among n ∷ []
+  pub saved : KeepsRest among s n t
+
+-- it has stayed, since the event did nothing
+pub record HasStayed (among : List Event) (s : Search) (n : ℕ) (t : Search) : Type 0 where
+  pub did : does s.board (event_at among n) ≡ false
+  pub place : place_of t ≡ place_of s
+  pub at : t.at ≡ n + 1
+  pub fresh : t.fresh ≡ s.fresh
+  pub path : t.path.items ≡ s.path.items
+  pub saved : t.saved.items ≡ s.saved.items
+
+abbrev pub Tries : List Event → Search → ℕ → Search → Bool → Type 0
+Tries among s at t true = HasGone among s at t
+Tries among s at t false = HasStayed among s at t
+
+-- it has gone back to the place that was saved last
+pub record HasGoneBack (s t : Search) : Type 0 where
+  pub f : Saved
+  pub saved : s.saved.items ≡ t.saved.items ++ f ∷ []
+  pub place : place_of t ≡ place_of_saved f
+  pub at : t.at ≡ f.at
+  pub fresh : t.fresh ≡ false
+  pub path : t.path.items ≡ take f.len s.path.items
+
+-- what a search that goes on leaves out doesn't fail; where nothing is left nothing fails
+abbrev pub LeavesOut : Wanted → List Event → Search → Search → Turn → Type 0
+LeavesOut wanted among s t turn.On = NoneLeft wanted among t → NoneLeft wanted among s
+LeavesOut wanted among s t turn.Found = Unit {0}
+LeavesOut wanted among s t turn.Over = NoneLeft wanted among s
+
+-- the path of a search that goes on is one from where it began; one that was found fails
+abbrev pub LeadsOn : Wanted → List Event → Place → Search → Turn → Type 0
+LeadsOn wanted among from t turn.On = IsOnPath among from t
+LeadsOn wanted among from t turn.Found = IsWithin among from t.path.items × Fails wanted among from t.path.items
+LeadsOn wanted among from t turn.Over = Unit {0}
+
+-- whether it has gone back; if not, there is nothing to go back to
+abbrev pub GoesBack : Search → Search → Bool → Type 0
+GoesBack s t true = HasGoneBack s t
+GoesBack s t false = s.saved.items ≡ []
+
+-- nothing but spare boards differs
+pub record IsSame (s t : Search) : Type 0 where
+  pub place : place_of t ≡ place_of s
+  pub at : t.at ≡ s.at
+  pub fresh : t.fresh ≡ s.fresh
+  pub path : t.path.items ≡ s.path.items
+  pub saved : t.saved.items ≡ s.saved.items
+
+-- the place after an event that has done something, or the same one
+abbrev pub Takes : Search → Event → Search → Bool → Type 0
+Takes s event t true = (does s.board event ≡ true) × (place_of t ≡ next (place_of s) event) × (t.at ≡ 0) × (t.fresh ≡ true) × (t.path.items ≡ s.path.items ++ event ∷ [])
+Takes s event t false = (does s.board event ≡ false) × (place_of t ≡ place_of s) × (t.at ≡ s.at) × (t.fresh ≡ s.fresh) × (t.path.items ≡ s.path.items)
+
+-- What a search answers is so: the schedule is within the bounds and fails, or no schedule within the bounds fails. One
+-- that was stopped says nothing.
+abbrev pub Answers : Wanted → List Event → Place → Answer → Type 0
+Answers wanted among from (answer.Fails events) = IsWithin among from events.items × Fails wanted among from events.items
+Answers wanted among from answer.NoneFails = NoneFails wanted among from
+Answers wanted among from answer.Stopped = Unit {0}
+
+-- which answer follows from what a search came to
+abbrev pub Finds : Search → Turn → Answer → Type 0
+Finds s turn.On found = found ≡ answer.Stopped
+Finds s turn.Found found = found ≡ answer.Fails s.path
+Finds s turn.Over found = found ≡ answer.NoneFails

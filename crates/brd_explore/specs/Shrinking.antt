@@ -1,0 +1,27 @@
+-- What is left of a list of events that fails.
+use Rattle.std.specs.Prelude.{◌≡◌, ◌⊎◌, ℕ, ◌+◌, ◌<◌, Bool, true, false, ◌||◌, List, [], ◌∷◌, ◌++◌, length, take, drop}
+use Rattle.brd_board.specs.declared.event.Event.{Event}
+use Rattle.brd_board.specs.Board.{BoardState, after}
+use Rattle.brd_explore.specs.declared.wanted.Wanted.{Wanted}
+use Rattle.brd_explore.specs.Failures.{fails_now, fails_at_end}
+
+-- A list of events fails: the board after it shows a failure, or the fair end of the list does.
+unfoldable pub fails_after : Wanted → BoardState → Bool
+fails_after wanted b = fails_now wanted b || fails_at_end wanted b
+
+abbrev pub is_failing : Wanted → BoardState → List Event → Bool
+is_failing wanted b events = fails_after wanted (after b events)
+
+-- the events without those from one index up to before another one
+abbrev pub without : List Event → ℕ → ℕ → List Event
+without events from to = take from events ++ drop to events
+
+-- some of the events of a list, in their order
+abbrev pub IsPart : List Event → List Event → Type 0
+IsPart [] all = Unit {0}
+IsPart (one ∷ part) [] = ⊥
+IsPart (one ∷ part) (other ∷ all) = ((one ≡ other) × IsPart part all) ⊎ IsPart (one ∷ part) all
+
+-- without any one of the events the list doesn't fail
+abbrev pub IsLeast : Wanted → BoardState → List Event → Type 0
+IsLeast wanted b events = (k : ℕ) → k < length events → is_failing wanted b (without events k (k + 1)) ≡ false

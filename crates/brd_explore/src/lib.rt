@@ -1,0 +1,13 @@
+//! All schedules of a board within bounds: one that fails, or the answer that there is none.
+#![tactic(auto)]
+
+mod bounds;
+pub mod laws;
+mod search;
+mod shrinking;
+mod wanted;
+
+pub use bounds::Bounds;
+pub use search::{Answer, Found, ToTheEnd, Watch, find};
+pub use shrinking::{fails, shrink};
+pub use wanted::{Failure, Wanted};

@@ -1,0 +1,462 @@
+//! The search: depth first, by a stack of places to go back to.
+
+ghost use Rattle.std.specs.Prelude.{◌≡◌, ◌&&◌, take, ◌∷◌, ◌++◌, ◌+◌, ◌≤◌, ◌<◌, [], ℕ, true, false, length, List as ListOf, IfOk, OnOk, IfSome, IfNone, All, Some, None};
+ghost use Rattle.brd_board.specs.declared.event.Event.{Event as EventOf};
+ghost use Rattle.brd_board.specs.Board.{happens};
+ghost use Rattle.brd_explore.specs.Schedules.{does, Place, is_left, next, event_at, IsWithin, IsAmong, start};
+ghost use Rattle.brd_explore.specs.Failures.{fails_now, fails_at_end, ended};
+ghost use Rattle.brd_explore.specs.Searching.{
+  AreAlike,
+  Fails,
+  IsOnPath,
+  IsSized,
+  IsTooMuch,
+  NoneFails,
+  NoneLeft,
+  Tries,
+  GoesBack,
+  Takes,
+  IsSame,
+  LeavesOut,
+  LeadsOn,
+  Answers,
+  Finds,
+  place_of,
+  place_of_saved,
+};
+
+use crate::bounds::{Bounds, did_nothing, stepper};
+use crate::wanted::Wanted;
+use brd_base::NoMemory;
+use brd_board::{Board, Event};
+use std::alloc::Global;
+use std::mem::replace;
+
+/// A place to which a search goes back.
+pub struct Saved {
+    board: Board,
+    left: Bounds,
+    last: u8,
+    /// The index of the first event that is still to be tried there.
+    at: usize,
+    /// How many events lead there.
+    len: usize,
+}
+
+/// Where a search is.
+pub struct Search {
+    board: Board,
+    left: Bounds,
+    last: u8,
+    /// The index of the first event that is still to be tried here.
+    at: usize,
+    /// Whether no event that was tried here has done anything.
+    fresh: bool,
+    /// The events that lead here.
+    path: Vec<Event>,
+    /// The places to go back to, the last one first.
+    saved: Vec<Saved>,
+    /// Boards that are needed no more.
+    spare: Vec<Board>,
+    /// How many schedules have come to their end.
+    tried: u64,
+}
+
+/// What a turn of a search came to.
+#[derive(Clone, Copy, PartialEq, Eq)]
+enum Turn {
+    /// The search goes on.
+    On,
+    /// The path fails.
+    Found,
+    /// Nothing is left.
+    Over,
+}
+
+impl Drop for Saved {
+    fn drop(self) {
+        let Saved {
+            board: _,
+            left: _,
+            last: _,
+            at: _,
+            len: _,
+        } = self;
+    }
+}
+
+impl Drop for Search {
+    fn drop(self) {
+        let Search {
+            board: _,
+            left: _,
+            last: _,
+            at: _,
+            fresh: _,
+            path: _,
+            saved: _,
+            spare: _,
+            tried: _,
+        } = self;
+    }
+}
+
+impl Saved {
+    /// Its board.
+    fn into_board(self) -> Board
+        ensures { result ≡ self.board }
+    {
+        let Saved {
+            board,
+            left: _,
+            last: _,
+            at: _,
+            len: _,
+        } = self;
+        board
+    }
+}
+
+impl Search {
+    /// The index of the first event, from this one on, for which something is left here.
+    fn choice(&self, among: &[Event], from: usize) -> Option<usize>
+        ensures some { IfSome result (λ at. (from ≤ at) × (at < length among.now) × (is_left (place_of self.now) (event_at among.now at) ≡ true) × IsTooMuch among.now (place_of self.now) from at) }
+        ensures none { IfNone result (IsTooMuch among.now (place_of self.now) from (length among.now)) }
+    {
+        for at in from..among.len() {
+            if self.left.affords(&self.board, self.last, among[at]) {
+                return Some(at);
+            }
+        }
+        None
+    }
+
+    /// A copy of the board, in place of a spare one if there is one.
+    fn copy(&mut self) -> Result<Board, NoMemory>
+        requires { IsSized self.old }
+        ensures board { IfOk result (λ board. board ≡ self.old.board) }
+        ensures rest { IsSame self.old self.new }
+        ensures sized { IsSized self.new }
+    {
+        let Some(mut board) = self.spare.pop() else {
+            return self.board.try_copy();
+        };
+        board.copy_from(&self.board)?;
+        Ok(board)
+    }
+
+    /// A copy of this place, where the events from an index on are still to be tried.
+    fn saved(&mut self, at: usize) -> Result<Saved, NoMemory>
+        requires { IsSized self.old }
+        ensures saved { IfOk result (λ f. (place_of_saved f ≡ place_of self.old) × (f.at ≡ at) × (f.len ≡ length self.old.path.items)) }
+        ensures rest { IsSame self.old self.new }
+        ensures sized { IsSized self.new }
+    {
+        let board = self.copy()?;
+        Ok(Saved {
+            board,
+            left: self.left,
+            last: self.last,
+            at,
+            len: self.path.len(),
+        })
+    }
+
+    /// Does an event. Answers whether it has done something, and is at the place after it then.
+    fn take(&mut self, event: Event) -> Result<bool, NoMemory>
+        requires { IsSized self.old }
+        ensures is { IfOk result (λ done. Takes self.old event self.new done) }
+        ensures saved { self.new.saved.items ≡ self.old.saved.items }
+        ensures sized { IsSized self.new }
+    {
+        let left = self.left.spent(&self.board, self.last, event);
+        if did_nothing(self.board.event_apart(event)) {
+            return Ok(false);
+        }
+        self.path.push(event)?;
+        self.left = left;
+        self.last = stepper(self.last, event);
+        self.at = 0;
+        self.fresh = true;
+        Ok(true)
+    }
+
+    /// Does the last event for which something is left here. Answers whether it has done something.
+    fn try_last(&mut self, among: &[Event], at: usize) -> Result<bool, NoMemory>
+        requires sized { IsSized self.old }
+        requires within { at < length among.now }
+        requires rest { IsTooMuch among.now (place_of self.old) (at + 1) (length among.now) }
+        ensures is { IfOk result (λ done. Tries among.now self.old at self.new done) }
+        ensures sized { IsSized self.new }
+    {
+        let done = self.take(among[at])?;
+        if !done {
+            self.at = at + 1;
+        }
+        Ok(done)
+    }
+
+    /// Does an event, while others are still to be tried here. Answers whether it has done something.
+    fn try_one(&mut self, among: &[Event], at: usize) -> Result<bool, NoMemory>
+        requires sized { IsSized self.old }
+        requires within { at < length among.now }
+        ensures is { IfOk result (λ done. Tries among.now self.old at self.new done) }
+        ensures sized { IsSized self.new }
+    {
+        let saved = self.saved(at + 1)?;
+        self.try_from(among, at, saved)
+    }
+
+    /// Does an event at a place of which this is a copy. Answers whether it has done something.
+    fn try_from(&mut self, among: &[Event], at: usize, saved: Saved) -> Result<bool, NoMemory>
+        requires sized { IsSized self.old }
+        requires within { at < length among.now }
+        requires saved { (place_of_saved saved ≡ place_of self.old) × (saved.at ≡ at + 1) × (saved.len ≡ length self.old.path.items) }
+        ensures is { IfOk result (λ done. Tries among.now self.old at self.new done) }
+        ensures sized { IsSized self.new }
+    {
+        let done = self.take(among[at])?;
+        if done {
+            self.saved.push(saved)?;
+        } else {
+            self.at = at + 1;
+        }
+        Ok(done)
+    }
+
+    /// Tries an event here, for which something is left. Answers whether it has done something.
+    fn try_event(&mut self, among: &[Event], at: usize) -> Result<bool, NoMemory>
+        requires sized { IsSized self.old }
+        requires within { at < length among.now }
+        ensures is { IfOk result (λ done. Tries among.now self.old at self.new done) }
+        ensures sized { IsSized self.new }
+    {
+        match self.choice(among, at + 1) {
+            Some(_) => self.try_one(among, at),
+            None => self.try_last(among, at),
+        }
+    }
+
+    /// Goes on by an event for which something is left. Answers what that came to.
+    fn go_on(&mut self, among: &[Event], at: usize, wanted: &Wanted) -> Result<Turn, NoMemory>
+        requires sized { IsSized self.old }
+        requires within { (self.old.at ≤ at) × (at < length among.now) }
+        requires left { is_left (place_of self.old) (event_at among.now at) ≡ true }
+        requires before { IsTooMuch among.now (place_of self.old) self.old.at at }
+        ensures out { IfOk result (LeavesOut wanted.now among.now self.old self.new) }
+        ensures on { (from : Place) → IsOnPath among.now from self.old → IfOk result (LeadsOn wanted.now among.now from self.new) }
+        ensures sized { IsSized self.new }
+    {
+        let done = self.try_event(among, at)?;
+        if done && wanted.fails_now(&self.board)? {
+            return Ok(Turn::Found);
+        }
+        Ok(Turn::On)
+    }
+
+    /// Goes back to the place that was saved last. Answers whether there was one.
+    fn go_back(&mut self) -> bool
+        requires { IsSized self.old }
+        ensures is { GoesBack self.old self.new result }
+        ensures sized { IsSized self.new }
+    {
+        let Some(saved) = self.saved.pop() else {
+            return false;
+        };
+        self.put_back(saved);
+        true
+    }
+
+    /// Is at a place that was saved.
+    fn put_back(&mut self, saved: Saved)
+        requires sized { IsSized self.old }
+        requires alike { AreAlike saved.board self.old.board }
+        ensures place { (place_of self.new ≡ place_of_saved saved) × (self.new.at ≡ saved.at) × (self.new.fresh ≡ false) }
+        ensures path { self.new.path.items ≡ take saved.len self.old.path.items }
+        ensures saved { self.new.saved.items ≡ self.old.saved.items }
+        ensures sized { IsSized self.new }
+    {
+        self.left = saved.left;
+        self.last = saved.last;
+        self.at = saved.at;
+        self.fresh = false;
+        self.path.truncate(saved.len);
+        let before = replace(&mut self.board, saved.into_board());
+        let _ = self.spare.push(before);
+    }
+
+    /// Whether this is an end that fails. The board goes on to its fair end.
+    fn ends_badly(&mut self, wanted: &Wanted) -> Result<bool, NoMemory>
+        requires { IsSized self.old }
+        ensures is { IfOk result (λ fails. fails ≡ (self.old.fresh && fails_at_end wanted.now self.old.board)) }
+        ensures saved { self.new.saved.items ≡ self.old.saved.items }
+        ensures path { self.new.path.items ≡ self.old.path.items }
+        ensures sized { IsSized self.new }
+    {
+        if !self.fresh {
+            return Ok(false);
+        }
+        self.tried = self.tried.saturating_add(1);
+        wanted.fails_at_end(&mut self.board)
+    }
+
+    /// Goes back, since nothing is left for any event here. Answers what that came to.
+    fn turn_back(&mut self, among: &[Event], wanted: &Wanted) -> Result<Turn, NoMemory>
+        requires sized { IsSized self.old }
+        requires rest { IsTooMuch among.now (place_of self.old) self.old.at (length among.now) }
+        ensures out { IfOk result (LeavesOut wanted.now among.now self.old self.new) }
+        ensures on { (from : Place) → IsOnPath among.now from self.old → IfOk result (LeadsOn wanted.now among.now from self.new) }
+        ensures sized { IsSized self.new }
+    {
+        let _ = among.len();
+        if self.ends_badly(wanted)? {
+            return Ok(Turn::Found);
+        }
+        if self.go_back() {
+            return Ok(Turn::On);
+        }
+        Ok(Turn::Over)
+    }
+
+    /// Takes a turn of the search. Answers what that came to.
+    fn turn(&mut self, among: &[Event], wanted: &Wanted) -> Result<Turn, NoMemory>
+        requires { IsSized self.old }
+        ensures out { IfOk result (LeavesOut wanted.now among.now self.old self.new) }
+        ensures on { (from : Place) → IsOnPath among.now from self.old → IfOk result (LeadsOn wanted.now among.now from self.new) }
+        ensures sized { IsSized self.new }
+    {
+        match self.choice(among, self.at) {
+            Some(at) => self.go_on(among, at, wanted),
+            None => self.turn_back(among, wanted),
+        }
+    }
+
+    /// Takes turns until something is found or nothing is left, or until it is told to stop.
+    fn run<W: Watch>(
+        &mut self,
+        among: &[Event],
+        wanted: &Wanted,
+        watch: &mut W,
+    ) -> Result<Turn, NoMemory>
+        requires { IsSized self.old }
+        ensures out { IfOk result (LeavesOut wanted.now among.now self.old self.new) }
+        ensures on { (from : Place) → IsOnPath among.now from self.old → IfOk result (LeadsOn wanted.now among.now from self.new) }
+    {
+        for _ in 0..u64::MAX {
+            let turn = self.turn(among, wanted)?;
+            if turn != Turn::On || !watch.goes_on(self.tried) {
+                return Ok(turn);
+            }
+        }
+        Ok(Turn::On)
+    }
+
+    /// A search that begins at a board.
+    fn new(alloc: Global, board: &Board, bounds: Bounds) -> Result<Search, NoMemory>
+        ensures place { IfOk result (λ s. place_of s ≡ start board.now bounds) }
+        ensures begins { IfOk result (λ s. (s.at ≡ 0) × (s.fresh ≡ true) × (s.path.items ≡ []) × (s.saved.items ≡ [])) }
+        ensures sized { IfOk result IsSized }
+    {
+        let board = board.try_copy()?;
+        Ok(Search {
+            board,
+            left: bounds,
+            last: 0,
+            at: 0,
+            fresh: true,
+            path: Vec::new(alloc),
+            saved: Vec::new(alloc),
+            spare: Vec::new(alloc),
+            tried: 0,
+        })
+    }
+
+    /// Its path.
+    fn into_path(self) -> Vec<Event>
+        ensures { result ≡ self.path }
+    {
+        let Search {
+            board: _,
+            left: _,
+            last: _,
+            at: _,
+            fresh: _,
+            path,
+            saved: _,
+            spare: _,
+            tried: _,
+        } = self;
+        path
+    }
+
+    /// What it came to, and how many schedules it has tried.
+    fn into_found(self, turn: Turn) -> Found
+        ensures { Finds self turn result.answer }
+    {
+        let tried = self.tried;
+        let answer = match turn {
+            Turn::Found => Answer::Fails(self.into_path()),
+            Turn::Over => Answer::NoneFails,
+            Turn::On => Answer::Stopped,
+        };
+        Found { answer, tried }
+    }
+}
+
+/// What is told how many schedules a search has tried, and may stop it.
+pub trait Watch {
+    /// So many schedules have come to their end. Answers whether the search is to go on.
+    fn goes_on(&mut self, tried: u64) -> bool;
+}
+
+/// What lets a search go on to its end.
+#[derive(Clone, Copy)]
+pub struct ToTheEnd;
+
+impl Watch for ToTheEnd {
+    fn goes_on(&mut self, _tried: u64) -> bool {
+        true
+    }
+}
+
+/// What a search answers.
+#[derive(Drop)]
+pub enum Answer {
+    /// This schedule is within the bounds, and fails.
+    Fails(Vec<Event>),
+    /// No schedule within the bounds fails.
+    NoneFails,
+    /// It was told to stop, and says nothing. (It stops by itself after 2^64 - 1 turns.)
+    Stopped,
+}
+
+/// What a search came to.
+#[derive(Drop)]
+pub struct Found {
+    /// What it answers.
+    pub answer: Answer,
+    /// How many schedules have come to their end.
+    pub tried: u64,
+}
+
+/// Searches the schedules of a board within bounds, of which each event is one of these, for one that fails.
+pub fn find<W: Watch>(
+    alloc: Global,
+    board: &Board,
+    bounds: Bounds,
+    among: &[Event],
+    wanted: &Wanted,
+    watch: &mut W,
+) -> Result<Found, NoMemory>
+    ensures { IfOk result (λ found. Answers wanted.now among.now (start board.now bounds) found.answer) }
+{
+    if wanted.fails_now(board)? {
+        return Ok(Found {
+            answer: Answer::Fails(Vec::new(alloc)),
+            tried: 0,
+        });
+    }
+    let mut search = Search::new(alloc, board, bounds)?;
+    let turn = search.run(among, wanted, watch)?;
+    Ok(search.into_found(turn))
+}

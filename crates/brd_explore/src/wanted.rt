@@ -1,0 +1,285 @@
+//! What of a board is a failure, by now or at the end.
+
+ghost use Rattle.std.specs.Prelude.{◌≡◌, ◌⊎◌, not, IfOk};
+ghost use Rattle.std.specs.List.{list_any};
+ghost use Rattle.brd_board.specs.Board.{after};
+ghost use Rattle.brd_explore.specs.Failures.{
+  nobody_goes,
+  is_stuck,
+  some_below,
+  waits,
+  has_due,
+  word_of,
+  is_value,
+  is_between,
+  begins_with,
+  has_fault,
+  fails_by_now,
+  fails_at_last,
+  ended,
+  fails_now,
+  fails_at_end,
+};
+ghost use Rattle.brd_board.specs.Board.{task_of};
+ghost use Rattle.brd_explore.specs.Shrinking.{fails_after};
+
+use crate::bounds::did_nothing;
+use brd_base::{List, NoMemory};
+use brd_board::{Board, Event, TaskId};
+use brd_word::word_of;
+
+/// Something that is not to happen.
+#[derive(Drop)]
+pub enum Failure {
+    /// An exception has ended a task, or stopped a processor.
+    Exception,
+    /// A task waits, and nothing but an interrupt or a call from elsewhere could ever end that: nobody executes, no
+    /// interrupt is accepted, and no wait has a tick at which it ends.
+    Deadlock,
+    /// The console no longer begins as this, or at the end isn't this.
+    Console(List<u8>),
+    /// At the end the word at an address has another value than this, or there is no such word.
+    Word {
+        /// Its address.
+        address: u32,
+        /// The value that is wanted.
+        value: u32,
+    },
+    /// The word at an address is less or more than it may be, or there is no such word.
+    Outside {
+        /// Its address.
+        address: u32,
+        /// The least that it may be.
+        least: u32,
+        /// The most that it may be.
+        most: u32,
+    },
+    /// At the end the board is still on.
+    On,
+}
+
+/// What is not to happen, and how a schedule goes on after its end, before its end is judged.
+#[derive(Drop)]
+pub struct Wanted {
+    /// What is not to happen.
+    pub failures: List<Failure>,
+    /// The events of a round of the fair end.
+    pub round: List<Event>,
+    /// How many rounds the fair end has: 0 where the schedule's last event is the end.
+    pub rounds: u32,
+}
+
+impl Wanted {
+    /// Whether a board shows a failure.
+    #[tactic(auto, unfolding(crate::specs::Failures::fails_now))]
+    pub fn fails_now(&self, board: &Board) -> Result<bool, NoMemory>
+        ensures { IfOk result (λ fails. fails ≡ fails_now self.now board.now) }
+    {
+        for failure in self.failures.as_slice() {
+            if failure.shows(board)? {
+                return Ok(true);
+            }
+        }
+        Ok(false)
+    }
+
+    /// Lets a schedule's last board go on to its fair end. Answers whether that shows a failure.
+    #[tactic(auto, unfolding(crate::specs::Failures::fails_at_end))]
+    pub fn fails_at_end(&self, board: &mut Board) -> Result<bool, NoMemory>
+        ensures fails { IfOk result (λ fails. fails ≡ fails_at_end self.now board.old) }
+        ensures board { board.new ≡ ended self.now board.old }
+    {
+        self.play_fairly(board);
+        if self.fails_now(board)? {
+            return Ok(true);
+        }
+        Ok(self.fails_at_last(board))
+    }
+
+    /// Whether a list's last board shows a failure, or the list's end does. The board goes on to its fair end.
+    #[tactic(auto, unfolding(crate::specs::Shrinking::fails_after))]
+    pub(crate) fn fails_after(&self, board: &mut Board) -> Result<bool, NoMemory>
+        ensures fails { IfOk result (λ fails. fails ≡ fails_after self.now board.old) }
+        ensures board { (board.new ≡ board.old) ⊎ (board.new ≡ ended self.now board.old) }
+    {
+        if self.fails_now(board)? {
+            return Ok(true);
+        }
+        self.fails_at_end(board)
+    }
+
+    /// Lets a board go on to its fair end.
+    #[tactic(auto, unfolding(crate::specs::Failures::ended))]
+    fn play_fairly(&self, board: &mut Board)
+        ensures { board.new ≡ ended self.now board.old }
+    {
+        for _ in 0..self.rounds {
+            board.play(self.round.as_slice());
+        }
+    }
+
+    /// Whether a last board shows a failure of last boards.
+    fn fails_at_last(&self, board: &Board) -> bool
+        ensures { result ≡ list_any (fails_at_last board.now) self.now.failures }
+    {
+        for failure in self.failures.as_slice() {
+            if failure.shows_at_last(board) {
+                return true;
+            }
+        }
+        false
+    }
+}
+
+impl Failure {
+    /// Whether a board shows it, at whatever point of a schedule.
+    #[tactic(auto, unfolding(crate::specs::Failures::fails_by_now))]
+    fn shows(&self, board: &Board) -> Result<bool, NoMemory>
+        ensures { IfOk result (λ shows. shows ≡ fails_by_now board.now self.now) }
+    {
+        match self {
+            Failure::Exception => Ok(has_fault(board)),
+            Failure::Deadlock => is_stuck(board),
+            Failure::Console(text) => Ok(!text.as_slice().starts_with(board.console())),
+            Failure::Outside {
+                address,
+                least,
+                most,
+            } => Ok(!is_between(*least, *most, word_at(board, *address))),
+            Failure::Word { .. } | Failure::On => Ok(false),
+        }
+    }
+
+    /// Whether a board shows it where it is the last one.
+    #[tactic(auto, unfolding(crate::specs::Failures::fails_at_last))]
+    fn shows_at_last(&self, board: &Board) -> bool
+        ensures { result ≡ fails_at_last board.now self.now }
+    {
+        match self {
+            Failure::Exception | Failure::Deadlock | Failure::Outside { .. } => false,
+            Failure::Console(text) => !board.console().starts_with(text.as_slice()),
+            Failure::Word { address, value } => !is_value(*value, word_at(board, *address)),
+            Failure::On => !board.is_off(),
+        }
+    }
+}
+
+/// Whether an exception was kept of some processor.
+fn has_fault(board: &Board) -> bool
+    ensures { result ≡ has_fault board.now }
+{
+    for cpu in 0..9u8 {
+        if board.last_fault(cpu).is_some() {
+            return true;
+        }
+    }
+    false
+}
+
+/// Whether a board is on, some task waits, and nothing that the board does by itself ends that.
+fn is_stuck(board: &Board) -> Result<bool, NoMemory>
+    ensures { IfOk result (λ stuck. stuck ≡ is_stuck board.now) }
+{
+    if board.is_off() || !some_wait(board) || some_are_due(board) {
+        return Ok(false);
+    }
+    nobody_goes(board)
+}
+
+/// Whether some task waits.
+fn some_wait(board: &Board) -> bool
+    ensures { result ≡ some_below 256 (λ id. waits (task_of board.now id)) }
+{
+    for id in 0..256u16 {
+        if waits(board, id) {
+            return true;
+        }
+    }
+    false
+}
+
+/// Whether some wait ends by a tick.
+fn some_are_due(board: &Board) -> bool
+    ensures { result ≡ some_below 256 (λ id. has_due (task_of board.now id)) }
+{
+    for id in 0..256u16 {
+        if has_due(board, id) {
+            return true;
+        }
+    }
+    false
+}
+
+/// Whether a task waits.
+fn waits(board: &Board, id: TaskId) -> bool
+    ensures { result ≡ waits (task_of board.now id) }
+{
+    match board.task(id) {
+        Some(task) => task.waiting.is_some(),
+        None => false,
+    }
+}
+
+/// Whether a task's wait ends by a tick.
+fn has_due(board: &Board, id: TaskId) -> bool
+    ensures { result ≡ has_due (task_of board.now id) }
+{
+    match board.task(id) {
+        Some(task) => task.due.is_some(),
+        None => false,
+    }
+}
+
+/// Whether no step of a processor does anything.
+fn nobody_goes(board: &Board) -> Result<bool, NoMemory>
+    ensures { IfOk result (λ none. none ≡ nobody_goes board.now) }
+{
+    let mut copy = board.try_copy()?;
+    Ok(!somebody_goes(&mut copy))
+}
+
+/// Whether some step of a processor does something. It is done then.
+fn somebody_goes(board: &mut Board) -> bool
+    ensures { nobody_goes board.old ≡ not result }
+{
+    for cpu in 0..9u8 {
+        if !did_nothing(board.event_apart(Event::Step(cpu))) {
+            return true;
+        }
+    }
+    false
+}
+
+/// The word at an address, where RAM has its four bytes.
+#[tactic(auto, unfolding(crate::specs::Failures::word_of))]
+fn word_at(board: &Board, address: u32) -> Option<u32>
+    ensures { result ≡ word_of board.now address }
+{
+    let bytes = [
+        board.memory(address)?,
+        board.memory(address.wrapping_add(1))?,
+        board.memory(address.wrapping_add(2))?,
+        board.memory(address.wrapping_add(3))?,
+    ];
+    Some(word_of(bytes, board.order()))
+}
+
+/// Whether a word is there and has this value.
+fn is_value(value: u32, word: Option<u32>) -> bool
+    ensures { result ≡ is_value value word }
+{
+    match word {
+        Some(word) => word == value,
+        None => false,
+    }
+}
+
+/// Whether a word is there and lies in a range.
+fn is_between(least: u32, most: u32, word: Option<u32>) -> bool
+    ensures { result ≡ is_between least most word }
+{
+    match word {
+        Some(word) => least <= word && word <= most,
+        None => false,
+    }
+}

@@ -1,0 +1,127 @@
+//! Programs whose schedules are searched.
+
+/// Two tasks on two processors run `main`, with the arguments 0 and 1.
+pub const TWO: &str = "BOARD(2, 0x10000);
+    CRE_SEM(1, {TA_TFIFO, 1, 1}); CRE_SEM(2, {TA_TFIFO, 1, 1});
+    CRE_TSK(1, {TA_ACT, 0, main, 1, 256, NULL});
+    CLASS(TCL_2) { CRE_TSK(2, {TA_ACT, 1, main, 1, 256, NULL}); }";
+
+/// Two tasks on two processors run `main` and `second`.
+pub const APART: &str = "BOARD(2, 0x10000);
+    CRE_SEM(1, {TA_TFIFO, 1, 1}); CRE_SEM(2, {TA_TFIFO, 1, 1});
+    CRE_TSK(1, {TA_ACT, 0, main, 1, 256, NULL});
+    CLASS(TCL_2) { CRE_TSK(2, {TA_ACT, 1, second, 1, 256, NULL}); }";
+
+/// It goes on for ever.
+pub const LOOP: &str = "main: b main
+        nop
+";
+
+/// Each adds 1 to the word at 0x80000000, and ends.
+pub const LOST_UPDATE: &str = "count: .word 0, 0, 0, 0
+main:   lui   $s0, %hi(count)
+        addiu $s1, $0, 1
+again:  lw    $t0, %lo(count)($s0)
+        addiu $t0, $t0, 1
+        sw    $t0, %lo(count)($s0)
+        addiu $s1, $s1, -1
+        bnez  $s1, again
+        nop
+        addiu $v0, $0, 3
+        syscall
+";
+
+/// The same by LL and SC.
+pub const REPAIRED: &str = "count: .word 0, 0, 0, 0
+main:   lui   $s0, %hi(count)
+        addiu $s1, $0, 1
+again:  ll    $t0, %lo(count)($s0)
+        addiu $t0, $t0, 1
+        sc    $t0, %lo(count)($s0)
+        beqz  $t0, again
+        nop
+        addiu $s1, $s1, -1
+        bnez  $s1, again
+        nop
+        addiu $v0, $0, 3
+        syscall
+";
+
+/// They take two semaphores in two orders.
+pub const DEADLOCK: &str = "main: addiu $a0, $0, 1
+        addiu $v0, $0, 25
+        syscall
+        addiu $a0, $0, 2
+        addiu $v0, $0, 25
+        syscall
+        b     end
+        nop
+second: addiu $a0, $0, 2
+        addiu $v0, $0, 25
+        syscall
+        addiu $a0, $0, 1
+        addiu $v0, $0, 25
+        syscall
+end:    addiu $v0, $0, 24
+        addiu $a0, $0, 1
+        syscall
+        addiu $a0, $0, 2
+        addiu $v0, $0, 24
+        syscall
+        addiu $v0, $0, 3
+        syscall
+";
+
+/// Peterson's lock, in which the turn is given before the flag is set. The word at 0x8000000c counts who is inside.
+pub const PETERSON_SWAPPED: &str = "flags: .word 0, 0, 0, 0
+main:   lui   $s0, %hi(flags)
+        sll   $s1, $a0, 2
+        addu  $s1, $s0, $s1
+        xori  $t2, $a0, 1
+        sll   $s2, $t2, 2
+        addu  $s2, $s0, $s2
+        addiu $t0, $0, 1
+        sw    $t2, 8($s0)
+        sw    $t0, 0($s1)
+wait:   lw    $t1, 0($s2)
+        beqz  $t1, inside
+        nop
+        lw    $t1, 8($s0)
+        beq   $t1, $t2, wait
+        nop
+inside: lw    $t0, 12($s0)
+        addiu $t0, $t0, 1
+        sw    $t0, 12($s0)
+        addiu $t0, $t0, -1
+        sw    $t0, 12($s0)
+        sw    $0, 0($s1)
+        addiu $v0, $0, 3
+        syscall
+";
+
+/// The same in the right order.
+pub const PETERSON: &str = "flags: .word 0, 0, 0, 0
+main:   lui   $s0, %hi(flags)
+        sll   $s1, $a0, 2
+        addu  $s1, $s0, $s1
+        xori  $t2, $a0, 1
+        sll   $s2, $t2, 2
+        addu  $s2, $s0, $s2
+        addiu $t0, $0, 1
+        sw    $t0, 0($s1)
+        sw    $t2, 8($s0)
+wait:   lw    $t1, 0($s2)
+        beqz  $t1, inside
+        nop
+        lw    $t1, 8($s0)
+        beq   $t1, $t2, wait
+        nop
+inside: lw    $t0, 12($s0)
+        addiu $t0, $t0, 1
+        sw    $t0, 12($s0)
+        addiu $t0, $t0, -1
+        sw    $t0, 12($s0)
+        sw    $0, 0($s1)
+        addiu $v0, $0, 3
+        syscall
+";
