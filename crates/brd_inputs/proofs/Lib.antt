@@ -1,0 +1,3 @@
+pub mod ExcerptLemmas
+pub mod InputLemmas
+pub mod StartLemmas

@@ -1,0 +1,8 @@
+use Rattle.brd_inputs.proofs.StartLemmas.{no_journal}
+use Rattle.brd_inputs.proofs.start.make_start.Goals as goal
+
+pub returns-in-Err-read_text : goal.returns-in-Err-read_text
+returns-in-Err-read_text c =
+    no_journal _ _ _ _ _ _ _ c.in-Ok.loaded.board c.in-Err-read_text.fault _
+    c.deref.ensures.value c.deref-2.ensures.value c.deref-3.ensures.value c.deref-in-Err-read_text.ensures.value
+    c.in-Ok.ensures.meaning c.in-Err-read_text.ensures c.of_journal.ensures

@@ -1,0 +1,17 @@
+//! Why there is no trace.
+
+use thiserror::Error;
+
+/// Why there is no trace of a board and a journal.
+#[derive(Clone, Copy, Debug, PartialEq, Eq, Error)]
+pub enum TraceFault {
+    /// The first event comes after the last one: from, to, and how many events the journal has.
+    #[error("there are no events from {0} to {1}: the journal has {2}")]
+    NoEvents(u64, u64, u64),
+    /// There is no such form.
+    #[error("its formats are text, json and svg")]
+    NoSuchFormat,
+    /// A picture has no room for so much.
+    #[error("it has more to draw than a picture can show: choose fewer events by --from and --to")]
+    TooMuch,
+}
