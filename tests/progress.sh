@@ -102,10 +102,42 @@ shows "a short race" 0 never "" "${race[@]}" 30 "$work/raced"
 began=${EPOCHREALTIME/[.,]/}
 "$board" "${race[@]}" 1000000 "$work/raced" > "$work/out"
 if [ $((${EPOCHREALTIME/[.,]/} - began)) -ge 1500000 ]; then
-    shows "a long race" 0 never "$line$emptied" "${race[@]}" 1000000 "$work/raced"
+    shows "a long race" 0 never "$line$emptied(board: the processors hardly took.*)?" "${race[@]}" 1000000 "$work/raced"
     shows "Ctrl-C in a race" 130 shown "$line.*" "${race[@]}" 1000000 "$work/raced"
 else
     skip "progress: a long race" "a machine on which the longest race takes 1.5 seconds"
 fi
+
+# ---- race: processors that hardly take turns, since the host has one processor for all of them
+
+# on_one_processor COMMAND ARGUMENT..: runs a command on one processor of the host.
+cat > "$work/on_one_processor" << 'END'
+import os
+import sys
+
+os.sched_setaffinity(0, [min(os.sched_getaffinity(0))])
+os.execvp(sys.argv[1], sys.argv[1:])
+END
+
+# says_of_turns CONFIG QUOTA: what `race` of an endless loop says on a terminal, and what is wrong without one.
+says_of_turns() {
+    tests/terminal never "$work/out" "$(command -v python3)" "$work/on_one_processor" \
+        "$board" race "$work/loop" "$1" "$work/nothing" "$2" "$work/raced" > "$work/shown"
+    sed "s/^b['\"]//; s/['\"]\$//" "$work/shown"
+    "$board" race "$work/loop" "$1" "$work/nothing" "$2" "$work/raced" > "$work/plain" 2> "$work/err"
+    [ -s "$work/err" ] && echo -n "; without a terminal standard error is $(head -c 600 "$work/err")"
+}
+
+printf 'main: b main\nnop\n' > "$work/source"
+"$board" asm "$work/source" "$work/loop"
+echo 'BOARD(1, 0x10000); CRE_TSK(1, {TA_ACT, 0, main, 1, 256, NULL});' > "$work/one"
+{ echo 'BOARD(2, 0x10000);'; sed -n 2,3p "$work/four"; } > "$work/two"
+few='board: the processors hardly took turns \(20000 steps in [0-9]+ runs\): race again, with a larger QUOTA, or'
+few="$few draw turns by \`board journal --random\`"
+says_of_turns "$work/two" 10000 > "$work/said"
+verdict "progress: two processors that hardly take turns" \
+    "$(grep -qE "^$few\\\\r\\\\n\$" "$work/said" || echo "it says $(head -c 600 "$work/said")")"
+verdict "progress: fewer than 10,000 steps" "$(says_of_turns "$work/two" 4999)"
+verdict "progress: one processor" "$(says_of_turns "$work/one" 10000)"
 
 summary

@@ -1,7 +1,8 @@
-//! What is told how far long work is.
+//! What is told how far long work is, and how a race went.
 #![tactic(auto)]
 
-/// What is told how far work is. It is told nothing else, so all that it can change is what it is itself.
+/// What is told how far work is, and how a race went. It is told nothing else, so all that it can change is what it is
+/// itself.
 pub trait Progress {
     /// Work begins, of which it is told from now on.
     fn begin(&mut self);
@@ -11,6 +12,10 @@ pub trait Progress {
 
     /// Output is written next, which is to stand alone.
     fn hide(&mut self);
+
+    /// A race is over in which the processors hardly took turns: its journal has so many steps of theirs, in so few
+    /// runs. What doesn't say otherwise does nothing then.
+    fn took_few_turns(&mut self, _steps: u64, _runs: u64) {}
 }
 
 /// What says nothing of how far work is.

@@ -1,0 +1,44 @@
+//! How often the processors of a race took turns.
+
+ghost use Rattle.std.specs.Prelude.{◌≡◌};
+ghost use Rattle.brd_command.specs.Turns.{are_few};
+
+use brd_progress::Progress;
+use brd_threads::{Race, Station, processors};
+
+/// How many steps the processors of a race did, and in how many runs of its journal.
+#[derive(Clone, Copy)]
+pub(crate) struct Turns {
+    processors: usize,
+    steps: u64,
+    runs: u64,
+}
+
+impl Turns {
+    /// Those of a race that left this station.
+    pub(crate) fn of<K: Race>(station: &Station<K>) -> Turns {
+        let mut steps = 0u64;
+        for cpu in 1..9u8 {
+            steps = steps.saturating_add(station.steps(cpu).unwrap_or(0));
+        }
+        Turns {
+            processors: processors(station.board()),
+            steps,
+            runs: station.journal().runs().len() as u64,
+        }
+    }
+
+    /// Tells it where they are few.
+    pub(crate) fn tell<P: Progress>(self, progress: &mut P) {
+        if self.are_few() {
+            progress.took_few_turns(self.steps, self.runs);
+        }
+    }
+
+    /// Whether they are few.
+    fn are_few(self) -> bool
+        ensures { result ≡ are_few self.processors self.steps self.runs }
+    {
+        self.processors >= 2 && self.steps >= 10_000 && self.runs < self.steps / 1_000
+    }
+}
