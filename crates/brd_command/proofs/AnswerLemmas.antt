@@ -7,17 +7,17 @@ use Rattle.brd_command.specs.Answers.{Does, HasDone}
 use Rattle.brd_command.specs.Answers.HasDone.{one_more as one_more_done}
 use Rattle.brd_command.specs.DebugLine.{command_lines, command_of, commands_of, line_size}
 use Rattle.brd_command.specs.Debugging.{debugger_of, AnswersCutShort, AnswersToAll, AnswersToFirst, AnswersUpToLimit, IsOver, EndsAnswering, StopsAnswering, Debugs}
-use Rattle.brd_command.specs.Input.{most_bytes}
+use Rattle.brd_inputs.specs.Input.{most_bytes}
 use Rattle.brd_command.specs.Lines.{TakesLine, CountsLine, IsLeftOf, KeepsFromTaking}
-use Rattle.brd_command.specs.Output.{AppendsFront, Writes}
-use Rattle.brd_command.specs.Start.{AreWithin, IsStart}
+use Rattle.brd_report.specs.Output.{AppendsFront, Writes}
+use Rattle.brd_inputs.specs.Start.{AreWithin, IsStart}
 use Rattle.brd_command.specs.declared.debug_line.DebugCommand.{DebugCommand}
 use Rattle.brd_command.specs.declared.debug_line.DebugCommand.TheVariants.{Quit}
-use Rattle.brd_command.specs.declared.fault.CommandFault.{CommandFault}
-use Rattle.brd_command.specs.declared.fault.CommandFault.TheVariants.{NoMemory, Argument, Words, Source, ImageTooLarge, Open, Read, TooLong, TooManyReads, Build, Journal, OtherOrder, Script, Race, Trace, Schedule, Write}
+use Rattle.brd_inputs.specs.declared.fault.CommandFault.{CommandFault}
+use Rattle.brd_inputs.specs.declared.fault.CommandFault.TheVariants.{NoMemory, Argument, Words, Source, ImageTooLarge, Open, Read, TooLong, TooManyReads, Build, Journal, OtherOrder, Script, Race, Trace, Schedule, Write}
 use Rattle.brd_command.specs.declared.lines.Taken.{Taken}
-use Rattle.brd_command.specs.declared.start.Start.{Start}
-use Rattle.brd_command.proofs.OutputLemmas.{one_more}
+use Rattle.brd_inputs.specs.declared.start.Start.{Start}
+use Rattle.brd_report.proofs.OutputLemmas.{one_more}
 
 -- The answers to the commands of a text, but for those of what is left of it, were written.
 abbrev pub IsAnswered : DebuggerState → List ℕ → Option (List ℕ) → ℕ → DebuggerState → Option (List ℕ) → Option (List ℕ) → Type 0

@@ -1,13 +1,12 @@
-pub mod ReportLemmas
 pub mod WordTextLemmas
-pub mod InputLemmas
-pub mod OutputLemmas
-pub mod ExcerptLemmas
 pub mod LineLemmas
 pub mod AnswerLemmas
-pub mod StartLemmas
 pub mod RunLemmas
 pub mod TraceLemmas
 pub mod RaceLemmas
 pub mod DebugLineLemmas
 pub mod ProgressLemmas
+pub mod LengthLemmas
+pub mod HeadlineLemmas
+pub mod ReplayLemmas
+pub mod RefusalLemmas

@@ -4,12 +4,12 @@ use Rattle.std.specs.Prelude.{Option, Some, None, IfSome, Ok, Err}
 use Rattle.std.specs.Io.KnownBytes.{Appends}
 use Rattle.std.specs.declared.io.Error.{Error}
 use Rattle.brd_board.specs.Board.{after}
-use Rattle.brd_command.specs.Output.{AppendsFront}
-use Rattle.brd_command.specs.Report.{report_of}
+use Rattle.brd_report.specs.Output.{AppendsFront}
+use Rattle.brd_report.specs.Report.{report_of}
 use Rattle.brd_command.specs.RunCommand.{RunEnds}
-use Rattle.brd_command.specs.Start.{AreWithin, IsStart}
-use Rattle.brd_command.specs.declared.fault.CommandFault.TheVariants.{Write}
-use Rattle.brd_command.specs.declared.start.Start.{Start}
+use Rattle.brd_inputs.specs.Start.{AreWithin, IsStart}
+use Rattle.brd_inputs.specs.declared.fault.CommandFault.TheVariants.{Write}
+use Rattle.brd_inputs.specs.declared.start.Start.{Start}
 
 module _ (start : Start) (o output : List ℕ) (o-is : o ≡ output)
     (shown : output ≡ report_of (length start.journal.events) (after start.board start.journal.events)) where

@@ -2,22 +2,22 @@
 use Rattle.std.proofs.Common.{ℕ, List, [], ◌++◌, length, inl}
 use Rattle.std.specs.Prelude.{Option, Some, None, IfSome, Result, Ok, Err, MatchResult}
 use Rattle.std.specs.Io.KnownBytes.{Appends}
-use Rattle.brd_command.specs.Start.{AreWithin}
-use Rattle.brd_command.specs.TraceCommand.{AppendsSome, EndsTracing, IsOfWriting, IsTraceStart, TraceEnds, WritesFirst}
-use Rattle.brd_command.specs.declared.fault.CommandFault.{CommandFault}
-use Rattle.brd_command.specs.declared.trace_command.TraceStart.{TraceStart}
+use Rattle.brd_inputs.specs.Start.{AreWithin, IsStart}
+use Rattle.brd_command.specs.TraceCommand.{AppendsSome, EndsTracing, IsOfWriting, TraceEnds, WritesFirst}
+use Rattle.brd_inputs.specs.declared.fault.CommandFault.{CommandFault}
+use Rattle.brd_inputs.specs.declared.start.Start.{Start}
 use Rattle.brd_command.specs.declared.trace_options.TraceOptions.{TraceOptions}
-use Rattle.brd_command.proofs.OutputLemmas.{nothing_yet, one_more}
+use Rattle.brd_report.proofs.OutputLemmas.{nothing_yet, one_more}
 
-pub traced : (it : TraceStart) (result : Result Unit CommandFault) (options : TraceOptions) (old new : Option (List ℕ)) (image config text : Option (List ℕ))
-    → IfSome image (λ i. IfSome config (λ c. IfSome text (λ j. AreWithin i c j × IsTraceStart i c j it)))
-    → EndsTracing result options (length it.start.journal.events) old new
+pub traced : (it : Start) (result : Result Unit CommandFault) (options : TraceOptions) (old new : Option (List ℕ)) (image config text : Option (List ℕ))
+    → IfSome image (λ i. IfSome config (λ c. IfSome text (λ j. AreWithin i c j × IsStart i c j it)))
+    → EndsTracing result options (length it.journal.events) old new
     → IfSome image (λ i. IfSome config (λ c. IfSome text (λ j. TraceEnds result options i c j old new)))
 traced it result options old new None config text begins ends = tt
 traced it result options old new (Some i) None text begins ends = tt
 traced it result options old new (Some i) (Some c) None begins ends = tt
 traced it result options old new (Some i) (Some c) (Some j) begins ends =
-    inl (record { start = it.start; within = begins.0; is_start = begins.1; ends = ends })
+    inl (record { start = it; within = begins.0; is_start = begins.1; ends = ends })
 
 -- What was written, piece by piece.
 

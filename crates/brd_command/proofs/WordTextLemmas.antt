@@ -7,7 +7,7 @@ use Rattle.std.proofs.lemmas.Grind.{common_steps}
 use Rattle.brd_text.specs.Bytes.{is_blank}
 use Rattle.brd_text.specs.Hex.{hex_word_of}
 use Rattle.brd_command.specs.WordText.{in_run, runs_from, words_of_runs, with_front, with_word, word_or_fault}
-use Rattle.brd_command.specs.declared.word_text.WordsFault.{WordsFault}
+use Rattle.brd_inputs.specs.declared.words_fault.WordsFault.{WordsFault}
 
 -- a run goes on up to its first other byte
 behind_by : (blank : Bool) (line byte : ℕ) (bytes : List ℕ) → is_blank byte ≡ blank →

@@ -7,8 +7,8 @@ use Rattle.brd_debug.specs.Debugger.{DebuggerState, shown, went}
 use Rattle.brd_debug.specs.Marks.{is_marked, marked}
 use Rattle.brd_debug.specs.Stops.{IsStop, IsLeast, IsGreatest}
 use Rattle.brd_text.specs.Hex.{hex_of}
-use Rattle.brd_command.specs.Report.{number_line}
-use Rattle.brd_command.specs.Shown.{context_shown}
+use Rattle.brd_report.specs.Report.{number_line}
+use Rattle.brd_report.specs.Shown.{context_shown}
 use Rattle.brd_command.specs.declared.debug_line.DebugCommand.{DebugCommand}
 use Rattle.brd_command.specs.declared.debug_line.DebugCommand.TheVariants.{Goto, Next, Back, Break, Watch, Registers, Memory, Quit, Unknown}
 

@@ -7,23 +7,26 @@ use Rattle.brd_mem.specs.declared.image.Image.{Image}
 use Rattle.brd_elf.specs.File.{file, Fits}
 use Rattle.brd_elf.specs.Meaning.{meaning}
 use Rattle.brd_asm.specs.Image.{program_of}
+use Rattle.brd_asm.specs.Laws.{HasInstructions}
 use Rattle.brd_asm.specs.declared.fault.AsmFault.{AsmFault}
 use Rattle.brd_asm.specs.declared.fault.AsmFault.TheVariants as asm_fault
 use Rattle.brd_image.specs.Building.{IsImageOf}
-use Rattle.brd_command.specs.Excerpt.{line_excerpt}
-use Rattle.brd_command.specs.FileKinds.{source_looks_like}
-use Rattle.brd_command.specs.Input.{most_bytes}
-use Rattle.brd_command.specs.Output.{Writes, WritesFront}
-use Rattle.brd_command.specs.declared.fault.CommandFault.{CommandFault}
-use Rattle.brd_command.specs.declared.input_name.InputName.TheVariants as input_name
-use Rattle.brd_command.specs.declared.fault.CommandFault.TheVariants.{NoMemory, Source, ImageTooLarge, Read, TooLong, TooManyReads, Write}
+use Rattle.brd_inputs.specs.Excerpt.{line_excerpt}
+use Rattle.brd_inputs.specs.FileKinds.{source_looks_like}
+use Rattle.brd_inputs.specs.Input.{most_bytes}
+use Rattle.brd_report.specs.Output.{Writes, WritesFront}
+use Rattle.brd_inputs.specs.declared.fault.CommandFault.{CommandFault}
+use Rattle.brd_inputs.specs.declared.input_name.InputName.TheVariants as input_name
+use Rattle.brd_inputs.specs.declared.fault.CommandFault.TheVariants.{NoMemory, Source, ImageTooLarge, Read, TooLong, TooManyReads, Write}
 
--- the object file of a source: the file of its image, which is read as that image again
+-- The object file of a source: the file of its image, and what it means is that image again, whose memory has the bytes
+-- that the source says, each at its place (`IsImage`), and so a word of each of its instructions.
 pub record IsObjectFile (source bytes : List ℕ) : Type 0 where
   pub image : Image
   pub is_image : IsImageOf source image
   pub is_file : bytes ≡ file image
   pub is_read : meaning bytes ≡ Ok image
+  pub instructions : HasInstructions source image
 
 -- no object file can hold the source's image
 pub record IsTooLarge (source : List ℕ) : Type 0 where

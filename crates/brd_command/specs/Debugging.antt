@@ -6,16 +6,16 @@ use Rattle.std.specs.declared.io.ErrorKind.TheVariants.{OutOfMemory}
 use Rattle.brd_debug.specs.Debugger.{DebuggerState}
 use Rattle.brd_command.specs.Answers.{Does, HasDone}
 use Rattle.brd_command.specs.DebugLine.{commands_of, line_size}
-use Rattle.brd_command.specs.Input.{most_bytes}
-use Rattle.brd_command.specs.Output.{Writes}
-use Rattle.brd_command.specs.Start.{AreWithin, IsStart, KeepsFromStarting}
+use Rattle.brd_inputs.specs.Input.{most_bytes}
+use Rattle.brd_report.specs.Output.{Writes}
+use Rattle.brd_inputs.specs.Start.{AreWithin, IsStart, KeepsFromStarting}
 use Rattle.brd_command.specs.declared.debug_line.DebugCommand.{DebugCommand}
 use Rattle.brd_command.specs.declared.debug_line.DebugCommand.TheVariants.{Quit}
-use Rattle.brd_command.specs.declared.fault.CommandFault.{CommandFault}
-use Rattle.brd_command.specs.declared.fault.CommandFault.TheVariants.{NoMemory, Read, TooLong, TooManyReads, Write}
-use Rattle.brd_command.specs.declared.input_name.InputName.TheVariants as input_name
-use Rattle.brd_command.specs.declared.input_name.InputName.TheVariants.{StandardInput}
-use Rattle.brd_command.specs.declared.start.Start.{Start}
+use Rattle.brd_inputs.specs.declared.fault.CommandFault.{CommandFault}
+use Rattle.brd_inputs.specs.declared.fault.CommandFault.TheVariants.{NoMemory, Read, TooLong, TooManyReads, Write}
+use Rattle.brd_inputs.specs.declared.input_name.InputName.TheVariants as input_name
+use Rattle.brd_inputs.specs.declared.input_name.InputName.TheVariants.{StandardInput}
+use Rattle.brd_inputs.specs.declared.start.Start.{Start}
 
 -- the debugger of a board and a journal, before the first command
 abbrev pub debugger_of : Start → DebuggerState

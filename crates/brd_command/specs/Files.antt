@@ -5,13 +5,14 @@
 use Rattle.std.specs.Prelude.{◌≡◌, ℕ, List, Option, IfSome, Result, Ok, Err, IsErrAnd}
 use Rattle.std.specs.declared.io.Error.{Error}
 use Rattle.brd_command.specs.AsmCommand.{AsmEnds}
-use Rattle.brd_command.specs.Faults.{IsOfOpen}
+use Rattle.brd_inputs.specs.Faults.{IsOfOpen}
+use Rattle.brd_inputs.specs.Opening.{OpensInputs}
 use Rattle.brd_command.specs.Debugging.{DebugEnds}
 use Rattle.brd_command.specs.RaceCommand.{RaceEnds}
 use Rattle.brd_command.specs.RunCommand.{RunEnds}
 use Rattle.brd_command.specs.TraceCommand.{TraceEnds}
-use Rattle.brd_command.specs.declared.fault.CommandFault.{CommandFault}
-use Rattle.brd_command.specs.declared.files.Inputs.{Inputs}
+use Rattle.brd_inputs.specs.declared.fault.CommandFault.{CommandFault}
+use Rattle.brd_inputs.specs.declared.inputs.Inputs.{Inputs}
 use Rattle.brd_command.specs.declared.trace_options.TraceOptions.{TraceOptions}
 
 -- SOURCE is opened first; OUT is created only where SOURCE was opened; what `asm` writes is written only where both
@@ -30,24 +31,6 @@ pub data AsmFilesEnd {F R W : Type 0}
       opened old source (Ok reader) between → created between out (Ok writer) both → closed both last new →
       IfSome (remaining reader) (λ text. AsmEnds result text (contents writer) (contents last)) →
       AsmFilesEnd opened created closed remaining contents old source out result new
-
--- IMAGE is opened first, then CONFIG, then a last file, JOURNAL or SCRIPT, up to the first that can't be. Its fault
--- has that file's name, unless memory ran out.
-pub data OpensInputs {F R : Type 0} (opened : F → List ℕ → Result R Error → F → Type 0)
-    (old : F) (image config last : List ℕ) (result : Result (Inputs R) CommandFault) (new : F) : Type 0 where
-  no_image : {error : Error} → opened old image (Err error) new → IsErrAnd result (IsOfOpen image error) →
-      OpensInputs opened old image config last result new
-  no_config : {between : F} {reader : R} {error : Error} →
-      opened old image (Ok reader) between → opened between config (Err error) new → IsErrAnd result (IsOfOpen config error) →
-      OpensInputs opened old image config last result new
-  no_last : {first second : F} {of_image of_config : R} {error : Error} →
-      opened old image (Ok of_image) first → opened first config (Ok of_config) second → opened second last (Err error) new →
-      IsErrAnd result (IsOfOpen last error) →
-      OpensInputs opened old image config last result new
-  all : {first second : F} {inputs : Inputs R} →
-      opened old image (Ok inputs.image) first → opened first config (Ok inputs.config) second → opened second last (Ok inputs.last) new →
-      result ≡ Ok inputs →
-      OpensInputs opened old image config last result new
 
 -- The report is written only where all three files were opened; else nothing was written.
 pub data RunFilesEnd {F R : Type 0}

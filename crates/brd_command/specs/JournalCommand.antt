@@ -6,9 +6,9 @@ use Rattle.brd_word.specs.declared.order.Order.{Order}
 use Rattle.brd_journal.specs.Text.{text_of}
 use Rattle.brd_schedule.specs.Schedule.{IsMade}
 use Rattle.brd_schedule.specs.declared.plan.Plan.{Plan}
-use Rattle.brd_command.specs.Output.{Writes, WritesFront}
-use Rattle.brd_command.specs.declared.fault.CommandFault.{CommandFault}
-use Rattle.brd_command.specs.declared.fault.CommandFault.TheVariants.{NoMemory, Schedule, Write}
+use Rattle.brd_report.specs.Output.{Writes, WritesFront}
+use Rattle.brd_inputs.specs.declared.fault.CommandFault.{CommandFault}
+use Rattle.brd_inputs.specs.declared.fault.CommandFault.TheVariants.{NoMemory, Schedule, Write}
 use Rattle.brd_command.specs.declared.journal_options.JournalOptions.{JournalOptions}
 
 -- the text of a journal of n events, of which each is a raise, a tick where one is asked for, or a step of one of

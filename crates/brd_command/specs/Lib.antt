@@ -1,16 +1,9 @@
 pub mod WordText
-pub mod Shown
-pub mod Excerpt
-pub mod FileKinds
-pub mod Faults
-pub mod Input
-pub mod Output
 pub mod WordsCommand
 pub mod AsmCommand
-pub mod Report
-pub mod Start
 pub mod RunCommand
 pub mod RaceCommand
+pub mod Turns
 pub mod JournalCommand
 pub mod DebugLine
 pub mod DebugGrammar
@@ -20,3 +13,4 @@ pub mod Debugging
 pub mod TraceCommand
 pub mod Files
 pub mod Request
+pub mod Laws

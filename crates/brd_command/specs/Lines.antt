@@ -3,10 +3,10 @@ use Rattle.std.specs.Prelude.{◌≡◌, ◌≢◌, ℕ, ◌+◌, ◌<◌, ◌�
 use Rattle.std.specs.IoError.{error_kind}
 use Rattle.std.specs.declared.io.ErrorKind.TheVariants.{OutOfMemory}
 use Rattle.brd_command.specs.DebugLine.{command_lines, line_size}
-use Rattle.brd_command.specs.Input.{most_bytes}
-use Rattle.brd_command.specs.declared.fault.CommandFault.{CommandFault}
-use Rattle.brd_command.specs.declared.fault.CommandFault.TheVariants.{NoMemory, Read, TooLong, TooManyReads}
-use Rattle.brd_command.specs.declared.input_name.InputName.TheVariants.{StandardInput}
+use Rattle.brd_inputs.specs.Input.{most_bytes}
+use Rattle.brd_inputs.specs.declared.fault.CommandFault.{CommandFault}
+use Rattle.brd_inputs.specs.declared.fault.CommandFault.TheVariants.{NoMemory, Read, TooLong, TooManyReads}
+use Rattle.brd_inputs.specs.declared.input_name.InputName.TheVariants.{StandardInput}
 use Rattle.brd_command.specs.declared.lines.Taken.{Taken}
 
 -- an input of which it is known that it has ended has no bytes left

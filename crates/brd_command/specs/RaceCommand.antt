@@ -6,17 +6,18 @@ use Rattle.brd_journal.specs.Journal.{most_runs}
 use Rattle.brd_journal.specs.Reading.{journal_of}
 use Rattle.brd_journal.specs.Text.{text_of}
 use Rattle.brd_threads.specs.Processors.{processors_of}
+use Rattle.brd_threads.specs.Races as races
 use Rattle.brd_threads.specs.Races.{HasRaced}
 use Rattle.brd_threads.specs.Station.{StationState, board_of}
 use Rattle.brd_threads.specs.declared.fault.RaceFault.{RaceFault}
 use Rattle.brd_threads.specs.declared.fault.RaceFault.TheVariants as race_fault
-use Rattle.brd_command.specs.Output.{AppendsFront}
-use Rattle.brd_command.specs.Report.{report_of}
-use Rattle.brd_command.specs.Start.{AreWithin, IsRaceStart, KeepsFromStarting}
-use Rattle.brd_command.specs.declared.fault.CommandFault.{CommandFault}
-use Rattle.brd_command.specs.declared.fault.CommandFault.TheVariants.{NoMemory, Race, Write}
-use Rattle.brd_command.specs.declared.input_name.InputName.TheVariants as input_name
-use Rattle.brd_command.specs.declared.start.RaceStart.{RaceStart}
+use Rattle.brd_report.specs.Output.{AppendsFront}
+use Rattle.brd_report.specs.Report.{report_of}
+use Rattle.brd_inputs.specs.Start.{AreWithin, IsRaceStart, KeepsFromStarting}
+use Rattle.brd_inputs.specs.declared.fault.CommandFault.{CommandFault}
+use Rattle.brd_inputs.specs.declared.fault.CommandFault.TheVariants.{NoMemory, Race, Write}
+use Rattle.brd_inputs.specs.declared.input_name.InputName.TheVariants as input_name
+use Rattle.brd_inputs.specs.declared.start.RaceStart.{RaceStart}
 
 -- the text of a station's journal, which is read as this byte order and these events again, and the report of its board
 pub record IsShown (station : StationState) (journal report : List ℕ) : Type 0 where
@@ -24,10 +25,16 @@ pub record IsShown (station : StationState) (journal report : List ℕ) : Type 0
   pub is_read : journal_of most_runs journal ≡ Ok (record { limit = most_runs; order = station.journal.order; events = station.journal.events })
   pub is_reported : report ≡ report_of (length station.journal.events) (board_of station)
 
+-- how a race of a board with a script ends whose threads have all been at work, with this quota for each processor
+abbrev pub HasEnded : ℕ → RaceStart → Result StationState RaceFault → Type 0
+HasEnded quota start answer =
+    races.HasEnded start.board start.script.items (replicate (processors_of start.board) quota) most_runs answer
+
 -- what is shown of the station left by a race of a board with a script, with this quota for each processor
 pub record ShowsStation (quota : ℕ) (start : RaceStart) (journal report : List ℕ) : Type 0 where
   pub station : StationState
   pub has_raced : HasRaced start.board start.script.items (replicate (processors_of start.board) quota) most_runs station
+  pub has_ended : HasEnded quota start (Ok station)
   pub is_shown : IsShown station journal report
 
 -- what is shown of a race over what an object file, a configuration and a script say
@@ -37,19 +44,21 @@ pub record ShowsRace (quota : ℕ) (image config text journal report : List ℕ)
   pub is_start : IsRaceStart image config text start
   pub shown : ShowsStation quota start journal report
 
--- what may keep a race that has begun from having a result: want of memory, or the race's own fault
-abbrev pub KeepsFromRacing : CommandFault → Type 0
-KeepsFromRacing NoMemory = Unit {0}
-KeepsFromRacing (Race fault) = fault ≢ race_fault.NoMemory
-KeepsFromRacing _ = ⊥
+-- What may keep a race that has begun from having a result: want of memory or of threads; or a fault, by what its
+-- threads gave back and left.
+abbrev pub KeepsFromRacing : ℕ → RaceStart → CommandFault → Type 0
+KeepsFromRacing quota start NoMemory = Unit {0}
+KeepsFromRacing quota start (Race fault) = (fault ≢ race_fault.NoMemory) × HasEnded quota start (Err fault)
+KeepsFromRacing quota start _ = ⊥
 
--- Three inputs give a race a start, and the fault is one of a race, not want of memory. That it is the right one is
--- only tested.
-pub record HasFault (image config text : List ℕ) (fault : RaceFault) : Type 0 where
+-- Three inputs give a race a start, and the fault is the one that its threads gave back, by their order; or Broken,
+-- where they gave back none, and what they left isn't what a race leaves.
+pub record HasFault (quota : ℕ) (image config text : List ℕ) (fault : RaceFault) : Type 0 where
   pub start : RaceStart
   pub within : AreWithin image config text
   pub is_start : IsRaceStart image config text start
   pub is_own : fault ≢ race_fault.NoMemory
+  pub has_ended : HasEnded quota start (Err fault)
 
 -- the journal was written on OUT, and the report on standard output
 pub record WritesRace (quota : ℕ) (image config text : List ℕ) (out_old out old new : Option (List ℕ)) : Type 0 where
@@ -73,7 +82,7 @@ pub data WritesRaceFront (quota : ℕ) (image config text : List ℕ) (out_old o
 -- failed, a front was.
 abbrev pub RefusesRace : CommandFault → ℕ → List ℕ → List ℕ → List ℕ → Option (List ℕ) → Option (List ℕ) → Option (List ℕ) → Option (List ℕ) → Type 0
 RefusesRace NoMemory quota image config text out_old out old new = Keeps out_old out × Keeps old new
-RefusesRace (Race fault) quota image config text out_old out old new = HasFault image config text fault × Keeps out_old out × Keeps old new
+RefusesRace (Race fault) quota image config text out_old out old new = HasFault quota image config text fault × Keeps out_old out × Keeps old new
 RefusesRace (Write error) quota image config text out_old out old new = WritesRaceFront quota image config text out_old out old new
 RefusesRace fault quota image config text out_old out old new =
     KeepsFromStarting input_name.Script image config text fault × Keeps out_old out × Keeps old new

@@ -2,13 +2,13 @@
 use Rattle.std.specs.Prelude.{◌≡◌, ℕ, List, length, Option, Result, Ok, Err}
 use Rattle.std.specs.Io.KnownBytes.{Keeps}
 use Rattle.brd_board.specs.Board.{after}
-use Rattle.brd_command.specs.Output.{Writes, WritesFront}
-use Rattle.brd_command.specs.Report.{report_of}
-use Rattle.brd_command.specs.Start.{AreWithin, IsStart, KeepsFromStarting}
-use Rattle.brd_command.specs.declared.fault.CommandFault.{CommandFault}
-use Rattle.brd_command.specs.declared.fault.CommandFault.TheVariants.{NoMemory, Write}
-use Rattle.brd_command.specs.declared.input_name.InputName.TheVariants as input_name
-use Rattle.brd_command.specs.declared.start.Start.{Start}
+use Rattle.brd_report.specs.Output.{Writes, WritesFront}
+use Rattle.brd_report.specs.Report.{report_of}
+use Rattle.brd_inputs.specs.Start.{AreWithin, IsStart, KeepsFromStarting}
+use Rattle.brd_inputs.specs.declared.fault.CommandFault.{CommandFault}
+use Rattle.brd_inputs.specs.declared.fault.CommandFault.TheVariants.{NoMemory, Write}
+use Rattle.brd_inputs.specs.declared.input_name.InputName.TheVariants as input_name
+use Rattle.brd_inputs.specs.declared.start.Start.{Start}
 
 -- The bytes that show what comes of an object file, a configuration and a journal: the report of the board that the
 -- first two make, after the journal's events.

@@ -1,25 +1,20 @@
 -- The command `trace`: from what it starts, what it writes then, and how it ends where it doesn't.
-use Rattle.std.specs.Prelude.{◌≡◌, ◌≢◌, ◌⊎◌, ℕ, ◌<◌, ◌≤◌, min, Bool, true, false, List, length, ◌++◌, codes, Option, Some, None, unwrap_or, Result, Ok, Err}
+use Rattle.std.specs.Prelude.{◌≡◌, ◌≢◌, ◌⊎◌, ℕ, ◌<◌, ◌≤◌, min, false, List, length, ◌++◌, codes, Option, Some, None, unwrap_or, Result, Ok, Err}
 use Rattle.std.specs.Bool.{MatchBool}
 use Rattle.std.specs.Io.KnownBytes.{Appends, Keeps}
 use Rattle.brd_timeline.specs.Ends.{EndsWith}
-use Rattle.brd_command.specs.Output.{Writes}
-use Rattle.brd_command.specs.Start.{AreWithin, IsStart, KeepsFromStarting}
-use Rattle.brd_command.specs.declared.fault.CommandFault.{CommandFault}
-use Rattle.brd_command.specs.declared.fault.CommandFault.TheVariants.{NoMemory, Trace, Write}
-use Rattle.brd_command.specs.declared.input_name.InputName.TheVariants as input_name
-use Rattle.brd_command.specs.declared.start.Start.{Start}
+use Rattle.brd_report.specs.Output.{Writes}
+use Rattle.brd_inputs.specs.Start.{AreWithin, IsStart, KeepsFromStarting}
+use Rattle.brd_inputs.specs.declared.fault.CommandFault.{CommandFault}
+use Rattle.brd_inputs.specs.declared.fault.CommandFault.TheVariants.{NoMemory, Trace, Write}
+use Rattle.brd_inputs.specs.declared.input_name.InputName.TheVariants as input_name
+use Rattle.brd_inputs.specs.declared.start.Start.{Start}
 use Rattle.brd_command.specs.declared.trace_command.Part.{Part}
-use Rattle.brd_command.specs.declared.trace_command.TraceStart.{TraceStart}
-use Rattle.brd_command.specs.declared.trace_options.TraceFault.{TraceFault}
-use Rattle.brd_command.specs.declared.trace_options.TraceFault.TheVariants.{NoEvents, NoSuchFormat, TooMuch}
+use Rattle.brd_inputs.specs.declared.trace_fault.TraceFault.{TraceFault}
+use Rattle.brd_inputs.specs.declared.trace_fault.TraceFault.TheVariants.{NoEvents, NoSuchFormat, TooMuch}
 use Rattle.brd_command.specs.declared.trace_options.TraceFormat.{TraceFormat}
 use Rattle.brd_command.specs.declared.trace_options.TraceFormat.TheVariants.{Text, Json, Svg}
 use Rattle.brd_command.specs.declared.trace_options.TraceOptions.{TraceOptions}
-
--- what three inputs give a trace to start from
-abbrev pub IsTraceStart : List ℕ → List ℕ → List ℕ → TraceStart → Type 0
-IsTraceStart image config journal it = IsStart image config journal it.start
 
 -- the positions that the options ask for in a journal with n events: of the first one, and the one after the last
 abbrev pub first_of : TraceOptions → ℕ

@@ -4,8 +4,8 @@ use Rattle.std.specs.Prelude.{◌≡◌, ℕ, ◌-◌, ◌==◌, Bool, true, fal
 use Rattle.brd_text.specs.Bytes.{is_blank}
 use Rattle.brd_text.specs.Hex.{hex_word_of}
 use Rattle.brd_text.specs.Lines.{line_after}
-use Rattle.brd_command.specs.declared.word_text.WordsFault.{WordsFault}
-use Rattle.brd_command.specs.declared.word_text.WordsFault.TheVariants.{NoMemory, Syntax, TooMany}
+use Rattle.brd_inputs.specs.declared.words_fault.WordsFault.{WordsFault}
+use Rattle.brd_inputs.specs.declared.words_fault.WordsFault.TheVariants.{NoMemory, Syntax, TooMany}
 
 -- bytes without a blank among them, and their line, counted from 1
 pub record Run : Type 0 where

@@ -6,14 +6,14 @@ use Rattle.std.specs.declared.io.ErrorKind.TheVariants.{OutOfMemory}
 use Rattle.brd_board.specs.declared.event.Event.TheVariants.{Step}
 use Rattle.brd_board.specs.Board.{BoardState, after}
 use Rattle.brd_board.specs.Boot.{boot_words}
-use Rattle.brd_command.specs.Input.{most_bytes}
-use Rattle.brd_command.specs.Output.{Writes, WritesFront}
-use Rattle.brd_command.specs.Shown.{board_shown}
+use Rattle.brd_inputs.specs.Input.{most_bytes}
+use Rattle.brd_report.specs.Output.{Writes, WritesFront}
+use Rattle.brd_report.specs.Shown.{board_shown}
 use Rattle.brd_command.specs.WordText.{words_of_text}
-use Rattle.brd_command.specs.declared.word_text.WordsFault.TheVariants as words_fault
-use Rattle.brd_command.specs.declared.fault.CommandFault.{CommandFault}
-use Rattle.brd_command.specs.declared.input_name.InputName.TheVariants.{StandardInput}
-use Rattle.brd_command.specs.declared.fault.CommandFault.TheVariants.{NoMemory, Words, Read, TooLong, TooManyReads, Write}
+use Rattle.brd_inputs.specs.declared.words_fault.WordsFault.TheVariants as words_fault
+use Rattle.brd_inputs.specs.declared.fault.CommandFault.{CommandFault}
+use Rattle.brd_inputs.specs.declared.input_name.InputName.TheVariants.{StandardInput}
+use Rattle.brd_inputs.specs.declared.fault.CommandFault.TheVariants.{NoMemory, Words, Read, TooLong, TooManyReads, Write}
 
 -- the bytes that show the board of these words after n steps of processor 1
 pub record ShowsWords (words : List ℕ) (steps : ℕ) (bytes : List ℕ) : Type 0 where

@@ -1,18 +1,16 @@
 //! The command `asm`.
 
 ghost use Rattle.std.specs.Prelude.{◌≡◌, IfSome, MatchResult};
+ghost use Rattle.brd_command.specs.Files.{AsmFilesEnd};
 ghost use Rattle.brd_command.specs.AsmCommand.{AsmEnds, IsObjectFile, KeepsFromAssembling, faulty_line};
-ghost use Rattle.brd_command.specs.FileKinds.{source_looks_like};
+ghost use Rattle.brd_inputs.specs.FileKinds.{source_looks_like};
 
-use crate::clue::Clue;
-use crate::diagnosis::source_fault_hint;
-use crate::excerpt::Excerpt;
-use crate::fault::CommandFault;
-use crate::file_kind::{FileKind, other_kind};
-use crate::input::read_whole;
-use crate::input_name::InputName;
-use crate::output::write_whole;
 use brd_asm::{AsmFault, assemble};
+use brd_inputs::{
+    Clue, CommandFault, Excerpt, FileKind, Files, InputName, other_kind, read_whole,
+    source_fault_hint,
+};
+use brd_report::write_whole;
 use std::alloc::Global;
 use std::io::{Read, Write};
 
@@ -38,6 +36,30 @@ pub fn asm<R: Read, W: Write>(
         Ok(()) => Ok(()),
         Err(error) => Err(CommandFault::Write(error)),
     }
+}
+
+/// Does `asm` on its files: SOURCE is opened, then OUT is created or emptied, then the source is read. OUT is let go as
+/// `asm` left it.
+pub fn asm_files<F: Files>(
+    alloc: Global,
+    files: &mut F,
+    source: &str,
+    out: &str,
+) -> Result<(), CommandFault>
+    ensures { AsmFilesEnd F.opened F.created F.closed F.Input.remaining F.Output.contents
+        files.old source.now out.now result files.new }
+{
+    let mut reader = match files.open(source) {
+        Ok(reader) => reader,
+        Err(error) => return Err(CommandFault::of_open(alloc, source, error)),
+    };
+    let mut writer = match files.create(out) {
+        Ok(writer) => writer,
+        Err(error) => return Err(CommandFault::of_open(alloc, out, error)),
+    };
+    let ended = asm(alloc, &mut reader, &mut writer);
+    files.close(writer);
+    ended
 }
 
 /// The object file of a source. An image that no file can hold is refused before its file is made.

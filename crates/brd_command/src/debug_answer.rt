@@ -4,15 +4,14 @@ ghost use Rattle.std.specs.Prelude.{◌≡◌, option_map, IfOk};
 ghost use Rattle.brd_board.specs.Board.{registers_of};
 ghost use Rattle.brd_mem.specs.Memory.{byte_at};
 ghost use Rattle.brd_command.specs.Answers as answers;
-ghost use Rattle.brd_command.specs.Report.{number_line};
+ghost use Rattle.brd_report.specs.Report.{number_line};
 
 use crate::debug_line::DebugCommand;
-use crate::report::show_number;
-use crate::shown::show_context;
 use brd_base::NoMemory;
 use brd_board::Board;
 use brd_debug::{DebugFault, Debugger};
 use brd_progress::Progress;
+use brd_report::{show_context, show_number};
 use brd_text::hex_digits;
 use std::alloc::Global;
 

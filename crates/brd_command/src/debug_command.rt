@@ -2,15 +2,15 @@
 
 ghost use Rattle.std.specs.Prelude.{IfSome};
 ghost use Rattle.brd_command.specs.Debugging.{EndsAnswering, DebugEnds};
+ghost use Rattle.brd_command.specs.Files.{DebugFilesEnd};
 
 use crate::debug_answer::answer;
 use crate::debug_line::command_of;
-use crate::fault::CommandFault;
 use crate::lines::{Taken, next_line};
-use crate::output::write_whole;
-use crate::start::read_start;
 use brd_debug::Debugger;
+use brd_inputs::{CommandFault, Files, Inputs, open_inputs, read_start};
 use brd_progress::Progress;
+use brd_report::write_whole;
 use std::alloc::Global;
 use std::io::{Read, Write};
 
@@ -20,23 +20,43 @@ use std::io::{Read, Write};
 /// the way.
 pub fn debug<R: Read, C: Read, W: Write, P: Progress>(
     alloc: Global,
-    image: &mut R,
-    config: &mut R,
-    journal: &mut R,
+    inputs: &mut Inputs<R>,
     input: &mut C,
     writer: &mut W,
     progress: &mut P,
 ) -> Result<(), CommandFault>
-    ensures { IfSome (R.remaining image.old) (λ file. IfSome (R.remaining config.old) (λ statements.
-        IfSome (R.remaining journal.old) (λ events.
+    ensures { IfSome (R.remaining inputs.old.image) (λ file. IfSome (R.remaining inputs.old.config) (λ statements.
+        IfSome (R.remaining inputs.old.last) (λ events.
         DebugEnds C.remaining file statements events input.old input.new result (W.contents writer.old) (W.contents writer.new)))) }
 {
-    let start = match read_start(alloc, image, config, journal) {
+    let start = match read_start(alloc, inputs) {
         Ok(start) => start,
         Err(fault) => return Err(fault),
     };
     let mut debugger = Debugger::new(alloc, start.board, start.journal)?;
     answer_all(alloc, &mut debugger, input, writer, progress)
+}
+
+/// Does `debug` on its files: IMAGE is opened, then CONFIG, then JOURNAL, and then all are read. The commands come from
+/// `input`, and the answers are written.
+pub fn debug_files<F: Files, R: Read, W: Write, P: Progress>(
+    alloc: Global,
+    files: &mut F,
+    image: &str,
+    config: &str,
+    journal: &str,
+    input: &mut R,
+    output: &mut W,
+    progress: &mut P,
+) -> Result<(), CommandFault>
+    ensures { DebugFilesEnd F.opened F.Input.remaining R.remaining files.old image.now config.now journal.now
+        input.old input.new (W.contents output.old) (W.contents output.new) result files.new }
+{
+    let mut inputs = match open_inputs(alloc, files, image, config, journal) {
+        Ok(inputs) => inputs,
+        Err(fault) => return Err(fault),
+    };
+    debug(alloc, &mut inputs, input, output, progress)
 }
 
 /// Does the commands of standard input, one a line, up to `quit` or the end. Writes each answer before it reads on.

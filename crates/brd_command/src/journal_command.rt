@@ -4,11 +4,10 @@ ghost use Rattle.std.specs.Prelude.{◌≡◌, ◌≤◌, IfSome, MatchResult};
 ghost use Rattle.brd_command.specs.JournalCommand.{JournalEnds, KeepsFromMakingOne, MakesJournal};
 ghost use Rattle.brd_schedule.specs.Schedule.{IsMade};
 
-use crate::fault::CommandFault;
 use crate::journal_options::{JournalOptions, raises_of, rule_of};
-use crate::output::write_whole;
-use crate::schedule_fault::ScheduleFault;
+use brd_inputs::{CommandFault, ScheduleFault};
 use brd_journal::{Journal, JournalFault};
+use brd_report::write_whole;
 use brd_schedule::{Plan, make};
 use brd_word::Order;
 use std::alloc::Global;

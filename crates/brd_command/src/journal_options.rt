@@ -1,6 +1,6 @@
 //! The options of `journal`.
 
-use crate::schedule_fault::ScheduleFault;
+use brd_inputs::ScheduleFault;
 use brd_schedule::{MOST_CHANGES, Raise, Rule};
 use brd_text::plain_decimal;
 use brd_word::Order;

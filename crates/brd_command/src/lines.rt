@@ -1,13 +1,10 @@
 //! Reading standard input line by line, as it comes.
 
 ghost use Rattle.std.specs.Prelude.{◌≡◌, ℕ, ◌≤◌, true, List as ListOf, option_map, MatchResult, IfOk, Some as some};
-ghost use Rattle.brd_command.specs.Input.{most_bytes};
+ghost use Rattle.brd_inputs.specs.Input.{most_bytes};
 ghost use Rattle.brd_command.specs.Lines.{KnowsEnd, TakesByte, CountsByte, TakesLine, CountsLine, KeepsFromTaking};
 
-use crate::fault::CommandFault;
-use crate::growing::put;
-use crate::input::{MOST_BYTES, MOST_READS};
-use crate::input_name::InputName;
+use brd_inputs::{CommandFault, InputName, MOST_BYTES, MOST_READS, put};
 use std::alloc::Global;
 use std::io::{ErrorKind, Read};
 

@@ -5,19 +5,20 @@ ghost use Rattle.brd_journal.specs.Journal.{most_runs};
 ghost use Rattle.brd_journal.specs.Runs.{runs_of};
 ghost use Rattle.brd_ledgers.specs.Blanks.{AreOf};
 ghost use Rattle.brd_threads.specs.Processors.{processors_of};
+ghost use Rattle.brd_command.specs.Files.{RaceFilesEnd};
 ghost use Rattle.brd_command.specs.RaceCommand.{IsShown, KeepsFromRacing, RaceEnds, ShowsStation};
 
-use crate::fault::CommandFault;
 use crate::meter::Meter;
-use crate::output::write_whole;
-use crate::report::report;
-use crate::start::{RaceStart, read_race_start};
+use crate::turns::Turns;
 use brd_base::NoMemory;
+use brd_inputs::{CommandFault, Files, Inputs, RaceStart, open_inputs, read_race_start};
 use brd_journal::MOST_RUNS;
 use brd_progress::Progress;
+use brd_report::{report, write_whole};
 use brd_threads::{Blanks, Race, Station, processors};
 use std::alloc::Global;
 use std::io::{Read, Write};
+use std::marker::Brand;
 use std::sync::Wait;
 use std::thread::Threads;
 
@@ -28,13 +29,16 @@ struct Shown {
     journal: Vec<u8>,
     /// The report of its board.
     report: Vec<u8>,
+    /// How often its processors took turns.
+    turns: Turns,
 }
 
 /// Reads an object file, a configuration and a script to their ends, in this order. Lets a thread of the host work for
 /// each processor of the board that the first two make, until that has done `quota` steps or the board is off, and one
 /// for the script. Then it writes the text of the journal of what happened on `out`, and the board's report on
 /// `writer`. Nothing is written where memory or threads ran out, or where what was read or the race has a fault. How
-/// far the race is, is told on the way, by one of its threads at a time. Its ledgers are made of the blanks.
+/// far the race is, is told on the way, by one of its threads at a time; and before anything is written, whether its
+/// processors hardly took turns. Its ledgers are made of the blanks.
 pub fn race<
     K: Race + Send + Sync,
     I: Read,
@@ -45,9 +49,7 @@ pub fn race<
 >(
     rt: &R,
     alloc: Global,
-    image: &mut I,
-    config: &mut I,
-    script: &mut I,
+    inputs: &mut Inputs<I>,
     quota: u32,
     out: &mut O,
     writer: &mut W,
@@ -55,12 +57,12 @@ pub fn race<
     blanks: Blanks,
 ) -> Result<(), CommandFault>
     requires { AreOf K.names blanks }
-    ensures { IfSome (I.remaining image.old) (λ file. IfSome (I.remaining config.old) (λ statements.
-        IfSome (I.remaining script.old) (λ text.
+    ensures { IfSome (I.remaining inputs.old.image) (λ file. IfSome (I.remaining inputs.old.config) (λ statements.
+        IfSome (I.remaining inputs.old.last) (λ text.
         RaceEnds result quota file statements text (O.contents out.old) (O.contents out.new)
         (W.contents writer.old) (W.contents writer.new)))) }
 {
-    let start = match read_race_start(alloc, image, config, script) {
+    let start = match read_race_start(alloc, inputs) {
         Ok(start) => start,
         Err(fault) => return Err(fault),
     };
@@ -69,6 +71,7 @@ pub fn race<
         Err(fault) => return Err(fault),
     };
     progress.hide();
+    shown.turns.tell(progress);
     match write_whole(out, &shown.journal) {
         Ok(()) => {}
         Err(error) => return Err(CommandFault::Write(error)),
@@ -77,6 +80,71 @@ pub fn race<
         Ok(()) => Ok(()),
         Err(error) => Err(CommandFault::Write(error)),
     }
+}
+
+/// Does `race` on its files: IMAGE is opened, then CONFIG, then SCRIPT, then OUT is created or emptied, and then the
+/// three are read. The report is written, and OUT is let go as `race` left it.
+pub fn race_files<F: Files, W: Write, P: Progress + Send, R: Threads + Wait + Sync>(
+    rt: &R,
+    alloc: Global,
+    files: &mut F,
+    image: &str,
+    config: &str,
+    script: &str,
+    quota: u32,
+    out: &str,
+    output: &mut W,
+    progress: &mut P,
+) -> Result<(), CommandFault>
+    ensures { RaceFilesEnd F.opened F.created F.closed F.Input.remaining F.Output.contents
+        files.old image.now config.now script.now quota out.now (W.contents output.old) (W.contents output.new) result files.new }
+{
+    let mut inputs = match open_inputs(alloc, files, image, config, script) {
+        Ok(inputs) => inputs,
+        Err(fault) => return Err(fault),
+    };
+    let mut journal = match files.create(out) {
+        Ok(journal) => journal,
+        Err(error) => return Err(CommandFault::of_open(alloc, out, error)),
+    };
+    let ended = race_on(
+        rt,
+        alloc,
+        &mut inputs,
+        quota,
+        &mut journal,
+        output,
+        progress,
+    );
+    files.close(journal);
+    ended
+}
+
+/// Does `race` on files that are open, with ledgers of its own.
+fn race_on<I: Read, O: Write, W: Write, P: Progress + Send, R: Threads + Wait + Sync>(
+    rt: &R,
+    alloc: Global,
+    inputs: &mut Inputs<I>,
+    quota: u32,
+    out: &mut O,
+    output: &mut W,
+    progress: &mut P,
+) -> Result<(), CommandFault>
+    ensures { IfSome (I.remaining inputs.old.image) (λ file. IfSome (I.remaining inputs.old.config) (λ statements.
+        IfSome (I.remaining inputs.old.last) (λ text.
+        RaceEnds result quota file statements text (O.contents out.old) (O.contents out.new)
+        (W.contents output.old) (W.contents output.new)))) }
+{
+    race::<Brand, I, O, W, P, R>(
+        rt,
+        alloc,
+        inputs,
+        quota,
+        out,
+        output,
+        progress,
+        Blanks::new(),
+    )
 }
 
 /// What is shown of the station that a race leaves.
@@ -90,7 +158,7 @@ fn raced<K: Race + Send + Sync, P: Progress + Send, R: Threads + Wait + Sync>(
 ) -> Result<Shown, CommandFault>
     requires { AreOf K.names blanks }
     ensures { MatchResult result (λ shown. ShowsStation quota start.now shown.journal.items shown.report.items)
-        KeepsFromRacing }
+        (KeepsFromRacing quota start.now) }
 {
     let Ok(quotas) = vec![in alloc; quota as u64; processors(&start.board)] else {
         return Err(CommandFault::NoMemory);
@@ -120,5 +188,9 @@ fn shown_of<K: Race>(alloc: Global, station: &Station<K>) -> Result<Shown, NoMem
 {
     let journal = station.journal().write_text(alloc)?;
     let report = report(alloc, station.board(), station.journal().len())?;
-    Ok(Shown { journal, report })
+    Ok(Shown {
+        journal,
+        report,
+        turns: Turns::of(station),
+    })
 }

@@ -2,12 +2,16 @@
 
 ghost use Rattle.brd_command.specs.Request.{RequestEnds};
 
-use crate::fault::CommandFault;
-use crate::files::{Files, asm_files, debug_files, race_files, run_files, trace_files};
+use crate::asm_command::asm_files;
+use crate::debug_command::debug_files;
 use crate::journal_command::journal;
 use crate::journal_options::JournalOptions;
+use crate::race_command::race_files;
+use crate::run_command::run_files;
+use crate::trace_command::trace_files;
 use crate::trace_options::TraceOptions;
 use crate::words_command::words;
+use brd_inputs::{CommandFault, Files};
 use brd_progress::Progress;
 use std::alloc::Global;
 use std::io::{Read, Write};

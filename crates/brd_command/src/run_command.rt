@@ -2,16 +2,15 @@
 
 ghost use Rattle.std.specs.Prelude.{◌≡◌, length, IfOk, IfSome};
 ghost use Rattle.brd_board.specs.Board.{after};
-ghost use Rattle.brd_command.specs.Report.{report_of};
+ghost use Rattle.brd_report.specs.Report.{report_of};
+ghost use Rattle.brd_command.specs.Files.{RunFilesEnd};
 ghost use Rattle.brd_command.specs.RunCommand.{RunEnds};
 
-use crate::fault::CommandFault;
-use crate::output::write_whole;
 use crate::progress::replay;
-use crate::report::report;
-use crate::start::{Start, read_start};
 use brd_base::NoMemory;
+use brd_inputs::{CommandFault, Files, Inputs, Start, open_inputs, read_start};
 use brd_progress::Progress;
+use brd_report::{report, write_whole};
 use std::alloc::Global;
 use std::io::{Read, Write};
 
@@ -20,17 +19,15 @@ use std::io::{Read, Write};
 /// is, is told on the way.
 pub fn run<R: Read, W: Write, P: Progress>(
     alloc: Global,
-    image: &mut R,
-    config: &mut R,
-    journal: &mut R,
+    inputs: &mut Inputs<R>,
     writer: &mut W,
     progress: &mut P,
 ) -> Result<(), CommandFault>
-    ensures { IfSome (R.remaining image.old) (λ file. IfSome (R.remaining config.old) (λ statements.
-        IfSome (R.remaining journal.old) (λ events.
+    ensures { IfSome (R.remaining inputs.old.image) (λ file. IfSome (R.remaining inputs.old.config) (λ statements.
+        IfSome (R.remaining inputs.old.last) (λ events.
         RunEnds result file statements events (W.contents writer.old) (W.contents writer.new)))) }
 {
-    let start = match read_start(alloc, image, config, journal) {
+    let start = match read_start(alloc, inputs) {
         Ok(start) => start,
         Err(fault) => return Err(fault),
     };
@@ -39,6 +36,26 @@ pub fn run<R: Read, W: Write, P: Progress>(
         Ok(()) => Ok(()),
         Err(error) => Err(CommandFault::Write(error)),
     }
+}
+
+/// Does `run` on its files: IMAGE is opened, then CONFIG, then JOURNAL, and then all are read. The report is written.
+pub fn run_files<F: Files, W: Write, P: Progress>(
+    alloc: Global,
+    files: &mut F,
+    image: &str,
+    config: &str,
+    journal: &str,
+    output: &mut W,
+    progress: &mut P,
+) -> Result<(), CommandFault>
+    ensures { RunFilesEnd F.opened F.Input.remaining files.old image.now config.now journal.now
+        (W.contents output.old) (W.contents output.new) result files.new }
+{
+    let mut inputs = match open_inputs(alloc, files, image, config, journal) {
+        Ok(inputs) => inputs,
+        Err(fault) => return Err(fault),
+    };
+    run(alloc, &mut inputs, output, progress)
 }
 
 /// The report of a board after the events of a journal.
@@ -50,7 +67,12 @@ fn report_after<P: Progress>(
     ensures { IfOk result (λ output.
         output.items ≡ report_of (length start.journal.events) (after start.board start.journal.events)) }
 {
-    let Start { mut board, journal } = start;
+    let Start {
+        mut board,
+        image: _,
+        config: _,
+        journal,
+    } = start;
     replay(&journal, &mut board, progress);
     report(alloc, &board, journal.len())
 }

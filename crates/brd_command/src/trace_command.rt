@@ -3,138 +3,85 @@
 ghost use Rattle.std.specs.Prelude.{◌≡◌, ◌<◌, ◌≤◌, length, IfOk, IfSome, MatchResult, codes};
 ghost use Rattle.std.specs.Io.KnownBytes.{Appends};
 ghost use Rattle.brd_timeline.specs.Ends.{EndsWith};
-ghost use Rattle.brd_command.specs.Output.{Writes};
-ghost use Rattle.brd_command.specs.Start.{AreWithin, KeepsFromMaking, KeepsFromStarting};
+ghost use Rattle.brd_report.specs.Output.{Writes};
+ghost use Rattle.brd_command.specs.Files.{TraceFilesEnd};
 ghost use Rattle.brd_command.specs.TraceCommand.{
   AppendsSome,
   EndsDrawing,
   EndsTracing,
   IsOfWriting,
   IsPart,
-  IsTraceStart,
   KeepsFromTracing,
   TraceEnds,
   WritesFirst,
   head,
 };
-ghost use Rattle.brd_command.specs.declared.input_name.InputName.TheVariants as input_name;
 
-use crate::fault::CommandFault;
-use crate::input::read_whole;
-use crate::input_name::InputName;
-use crate::output::write_whole;
 use crate::progress::PIECE;
-use crate::start::{Start, make_start};
-use crate::trace_options::{TraceFault, TraceFormat, TraceOptions};
+use crate::trace_options::{TraceFormat, TraceOptions};
 use brd_base::NoMemory;
-use brd_config::{ConfigFault, parse};
-use brd_elf::read;
+use brd_config::Config;
+use brd_inputs::{CommandFault, Files, Inputs, Start, TraceFault, open_inputs, read_start};
 use brd_journal::Journal;
-use brd_mem::Image;
 use brd_progress::Progress;
+use brd_report::write_whole;
 use brd_timeline::{PictureFault, Timeline, json, svg};
 use brd_trace::{HEAD, Names, Options, Tracer};
 use std::alloc::Global;
 use std::io::{Read, Write};
-
-/// A board, a journal for it, the image that it was made of, and the processor that handles each interrupt line, 0
-/// where none does.
-#[derive(Drop)]
-struct TraceStart {
-    start: Start,
-    image: Image,
-    lines: [u8; 32],
-}
 
 /// Reads an object file, a configuration and a journal to their ends, in this order, lets the board that the first two
 /// make do the journal's events, and writes what happens. Nothing is written where what was read has a fault. How far it
 /// is, is told on the way.
 pub fn trace<R: Read, W: Write, P: Progress>(
     alloc: Global,
-    image: &mut R,
-    config: &mut R,
-    journal: &mut R,
+    inputs: &mut Inputs<R>,
     options: TraceOptions,
     writer: &mut W,
     progress: &mut P,
 ) -> Result<(), CommandFault>
-    ensures { IfSome (R.remaining image.old) (λ file. IfSome (R.remaining config.old) (λ statements.
-        IfSome (R.remaining journal.old) (λ events.
+    ensures { IfSome (R.remaining inputs.old.image) (λ file. IfSome (R.remaining inputs.old.config) (λ statements.
+        IfSome (R.remaining inputs.old.last) (λ events.
         TraceEnds result options file statements events (W.contents writer.old) (W.contents writer.new)))) }
 {
-    let start = match read_trace_start(alloc, image, config, journal) {
+    let start = match read_start(alloc, inputs) {
         Ok(start) => start,
         Err(fault) => return Err(fault),
     };
     write_trace(alloc, start, options, writer, progress)
 }
 
-/// Reads an object file, a configuration and a journal to their ends, in this order.
-fn read_trace_start<R: Read>(
+/// Does `trace` on its files: IMAGE is opened, then CONFIG, then JOURNAL, and then all are read. The trace is written.
+pub fn trace_files<F: Files, W: Write, P: Progress>(
     alloc: Global,
-    image: &mut R,
-    config: &mut R,
-    journal: &mut R,
-) -> Result<TraceStart, CommandFault>
-    ensures { IfSome (R.remaining image.old) (λ file. IfSome (R.remaining config.old) (λ statements.
-        IfSome (R.remaining journal.old) (λ events.
-        MatchResult result (λ it. AreWithin file statements events × IsTraceStart file statements events it)
-        (KeepsFromStarting input_name.Journal file statements events)))) }
+    files: &mut F,
+    image: &str,
+    config: &str,
+    journal: &str,
+    options: TraceOptions,
+    output: &mut W,
+    progress: &mut P,
+) -> Result<(), CommandFault>
+    ensures { TraceFilesEnd F.opened F.Input.remaining files.old image.now config.now journal.now options
+        (W.contents output.old) (W.contents output.new) result files.new }
 {
-    let file = match read_whole(alloc, InputName::Image, image) {
-        Ok(file) => file,
+    let mut inputs = match open_inputs(alloc, files, image, config, journal) {
+        Ok(inputs) => inputs,
         Err(fault) => return Err(fault),
     };
-    let statements = match read_whole(alloc, InputName::Configuration, config) {
-        Ok(statements) => statements,
-        Err(fault) => return Err(fault),
-    };
-    let events = match read_whole(alloc, InputName::Journal, journal) {
-        Ok(events) => events,
-        Err(fault) => return Err(fault),
-    };
-    make_trace_start(alloc, &file, &statements, &events)
-}
-
-/// The board that an object file and a configuration make, a journal, and the image.
-fn make_trace_start(
-    alloc: Global,
-    image: &[u8],
-    config: &[u8],
-    journal: &[u8],
-) -> Result<TraceStart, CommandFault>
-    ensures { MatchResult result (IsTraceStart image.now config.now journal.now)
-        (KeepsFromMaking input_name.Journal image.now config.now journal.now) }
-{
-    let start = match make_start(alloc, image, config, journal) {
-        Ok(start) => start,
-        Err(fault) => return Err(fault),
-    };
-    // Both were read for the board before, so only want of memory can keep them from being read again.
-    let Ok(image) = read(alloc, image) else {
-        return Err(CommandFault::NoMemory);
-    };
-    let Ok(lines) = lines_of(alloc, config) else {
-        return Err(CommandFault::NoMemory);
-    };
-    Ok(TraceStart {
-        start,
-        image,
-        lines,
-    })
+    trace(alloc, &mut inputs, options, output, progress)
 }
 
 /// The processor that handles each interrupt line of a configuration, 0 where none does.
-fn lines_of(alloc: Global, config: &[u8]) -> Result<[u8; 32], ConfigFault> {
+fn lines_of(config: &Config) -> [u8; 32] {
     let mut lines = [0; 32];
-    let config = parse(alloc, config)?;
     for handler in config.handlers.as_slice() {
         let line = handler.line as usize;
         if line < lines.len() {
             lines[line] = handler.processor;
         }
     }
-    Ok(lines)
+    lines
 }
 
 /// Which events are shown, and in which form.
@@ -166,18 +113,19 @@ fn part_of(options: TraceOptions, len: u64) -> Result<Part, TraceFault>
 /// Writes what happens to a board under a journal.
 fn write_trace<W: Write, P: Progress>(
     alloc: Global,
-    start: TraceStart,
+    start: Start,
     options: TraceOptions,
     writer: &mut W,
     progress: &mut P,
 ) -> Result<(), CommandFault>
-    ensures { EndsTracing result options (length start.start.journal.events)
+    ensures { EndsTracing result options (length start.journal.events)
         (W.contents writer.old) (W.contents writer.new) }
 {
-    let TraceStart {
-        start: Start { board, journal },
+    let Start {
+        board,
         image,
-        lines,
+        config,
+        journal,
     } = start;
     let part = match part_of(options, journal.len()) {
         Ok(part) => part,
@@ -187,7 +135,7 @@ fn write_trace<W: Write, P: Progress>(
         cpu: options.cpu,
         instructions: options.instructions,
         shown: false,
-        lines,
+        lines: lines_of(&config),
     };
     let tracer = Tracer::new(alloc, board, shown)?;
     let traced = Traced {

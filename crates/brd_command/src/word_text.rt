@@ -3,41 +3,15 @@
 ghost use Rattle.std.specs.Prelude.{◌≡◌, ◌-◌, ◌≤◌, length, MatchResult, IfOk, Ok};
 ghost use Rattle.std.specs.List.{prefix_len};
 ghost use Rattle.brd_text.specs.Hex.{hex_word_of};
-ghost use Rattle.brd_command.specs.Input.{most_bytes};
+ghost use Rattle.brd_inputs.specs.Input.{most_bytes};
 ghost use Rattle.brd_command.specs.WordText.{in_run, word_or_fault, words_of_text, IsFaultOf};
 
-use crate::growing::put;
-use brd_base::NoMemory;
+use brd_inputs::{WordsFault, put};
 use brd_text::{hex_word, is_blank, line_after};
 use std::alloc::Global;
-use thiserror::Error;
 
 /// How many words there may be.
 const LIMIT: usize = 16_384;
-
-/// What is wrong with the text.
-#[derive(Clone, Copy, Debug, PartialEq, Eq, Error)]
-pub enum WordsFault {
-    /// A growth was refused.
-    #[error("out of memory")]
-    NoMemory,
-    /// Something in this line, counted from 1, isn't a word.
-    #[error("line {line}: a word must have eight hexadecimal digits")]
-    Syntax { line: usize },
-    /// There is one word more than may be.
-    #[error("there are more than 16,384 words")]
-    TooMany,
-}
-
-impl From<NoMemory> for WordsFault {
-    ghost use Rattle.brd_command.specs.declared.word_text.WordsFault.TheVariants.{NoMemory as no_memory};
-
-    ghost from_gives = { λ _ fault. fault ≡ no_memory };
-
-    fn from(_e: NoMemory) -> Self {
-        WordsFault::NoMemory
-    }
-}
 
 /// The words of a text, or its first fault.
 pub fn parse_words(alloc: Global, text: &[u8]) -> Result<Vec<u32>, WordsFault>

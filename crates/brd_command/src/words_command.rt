@@ -1,17 +1,14 @@
 //! The command `words`.
 
 ghost use Rattle.std.specs.Prelude.{◌≡◌, ◌≤◌, length, IfOk, IfSome};
-ghost use Rattle.brd_command.specs.Shown.{board_shown};
+ghost use Rattle.brd_report.specs.Shown.{board_shown};
 ghost use Rattle.brd_command.specs.WordsCommand.{ShowsWords, WordsEnds};
 
-use crate::fault::CommandFault;
-use crate::input::read_whole;
-use crate::input_name::InputName;
-use crate::output::write_whole;
-use crate::shown::{show_context, show_fault};
-use crate::word_text::{WordsFault, parse_words};
+use crate::word_text::parse_words;
 use brd_base::NoMemory;
 use brd_board::{Board, BootFault, Event};
+use brd_inputs::{CommandFault, InputName, WordsFault, read_whole};
+use brd_report::{show_context, show_fault, write_whole};
 use std::alloc::Global;
 use std::io::{Read, Write};
 

@@ -4,10 +4,12 @@
 mod debug;
 mod fakes;
 mod files;
+mod inputs;
 mod race;
 mod run;
 
-use brd_command::{CommandFault, asm, words};
+use brd_command::{asm, words};
+use brd_inputs::CommandFault;
 use brd_mem::{Image, is_plain};
 use fakes::{Busy, Bytewise, Taking};
 use std::alloc::{AllocError, Global};

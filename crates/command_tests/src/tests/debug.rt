@@ -1,9 +1,11 @@
 //! The command `debug` over readers and writers that fail, and the lines that it reads.
 
 use super::fakes::{Busy, Bytewise, Taking};
+use super::inputs::failing;
 use super::run::{CONFIG, JOURNAL, OTHER_ORDERS, UNREAD, image, little_image};
 use super::{UNWRITTEN, is_fault};
-use brd_command::{CommandFault, Quiet, debug};
+use brd_command::{Quiet, debug};
+use brd_inputs::{CommandFault, Inputs};
 use std::alloc::Global;
 use std::io::Read;
 use std::test::Fail;
@@ -20,18 +22,12 @@ fn debug_by<R: Read>(
     commands: &mut R,
     writer: &mut Taking,
 ) -> Result<(), CommandFault> {
-    let mut image = image;
-    let mut config = CONFIG;
-    let mut journal = JOURNAL;
-    debug(
-        alloc,
-        &mut image,
-        &mut config,
-        &mut journal,
-        commands,
-        writer,
-        &mut Quiet,
-    )
+    let mut inputs = Inputs {
+        image,
+        config: CONFIG,
+        last: JOURNAL,
+    };
+    debug(alloc, &mut inputs, commands, writer, &mut Quiet)
 }
 
 /// Debugs with files of which the one of this place fails at a read.
@@ -43,24 +39,8 @@ fn debug_failing(
     commands: &mut Bytewise<'_>,
     writer: &mut Taking,
 ) -> Result<(), CommandFault> {
-    let [image, config, journal] = inputs;
-    let mut image = Bytewise::new(image);
-    let mut config = Bytewise::new(config);
-    let mut journal = Bytewise::new(journal);
-    match place {
-        0 => image.fails_at = fails_at,
-        1 => config.fails_at = fails_at,
-        _ => journal.fails_at = fails_at,
-    }
-    debug(
-        alloc,
-        &mut image,
-        &mut config,
-        &mut journal,
-        commands,
-        writer,
-        &mut Quiet,
-    )
+    let mut inputs = failing(inputs, place, fails_at);
+    debug(alloc, &mut inputs, commands, writer, &mut Quiet)
 }
 
 /// Whether the read of this number of a file fails with this fault, and no command is read, nor anything written.

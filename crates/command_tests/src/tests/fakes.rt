@@ -115,6 +115,16 @@ impl Taking {
         self.writes == output.len().saturating_add(1) && self.taken.as_slice() == output
     }
 
+    /// Whether this stands somewhere in what was taken.
+    pub fn has(&self, part: &[u8]) -> bool {
+        for start in 0..self.taken.len() {
+            if self.taken.as_slice()[start..].starts_with(part) {
+                return true;
+            }
+        }
+        false
+    }
+
     /// One more write, or flush.
     fn count(&mut self) -> io::Result<()> {
         self.writes = self.writes.wrapping_add(1);

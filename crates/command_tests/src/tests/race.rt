@@ -1,9 +1,12 @@
 //! The command `race` over readers and writers that fail, and the order of its faults.
 
 use super::fakes::{Busy, Bytewise, Taking};
+use super::inputs::{endless, failing, reads_of};
 use super::run::{CONFIG, REPORT, image, little_image};
 use super::{UNWRITTEN, is_fault};
-use brd_command::{Blanks, CommandFault, Quiet, race};
+use brd_asm::assemble;
+use brd_command::{Blanks, Quiet, race};
+use brd_inputs::CommandFault;
 use brd_threads::RaceFault;
 use std::alloc::Global;
 use std::marker::Brand;
@@ -49,21 +52,11 @@ fn race_failing<R: Threads + Wait + Sync>(
     fails_at: usize,
     outputs: &mut Outputs,
 ) -> Result<(), CommandFault> {
-    let [image, config, script] = inputs;
-    let mut image = Bytewise::new(image);
-    let mut config = Bytewise::new(config);
-    let mut script = Bytewise::new(script);
-    match place {
-        0 => image.fails_at = fails_at,
-        1 => config.fails_at = fails_at,
-        _ => script.fails_at = fails_at,
-    }
+    let mut inputs = failing(inputs, place, fails_at);
     race::<Brand, Bytewise<'_>, Taking, Taking, Quiet, R>(
         rt,
         alloc,
-        &mut image,
-        &mut config,
-        &mut script,
+        &mut inputs,
         3,
         &mut outputs.journal,
         &mut outputs.report,
@@ -127,27 +120,19 @@ fn gives_up<R: Threads + Wait + Sync>(
     place: usize,
     text: &str,
 ) -> bool {
-    let mut image = Busy::new(image, place != 0);
-    let mut config = Busy::new(CONFIG, place != 1);
-    let mut script = Busy::new(SCRIPT, place != 2);
+    let mut inputs = endless([image, CONFIG, SCRIPT], place);
     let mut outputs = Outputs::new(alloc);
     let ended = race::<Brand, Busy<'_>, Taking, Taking, Quiet, R>(
         rt,
         alloc,
-        &mut image,
-        &mut config,
-        &mut script,
+        &mut inputs,
         3,
         &mut outputs.journal,
         &mut outputs.report,
         &mut Quiet,
         Blanks::new(),
     );
-    let reads = match place {
-        0 => image.reads,
-        1 => config.reads,
-        _ => script.reads,
-    };
+    let reads = reads_of(&inputs, place);
     is_fault(alloc, &ended, text, 4) && outputs.are_empty() && reads == 268_435_456
 }
 
@@ -322,4 +307,67 @@ fn own_faults_of_race(rt: HostRuntime) {
     let broken = "the race: the threads left another board than theirs, or something undone";
     assert!(rt; ends_with(rt.alloc(), RaceFault::Broken, broken, 1));
     assert!(rt; ends_with(rt.alloc(), RaceFault::NoMemory, "out of memory", 3));
+}
+
+/// Two processors count to 20 in one word: each waits until it is its turn, by the word's lowest bit, and the board
+/// goes off at 20. A processor that is alone at work waits until its quota is used up.
+const TURNS: &[u8] = b"
+even:   b wait
+        addiu $s1, $0, 0
+odd:    addiu $s1, $0, 1
+wait:   lui $s0, 0x8000
+        addiu $s2, $0, 20
+look:   lw $t0, 0x1000($s0)
+        nop
+        beq $t0, $s2, done
+        andi $t1, $t0, 1
+        bne $t1, $s1, look
+        nop
+        addiu $t0, $t0, 1
+        b look
+        sw $t0, 0x1000($s0)
+done:   addiu $v0, $0, 41       # ext_ker
+        syscall
+";
+
+const TWO: &[u8] = b"BOARD(2, 0x10000);
+CRE_TSK(1, {TA_ACT, 0, even, 1, 256, NULL});
+CLASS(TCL_2) { CRE_TSK(2, {TA_ACT, 0, odd, 1, 256, NULL}); }
+";
+
+/// How many races it may take until one shows that both are at work.
+const RACES: u32 = 20;
+
+/// Whether in one of the races the processors have taken 20 turns.
+fn takes_turns<R: Threads + Wait + Sync>(rt: &R, alloc: Global, image: &[u8]) -> bool {
+    for _ in 0..RACES {
+        let mut outputs = Outputs::new(alloc);
+        let ended = race::<Brand, Bytewise<'_>, Taking, Taking, Quiet, R>(
+            rt,
+            alloc,
+            &mut Bytewise::new(image),
+            &mut Bytewise::new(TWO),
+            &mut Bytewise::new(SCRIPT),
+            1_000_000,
+            &mut outputs.journal,
+            &mut outputs.report,
+            &mut Quiet,
+            Blanks::new(),
+        );
+        if ended.is_err() {
+            return false;
+        }
+        if outputs.report.has(b"\noff 1\n") {
+            return true;
+        }
+    }
+    false
+}
+
+/// The workers of the command are at work at the same time: else none of its processors would see what the other does.
+#[test]
+fn processors_take_turns(rt: HostRuntime) -> Result<(), Fail> {
+    let image = brd_elf::write(rt.alloc(), &assemble(rt.alloc(), TURNS)?)?;
+    assert!(rt; takes_turns(&rt, rt.alloc(), image.as_slice()));
+    Ok(())
 }

@@ -1,9 +1,11 @@
 //! The command `run` over readers and writers that fail, and the order of its faults.
 
-use super::fakes::{Busy, Bytewise, Taking};
+use super::fakes::Taking;
+use super::inputs::{endless, failing, reads_of};
 use super::{UNWRITTEN, is_fault};
 use brd_asm::assemble;
-use brd_command::{CommandFault, Quiet, run};
+use brd_command::{Quiet, run};
+use brd_inputs::CommandFault;
 use std::alloc::Global;
 use std::test::Fail;
 use test_help::none_wrong;
@@ -41,23 +43,8 @@ fn run_failing(
     fails_at: usize,
     writer: &mut Taking,
 ) -> Result<(), CommandFault> {
-    let [image, config, journal] = inputs;
-    let mut image = Bytewise::new(image);
-    let mut config = Bytewise::new(config);
-    let mut journal = Bytewise::new(journal);
-    match place {
-        0 => image.fails_at = fails_at,
-        1 => config.fails_at = fails_at,
-        _ => journal.fails_at = fails_at,
-    }
-    run(
-        alloc,
-        &mut image,
-        &mut config,
-        &mut journal,
-        writer,
-        &mut Quiet,
-    )
+    let mut inputs = failing(inputs, place, fails_at);
+    run(alloc, &mut inputs, writer, &mut Quiet)
 }
 
 /// The fault of an input that can't be read, by its place.
@@ -104,24 +91,10 @@ fn each_read_of_run_fails(rt: HostRuntime) -> Result<(), Fail> {
 
 /// Whether `run` gives up an input, by its place, after 268,435,456 reads, and names it.
 fn gives_up(alloc: Global, inputs: [&[u8]; 3], place: usize, text: &str) -> bool {
-    let [image, config, journal] = inputs;
-    let mut image = Busy::new(image, place != 0);
-    let mut config = Busy::new(config, place != 1);
-    let mut journal = Busy::new(journal, place != 2);
+    let mut inputs = endless(inputs, place);
     let mut writer = Taking::new(alloc);
-    let ended = run(
-        alloc,
-        &mut image,
-        &mut config,
-        &mut journal,
-        &mut writer,
-        &mut Quiet,
-    );
-    let reads = match place {
-        0 => image.reads,
-        1 => config.reads,
-        _ => journal.reads,
-    };
+    let ended = run(alloc, &mut inputs, &mut writer, &mut Quiet);
+    let reads = reads_of(&inputs, place);
     is_fault(alloc, &ended, text, 4) && writer.writes == 0 && reads == 268_435_456
 }
 

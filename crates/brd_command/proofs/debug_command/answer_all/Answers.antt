@@ -3,7 +3,7 @@ use Rattle.std.specs.Prelude.{Option, option_map}
 use Rattle.brd_command.specs.Answers.HasDone.{nothing_yet}
 use Rattle.brd_command.specs.Lines.{CountsLine}
 use Rattle.brd_command.proofs.AnswerLemmas.{all_answered, quit_answered, more_answered, front_answered, stopped}
-use Rattle.brd_command.proofs.OutputLemmas as output
+use Rattle.brd_report.proofs.OutputLemmas as output
 use Rattle.brd_command.proofs.debug_command.answer_all.Goals as goal
 use Rattle.brd_command.proofs.debug_command.answer_all.Goals.{After-answer}
 

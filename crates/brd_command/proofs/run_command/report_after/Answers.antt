@@ -1,6 +1,6 @@
 use Rattle.std.proofs.Common.{◌≡◌, subst}
 use Rattle.std.specs.Prelude.{IfOk}
-use Rattle.brd_command.specs.Report.{report_of}
+use Rattle.brd_report.specs.Report.{report_of}
 use Rattle.brd_command.proofs.run_command.report_after.Goals as goal
 
 pub returns : goal.returns

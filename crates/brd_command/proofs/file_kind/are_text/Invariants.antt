@@ -1,7 +1,0 @@
--- What was passed are bytes of a text.
-use Rattle.std.proofs.Common.{◌≡◌, drop}
-use Rattle.brd_command.specs.FileKinds.{are_text}
-use Rattle.brd_command.proofs.file_kind.are_text.Given as goal
-
-abbrev pub invariant-loop-byte : goal.invariant-loop-byte
-invariant-loop-byte l = are_text (drop l.byte-index l.bytes) ≡ are_text l.bytes
