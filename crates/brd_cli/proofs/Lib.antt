@@ -1,3 +1,4 @@
 pub mod LawLemmas
 pub mod SaidLemmas
 pub mod WordsLemmas
+pub mod NumberLemmas

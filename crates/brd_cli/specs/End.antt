@@ -4,8 +4,8 @@ use Rattle.clap.specs.Words.{kind_of}
 use Rattle.clap.specs.declared.error.Error.{Error}
 use Rattle.clap.specs.declared.error.kind.ErrorKind.{ErrorKind}
 use Rattle.clap.specs.declared.error.kind.ErrorKind.TheVariants.{DisplayHelp, DisplayVersion, OutOfMemory}
-use Rattle.brd_command.specs.Faults.{status_of}
-use Rattle.brd_command.specs.declared.fault.CommandFault.TheVariants.{NoMemory}
+use Rattle.brd_inputs.specs.Faults.{status_of}
+use Rattle.brd_inputs.specs.declared.fault.CommandFault.TheVariants.{NoMemory}
 use Rattle.brd_cli.specs.declared.end.Stop.{Stop}
 use Rattle.brd_cli.specs.declared.end.Stop.TheVariants.{Fault, Usage}
 

@@ -4,7 +4,7 @@ use Rattle.std.specs.Prelude.{◌≡◌, ℕ, List, Option, Result, Ok, Err}
 use Rattle.std.specs.declared.io.Error.{Error}
 use Rattle.clap.specs.Words.{Text}
 use Rattle.brd_command.specs.Request.{RequestEnds}
-use Rattle.brd_command.specs.declared.fault.CommandFault.{CommandFault}
+use Rattle.brd_inputs.specs.declared.fault.CommandFault.{CommandFault}
 use Rattle.brd_command.specs.declared.request.Request.{Request}
 use Rattle.brd_cli.specs.Requests.{IsAnswer}
 use Rattle.brd_cli.specs.declared.end.Stop.{Stop}

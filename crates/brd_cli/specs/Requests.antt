@@ -1,11 +1,17 @@
 -- What a command line asks for: the request of a command's name and of what was given for its arguments, which `clap`
 -- keeps in rows.
-use Rattle.std.specs.Prelude.{◌≡◌, ◌∷◌, ◌⊎◌, ℕ, ⊤, List, [], Option, None, Some, Result, Ok, Err, codes, bytes_eq, option_map}
+use Rattle.std.specs.Prelude.{◌≡◌, ◌∷◌, ◌⊎◌, ℕ, ⊤, List, [], Bool, true, false, if◌then◌else◌, Option, None, Some, Result, Ok, Err, codes, bytes_eq, option_map}
 use Rattle.std.specs.Bool.{MatchBool}
 use Rattle.std.specs.Str.Parse.{ParsesUnsigned}
 use Rattle.clap.specs.Words.{IsAmong, Row, Text, fault_of, first_of, kind_of, one_of, subcommand_of}
 use Rattle.clap.specs.declared.error.kind.ErrorKind.TheVariants.{MissingSubcommand}
-use Rattle.brd_command.specs.declared.fault.CommandFault.TheVariants.{NoMemory}
+use Rattle.brd_inputs.specs.declared.fault.CommandFault.TheVariants.{NoMemory}
+use Rattle.brd_word.specs.declared.order.Order.{Order}
+use Rattle.brd_word.specs.declared.order.Order.TheVariants as order
+use Rattle.brd_command.specs.declared.journal_options.JournalOptions.{JournalOptions}
+use Rattle.brd_command.specs.declared.trace_options.TraceFormat.{TraceFormat}
+use Rattle.brd_command.specs.declared.trace_options.TraceFormat.TheVariants as form
+use Rattle.brd_command.specs.declared.trace_options.TraceOptions.{TraceOptions}
 use Rattle.brd_command.specs.declared.request.Request.{Request}
 use Rattle.brd_command.specs.declared.request.Request.TheVariants.{Words, Asm, Run, Race, Debug, Trace, Journal}
 use Rattle.brd_cli.specs.declared.end.Stop.{Stop}
@@ -14,12 +20,29 @@ use Rattle.brd_cli.specs.Usage.{board, inputs, race_files, source_and_out}
 
 -- ---- what was given
 
--- the number that an argument is, in decimal digits, maybe after a +, and below 2 to the 32nd; none where it isn't
--- there or is no such number
+-- the number of n bits that an argument is, in decimal digits, maybe after a +; none where it isn't there or is no such
+-- number
+abbrev pub IsNumberOf : ℕ → Option Text → Option ℕ → Type 0
+IsNumberOf bits None number = number ≡ None
+IsNumberOf bits (Some text) (Some n) = ParsesUnsigned {E = ⊤} bits 10 text (Ok n)
+IsNumberOf bits (Some text) None = ParsesUnsigned {E = ⊤} bits 10 text (Err tt)
+
+-- the number below 2 to the 32nd that an argument is
 abbrev pub IsNumber : Option Text → Option ℕ → Type 0
-IsNumber None number = number ≡ None
-IsNumber (Some text) (Some n) = ParsesUnsigned {E = ⊤} 32 10 text (Ok n)
-IsNumber (Some text) None = ParsesUnsigned {E = ⊤} 32 10 text (Err tt)
+IsNumber text number = IsNumberOf 32 text number
+
+-- the number that an argument is, and 0 where there is none
+abbrev pub or_zero : Option ℕ → ℕ
+or_zero None = 0
+or_zero (Some n) = n
+
+abbrev pub IsNumberOrZero : Option Text → ℕ → Type 0
+IsNumberOrZero text n = (number : Option ℕ) × IsNumber text number × (n ≡ or_zero number)
+
+-- whether an option without a value was given
+abbrev pub IsFlag : Option Text → Bool → Type 0
+IsFlag text flag = (text ≡ None → flag ≡ false) × (text ≡ Some (codes "true") → flag ≡ true)
+    × (text ≡ Some (codes "false") → flag ≡ false)
 
 abbrev pub before : Option Text → Option (List Text) → Option (List Text)
 before (Some text) (Some texts) = Some (text ∷ texts)
@@ -44,13 +67,54 @@ IsRace text names (Some (Race image config script quota out)) =
     (names ≡ Some (image.now ∷ config.now ∷ script.now ∷ out.now ∷ [])) × IsNumber text (Some quota)
 IsRace text names (Some other) = ⊥
 
--- the request of `journal`: its numbers of processors and events are these texts
-abbrev pub IsJournal : Option Text → Option Text → Option Request → Type 0
-IsJournal cpus events None = IsNumber cpus None ⊎ IsNumber events None
-IsJournal cpus events (Some (Journal c e options)) = IsNumber cpus (Some c) × IsNumber events (Some e)
-IsJournal cpus events (Some other) = ⊥
+-- the form of a trace that is named: lines where none is
+abbrev pub format_named : Option Text → Option TraceFormat
+format_named None = Some form.Text
+format_named (Some name) = if bytes_eq name (codes "text") then Some form.Text
+    else (if bytes_eq name (codes "json") then Some form.Json
+    else (if bytes_eq name (codes "svg") then Some form.Svg else None))
 
--- a request, as its command and the names of its files; what the options of `trace` and `journal` say, only tests show
+-- the byte order that is named: big-endian where none is
+abbrev pub order_named : Option Text → Option Order
+order_named None = Some order.Big
+order_named (Some name) = if bytes_eq name (codes "big") then Some order.Big
+    else (if bytes_eq name (codes "little") then Some order.Little else None)
+
+-- the options of `trace`, each as it was given
+abbrev pub AreTraceOptions : List Row → TraceOptions → Type 0
+AreTraceOptions rows options = IsNumberOf 64 (one_of (codes "from") rows) options.from
+    × IsNumberOf 64 (one_of (codes "to") rows) options.to
+    × IsNumberOf 8 (one_of (codes "cpu") rows) options.cpu
+    × IsFlag (one_of (codes "instructions") rows) options.instructions
+    × IsFlag (one_of (codes "summary") rows) options.summary
+    × (options.format ≡ format_named (first_of (codes "format") rows))
+
+-- the options of `journal`, each as it was given; `Usage` says which option has which name here
+abbrev pub AreJournalOptions : List Row → JournalOptions → Type 0
+AreJournalOptions rows options = (options.order ≡ order_named (first_of (codes "ORDER") rows))
+    × IsNumber (one_of (codes "STEPS") rows) options.turn
+    × IsNumber (one_of (codes "SEED") rows) options.seed
+    × IsNumber (one_of (codes "CHANCE") rows) options.switch
+    × (option_map (λ text. text.now) options.weights ≡ first_of (codes "WEIGHTS") rows)
+    × IsNumber (one_of (codes "CHANGES") rows) options.changes
+    × IsNumberOrZero (one_of (codes "INTERVAL") rows) options.tick_every
+    × (option_map (λ text. text.now) options.raises ≡ first_of (codes "RAISES") rows)
+
+-- the request of `trace`
+abbrev pub IsTrace : List Row → Option Request → Type 0
+IsTrace rows None = given inputs rows ≡ None
+IsTrace rows (Some (Trace image config journal options)) =
+    (given inputs rows ≡ Some (image.now ∷ config.now ∷ journal.now ∷ [])) × AreTraceOptions rows options
+IsTrace rows (Some other) = ⊥
+
+-- the request of `journal`
+abbrev pub IsJournal : List Row → Option Request → Type 0
+IsJournal rows None = IsNumber (one_of (codes "CPUS") rows) None ⊎ IsNumber (one_of (codes "EVENTS") rows) None
+IsJournal rows (Some (Journal cpus events options)) = IsNumber (one_of (codes "CPUS") rows) (Some cpus)
+    × IsNumber (one_of (codes "EVENTS") rows) (Some events) × AreJournalOptions rows options
+IsJournal rows (Some other) = ⊥
+
+-- a request, as its command and the names of its files
 abbrev pub spoken : Request → Text × List Text
 spoken (Words steps) = (codes "words", [])
 spoken (Asm source out) = (codes "asm", source.now ∷ out.now ∷ [])
@@ -72,8 +136,8 @@ IsRequestOf name rows request =
     (MatchBool (bytes_eq name (codes "run")) (IsOfFiles (codes "run") inputs rows request)
     (MatchBool (bytes_eq name (codes "race")) (IsRace (one_of (codes "QUOTA") rows) (given race_files rows) request)
     (MatchBool (bytes_eq name (codes "debug")) (IsOfFiles (codes "debug") inputs rows request)
-    (MatchBool (bytes_eq name (codes "trace")) (IsOfFiles (codes "trace") inputs rows request)
-    (MatchBool (bytes_eq name (codes "journal")) (IsJournal (one_of (codes "CPUS") rows) (one_of (codes "EVENTS") rows) request)
+    (MatchBool (bytes_eq name (codes "trace")) (IsTrace rows request)
+    (MatchBool (bytes_eq name (codes "journal")) (IsJournal rows request)
     (request ≡ None)))))))
 
 -- the request of a command with its rows; none where there is no command

@@ -5,7 +5,7 @@ ghost use Rattle.std.specs.Process.{exit_status};
 ghost use Rattle.brd_cli.specs.End.{status_of_usage, status_of_end, IsStopOf, IsWantOfMemory};
 
 use brd_base::NoMemory;
-use brd_command::CommandFault;
+use brd_inputs::CommandFault;
 use clap::error::ErrorKind;
 use std::process::ExitCode;
 

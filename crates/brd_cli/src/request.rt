@@ -3,7 +3,8 @@
 ghost use Rattle.std.specs.Prelude.{◌≡◌, ◌∷◌, [], IfOk, codes, map, option_map};
 ghost use Rattle.clap.specs.Words.{app_of, first_of, found_of, kind_of, one_of, rows_of, subcommand_rows_of};
 ghost use Rattle.clap.specs.declared.error.kind.ErrorKind.TheVariants.{MissingSubcommand};
-ghost use Rattle.brd_cli.specs.Requests.{IsAnswer, IsAsked, IsJournal, IsNumber, IsRace, IsRequestOf, given};
+ghost use Rattle.brd_cli.specs.Requests.{AreJournalOptions, AreTraceOptions, IsAnswer, IsAsked, IsJournal, IsNumber, IsNumberOf};
+ghost use Rattle.brd_cli.specs.Requests.{IsFlag, IsRace, IsRequestOf, IsTrace, format_named, given, order_named};
 ghost use Rattle.brd_cli.specs.Usage as usage;
 ghost use Rattle.brd_cli.specs.Usage.{inputs, race_files};
 
@@ -83,34 +84,44 @@ fn request_named<'a>(name: &str, arguments: &ArgMatches<'a>) -> Option<Request<'
                 journal,
             })
         }
-        "trace" => {
-            let (image, config, journal) = inputs_of(arguments)?;
-            Some(Request::Trace {
-                image,
-                config,
-                journal,
-                options: trace_options_of(arguments),
-            })
-        }
+        "trace" => trace_of(arguments),
         "journal" => journal_of(arguments),
         _ => None,
     }
 }
 
+/// The request of `trace`.
+fn trace_of<'a>(arguments: &ArgMatches<'a>) -> Option<Request<'a>>
+    ensures { IsTrace (rows_of (found_of arguments.now)) result }
+{
+    let (image, config, journal) = inputs_of(arguments)?;
+    let options = trace_options_of(arguments);
+    Some(Request::Trace {
+        image,
+        config,
+        journal,
+        options,
+    })
+}
+
 /// The options of `trace`.
-fn trace_options_of(arguments: &ArgMatches) -> TraceOptions {
+fn trace_options_of(arguments: &ArgMatches) -> TraceOptions
+    ensures { AreTraceOptions (rows_of (found_of arguments.now)) result }
+{
     TraceOptions {
-        from: arguments.get_one::<u64>("from"),
-        to: arguments.get_one::<u64>("to"),
-        cpu: arguments.get_one::<u8>("cpu"),
-        instructions: arguments.get_flag("instructions"),
-        summary: arguments.get_flag("summary"),
-        format: format_of(arguments.get_str("format")),
+        from: position_of(arguments, "from"),
+        to: position_of(arguments, "to"),
+        cpu: processor_of(arguments, "cpu"),
+        instructions: flag_of(arguments, "instructions"),
+        summary: flag_of(arguments, "summary"),
+        format: format_of(text_of(arguments, "format")),
     }
 }
 
 /// The form of a trace of that name; lines where none is given, and none where there is no such form.
-fn format_of(name: Option<&str>) -> Option<TraceFormat> {
+fn format_of(name: Option<&str>) -> Option<TraceFormat>
+    ensures { result ≡ format_named (option_map (λ name. name.now) name.entry) }
+{
     match name {
         None | Some("text") => Some(TraceFormat::Text),
         Some("json") => Some(TraceFormat::Json),
@@ -121,8 +132,7 @@ fn format_of(name: Option<&str>) -> Option<TraceFormat> {
 
 /// The request of `journal`.
 fn journal_of<'a>(arguments: &ArgMatches<'a>) -> Option<Request<'a>>
-    ensures { IsJournal (one_of (codes "CPUS") (rows_of (found_of arguments.now)))
-        (one_of (codes "EVENTS") (rows_of (found_of arguments.now))) result }
+    ensures { IsJournal (rows_of (found_of arguments.now)) result }
 {
     let cpus = number_of(arguments, "CPUS")?;
     let events = number_of(arguments, "EVENTS")?;
@@ -135,7 +145,9 @@ fn journal_of<'a>(arguments: &ArgMatches<'a>) -> Option<Request<'a>>
 }
 
 /// The options of `journal`.
-fn options_of<'a>(arguments: &ArgMatches<'a>) -> JournalOptions<'a> {
+fn options_of<'a>(arguments: &ArgMatches<'a>) -> JournalOptions<'a>
+    ensures { AreJournalOptions (rows_of (found_of arguments.now)) result }
+{
     JournalOptions {
         order: order_of(text_of(arguments, "ORDER")),
         turn: number_of(arguments, "STEPS"),
@@ -149,7 +161,9 @@ fn options_of<'a>(arguments: &ArgMatches<'a>) -> JournalOptions<'a> {
 }
 
 /// The byte order of that name; big-endian where none is given, and none where there is no such order.
-fn order_of(name: Option<&str>) -> Option<Order> {
+fn order_of(name: Option<&str>) -> Option<Order>
+    ensures { result ≡ order_named (option_map (λ name. name.now) name.entry) }
+{
     match name {
         None | Some("big") => Some(Order::Big),
         Some("little") => Some(Order::Little),
@@ -199,4 +213,25 @@ fn number_of(arguments: &ArgMatches, name: &str) -> Option<u32>
     ensures { IsNumber (one_of name.now (rows_of (found_of arguments.now))) result }
 {
     arguments.get_one::<u32>(name)
+}
+
+/// The position that was given for an argument.
+fn position_of(arguments: &ArgMatches, name: &str) -> Option<u64>
+    ensures { IsNumberOf 64 (one_of name.now (rows_of (found_of arguments.now))) result }
+{
+    arguments.get_one::<u64>(name)
+}
+
+/// The processor that was given for an argument.
+fn processor_of(arguments: &ArgMatches, name: &str) -> Option<u8>
+    ensures { IsNumberOf 8 (one_of name.now (rows_of (found_of arguments.now))) result }
+{
+    arguments.get_one::<u8>(name)
+}
+
+/// Whether an option without a value was given.
+fn flag_of(arguments: &ArgMatches, name: &str) -> bool
+    ensures { IsFlag (one_of name.now (rows_of (found_of arguments.now))) result }
+{
+    arguments.get_flag(name)
 }

@@ -71,4 +71,15 @@ impl<'a> Progress for Screen<'a> {
             let _ = eprint!(self.rt; "\r\x1b[K");
         }
     }
+
+    /// Says so in a line that stays, and what can be done.
+    fn took_few_turns(&mut self, steps: u64, runs: u64) {
+        if self.start.is_none() {
+            return;
+        }
+        let _ = eprintln!(self.rt;
+            "board: the processors hardly took turns ({steps} steps in {runs} runs): race again, with a larger QUOTA, \
+             or draw turns by `board journal --random`"
+        );
+    }
 }

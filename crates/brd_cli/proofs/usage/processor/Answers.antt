@@ -1,8 +1,7 @@
-use Rattle.std.proofs.Common.{◌∙◌, ◌≡◌, ap, ap₂}
-use Rattle.std.specs.Prelude.{Option, Some, pos}
+use Rattle.std.proofs.Common.{◌∙◌, ap, ap₂}
+use Rattle.std.specs.Prelude.{Option, Some}
 use Rattle.clap.specs.Words.{Rule, rule_of}
 use Rattle.clap.specs.declared.builder.value_parser.ValueParser.{ValueParser}
-use Rattle.clap.specs.declared.builder.value_parser.ValueParser.TheVariants.{Signed, Unsigned}
 use Rattle.brd_cli.proofs.usage.processor.Goals as goal
 
 pub returns-clause-rule : goal.returns-clause-rule
