@@ -24,6 +24,45 @@ makes "one weight that isn't 0" "S 2 50" 2 50 --random 1 --weights 0,1 --switch 
 makes "no changes of priorities" "S 2 20" 2 20 --random 2 --pct 0
 makes "a big-endian board" "S 1 1,S 2 1" 2 2 --order big
 order=little makes "a little-endian board" "S 1 1,S 2 1" 2 2 --order little
+# The ends of what each option takes, and the last event that a journal can have.
+makes "eight processors" "S 1 1,S 2 1,S 3 1,S 4 1,S 5 1,S 6 1,S 7 1,S 8 1" 8 8
+makes "the longest turn" "S 1 4" 4 4 --turn 4294967295
+makes "no ticks" "S 1 1,S 2 1,S 1 1" 2 3 --tick-every 0
+makes "the longest interval" "S 1 1,S 2 1,S 1 1" 2 3 --tick-every 4294967295
+makes "the first and the last line" "R 0 1,R 255 1" 2 2 --raise 0@1,255@2
+makes "a raise past the end, as late as may be" "S 1 1,S 2 1" 2 2 --raise 4@1000000
+makes "a raise as the last event" "S 1 999999,R 4 1" 1 1000000 --raise 4@1000000
+makes "the last weight alone, as great as may be" "S 2 3" 2 3 --random 1 --weights 0,1000000
+makes "the greatest weights" "S 1 3" 1 3 --random 1 --weights 1000000
+makes "the least seed" "S 1 3" 1 3 --random 0
+makes "the greatest seed" "S 1 3" 1 3 --random 4294967295
+makes "a chance of none" "S 1 3" 1 3 --random 1 --switch 0
+makes "a chance of all" "S 1 3" 1 3 --random 1 --switch 1000
+makes "the most changes" "S 1 3" 1 3 --random 1 --pct 1000
+makes "changes without an event" "" 2 0 --random 1 --pct 3
+# Journals that are drawn, as tests/schedules/model.py has them.
+makes "drawn" "S 2 3,S 1 2,S 2 4,T 1,S 2 1,S 1 1,S 2 4,S 1 1,S 2 2,T 1,S 1 3,S 2 1,S 1 1,S 2 4,T 1" \
+    2 30 --random 7 --tick-every 10
+makes "drawn by weights" "S 1 4,S 2 5,T 1,S 2 2,S 1 1,S 2 2,S 1 4,T 1,S 1 9,T 1,S 1 2,S 2 2,S 1 5,T 1" \
+    2 40 --random 7 --switch 300 --weights 3,1 --tick-every 10
+makes "three processors by priorities" "S 1 5,S 3 3,S 2 2,S 1 6,S 2 3,T 1,S 2 19,T 1,S 2 19,T 1" \
+    3 60 --random 3 --pct 5 --tick-every 20
+makes "four processors by priorities" "S 1 5,S 4 3,S 3 2,S 2 6,S 1 3,T 1,S 1 19,T 1,S 1 19,T 1" \
+    4 60 --random 3 --pct 5 --tick-every 20
+makes "turns between ticks" "S 1 4,S 2 4,S 3 1,T 1,S 3 3,S 1 4,S 2 2,T 1,S 2 2,S 3 4,S 1 3,T 1" \
+    3 30 --turn 4 --tick-every 10
+# The same options, given to the program and to the model.
+if have python3 "journals beside the model"; then
+    while read -r options; do
+        # shellcheck disable=SC2086
+        "$board" journal $options > "$work/out" 2> "$work/err"
+        got=$?
+        # shellcheck disable=SC2086
+        wrong=$(tests/schedules/model.py $options 2>&1 > "$work/wanted") || wrong="$wrong; the model failed"
+        wrong="$wrong$(differs 0 "$work/wanted" $got)"
+        verdict "journal beside the model: $options" "$wrong"
+    done < tests/schedules/options.table
+fi
 
 # refuses NAME WHAT ARGUMENT..: a line with status 2.
 refuses() {
@@ -53,6 +92,11 @@ for option in "--switch 1" "--weights 1,1" "--pct 1"; do
 done
 refuses "turns that are drawn" "$both" 2 9 --random 1 --turn 1
 refuses "priorities with weights" "$both" 2 9 --random 1 --pct 1 --weights 1,1
+refuses "priorities with a chance" "$both" 2 9 --random 1 --pct 1 --switch 1
+refuses "turns by priorities" "$both" 2 9 --turn 1 --random 1 --pct 1
+refuses "turns with a chance" "$no_seed" 2 9 --turn 1 --switch 1
+refuses "turns with weights" "$no_seed" 2 9 --turn 1 --weights 1,1
+refuses "turns with changes" "$no_seed" 2 9 --turn 1 --pct 1
 
 # Journals that are drawn: as many events as asked for, all of them steps of the processors, the same each time, and
 # another for another seed.
