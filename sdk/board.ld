@@ -12,10 +12,15 @@ SECTIONS
 {
   .text : { *(.text.start) *(.text .text.*) } > ram
   .rodata : { *(.rodata .rodata.*) } > ram
+  .constructors : { *(.ctors .ctors.* .init_array .init_array.* .preinit_array .preinit_array.*) } > ram
   .data : { *(.data .data.*) *(.sdata .sdata.*) } > ram
-  .bss (NOLOAD) : { *(.sbss .sbss.*) *(.bss .bss.*) *(COMMON) } > ram
-  _end = .;
+  .bss (NOLOAD) : { *(.sbss .sbss.*) *(.bss .bss.*) *(COMMON) *(.noinit .noinit.*) } > ram
+
+  /* Sections of other names are put after those that they are like. So the end is a section too, and like none. */
+  .end (NOLOAD) : { board_end = .; . = .; } > ram
+  _end = board_end;
   /DISCARD/ : { *(.reginfo) *(.MIPS.abiflags) *(.pdr) *(.comment) *(.eh_frame) *(.note.*) }
 }
 
 ASSERT(_end + board_stacks <= ORIGIN(ram) + board_ram, "the program and the stacks of its tasks don't fit into RAM")
+ASSERT(SIZEOF(.constructors) == 0, "nobody calls constructors here: call these functions from a task")

@@ -1,4 +1,4 @@
-# Builds and tests a program for the board. A program's Makefile says where the kit is, and reads this:
+# Builds and tests programs for the board. A project's Makefile says where the kit is, and reads this:
 #
 #   SDK = ../../sdk
 #   include $(SDK)/board.mk
@@ -11,19 +11,30 @@
 #   make accept         takes the consoles as they are for right
 #   make run            shows the report of JOURNAL (firmware.journal)
 #   make debug          debugs JOURNAL with the names of C
-#   make hunt           does the steps of JOURNAL in TRIES other orders, and keeps the first with another console
+#   make hunt           does the events of JOURNAL in TRIES other orders, and keeps the first that fails
 #   make clean
 #
 # STACK_CHECK=1 with any of these: each function looks whether the stack has room for it. ORDER=little: the program is
-# little-endian, and its journals are taken for it.
-SOURCES ?= firmware.c
+# little-endian, and its journals are taken for it. LIBC=1: with the C library that sdk/libc has built.
+#
+# A project of several programs names them, PROGRAMS = meter scale: each has its meter.cfg, its sources, SOURCES_meter
+# (meter.c if left out), and its tests, meter.journal and meter.*.journal. PROGRAM says which one is run, debugged or
+# hunted.
+PROGRAMS ?= firmware
+PROGRAM ?= $(firstword $(PROGRAMS))
+SOURCES ?= $(PROGRAM).c
+LIBS ?=
+LIBC ?=
 OPTIMIZE ?= -O2
 HANDLER_STACK ?= 1024
 STACK_CHECK ?=
 ORDER ?= big
-JOURNAL ?= firmware.journal
+JOURNAL ?= $(PROGRAM).journal
 TRIES ?= 200
 SEED ?= 1
+EXPECT ?= console
+MOVE ?= raises
+JOBS ?= $(shell nproc 2> /dev/null || echo 1)
 BUILD ?= build
 
 BOARD ?= $(SDK)/../build/board
@@ -34,74 +45,125 @@ LD = $(CROSS)ld
 ENDIAN_big = -EB
 ENDIAN_little = -EL
 ENDIAN := $(or $(ENDIAN_$(ORDER)),$(error ORDER is big or little, and not '$(ORDER)'))
+$(if $(filter-out 1,$(LIBC)),$(error LIBC is 1 or nothing, and not '$(LIBC)'))
+ifneq ($(words $(PROGRAM)) $(filter $(PROGRAM),$(PROGRAMS)),1 $(PROGRAM))
+$(error PROGRAM is one of '$(PROGRAMS)', and not '$(PROGRAM)')
+endif
 
 # Code of MIPS32 Release 1 that stays where it is linked: no code of Release 2, which Debian's GCC makes by itself; no
-# library, no floating point, no small data, which needs $gp.
-MACHINE = $(ENDIAN) -march=mips32 -mabi=32 -msoft-float -mno-abicalls -fno-pic -G0
-COMPILE = $(CC) $(MACHINE) -ffreestanding -fno-stack-protector -fno-asynchronous-unwind-tables -std=gnu11 -g \
-    $(OPTIMIZE) -Wall -Wextra $(if $(STACK_CHECK),-finstrument-functions) -isystem $(SDK)/include -I. $(CFLAGS)
-ASSEMBLE = $(CC) $(MACHINE) -g -DHANDLER_STACK=$(HANDLER_STACK) -I$(BUILD)
+# floating point, no small data, which needs $gp.
+MACHINE = $(ENDIAN) -march=mips32 -mabi=32 -msoft-float -mno-abicalls -fno-pic -G0 -mno-gpopt
+
+# The compiler is one for Linux, which the board isn't.
+SYSTEM = -U__linux__ -U__linux -Ulinux -U__gnu_linux__ -U__unix__ -U__unix -Uunix
+
+# The headers of the kit and of the compiler, and with LIBC those of the C library; never those of this system.
+LIBRARY = $(SDK)/../build/libc/$(ORDER)
+COMPILERS := $(shell $(CC) -print-file-name=include)
+HEADERS = -nostdinc -isystem $(SDK)/include $(if $(filter 1,$(LIBC)),-isystem $(LIBRARY)/include) \
+    -isystem $(COMPILERS) -isystem $(SDK)/include/plain
+DEPENDS = -MMD -MP
+COMPILE = $(CC) $(MACHINE) $(SYSTEM) $(if $(filter 1,$(LIBC)),-DBOARD_LIBC,-ffreestanding) -fno-stack-protector \
+    -fno-asynchronous-unwind-tables -std=gnu11 -g $(OPTIMIZE) -Wall -Wextra \
+    $(if $(STACK_CHECK),-finstrument-functions) $(HEADERS) -I. $(CFLAGS)
+ASSEMBLE = $(CC) $(MACHINE) -g -DHANDLER_STACK=$(HANDLER_STACK) $(HEADERS) -I.
 LINK = $(LD) $(ENDIAN) -n -z noexecstack -e 0x80000000 -T $(SDK)/board.ld
-CONFIGURE = $(CC) -E -x c -undef -nostdinc -D__ASSEMBLER__ -I. -isystem $(SDK)/include
+CONFIGURE = $(CC) -E -x c -undef $(HEADERS) -D__ASSEMBLER__ -include itron.h -I.
 
 KIT = $(BUILD)/kit
-OBJECTS = $(KIT)/start.o $(patsubst %.c,$(BUILD)/%.o,$(SOURCES)) $(KIT)/print.o $(KIT)/memory.o \
-    $(if $(STACK_CHECK),$(KIT)/stack.o)
-FLAGS = $(CURDIR) $(COMPILE) $(ASSEMBLE) $(LINK) $(OBJECTS)
-HEADERS = $(wildcard *.h $(SDK)/include/*.h $(SDK)/lib/*.h)
-IMAGE = $(BUILD)/firmware.elf
-CONFIGURATION = $(BUILD)/firmware.cfg
+OBJECTS = $(BUILD)/objects
+KIT_OBJECTS = $(patsubst %,$(KIT)/%.o,stop format $(if $(filter 1,$(LIBC)),system,print memory) \
+    $(if $(STACK_CHECK),stack))
+
+# The sources of a program, and where the object file of a source is: below BUILD, wherever the source is.
+sources = $(or $(SOURCES_$1),$(if $(word 2,$(PROGRAMS)),$1.c,$(SOURCES)))
+object = $(OBJECTS)/$(patsubst /%,root/%,$(subst ../,up/,$1)).o
+objects = $(BUILD)/$1/start.o $(foreach it,$(call sources,$1),$(call object,$(it)))
+ARCHIVES = $(filter %.a -l% -L%,$(LIBS)) $(if $(filter 1,$(LIBC)),$(LIBRARY)/libc.a)
+ALL_SOURCES = $(sort $(foreach it,$(PROGRAMS),$(call sources,$(it))))
+FLAGS = $(CURDIR) $(COMPILE) $(ASSEMBLE) $(LINK) $(LIBS) $(foreach it,$(PROGRAMS),$(it) $(call objects,$(it)))
+WRONG := $(filter-out %.c %.S %.s,$(ALL_SOURCES))
+$(if $(WRONG),$(error a source is NAME.c, NAME.S or NAME.s, and not '$(firstword $(WRONG))'))
+
+IMAGE = $(BUILD)/$(PROGRAM).elf
+CONFIGURATION = $(BUILD)/$(PROGRAM).cfg
+# Its tests: of the only program all journals are.
+journals = $(if $(word 2,$(PROGRAMS)),$(wildcard $1.journal $1.*.journal),$(wildcard *.journal))
 
 .PHONY: all test accept run debug hunt clean FORCE
 .DELETE_ON_ERROR:
+.SECONDARY:
 
-all: $(IMAGE) $(CONFIGURATION)
+all: $(foreach it,$(PROGRAMS),$(BUILD)/$(it).elf $(BUILD)/$(it).cfg)
 
-$(IMAGE): $(OBJECTS) $(SDK)/board.ld
-	$(LINK) -o $@ $(OBJECTS)
+# The libraries come twice: before the kit's objects, whose functions are weak, and after those, which may use them.
+define program
+$(BUILD)/$1.elf: $(call objects,$1) $(KIT_OBJECTS) $(filter-out -%,$(LIBS)) $(SDK)/board.ld \
+    $(if $(filter 1,$(LIBC)),$(LIBRARY)/libc.a)
+	$$(LINK) -o $$@ $(call objects,$1) $(LIBS) $(KIT_OBJECTS) --start-group $(ARCHIVES) --end-group
 
-$(KIT)/%.o: $(SDK)/lib/%.c $(HEADERS) $(BUILD)/flags
-	$(COMPILE) -c -o $@ $<
+$(BUILD)/$1/start.o: $(SDK)/lib/start.S $(BUILD)/$1.cfg $(BUILD)/flags
+	$$(ASSEMBLE) -I$(BUILD)/$1 -c -o $$@ $$<
+
+# The configuration's IDs by their names, tasks and handlers by their functions in C, and expressions by their values.
+# It makes entries.inc for start.S, too.
+$(BUILD)/$1.cfg: $1.cfg $(SDK)/lib/configure.awk $(BUILD)/flags
+	@mkdir -p $(BUILD)/$1
+	$$(CONFIGURE) -MMD -MP -MT $$@ -MF $(BUILD)/$1/configuration.d $$< > $(BUILD)/$1/lines.cfg
+	@awk -v main=$$< -v expressions=$(BUILD)/$1/values.c -f $(SDK)/lib/configure.awk $(BUILD)/$1/lines.cfg
+	@$$(COMPILE) -w -S -o $(BUILD)/$1/values $(BUILD)/$1/values.c
+	@awk '{ gsub("\t", ""); if (/^@@/) print }' $(BUILD)/$1/values > $(BUILD)/$1/values.found
+	awk -v main=$$< -v values=$(BUILD)/$1/values.found -v entries=$(BUILD)/$1/entries.inc \
+	    -f $(SDK)/lib/configure.awk $(BUILD)/$1/lines.cfg > $$@
+endef
+$(foreach it,$(PROGRAMS),$(eval $(call program,$(it))))
+
+define compiled
+$(call object,$1): $1 $(BUILD)/flags
+	@mkdir -p $$(@D)
+	$(if $(filter %.c,$1),$$(COMPILE),$$(ASSEMBLE)) $(if $(filter %.s,$1),,$$(DEPENDS)) -c -o $$@ $$<
+endef
+$(foreach it,$(ALL_SOURCES),$(eval $(call compiled,$(it))))
+
+$(KIT)/%.o: $(SDK)/lib/%.c $(BUILD)/flags
+	$(COMPILE) $(DEPENDS) -c -o $@ $<
 
 $(KIT)/%.o: $(SDK)/lib/%.S $(BUILD)/flags
-	$(ASSEMBLE) -c -o $@ $<
+	$(ASSEMBLE) $(DEPENDS) -c -o $@ $<
 
-$(KIT)/start.o: $(BUILD)/entries.inc
+$(LIBRARY)/libc.a:
+	@echo "there is no C library for ORDER=$(ORDER) yet, which this makes: $(SDK)/libc $(ORDER)" >&2; exit 1
 
-$(BUILD)/%.o: %.c $(HEADERS) $(BUILD)/flags
-	@mkdir -p $(@D)
-	$(COMPILE) -c -o $@ $<
-
-# The configuration's IDs by their names, and tasks and handlers by their functions in C.
-$(CONFIGURATION): firmware.cfg $(HEADERS) $(SDK)/lib/lines.awk $(BUILD)/flags
-	$(CONFIGURE) -imacros $(SDK)/lib/configuration.h $< > $(BUILD)/lines.cfg
-	awk -v main=$< -f $(SDK)/lib/lines.awk $(BUILD)/lines.cfg > $@
-
-$(BUILD)/entries.inc: firmware.cfg $(HEADERS) $(BUILD)/flags
-	$(CONFIGURE) -P -imacros $(SDK)/lib/entries.h $< > $(BUILD)/entries.cfg
-	tr ';{}' '\n\n\n' < $(BUILD)/entries.cfg | sed -n '/^ *entry_/p' > $@
+# What each object file was made of; of another project's nothing holds.
+ifeq ($(strip $(shell cat $(BUILD)/flags 2> /dev/null)),$(strip $(FLAGS)))
+-include $(wildcard $(KIT)/*.d $(foreach it,$(PROGRAMS),$(BUILD)/$(it)/configuration.d) \
+    $(patsubst %.o,%.d,$(foreach it,$(ALL_SOURCES),$(call object,$(it)))))
+endif
 
 # What was built with other flags, or for another project, is built anew.
 $(BUILD)/flags: FORCE
-	@mkdir -p $(KIT)
-	@echo '$(FLAGS)' | cmp -s - $@ || echo '$(FLAGS)' > $@
+	$(shell mkdir -p $(KIT))$(file > $@.new,$(FLAGS))@cmp -s $@.new $@ || cp $@.new $@
+
+# Each program's tests, also after one that has failed.
+tests = status=0; $(foreach it,$(PROGRAMS),$(SDK)/test $1 $(BOARD) $(BUILD)/$(it).elf $(BUILD)/$(it).cfg \
+    $(call journals,$(it)) || status=1;) exit $$status
 
 test: all
-	@$(SDK)/test $(BOARD) $(IMAGE) $(CONFIGURATION) $(wildcard *.journal)
+	@$(call tests,)
 
 accept: all
-	@$(SDK)/test --accept $(BOARD) $(IMAGE) $(CONFIGURATION) $(wildcard *.journal)
+	@$(call tests,--accept)
 
 run: all
-	@$(SDK)/ordered $(IMAGE) $(JOURNAL) > $(BUILD)/run.journal
-	@$(BOARD) run $(IMAGE) $(CONFIGURATION) $(BUILD)/run.journal
+	@$(SDK)/test --report $(BOARD) $(IMAGE) $(CONFIGURATION) $(JOURNAL)
 
 debug: all
 	@$(SDK)/ordered $(IMAGE) $(JOURNAL) > $(BUILD)/debug.journal
 	@$(SDK)/debug $(BOARD) $(IMAGE) $(CONFIGURATION) $(BUILD)/debug.journal
 
 hunt: all
-	@$(SDK)/hunt $(BOARD) $(IMAGE) $(CONFIGURATION) $(JOURNAL) $(TRIES) $(SEED) $(BUILD)/hunt.journal
+	@$(SDK)/hunt $(BOARD) $(IMAGE) $(CONFIGURATION) $(JOURNAL) $(BUILD)/hunt.journal --tries '$(TRIES)' \
+	    --seed '$(SEED)' --expect '$(EXPECT)' --move '$(MOVE)' --jobs '$(JOBS)'
 
 clean:
 	rm -rf $(BUILD)

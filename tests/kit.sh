@@ -5,26 +5,30 @@
 . "$(dirname "$0")/check.sh"
 sdk=$PWD/sdk
 
-# says NAME STATUS TEXT COMMAND..: runs a command; TEXT is a line of what it prints, or * for anything.
+# says NAME STATUS TEXT COMMAND..: runs a command; TEXT is a line of what it prints, or * for anything; a TEXT with [0-9]
+# is a pattern of one.
 says() {
     local name=$1 status=$2 text=$3 got wrong=
     shift 3
     "$@" < /dev/null > "$work/said" 2>&1
     got=$?
     [ "$got" = "$status" ] || wrong="; status $got, wanted $status"
-    [ "$text" = '*' ] || grep -qxF -- "$text" "$work/said" || wrong="$wrong; no line '$text'"
+    local form=-F
+    [[ "$text" != *'[0-9'* ]] || form=-E
+    [ "$text" = '*' ] || grep -qx "$form" -- "$text" "$work/said" || wrong="$wrong; no line '$text'"
     verdict "kit: $name" "${wrong:+$wrong: $(head -c 1500 "$work/said")}"
 }
 
-if have python3 "the kit's headers beside the documents"; then
-    check_script "the kit's headers beside the documents" tests/kit_doc
-fi
+have python3 "the kit for C" || { summary; exit; }
+check_script "the kit's headers beside the documents" tests/kit_doc
 
 # What needs no compiler: wrong command lines, and the marks of lines that the C preprocessor leaves.
 says "sdk/new without a folder" 2 "use: sdk/new FOLDER" sdk/new
 says "sdk/new --version" 0 "board's kit for C 1.0" sdk/new --version
 says "sdk/new with an option" 2 "use: sdk/new FOLDER" sdk/new --help
 says "sdk/new where something is" 1 "sdk/new: $work is there already" sdk/new "$work"
+says "sdk/libc with a wrong word" 2 "use: sdk/libc [big|little]" sdk/libc middle
+says "sdk/debian without a package" 2 "use: sdk/debian PACKAGE FOLDER" sdk/debian
 says "sdk/test without a program" 2 "use: sdk/test [--accept] BOARD IMAGE CONFIG NAME.journal.." sdk/test
 says "sdk/test without a journal" 1 "FAILED: there is no journal, a file NAME.journal" sdk/test "$board" image config
 says "sdk/ordered without a program" 2 "use: sdk/ordered IMAGE JOURNAL" sdk/ordered
@@ -34,12 +38,28 @@ printf 'board-journal 1\nS 1 2\n' > "$work/journal"
 verdict "kit: a journal for a little-endian program" \
     "$(sdk/ordered "$work/little" "$work/journal" | diff <(printf 'board-journal 2 little\nS 1 2\n') -)"
 verdict "kit: a journal for a big-endian program" "$(sdk/ordered "$work/big" "$work/journal" | diff "$work/journal" -)"
-says "sdk/hunt without a program" 2 "use: sdk/hunt BOARD IMAGE CONFIG JOURNAL TRIES SEED OUT" sdk/hunt
-printf '%s\n' '# 0 "a.cfg"' '# 1 "<command-line>"' '#define' '# 1 "a.cfg"' '# 1 "ids.h" 1' 'CRE_SEM(2);' \
-    '# 2 "a.cfg" 2' '' 'BOARD(1);' '# 7 "a.cfg"' 'CRE_SEM(1);' > "$work/marked"
-printf '%s\n' ' #define CRE_SEM(2);' '' 'BOARD(1);' '' '' '' 'CRE_SEM(1);' > "$work/wanted"
-awk -v main=a.cfg -f sdk/lib/lines.awk "$work/marked" > "$work/out"
-verdict "kit: lines.awk" "$(diff "$work/wanted" "$work/out")"
+says "sdk/hunt without a program" 2 \
+    "use: sdk/hunt BOARD IMAGE CONFIG JOURNAL OUT [--tries N] [--seed N] [--expect WORDS] [--move WORDS] [--jobs N]" \
+    sdk/hunt
+
+# configured: what configure.awk makes of the preprocessed configuration on standard input, with values for expressions.
+configured() {
+    cat > "$work/marked"
+    awk -v main=a.cfg -v expressions="$work/expressions" -f sdk/lib/configure.awk "$work/marked"
+    grep -o '(.*);' "$work/expressions" | tail -n +2 > "$work/asked"
+    awk -v main=a.cfg -v values="$work/values" -v entries="$work/entries" -f sdk/lib/configure.awk "$work/marked"
+}
+printf '%s\n' '@@1 1024' '@@2 -1' > "$work/values"
+printf '%s\n' '# 0 "a.cfg"' '# 1 "<command-line>"' '#define' '# 1 "a.cfg"' '# 1 "ids.h" 1' 'CRE_SEM(2, {TA_NULL});' \
+    '# 2 "a.cfg" 2' '' 'BOARD(1, 0x10000);' '# 7 "a.cfg"' 'CLASS(TCL_1) { CRE_TSK(4, {TA_HLNG | TA_ACT, -1,' \
+    '    go, 1, 2 * (256 +' '    256), NULL}); } DEF_INH(3, {TA_NULL,press});' > "$work/in"
+printf '%s\n' '@@1 -1' '@@2 1024' > "$work/values"
+printf '%s\n' ' #define CRE_SEM(2, {TA_NULL});' '' 'BOARD(1, 0x10000);' '' '' '' \
+    'CLASS(TCL_1) { CRE_TSK(4, {TA_HLNG | TA_ACT, 4294967295,' '    task_4, 1,' \
+    ' 1024, NULL}); } DEF_INH(3, {TA_NULL,handler_3});' > "$work/wanted"
+verdict "kit: configure.awk" "$(configured < "$work/in" | diff "$work/wanted" -)"
+printf '%s\n' 'entry_board 0x10000' 'entry_task 4, go, 1024, NULL' 'entry_handler 3, press' > "$work/wanted"
+verdict "kit: configure.awk for start.S" "$(diff "$work/wanted" "$work/entries")"
 
 have make "programs in C" || { summary; exit; }
 
@@ -91,11 +111,14 @@ says "another byte order" 2 "*" project examples/c_program ORDER=middle
 
 # Other orders: a right program shows the same, and one with a race doesn't.
 shared=$work/kit/shared
+interrupted=$work/kit/interrupted
 for level in -O0 -O2; do
     says "orders, $level" 0 "ok: 10 orders, from seed 1 on, with the console of firmware.journal" \
         project "$shared" hunt OPTIMIZE=$level TRIES=10
     says "orders of a race, $level" 2 "-added 40, swapped 40, locked 40, taken 1" \
         project "$shared" hunt OPTIMIZE=$level CFLAGS=-DRACE TRIES=100
+    verdict "kit: where a race was found" "$(grep -qE '^[0-9a-f]{8} is adder firmware\.c:[0-9]+$' "$work/said" ||
+        cat "$work/said")"
 done
 # steps JOURNAL: its other events, and how many steps each processor has before each of them.
 steps() {
@@ -106,13 +129,112 @@ steps() {
     ' "$1"
 }
 order=$work/build/hunt.journal
+project "$shared" hunt CFLAGS=-DRACE TRIES=100 MOVE=none > "$work/said"
 verdict "kit: an order has the same steps" "$(diff <(steps "$shared/firmware.journal") <(steps "$order"))"
 verdict "kit: an order is another one" "$(cmp -s "$shared/firmware.journal" "$order" && echo "it is the same")"
+verdict "kit: an order is made shorter" "$([ "$(wc -l < "$order")" -lt 500 ] || wc -l "$order")"
 says "orders of two processors, little-endian" 0 \
     "ok: 5 orders, from seed 7 on, with the console of firmware.journal" \
     project examples/c_two_processors hunt TRIES=5 SEED=7 ORDER=little
 says "orders of two processors" 0 "ok: 5 orders, from seed 7 on, with the console of firmware.journal" \
     project examples/c_two_processors hunt TRIES=5 SEED=7
+
+# On one processor lines are raised earlier: between which instructions, that makes the orders. Without that there is one.
+for level in -O0 -O2; do
+    says "orders of interrupts, $level" 0 "*" project "$interrupted" hunt OPTIMIZE=$level TRIES=100
+    says "a race with a handler, $level" 2 "\\+3[0-9]" project "$interrupted" hunt OPTIMIZE=$level CFLAGS=-DRACE
+done
+verdict "kit: the order of a race with a handler" "$(
+    grep -q '^[123] of its ticks and raised lines come earlier than in firmware.journal (MOVE=none keeps them there)$' \
+        "$work/said" || cat "$work/said")"
+verdict "kit: all lines are raised in it" \
+    "$([ "$(grep -c '^R 3 1$' "$order")" = 3 ] || cat "$order")"
+says "the only order" 0 "ok: 1 order, from seed 1 on, with the console of firmware.journal" \
+    project "$interrupted" hunt CFLAGS=-DRACE MOVE=none
+says "the only order, in words" 0 \
+    "there is one order alone: only one processor takes steps, and no line is raised after some of them" \
+    project "$interrupted" hunt MOVE=none TRIES=3
+
+# What is expected of an order.
+printf '#!/bin/sh\ngrep -q "^33$" "$1" && grep -q "^off 1$" "$2" || { echo "not 33"; exit 3; }\n' > "$interrupted/check"
+chmod +x "$interrupted/check"
+says "orders by a check of one's own" 2 "seed [0-9]+: ./check ends with status 3: not 33; the order is kept as .*" \
+    project "$interrupted" hunt CFLAGS=-DRACE EXPECT=./check
+says "orders by other words" 0 \
+    "ok: [0-9]+ orders, from seed 1 on, as expected \\(exception refused deadlock off lines\\)" \
+    project "$interrupted" hunt EXPECT="exception refused deadlock off lines" TRIES=20
+sed 's/printf/if (pulses != 33) chg_pri(99, 1);&/' "$interrupted/firmware.c" > "$work/refused.c"
+says "orders by refused calls" 2 \
+    "seed [0-9]+: chg_pri = E_NOEXS, which firmware.journal hasn't; the order is kept as .*" \
+    project "$interrupted" hunt CFLAGS="-DRACE -w" EXPECT=refused SOURCES="$work/refused.c"
+sed 's/printf/if (pulses != 33) slp_tsk();&/' "$interrupted/firmware.c" > "$work/deadlock.c"
+says "orders by deadlocks" 2 "seed [0-9]+: a deadlock, which firmware.journal hasn't; the order is kept as .*" \
+    project "$interrupted" hunt CFLAGS="-DRACE -w" EXPECT=deadlock SOURCES="$work/deadlock.c"
+says "orders by the end" 2 "seed [0-9]+: the board isn't off in the end; the order is kept as .*" \
+    project "$interrupted" hunt CFLAGS="-DRACE -w" EXPECT=off SOURCES="$work/deadlock.c"
+sed 's/printf/if (pulses != 33) *(volatile INT *)1 = 1;&/' "$interrupted/firmware.c" > "$work/exception.c"
+says "orders by exceptions" 2 "seed [0-9]+: task 1 at count\+0x[0-9a-f]+ : DBE: store to 00000001, .*" \
+    project "$interrupted" hunt CFLAGS="-DRACE -w" EXPECT=exception SOURCES="$work/exception.c"
+sed 's/printf/while (pulses != 33) ;&/' "$interrupted/firmware.c" > "$work/endless.c"
+says "orders whose steps run out" 0 \
+    "in [0-9]+ of them the steps ran out before the board was off or idle, so nothing is said of these" \
+    project "$interrupted" hunt CFLAGS="-DRACE -w" SOURCES="$work/endless.c"
+
+cp -r sdk/project "$work/endless"
+printf 'SDK = %s\ninclude $(SDK)/board.mk\n' "$sdk" > "$work/endless/Makefile"
+
+# Two tasks of two processors whose lines come in any order: the semaphore keeps each line whole.
+cp -r "$interrupted" "$work/lines"
+cat > "$work/lines/firmware.c" << 'END'
+#include "board.h"
+#include "ids.h"
+
+void pulse(INHNO line)
+{
+    (void)line;
+}
+
+void count(VP_INT number)
+{
+    wai_sem(WHOLE);
+    printf("task %d\n", number);
+    sig_sem(WHOLE);
+    if (number == 1)
+        wai_sem(DONE);
+    else
+        sig_sem(DONE);
+    if (number == 1)
+        ext_ker();
+}
+END
+printf '%s\n' 'BOARD(2, 0x10000);' 'CRE_TSK(1, {TA_ACT, 1, count, 1, 1024, NULL});' 'CRE_SEM(1, {TA_TFIFO, 1, 1});' \
+    'CRE_SEM(2, {TA_TFIFO, 0, 1});' 'CLASS(TCL_2) { CRE_TSK(2, {TA_ACT, 2, count, 1, 1024, NULL}); }' \
+    'DEF_INH(3, {TA_NULL, pulse});' > "$work/lines/firmware.cfg"
+printf '#define WHOLE 1\n#define DONE 2\n' > "$work/lines/ids.h"
+printf 'board-journal 1\nS 1 9000\nS 2 9000\nS 1 9000\n' > "$work/lines/firmware.journal"
+printf 'task 1\ntask 2\n' > "$work/lines/firmware.console"
+says "lines in another order" 2 "[+]task [0-9]" project "$work/lines" hunt TRIES=30
+says "lines in any order" 0 "ok: 30 orders, from seed 1 on, as expected (lines)" \
+    project "$work/lines" hunt TRIES=30 EXPECT=lines
+echo 'task 3' >> "$work/lines/firmware.console"
+says "a hunt whose journal fails itself" 2 "firmware.journal itself doesn't lead to firmware.console: make test" \
+    project "$work/lines" hunt TRIES=30
+
+says "a hunt for the end of what doesn't end" 2 \
+    "firmware.journal itself leaves the board on, so no order can be expected to turn it off" \
+    project "$work/endless" hunt EXPECT=off
+
+# Wrong words of a hunt.
+says "TRIES" 2 "TRIES is a number from 1 to 1000000, and not 'many'" project "$interrupted" hunt TRIES=many
+says "JOBS" 2 "JOBS is a number from 1 to 1024, and not '0'" project "$interrupted" hunt JOBS=0
+says "EXPECT" 2 "EXPECT has words of console, lines, exception, refused, deadlock, off, or a program with a / in its name, and not 'right'" \
+    project "$interrupted" hunt EXPECT=right
+says "EXPECT of a program" 2 "EXPECT names a program that isn't there: './nosuch'" \
+    project "$interrupted" hunt EXPECT=./nosuch
+says "MOVE" 2 "MOVE has words of raises, ticks, none, and not 'lines'" project "$interrupted" hunt MOVE=lines
+says "a journal for a hunt" 2 "sdk/ordered: there is no journal nosuch" project "$interrupted" hunt JOURNAL=nosuch
+says "BOARD" 2 "there is no program nosuch: \`make board\` or \`make unpack\` in the clone makes it, or BOARD names it" \
+    make -s -C "$interrupted" SDK="$sdk" BUILD="$work/build" BOARD=nosuch test
 
 # A new project, outside of the repository, and mistakes in it.
 new=$work/new
@@ -137,8 +259,8 @@ mistake "a stack that overflows, unseen" 0 "ok: firmware.journal" firmware.c "$o
 # The function's address is the compiler's affair.
 mistake "a stack that overflows" 2 '*' firmware.c "$overflow" test STACK_CHECK=1
 verdict "kit: the stack that overflowed" "$(
-    grep -qE '^\+the stack of task 1 \(processor 1\) has no room for the function at 80[0-9a-f]{6}$' "$work/said" &&
-        grep -qE '^task 1 .*, at board_overflow\+0x[0-9a-f]+ \(80[0-9a-f]{6}\)$' "$work/said" &&
+    grep -qE '^\+the stack has no room for the function at 80[0-9a-f]{6} \(task 1, processor 1\)$' "$work/said" &&
+        grep -qE '^task 1 .*, at stop\+0x[0-9a-f]+ \(80[0-9a-f]{6}\)$' "$work/said" &&
         grep -qE '^80[0-9a-f]{6} is greet firmware.c:[0-9]+$' "$work/said" || cat "$work/said")"
 # The summary of the trace names the function, its line and the cause.
 mistake "a store outside RAM" 2 '*' firmware.c 's/ER answer = wai_sem/*(volatile INT *)16 = i; &/' test OPTIMIZE=-O0
@@ -146,14 +268,40 @@ verdict "kit: the store outside RAM" "$(
     cause='last exception at event [0-9]+, of task 1 at greet\+0x[0-9a-f]+ \(80[0-9a-f]{6}\): DBE: store to 00000010, outside RAM'
     grep -qE "^  $cause\$" "$work/said" &&
         grep -qE '^80[0-9a-f]{6} is greet firmware.c:1[0-9]$' "$work/said" || cat "$work/said")"
-mistake "a handler's stack that overflows" 2 "cpu 1 stopped" ids.h '' test STACK_CHECK=1 HANDLER_STACK=16
+mistake "a handler's stack that overflows" 2 \
+    "the stack has no room for the function at 80[0-9a-f]{6} \\(handler of line 3, processor 1\\)" \
+    ids.h '' test STACK_CHECK=1 HANDLER_STACK=16
+verdict "kit: the handler that has no room" "$(grep -q '^80[0-9a-f]* is press firmware.c:6$' "$work/said" ||
+    cat "$work/said")"
 mistake "a large stack" 0 "ok: firmware.journal" firmware.cfg 's/1024/40000/' test STACK_CHECK=1
 mistake "an assertion in a task" 2 "+firmware.c:16: this doesn't hold: i < 2 (task 1, processor 1)" \
     firmware.c 's/answer == E_OK/i < 2/' test CFLAGS=-w
 mistake "an assertion of a CPU-locked task" 2 \
     "+firmware.c:16: this doesn't hold: loc_cpu() != E_OK (task 1, processor 1)" \
     firmware.c 's/answer == E_OK/loc_cpu() != E_OK/' test CFLAGS=-w
-mistake "an assertion in a handler" 2 "cpu 1 stopped" firmware.c 's/line == BUTTON/line != BUTTON/' test
+mistake "an assertion in a handler" 2 \
+    "firmware.c:7: this doesn't hold: line != BUTTON (handler of line 3, processor 1)" \
+    firmware.c 's/line == BUTTON/line != BUTTON/' test
+verdict "kit: the board at an assertion in a handler" "$(
+    [ "$(grep -c '^refused: ' "$work/said")" = 0 ] && grep -q '^cpu 1 stopped$' "$work/said" &&
+        ! grep -q '^after event 104103' "$work/said" || cat "$work/said")"
+mistake "a report of an assertion in a handler" 0 \
+    "firmware.c:7: this doesn't hold: line != BUTTON (handler of line 3, processor 1)" \
+    firmware.c 's/line == BUTTON/line != BUTTON/' run
+mistake "an assertion in a handler, after all that is shown" 2 \
+    "firmware.c:7: this doesn't hold: ++calls < 3 (handler of line 3, processor 1)" \
+    firmware.c 's/assert(line == BUTTON)/static INT calls; isig_sem(PRESSED); assert(++calls < 3); return/' test
+cp "$sdk"/project/* "$new"
+sed -i 's/answer == E_OK/i < 2/; s/printf("Hello/for (INT j = 0; j < 65536; j++) put_chr(65);&/' "$new/firmware.c"
+echo "S 1 2000000" >> "$new/firmware.journal"
+says "an assertion with a full console" 2 "firmware.c:16: this doesn't hold: i < 2 (task 1, processor 1)" \
+    project "$new" test CFLAGS=-w
+mistake "printf in a handler" 2 \
+    "printf can't write from a handler, nor under loc_cpu: 3 times, first in press (firmware.c:7)" \
+    firmware.c 's/assert(line == BUTTON)/printf("%d", line)/; s/Hello/Hullo/' test
+mistake "snprintf in a handler" 2 "+Hello, number 33 of 3" \
+    firmware.c 's/assert(line == BUTTON)/snprintf(text, sizeof text, "<%d>", line)/; s/^void press/char text[8]; &/
+        s/number %d of %d\\n", i/number %d%c of %d\\n", i, text[1]/' test
 cp "$sdk"/project/* "$new"
 sed -i 's/answer == E_OK/loc_spn(3) != E_OK/' "$new/firmware.c"
 echo 'CRE_SPN(3, {TA_NULL});' >> "$new/firmware.cfg"
@@ -170,14 +318,109 @@ echo 'extern int twice(int n); int twice(int n) { return 2 * n; }' > "$new/more/
 mistake "several sources" 2 "+Hello, number 1 of 6" firmware.c '/^void press/iint twice(int n);
 s/, times)/, twice(times))/' test SOURCES="firmware.c more/print.c"
 rm -r "$new/more"
+
+# What a program is made of: sources of other folders and in assembler, libraries, sections, constructors.
+mkdir -p "$work/outside"
+echo 'int twice(int n); int twice(int n) { return 2 * n; }' > "$work/outside/twice.c"
+mistake "a source of another folder" 2 "+Hello, number 1 of 6" firmware.c '/^void press/iint twice(int n);
+s/, times)/, twice(times))/' test SOURCES="firmware.c ../outside/twice.c"
+verdict "kit: its object file" "$(
+    [ -e "$work/build/objects/up/outside/twice.c.o" ] && [ "$(ls "$work/outside")" = twice.c ] || ls "$work/outside")"
+printf '#include "ids.h"\n.set noreorder\n.globl twice\ntwice: jr $ra\naddiu $v0, $a0, BUTTON\n' > "$work/outside/two.S"
+mistake "a source in assembler" 2 "+Hello, number 1 of 6" firmware.c '/^void press/iint twice(int n);
+s/, times)/, twice(times))/' test SOURCES="firmware.c ../outside/two.S"
+printf '.set noreorder\n.globl twice\ntwice: jr $ra\nsll $v0, $a0, 1\n' > "$work/outside/two.s"
+mistake "a source in assembler without preprocessor" 2 "+Hello, number 1 of 6" firmware.c '/^void press/iint twice(int n);
+s/, times)/, twice(times))/' test SOURCES="firmware.c ../outside/two.s"
+says "a source of another language" 2 \
+    "$sdk/board.mk:[0-9]+: \*\*\* a source is NAME.c, NAME.S or NAME.s, and not 'hello.cpp'.  Stop." \
+    project "$new" SOURCES="firmware.c hello.cpp"
+says "a source that isn't there" 2 \
+    "make: \*\*\* No rule to make target 'nosuch.c', needed by '.*/objects/nosuch.c.o'.  Stop.[0-9]*" \
+    project "$new" SOURCES="firmware.c nosuch.c"
+echo '#define NUMBER 7' > "$work/outside/number.h"
+printf '#include "number.h"\nint twice(int n); int twice(int n) { return NUMBER * n; }\n' > "$work/outside/twice.c"
+mistake "a header of another folder" 2 "+Hello, number 1 of 21" firmware.c '/^void press/iint twice(int n);
+s/, times)/, twice(times))/' test SOURCES="firmware.c ../outside/twice.c"
+sleep 1
+echo '#define NUMBER 8' > "$work/outside/number.h"
+says "a header that has changed" 2 "+Hello, number 1 of 24" project "$new" test SOURCES="firmware.c ../outside/twice.c"
+touch -d '+2 seconds' "$new/ids.h"
+make -C "$new" SDK="$sdk" BOARD="$board" BUILD="$work/build" SOURCES="firmware.c ../outside/twice.c" > "$work/said"
+verdict "kit: what a changed header builds" "$(
+    grep -q ' firmware.c$' "$work/said" && ! grep -q 'twice\.c$\|print\.c$' "$work/said" || cat "$work/said")"
+printf 'int printf(const char *format, ...); int printf(const char *format, ...) { return put_chr(*format); }\n' |
+    cat <(echo '#include "kernel.h"') - > "$work/outside/mine.c"
+project "$new" "$work/build/objects/up/outside/mine.c.o" SOURCES="firmware.c ../outside/mine.c"
+mips-linux-gnu-ar rc "$work/outside/libmine.a" "$work/build/objects/up/outside/mine.c.o"
+mistake "a library" 2 "+HHH" firmware.c '' test LIBS="$work/outside/libmine.a"
+mistake "a section of another name" 2 "mips-linux-gnu-ld: the program and the stacks of its tasks don't fit into RAM" \
+    firmware.c '$a__attribute__((section(".mine,\\"aw\\",@nobits#"))) char pool[61400];' all
+mistake "a section .noinit" 2 "mips-linux-gnu-ld: the program and the stacks of its tasks don't fit into RAM" \
+    firmware.c '$a__attribute__((section(".noinit"))) char pool[61400];' all
+mistake "a constructor" 2 "mips-linux-gnu-ld: nobody calls constructors here: call these functions from a task" \
+    firmware.c '$a__attribute__((constructor)) static void first(void) { isig_sem(PRESSED); }' all
+mistake "a header of this system" 2 "firmware.c:1:10: fatal error: string.h: No such file or directory[0-9]*" \
+    firmware.c '1i#include <string.h>' all
+mistake "headers of the compiler" 0 "ok: firmware.journal" firmware.c '1i#include <stdint.h>
+1i#include <stddef.h>
+1i#include <limits.h>
+1i#include <stdbool.h>' test
+
+# Values of the configuration: expressions, constants of itron.h, and what is none.
+mistake "expressions in the configuration" 0 "ok: firmware.journal" firmware.cfg \
+    's/1024/2 * (256 + 256)/; s/, 3, greet, 1/, (VP_INT)(7 - 4), greet, TMIN_TPRI/; s/0x10000/1 << 16/' test
+mistake "a negative argument" 0 "*" firmware.cfg 's/, 3, greet/, -5, greet/' all
+verdict "kit: the negative argument" "$(grep -q ', 4294967291, task_1' "$work/build/firmware.cfg" ||
+    cat "$work/build/firmware.cfg")"
+mistake "an expression of a name that isn't there" 2 \
+    "firmware.cfg:4:[0-9]+: error: .MANY. undeclared \(first use in this function\).*" \
+    firmware.cfg 's/1024/2 * MANY/' all
+mistake "a place that no name has" 2 \
+    "firmware.cfg:4: '(VP_INT)&\"text\"[1]' is no number, nor the name of a place in the program" \
+    firmware.cfg 's/, 3, greet/, (VP_INT)\&"text"[1], greet/' all
+
+# Several programs in one project, each with tests of its own.
+mkdir "$work/several"
+for it in one two; do
+    cp "$sdk/project/firmware.cfg" "$work/several/$it.cfg"
+    cp "$sdk/project/ids.h" "$work/several"
+    sed "s/Hello/I am $it/" "$sdk/project/firmware.c" > "$work/several/$it.c"
+    for test in "$it" "$it.late"; do
+        cp "$sdk/project/firmware.journal" "$work/several/$test.journal"
+        sed "s/Hello/I am $it/" "$sdk/project/firmware.console" > "$work/several/$test.console"
+    done
+done
+printf 'SDK = %s\nPROGRAMS = one two\nSOURCES_two = two.c more.c\ninclude $(SDK)/board.mk\n' "$sdk" \
+    > "$work/several/Makefile"
+echo 'int more;' > "$work/several/more.c"
+says "several programs" 0 "ok: two.late.journal" project "$work/several" test
+verdict "kit: their tests" "$(printf 'ok: %s.journal\n' one one.late two two.late | diff - "$work/said")"
+says "one of several programs" 0 "I am two, number 3 of 3" project "$work/several" run PROGRAM=two
+says "a journal of one of several programs" 0 "I am one, number 3 of 3" project "$work/several" run JOURNAL=one.late.journal
+says "no program" 2 "$sdk/board.mk:[0-9]+: \*\*\* PROGRAM is one of 'one two', and not 'three'.  Stop." \
+    project "$work/several" run PROGRAM=three
+echo wrong > "$work/several/one.console"
+says "several programs, of which one fails" 2 "ok: two.late.journal" project "$work/several" test
 mistake "stacks that don't fit" 2 "mips-linux-gnu-ld: the program and the stacks of its tasks don't fit into RAM" \
     firmware.cfg 's/1024/65536/' all
 mistake "a program that doesn't fit" 2 "mips-linux-gnu-ld: the program and the stacks of its tasks don't fit into RAM" \
     firmware.c '$aUB large[65536];' all
+mistake "an unknown conversion" 2 \
+    "\\+Hello, number the kit's printf has no conversion %n, called before 80[0-9a-f]{6} \\(task 1, processor 1\\)" \
+    firmware.c 's/number %d of/number %n of/' test CFLAGS=-w
+mistake "a conversion of floating point" 2 '*' firmware.c 's/number %d of %d.n", i/number %f of %d\\n", 0.5/' all
+verdict "kit: a conversion of floating point isn't compiled" "$(
+    grep -qE "^firmware\.c:17:.* \"?the kit.?'s printf has no floating point; the C library.?'s has" "$work/said" ||
+        cat "$work/said")"
 mistake "floating point" 2 '*' firmware.c '$aint half(int n); int half(int n) { return n * 0.5; }' all
 verdict "kit: floating point isn't linked" \
     "$(grep -q "undefined reference to \`__muldf3'" "$work/said" || cat "$work/said")"
 mistake "another console" 2 "+Hullo, number 2 of 3" firmware.c 's/Hello/Hullo/' test
+mistake "a journal with too few steps" 2 \
+    "the steps of the journal have run out: the board is on, and processor 1 runs task 1" \
+    firmware.journal 's/S 1 100000/S 1 100/' test
+cp "$sdk"/project/* "$new"
 cp "$new/firmware.journal" "$new/other.journal"
 says "a journal without a console" 2 "If that is right: make accept" project "$new" test
 says "a console that is accepted" 0 "accepted: other.console" project "$new" accept
@@ -208,7 +451,7 @@ back|at [0-9]+: processor [12] in add \(firmware\.c:[0-9]+\), added: 000000[0-9a
 mem added|000000[0-9a-f]{2}
 mem added+3|[0-9a-f]{2}
 break adder|ok
-break firmware.c:0|unknown
+break firmware.c:0|no code begins at firmware\.c:0; the next line with code is firmware\.c:[0-9]+
 goto 0|at 0: line 3 is raised
 next|at [0-9]+: processor [12] in adder \(firmware\.c:[0-9]+\)
 regs 1|pc 80[0-9a-f]{6} [a-z_0-9]+ \([a-z]+\.[a-zS]+:[0-9]+\)
@@ -229,6 +472,22 @@ END
         [[ "$answer" =~ ^$pattern$ ]] || wrong="$wrong; '$command' is answered by '$answer'"
     done 3< "$work/session" 4< "$work/out"
     verdict "kit: sdk/debug" "$wrong"
+    # Service calls are compiled into their callers; a line without code; the source; a step.
+    printf '%s\n' 'break loc_cpu' next list step 'break firmware.c:1' help | project "$shared" debug > "$work/out" 2>&1
+    verdict "kit: sdk/debug at a service call" "$(
+        grep -qE '^at [0-9]+: processor [12] in adder \(firmware\.c:[0-9]+\)$' "$work/out" &&
+            grep -qE '^> +[0-9]+ +loc_cpu\(\);$' "$work/out" && grep -q '^quit                      end$' "$work/out" &&
+            grep -qE '^no code begins at firmware\.c:1; the next line with code is firmware\.c:[0-9]+$' "$work/out" ||
+            cat "$work/out")"
+    # An object file of `board asm` has no sizes of symbols and no lines.
+    "$board" asm examples/lost_update/racy.s "$work/racy.elf"
+    printf '%s\n' 'watch count' end back 'mem count' list |
+        sdk/debug "$board" "$work/racy.elf" examples/lost_update/racy.cfg examples/lost_update/racy.journal > "$work/out"
+    printf '%s\n' ok 'at 110: the end' 'at 71: processor 1 in again+0x8, count: 00000006 -> 00000007' 00000006 \
+        'there is no source of again+0x8' > "$work/wanted"
+    verdict "kit: sdk/debug of a program in assembler" "$(diff "$work/wanted" "$work/out")"
+    says "sdk/debug without a program" 2 "there is no object file nosuch" sdk/debug "$board" nosuch config journal
+    says "LIBC" 2 "$sdk/board.mk:[0-9]+: \\*\\*\\* LIBC is 1 or nothing, and not 'yes'.  Stop." project "$shared" LIBC=yes
     printf 'quit\nend\n' | project "$shared" debug CFLAGS=-DRACE > "$work/out" 2> "$work/err"
     check "kit: sdk/debug ends by quit" 0 "$work/nothing" "" $?
     says "sdk/debug without a journal" 2 "sdk/ordered: there is no journal nosuch" project "$shared" debug JOURNAL=nosuch

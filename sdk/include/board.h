@@ -6,21 +6,53 @@
 
 #ifndef __ASSEMBLER__
 
-/* Writes to the console: %d, %i, %u, %x, %X, %p, %c, %s and %%, each with a width and the flags `-` and `0`. It answers
- * how many bytes it has written, or why put_chr was refused: in an interrupt handler, or while the processor is
- * CPU-locked (E_CTX), or where the console is full (E_QOVR). */
+#ifdef BOARD_LIBC
+#include <assert.h>
+#include <stdio.h>
+#include <string.h>
+#else
+#include <stdarg.h>
+
+/* Writes to the console: all conversions of integers, texts and pointers that the C standard has (d i u o x X c s p %),
+ * with flags, widths, precisions and `*`, and with the sizes hh h l ll j z t. It answers how many bytes it has written,
+ * or why put_chr was refused: in an interrupt handler, or while the processor is CPU-locked (E_CTX), or where the console
+ * is full (E_QOVR). Where it has no such conversion (%f, %n) the board ends, with a line that says so. */
 int printf(const char *format, ...) __attribute__((format(printf, 1, 2)));
+int vprintf(const char *format, va_list arguments) __attribute__((format(printf, 1, 0)));
+
+/* The same into a text of `size` bytes, from handlers too. It answers how many bytes the whole text has. */
+int snprintf(char *text, SIZE size, const char *format, ...) __attribute__((format(printf, 3, 4)));
+int vsnprintf(char *text, SIZE size, const char *format, va_list arguments) __attribute__((format(printf, 3, 0)));
+
+/* An argument of floating point is refused where it is compiled. */
+#define printf(...) (BOARD_WHOLE(__VA_ARGS__) (printf)(__VA_ARGS__))
+#define snprintf(text, ...) (BOARD_WHOLE(__VA_ARGS__) (snprintf)(text, __VA_ARGS__))
+#define BOARD_WHOLE(...) BOARD_THRICE(BOARD_EACH(__VA_ARGS__))
+#define BOARD_EACH(it, ...)                                                                                            \
+    (void)sizeof(struct {                                                                                              \
+        _Static_assert(_Generic((it), float: 0, double: 0, long double: 0, default: 1),                                \
+                       "the kit's printf has no floating point; the C library's has (LIBC = 1)");                      \
+        int it_is_whole;                                                                                               \
+    }), __VA_OPT__(BOARD_EACH_AGAIN BOARD_LATER ()(__VA_ARGS__))
+#define BOARD_EACH_AGAIN() BOARD_EACH
+#define BOARD_LATER
+#define BOARD_THRICE(...) BOARD_TWICE(BOARD_TWICE(BOARD_TWICE(__VA_ARGS__)))
+#define BOARD_TWICE(...) BOARD_ONCE(BOARD_ONCE(BOARD_ONCE(__VA_ARGS__)))
+#define BOARD_ONCE(...) BOARD_SAME(BOARD_SAME(BOARD_SAME(__VA_ARGS__)))
+#define BOARD_SAME(...) __VA_ARGS__
 
 /* Where the condition doesn't hold, writes the place and the condition, and turns the board off. In a handler neither
- * is possible: there it stops the handler's processor, by an exception. */
+ * is possible: there an exception stops the handler's processor, and `make test` and its relatives say where it was. */
 #define assert(condition) ((condition) ? (void)0 : board_stop(__FILE__, __LINE__, #condition))
-void board_stop(const char *file, INT line, const char *condition) __attribute__((noreturn));
 
 void *memcpy(void *to, const void *from, SIZE size);
 void *memmove(void *to, const void *from, SIZE size);
 void *memset(void *to, int byte, SIZE size);
 int memcmp(const void *one, const void *other, SIZE size);
 SIZE strlen(const char *text);
+#endif
+
+void board_stop(const char *file, INT line, const char *condition) __attribute__((noreturn));
 
 #define BOARD_INLINE static inline __attribute__((always_inline, unused, no_instrument_function))
 

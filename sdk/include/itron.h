@@ -41,6 +41,9 @@ typedef UINT INHNO;                     /* an interrupt line, 0 to 31 */
 #ifndef NULL
 #define NULL ((void *)0)
 #endif
+#endif
+
+/* What follows is there for assembler sources and for the configuration too. */
 #define TRUE 1
 #define FALSE 0
 
@@ -67,14 +70,9 @@ typedef UINT INHNO;                     /* an interrupt line, 0 to 31 */
 #define E_CLS (-52)
 #define E_WBLK (-57)
 #define E_BOVR (-58)
-#define MERCD(ercd) ((ER)(B)(ercd))     /* the main code of an error; there are no sub-codes here */
-#define SERCD(ercd) ((ER)((ercd) >> 8))
 
 #define TMO_POL 0
 #define TMO_FEVR (-1)
-
-#define TWF_ANDW 0u                     /* wai_flg: all of the bits, or any */
-#define TWF_ORW 1u
 
 #define TSK_SELF 0
 #define TSK_NONE 0
@@ -87,6 +85,13 @@ typedef UINT INHNO;                     /* an interrupt line, 0 to 31 */
 #define TMAX_SUSCNT 1
 #define TMAX_MAXSEM 65535
 #define TBIT_FLGPTN 32
+
+#ifndef __ASSEMBLER__
+#define MERCD(ercd) ((ER)(B)(ercd))     /* the main code of an error; there are no sub-codes here */
+#define SERCD(ercd) ((ER)((ercd) >> 8))
+
+#define TWF_ANDW 0u                     /* wai_flg: all of the bits, or any */
+#define TWF_ORW 1u
 
 /* The attributes of objects, which the configuration gives; it knows these names by itself. */
 #define TA_NULL 0u

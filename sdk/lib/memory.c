@@ -1,12 +1,15 @@
-/* What a C compiler calls in every program, and strlen. */
+/* What a C compiler calls in every program, and strlen. They are weak: those of a library that the program is linked
+ * with come first. */
 #include "board.h"
+
+#define WEAK __attribute__((weak))
 
 /* GCC would make calls of these functions of their own loops. */
 #ifndef __clang__
 #pragma GCC optimize("no-tree-loop-distribute-patterns")
 #endif
 
-void *memmove(void *to, const void *from, SIZE size)
+WEAK void *memmove(void *to, const void *from, SIZE size)
 {
     UB *out = to;
     const UB *in = from;
@@ -20,12 +23,12 @@ void *memmove(void *to, const void *from, SIZE size)
     return to;
 }
 
-void *memcpy(void *to, const void *from, SIZE size)
+WEAK void *memcpy(void *to, const void *from, SIZE size)
 {
     return memmove(to, from, size);
 }
 
-void *memset(void *to, int byte, SIZE size)
+WEAK void *memset(void *to, int byte, SIZE size)
 {
     UB *out = to;
     while (size-- > 0)
@@ -33,7 +36,7 @@ void *memset(void *to, int byte, SIZE size)
     return to;
 }
 
-int memcmp(const void *one, const void *other, SIZE size)
+WEAK int memcmp(const void *one, const void *other, SIZE size)
 {
     const UB *left = one;
     const UB *right = other;
@@ -43,7 +46,7 @@ int memcmp(const void *one, const void *other, SIZE size)
     return 0;
 }
 
-SIZE strlen(const char *text)
+WEAK SIZE strlen(const char *text)
 {
     SIZE size = 0;
     while (text[size] != '\0')

@@ -10,6 +10,14 @@
         .equ    RET_INT, 58
         .set    stacks, 0
 
+/* void board_trap(void): an exception, which stops a handler's processor for good. */
+        .macro  trap
+        .globl  board_trap
+board_trap:
+        break
+        nop
+        .endm
+
 /* BOARD: how much RAM there is, for the linker script. */
         .macro  entry_board ram
         .globl  board_ram
@@ -50,6 +58,7 @@ handler_stack_\line:
 
         .section .text.start, "ax"
 #include "entries.inc"
+        trap
 
 /* How much the stacks take that the board lays from the end of RAM down, for the linker script. */
         .globl  board_stacks

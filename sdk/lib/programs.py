@@ -1,0 +1,260 @@
+"""What the kit's scripts share: a program for the board, its names, and runs of it."""
+import os
+import re
+import subprocess
+import sys
+import tempfile
+
+CROSS = os.environ.get("CROSS", "mips-linux-gnu-")
+# Service calls and the like are compiled into their callers, so a place in these is told as the caller's.
+INLINED = re.compile(r"(^|/)(kernel|board)\.h$")
+
+
+def fail(text, status=2):
+    print(text, file=sys.stderr)
+    sys.exit(status)
+
+
+def look_for(board, image):
+    """Ends with a line where the program of the board or an image isn't there."""
+    if not os.access(board, os.X_OK):
+        fail(f"there is no program {board}: `make board` or `make unpack` in the clone makes it, or BOARD names it")
+    if not os.path.isfile(image):
+        fail(f"there is no object file {image}")
+
+
+class Names:
+    """The symbols of an image, and its lines."""
+
+    def __init__(self, image):
+        self.image, self.places, self.at = image, {}, {}
+        listed = subprocess.run([f"{CROSS}nm", "-n", "-S", image], stdout=subprocess.PIPE, check=True).stdout.decode()
+        found = [line.split() for line in listed.split("\n")]
+        found = [(int(it[0], 16) & 0xFFFFFFFF, int(it[1], 16) if len(it) == 4 else None, it[-2], it[-1])
+                 for it in found if len(it) >= 3]
+        for address, size, kind, name in found:
+            if kind != "a" and 0x80000000 <= address < 0x81000000:
+                self.places.setdefault(name, (address, size or self.size_of_word(address, found)))
+                self.at.setdefault(address, name)
+        self.addresses = sorted(self.at)
+        self.lines = subprocess.Popen([f"{CROSS}addr2line", "-aife", image], stdin=subprocess.PIPE,
+                                      stdout=subprocess.PIPE, text=True)
+
+    @staticmethod
+    def size_of_word(address, found):
+        """Of a symbol that has no size: up to the next one, but one word at most."""
+        after = min((it[0] for it in found if it[0] > address), default=address + 4)
+        return min(after - address, 4 - address % 4)
+
+    def place(self, word):
+        """Address and size of what a word names, if it names something."""
+        name, plus, offset = word.partition("+")
+        if name not in self.places or (plus and not offset.isdigit()):
+            return None
+        address, size = self.places[name]
+        return (address + int(offset), 1) if plus else (address, size)
+
+    def frames(self, address):
+        """The functions that an address belongs to, the innermost first, each as (function, path, line)."""
+        self.lines.stdin.write(f"{address}\n0\n")
+        self.lines.stdin.flush()
+        self.lines.stdout.readline()
+        found = []
+        while True:
+            function = self.lines.stdout.readline().strip()
+            if function == "0x00000000":
+                self.lines.stdout.readline()
+                self.lines.stdout.readline()
+                return found
+            line = self.lines.stdout.readline().strip()
+            path, _, number = re.sub(r" \(discriminator \d+\)", "", line).rpartition(":")
+            found.append((function, path, number))
+
+    def frame(self, address):
+        """The function and the line of an address that a reader looks for, or nothing."""
+        found = [it for it in self.frames(address) if it[0] != "??"]
+        return next((it for it in found if not INLINED.search(it[1])), found[-1] if found else None)
+
+    def name(self, address):
+        """A function with its line; where the image doesn't know, the nearest symbol."""
+        found = self.frame(address)
+        if found and not found[1].startswith("??"):
+            return f"{found[0]} ({os.path.basename(found[1])}:{found[2]})"
+        number = int(address, 16)
+        below = [it for it in self.addresses if it <= number]
+        if not below:
+            return "?"
+        offset = number - below[-1]
+        return self.at[below[-1]] + (f"+0x{offset:x}" if offset else "")
+
+    def told(self, address):
+        """The same as a line of a list."""
+        found = self.frame(address)
+        return f"{found[0]} {os.path.basename(found[1])}:{found[2]}" if found else self.name(address)
+
+
+class Debugger:
+    """The debugger of the board."""
+
+    def __init__(self, board, image, config, journal):
+        self.program = subprocess.Popen([board, "debug", image, config, journal], stdin=subprocess.PIPE,
+                                        stdout=subprocess.PIPE, text=True, errors="replace")
+
+    def lines(self, command):
+        """The lines of its answer. An empty command after it is answered by `unknown`, which ends them."""
+        self.program.stdin.write(f"{command}\n\n")
+        self.program.stdin.flush()
+        found = []
+        while True:
+            line = self.program.stdout.readline()
+            if not line:
+                sys.exit(self.program.wait())
+            if found and line == "unknown\n":
+                return found
+            found.append(line.rstrip("\n"))
+
+    def answer(self, command):
+        return self.lines(command)[0]
+
+    def bytes_at(self, address, count):
+        return bytes(int(self.answer(f"mem {it:08x}"), 16) for it in range(address, address + count))
+
+    def text_at(self, address):
+        found = b""
+        while len(found) < 300 and 0x80000000 <= address:
+            shown = self.answer(f"mem {address:08x}")
+            if shown in ("outside", "00"):
+                break
+            found, address = found + bytes.fromhex(shown), address + 1
+        return found.decode(errors="replace")
+
+    def close(self):
+        self.program.stdin.close()
+        return self.program.wait()
+
+
+class Report:
+    """What `board run` says at the end."""
+
+    def __init__(self, output):
+        head, _, rest = output.partition(b"console ")
+        self.text = head.decode(errors="replace")
+        self.console = rest.partition(b"\n")[2][:-1]
+        self.events = int(re.search(r"(?m)^events (\d+)$", self.text).group(1))
+        self.is_off = "\noff 1\n" in self.text
+        self.processors = re.findall(r"(?m)^cpu \d+ .*$", self.text)
+
+    def stopped(self):
+        """The processors that an exception in a handler has stopped."""
+        return [it for it in self.processors if it.endswith(" stopped")]
+
+    def running(self):
+        """What executes still, on a board that is on: the steps ran out there."""
+        found = [re.match(r"cpu (\d+) (task|handler) (\d+)", it) for it in self.processors]
+        return [] if self.is_off else [f"processor {it[1]} runs {it[2]} {it[3]}" for it in found if it]
+
+
+class Program:
+    """A program with its configuration."""
+
+    def __init__(self, board, image, config):
+        self.board, self.image, self.config = board, image, config
+        look_for(board, image)
+        with open(image, "rb") as file:
+            self.is_little = file.read(6)[5:] == b"\1"
+        self.names_found = None
+
+    def names(self):
+        if self.names_found is None:
+            self.names_found = Names(self.image)
+        return self.names_found
+
+    def ordered(self, path, out):
+        """A journal for the program's byte order."""
+        with open(out, "wb") as file:
+            if subprocess.run([os.path.join(os.path.dirname(os.path.dirname(__file__)), "ordered"), self.image, path],
+                              stdout=file, check=False).returncode != 0:
+                return False
+        return True
+
+    def run(self, journal):
+        """The report of a journal, or nothing where it has a fault, which `board` tells."""
+        ran = subprocess.run([self.board, "run", self.image, self.config, journal], stdout=subprocess.PIPE, check=False)
+        return Report(ran.stdout) if ran.returncode == 0 else None
+
+    def traced(self, journal, *options):
+        return subprocess.run([self.board, "trace", self.image, self.config, journal, *options],
+                              stdout=subprocess.PIPE, check=False).stdout.decode(errors="replace")
+
+    def has_trace(self):
+        listed = subprocess.run([self.board, "--help"], stdout=subprocess.PIPE, check=False).stdout.decode()
+        return re.search(r"(?m)^ *trace ", listed) is not None
+
+    def stop(self, journal, report):
+        """Why the program has stopped itself (sdk/lib/stop.c), and the position after that; and how handlers called
+        printf. Each is nothing where it isn't so."""
+        place = self.names().place("board_stopped")
+        if not place:
+            return None, None, None
+        debugger = Debugger(self.board, self.image, self.config, journal)
+        debugger.answer(f"goto {report.events}")
+        order = "little" if self.is_little else "big"
+
+        def words(address, count):
+            found = debugger.bytes_at(address, 4 * count)
+            return [int.from_bytes(found[4 * it:4 * it + 4], order) for it in range(count)]
+
+        why, position = self.why(debugger, words(place[0], 8), report), None
+        refused = self.names().place("board_refused")
+        count, caller = words(refused[0], 2) if refused else (0, 0)
+        refused = count and f"printf can't write from a handler, nor under loc_cpu: {count} times, first in " \
+            f"{self.names().name(f'{caller - 8:08x}')}"
+        if why and report.stopped() and debugger.answer(f"break {self.names().place('board_trap')[0]:08x}") == "ok":
+            debugger.answer("goto 0")
+            moved = debugger.answer("next")
+            position = int(moved[3:]) + 1 if moved.startswith("at ") else None
+        debugger.close()
+        return why, position, refused or None
+
+    def why(self, debugger, words, report):
+        taken, file, line, why, place, task, processor, stack = words
+        if not taken:
+            return None
+        handlers = [it[len("handler_stack_"):] for it, at in self.names().places.items()
+                    if at[0] == stack and it.startswith("handler_stack_")]
+        who = f"task {task}, processor {processor}" if task else f"handler of line {handlers[0]}" if handlers else "?"
+        if not task and len(report.stopped()) == 1:
+            who += f", processor {report.stopped()[0].split()[1]}"
+        text = debugger.text_at(why)
+        if file:
+            return f"{debugger.text_at(file)}:{line}: this doesn't hold: {text} ({who})"
+        return f"{text} {place:08x} ({who})"
+
+    def explained(self, journal, report, console=b""):
+        """What tells why: an assertion that a handler made, or for which the console had no room; the summary of `board
+        trace` where the program has that, else the report; the functions in C of the addresses that were shown."""
+        why, position, refused = self.stop(journal, report)
+        found = [why] if why and why.encode() not in console else []
+        found += [refused] if refused else []
+        running = report.running()
+        if running:
+            found.append(f"the steps of the journal have run out: the board is on, and {', '.join(running)}")
+        if self.has_trace():
+            to = ["--to", str(position)] if position is not None else []
+            found.append(self.traced(journal, "--summary", *to).rstrip("\n"))
+        else:
+            found.append(report.text.rstrip("\n"))
+        text = "\n".join(found)
+        shown = re.findall(r"\b80[0-9a-f]{6}\b", console.decode(errors="replace") + text)
+        return text + "".join(f"\n{it} is {self.names().told(it)}" for it in sorted(set(shown))[:20])
+
+
+def difference(wanted, got):
+    """How a console differs from the one that is wanted, with a few lines around."""
+    with tempfile.TemporaryDirectory() as folder:
+        for name, text in (("wanted", wanted), ("got", got)):
+            with open(f"{folder}/{name}", "wb") as file:
+                file.write(text)
+        ran = subprocess.run(["diff", "-a", "-U", "3", f"{folder}/wanted", f"{folder}/got"], stdout=subprocess.PIPE,
+                             check=False)
+    return "\n".join(ran.stdout.decode(errors="replace").rstrip("\n").split("\n")[2:])

@@ -1,0 +1,112 @@
+/* What is done where an assertion doesn't hold, a stack has no room, or a format is wrong. */
+#include "format.h"
+
+/* Why the program was stopped, and by whom. It is kept in RAM, since a handler can't write to the console, and a full
+ * console takes nothing; sdk/test and its relatives read it there. Who comes first keeps it. */
+struct stopped {
+    volatile UINT taken;
+    const char *file;                   /* of an assertion; NULL where it is a stack or a format */
+    INT line;
+    const char *why;                    /* the condition, or what is wrong */
+    const void *place;                  /* the function without room, or who called printf */
+    ID task;                            /* 0: a handler */
+    ID processor;
+    const void *stack;                  /* the lowest address of its stack */
+};
+
+struct stopped board_stopped;
+
+/* printf in handlers, and while the processor is CPU-locked. */
+struct {
+    volatile UINT count;
+    const void *caller;
+} board_refused;
+
+void board_refused_print(const void *caller)
+{
+    if (atomic_add(&board_refused.count, 1) == 0)
+        board_refused.caller = caller;
+}
+
+/* Whether a task calls, which then has given up the CPU lock and the spin lock that it held: under them nothing can be
+ * written. */
+static BOOL is_task(ID *task, ID *processor)
+{
+    ID running;
+    ID lock = 1;
+    if (iget_tid(&running) == E_OK)
+        return FALSE;
+    if (unl_cpu() != E_OK)
+        while (lock <= 255 && unl_spn(lock) != E_OK)
+            lock++;
+    dis_dsp();
+    return get_tid(task) == E_OK && get_pid(processor) == E_OK;
+}
+
+__attribute__((format(printf, 1, 2))) static void say(const char *format, ...)
+{
+    struct sink console = { board_put, 0, E_OK, NULL, 0 };
+    va_list arguments;
+    va_start(arguments, format);
+    board_format(&console, format, &arguments);
+    va_end(arguments);
+}
+
+/* $k0, where start.S keeps the lowest address of the stack. */
+static const void *stack_of_caller(void)
+{
+    const void *stack;
+    __asm__ volatile("move %0, $26" : "=r"(stack));
+    return stack;
+}
+
+/* A handler can neither write nor turn the board off: an exception stops its processor for good. */
+static void stop(const struct stopped *why) __attribute__((noreturn));
+static void stop(const struct stopped *why)
+{
+    ID task = 0;
+    ID processor = 0;
+    if (compare_and_swap(&board_stopped.taken, 0, 1)) {
+        board_stopped.file = why->file;
+        board_stopped.line = why->line;
+        board_stopped.why = why->why;
+        board_stopped.place = why->place;
+        board_stopped.stack = why->stack;
+    }
+    if (!is_task(&task, &processor))
+        board_trap();
+    if (board_stopped.why == why->why && board_stopped.line == why->line) {
+        board_stopped.task = task;
+        board_stopped.processor = processor;
+    }
+    if (why->file != NULL)
+        say("%s:%d: this doesn't hold: %s (task %d, processor %d)\n", why->file, why->line, why->why, task, processor);
+    else
+        say("%s %08x (task %d, processor %d)\n", why->why, (UINT)why->place, task, processor);
+    ext_ker();
+    board_trap();
+}
+
+void board_stop(const char *file, INT line, const char *condition)
+{
+    struct stopped why = { 1, file, line, condition, NULL, 0, 0, stack_of_caller() };
+    stop(&why);
+}
+
+/* Called by stack.S, on another stack. */
+void board_overflow(const void *function, const void *stack) __attribute__((noreturn));
+void board_overflow(const void *function, const void *stack)
+{
+    struct stopped why = { 1, NULL, 0, "the stack has no room for the function at", function, 0, 0, stack };
+    stop(&why);
+}
+
+void board_no_conversion(char letter, const void *caller)
+{
+    static char text[] = "the kit's printf has no conversion % , called before";
+    struct stopped why = { 1, NULL, 0, text, caller, 0, 0, stack_of_caller() };
+    for (INT i = 0; text[i] != '\0'; i++)
+        if (text[i] == '%')
+            text[i + 1] = letter;
+    stop(&why);
+}
