@@ -12,6 +12,8 @@ import xml.etree.ElementTree
 SECONDS, MEMORY = 60, 3 << 30
 LINE = re.compile(rb"board: [ -~]*\n")
 WRONG_LINE = re.compile(rb"error: [ -~\n]*\n\nFor more information, try '--help'\.\n|board: an argument isn't UTF-8\n")
+# What clap says of a wrong command line takes memory itself. This is said where there is none.
+UNTOLD = b"board: the command line is wrong, and there is no memory to say how\n"
 REGISTERS = rb"pc [0-9a-f]{8}\n(\$[0-9]+ [0-9a-f]{8}\n)*(hi [0-9a-f]{8}\n)?(lo [0-9a-f]{8}\n)?"
 WORDS = re.compile(REGISTERS + rb"(fault [0-9]+ [0-9a-f]{8} [01]\n)?")
 ANSWERS = re.compile(rb"((at|past) [0-9]+\n|none\n|ok\n|full\n|outside\n|unknown\n|[0-9a-f]{2}\n|" + REGISTERS + rb")*")
@@ -129,8 +131,7 @@ class Runs:
         ended = self.run(case.arguments, case.given, {"LD_PRELOAD": self.refuser, "REFUSE": str(number)})
         if ended.status not in (ample.status, 3):
             return f"{self.way}: status {ended.status}, and {ample.status} with ample memory"
-        if ended.status == 2 and not ended.stderr and not ended.stdout:
-            # What clap says of a wrong command line takes memory itself; then the status alone tells it.
+        if ended.status == 2 and ended.stderr == UNTOLD and not ended.stdout:
             return None
         wrong = self.form(case, ended)
         if wrong or ended.status == 3 and ample.status != 3:
