@@ -1,5 +1,5 @@
 # board: an emulated MIPS32 board for real-time software, proved. `make demo`, `make check`, `make compare`, `make
-# qemu` and `make fuzz` need no toolchain; all else needs Rattle's `rt`.
+# qemu`, `make fuzz` and `make firmware` need no toolchain; all else needs Rattle's `rt`.
 BOARD = build/board
 
 # The crates whose wrong bodies `make attack` tries (none: all), as in `make attack CRATES="brd_exec brd_isa"`.
@@ -12,7 +12,7 @@ SEED = 1
 # How many inputs `make fuzz` tries, from the seed SEED on.
 INPUTS = 5000
 
-.PHONY: unpack demo check board dist test attack compare qemu fuzz gate-times bench clean
+.PHONY: unpack demo check board dist test attack compare qemu fuzz firmware gate-times bench clean
 
 # Runs the examples on the program of dist/.
 demo: unpack
@@ -65,6 +65,10 @@ qemu: $(BOARD)
 # seed SEED on. Those that end wrongly are kept in build/fuzz.
 fuzz: $(BOARD)
 	tests/fuzz $(BOARD) --count $(INPUTS) --seed $(SEED) --counts
+
+# Real code on the board: the tests of zlib, LZ4 and cJSON, from Debian's source packages.
+firmware: $(BOARD)
+	tests/firmware $(BOARD)
 
 $(BOARD):
 	$(MAKE) demo
