@@ -341,13 +341,12 @@ const RACES: u32 = 20;
 /// Whether in one of the races the processors have taken 20 turns.
 fn takes_turns<R: Threads + Wait + Sync>(rt: &R, alloc: Global, image: &[u8]) -> bool {
     for _ in 0..RACES {
+        let mut inputs = failing([image, TWO, SCRIPT], 0, 0);
         let mut outputs = Outputs::new(alloc);
         let ended = race::<Brand, Bytewise<'_>, Taking, Taking, Quiet, R>(
             rt,
             alloc,
-            &mut Bytewise::new(image),
-            &mut Bytewise::new(TWO),
-            &mut Bytewise::new(SCRIPT),
+            &mut inputs,
             1_000_000,
             &mut outputs.journal,
             &mut outputs.report,
