@@ -1,7 +1,7 @@
 //! The command `journal`.
 
-ghost use Rattle.std.specs.Prelude.{◌≡◌, ◌≤◌, IfSome, MatchResult};
-ghost use Rattle.brd_command.specs.JournalCommand.{JournalEnds, KeepsFromMakingOne, MakesJournal};
+ghost use Rattle.std.specs.Prelude.{◌≡◌, ◌≤◌, ◌&&◌, nat_lt, is_some, IfSome, MatchResult};
+ghost use Rattle.brd_command.specs.JournalCommand.{IsOfMaking, JournalEnds, KeepsFromMakingOne, MakesJournal};
 ghost use Rattle.brd_schedule.specs.Schedule.{IsMade};
 
 use crate::journal_options::{JournalOptions, raises_of, rule_of};
@@ -41,7 +41,8 @@ fn journal_text(
     events: u32,
     options: JournalOptions<'_>,
 ) -> Result<Vec<u8>, CommandFault>
-    ensures { MatchResult result (λ text. MakesJournal cpus events options.entry text.items) KeepsFromMakingOne }
+    ensures { MatchResult result (λ text. MakesJournal cpus events options.entry text.items)
+        (KeepsFromMakingOne cpus options.entry) }
 {
     let Some(cpus) = processors(cpus) else {
         return Err(CommandFault::Schedule(ScheduleFault::Processors));
@@ -76,7 +77,8 @@ fn journal_text(
 
 /// The number of processors, where it is 1 to 8.
 fn processors(cpus: u32) -> Option<u8>
-    ensures { IfSome result (λ count. (count ≡ cpus) × (1 ≤ count)) }
+    ensures count { IfSome result (λ count. (count ≡ cpus) × (1 ≤ count)) }
+    ensures exact { is_some result ≡ (nat_lt 0 cpus && nat_lt cpus 9) }
 {
     match cpus {
         1..=8 => Some(cpus as u8),
@@ -87,7 +89,7 @@ fn processors(cpus: u32) -> Option<u8>
 /// The journal of a plan, for boards of this byte order.
 fn made(alloc: Global, plan: &Plan, order: Order) -> Result<Journal, CommandFault>
     requires { 1 ≤ plan.now.cpus }
-    ensures { MatchResult result (λ journal. IsMade plan.now journal.events × (journal.order ≡ order)) KeepsFromMakingOne }
+    ensures { MatchResult result (λ journal. IsMade plan.now journal.events × (journal.order ≡ order)) IsOfMaking }
 {
     match make(alloc, plan, order) {
         Ok(journal) => Ok(journal),

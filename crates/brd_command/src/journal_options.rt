@@ -1,5 +1,9 @@
 //! The options of `journal`.
 
+ghost use Rattle.std.specs.Prelude.{◌≡◌, true, is_some, IfErr, IfOk};
+ghost use Rattle.brd_command.specs.JournalCommand.{AreOfOneWay, IsOfRaises, IsOfRule};
+ghost use Rattle.brd_inputs.specs.declared.schedule_fault.ScheduleFault.TheVariants.{Weights};
+
 use brd_inputs::ScheduleFault;
 use brd_schedule::{MOST_CHANGES, Raise, Rule};
 use brd_text::plain_decimal;
@@ -37,7 +41,10 @@ pub struct JournalOptions<'a> {
 const USUAL_SWITCH: u32 = 500;
 
 /// Who takes the steps of n processors.
-pub(crate) fn rule_of(cpus: u8, options: &JournalOptions) -> Result<Rule, ScheduleFault> {
+pub(crate) fn rule_of(cpus: u8, options: &JournalOptions) -> Result<Rule, ScheduleFault>
+    ensures ok { IfOk result (λ _. AreOfOneWay options.now) }
+    ensures fault { IfErr result (IsOfRule options.now) }
+{
     let is_drawn = options.switch.is_some() || options.weights.is_some();
     let Some(seed) = options.seed else {
         if is_drawn || options.changes.is_some() {
@@ -69,7 +76,9 @@ pub(crate) fn rule_of(cpus: u8, options: &JournalOptions) -> Result<Rule, Schedu
 }
 
 /// The weights of n processors: each 1 where nothing is said.
-fn weights_of(cpus: u8, text: Option<&str>) -> Result<[u32; 8], ScheduleFault> {
+fn weights_of(cpus: u8, text: Option<&str>) -> Result<[u32; 8], ScheduleFault>
+    ensures { IfErr result (λ fault. (fault ≡ Weights) × (is_some text.entry ≡ true)) }
+{
     let mut weights = [0u32; 8];
     let Some(text) = text else {
         for weight in weights.iter_mut().take(cpus as usize) {
@@ -98,7 +107,9 @@ fn weights_of(cpus: u8, text: Option<&str>) -> Result<[u32; 8], ScheduleFault> {
 }
 
 /// The raises that a text says.
-pub(crate) fn raises_of(alloc: Global, text: Option<&str>) -> Result<Vec<Raise>, ScheduleFault> {
+pub(crate) fn raises_of(alloc: Global, text: Option<&str>) -> Result<Vec<Raise>, ScheduleFault>
+    ensures { IfErr result (IsOfRaises text.entry) }
+{
     let mut raises = Vec::new(alloc);
     let Some(text) = text else {
         return Ok(raises);
