@@ -9,11 +9,11 @@ use Rattle.brd_isa.specs.Names.{branch_zero_names, immediate_names, load_names, 
 use Rattle.brd_isa.specs.Names.{single_names, computing_named, other_named, mnemonic_named}
 
 -- a form's names with its operations as mnemonics, and then the rest
-abbrev rows : {A : Type 0} → (A → Mnemonic) → List (List ℕ × A) → List (List ℕ × Mnemonic) → List (List ℕ × Mnemonic)
+abbrev pub rows : {A : Type 0} → (A → Mnemonic) → List (List ℕ × A) → List (List ℕ × Mnemonic) → List (List ℕ × Mnemonic)
 rows f [] rest = rest
 rows f (row ∷ own) rest = (row.0, f row.1) ∷ rows f own rest
 
-abbrev computing : List (List ℕ × Mnemonic) → List (List ℕ × Mnemonic)
+abbrev pub computing : List (List ℕ × Mnemonic) → List (List ℕ × Mnemonic)
 computing behind =
     rows (λ op. Mnemonic.Shift op) shift_names (
     rows (λ op. Mnemonic.ShiftVariable op) shift_variable_names (
@@ -25,7 +25,7 @@ computing behind =
     rows (λ op. Mnemonic.Count op) count_names (
     rows (λ op. Mnemonic.WithImmediate op) immediate_names behind))))))))
 
-abbrev others : List (List ℕ × Mnemonic) → List (List ℕ × Mnemonic)
+abbrev pub others : List (List ℕ × Mnemonic) → List (List ℕ × Mnemonic)
 others behind =
     rows (λ op. Mnemonic.Trap op) trap_names (
     rows (λ op. Mnemonic.TrapImmediate op) trap_immediate_names (
@@ -38,7 +38,7 @@ others behind =
     rows (λ op. Mnemonic.Linked op) linked_names behind))))))))
 
 -- all names, form by form
-abbrev all_names : List (List ℕ × Mnemonic)
+abbrev pub all_names : List (List ℕ × Mnemonic)
 all_names = computing (others single_names)
 
 -- what a list has for a name

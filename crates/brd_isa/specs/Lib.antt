@@ -1,6 +1,7 @@
 pub mod Fields
 pub mod Codes
 pub mod Names
+pub mod Registers
 pub mod Table
 pub mod Decoding
 pub mod Local

@@ -11,6 +11,7 @@ use Rattle.brd_isa.specs.declared.instruction.{CountOp.CountOp, JumpOp.JumpOp, B
 use Rattle.brd_isa.specs.declared.instruction.{BranchZeroOp.BranchZeroOp, ImmediateOp.ImmediateOp, LoadOp.LoadOp}
 use Rattle.brd_isa.specs.declared.instruction.{StoreOp.StoreOp, LinkedOp.LinkedOp}
 use Rattle.brd_isa.specs.declared.mnemonic.Mnemonic.{Mnemonic}
+use Rattle.brd_isa.specs.contracts.mnemonic.MnemonicPartialEq.TheImpl as mnemonics
 
 -- a text without regard to case: A to Z as a to z
 abbrev pub lowered : List ℕ → List ℕ
@@ -204,6 +205,11 @@ other_named name =
 -- the mnemonic that a name is, in lower case
 unfoldable pub mnemonic_named : List ℕ → Option Mnemonic
 mnemonic_named name = computing_named name or_else other_named name or_else named_in single_names name
+
+-- what a table of names has for a mnemonic
+unfoldable pub name_in : List (List ℕ × Mnemonic) → Mnemonic → Option (List ℕ)
+name_in [] mnemonic = None
+name_in (row ∷ rows) mnemonic = if mnemonics.ghosts.eq row.1 mnemonic then Some row.0 else name_in rows mnemonic
 
 -- some name is this mnemonic
 abbrev pub HasName : Mnemonic → Type 0

@@ -3,259 +3,259 @@
 use crate::fields::{Hint, JumpIndex, LongCode, Register, ShiftAmount, ShortCode};
 
 /// Shifts by an amount in the word: `op rd, rt, sa`.
-#[derive(Clone, Copy)]
+#[derive(Clone, Copy, PartialEq, Eq)]
 pub enum ShiftOp {
     /// Shift left.
-    Sll,
+    Sll = 0x00,
     /// Shift right, zeros come in.
-    Srl,
+    Srl = 0x02,
     /// Shift right, the sign comes in.
-    Sra,
+    Sra = 0x03,
 }
 
 /// Shifts by the low five bits of a register: `op rd, rt, rs`.
-#[derive(Clone, Copy)]
+#[derive(Clone, Copy, PartialEq, Eq)]
 pub enum ShiftVariableOp {
     /// Shift left.
-    Sllv,
+    Sllv = 0x04,
     /// Shift right, zeros come in.
-    Srlv,
+    Srlv = 0x06,
     /// Shift right, the sign comes in.
-    Srav,
+    Srav = 0x07,
 }
 
 /// Operations on two registers: `op rd, rs, rt`.
-#[derive(Clone, Copy)]
+#[derive(Clone, Copy, PartialEq, Eq)]
 pub enum RegisterOp {
     /// rs where rt is 0; else rd stays.
-    Movz,
+    Movz = 0x0a,
     /// rs where rt isn't 0; else rd stays.
-    Movn,
+    Movn = 0x0b,
     /// Sum; overflow raises Ov.
-    Add,
+    Add = 0x20,
     /// Sum, which wraps.
-    Addu,
+    Addu = 0x21,
     /// Difference; overflow raises Ov.
-    Sub,
+    Sub = 0x22,
     /// Difference, which wraps.
-    Subu,
+    Subu = 0x23,
     /// Bitwise and.
-    And,
+    And = 0x24,
     /// Bitwise or.
-    Or,
+    Or = 0x25,
     /// Bitwise exclusive or.
-    Xor,
+    Xor = 0x26,
     /// Complement of the bitwise or.
-    Nor,
+    Nor = 0x27,
     /// 1 where rs is below rt, read signed, else 0.
-    Slt,
+    Slt = 0x2a,
     /// 1 where rs is below rt, read unsigned, else 0.
-    Sltu,
+    Sltu = 0x2b,
 }
 
 /// Moves from HI and LO: `op rd`.
-#[derive(Clone, Copy)]
+#[derive(Clone, Copy, PartialEq, Eq)]
 pub enum MoveFromOp {
     /// From HI.
-    Mfhi,
+    Mfhi = 0x10,
     /// From LO.
-    Mflo,
+    Mflo = 0x12,
 }
 
 /// Moves to HI and LO: `op rs`.
-#[derive(Clone, Copy)]
+#[derive(Clone, Copy, PartialEq, Eq)]
 pub enum MoveToOp {
     /// To HI.
-    Mthi,
+    Mthi = 0x11,
     /// To LO.
-    Mtlo,
+    Mtlo = 0x13,
 }
 
 /// Products and quotients in HI and LO: `op rs, rt`.
-#[derive(Clone, Copy)]
+#[derive(Clone, Copy, PartialEq, Eq)]
 pub enum ProductOp {
     /// Signed product.
-    Mult,
+    Mult = 0x18,
     /// Unsigned product.
-    Multu,
+    Multu = 0x19,
     /// Signed quotient in LO, remainder in HI.
-    Div,
+    Div = 0x1a,
     /// Unsigned quotient in LO, remainder in HI.
-    Divu,
+    Divu = 0x1b,
 }
 
 /// Traps on two registers: `op rs, rt, code`.
-#[derive(Clone, Copy)]
+#[derive(Clone, Copy, PartialEq, Eq)]
 pub enum TrapOp {
     /// At or above, read signed.
-    Tge,
+    Tge = 0x30,
     /// At or above, read unsigned.
-    Tgeu,
+    Tgeu = 0x31,
     /// Below, read signed.
-    Tlt,
+    Tlt = 0x32,
     /// Below, read unsigned.
-    Tltu,
+    Tltu = 0x33,
     /// Equal.
-    Teq,
+    Teq = 0x34,
     /// Not equal.
-    Tne,
+    Tne = 0x36,
 }
 
 /// Branches that compare with 0, under the opcode REGIMM: `op rs, target`.
-#[derive(Clone, Copy)]
+#[derive(Clone, Copy, PartialEq, Eq)]
 pub enum BranchRegimmOp {
     /// Below 0.
-    Bltz,
+    Bltz = 0x00,
     /// At or above 0.
-    Bgez,
+    Bgez = 0x01,
     /// Below 0, likely.
-    Bltzl,
+    Bltzl = 0x02,
     /// At or above 0, likely.
-    Bgezl,
+    Bgezl = 0x03,
     /// Below 0, links.
-    Bltzal,
+    Bltzal = 0x10,
     /// At or above 0, links.
-    Bgezal,
+    Bgezal = 0x11,
     /// Below 0, links, likely.
-    Bltzall,
+    Bltzall = 0x12,
     /// At or above 0, links, likely.
-    Bgezall,
+    Bgezall = 0x13,
 }
 
 /// Traps on a register and an immediate, under the opcode REGIMM: `op rs, immediate`.
-#[derive(Clone, Copy)]
+#[derive(Clone, Copy, PartialEq, Eq)]
 pub enum TrapImmediateOp {
     /// At or above, read signed.
-    Tgei,
+    Tgei = 0x08,
     /// At or above, read unsigned.
-    Tgeiu,
+    Tgeiu = 0x09,
     /// Below, read signed.
-    Tlti,
+    Tlti = 0x0a,
     /// Below, read unsigned.
-    Tltiu,
+    Tltiu = 0x0b,
     /// Equal.
-    Teqi,
+    Teqi = 0x0c,
     /// Not equal.
-    Tnei,
+    Tnei = 0x0e,
 }
 
 /// Products that HI and LO are changed by: `op rs, rt`.
-#[derive(Clone, Copy)]
+#[derive(Clone, Copy, PartialEq, Eq)]
 pub enum AccumulateOp {
     /// Plus the signed product.
-    Madd,
+    Madd = 0x00,
     /// Plus the unsigned product.
-    Maddu,
+    Maddu = 0x01,
     /// Minus the signed product.
-    Msub,
+    Msub = 0x04,
     /// Minus the unsigned product.
-    Msubu,
+    Msubu = 0x05,
 }
 
 /// Counts of leading bits: `op rd, rs`.
-#[derive(Clone, Copy)]
+#[derive(Clone, Copy, PartialEq, Eq)]
 pub enum CountOp {
     /// Leading zeros.
-    Clz,
+    Clz = 0x20,
     /// Leading ones.
-    Clo,
+    Clo = 0x21,
 }
 
 /// Jumps to an index: `op target`.
 #[derive(Clone, Copy, PartialEq, Eq)]
 pub enum JumpOp {
     /// Jump.
-    J,
+    J = 0x02,
     /// Jump and link.
-    Jal,
+    Jal = 0x03,
 }
 
 /// Branches that compare two registers: `op rs, rt, target`.
-#[derive(Clone, Copy)]
+#[derive(Clone, Copy, PartialEq, Eq)]
 pub enum BranchOp {
     /// Equal.
-    Beq,
+    Beq = 0x04,
     /// Not equal.
-    Bne,
+    Bne = 0x05,
     /// Equal, likely.
-    Beql,
+    Beql = 0x14,
     /// Not equal, likely.
-    Bnel,
+    Bnel = 0x15,
 }
 
 /// Branches that compare with 0: `op rs, target`.
-#[derive(Clone, Copy)]
+#[derive(Clone, Copy, PartialEq, Eq)]
 pub enum BranchZeroOp {
     /// At or below 0.
-    Blez,
+    Blez = 0x06,
     /// Above 0.
-    Bgtz,
+    Bgtz = 0x07,
     /// At or below 0, likely.
-    Blezl,
+    Blezl = 0x16,
     /// Above 0, likely.
-    Bgtzl,
+    Bgtzl = 0x17,
 }
 
 /// Operations on a register and an immediate: `op rt, rs, immediate`.
-#[derive(Clone, Copy)]
+#[derive(Clone, Copy, PartialEq, Eq)]
 pub enum ImmediateOp {
     /// Sum with the sign-extended immediate; overflow raises Ov.
-    Addi,
+    Addi = 0x08,
     /// Sum with the sign-extended immediate, which wraps.
-    Addiu,
+    Addiu = 0x09,
     /// 1 where rs is below the sign-extended immediate, read signed, else 0.
-    Slti,
+    Slti = 0x0a,
     /// 1 where rs is below the sign-extended immediate, read unsigned, else 0.
-    Sltiu,
+    Sltiu = 0x0b,
     /// Bitwise and with the zero-extended immediate.
-    Andi,
+    Andi = 0x0c,
     /// Bitwise or with the zero-extended immediate.
-    Ori,
+    Ori = 0x0d,
     /// Bitwise exclusive or with the zero-extended immediate.
-    Xori,
+    Xori = 0x0e,
 }
 
 /// Loads: `op rt, offset(base)`.
-#[derive(Clone, Copy)]
+#[derive(Clone, Copy, PartialEq, Eq)]
 pub enum LoadOp {
     /// A byte, sign-extended.
-    Lb,
+    Lb = 0x20,
     /// A halfword, sign-extended.
-    Lh,
+    Lh = 0x21,
     /// The left part of an unaligned word.
-    Lwl,
+    Lwl = 0x22,
     /// A word.
-    Lw,
+    Lw = 0x23,
     /// A byte, zero-extended.
-    Lbu,
+    Lbu = 0x24,
     /// A halfword, zero-extended.
-    Lhu,
+    Lhu = 0x25,
     /// The right part of an unaligned word.
-    Lwr,
+    Lwr = 0x26,
 }
 
 /// Stores: `op rt, offset(base)`.
-#[derive(Clone, Copy)]
+#[derive(Clone, Copy, PartialEq, Eq)]
 pub enum StoreOp {
     /// A byte.
-    Sb,
+    Sb = 0x28,
     /// A halfword.
-    Sh,
+    Sh = 0x29,
     /// The left part of an unaligned word.
-    Swl,
+    Swl = 0x2a,
     /// A word.
-    Sw,
+    Sw = 0x2b,
     /// The right part of an unaligned word.
-    Swr,
+    Swr = 0x2e,
 }
 
 /// Loads and stores of a word that another processor may want too: `op rt, offset(base)`.
-#[derive(Clone, Copy)]
+#[derive(Clone, Copy, PartialEq, Eq)]
 pub enum LinkedOp {
     /// Load, and link the processor to the word.
-    Ll,
+    Ll = 0x30,
     /// Store, if the processor's link is still to the word.
-    Sc,
+    Sc = 0x38,
 }
 
 /// An instruction of MIPS32 Release 1 (MD00086, chapter 3). Offsets of branches count words from the delay slot, those

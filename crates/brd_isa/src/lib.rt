@@ -3,7 +3,6 @@
 //! `specs/Table.antt` relates a word to the instruction that it stands for; `decode` and `encode` follow it both ways.
 #![tactic(auto)]
 
-mod codes;
 mod decoder;
 mod encoder;
 mod fields;
@@ -13,6 +12,7 @@ mod instruction;
 pub mod laws;
 mod local;
 mod mnemonic;
+mod register;
 mod word;
 
 pub use decoder::decode;
@@ -24,4 +24,5 @@ pub use instruction::{
     StoreOp, TrapImmediateOp, TrapOp,
 };
 pub use local::is_local;
-pub use mnemonic::{Mnemonic, is_same_name, mnemonic_named};
+pub use mnemonic::{MNEMONIC_NAMES, Mnemonic, is_same_name, mnemonic_name, mnemonic_named};
+pub use register::{register_name, register_named};

@@ -1,6 +1,6 @@
 //! The names of the instructions in assembler source.
 
-ghost use Rattle.std.specs.Prelude.{◌≡◌, map};
+ghost use Rattle.std.specs.Prelude.{◌≡◌, ◌↔◌, ℕ, List, Some, map, option_map};
 ghost use Rattle.std.specs.Str.{bytes_eq};
 ghost use Rattle.brd_isa.specs.Names as names;
 
@@ -11,7 +11,7 @@ use crate::instruction::{
 };
 
 /// Which instruction it is, without its operands: as `Insn`.
-#[derive(Clone, Copy)]
+#[derive(Clone, Copy, PartialEq, Eq)]
 pub enum Mnemonic {
     /// `op rd, rt, sa`
     Shift(ShiftOp),
@@ -75,7 +75,7 @@ pub fn is_same_name(name: &[u8], other: &[u8]) -> bool
 }
 
 /// The name of each mnemonic, in lower case.
-const NAMES: &[(&[u8], Mnemonic)] = &[
+pub const MNEMONIC_NAMES: &[(&[u8], Mnemonic)] = &[
     (b"sll", Mnemonic::Shift(ShiftOp::Sll)),
     (b"srl", Mnemonic::Shift(ShiftOp::Srl)),
     (b"sra", Mnemonic::Shift(ShiftOp::Sra)),
@@ -186,5 +186,29 @@ fn find(rows: &[(&[u8], Mnemonic)], name: &[u8]) -> Option<Mnemonic>
 pub fn mnemonic_named(name: &[u8]) -> Option<Mnemonic>
     ensures { result ≡ names.mnemonic_named (names.lowered name.now) }
 {
-    find(NAMES, name)
+    find(MNEMONIC_NAMES, name)
+}
+
+/// The name that a table has for a mnemonic.
+#[tactic(auto, unfolding(crate::specs::Names::name_in))]
+fn name_in(rows: &'static [(&'static [u8], Mnemonic)], mnemonic: Mnemonic) -> Option<&'static [u8]>
+    ensures { let named_rows = map (λ row. (row.0.now, row.1)) rows.now in
+        option_map (λ name. name.now) result ≡ names.name_in named_rows mnemonic }
+{
+    for (name, known) in rows {
+        if *known == mnemonic {
+            return Some(name);
+        }
+    }
+    None
+}
+
+/// The name of a mnemonic, in lower case: no other name is read as that mnemonic.
+pub fn mnemonic_name(mnemonic: Mnemonic) -> &'static [u8]
+    ensures { (name : List ℕ) → (names.mnemonic_named name ≡ Some mnemonic) ↔ (name ≡ result.now) }
+{
+    match name_in(MNEMONIC_NAMES, mnemonic) {
+        Some(name) => name,
+        None => unreachable!(),
+    }
 }
