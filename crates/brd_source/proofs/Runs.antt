@@ -6,18 +6,18 @@ use Rattle.std.specs.Prelude.{nat_eq, option_map, take_while}
 use Rattle.std.specs.List.{prefix_len}
 use Rattle.brd_text.specs.Bytes.{is_letter, is_digit, is_run_byte, is_space}
 use Rattle.brd_text.proofs.Runs.{run_len}
-use Rattle.brd_source.specs.Tokens.{Token, Place, opens_comment, string_len, quoted, tokens_in}
-use Rattle.brd_source.specs.Tokens.Token.{Run, Percent, Mark}
+use Rattle.brd_source.specs.Tokens.{SourceToken, Place, opens_comment, string_len, quoted, tokens_in}
+use Rattle.brd_source.specs.Tokens.SourceToken.{Run, Percent, Mark}
 use Rattle.brd_source.specs.Tokens.Place.{Between, InRun, InString, Escaped, InComment}
 use Rattle.brd_source.specs.Fronts.{begins_token}
 
 -- A line begins with this token, and goes on so after it.
-abbrev pub Begins : List ℕ → Token → List ℕ → Type 0
+abbrev pub Begins : List ℕ → SourceToken → List ℕ → Type 0
 Begins line token behind = tokens_in Between line ≡ token ∷ tokens_in Between behind
 
 -- a token, and others after it, in two steps
-same_tokens : (t u : Token) (ts us : List Token) → t ≡ u → ts ≡ us → t ∷ ts ≡ u ∷ us
-same_tokens t u ts us e f = ap (λ (v : Token). v ∷ ts) e ∙ ap (λ (vs : List Token). u ∷ vs) f
+same_tokens : (t u : SourceToken) (ts us : List SourceToken) → t ≡ u → ts ≡ us → t ∷ ts ≡ u ∷ us
+same_tokens t u ts us e f = ap (λ (v : SourceToken). v ∷ ts) e ∙ ap (λ (vs : List SourceToken). u ∷ vs) f
 
 -- ---- bytes by kind
 
@@ -91,7 +91,7 @@ in_string true = Escaped
 in_string false = InString
 
 -- the tokens after a string of n bytes
-behind_string : Option ℕ → List ℕ → List Token
+behind_string : Option ℕ → List ℕ → List SourceToken
 behind_string (Some n) bs = tokens_in Between (drop (suc n) bs)
 behind_string None bs = []
 
@@ -124,11 +124,11 @@ pub behind_open : (bs : List ℕ) → None ≡ string_len false bs → tokens_in
 unfolding in_string behind_string
 behind_open bs e = string_over false bs ∙ ap (λ (o : Option ℕ). behind_string o bs) (sym e)
 
-string_at_front : (bs : List ℕ) (token : Token) (behind : List ℕ) → quoted (string_len false bs) bs ≡ token → tokens_in InString bs ≡ tokens_in Between behind → Begins (34 ∷ bs) token behind
+string_at_front : (bs : List ℕ) (token : SourceToken) (behind : List ℕ) → quoted (string_len false bs) bs ≡ token → tokens_in InString bs ≡ tokens_in Between behind → Begins (34 ∷ bs) token behind
 unfolding is_space is_run_byte is_letter is_digit
 string_at_front bs token behind e f = same_tokens (quoted (string_len false bs) bs) token (tokens_in InString bs) (tokens_in Between behind) e f
 
-pub string_front : (b : ℕ) (line bs : List ℕ) (token : Token) (behind : List ℕ) → line ≡ b ∷ bs → b ≡ 34 → quoted (string_len false bs) bs ≡ token → tokens_in InString bs ≡ tokens_in Between behind → Begins line token behind
+pub string_front : (b : ℕ) (line bs : List ℕ) (token : SourceToken) (behind : List ℕ) → line ≡ b ∷ bs → b ≡ 34 → quoted (string_len false bs) bs ≡ token → tokens_in InString bs ≡ tokens_in Between behind → Begins line token behind
 string_front b line bs token behind e h f g = rw (e, h) (string_at_front bs token behind f g)
 
 -- ---- marks

@@ -7,15 +7,15 @@ use Rattle.std.proofs.lemmas.List.{take_at, drop_at}
 use Rattle.brd_text.specs.Bytes.{is_run_byte, is_space}
 use Rattle.brd_text.specs.Spelling.{begins_with_run_byte}
 use Rattle.brd_text.proofs.Spelled.{prefix_of_run}
-use Rattle.brd_source.specs.Tokens.{Token, opens_comment, ends_string, escapes, string_len, quoted, tokens_in}
-use Rattle.brd_source.specs.Tokens.Token.{Run, Percent, Quoted, Mark, Wrong}
+use Rattle.brd_source.specs.Tokens.{SourceToken, opens_comment, ends_string, escapes, string_len, quoted, tokens_in}
+use Rattle.brd_source.specs.Tokens.SourceToken.{Run, Percent, Quoted, Mark, Wrong}
 use Rattle.brd_source.specs.Tokens.Place.{Between, InString}
 use Rattle.brd_source.specs.Spelling.{stays_open, SpellsLine}
 use Rattle.brd_source.specs.Spelling.SpellsLine.{nothing, blank, sharp_comment, slash_comment, run, percent_run, in_quotes, unended, mark}
 use Rattle.brd_source.proofs.Runs.{Begins, blank_step, comment_step, run_front, percent_front, behind_closed, behind_open, string_front, mark_front}
 
-after_token : (line behind : List ℕ) (token : Token) (tokens : List Token) → Begins line token behind → tokens_in Between behind ≡ tokens → tokens_in Between line ≡ token ∷ tokens
-after_token line behind token tokens begins e = begins ∙ ap (λ (ws : List Token). token ∷ ws) e
+after_token : (line behind : List ℕ) (token : SourceToken) (tokens : List SourceToken) → Begins line token behind → tokens_in Between behind ≡ tokens → tokens_in Between line ≡ token ∷ tokens
+after_token line behind token tokens begins e = begins ∙ ap (λ (ws : List SourceToken). token ∷ ws) e
 
 run_begins : (b : ℕ) (bs rest : List ℕ) → list_all is_run_byte (b ∷ bs) ≡ true → begins_with_run_byte rest ≡ false → Begins (b ∷ (bs ++ rest)) (Run (b ∷ bs)) rest
 run_begins b bs rest h e =
@@ -93,7 +93,7 @@ never_ends bytes none (Some n) e =
 pub mark_begins : (b : ℕ) (bytes : List ℕ) → is_run_byte b ≡ false → is_space b ≡ false → opens_comment b bytes ≡ false → (b ≡ 37 → ⊥) → (b ≡ 34 → ⊥) → Begins (b ∷ bytes) (Mark b) bytes
 mark_begins b bytes h visible opens percent quote = mark_front b (b ∷ bytes) bytes refl h (ne_eqb b 37 percent) (ne_eqb b 34 quote) (rw (visible, opens) refl)
 
-pub spelled : (bytes : List ℕ) (tokens : List Token) → SpellsLine bytes tokens → tokens_in Between bytes ≡ tokens
+pub spelled : (bytes : List ℕ) (tokens : List SourceToken) → SpellsLine bytes tokens → tokens_in Between bytes ≡ tokens
 spelled _ _ nothing = refl
 spelled _ _ (blank b bytes tokens h s) = sym (blank_step b (b ∷ bytes) bytes refl h) ∙ spelled bytes tokens s
 spelled _ _ (sharp_comment comment) = comment_step 35 (35 ∷ comment) comment refl refl

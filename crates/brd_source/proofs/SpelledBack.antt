@@ -6,8 +6,8 @@ use Rattle.std.proofs.lemmas.Bool.{cases_Bool, and_parts, eqb-false, eqb-true}
 use Rattle.std.proofs.lemmas.List.{take-append-drop, length-drop}
 use Rattle.brd_text.specs.Bytes.{is_run_byte, begins_with, is_space}
 use Rattle.brd_text.proofs.Runs.{no_run_byte, run_bytes}
-use Rattle.brd_source.specs.Tokens.{Token, opens_comment, string_len, quoted, tokens_in}
-use Rattle.brd_source.specs.Tokens.Token.{Run, Percent, Quoted, Mark, Wrong}
+use Rattle.brd_source.specs.Tokens.{SourceToken, opens_comment, string_len, quoted, tokens_in}
+use Rattle.brd_source.specs.Tokens.SourceToken.{Run, Percent, Quoted, Mark, Wrong}
 use Rattle.brd_source.specs.Tokens.Place.{Between, InString}
 use Rattle.brd_source.specs.Spelling.{stays_open, SpellsLine}
 use Rattle.brd_source.specs.Spelling.SpellsLine.{nothing, blank, sharp_comment, slash_comment, run, percent_run, in_quotes, unended, mark}
@@ -38,8 +38,8 @@ commented b bs h =
 abbrev AtMost : ℕ → Type 0
 AtMost n = (bs : List ℕ) → length bs ≤ n → SpellsLine bs (tokens_in Between bs)
 
-with_tokens : (bytes : List ℕ) (tokens : List Token) → tokens_in Between bytes ≡ tokens → SpellsLine bytes tokens → SpellsLine bytes (tokens_in Between bytes)
-with_tokens bytes tokens e s = subst (λ (ws : List Token). SpellsLine bytes ws) (sym e) s
+with_tokens : (bytes : List ℕ) (tokens : List SourceToken) → tokens_in Between bytes ≡ tokens → SpellsLine bytes tokens → SpellsLine bytes (tokens_in Between bytes)
+with_tokens bytes tokens e s = subst (λ (ws : List SourceToken). SpellsLine bytes ws) (sym e) s
 
 run_back : (n b : ℕ) (bs : List ℕ) → AtMost n → length bs ≤ n → is_run_byte b ≡ true → SpellsLine (b ∷ bs) (tokens_in Between (b ∷ bs))
 run_back n b bs shorter le h =
@@ -108,7 +108,7 @@ at_most (suc n) [] le = nothing
 at_most (suc n) (b ∷ bs) le =
     let shorter : length bs ≤ n = omega (arith, le) in
     elim (cases_Bool (is_space b)) [
-      | inl is_one ↦ subst (λ (ws : List Token). SpellsLine (b ∷ bs) ws) (blank_step b (b ∷ bs) bs refl is_one) (blank b bs (tokens_in Between bs) is_one (at_most n bs shorter))
+      | inl is_one ↦ subst (λ (ws : List SourceToken). SpellsLine (b ∷ bs) ws) (blank_step b (b ∷ bs) bs refl is_one) (blank b bs (tokens_in Between bs) is_one (at_most n bs shorter))
       | inr visible ↦
           elim (cases_Bool (opens_comment b bs)) [
             | inl opens ↦ with_tokens (b ∷ bs) [] (comment_step b (b ∷ bs) bs refl opens) (commented b bs opens)

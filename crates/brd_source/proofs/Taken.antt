@@ -14,7 +14,7 @@ use Rattle.brd_source.specs.Grammar.StatementIs.{left_out, begins}
 use Rattle.brd_source.specs.Grammar.LineIs.{statement, label}
 use Rattle.brd_source.specs.Statement.{Operands, Instruction, Statement, Line}
 use Rattle.brd_source.specs.Statement.Statement.{Instruct}
-use Rattle.brd_source.specs.Tokens.{Token}
+use Rattle.brd_source.specs.Tokens.{SourceToken}
 use Rattle.brd_source.proofs.OptionLemmas.{some_is, tested}
 
 taken_are : (form : Kind × Kind × Kind) (written operands : Operands) → taken form written ≡ Some operands → are_of form operands ≡ true
@@ -51,17 +51,17 @@ same i j e h = subst HaveForm (inside i j e) h
     inside : (i j : Instruction) → Instruct i ≡ Instruct j → i ≡ j
     inside i j e = cc
 
-said : (operation : Operation) (tokens : List Token) (s : Statement) → Says operation tokens s → (i : Instruction) → s ≡ Instruct i → HaveForm i
+said : (operation : Operation) (tokens : List SourceToken) (s : Statement) → Says operation tokens s → (i : Instruction) → s ≡ Instruct i → HaveForm i
 unfolding HaveForm
 said _ _ _ (instructs m tokens written operands are takes) i e = same (record { mnemonic = m; operands = operands }) i e (taken_are (form_of m) written operands takes)
 said _ _ _ (shortens s tokens written operands are takes) i e = same (stands_for s operands) i e (stand_so s operands (taken_are (short_form_of s) written operands takes))
 said _ _ _ _ i e = absurd (cc)
 
-by_statement : (tokens : List Token) (s : Statement) → StatementIs tokens s → (i : Instruction) → s ≡ Instruct i → HaveForm i
+by_statement : (tokens : List SourceToken) (s : Statement) → StatementIs tokens s → (i : Instruction) → s ≡ Instruct i → HaveForm i
 by_statement _ _ left_out i e = absurd (cc)
 by_statement _ _ (begins run operation tokens s named says) i e = said operation tokens s says i e
 
-pub have_operands : (tokens : List Token) (line : Line) (i : Instruction) → LineIs tokens line → line.statement ≡ Instruct i → are_of (form_of i.mnemonic) i.operands ≡ true
+pub have_operands : (tokens : List SourceToken) (line : Line) (i : Instruction) → LineIs tokens line → line.statement ≡ Instruct i → are_of (form_of i.mnemonic) i.operands ≡ true
 unfolding HaveForm
 have_operands _ _ i (statement tokens s is) e = by_statement tokens s is i e
 have_operands _ _ i (label run tokens labels s h is) e = have_operands tokens (record { labels = labels; statement = s }) i is e

@@ -10,9 +10,10 @@ use Rattle.brd_source.specs.declared.forms.Kind.{Kind}
 use Rattle.brd_source.specs.declared.forms.Kind.TheVariants.{Nothing, Register, Link, Number, Code, Value, Address}
 use Rattle.brd_source.specs.declared.operations.Shorthand.{Shorthand}
 use Rattle.brd_source.specs.declared.operations.Shorthand.TheVariants as shorthand
-use Rattle.brd_source.specs.Statement.{Operand, Operands, Instruction, zero_expression}
+use Rattle.brd_source.specs.Statement.{SourceOperand, Operands, Instruction, zero_expression}
 use Rattle.brd_source.specs.Statement.Immediate.{Whole}
-use Rattle.brd_source.specs.Statement.Operand.{Absent, Register as ARegister, Value as AValue, Address as AnAddress}
+use Rattle.brd_source.specs.Statement.SourceOperand.{Absent, Register as ARegister, Value as AValue}
+use Rattle.brd_source.specs.Statement.SourceOperand.{Address as AnAddress}
 
 -- ---- the tables
 
@@ -54,10 +55,10 @@ short_form_of shorthand.BranchIfZero = (Register, Number, Nothing)
 short_form_of shorthand.BranchUnlessZero = (Register, Number, Nothing)
 short_form_of shorthand.BranchAndLink = (Number, Nothing, Nothing)
 
-abbrev pub register : ℕ → Operand
+abbrev pub register : ℕ → SourceOperand
 register r = ARegister r
 
-abbrev pub zero : Operand
+abbrev pub zero : SourceOperand
 zero = AValue (Whole zero_expression)
 
 abbrev pub instruction : Mnemonic → Operands → Instruction
@@ -75,7 +76,7 @@ stands_for shorthand.BranchAndLink os = instruction (mnemonic.BranchRegimm Bgeza
 -- ---- their use
 
 -- Link may be left out alone: then it is register 31
-abbrev pub is_unlinked : Kind → Operand → Bool
+abbrev pub is_unlinked : Kind → SourceOperand → Bool
 is_unlinked Link Absent = true
 is_unlinked _ _ = false
 
@@ -83,15 +84,15 @@ abbrev pub linked : Kind → Operands → Operands
 linked kind os = if is_unlinked kind os.1 then (register 31, os.0, os.2) else os
 
 -- Code may be left out: then it is 0
-abbrev pub is_left_out : Kind → Operand → Bool
+abbrev pub is_left_out : Kind → SourceOperand → Bool
 is_left_out Code Absent = true
 is_left_out _ _ = false
 
-abbrev pub filled : Kind → Operand → Operand
+abbrev pub filled : Kind → SourceOperand → SourceOperand
 filled kind o = if is_left_out kind o then zero else o
 
 -- whether an operand is of a kind
-abbrev pub is_of : Kind → Operand → Bool
+abbrev pub is_of : Kind → SourceOperand → Bool
 is_of Nothing Absent = true
 is_of Register (ARegister r) = true
 is_of Link (ARegister r) = true

@@ -5,8 +5,10 @@ use Rattle.brd_isa.specs.Names.{named_in, mnemonic_named, ◌or_else◌}
 use Rattle.brd_word.specs.declared.order.Order.{Order}
 use Rattle.brd_word.specs.declared.order.Order.TheVariants.{Big, Little}
 use Rattle.brd_source.specs.declared.statement.Width.TheVariants.{Byte, Half, Word as FourBytes}
-use Rattle.brd_source.specs.declared.operations.Shorthand.TheVariants.{Nop, Move, Branch, BranchIfZero, BranchUnlessZero, BranchAndLink}
-use Rattle.brd_source.specs.declared.operations.Directive.TheVariants.{Org, Align, Space, Values, Ascii, Asciiz, Equ, Globl, Set, ByteOrder}
+use Rattle.brd_source.specs.declared.operations.Shorthand.TheVariants.{Nop, Move, Branch, BranchIfZero}
+use Rattle.brd_source.specs.declared.operations.Shorthand.TheVariants.{BranchUnlessZero, BranchAndLink}
+use Rattle.brd_source.specs.declared.operations.Directive.TheVariants.{Org, Align, Space, Values, Ascii, Asciiz, Equ}
+use Rattle.brd_source.specs.declared.operations.Directive.TheVariants.{Globl, Set, ByteOrder}
 use Rattle.brd_source.specs.declared.operations.Operation.{Operation}
 use Rattle.brd_source.specs.declared.operations.Operation.TheVariants.{Mnemonic, Shorthand, Directive}
 

@@ -20,29 +20,29 @@ pub data Immediate : Type 0 where
   Low : Expression → Immediate
 
 -- an operand: none at all, a register from 0 to 31, a value, or an offset and the register that it is from
-pub data Operand : Type 0 where
-  Absent : Operand
-  Register : ℕ → Operand
-  Value : Immediate → Operand
-  Address : Immediate → ℕ → Operand
+pub data SourceOperand : Type 0 where
+  Absent : SourceOperand
+  Register : ℕ → SourceOperand
+  Value : Immediate → SourceOperand
+  Address : Immediate → ℕ → SourceOperand
 
 -- up to three; those that are absent stand after the others
 abbrev pub Operands : Type 0
-Operands = Operand × Operand × Operand
+Operands = SourceOperand × SourceOperand × SourceOperand
 
 -- The register of an operand, by the low five bits of its number, its value, and the expression that is its value. 0
 -- stands for what it hasn't.
-abbrev pub register_in : Operand → ℕ
+abbrev pub register_in : SourceOperand → ℕ
 register_in (Register r) = r % 2 ^ 5
 register_in (Address i r) = r % 2 ^ 5
 register_in _ = 0
 
-abbrev pub immediate_in : Operand → Immediate
+abbrev pub immediate_in : SourceOperand → Immediate
 immediate_in (Value i) = i
 immediate_in (Address i r) = i
 immediate_in _ = Whole zero_expression
 
-abbrev pub expression_in : Operand → Expression
+abbrev pub expression_in : SourceOperand → Expression
 expression_in (Value (Whole e)) = e
 expression_in _ = zero_expression
 

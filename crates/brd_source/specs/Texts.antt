@@ -1,5 +1,6 @@
 -- Strings: the bytes between two quotes to the bytes that they stand for.
-use Rattle.std.specs.Prelude.{ℕ, Bool, true, false, not, ◌&&◌, ◌==◌, nat_lt, if◌then◌else◌, List, [], ◌∷◌, ◌++◌, Option, Some, None}
+use Rattle.std.specs.Prelude.{ℕ, Bool, true, false, not, ◌&&◌, ◌==◌, nat_lt, if◌then◌else◌, List, [], ◌∷◌, ◌++◌, Option}
+use Rattle.std.specs.Prelude.{Some, None}
 use Rattle.brd_source.specs.Faults.{◌>>=◌}
 use Rattle.brd_source.specs.Tokens.{escapes}
 

@@ -5,13 +5,13 @@ ghost use Rattle.brd_source.specs.Forms as forms;
 ghost use Rattle.brd_source.specs.View.{instruction_value, operand_value, operands_value};
 
 use crate::operations::Shorthand;
-use crate::statement::{Immediate, Instruction, Operand, Operands, ZERO};
+use crate::statement::{Immediate, Instruction, Operands, SourceOperand, ZERO};
 use Kind::{Address, Code, Link, Nothing, Number, Register, Value};
 use brd_isa::{BranchOp, BranchRegimmOp, Mnemonic, RegisterOp, ShiftOp};
 
 /// What an operand has to be.
 #[derive(Clone, Copy)]
-pub(crate) enum Kind {
+pub enum Kind {
     /// Nothing at all.
     Nothing,
     /// A register.
@@ -29,7 +29,7 @@ pub(crate) enum Kind {
 }
 
 /// What the operands of a mnemonic are, in the order in which they are written.
-pub(crate) fn form_of(mnemonic: Mnemonic) -> (Kind, Kind, Kind)
+pub fn form_of(mnemonic: Mnemonic) -> (Kind, Kind, Kind)
     ensures { result ≡ forms.form_of mnemonic }
 {
     match mnemonic {
@@ -63,7 +63,7 @@ pub(crate) fn form_of(mnemonic: Mnemonic) -> (Kind, Kind, Kind)
 }
 
 /// What the operands of a shorthand are.
-pub(crate) fn short_form_of(shorthand: Shorthand) -> (Kind, Kind, Kind)
+pub fn short_form_of(shorthand: Shorthand) -> (Kind, Kind, Kind)
     ensures { result ≡ forms.short_form_of shorthand }
 {
     match shorthand {
@@ -77,10 +77,10 @@ pub(crate) fn short_form_of(shorthand: Shorthand) -> (Kind, Kind, Kind)
 }
 
 /// The operand 0.
-fn nought<'a>() -> Operand<'a>
+fn nought<'a>() -> SourceOperand<'a>
     ensures { operand_value result ≡ forms.zero }
 {
-    Operand::Value(Immediate::Whole(ZERO))
+    SourceOperand::Value(Immediate::Whole(ZERO))
 }
 
 /// The instruction that a shorthand with these operands stands for.
@@ -88,7 +88,7 @@ pub(crate) fn stands_for<'a>(shorthand: Shorthand, operands: Operands<'a>) -> In
     ensures { instruction_value result ≡ forms.stands_for shorthand (operands_value operands.entry) }
 {
     let (a, b, _) = operands;
-    let zero = Operand::Register(0);
+    let zero = SourceOperand::Register(0);
     let (mnemonic, operands) = match shorthand {
         Shorthand::Nop => (Mnemonic::Shift(ShiftOp::Sll), (zero, zero, nought())),
         Shorthand::Move => (Mnemonic::ThreeRegisters(RegisterOp::Addu), (a, b, zero)),
@@ -97,21 +97,21 @@ pub(crate) fn stands_for<'a>(shorthand: Shorthand, operands: Operands<'a>) -> In
         Shorthand::BranchUnlessZero => (Mnemonic::Branch(BranchOp::Bne), (a, zero, b)),
         Shorthand::BranchAndLink => (
             Mnemonic::BranchRegimm(BranchRegimmOp::Bgezal),
-            (zero, a, Operand::Absent),
+            (zero, a, SourceOperand::Absent),
         ),
     };
     Instruction { mnemonic, operands }
 }
 
 /// Whether an operand is left out that may be.
-fn is_left_out(kind: Kind, operand: &Operand) -> bool
+fn is_left_out(kind: Kind, operand: &SourceOperand) -> bool
     ensures { result ≡ forms.is_left_out kind (operand_value operand.now) }
 {
-    matches!(kind, Code) && matches!(operand, Operand::Absent)
+    matches!(kind, Code) && matches!(operand, SourceOperand::Absent)
 }
 
 /// The operand that stands for a written one.
-fn filled<'a>(kind: Kind, operand: Operand<'a>) -> Operand<'a>
+fn filled<'a>(kind: Kind, operand: SourceOperand<'a>) -> SourceOperand<'a>
     ensures { operand_value result ≡ forms.filled kind (operand_value operand.entry) }
 {
     if is_left_out(kind, &operand) {
@@ -121,23 +121,23 @@ fn filled<'a>(kind: Kind, operand: Operand<'a>) -> Operand<'a>
 }
 
 /// Whether an operand is of a kind.
-fn is_of(kind: Kind, operand: &Operand) -> bool
+fn is_of(kind: Kind, operand: &SourceOperand) -> bool
     ensures { result ≡ forms.is_of kind (operand_value operand.now) }
 {
     match kind {
-        Nothing => matches!(operand, Operand::Absent),
-        Register | Link => matches!(operand, Operand::Register(_)),
-        Number | Code => matches!(operand, Operand::Value(Immediate::Whole(_))),
-        Value => matches!(operand, Operand::Value(_)),
-        Address => matches!(operand, Operand::Address(_, _)),
+        Nothing => matches!(operand, SourceOperand::Absent),
+        Register | Link => matches!(operand, SourceOperand::Register(_)),
+        Number | Code => matches!(operand, SourceOperand::Value(Immediate::Whole(_))),
+        Value => matches!(operand, SourceOperand::Value(_)),
+        Address => matches!(operand, SourceOperand::Address(_, _)),
     }
 }
 
 /// Whether the first operand is left out before the second.
-fn is_unlinked(kind: Kind, second: &Operand) -> bool
+fn is_unlinked(kind: Kind, second: &SourceOperand) -> bool
     ensures { result ≡ forms.is_unlinked kind (operand_value second.now) }
 {
-    matches!(kind, Link) && matches!(second, Operand::Absent)
+    matches!(kind, Link) && matches!(second, SourceOperand::Absent)
 }
 
 /// The operands of a form, none left out.
@@ -159,7 +159,7 @@ fn linked<'a>(kind: Kind, written: Operands<'a>) -> Operands<'a>
 {
     let (a, b, c) = written;
     if is_unlinked(kind, &b) {
-        return (Operand::Register(31), a, c);
+        return (SourceOperand::Register(31), a, c);
     }
     (a, b, c)
 }

@@ -8,11 +8,11 @@ ghost use Rattle.brd_source.specs.Names.{HasNames};
 ghost use Rattle.brd_source.specs.Spelling.{SpellsLine};
 ghost use Rattle.brd_source.specs.Statement.{Instruction, Line};
 ghost use Rattle.brd_source.specs.Statement.Statement.{Instruct};
-ghost use Rattle.brd_source.specs.Tokens.{Token, tokens_of};
+ghost use Rattle.brd_source.specs.Tokens.{SourceToken, tokens_of};
 
 /// What spells tokens, with any blanks between them and a comment after them, is scanned as these tokens.
 pub fn spelled_tokens_are_scanned()
-    ensures { (bytes : List ℕ) (tokens : List Token) → SpellsLine bytes tokens → tokens_of bytes ≡ tokens }
+    ensures { (bytes : List ℕ) (tokens : List SourceToken) → SpellsLine bytes tokens → tokens_of bytes ≡ tokens }
 {}
 
 /// The tokens of a line are spelled by its bytes.
@@ -36,5 +36,5 @@ pub fn instructions_have_their_operands()
 pub fn lines_follow_the_grammar()
     ensures exact { (bytes : List ℕ) (line : Line) → (line_of bytes ≡ Some line) ↔ LineIs (tokens_of bytes) line }
     ensures spelled { (bytes : List ℕ) (line : Line) →
-        (line_of bytes ≡ Some line) ↔ ((tokens : List Token) × SpellsLine bytes tokens × LineIs tokens line) }
+        (line_of bytes ≡ Some line) ↔ ((tokens : List SourceToken) × SpellsLine bytes tokens × LineIs tokens line) }
 {}

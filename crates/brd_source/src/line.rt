@@ -11,18 +11,20 @@ use crate::fault::LineFault;
 use crate::scanner::scan;
 use crate::statement::Line;
 use crate::statements::statement;
-use crate::token::Token;
+use crate::token::SourceToken;
 use brd_base::List;
 use smallvec::SmallVec;
 use std::alloc::Global;
 
 /// The label at the front, which is two tokens.
-fn label<'a>(tokens: &[Token<'a>]) -> Option<&'a [u8]>
+fn label<'a>(tokens: &[SourceToken<'a>]) -> Option<&'a [u8]>
     ensures is { option_map (λ name. name.now) result ≡ fronts.label_of (map seen tokens.now) }
     ensures long { IfSome result (λ _. 2 ≤ length tokens.now) }
 {
     match tokens {
-        [Token::Run(name), Token::Mark(b':'), ..] if brd_text::is_name(name) => Some(*name),
+        [SourceToken::Run(name), SourceToken::Mark(b':'), ..] if brd_text::is_name(name) => Some(
+            *name,
+        ),
         _ => None,
     }
 }
@@ -30,9 +32,10 @@ fn label<'a>(tokens: &[Token<'a>]) -> Option<&'a [u8]>
 /// The labels at the front, and the tokens after them.
 fn labels<'t, 'a>(
     alloc: Global,
-    tokens: &'t [Token<'a>],
-) -> Result<(List<&'a [u8]>, &'t [Token<'a>]), LineFault>
-    ensures { Gives {Y = fronts.Labelled} (λ front. (map (λ name. name.now) front.0, map seen front.1.now)) result (Some (lines.labels_of (map seen tokens.now), lines.behind_labels (map seen tokens.now))) }
+    tokens: &'t [SourceToken<'a>],
+) -> Result<(List<&'a [u8]>, &'t [SourceToken<'a>]), LineFault>
+    ensures { Gives {Y = fronts.Labelled} (λ front. (map (λ name. name.now) front.0, map seen front.1.now)) result
+        (Some (lines.labels_of (map seen tokens.now), lines.behind_labels (map seen tokens.now))) }
 {
     let mut labels = List::new(alloc);
     let mut rest = tokens;

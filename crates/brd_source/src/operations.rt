@@ -10,7 +10,7 @@ use brd_word::Order;
 
 /// Names for instructions that another mnemonic has too.
 #[derive(Clone, Copy)]
-pub(crate) enum Shorthand {
+pub enum Shorthand {
     Nop,
     Move,
     Branch,
@@ -21,7 +21,7 @@ pub(crate) enum Shorthand {
 
 /// Names that begin with a dot.
 #[derive(Clone, Copy)]
-pub(crate) enum Directive {
+pub enum Directive {
     Org,
     Align,
     Space,
@@ -36,14 +36,14 @@ pub(crate) enum Directive {
 
 /// What a statement begins with.
 #[derive(Clone, Copy)]
-pub(crate) enum Operation {
+pub enum Operation {
     Mnemonic(Mnemonic),
     Shorthand(Shorthand),
     Directive(Directive),
 }
 
 /// The names of shorthands and directives, in lower case.
-const NAMES: &[(&[u8], Operation)] = &[
+pub const OTHER_NAMES: &[(&[u8], Operation)] = &[
     (b"nop", Operation::Shorthand(Shorthand::Nop)),
     (b"move", Operation::Shorthand(Shorthand::Move)),
     (b"b", Operation::Shorthand(Shorthand::Branch)),
@@ -86,18 +86,18 @@ fn find(rows: &[(&[u8], Operation)], name: &[u8]) -> Option<Operation>
 }
 
 /// The operation of this name, without regard to case.
-pub(crate) fn operation_named(name: &[u8]) -> Option<Operation>
+pub fn operation_named(name: &[u8]) -> Option<Operation>
     ensures { result ≡ operations.operation_named (lowered name.now) }
 {
     if let Some(mnemonic) = mnemonic_named(name) {
         return Some(Operation::Mnemonic(mnemonic));
     }
-    find(NAMES, name)
+    find(OTHER_NAMES, name)
 }
 
 /// The byte order of this name.
 #[tactic(auto, unfolding(crate::specs::Operations::order_named))]
-pub(crate) fn order_named(name: &[u8]) -> Option<Order>
+pub fn order_named(name: &[u8]) -> Option<Order>
     ensures { result ≡ operations.order_named name.now }
 {
     if name == b"big".as_slice() {

@@ -36,7 +36,7 @@ pub enum Immediate<'a> {
 
 /// An operand of an instruction.
 #[derive(Clone, Copy)]
-pub enum Operand<'a> {
+pub enum SourceOperand<'a> {
     /// None stands here.
     Absent,
     /// A register, 0 to 31.
@@ -47,14 +47,14 @@ pub enum Operand<'a> {
     Address(Immediate<'a>, u32),
 }
 
-impl<'a> Operand<'a> {
+impl<'a> SourceOperand<'a> {
     /// The operand that is a register, or the base of an address. Others have none, and 0 stands for it.
     pub fn register(&self) -> Register
         ensures { result ≡ statements.register_in (operand_value self.now) }
     {
         match self {
-            Operand::Register(register) => Register::low(*register),
-            Operand::Address(_, base) => Register::low(*base),
+            SourceOperand::Register(register) => Register::low(*register),
+            SourceOperand::Address(_, base) => Register::low(*base),
             _ => Register::low(0),
         }
     }
@@ -64,8 +64,8 @@ impl<'a> Operand<'a> {
         ensures { immediate_value result ≡ statements.immediate_in (operand_value self.now) }
     {
         match self {
-            Operand::Value(value) => *value,
-            Operand::Address(offset, _) => *offset,
+            SourceOperand::Value(value) => *value,
+            SourceOperand::Address(offset, _) => *offset,
             _ => Immediate::Whole(ZERO),
         }
     }
@@ -75,14 +75,14 @@ impl<'a> Operand<'a> {
         ensures { expression_value result ≡ statements.expression_in (operand_value self.now) }
     {
         match self {
-            Operand::Value(Immediate::Whole(e)) => *e,
+            SourceOperand::Value(Immediate::Whole(e)) => *e,
             _ => ZERO,
         }
     }
 }
 
 /// The operands of an instruction, in the order in which they are written.
-pub type Operands<'a> = (Operand<'a>, Operand<'a>, Operand<'a>);
+pub type Operands<'a> = (SourceOperand<'a>, SourceOperand<'a>, SourceOperand<'a>);
 
 /// An instruction: which it is, and the operands that it takes, by the table of `forms`. Targets of branches and jumps
 /// are addresses.

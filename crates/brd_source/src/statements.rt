@@ -14,20 +14,20 @@ use crate::operations::{Directive, Operation, Shorthand, operation_named, order_
 use crate::reading::{expression, first_part, operands};
 use crate::statement::{Expression, Instruction, Operands, Statement};
 use crate::text::text;
-use crate::token::Token;
+use crate::token::SourceToken;
 use brd_base::List;
 use brd_isa::Mnemonic;
 use std::alloc::Global;
 
 /// An expression.
-fn value<'a>(tokens: &[Token<'a>]) -> Result<Expression<'a>, LineFault>
+fn value<'a>(tokens: &[SourceToken<'a>]) -> Result<Expression<'a>, LineFault>
     ensures { Gives expression_value result (expression_from (map seen tokens.now)) }
 {
     expression(tokens).ok_or(LineFault::Syntax)
 }
 
 /// Values with commas between them.
-fn values<'a>(alloc: Global, tokens: &[Token<'a>]) -> Result<List<Expression<'a>>, LineFault>
+fn values<'a>(alloc: Global, tokens: &[SourceToken<'a>]) -> Result<List<Expression<'a>>, LineFault>
     ensures { Gives (λ values. map expression_value values) result (values_of (parts (map seen tokens.now))) }
 {
     let mut values = List::new(alloc);
@@ -42,8 +42,9 @@ fn values<'a>(alloc: Global, tokens: &[Token<'a>]) -> Result<List<Expression<'a>
 }
 
 /// A string with the byte 0 after it.
-fn ended_text(alloc: Global, tokens: &[Token]) -> Result<List<u8>, LineFault>
-    ensures { Gives (λ text. text) result (option_map (λ text. text ++ 0 ∷ []) (statements.text_from (map seen tokens.now))) }
+fn ended_text(alloc: Global, tokens: &[SourceToken]) -> Result<List<u8>, LineFault>
+    ensures { Gives (λ text. text) result
+        (option_map (λ text. text ++ 0 ∷ []) (statements.text_from (map seen tokens.now))) }
 {
     let mut text = text(alloc, tokens)?;
     text.push(0)?;
@@ -52,24 +53,23 @@ fn ended_text(alloc: Global, tokens: &[Token]) -> Result<List<u8>, LineFault>
 
 /// `name, value`, after `.equ`.
 #[tactic(auto, unfolding(crate::specs::Statements::equal_from))]
-fn equal<'a>(tokens: &[Token<'a>]) -> Option<Statement<'a>>
+fn equal<'a>(tokens: &[SourceToken<'a>]) -> Option<Statement<'a>>
     ensures { option_map statement_value result ≡ statements.equal_from (map seen tokens.now) }
 {
     match tokens {
-        [Token::Run(name), Token::Mark(b','), behind @ ..] if brd_text::is_name(name) => {
-            Some(Statement::Equal(name, expression(behind)?))
-        }
+        [SourceToken::Run(name), SourceToken::Mark(b','), behind @ ..] if brd_text::is_name(name) =>
+            { Some(Statement::Equal(name, expression(behind)?)) }
         _ => None,
     }
 }
 
 /// A name, after `.globl`.
 #[tactic(auto, unfolding(crate::specs::Statements::global_from))]
-fn global<'a>(tokens: &[Token<'a>]) -> Option<Statement<'a>>
+fn global<'a>(tokens: &[SourceToken<'a>]) -> Option<Statement<'a>>
     ensures { option_map statement_value result ≡ statements.global_from (map seen tokens.now) }
 {
     match tokens {
-        [Token::Run(name)] if brd_text::is_name(name) => Some(Statement::WithoutEffect),
+        [SourceToken::Run(name)] if brd_text::is_name(name) => Some(Statement::WithoutEffect),
         _ => None,
     }
 }
@@ -83,22 +83,22 @@ fn is_setting(run: &[u8]) -> bool
 
 /// What may stand after `.set`.
 #[tactic(auto, unfolding(crate::specs::Statements::setting_from))]
-fn setting<'a>(tokens: &[Token<'a>]) -> Option<Statement<'a>>
+fn setting<'a>(tokens: &[SourceToken<'a>]) -> Option<Statement<'a>>
     ensures { option_map statement_value result ≡ statements.setting_from (map seen tokens.now) }
 {
     match tokens {
-        [Token::Run(run)] if is_setting(run) => Some(Statement::WithoutEffect),
+        [SourceToken::Run(run)] if is_setting(run) => Some(Statement::WithoutEffect),
         _ => None,
     }
 }
 
 /// A byte order, after `.byteorder`.
 #[tactic(auto, unfolding(crate::specs::Statements::order_from))]
-fn order<'a>(tokens: &[Token<'a>]) -> Option<Statement<'a>>
+fn order<'a>(tokens: &[SourceToken<'a>]) -> Option<Statement<'a>>
     ensures { option_map statement_value result ≡ statements.order_from (map seen tokens.now) }
 {
     match tokens {
-        [Token::Run(name)] => Some(Statement::ByteOrder(order_named(name)?)),
+        [SourceToken::Run(name)] => Some(Statement::ByteOrder(order_named(name)?)),
         _ => None,
     }
 }
@@ -107,7 +107,7 @@ fn order<'a>(tokens: &[Token<'a>]) -> Option<Statement<'a>>
 fn behind_directive<'a>(
     alloc: Global,
     directive: Directive,
-    tokens: &[Token<'a>],
+    tokens: &[SourceToken<'a>],
 ) -> Result<Statement<'a>, LineFault>
     ensures { Gives statement_value result (statements.directive_from directive (map seen tokens.now)) }
 {
@@ -126,7 +126,7 @@ fn behind_directive<'a>(
 }
 
 /// The operands of this form, none left out.
-fn of_form<'a>(form: (Kind, Kind, Kind), tokens: &[Token<'a>]) -> Option<Operands<'a>>
+fn of_form<'a>(form: (Kind, Kind, Kind), tokens: &[SourceToken<'a>]) -> Option<Operands<'a>>
     ensures { option_map operands_value result ≡ statements.of_form form (map seen tokens.now) }
 {
     taken(form, operands(tokens)?)
@@ -134,8 +134,9 @@ fn of_form<'a>(form: (Kind, Kind, Kind), tokens: &[Token<'a>]) -> Option<Operand
 
 /// What stands after a mnemonic.
 #[tactic(auto, unfolding(crate::specs::Statements::instruction_from))]
-fn behind_mnemonic<'a>(mnemonic: Mnemonic, tokens: &[Token<'a>]) -> Option<Statement<'a>>
-    ensures { option_map statement_value result ≡ statements.instruction_from (forms.form_of mnemonic) (forms.instruction mnemonic) (map seen tokens.now) }
+fn behind_mnemonic<'a>(mnemonic: Mnemonic, tokens: &[SourceToken<'a>]) -> Option<Statement<'a>>
+    ensures { option_map statement_value result
+        ≡ statements.instruction_from (forms.form_of mnemonic) (forms.instruction mnemonic) (map seen tokens.now) }
 {
     let operands = of_form(form_of(mnemonic), tokens)?;
     Some(Statement::Instruction(Instruction { mnemonic, operands }))
@@ -143,8 +144,10 @@ fn behind_mnemonic<'a>(mnemonic: Mnemonic, tokens: &[Token<'a>]) -> Option<State
 
 /// What stands after a shorthand.
 #[tactic(auto, unfolding(crate::specs::Statements::instruction_from))]
-fn behind_shorthand<'a>(shorthand: Shorthand, tokens: &[Token<'a>]) -> Option<Statement<'a>>
-    ensures { option_map statement_value result ≡ statements.instruction_from (forms.short_form_of shorthand) (forms.stands_for shorthand) (map seen tokens.now) }
+fn behind_shorthand<'a>(shorthand: Shorthand, tokens: &[SourceToken<'a>]) -> Option<Statement<'a>>
+    ensures { option_map statement_value result
+        ≡ statements.instruction_from (forms.short_form_of shorthand) (forms.stands_for shorthand)
+        (map seen tokens.now) }
 {
     let operands = of_form(short_form_of(shorthand), tokens)?;
     Some(Statement::Instruction(stands_for(shorthand, operands)))
@@ -154,7 +157,7 @@ fn behind_shorthand<'a>(shorthand: Shorthand, tokens: &[Token<'a>]) -> Option<St
 fn behind_operation<'a>(
     alloc: Global,
     operation: Operation,
-    tokens: &[Token<'a>],
+    tokens: &[SourceToken<'a>],
 ) -> Result<Statement<'a>, LineFault>
     ensures { Gives statement_value result (statements.said_from operation (map seen tokens.now)) }
 {
@@ -169,12 +172,15 @@ fn behind_operation<'a>(
 
 /// A statement, which may be left out.
 #[tactic(auto, unfolding(crate::specs::Statements::statement_from))]
-pub(crate) fn statement<'a>(alloc: Global, tokens: &[Token<'a>]) -> Result<Statement<'a>, LineFault>
+pub(crate) fn statement<'a>(
+    alloc: Global,
+    tokens: &[SourceToken<'a>],
+) -> Result<Statement<'a>, LineFault>
     ensures { Gives statement_value result (statements.statement_from (map seen tokens.now)) }
 {
     match tokens {
         [] => Ok(Statement::Nothing),
-        [Token::Run(run), behind @ ..] => {
+        [SourceToken::Run(run), behind @ ..] => {
             let operation = operation_named(run).ok_or(LineFault::Syntax)?;
             behind_operation(alloc, operation, behind)
         }

@@ -8,7 +8,7 @@ ghost use Rattle.brd_source.specs.Tokens.{seen};
 
 use crate::fault::LineFault;
 use crate::scanner::escapes;
-use crate::token::Token;
+use crate::token::SourceToken;
 use brd_base::List;
 use std::alloc::Global;
 
@@ -36,7 +36,7 @@ fn plain_of(byte: u8) -> Option<u8>
 }
 
 /// What a byte of a string stands for.
-fn byte_for(is_escaped: bool, byte: u8) -> Option<u8>
+pub fn byte_for(is_escaped: bool, byte: u8) -> Option<u8>
     ensures { result ≡ texts.byte_for is_escaped byte }
 {
     if is_escaped {
@@ -71,11 +71,11 @@ fn text_of(alloc: Global, bytes: &[u8]) -> Result<List<u8>, LineFault>
 
 /// A string.
 #[tactic(auto, unfolding(crate::specs::Statements::text_from))]
-pub(crate) fn text(alloc: Global, tokens: &[Token]) -> Result<List<u8>, LineFault>
+pub(crate) fn text(alloc: Global, tokens: &[SourceToken]) -> Result<List<u8>, LineFault>
     ensures { Gives (λ text. text) result (text_from (map seen tokens.now)) }
 {
     match tokens {
-        [Token::Quoted(bytes)] => text_of(alloc, bytes),
+        [SourceToken::Quoted(bytes)] => text_of(alloc, bytes),
         _ => Err(LineFault::Syntax),
     }
 }

@@ -1,6 +1,6 @@
 /// A token of a line, borrowed from its bytes.
 #[derive(Clone, Copy, Default)]
-pub(crate) enum Token<'a> {
+pub enum SourceToken<'a> {
     /// A longest stretch of letters, digits, `_`, `.` and `$`.
     Run(&'a [u8]),
     /// The run directly after a `%`, empty where there is none.
