@@ -1,11 +1,9 @@
 //! An instruction as a line of the assembler's source.
 
-use crate::name::mnemonic_name;
 use crate::number::{put_decimal, put_hex, put_signed};
-use crate::operand::{Operand, mnemonic_of, operands_of};
-use crate::register::register_name;
+use crate::operand::{ListedOperand, mnemonic_of, operands_of};
 use brd_base::NoMemory;
-use brd_isa::{Insn, Register, ShiftOp};
+use brd_isa::{Insn, Register, ShiftOp, mnemonic_name, register_name};
 use brd_text::hex_digits;
 
 /// Puts at the end the line of source, without a newline, that stands for an instruction at an address, as
@@ -16,7 +14,7 @@ pub fn write_instruction(insn: &Insn, address: u32, to: &mut Vec<u8>) -> Result<
         to.extend_from_slice(b"nop")?;
         return Ok(());
     }
-    to.extend_from_slice(mnemonic_name(mnemonic_of(insn)).as_bytes())?;
+    to.extend_from_slice(mnemonic_name(mnemonic_of(insn)))?;
     let [first, second, third] = operands_of(insn, address);
     put_operand(to, " ", first)?;
     put_operand(to, ", ", second)?;
@@ -34,25 +32,26 @@ fn is_nop(insn: &Insn) -> bool {
 }
 
 /// Puts an operand at the end, where there is one, and before it what parts it from what is there.
-fn put_operand(to: &mut Vec<u8>, between: &str, operand: Operand) -> Result<(), NoMemory> {
-    if matches!(operand, Operand::Nothing) {
+fn put_operand(to: &mut Vec<u8>, between: &str, operand: ListedOperand) -> Result<(), NoMemory> {
+    if matches!(operand, ListedOperand::Nothing) {
         return Ok(());
     }
     to.extend_from_slice(between.as_bytes())?;
     match operand {
-        Operand::Nothing => Ok(()),
-        Operand::Register(register) => put_register(to, register),
-        Operand::Signed(bits) => put_signed(to, bits),
-        Operand::Bits(bits) => put_hex(to, bits as u32),
-        Operand::Number(number) => put_decimal(to, number),
-        Operand::Target(address) => put_target(to, address),
-        Operand::Address(offset, base) => put_address(to, offset, base),
+        ListedOperand::Nothing => Ok(()),
+        ListedOperand::Register(register) => write_register(register, to),
+        ListedOperand::Signed(bits) => put_signed(to, bits),
+        ListedOperand::Bits(bits) => put_hex(to, bits as u32),
+        ListedOperand::Number(number) => put_decimal(to, number),
+        ListedOperand::Target(address) => put_target(to, address),
+        ListedOperand::Address(offset, base) => put_address(to, offset, base),
     }
 }
 
-/// Puts the name of a register at the end.
-fn put_register(to: &mut Vec<u8>, register: Register) -> Result<(), NoMemory> {
-    to.extend_from_slice(register_name(register).as_bytes())?;
+/// Puts the name of a register at the end, with the `$`. Where memory runs out, a front of it may be there.
+pub fn write_register(register: Register, to: &mut Vec<u8>) -> Result<(), NoMemory> {
+    to.push(b'$')?;
+    to.extend_from_slice(register_name(register))?;
     Ok(())
 }
 
@@ -67,7 +66,7 @@ fn put_target(to: &mut Vec<u8>, address: u32) -> Result<(), NoMemory> {
 fn put_address(to: &mut Vec<u8>, offset: u16, base: Register) -> Result<(), NoMemory> {
     put_signed(to, offset)?;
     to.push(b'(')?;
-    put_register(to, base)?;
+    write_register(base, to)?;
     to.push(b')')?;
     Ok(())
 }

@@ -6,14 +6,10 @@
 
 mod instruction;
 pub mod laws;
-mod name;
 mod number;
 mod operand;
 mod place;
-mod register;
 
-pub use instruction::write_instruction;
-pub use name::mnemonic_name;
+pub use instruction::{write_instruction, write_register};
 pub use operand::mnemonic_of;
 pub use place::{nearest, write_place};
-pub use register::register_name;

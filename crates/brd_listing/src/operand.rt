@@ -6,7 +6,7 @@ use brd_isa::{ImmediateOp, Insn, Mnemonic, Register};
 
 /// An operand as it is written.
 #[derive(Clone, Copy)]
-pub(crate) enum Operand {
+pub(crate) enum ListedOperand {
     /// There is none.
     Nothing,
     /// A register by its name.
@@ -56,8 +56,8 @@ pub fn mnemonic_of(insn: &Insn) -> Mnemonic {
 }
 
 /// The operands of an instruction at an address; those that are absent stand after the others.
-pub(crate) fn operands_of(insn: &Insn, address: u32) -> [Operand; 3] {
-    use Operand::{Address, Nothing, Number, Register, Signed, Target};
+pub(crate) fn operands_of(insn: &Insn, address: u32) -> [ListedOperand; 3] {
+    use ListedOperand::{Address, Nothing, Number, Register, Signed, Target};
     match *insn {
         Insn::Shift(_, rd, rt, sa) => [Register(rd), Register(rt), Number(sa.bits() as u32)],
         Insn::ShiftVariable(_, rd, rt, rs) => [Register(rd), Register(rt), Register(rs)],
@@ -104,7 +104,7 @@ pub(crate) fn operands_of(insn: &Insn, address: u32) -> [Operand; 3] {
         Insn::WithImmediate(op, rt, rs, immediate) => {
             [Register(rt), Register(rs), immediate_of(op, immediate)]
         }
-        Insn::LoadUpper(rt, immediate) => [Register(rt), Operand::Bits(immediate), Nothing],
+        Insn::LoadUpper(rt, immediate) => [Register(rt), ListedOperand::Bits(immediate), Nothing],
         Insn::Load(_, rt, base, offset) => [Register(rt), Address(offset, base), Nothing],
         Insn::Store(_, rt, base, offset) => [Register(rt), Address(offset, base), Nothing],
         Insn::Linked(_, rt, base, offset) => [Register(rt), Address(offset, base), Nothing],
@@ -115,18 +115,18 @@ pub(crate) fn operands_of(insn: &Insn, address: u32) -> [Operand; 3] {
 }
 
 /// A code, which is left out where it is 0.
-fn code_of(code: u32) -> Operand {
+fn code_of(code: u32) -> ListedOperand {
     if code == 0 {
-        return Operand::Nothing;
+        return ListedOperand::Nothing;
     }
-    Operand::Number(code)
+    ListedOperand::Number(code)
 }
 
 /// The immediate of an operation: the logical ones read it as unsigned.
-fn immediate_of(op: ImmediateOp, immediate: u16) -> Operand {
+fn immediate_of(op: ImmediateOp, immediate: u16) -> ListedOperand {
     match op {
-        ImmediateOp::Andi | ImmediateOp::Ori | ImmediateOp::Xori => Operand::Bits(immediate),
-        _ => Operand::Signed(immediate),
+        ImmediateOp::Andi | ImmediateOp::Ori | ImmediateOp::Xori => ListedOperand::Bits(immediate),
+        _ => ListedOperand::Signed(immediate),
     }
 }
 
