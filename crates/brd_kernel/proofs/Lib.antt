@@ -4,6 +4,7 @@ pub mod DispatchLemmas
 pub mod ThereLemmas
 pub mod ExecutorLemmas
 pub mod MakingLemmas
+pub mod CommonLemmas
 pub mod WaitLemmas
 pub mod who_waits
 pub mod ServedLemmas

@@ -2,12 +2,12 @@
 use Rattle.std.proofs.Common.{◌≡◌, ℕ, suc, ◌+◌, List, [], ◌∷◌, refl, arith}
 use Rattle.std.specs.Prelude.{false, None}
 use Rattle.std.proofs.lemmas.Bool.Decides.{nat_tests}
-use Rattle.brd_kernel.specs.declared.processor.Line.{Line}
+use Rattle.brd_kernel.specs.declared.processor.InterruptLine.{InterruptLine}
 use Rattle.brd_kernel.specs.Kernel.{pending_from}
 use Rattle.brd_kernel.specs.Always.{AreQuiet}
 
 -- where no line is pending, none is for a processor
-pub none_pending : (cpu n : ℕ) (lines : List Line) → AreQuiet lines → pending_from cpu n lines ≡ None
+pub none_pending : (cpu n : ℕ) (lines : List InterruptLine) → AreQuiet lines → pending_from cpu n lines ≡ None
 none_pending cpu n [] quiet = refl
 none_pending cpu n (line ∷ lines) quiet =
     let here : line.pending ≡ false = quiet 0 line (omega arith) in

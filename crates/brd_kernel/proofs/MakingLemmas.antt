@@ -10,7 +10,7 @@ use Rattle.brd_objects.specs.declared.semaphore.Semaphore.{Semaphore}
 use Rattle.brd_objects.specs.declared.flag.Flag.{Flag}
 use Rattle.brd_objects.specs.DataQueues.{DataQueueState}
 use Rattle.brd_kernel.specs.declared.processor.Processor.{Processor}
-use Rattle.brd_kernel.specs.declared.processor.Line.{Line}
+use Rattle.brd_kernel.specs.declared.processor.InterruptLine.{InterruptLine}
 use Rattle.brd_kernel.specs.declared.processor.LineSetup.{LineSetup}
 use Rattle.brd_kernel.specs.Kernel.{idle, running_in}
 use Rattle.brd_kernel.specs.Services.{console_size}
@@ -68,7 +68,7 @@ unfolding idle_ones
 none-at-0 processors = get_or-map-range_with_len (idle_one processors) 0 9 0 0 None (omega arith) (omega arith)
 
 -- what a function has made part by part is a kernel
-pub made-kernel : (time : Time) (tasks : TaskTable) (semaphores : Table Semaphore) (flags : Table Flag) (queues : Table DataQueueState) (locks : List Bool) (processors : ℕ) (setups : List LineSetup) (ps : List (Option Processor)) (contexts : List State) (lines : List Line) (console : List ℕ) →
+pub made-kernel : (time : Time) (tasks : TaskTable) (semaphores : Table Semaphore) (flags : Table Flag) (queues : Table DataQueueState) (locks : List Bool) (processors : ℕ) (setups : List LineSetup) (ps : List (Option Processor)) (contexts : List State) (lines : List InterruptLine) (console : List ℕ) →
     ps ≡ idle_ones processors 9 → contexts ≡ replicate 9 no_context → lines ≡ made_lines setups 32 → console ≡ [] →
     IsKernel (record { off = false; time = time; tasks = tasks; semaphores = semaphores; flags = flags; queues = queues; spin_locks = locks; processors = ps; handler_contexts = contexts; lines = lines; console = console })
 made-kernel time tasks semaphores flags queues locks processors setups ps contexts lines console ps_are contexts_are lines_are console_is = record {
@@ -81,11 +81,11 @@ made-kernel time tasks semaphores flags queues locks processors setups ps contex
 }
 
 quiet-from : (setups : List LineSetup) (from n : ℕ) → AreQuiet (map (made_line setups) (range_with_len from n))
-quiet-from setups from zero = All-nil (λ (line : Line). line.pending ≡ false)
+quiet-from setups from zero = All-nil (λ (line : InterruptLine). line.pending ≡ false)
 quiet-from setups from (suc n) =
-    All-cons (λ (line : Line). line.pending ≡ false) (made_line setups from) (map (made_line setups) (range_with_len (from + 1) n)) refl
+    All-cons (λ (line : InterruptLine). line.pending ≡ false) (made_line setups from) (map (made_line setups) (range_with_len (from + 1) n)) refl
     (quiet-from setups (from + 1) n)
 
-pub made-quiet : (setups : List LineSetup) (lines : List Line) → lines ≡ made_lines setups 32 → AreQuiet lines
+pub made-quiet : (setups : List LineSetup) (lines : List InterruptLine) → lines ≡ made_lines setups 32 → AreQuiet lines
 unfolding made_lines
 made-quiet setups lines are = subst AreQuiet (sym are) (quiet-from setups 0 32)

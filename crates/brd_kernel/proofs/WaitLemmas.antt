@@ -13,7 +13,7 @@ use Rattle.brd_time.specs.Time.{Time, with_due, due_from, next_due_of}
 use Rattle.brd_time.proofs.TimeLemmas.{due-some, due-none, due-above}
 use Rattle.brd_objects.specs.declared.flag.Flag.{Flag}
 use Rattle.brd_objects.specs.Table.{Table, object_at, object_changed}
-use Rattle.brd_queue.specs.declared.entry.Entry.{Entry}
+use Rattle.brd_queue.specs.declared.entry.QueueEntry.{QueueEntry}
 use Rattle.brd_objects.specs.declared.want.Want.{Want}
 use Rattle.brd_objects.specs.Waiters.{first_satisfied, WantBits}
 use Rattle.brd_objects.specs.Flags.{all_released, with_all_released, released_to, next_released, with_next_released, next_released_in}
@@ -149,7 +149,7 @@ end-of k id (Some f) there next =
     ap (λ o. slice_set k.flags id (option_map with_all_released o)) there ∙ ap (λ g. slice_set k.flags id (Some g)) over.1 ∙ ap (slice_set k.flags id) (sym there) ∙ same-set k.flags id None in
     ap (λ ids. with_all_released_in (with_flags k (object_changed with_all_released k.flags id)) ids f.pattern) over.0 ∙ ap (with_flags k) same
 
-nobody-of : (f : Flag) (found : Option (Entry Want)) → first_satisfied f.pattern f.waiters ≡ found → option_map {U = ℕ × ℕ} (λ e. (e.id, f.pattern)) found ≡ None → released_to f found ≡ f
+nobody-of : (f : Flag) (found : Option (QueueEntry Want)) → first_satisfied f.pattern f.waiters ≡ found → option_map {U = ℕ × ℕ} (λ e. (e.id, f.pattern)) found ≡ None → released_to f found ≡ f
 nobody-of f None is next = refl
 nobody-of f (Some e) is next = let wrong : ⊥ = cc in absurd wrong
 

@@ -160,16 +160,16 @@ pub record Law (Known : Fact → Type 0) (Q : KernelState → Type 0) (k : Kerne
 
 -- What a call may do to its caller: it goes on; it takes a spin lock; it is no longer CPU-locked; it may wait for so
 -- long, or for 0 only polls; it waits; it names the task that is to stop, which may be itself; or it ends.
-pub data Stop : Type 0 where
-  GoesOn : Stop
-  Locks : Stop
-  Unlocks : Stop
-  MayWait : ℕ → Stop
-  Waits : Stop
-  Names : ℕ → Stop
-  Ends : Stop
+pub data CallerStop : Type 0 where
+  GoesOn : CallerStop
+  Locks : CallerStop
+  Unlocks : CallerStop
+  MayWait : ℕ → CallerStop
+  Waits : CallerStop
+  Names : ℕ → CallerStop
+  Ends : CallerStop
 
-abbrev pub stop_of : Call → Stop
+abbrev pub stop_of : Call → CallerStop
 stop_of call.ExtTsk = Ends
 stop_of (call.LocSpn l) = Locks
 stop_of (call.TrySpn l) = Locks
@@ -185,7 +185,7 @@ stop_of (call.TrcvDtq q timeout) = MayWait timeout
 stop_of _ = GoesOn
 
 -- What has to be known of the caller of a call by that.
-abbrev pub MayStop : (Fact → Type 0) → ℕ → Stop → Type 0
+abbrev pub MayStop : (Fact → Type 0) → ℕ → CallerStop → Type 0
 MayStop Known caller GoesOn = Unit {0}
 MayStop Known caller Locks = Known OfTask
 MayStop Known caller Unlocks = Known HoldsNone
@@ -202,7 +202,7 @@ May Known caller c = MayStop Known caller (stop_of c)
 abbrev pub Anything : Fact → Type 0
 Anything fact = Unit {0}
 
-any-may : (caller : ℕ) (stop : Stop) → MayStop Anything caller stop
+any-may : (caller : ℕ) (stop : CallerStop) → MayStop Anything caller stop
 any-may caller GoesOn = tt
 any-may caller Locks = tt
 any-may caller Unlocks = tt

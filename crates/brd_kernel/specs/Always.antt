@@ -1,7 +1,8 @@
 -- What is always true of the kernel's parts.
-use Rattle.std.specs.Prelude.{◌≡◌, ◌<◌, ◌≤◌, ℕ, Bool, false, true, ◌&&◌, List, [], ◌∷◌, All, Option, None, Some, IsSome, length, slice_index_or}
+use Rattle.std.specs.Prelude.{◌≡◌, ◌<◌, ◌≤◌, ℕ, Bool, false, true, ◌&&◌, List, [], ◌∷◌, All, Option, None, Some, IsSome}
+use Rattle.std.specs.Prelude.{length, slice_index_or}
 use Rattle.brd_tasks.specs.Tasks.{task_at, are_there}
-use Rattle.brd_kernel.specs.declared.processor.Line.{Line}
+use Rattle.brd_kernel.specs.declared.processor.InterruptLine.{InterruptLine}
 use Rattle.brd_kernel.specs.declared.processor.Executor.{Executor}
 use Rattle.brd_kernel.specs.declared.processor.Executor.TheVariants as executor
 use Rattle.brd_kernel.specs.declared.processor.Processor.{Processor}
@@ -53,5 +54,5 @@ abbrev pub task_executing : Option Processor → Option ℕ
 task_executing p = task_of (executor_in p)
 
 -- no line is pending
-abbrev pub AreQuiet : List Line → Type 0
+abbrev pub AreQuiet : List InterruptLine → Type 0
 AreQuiet lines = All (λ line. line.pending ≡ false) lines

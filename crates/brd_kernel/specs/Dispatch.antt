@@ -1,5 +1,6 @@
 -- Dispatch: which task runs on each processor after an event.
-use Rattle.std.specs.Prelude.{◌≡◌, ℕ, ◌+◌, ◌==◌, Bool, true, false, not, if◌then◌else◌, List, [], ◌∷◌, filter, slice_set, Option, None, Some}
+use Rattle.std.specs.Prelude.{◌≡◌, ℕ, ◌+◌, ◌==◌, Bool, true, false, not, if◌then◌else◌, List, [], ◌∷◌, filter}
+use Rattle.std.specs.Prelude.{slice_set, Option, None, Some}
 use Rattle.brd_kernel.specs.declared.processor.Processor.{Processor}
 use Rattle.brd_kernel.specs.Kernel.{KernelState, processor_at, is_held, running_on}
 use Rattle.brd_queue.specs.Queue.{Plain}
@@ -17,7 +18,8 @@ dispatched_from t cpu (p ∷ ps) = dispatched_one p (ready_on t cpu) ∷ dispatc
 
 -- on one processor
 abbrev pub dispatched_on : KernelState → ℕ → KernelState
-dispatched_on k cpu = record k { processors = slice_set k.processors cpu (dispatched_one (processor_at k cpu) (ready_on k.tasks cpu)) }
+dispatched_on k cpu =
+    record k { processors = slice_set k.processors cpu (dispatched_one (processor_at k cpu) (ready_on k.tasks cpu)) }
 
 -- on all of them
 abbrev pub dispatched : KernelState → KernelState
@@ -40,4 +42,5 @@ changed_processors old new = filter (has_changed old new) (1 ∷ 2 ∷ 3 ∷ 4 �
 
 -- each processor that isn't held runs the first of its ready tasks, or none where none is ready
 abbrev pub IsSettled : KernelState → Type 0
-IsSettled k = (cpu : ℕ) (p : Processor) → processor_at k cpu ≡ Some p → is_held p ≡ false → p.running ≡ top_of k.tasks cpu
+IsSettled k =
+    (cpu : ℕ) (p : Processor) → processor_at k cpu ≡ Some p → is_held p ≡ false → p.running ≡ top_of k.tasks cpu

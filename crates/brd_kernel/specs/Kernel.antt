@@ -3,9 +3,6 @@ use Rattle.std.specs.Prelude.{◌≡◌, ℕ, ◌+◌, ◌==◌, Bool, true, fal
 use Rattle.std.specs.Prelude.{List, [], ◌∷◌, slice_index_or, slice_set, Option, None, Some, is_some}
 use Rattle.std.specs.Option.{option_map}
 use Rattle.brd_exec.specs.State.{State, opening}
-use Rattle.brd_exec.specs.Step.{Ran, ran}
-use Rattle.brd_link.specs.LinkSet.{LinkSet}
-use Rattle.brd_mem.specs.Memory.{Memory}
 use Rattle.brd_tasks.specs.Tasks.{TaskTable, no_context, context_at, with_context}
 use Rattle.brd_time.specs.Time.{Time}
 use Rattle.brd_objects.specs.declared.semaphore.Semaphore.{Semaphore}
@@ -14,12 +11,11 @@ use Rattle.brd_objects.specs.Table.{Table}
 use Rattle.brd_objects.specs.DataQueues.{DataQueueState}
 use Rattle.brd_kernel.specs.declared.processor.Processor.{Processor}
 use Rattle.brd_kernel.specs.declared.processor.Handler.{Handler}
-use Rattle.brd_kernel.specs.declared.processor.Line.{Line}
+use Rattle.brd_kernel.specs.declared.processor.InterruptLine.{InterruptLine}
 use Rattle.brd_kernel.specs.declared.processor.Marks.{Marks}
 use Rattle.brd_kernel.specs.declared.processor.Standing.{Standing}
 use Rattle.brd_kernel.specs.declared.processor.Spin.{Spin}
 use Rattle.brd_kernel.specs.declared.processor.Spin.TheVariants as spin
-use Rattle.brd_kernel.specs.declared.processor.Ended.{Ended}
 use Rattle.brd_kernel.specs.declared.processor.Executor.{Executor}
 use Rattle.brd_kernel.specs.declared.processor.Executor.TheVariants as executor
 use Rattle.brd_kernel.specs.declared.processor.Standing.TheVariants as standing
@@ -33,8 +29,9 @@ pub record KernelState : Type 0 where
   pub queues : Table DataQueueState
   pub spin_locks : List Bool  -- by ID, 256 of them: whether there is one; who holds it, its processor says
   pub processors : List (Option Processor)  -- by number, 9 of them: None at 0 and where the board has no such processor
-  pub handler_contexts : List State  -- by the processor's number, 9 of them: the context of the handler that runs there; any, where none runs
-  pub lines : List Line  -- by number, 32 of them
+  -- by the processor's number, 9 of them: the context of the handler that runs there; any, where none runs
+  pub handler_contexts : List State
+  pub lines : List InterruptLine  -- by number, 32 of them
   pub console : List ℕ  -- the bytes that were written to it
 
 -- the processor of a number, where there is one
@@ -89,7 +86,8 @@ context_of k cpu (executor.Task id) = context_at k.tasks id
 
 -- the kernel with another context of who executes on a processor
 abbrev pub with_context_of : KernelState → ℕ → Executor → State → KernelState
-with_context_of k cpu executor.Handler context = record k { handler_contexts = slice_set k.handler_contexts cpu context }
+with_context_of k cpu executor.Handler context =
+    record k { handler_contexts = slice_set k.handler_contexts cpu context }
 with_context_of k cpu (executor.Task id) context = with_tasks k (with_context k.tasks id context)
 
 -- the context in which a processor executes, if it does
@@ -99,7 +97,7 @@ context_on k cpu = option_map (context_of k cpu) (executor_on k cpu)
 -- Interrupts.
 
 -- a line with nothing pending
-abbrev pub quiet : Option Handler → Line
+abbrev pub quiet : Option Handler → InterruptLine
 quiet handler = record { handler = handler; pending = false }
 
 abbrev pub is_handled_by : ℕ → Option Handler → Bool
@@ -107,9 +105,10 @@ is_handled_by cpu None = false
 is_handled_by cpu (Some handler) = handler.cpu == cpu
 
 -- the first line, from number `n` on, that is pending for a processor
-abbrev pub pending_from : ℕ → ℕ → List Line → Option ℕ
+abbrev pub pending_from : ℕ → ℕ → List InterruptLine → Option ℕ
 pending_from cpu n [] = None
-pending_from cpu n (line ∷ lines) = if line.pending && is_handled_by cpu line.handler then Some n else pending_from cpu (n + 1) lines
+pending_from cpu n (line ∷ lines) =
+    if line.pending && is_handled_by cpu line.handler then Some n else pending_from cpu (n + 1) lines
 
 -- a processor accepts no interrupt while it handles one, is CPU-locked or stopped
 abbrev pub accepts : Option Processor → Bool
@@ -121,7 +120,7 @@ abbrev pub deliverable : KernelState → ℕ → Option ℕ
 deliverable k cpu = if accepts (processor_at k cpu) then pending_from cpu 0 k.lines else None
 
 -- the line of a number; one above 31 has no handler
-abbrev pub line_at : KernelState → ℕ → Line
+abbrev pub line_at : KernelState → ℕ → InterruptLine
 line_at k line = slice_index_or k.lines line (quiet None)
 
 -- the kernel with a line pending
@@ -212,34 +211,3 @@ standing_in p = if p.stopped then standing.Stopped else standing_by p.running p.
 
 abbrev pub standing_on : KernelState → ℕ → Option Standing
 standing_on k cpu = option_map standing_in (processor_at k cpu)
-
--- One instruction on a processor.
-
--- the kernel, memory and links after it, its address and how it ended
-pub record Executed : Type 0 where
-  pub kernel : KernelState
-  pub memory : Memory
-  pub links : LinkSet
-  pub ended : Ended
-
-abbrev pub executed_by : KernelState → ℕ → Executor → ℕ → Ran → Executed
-executed_by k cpu who address after = record {
-  kernel = with_context_of k cpu who after.state;
-  memory = after.memory;
-  links = after.links;
-  ended = record { address = address; outcome = after.outcome };
-}
-
-abbrev pub executed_in : KernelState → ℕ → Memory → LinkSet → Option Executor → Option Executed
-executed_in k cpu memory links None = None
-executed_in k cpu memory links (Some who) =
-    Some (executed_by k cpu who (context_of k cpu who).pc (ran cpu (context_of k cpu who) memory links))
-
--- an instruction in the context in which a processor executes; None where nobody executes
-abbrev pub executed : KernelState → ℕ → Memory → LinkSet → Option Executed
-executed k cpu memory links = executed_in k cpu memory links (executor_on k cpu)
-
--- what a function that executes has left and returned
-abbrev pub Executes : Option Executed → KernelState → Memory → LinkSet → KernelState → Memory → LinkSet → Option Ended → Type 0
-Executes None old memory links new stored linked result = (new ≡ old) × (stored ≡ memory) × (linked ≡ links) × (result ≡ None)
-Executes (Some e) old memory links new stored linked result = (new ≡ e.kernel) × (stored ≡ e.memory) × (linked ≡ e.links) × (result ≡ Some e.ended)

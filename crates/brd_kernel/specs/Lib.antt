@@ -8,6 +8,7 @@ pub mod Waiting
 pub mod Running
 pub mod Holding
 pub mod Always
+pub mod Common
 pub mod Lending
 pub mod Making
 pub use Rattle.brd_tasks.specs.Tasks

@@ -1,5 +1,6 @@
 -- The kernel as it is made, before any task has been started.
-use Rattle.std.specs.Prelude.{ℕ, nat_le, Bool, false, ◌==◌, ◌&&◌, if◌then◌else◌, List, [], map, find, replicate, Option, None, Some}
+use Rattle.std.specs.Prelude.{ℕ, nat_le, Bool, false, ◌==◌, ◌&&◌, if◌then◌else◌, List, [], map, find, replicate, Option}
+use Rattle.std.specs.Prelude.{None, Some}
 use Rattle.std.specs.Option.{option_map}
 use Rattle.std.specs.List.{range_with_len, list_any}
 use Rattle.brd_tasks.specs.Tasks.{made, no_context}
@@ -14,7 +15,7 @@ use Rattle.brd_objects.specs.Flags.{made_flags}
 use Rattle.brd_objects.specs.DataQueues.{made_queues}
 use Rattle.brd_kernel.specs.declared.processor.Processor.{Processor}
 use Rattle.brd_kernel.specs.declared.processor.Handler.{Handler}
-use Rattle.brd_kernel.specs.declared.processor.Line.{Line}
+use Rattle.brd_kernel.specs.declared.processor.InterruptLine.{InterruptLine}
 use Rattle.brd_kernel.specs.declared.processor.LineSetup.{LineSetup}
 use Rattle.brd_kernel.specs.Kernel.{KernelState, idle, quiet}
 
@@ -31,11 +32,11 @@ abbrev pub handler_of : List LineSetup → ℕ → Option Handler
 handler_of setups line = option_map (λ setup. setup.handler) (find (λ setup. setup.line == line) setups)
 
 -- a line with that handler and nothing pending
-abbrev pub made_line : List LineSetup → ℕ → Line
+abbrev pub made_line : List LineSetup → ℕ → InterruptLine
 made_line setups line = quiet (handler_of setups line)
 
 -- those of the numbers below one
-unfoldable pub made_lines : List LineSetup → ℕ → List Line
+unfoldable pub made_lines : List LineSetup → ℕ → List InterruptLine
 made_lines setups count = map (made_line setups) (range_with_len 0 count)
 
 -- a spin lock of that ID is configured
@@ -46,7 +47,8 @@ is_configured configs id = list_any (λ config. config.id == id) configs
 unfoldable pub made_spin_locks : List SpinLockConfig → ℕ → List Bool
 made_spin_locks configs count = map (is_configured configs) (range_with_len 0 count)
 
-abbrev pub made_kernel : ℕ → List TaskSetup → List LineSetup → List SemaphoreConfig → List FlagConfig → List QueueConfig → List SpinLockConfig → KernelState
+abbrev pub made_kernel : ℕ → List TaskSetup → List LineSetup → List SemaphoreConfig → List FlagConfig →
+    List QueueConfig → List SpinLockConfig → KernelState
 made_kernel processors setups lines semaphores flags queues spin_locks = record {
   off = false;
   time = beginning;

@@ -1,5 +1,6 @@
 -- What a row of the service table says, and the order in which a call's reasons to be refused count.
-use Rattle.std.specs.Prelude.{◌≡◌, ℕ, Bool, true, false, if◌then◌else◌, List, [], ◌∷◌, find, Option, None, Some, Result, Ok, Err}
+use Rattle.std.specs.Prelude.{◌≡◌, ℕ, Bool, true, false, if◌then◌else◌, List, [], ◌∷◌, find, Option, None, Some, Result}
+use Rattle.std.specs.Prelude.{Ok, Err}
 use Rattle.brd_kernel.specs.declared.call.Ercd.{Ercd}
 use Rattle.brd_kernel.specs.declared.call.Ercd.TheVariants.{Rsfn, Ctx, Id, Par, Noexs, Iluse, Obj, Qovr, Rlwai, Tmout}
 use Rattle.brd_kernel.specs.declared.call.Reply.{Reply}
@@ -34,7 +35,8 @@ or_fault code (Some x) = Ok x
 -- the tests that need the object, and what the call does
 abbrev pub served_object : {X : Type 0} → Row X → Option X → Result Served Ercd
 served_object row None = Err Noexs
-served_object row (Some x) = refused (row.iluse x) Iluse (refused (row.obj x) Obj (refused (row.qovr x) Qovr (row.does x)))
+served_object row (Some x) =
+    refused (row.iluse x) Iluse (refused (row.obj x) Obj (refused (row.qovr x) Qovr (row.does x)))
 
 -- the order: E_ID, E_PAR, E_NOEXS, E_ILUSE, E_OBJ, E_QOVR (before them, in the gate, E_RSFN and E_CTX)
 abbrev pub served : {X : Type 0} → Row X → Result Served Ercd

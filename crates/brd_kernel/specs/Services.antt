@@ -4,7 +4,8 @@
 -- ID that is none (E_ID, E_NOEXS); what it fills in is what its line of the table says. T is a task's ID, T0 may be 0
 -- for the caller, L is a spin lock's.
 use Rattle.std.specs.Prelude.{ℕ, ◌%◌, ◌^◌, ◌-◌, ◌==◌, nat_lt, nat_le, Bool, true, false, not, ◌&&◌, ◌||◌, if◌then◌else◌}
-use Rattle.std.specs.Prelude.{List, [], ◌∷◌, ◌++◌, length, slice_set, Option, None, Some, is_some, unwrap_or, Result, Err}
+use Rattle.std.specs.Prelude.{List, [], ◌∷◌, ◌++◌, length, slice_set, Option, None, Some, is_some, unwrap_or, Result}
+use Rattle.std.specs.Prelude.{Err}
 use Rattle.brd_tasks.specs.declared.status.Status.{Status}
 use Rattle.brd_tasks.specs.declared.status.WaitReason.{WaitReason}
 use Rattle.brd_tasks.specs.declared.status.WaitReason.TheVariants as reason
@@ -12,7 +13,8 @@ use Rattle.brd_tasks.specs.declared.status.WaitKind.TheVariants as kind
 use Rattle.brd_tasks.specs.declared.task.Task.{Task}
 use Rattle.brd_tasks.specs.declared.task.Request.TheVariants.{Assigned, On}
 use Rattle.brd_tasks.specs.Status.{waiting_of, is_dormant, is_waiting, is_suspended, suspended, resumed}
-use Rattle.brd_tasks.specs.Tasks.{task_at, activated, through, changed, with_priority, on_processor, noted, with_wakeup, without_activation, turned, activations_of, wakeups_of, no_context}
+use Rattle.brd_tasks.specs.Tasks.{task_at, activated, through, changed, with_priority, on_processor, noted, with_wakeup}
+use Rattle.brd_tasks.specs.Tasks.{without_activation, turned, activations_of, wakeups_of, no_context}
 use Rattle.brd_objects.specs.declared.semaphore.Semaphore.{Semaphore}
 use Rattle.brd_objects.specs.declared.flag.Flag.{Flag}
 use Rattle.brd_objects.specs.declared.want.Mode.{Mode}
@@ -23,9 +25,12 @@ use Rattle.brd_objects.specs.declared.sent.Sent.TheVariants.{Handed, Stored, Ful
 use Rattle.brd_objects.specs.declared.sent.Received.{Received}
 use Rattle.brd_objects.specs.Table.{object_at, object_changed}
 use Rattle.brd_objects.specs.Semaphores.{returned, first_waiter, is_full, has_one, taken, semaphore_awaited}
-use Rattle.brd_objects.specs.Flags.{joined, masked, pattern_for, taken_for, is_occupied, flag_awaited, all_released, with_all_released}
-use Rattle.brd_objects.specs.DataQueues.{DataQueueState, sent, outcome, forced, forced_outcome, received, receipt, awaited_by_sender, awaited_by_receiver}
-use Rattle.brd_kernel.specs.Waits.{is_bad_timeout, due_after, due_by, priority_of, with_wait, released_in, broken_off, ended_in, reordered_in}
+use Rattle.brd_objects.specs.Flags.{joined, masked, pattern_for, taken_for, is_occupied, flag_awaited, all_released}
+use Rattle.brd_objects.specs.Flags.{with_all_released}
+use Rattle.brd_objects.specs.DataQueues.{DataQueueState, sent, outcome, forced, forced_outcome, received, receipt}
+use Rattle.brd_objects.specs.DataQueues.{awaited_by_sender, awaited_by_receiver}
+use Rattle.brd_kernel.specs.Waits.{is_bad_timeout, due_after, due_by, priority_of, with_wait, released_in, broken_off}
+use Rattle.brd_kernel.specs.Waits.{ended_in, reordered_in}
 use Rattle.brd_kernel.specs.declared.processor.Processor.{Processor}
 use Rattle.brd_kernel.specs.declared.processor.Spin.{Spin}
 use Rattle.brd_kernel.specs.declared.processor.Spin.TheVariants.{Free, Held}
@@ -34,9 +39,11 @@ use Rattle.brd_kernel.specs.declared.call.Call.TheVariants as call
 use Rattle.brd_kernel.specs.declared.call.Ercd.{Ercd}
 use Rattle.brd_kernel.specs.declared.call.Ercd.TheVariants.{Rlwai, Tmout}
 use Rattle.brd_kernel.specs.Answer.{e_ok, code_of}
-use Rattle.brd_kernel.specs.Kernel.{KernelState, processor_at, is_held, running_on, with_tasks, with_processor, unmarked, holding, letting_go, holds, spin_of}
+use Rattle.brd_kernel.specs.Kernel.{KernelState, processor_at, is_held, running_on, with_tasks, with_processor}
+use Rattle.brd_kernel.specs.Kernel.{unmarked, holding, letting_go, holds, spin_of}
 use Rattle.brd_kernel.specs.Dispatch.{is_same_task}
-use Rattle.brd_kernel.specs.Row.{Row, Served, served, never, ok, ok_with, ok_count, silent, again, or_refused, is_absent}
+use Rattle.brd_kernel.specs.Row.{Row, Served, served, never, ok, ok_with, ok_count, silent, again, or_refused}
+use Rattle.brd_kernel.specs.Row.{is_absent}
 
 -- an ID outside 1 to 255
 unfoldable pub is_no_id : ℕ → Bool
@@ -152,7 +159,8 @@ longest_delay = 2 ^ 31 - 1
 -- the caller waits, or where it polls is answered E_TMOUT; `entered` is the kernel in which it stands in the list of
 -- what it waits for
 abbrev pub or_waits : KernelState → ℕ → WaitReason → ℕ → KernelState → Result Served Ercd
-or_waits k caller why timeout entered = if timeout == 0 then Err Tmout else silent (with_wait k caller why (due_by k timeout) entered)
+or_waits k caller why timeout entered =
+    if timeout == 0 then Err Tmout else silent (with_wait k caller why (due_by k timeout) entered)
 
 -- the priority of the caller
 abbrev pub callers_priority : KernelState → ℕ → ℕ
@@ -172,7 +180,8 @@ with_all_released_in k (id ∷ ids) second = with_all_released_in (released_in k
 
 abbrev pub with_satisfied_of : KernelState → ℕ → Option Flag → KernelState
 with_satisfied_of k id None = k
-with_satisfied_of k id (Some f) = with_all_released_in (record k { flags = object_changed with_all_released k.flags id }) (all_released f) f.pattern
+with_satisfied_of k id (Some f) =
+    with_all_released_in (record k { flags = object_changed with_all_released k.flags id }) (all_released f) f.pattern
 
 abbrev pub with_satisfied_released : KernelState → ℕ → KernelState
 with_satisfied_released k id = with_satisfied_of k id (object_at k.flags id)
@@ -220,7 +229,8 @@ ter_tsk k cpu caller id = record (on_task k id) {
 
 -- a task is given a priority, and its place by it where it is ready or waits
 abbrev pub with_priority_in : KernelState → ℕ → ℕ → Option WaitReason → KernelState
-with_priority_in k id priority why = reordered_in (with_tasks k (changed (with_priority priority) k.tasks id)) id priority why
+with_priority_in k id priority why =
+    reordered_in (with_tasks k (changed (with_priority priority) k.tasks id)) id priority why
 
 -- 5 chg_pri T0, priority. Refuses: PAR not 0 to 16; OBJ dormant.
 abbrev pub chg_pri : KernelState → ℕ → ℕ → Row Task
@@ -271,18 +281,21 @@ get_tid k caller = record (on_nothing k) { does = λ x. ok_with k caller }
 -- 12 dis_dsp, 13 ena_dsp. From then on the caller's processor has dispatching disabled, or not; it may have been so
 -- before.
 abbrev pub mark_dsp : KernelState → ℕ → Bool → Row Processor
-mark_dsp k cpu disabled = record (on_own_processor k cpu) { does = λ p. ok (with_processor k cpu (record p { disabled = disabled })) }
+mark_dsp k cpu disabled =
+    record (on_own_processor k cpu) { does = λ p. ok (with_processor k cpu (record p { disabled = disabled })) }
 
 -- 14 loc_cpu, 15 unl_cpu. From then on the caller's processor is CPU-locked, or not; it may have been so before. (While
 -- the processor holds a spin lock, the gate refuses unl_cpu: CTX.)
 abbrev pub mark_cpu : KernelState → ℕ → Bool → Row Processor
-mark_cpu k cpu locked = record (on_own_processor k cpu) { does = λ p. ok (with_processor k cpu (record p { locked = locked })) }
+mark_cpu k cpu locked =
+    record (on_own_processor k cpu) { does = λ p. ok (with_processor k cpu (record p { locked = locked })) }
 
 -- 16 slp_tsk, 17 tslp_tsk timeout. Refuses: PAR. Takes a queued wake-up, or waits.
 abbrev pub tslp_tsk : KernelState → ℕ → ℕ → Row Task
 tslp_tsk k caller timeout = record (on_caller k caller) {
   bad_par = is_bad_timeout timeout;
-  does = λ task. if task.wakeup then ok (with_tasks k (noted (with_wakeup false) k.tasks caller)) else or_waits k caller reason.Sleep timeout k;
+  does = λ task. if task.wakeup then ok (with_tasks k (noted (with_wakeup false) k.tasks caller))
+      else or_waits k caller reason.Sleep timeout k;
 }
 
 -- 18 wup_tsk T0, 49 iwup_tsk T. Refuses: OBJ dormant; QOVR not asleep, and a wake-up is queued. Releases a sleeper, or
@@ -357,13 +370,16 @@ set_flg k id bits = record (on_flag k id) {
 
 -- 29 clr_flg F, bits. Clears all bits but these.
 abbrev pub clr_flg : KernelState → ℕ → ℕ → Row Flag
-clr_flg k id bits = record (on_flag k id) { does = λ f. ok (record k { flags = object_changed (masked bits) k.flags id }) }
+clr_flg k id bits =
+    record (on_flag k id) { does = λ f. ok (record k { flags = object_changed (masked bits) k.flags id }) }
 
 -- a wait for bits that is satisfied at once, or not
 abbrev pub flag_got : KernelState → ℕ → ℕ → Want → ℕ → Option ℕ → Result Served Ercd
-flag_got k caller id want timeout (Some pattern) = ok_with (record k { flags = object_changed (taken_for want) k.flags id }) pattern
+flag_got k caller id want timeout (Some pattern) =
+    ok_with (record k { flags = object_changed (taken_for want) k.flags id }) pattern
 flag_got k caller id want timeout None =
-    or_waits k caller (reason.On kind.Flag id) timeout (record k { flags = object_changed (flag_awaited caller (callers_priority k caller) want) k.flags id })
+    or_waits k caller (reason.On kind.Flag id) timeout
+    (record k { flags = object_changed (flag_awaited caller (callers_priority k caller) want) k.flags id })
 
 -- 30 wai_flg F, bits, mode, 31 pol_flg F, bits, mode, 32 twai_flg F, bits, mode, timeout. Refuses: PAR; ILUSE under
 -- TA_WSGL another task waits. Second result: the pattern. Waits for the bits.
@@ -376,10 +392,12 @@ twai_flg k caller id bits mode timeout = record (on_flag k id) {
 
 -- a datum that is handed over or stored, or its sender waits
 abbrev pub queue_sent : KernelState → ℕ → ℕ → ℕ → ℕ → Sent → Result Served Ercd
-queue_sent k caller id datum timeout (Handed task) = ok (released_in (record k { queues = object_changed (sent datum) k.queues id }) task e_ok (Some datum))
+queue_sent k caller id datum timeout (Handed task) =
+    ok (released_in (record k { queues = object_changed (sent datum) k.queues id }) task e_ok (Some datum))
 queue_sent k caller id datum timeout Stored = ok (record k { queues = object_changed (sent datum) k.queues id })
 queue_sent k caller id datum timeout Full =
-    or_waits k caller (reason.On kind.Room id) timeout (record k { queues = object_changed (awaited_by_sender caller (callers_priority k caller) datum) k.queues id })
+    or_waits k caller (reason.On kind.Room id) timeout
+    (record k { queues = object_changed (awaited_by_sender caller (callers_priority k caller) datum) k.queues id })
 
 -- 33 snd_dtq Q, datum, 34 psnd_dtq Q, datum, 35 tsnd_dtq Q, datum, timeout, 53 ipsnd_dtq Q, datum. Refuses: PAR. Sends
 -- a datum, or waits.
@@ -394,14 +412,17 @@ tsnd_dtq k caller id datum timeout = record (on_queue k id) {
 abbrev pub fsnd_dtq : KernelState → ℕ → ℕ → Row DataQueueState
 fsnd_dtq k id datum = record (on_queue k id) {
   iluse = λ q. q.capacity == 0;
-  does = λ q. ok (handed_over (record k { queues = object_changed (forced datum) k.queues id }) datum (forced_outcome q));
+  does = λ q.
+      ok (handed_over (record k { queues = object_changed (forced datum) k.queues id }) datum (forced_outcome q));
 }
 
 -- a datum that is received, or its receiver waits
 abbrev pub queue_received : KernelState → ℕ → ℕ → ℕ → Option Received → Result Served Ercd
-queue_received k caller id timeout (Some it) = ok_with (with_released (record k { queues = object_changed received k.queues id }) it.sender) it.datum
+queue_received k caller id timeout (Some it) =
+    ok_with (with_released (record k { queues = object_changed received k.queues id }) it.sender) it.datum
 queue_received k caller id timeout None =
-    or_waits k caller (reason.On kind.Datum id) timeout (record k { queues = object_changed (awaited_by_receiver caller (callers_priority k caller)) k.queues id })
+    or_waits k caller (reason.On kind.Datum id) timeout
+    (record k { queues = object_changed (awaited_by_receiver caller (callers_priority k caller)) k.queues id })
 
 -- 37 rcv_dtq Q, 38 prcv_dtq Q, 39 trcv_dtq Q, timeout. Refuses: PAR. Second result: a datum. Receives it, or waits.
 abbrev pub trcv_dtq : KernelState → ℕ → ℕ → ℕ → Row DataQueueState

@@ -4,9 +4,9 @@
 -- priority; no task waits for something that it could have at once; and only a task that waits has a due tick.
 use Rattle.std.specs.Prelude.{◌≡◌, ℕ, Bool, true, false, List, [], map, Option, None, Some, IfSome, is_some, length}
 use Rattle.std.specs.List.{AllByRecursion}
-use Rattle.brd_queue.specs.declared.entry.Entry.{Entry}
-use Rattle.brd_queue.specs.declared.entry.Order.{Order}
-use Rattle.brd_queue.specs.declared.entry.Order.TheVariants.{Arrival, Priority}
+use Rattle.brd_queue.specs.declared.entry.QueueEntry.{QueueEntry}
+use Rattle.brd_queue.specs.declared.entry.QueueOrder.{QueueOrder}
+use Rattle.brd_queue.specs.declared.entry.QueueOrder.TheVariants.{Arrival, Priority}
 use Rattle.brd_queue.specs.Queue.{Plain, has, priority_in, is_empty, AreApart}
 use Rattle.brd_queue.specs.Rule.{IsByPriority}
 use Rattle.brd_tasks.specs.declared.status.WaitReason.{WaitReason}
@@ -28,7 +28,7 @@ use Rattle.brd_kernel.specs.Waits.{reason_of}
 use Rattle.brd_kernel.specs.Services.{is_asleep}
 
 -- a list without what each waiter wants: IDs and priorities, in the same order
-abbrev pub plain : {W : Type 0} → List (Entry W) → List Plain
+abbrev pub plain : {W : Type 0} → List (QueueEntry W) → List Plain
 plain waiters = map (λ e. record { id = e.id; priority = e.priority; wanted = tt }) waiters
 
 abbrev pub semaphore_waiters : Option Semaphore → List Plain
@@ -68,7 +68,7 @@ has_list (reason.On what object) = true
 -- Where the order is by priority, no task stands in front of one with a higher priority, which is a lower number.
 -- Nothing is said of arrival, neither where the order is by arrival nor among equals: a list doesn't tell who came
 -- first.
-abbrev pub AreInOrder : {W : Type 0} → Order → List (Entry W) → Type 0
+abbrev pub AreInOrder : {W : Type 0} → QueueOrder → List (QueueEntry W) → Type 0
 AreInOrder Arrival waiters = Unit {0}
 AreInOrder Priority waiters = IsByPriority waiters
 
@@ -113,7 +113,8 @@ pub record WaitsAreKept (k : KernelState) : Type 0 where
   -- no task stands twice in a list; IDs are below 256
   pub apart : (why : WaitReason) → AreApart (standing_for k why)
   -- a task that waits for an object stands in the list for just that, with its priority
-  pub listed : (id : ℕ) (task : Task) (why : WaitReason) → task_at k.tasks id ≡ Some task → waiting_of task.status ≡ Some why → has_list why ≡ true →
+  pub listed : (id : ℕ) (task : Task) (why : WaitReason) → task_at k.tasks id ≡ Some task →
+      waiting_of task.status ≡ Some why → has_list why ≡ true →
       priority_in id (standing_for k why) ≡ Some task.priority
   -- and no other task does
   pub only : (id : ℕ) (why : WaitReason) → has id (standing_for k why) ≡ true → reason_of k id ≡ Some why

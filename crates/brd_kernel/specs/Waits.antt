@@ -1,6 +1,7 @@
 -- Waits: how they begin, and how they end. What a task waits for stands in its status; it stands in the list of waiters
 -- of that object, and it has a due tick where its wait has an end.
-use Rattle.std.specs.Prelude.{ℕ, ◌+◌, ◌-◌, ◌^◌, ◌==◌, nat_le, nat_lt, Bool, true, false, not, ◌&&◌, if◌then◌else◌, List, [], ◌∷◌, Option, None, Some, is_some}
+use Rattle.std.specs.Prelude.{ℕ, ◌+◌, ◌-◌, ◌^◌, ◌==◌, nat_le, nat_lt, Bool, true, false, not, ◌&&◌, if◌then◌else◌, List}
+use Rattle.std.specs.Prelude.{[], ◌∷◌, Option, None, Some, is_some}
 use Rattle.std.specs.Option.{option_map}
 use Rattle.brd_tasks.specs.declared.status.WaitReason.{WaitReason}
 use Rattle.brd_tasks.specs.declared.status.WaitReason.TheVariants as reason
@@ -52,11 +53,14 @@ can_wait (Some task) = is_ready task.status
 -- a task begins to wait: `entered` is the kernel in which it stands in the list of what it waits for
 abbrev pub with_wait : KernelState → ℕ → WaitReason → Option ℕ → KernelState → KernelState
 with_wait k id why due entered =
-    if can_wait (task_at k.tasks id) then record entered { tasks = through (blocked why) k.tasks id; time = with_due k.time id due } else k
+    if can_wait (task_at k.tasks id)
+    then record entered { tasks = through (blocked why) k.tasks id; time = with_due k.time id due }
+    else k
 
 -- a wait ends by what was waited for, and the task's service call is answered
 abbrev pub released_in : KernelState → ℕ → ℕ → Option ℕ → KernelState
-released_in k id answer second = record k { tasks = released_with k.tasks id answer second; time = with_due k.time id None }
+released_in k id answer second =
+    record k { tasks = released_with k.tasks id answer second; time = with_due k.time id None }
 
 -- what a task waits for
 abbrev pub reason_in : Option Task → Option WaitReason
@@ -110,7 +114,12 @@ ended_in k id = let out = unlisted k id in record out { tasks = ended k.tasks id
 -- keeps its place
 
 abbrev pub moving : ℕ → ℕ → Change
-moving id priority = record { semaphore = semaphore_reordered id priority; flag = flag_reordered id priority; queue = data_queue_reordered id priority }
+moving id priority =
+    record {
+      semaphore = semaphore_reordered id priority;
+      flag = flag_reordered id priority;
+      queue = data_queue_reordered id priority;
+    }
 
 abbrev pub reordered_in : KernelState → ℕ → ℕ → Option WaitReason → KernelState
 reordered_in k id priority why = changed_for (moving id priority) k why
@@ -147,11 +156,13 @@ ticked k = if nat_lt k.time.count last_count then ticked_on k (advanced k.time) 
 -- neither CPU-locked nor has dispatching disabled.
 abbrev pub faulted_task : KernelState → ℕ → Processor → Option ℕ → KernelState
 faulted_task k cpu p None = k
-faulted_task k cpu p (Some id) = with_processor (ended_in (with_tasks k (noted without_activation k.tasks id)) id) cpu (unmarked p)
+faulted_task k cpu p (Some id) =
+    with_processor (ended_in (with_tasks k (noted without_activation k.tasks id)) id) cpu (unmarked p)
 
 abbrev pub faulted_in : KernelState → ℕ → Option Processor → KernelState
 faulted_in k cpu None = k
-faulted_in k cpu (Some p) = if is_some p.handling then with_processor k cpu (record p { stopped = true }) else faulted_task k cpu p p.running
+faulted_in k cpu (Some p) =
+    if is_some p.handling then with_processor k cpu (record p { stopped = true }) else faulted_task k cpu p p.running
 
 -- An exception on a processor: in a handler it stops the processor for good, else it ends the running task.
 abbrev pub ended_by_fault : KernelState → ℕ → KernelState

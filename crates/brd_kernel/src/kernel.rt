@@ -1,6 +1,7 @@
 //! The kernel.
 
-ghost use Rattle.std.specs.Prelude.{◌≡◌, Decides, ◌<◌, ◌≤◌, ◌+◌, ◌==◌, ◌&&◌, ℕ, if◌then◌else◌, All, IfOk, IfSome, is_some, nat_lt, option_copied, option_map, true};
+ghost use Rattle.std.specs.Prelude.{◌≡◌, Decides, ◌<◌, ◌≤◌, ◌+◌, ◌==◌, ◌&&◌, ℕ, if◌then◌else◌, All, IfOk, IfSome};
+ghost use Rattle.std.specs.Prelude.{is_some, nat_lt, option_copied, option_map, true};
 ghost use Rattle.brd_tasks.specs.Ready.{IsProcessor, IsSetup};
 ghost use Rattle.brd_tasks.specs.Tasks.{activated, are_there};
 ghost use Rattle.brd_tasks.specs.declared.task.Request.TheVariants.{Assigned};
@@ -18,8 +19,6 @@ ghost use Rattle.brd_kernel.specs.Kernel.{
   has_spin_lock,
   spin_of,
   standing_on,
-  executed,
-  Executes,
 };
 ghost use Rattle.brd_time.specs.Time.{last_count};
 ghost use Rattle.brd_kernel.specs.Waits.{ended_by_fault, ticked, seen_at};
@@ -38,15 +37,12 @@ mod serve;
 mod spin_locks;
 mod waits;
 
+use crate::common::Common;
 use crate::making::{idle_processors, lines_of, no_contexts, spin_locks_of};
-use crate::processor::{
-    Ended, Executor, Line, LineSetup, Marks, Processor, Spin, Standing, holder,
-};
-use brd_base::{NoMemory, copy_with_room, same_slices};
+use crate::processor::{Executor, LineSetup, Marks, Processor, Spin, Standing, holder};
+use brd_base::{NoMemory, same_slices};
 use brd_config::{FlagConfig, QueueConfig, SemaphoreConfig, SpinLockConfig};
-use brd_exec::{Context, run};
-use brd_link::Links;
-use brd_mem::Ram;
+use brd_exec::Context;
 use brd_objects::{Flags, Queues, Semaphores};
 use brd_tasks::{Request, TaskId, TaskSetup, TaskView, Tasks};
 use brd_time::Timeouts;
@@ -60,83 +56,34 @@ const CONSOLE_SIZE: usize = 65_536;
 /// Tasks, the objects that they wait for, the time, processors, interrupt lines and the console. Only `new` takes
 /// memory.
 pub struct Kernel {
-    off: bool,
-    time: Timeouts,
-    tasks: Tasks,
+    common: Common,
     semaphores: Semaphores,
     flags: Flags,
     queues: Queues,
-    /// By ID: whether there is a spin lock.
-    spin_locks: Vec<bool>,
-    processors: [Option<Processor>; 9],
-    /// The task that executes on each of them, if one does, so that a step needn't find it out.
-    executing: [Option<TaskId>; 9],
-    handler_contexts: Vec<Context>,
-    lines: Vec<Line>,
-    console: Vec<u8>,
-    /// Whether a line may be pending.
-    pending: bool,
 }
 
 impl Model for Kernel {
-    ghost use Rattle.std.specs.Prelude.{◌≡◌, ◌≤◌, false, map, vec_capacity};
+    ghost use Rattle.std.specs.Prelude.{◌≤◌, vec_capacity};
     ghost use Rattle.brd_kernel.specs.Kernel.{KernelState};
     ghost use Rattle.brd_kernel.specs.Services.{console_size};
-    ghost use Rattle.brd_kernel.specs.Services.{unmarked_on};
-    ghost use Rattle.brd_kernel.specs.Always.{IsKernel, AreQuiet, task_executing};
+    ghost use Rattle.brd_kernel.specs.Common.{kernel_of, IsCommon};
 
     ghost Value = { KernelState };
 
-    ghost view = { λ k. record {
-      off = k.off;
-      time = k.time;
-      tasks = k.tasks;
-      semaphores = k.semaphores;
-      flags = k.flags;
-      queues = k.queues;
-      spin_locks = k.spin_locks.items;
-      processors = k.processors;
-      handler_contexts = k.handler_contexts.items;
-      lines = k.lines.items;
-      console = k.console.items;
-    } };
+    ghost view = { λ k. kernel_of k.common k.semaphores k.flags k.queues };
 
-    ghost invariant = { λ k.
-        IsKernel (record {
-          off = k.off;
-          time = k.time;
-          tasks = k.tasks;
-          semaphores = k.semaphores;
-          flags = k.flags;
-          queues = k.queues;
-          spin_locks = k.spin_locks.items;
-          processors = k.processors;
-          handler_contexts = k.handler_contexts.items;
-          lines = k.lines.items;
-          console = k.console.items;
-        })
-        × (console_size ≤ vec_capacity k.console)
-        × (k.pending ≡ false → AreQuiet k.lines.items)
-        × (k.executing ≡ map task_executing k.processors) };
+    ghost invariant = { λ k. IsCommon k.common (kernel_of k.common k.semaphores k.flags k.queues)
+        × (console_size ≤ vec_capacity k.common.console) };
 }
 
 /// Written out, so that a function that lets a kernel go is proved with a call, and not with the end of each part.
 impl Drop for Kernel {
     fn drop(self) {
         let Kernel {
-            off: _,
-            time: _,
-            tasks: _,
+            common: _,
             semaphores: _,
             flags: _,
             queues: _,
-            spin_locks: _,
-            processors: _,
-            executing: _,
-            handler_contexts: _,
-            lines: _,
-            console: _,
-            pending: _,
         } = self;
     }
 }
@@ -156,22 +103,26 @@ impl Kernel {
     ) -> Result<Kernel, NoMemory>
         requires few { processors ≤ 8 }
         requires setups { All IsSetup tasks.now }
-        ensures { IfOk result (λ kernel. kernel ≡ made_kernel processors tasks.now lines.now semaphores.now flags.now queues.now spin_locks.now) }
+        ensures { IfOk result
+            (λ kernel. kernel
+            ≡ made_kernel processors tasks.now lines.now semaphores.now flags.now queues.now spin_locks.now) }
     {
         Ok(Kernel {
-            off: false,
-            time: Timeouts::new(alloc)?,
-            tasks: Tasks::new(alloc, tasks)?,
+            common: Common {
+                off: false,
+                time: Timeouts::new(alloc)?,
+                tasks: Tasks::new(alloc, tasks)?,
+                spin_locks: spin_locks_of(alloc, spin_locks)?,
+                processors: idle_processors(processors),
+                executing: [None; 9],
+                handler_contexts: no_contexts(alloc)?,
+                lines: lines_of(alloc, lines)?,
+                console: Vec::with_capacity(alloc, CONSOLE_SIZE)?,
+                pending: false,
+            },
             semaphores: Semaphores::new(alloc, semaphores)?,
             flags: Flags::new(alloc, flags)?,
             queues: Queues::new(alloc, queues)?,
-            spin_locks: spin_locks_of(alloc, spin_locks)?,
-            processors: idle_processors(processors),
-            executing: [None; 9],
-            handler_contexts: no_contexts(alloc)?,
-            lines: lines_of(alloc, lines)?,
-            console: Vec::with_capacity(alloc, CONSOLE_SIZE)?,
-            pending: false,
         })
     }
 
@@ -180,19 +131,10 @@ impl Kernel {
         ensures { IfOk result (λ copy. copy ≡ self.now) }
     {
         Ok(Kernel {
-            off: self.off,
-            time: self.time.try_copy()?,
-            tasks: self.tasks.try_copy()?,
+            common: self.common.copy(CONSOLE_SIZE)?,
             semaphores: self.semaphores.try_copy()?,
             flags: self.flags.try_copy()?,
             queues: self.queues.try_copy()?,
-            spin_locks: copy_with_room(&self.spin_locks, 0)?,
-            processors: self.processors,
-            executing: self.executing,
-            handler_contexts: copy_with_room(&self.handler_contexts, 0)?,
-            lines: copy_with_room(&self.lines, 0)?,
-            console: copy_with_room(&self.console, CONSOLE_SIZE)?,
-            pending: self.pending,
         })
     }
 
@@ -211,7 +153,9 @@ impl Kernel {
             × (self.now.semaphores ≡ other.now.semaphores) × (self.now.flags ≡ other.now.flags)
             × (self.now.queues ≡ other.now.queues) × (self.now.spin_locks ≡ other.now.spin_locks)) }
     {
-        self.time.same(&other.time) && self.tasks.same(&other.tasks) && self.has_same_objects(other)
+        self.common.time.same(&other.common.time)
+            && self.common.tasks.same(&other.common.tasks)
+            && self.has_same_objects(other)
     }
 
     /// Whether both have the same objects.
@@ -222,7 +166,10 @@ impl Kernel {
         self.semaphores.same(&other.semaphores)
             && self.flags.same(&other.flags)
             && self.queues.same(&other.queues)
-            && same_bools(self.spin_locks.as_slice(), other.spin_locks.as_slice())
+            && same_bools(
+                self.common.spin_locks.as_slice(),
+                other.common.spin_locks.as_slice(),
+            )
     }
 
     /// Whether both have the same processors, lines and console.
@@ -231,12 +178,12 @@ impl Kernel {
             × (self.now.handler_contexts ≡ other.now.handler_contexts) × (self.now.lines ≡ other.now.lines)
             × (self.now.console ≡ other.now.console)) }
     {
-        same_slices(&self.processors, &other.processors)
+        same_slices(&self.common.processors, &other.common.processors)
             && same_slices(
-                self.handler_contexts.as_slice(),
-                other.handler_contexts.as_slice(),
+                self.common.handler_contexts.as_slice(),
+                other.common.handler_contexts.as_slice(),
             )
-            && same_slices(self.lines.as_slice(), other.lines.as_slice())
+            && same_slices(self.common.lines.as_slice(), other.common.lines.as_slice())
             && self.console() == other.console()
     }
 
@@ -244,7 +191,7 @@ impl Kernel {
     pub fn start(&mut self, id: TaskId)
         ensures { self.new ≡ with_tasks self.old (activated self.old.tasks id Assigned) }
     {
-        self.tasks.activate(id, Request::Assigned);
+        self.common.tasks.activate(id, Request::Assigned);
     }
 
     /// The processor of a number, where there is one.
@@ -254,9 +201,9 @@ impl Kernel {
         ensures known { IfSome result (λ p. is_task_or_none (are_there self.now.tasks) p.running ≡ true) }
         ensures within { IfSome result (λ _. IsProcessor cpu) }
     {
-        self.tasks.are_consistent();
-        if (cpu as usize) < self.processors.len() {
-            return self.processors[cpu as usize];
+        self.common.tasks.are_consistent();
+        if (cpu as usize) < self.common.processors.len() {
+            return self.common.processors[cpu as usize];
         }
         None
     }
@@ -291,9 +238,9 @@ impl Kernel {
     pub fn task(&self, id: TaskId) -> Option<TaskView>
         ensures { result ≡ seen_at self.now id }
     {
-        let view = self.tasks.view(id)?;
+        let view = self.common.tasks.view(id)?;
         Some(TaskView {
-            due: self.time.due(id),
+            due: self.common.time.due(id),
             ..view
         })
     }
@@ -305,7 +252,7 @@ impl Kernel {
         if !self.has_spin_lock(id) {
             return None;
         }
-        match holder(&self.processors, id) {
+        match holder(&self.common.processors, id) {
             Some(cpu) => Some(Spin::Held(cpu)),
             None => Some(Spin::Free),
         }
@@ -315,28 +262,28 @@ impl Kernel {
     fn has_spin_lock(&self, id: u8) -> bool
         ensures { result ≡ has_spin_lock self.now id }
     {
-        (id as usize) < self.spin_locks.len() && self.spin_locks[id as usize]
+        (id as usize) < self.common.spin_locks.len() && self.common.spin_locks[id as usize]
     }
 
     /// The bytes that were written to the console.
     pub fn console(&self) -> &[u8]
         ensures { result.now ≡ self.now.console }
     {
-        self.console.as_slice()
+        self.common.console.as_slice()
     }
 
     /// How many ticks have passed.
     pub fn now(&self) -> u64
         ensures { result ≡ self.now.time.count }
     {
-        self.time.now()
+        self.common.time.now()
     }
 
     /// Whether the board is off.
     pub fn is_off(&self) -> bool
         ensures { result ≡ self.now.off }
     {
-        self.off
+        self.common.off
     }
 
     /// Who executes on a processor, if somebody does.
@@ -346,9 +293,9 @@ impl Kernel {
         ensures place { IfSome result (HasPlace self.now cpu) }
         ensures within { IfSome result (λ _. IsProcessor cpu) }
     {
-        self.tasks.are_consistent();
-        if (cpu as usize) < self.executing.len() {
-            if let Some(id) = self.executing[cpu as usize] {
+        self.common.tasks.are_consistent();
+        if (cpu as usize) < self.common.executing.len() {
+            if let Some(id) = self.common.executing[cpu as usize] {
                 return Some(Executor::Task(id));
             }
         }
@@ -360,10 +307,10 @@ impl Kernel {
     pub fn context(&self, cpu: u8) -> Option<&Context>
         ensures { option_copied result ≡ context_on self.now cpu }
     {
-        self.tasks.are_consistent();
+        self.common.tasks.are_consistent();
         match self.executor(cpu)? {
-            Executor::Handler => Some(&self.handler_contexts[cpu as usize]),
-            Executor::Task(id) => Some(self.tasks.context(id)),
+            Executor::Handler => Some(&self.common.handler_contexts[cpu as usize]),
+            Executor::Task(id) => Some(self.common.tasks.context(id)),
         }
     }
 
@@ -374,8 +321,8 @@ impl Kernel {
         ensures value { result.now ≡ context_of self.old cpu who }
     {
         match who {
-            Executor::Handler => &mut self.handler_contexts[cpu as usize],
-            Executor::Task(id) => self.tasks.context_mut(id),
+            Executor::Handler => &mut self.common.handler_contexts[cpu as usize],
+            Executor::Task(id) => self.common.tasks.context_mut(id),
         }
     }
 
@@ -422,7 +369,7 @@ impl Kernel {
             return;
         }
         let Some(id) = processor.running else { return };
-        self.tasks.clear_activation(id);
+        self.common.tasks.clear_activation(id);
         self.end(id);
         self.unmark(cpu);
     }
@@ -433,8 +380,8 @@ impl Kernel {
         requires known { is_task_or_none (are_there self.old.tasks) processor.running ≡ true }
         ensures { self.new ≡ with_processor self.old cpu processor }
     {
-        self.processors[cpu as usize] = Some(processor);
-        self.executing[cpu as usize] = processor.task();
+        self.common.processors[cpu as usize] = Some(processor);
+        self.common.executing[cpu as usize] = processor.task();
     }
 
     /// Takes a processor's CPU lock, its mark that dispatching is disabled and its spin lock away.
@@ -451,9 +398,10 @@ impl Kernel {
     /// become another.
     pub fn dispatch(&mut self) -> u8
         ensures is { self.new ≡ dispatched self.old }
-        ensures changed { (j : ℕ) → j < 8 → bit_at result j ≡ (if has_changed self.old (dispatched self.old) (j + 1) then 1 else 0) }
+        ensures changed { (j : ℕ) → j < 8 →
+            bit_at result j ≡ (if has_changed self.old (dispatched self.old) (j + 1) then 1 else 0) }
     {
-        self.tasks.are_consistent();
+        self.common.tasks.are_consistent();
         let mut changed = 0u8;
         for cpu in 0..9u8 {
             let other = self.dispatch_on(cpu);
@@ -473,7 +421,7 @@ impl Kernel {
         if processor.is_held() {
             return false;
         }
-        let running = self.tasks.top(cpu);
+        let running = self.common.tasks.top(cpu);
         if is_same_task(processor.running, running) {
             return false;
         }
@@ -487,25 +435,13 @@ impl Kernel {
         true
     }
 
-    /// Does one instruction in the context in which a processor executes, where it lies. None where nobody executes.
-    pub fn run(&mut self, cpu: u8, ram: &mut Ram, links: &mut Links) -> Option<Ended>
-        ensures within { IfSome result (λ _. IsProcessor cpu) }
-        ensures is { Executes (executed self.old cpu ram.old links.old) self.old ram.old links.old self.new ram.new links.new result }
-    {
-        let who = self.executor(cpu)?;
-        let context = self.context_mut(cpu, who);
-        let address = context.pc();
-        let outcome = run(context, cpu, ram, links);
-        Some(Ended { address, outcome })
-    }
-
     /// A tick passes, and the waits end whose tick has come. Answers whether it was counted; at the end of time it
     /// isn't, and nothing changes.
     pub fn tick(&mut self) -> bool
         ensures is { self.new ≡ ticked self.old }
         ensures counted { result ≡ nat_lt self.old.time.count last_count }
     {
-        if !self.time.advance() {
+        if !self.common.time.advance() {
             return false;
         }
         self.end_waits();

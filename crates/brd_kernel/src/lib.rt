@@ -6,6 +6,7 @@
 #![tactic(auto)]
 
 mod call;
+mod common;
 mod kernel;
 pub mod laws;
 mod lines;
@@ -15,4 +16,6 @@ mod processor;
 pub use brd_tasks::{Request, TaskId, TaskSetup, TaskState, TaskView, WaitKind, WaitReason};
 pub use call::{Call, Ercd, Reply};
 pub use kernel::{Kernel, SavedKernel};
-pub use processor::{Ended, Executor, Handler, Line, LineSetup, Marks, Processor, Spin, Standing};
+pub use processor::{
+    Executor, Handler, InterruptLine, LineSetup, Marks, Processor, Spin, Standing,
+};

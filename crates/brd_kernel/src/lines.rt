@@ -4,12 +4,12 @@ ghost use Rattle.std.specs.Prelude.{◌≡◌, ◌≤◌, ◌<◌, ◌↔◌, fa
 ghost use Rattle.brd_kernel.specs.Kernel.{is_handled_by, pending_from, entry_of};
 ghost use Rattle.brd_kernel.specs.Always.{AreQuiet};
 
-use crate::processor::{Handler, Line};
+use crate::processor::{Handler, InterruptLine};
 use brd_exec::Context;
 
 /// The lowest line that is pending for a processor.
 #[inline(never)]
-pub fn first_pending(lines: &[Line], cpu: u8) -> Option<u8>
+pub fn first_pending(lines: &[InterruptLine], cpu: u8) -> Option<u8>
     requires { length lines.now ≤ 32 }
     ensures is { result ≡ pending_from cpu 0 lines.now }
     ensures within { IfSome result (λ line. line < length lines.now) }
@@ -23,14 +23,14 @@ pub fn first_pending(lines: &[Line], cpu: u8) -> Option<u8>
 }
 
 /// Whether no line is pending.
-pub fn are_quiet(lines: &[Line]) -> bool
+pub fn are_quiet(lines: &[InterruptLine]) -> bool
     ensures { IsTrue result ↔ AreQuiet lines.now }
 {
     lines.iter().all(is_quiet)
 }
 
 /// Whether a line isn't pending.
-fn is_quiet(line: &Line) -> bool
+fn is_quiet(line: &InterruptLine) -> bool
     ensures { IsTrue result ↔ (line.now.pending ≡ false) }
 {
     !line.pending

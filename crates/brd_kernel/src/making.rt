@@ -4,7 +4,7 @@ ghost use Rattle.std.specs.Prelude.{◌≡◌, IfOk, replicate};
 ghost use Rattle.brd_tasks.specs.Tasks.{no_context};
 ghost use Rattle.brd_kernel.specs.Making.{idle_one, idle_ones, handler_of, made_lines, is_configured, made_spin_locks};
 
-use crate::processor::{Handler, Line, LineSetup, Processor};
+use crate::processor::{Handler, InterruptLine, LineSetup, Processor};
 use brd_base::NoMemory;
 use brd_config::SpinLockConfig;
 use brd_exec::Context;
@@ -59,12 +59,12 @@ pub fn no_contexts(alloc: Global) -> Result<Vec<Context>, NoMemory>
 
 /// The line of each number, with nothing pending.
 #[tactic(auto, using(crate::proofs::MakingLemmas::lines_more, crate::proofs::MakingLemmas::no_lines))]
-pub fn lines_of(alloc: Global, setups: &[LineSetup]) -> Result<Vec<Line>, NoMemory>
+pub fn lines_of(alloc: Global, setups: &[LineSetup]) -> Result<Vec<InterruptLine>, NoMemory>
     ensures { IfOk result (λ made. made.items ≡ made_lines setups.now 32) }
 {
     let mut made = Vec::new(alloc);
     for line in 0..32u8 {
-        made.push(Line::quiet(handler_of(setups, line)))?;
+        made.push(InterruptLine::quiet(handler_of(setups, line)))?;
     }
     Ok(made)
 }

@@ -15,7 +15,6 @@ ghost use Rattle.brd_kernel.specs.Kernel.{
 ghost use Rattle.brd_kernel.specs.Always.{task_executing};
 
 use brd_base::Same;
-use brd_exec::Outcome;
 use brd_tasks::TaskId;
 
 /// What a processor is doing.
@@ -58,15 +57,6 @@ pub enum Spin {
     Free,
     /// The processor of this number holds it.
     Held(u8),
-}
-
-/// An instruction that was executed.
-#[derive(Clone, Copy, PartialEq, Eq)]
-pub struct Ended {
-    /// Its address.
-    pub address: u32,
-    /// How it ended.
-    pub outcome: Outcome,
 }
 
 /// A processor.
@@ -220,25 +210,25 @@ pub struct LineSetup {
 
 /// An interrupt line.
 #[derive(Clone, Copy, PartialEq, Eq)]
-pub struct Line {
+pub struct InterruptLine {
     /// Its handler, if it has one.
     pub handler: Option<Handler>,
     /// Whether an interrupt was raised that isn't accepted yet.
     pub pending: bool,
 }
 
-impl Same for Line {
+impl Same for InterruptLine {
     fn same(&self, other: &Self) -> bool {
         *self == *other
     }
 }
 
-impl Line {
+impl InterruptLine {
     /// A line with this handler and nothing pending.
-    pub fn quiet(handler: Option<Handler>) -> Line
+    pub fn quiet(handler: Option<Handler>) -> InterruptLine
         ensures { result ≡ quiet handler }
     {
-        Line {
+        InterruptLine {
             handler,
             pending: false,
         }

@@ -3,9 +3,9 @@ use Rattle.std.proofs.Common.{◌≡◌, ◌-◌, ℕ, List, [], ◌∷◌, ◌+
 use Rattle.std.specs.Prelude.{◌≢◌, ◌==◌, nat_lt, Bool, true, false, not, if◌then◌else◌, Option, None, Some}
 use Rattle.std.proofs.lemmas.Bool.{true≢false, false≢true}
 use Rattle.std.proofs.lemmas.Bool.Decides.{nat_tests}
-use Rattle.brd_queue.specs.declared.entry.Entry.{Entry}
-use Rattle.brd_queue.specs.declared.entry.Order.{Order}
-use Rattle.brd_queue.specs.declared.entry.Order.TheVariants.{Arrival, Priority}
+use Rattle.brd_queue.specs.declared.entry.QueueEntry.{QueueEntry}
+use Rattle.brd_queue.specs.declared.entry.QueueOrder.{QueueOrder}
+use Rattle.brd_queue.specs.declared.entry.QueueOrder.TheVariants.{Arrival, Priority}
 use Rattle.brd_queue.specs.Queue.{Plain, without, reordered, is_empty}
 use Rattle.brd_queue.proofs.WantedLemmas.{want-implied, want-without, want-placed, want-reordered}
 use Rattle.brd_objects.specs.declared.semaphore.Semaphore.{Semaphore}
@@ -27,7 +27,7 @@ not-both : {A : Type 0} → (x : A) (xs ys : List A) → ys ≡ x ∷ xs → ys 
 not-both x xs ys some none = omega (arith, ap length some, ap length none)
 
 -- where nobody stands, nobody does when a task is given a priority
-nobody-reordered : {W : Type 0} → (order : Order) (id priority : ℕ) (xs : List (Entry W)) → xs ≡ [] → reordered order id priority xs ≡ []
+nobody-reordered : {W : Type 0} → (order : QueueOrder) (id priority : ℕ) (xs : List (QueueEntry W)) → xs ≡ [] → reordered order id priority xs ≡ []
 nobody-reordered Arrival id priority xs none = ap (reordered Arrival id priority) none
 nobody-reordered Priority id priority xs none = ap (reordered Priority id priority) none
 
@@ -91,7 +91,7 @@ unsatisfied-by false pattern is = refl
 pub flag-awaited : (id priority : ℕ) (want : Want) (f : Flag) → want.bits ≢ 0 → pattern_for want f ≡ None → FlagIsKept f →
     FlagIsKept (flag_awaited id priority want f)
 flag-awaited id priority want f some none was =
-    let e : Entry Want = record { id = id; priority = priority; wanted = want } in
+    let e : QueueEntry Want = record { id = id; priority = priority; wanted = want } in
     let unsatisfied : satisfies f.pattern want ≡ false = unsatisfied-by (satisfies f.pattern want) f.pattern none in
     record {
       ordered = in-placed f.order e f.waiters was.ordered;
@@ -177,7 +177,7 @@ pub forced-kept : (datum : ℕ) (q : DataQueueState) → QueueIsKept q → Queue
 forced-kept datum q was =
     subst (λ rs. QueueIsKept (sent_to datum (with_room q) rs)) (sym (same-receivers q q.receivers)) (forced-by datum q q.receivers refl was)
 
-first-sent : (q : DataQueueState) (first : Entry ℕ) (others : List (Entry ℕ)) (stored : List ℕ) → q.senders ≡ first ∷ others →
+first-sent : (q : DataQueueState) (first : QueueEntry ℕ) (others : List (QueueEntry ℕ)) (stored : List ℕ) → q.senders ≡ first ∷ others →
     (has_room (record q { stored = stored }) ≡ true → has_room q ≡ true) → QueueIsKept q →
     QueueIsKept (record q { stored = stored; senders = others })
 first-sent q first others stored is room was = record {
@@ -191,7 +191,7 @@ as-long : (q : DataQueueState) (oldest : ℕ) (newer : List ℕ) (datum : ℕ) �
     has_room q ≡ true
 as-long q oldest newer datum is has = grind (arith, nat_tests, has, length-append newer (datum ∷ []), ap length is)
 
-received-by : (q : DataQueueState) (stored : List ℕ) (ss : List (Entry ℕ)) → q.stored ≡ stored → q.senders ≡ ss → QueueIsKept q →
+received-by : (q : DataQueueState) (stored : List ℕ) (ss : List (QueueEntry ℕ)) → q.stored ≡ stored → q.senders ≡ ss → QueueIsKept q →
     QueueIsKept (received_by q stored ss)
 received-by q [] [] is senders was = was
 received-by q [] (first ∷ others) is senders was = first-sent q first others q.stored senders (λ has. has) was
@@ -234,7 +234,7 @@ record HasNothing (q : DataQueueState) : Type 0 where
   stored : q.stored ≡ []
   senders : q.senders ≡ []
 
-nothing-by : (q : DataQueueState) (stored : List ℕ) (ss : List (Entry ℕ)) → q.stored ≡ stored → q.senders ≡ ss → receipt_by stored ss ≡ None →
+nothing-by : (q : DataQueueState) (stored : List ℕ) (ss : List (QueueEntry ℕ)) → q.stored ≡ stored → q.senders ≡ ss → receipt_by stored ss ≡ None →
     HasNothing q
 nothing-by q [] [] is senders none = record { stored = is; senders = senders }
 nothing-by q [] (first ∷ others) is senders none = let wrong : ⊥ = cc in absurd wrong

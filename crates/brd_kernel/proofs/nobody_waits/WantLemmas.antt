@@ -5,7 +5,7 @@ use Rattle.std.specs.Int.Bits.{and_self, and_zero_l}
 use Rattle.std.proofs.lemmas.Bool.{false≢true}
 use Rattle.std.proofs.lemmas.Bool.Decides.{nat_tests}
 use Rattle.std.proofs.lemmas.Nat.{and_assoc, and_comm}
-use Rattle.brd_queue.specs.declared.entry.Entry.{Entry}
+use Rattle.brd_queue.specs.declared.entry.QueueEntry.{QueueEntry}
 use Rattle.brd_queue.proofs.WantedLemmas.{AllWant, want-implied}
 use Rattle.brd_objects.specs.declared.want.Mode.{Mode}
 use Rattle.brd_objects.specs.declared.want.Mode.TheVariants as mode
@@ -17,7 +17,7 @@ use Rattle.brd_objects.proofs.LawLemmas.{unsatisfied}
 use Rattle.brd_kernel.proofs.who_waits.ListLemmas.{either}
 
 -- what holds of all that waiters want still does of those whom a flag keeps when it releases
-pub want-kept : (Q : Want → Type 0) (clears : Bool) (pattern : ℕ) (xs : List (Entry Want)) → AllWant Q xs → AllWant Q (kept_of clears pattern xs)
+pub want-kept : (Q : Want → Type 0) (clears : Bool) (pattern : ℕ) (xs : List (QueueEntry Want)) → AllWant Q xs → AllWant Q (kept_of clears pattern xs)
 want-kept Q clears pattern [] all = tt
 want-kept Q clears pattern (x ∷ xs) all =
     let rest = want-kept Q clears pattern xs all.1 in
@@ -27,7 +27,7 @@ abbrev pub IsUnsatisfied : ℕ → Want → Type 0
 IsUnsatisfied pattern want = satisfies pattern want ≡ false
 
 -- a pattern of no bits satisfies none of them, since each wants some
-pub want-none : (xs : List (Entry Want)) → WantBits xs → AllWant (IsUnsatisfied 0) xs
+pub want-none : (xs : List (QueueEntry Want)) → WantBits xs → AllWant (IsUnsatisfied 0) xs
 want-none xs bits = want-implied HasBits (IsUnsatisfied 0) xs unsatisfied bits
 
 all-bits-by : (test : Bool) (pattern bits kept : ℕ) → (bit_and (bit_and pattern bits) kept == kept) ≡ test → (bit_and pattern kept == kept) ≡ false →
@@ -59,12 +59,12 @@ fewer pattern bits want was = fewer-by want.mode pattern bits want.bits was
 
 -- A release leaves nobody in the list who is satisfied by the pattern after it.
 
-after-either : (R : ℕ → Type 0) (clears : Bool) (pattern : ℕ) (xs : List (Entry Want)) → R 0 → R pattern → R (pattern_after clears pattern xs)
+after-either : (R : ℕ → Type 0) (clears : Bool) (pattern : ℕ) (xs : List (QueueEntry Want)) → R 0 → R pattern → R (pattern_after clears pattern xs)
 after-either R clears pattern [] none same = same
 after-either R clears pattern (x ∷ xs) none same =
     either R (clears && satisfies pattern x.wanted) _ _ none (after-either R clears pattern xs none same)
 
-unreleased-by : (clears satisfied : Bool) (pattern : ℕ) (x : Entry Want) (xs : List (Entry Want)) → satisfies pattern x.wanted ≡ satisfied →
+unreleased-by : (clears satisfied : Bool) (pattern : ℕ) (x : QueueEntry Want) (xs : List (QueueEntry Want)) → satisfies pattern x.wanted ≡ satisfied →
     x.wanted.bits ≢ 0 → WantBits xs → AllWant (IsUnsatisfied (pattern_after clears pattern xs)) (kept_of clears pattern xs) →
     AllWant (IsUnsatisfied (if clears && satisfied then 0 else pattern_after clears pattern xs))
     (if satisfied then (if clears then xs else kept_of clears pattern xs) else x ∷ kept_of clears pattern xs)
@@ -75,7 +75,7 @@ unreleased-by true false pattern x xs is some bits rest =
 unreleased-by false false pattern x xs is some bits rest =
     (after-either (λ p. IsUnsatisfied p x.wanted) false pattern xs (unsatisfied x.wanted some) is, rest)
 
-pub unreleased : (clears : Bool) (pattern : ℕ) (xs : List (Entry Want)) → WantBits xs →
+pub unreleased : (clears : Bool) (pattern : ℕ) (xs : List (QueueEntry Want)) → WantBits xs →
     AllWant (IsUnsatisfied (pattern_after clears pattern xs)) (kept_of clears pattern xs)
 unreleased clears pattern [] bits = tt
 unreleased clears pattern (x ∷ xs) bits =

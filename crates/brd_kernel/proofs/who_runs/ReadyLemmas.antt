@@ -5,7 +5,7 @@ use Rattle.std.proofs.lemmas.Bool.{false≢true}
 use Rattle.std.proofs.lemmas.List.{length-set}
 use Rattle.brd_exec.specs.State.{State}
 use Rattle.brd_queue.specs.Queue.{Plain, has, behind_equals, without, moved_behind, rotated, AreApart}
-use Rattle.brd_queue.specs.declared.entry.Order.TheVariants.{Priority}
+use Rattle.brd_queue.specs.declared.entry.QueueOrder.TheVariants.{Priority}
 use Rattle.brd_queue.proofs.QueueLemmas.{apart-without, apart-behind_equals}
 use Rattle.brd_queue.proofs.PriorityLemmas.{priority_in-rotated, ordered-rotated}
 use Rattle.brd_tasks.specs.declared.status.WaitReason.{WaitReason}

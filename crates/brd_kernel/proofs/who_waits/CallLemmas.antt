@@ -3,7 +3,7 @@ use Rattle.std.proofs.Common.{◌≡◌, ℕ, List, [], ◌∷◌, drop, refl, s
 use Rattle.std.specs.Prelude.{Bool, true, false, nat_lt, if◌then◌else◌, Option, None, Some, IfSome}
 use Rattle.std.specs.Option.{option_map}
 use Rattle.std.proofs.lemmas.Bool.{false≢true}
-use Rattle.brd_queue.specs.declared.entry.Entry.{Entry}
+use Rattle.brd_queue.specs.declared.entry.QueueEntry.{QueueEntry}
 use Rattle.brd_queue.specs.Queue.{Plain, has, priority_in, first_of, AreApart}
 use Rattle.brd_tasks.specs.declared.status.WaitReason.{WaitReason}
 use Rattle.brd_tasks.specs.declared.status.WaitReason.TheVariants as reason
@@ -99,7 +99,7 @@ pub satisfied-keep : (k : KernelState) (id : ℕ) (found : Option Flag) → obje
 satisfied-keep k id None there was = was
 satisfied-keep k id (Some f) there was =
     let new : KernelState = record k { flags = object_changed with_all_released k.flags id } in
-    let list : List (Entry Want) = (with_all_released f).waiters in
+    let list : List (QueueEntry Want) = (with_all_released f).waiters in
     let apart : AreApart f.waiters = apart-wanting f.waiters (subst (λ o. AreApart (flag_waiters o)) there (was.apart (reason.On kind.Flag id))) in
     all-released-keep new (all_released f) f.pattern
     (by-leaving-one (all_released f) k.tasks k.time (standing_for k) (standing_for new) (reason.On kind.Flag id) (plain list)
@@ -166,10 +166,10 @@ forced-keeps k id datum q there was =
     (room-receivers q q.receivers)
     (sym (room-receivers q q.receivers)) was
 
-both-are : (q : DataQueueState) (stored : List ℕ) (ss : List (Entry ℕ)) → q.stored ≡ stored → q.senders ≡ ss → received q ≡ received_by q stored ss
+both-are : (q : DataQueueState) (stored : List ℕ) (ss : List (QueueEntry ℕ)) → q.stored ≡ stored → q.senders ≡ ss → received q ≡ received_by q stored ss
 both-are q stored ss stored_is senders_are = ap (λ l. received_by q l q.senders) stored_is ∙ ap (received_by q stored) senders_are
 
-sender-leaves : (k : KernelState) (id : ℕ) (q : DataQueueState) (stored : List ℕ) (first : Entry ℕ) (others : List (Entry ℕ)) →
+sender-leaves : (k : KernelState) (id : ℕ) (q : DataQueueState) (stored : List ℕ) (first : QueueEntry ℕ) (others : List (QueueEntry ℕ)) →
     object_at k.queues id ≡ Some q → q.stored ≡ stored → q.senders ≡ first ∷ others →
     (received_by q stored (first ∷ others)).senders ≡ others → (received_by q stored (first ∷ others)).receivers ≡ q.receivers → StandsIn [] k →
     StandsIn [] (released_in (record k { queues = object_changed received k.queues id }) first.id e_ok None)
@@ -182,7 +182,7 @@ sender-leaves k id q stored first others there stored_is senders_are left same w
     ∙ ap (λ l. if stands_in (reason.On kind.Room id) other then plain l else standing_for k other) (ap (λ x. x.senders) is ∙ left))
     (ap senders there ∙ ap plain senders_are) was)
 
-taken-from : (k : KernelState) (id : ℕ) (q : DataQueueState) (stored : List ℕ) (ss : List (Entry ℕ)) →
+taken-from : (k : KernelState) (id : ℕ) (q : DataQueueState) (stored : List ℕ) (ss : List (QueueEntry ℕ)) →
     object_at k.queues id ≡ Some q → q.stored ≡ stored → q.senders ≡ ss → StandsIn [] k →
     IfSome (receipt_by stored ss) (λ it. StandsIn [] (with_released (record k { queues = object_changed received k.queues id }) it.sender))
 taken-from k id q [] [] there stored_is senders_are was = tt

@@ -5,8 +5,8 @@ use Rattle.std.specs.Option.{option_map}
 use Rattle.std.proofs.lemmas.Bool.Decides.{nat_tests}
 use Rattle.std.proofs.lemmas.List.FromFn.{length-map-range_with_len, get_or-map-range_with_len}
 use Rattle.std.proofs.Math.ListN.{get_or-eq_default}
-use Rattle.brd_queue.specs.declared.entry.Order.{Order}
-use Rattle.brd_queue.specs.declared.entry.Order.TheVariants.{Arrival, Priority}
+use Rattle.brd_queue.specs.declared.entry.QueueOrder.{QueueOrder}
+use Rattle.brd_queue.specs.declared.entry.QueueOrder.TheVariants.{Arrival, Priority}
 use Rattle.brd_queue.specs.Queue.{Plain, priority_in, AreApart}
 use Rattle.brd_tasks.specs.declared.status.WaitReason.{WaitReason}
 use Rattle.brd_tasks.specs.declared.status.WaitReason.TheVariants as reason
@@ -21,7 +21,7 @@ use Rattle.brd_config.specs.declared.objects.FlagConfig.{FlagConfig}
 use Rattle.brd_config.specs.declared.objects.QueueConfig.{QueueConfig}
 use Rattle.brd_config.specs.declared.objects.SpinLockConfig.{SpinLockConfig}
 use Rattle.brd_objects.specs.declared.want.Want.{Want}
-use Rattle.brd_objects.specs.Order.{order_of}
+use Rattle.brd_objects.specs.QueueOrder.{order_of}
 use Rattle.brd_objects.specs.Table.{object_at, made_at, made_below}
 use Rattle.brd_objects.specs.Semaphores.{semaphore_of}
 use Rattle.brd_objects.specs.Flags.{flag_of}
@@ -118,7 +118,7 @@ each-first P id_of object_of configs at first =
     made-by (nat_lt at 256) id_of object_of configs 256 at (λ found. IfSome found P) refl tt
     (some-first P object_of (find (λ c. id_of c == at) configs) first)
 
-empty-in-order : (W : Type 0) (order : Order) → AreInOrder {W = W} order []
+empty-in-order : (W : Type 0) (order : QueueOrder) → AreInOrder {W = W} order []
 empty-in-order W Arrival = tt
 empty-in-order W Priority = tt
 

@@ -1,7 +1,7 @@
 -- The lists of waiters, when a task leaves what it waits for.
 use Rattle.std.proofs.Common.{◌≡◌, ℕ, List, [], ◌∷◌, refl, sym, ap, ◌∙◌}
 use Rattle.std.specs.Prelude.{Bool, true, false, ◌==◌, ◌||◌, if◌then◌else◌, Option, None, Some}
-use Rattle.brd_queue.specs.declared.entry.Entry.{Entry}
+use Rattle.brd_queue.specs.declared.entry.QueueEntry.{QueueEntry}
 use Rattle.brd_queue.specs.Queue.{Plain, priority_in, without, AreApart}
 use Rattle.brd_queue.proofs.QueueLemmas.{apart-without}
 use Rattle.brd_queue.proofs.PriorityLemmas.{priority_in-without}
@@ -43,7 +43,7 @@ nowhere k id wait other was is none = record {
   listed = λ at. nowhere-by (id == at) id at (standing_for k other) refl (was.listed id other ∙ ap (λ w. wanted w other) is ∙ none);
 }
 
-left-list : {W : Type 0} → (id : ℕ) (xs : List (Entry W)) → IsLeft id (plain (without id xs)) (plain xs)
+left-list : {W : Type 0} → (id : ℕ) (xs : List (QueueEntry W)) → IsLeft id (plain (without id xs)) (plain xs)
 left-list id xs = record {
   apart = λ apart. apart-plain (without id xs) (apart-without id xs (apart-wanting xs apart));
   listed = λ at. priority_in-plain at (without id xs) ∙ priority_in-without at id xs

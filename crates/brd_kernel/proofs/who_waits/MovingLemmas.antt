@@ -1,9 +1,9 @@
 -- The lists of waiters, when a task that waits is given another priority.
 use Rattle.std.proofs.Common.{◌≡◌, ℕ, List, [], refl, sym, ap, ◌∙◌}
 use Rattle.std.specs.Prelude.{Bool, true, false, ◌==◌, ◌&&◌, if◌then◌else◌, Option, None, Some, is_some}
-use Rattle.brd_queue.specs.declared.entry.Entry.{Entry}
-use Rattle.brd_queue.specs.declared.entry.Order.{Order}
-use Rattle.brd_queue.specs.declared.entry.Order.TheVariants.{Arrival}
+use Rattle.brd_queue.specs.declared.entry.QueueEntry.{QueueEntry}
+use Rattle.brd_queue.specs.declared.entry.QueueOrder.{QueueOrder}
+use Rattle.brd_queue.specs.declared.entry.QueueOrder.TheVariants.{Arrival}
 use Rattle.brd_queue.specs.Queue.{Plain, has, priority_in, reordered, AreApart}
 use Rattle.brd_queue.proofs.PriorityLemmas.{has-priority_in}
 use Rattle.brd_tasks.specs.declared.status.WaitReason.{WaitReason}
@@ -42,7 +42,7 @@ stays k t time id p wait other was is none = record {
       (has-priority_in id (standing_for k other) ∙ ap is_some (was.listed id other ∙ ap (λ w. wanted w other) is ∙ none));
 }
 
-moved-list : {W : Type 0} → (order : Order) (id p : ℕ) (xs : List (Entry W)) → IsMoved id p (plain (reordered order id p xs)) (plain xs)
+moved-list : {W : Type 0} → (order : QueueOrder) (id p : ℕ) (xs : List (QueueEntry W)) → IsMoved id p (plain (reordered order id p xs)) (plain xs)
 moved-list order id p xs = record {
   apart = λ apart. apart-plain (reordered order id p xs) (apart-reordered order id p xs (apart-wanting xs apart));
   listed = λ at. priority_in-plain at (reordered order id p xs) ∙ priority_in-reordered order at id p xs

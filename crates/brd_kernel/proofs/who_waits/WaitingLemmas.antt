@@ -2,9 +2,9 @@
 use Rattle.std.proofs.Common.{◌≡◌, ◌<◌, ℕ, List, [], ◌∷◌, length, refl, sym, ap, subst, ◌∙◌}
 use Rattle.std.specs.Prelude.{Bool, true, false, ◌==◌, ◌||◌, nat_lt, if◌then◌else◌, Option, None, Some}
 use Rattle.std.proofs.lemmas.Bool.{false≢true}
-use Rattle.brd_queue.specs.declared.entry.Entry.{Entry}
-use Rattle.brd_queue.specs.declared.entry.Order.{Order}
-use Rattle.brd_queue.specs.declared.entry.Order.TheVariants.{Arrival}
+use Rattle.brd_queue.specs.declared.entry.QueueEntry.{QueueEntry}
+use Rattle.brd_queue.specs.declared.entry.QueueOrder.{QueueOrder}
+use Rattle.brd_queue.specs.declared.entry.QueueOrder.TheVariants.{Arrival}
 use Rattle.brd_queue.specs.Queue.{Plain, has, priority_in, placed, AreApart}
 use Rattle.brd_tasks.specs.declared.status.WaitReason.{WaitReason}
 use Rattle.brd_tasks.specs.declared.status.WaitReason.TheVariants as reason
@@ -187,19 +187,19 @@ enters-none id p why lists none were = record {
       (sym (none other));
 }
 
-placed-apart : {W : Type 0} → (order : Order) (e : Entry W) (xs : List (Entry W)) → e.id < 256 → AreApart (plain xs) →
+placed-apart : {W : Type 0} → (order : QueueOrder) (e : QueueEntry W) (xs : List (QueueEntry W)) → e.id < 256 → AreApart (plain xs) →
     AreApart (plain (placed order e xs))
 placed-apart order e xs small apart = apart-plain (placed order e xs) (apart-placed order e xs small (apart-wanting xs apart))
 
 -- `old` is the list of what a task waits for, before it enters
-placed-listed : {W : Type 0} → (order : Order) (at : ℕ) (e : Entry W) (xs : List (Entry W)) (old : List Plain) → old ≡ plain xs →
+placed-listed : {W : Type 0} → (order : QueueOrder) (at : ℕ) (e : QueueEntry W) (xs : List (QueueEntry W)) (old : List Plain) → old ≡ plain xs →
     priority_in at (plain (placed order e xs)) ≡ (if e.id == at then Some e.priority else priority_in at old)
 placed-listed order at e xs old is =
     priority_in-plain at (placed order e xs) ∙ priority_in-placed order at e xs
     ∙ ap (λ q. if e.id == at then Some e.priority else q) (sym (priority_in-plain at xs) ∙ ap (priority_in at) (sym is))
 
 -- the task is placed in one list
-enters-placed : {W : Type 0} → (k : KernelState) (new : WaitReason → List Plain) (why : WaitReason) (order : Order) (e : Entry W) (xs : List (Entry W))
+enters-placed : {W : Type 0} → (k : KernelState) (new : WaitReason → List Plain) (why : WaitReason) (order : QueueOrder) (e : QueueEntry W) (xs : List (QueueEntry W))
     (list : List Plain) → list ≡ plain (placed order e xs) → standing_for k why ≡ plain xs → Rewrites why list (standing_for k) new → StandsIn [] k →
     e.id < 256 → IsEntered e.id why e.priority (standing_for k) new
 enters-placed k new why order e xs list is were all was small =

@@ -15,7 +15,7 @@ impl Kernel {
         ensures is { result ≡ deliverable self.now cpu }
         ensures within { IfSome result (λ line. (line < 32) × IsProcessor cpu) }
     {
-        if !self.pending {
+        if !self.common.pending {
             return None;
         }
         self.first_deliverable(cpu)
@@ -31,7 +31,7 @@ impl Kernel {
         if processor.handling.is_some() || processor.locked || processor.stopped {
             return None;
         }
-        first_pending(self.lines.as_slice(), cpu)
+        first_pending(self.common.lines.as_slice(), cpu)
     }
 
     /// Raises an interrupt. Answers whether its line has a handler; if not, nothing changes.
@@ -39,14 +39,14 @@ impl Kernel {
         ensures is { self.new ≡ raised self.old line }
         ensures there { result ≡ is_some (line_at self.old line).handler }
     {
-        if (line as usize) >= self.lines.len() {
+        if (line as usize) >= self.common.lines.len() {
             return false;
         }
-        if self.lines[line as usize].handler.is_none() {
+        if self.common.lines[line as usize].handler.is_none() {
             return false;
         }
-        self.pending = true;
-        self.lines[line as usize].pending = true;
+        self.common.pending = true;
+        self.common.lines[line as usize].pending = true;
         true
     }
 
@@ -70,8 +70,8 @@ impl Kernel {
         let Some(processor) = self.processor(cpu) else {
             return
         };
-        self.lines[line as usize].pending = false;
-        self.pending = !are_quiet(self.lines.as_slice());
+        self.common.lines[line as usize].pending = false;
+        self.common.pending = !are_quiet(self.common.lines.as_slice());
         self.put_processor(
             cpu,
             Processor {
@@ -79,6 +79,9 @@ impl Kernel {
                 ..processor
             },
         );
-        self.handler_contexts[cpu as usize] = entry_of(line, self.lines[line as usize].handler);
+        self.common.handler_contexts[cpu as usize] = entry_of(
+            line,
+            self.common.lines[line as usize].handler,
+        );
     }
 }

@@ -205,7 +205,7 @@ impl Kernel {
     pub(super) fn priority(&self, id: TaskId) -> u8
         ensures { result ≡ callers_priority self.now id }
     {
-        match self.tasks.task(id) {
+        match self.common.tasks.task(id) {
             Some(task) => task.priority,
             None => 0,
         }

@@ -27,7 +27,7 @@ impl Kernel {
         if has_request(task) {
             return Err(Ercd::Qovr);
         }
-        self.tasks.activate(id, Request::On(to));
+        self.common.tasks.activate(id, Request::On(to));
         Ok(OK)
     }
 
@@ -40,7 +40,7 @@ impl Kernel {
         if task.status.is_dormant() || task.cpu == to || self.is_held_elsewhere(cpu, id, task) {
             return Err(Ercd::Obj);
         }
-        self.tasks.migrate(id, to);
+        self.common.tasks.migrate(id, to);
         Ok(OK)
     }
 
@@ -52,7 +52,7 @@ impl Kernel {
         }
         let _ = self.own_processor(cpu)?;
         let priority = priority_or_callers(priority as u8, self.priority(caller));
-        self.tasks.rotate(cpu, priority);
+        self.common.tasks.rotate(cpu, priority);
         Ok(OK)
     }
 
@@ -63,7 +63,7 @@ impl Kernel {
             return Err(Ercd::Par);
         }
         let _ = self.own_processor(cpu)?;
-        self.tasks.rotate(cpu, priority as u8);
+        self.common.tasks.rotate(cpu, priority as u8);
         Ok(OK)
     }
 
@@ -106,7 +106,7 @@ impl Kernel {
                 ..processor
             },
         );
-        self.handler_contexts[cpu as usize] = no_context();
+        self.common.handler_contexts[cpu as usize] = no_context();
         Ok(Reply::Silent)
     }
 
@@ -140,8 +140,8 @@ impl Kernel {
         ensures is { result ≡ processor_at self.now cpu }
         ensures within { IfSome result (λ _. IsProcessor cpu) }
     {
-        if (cpu as usize) < self.processors.len() {
-            return self.processors[cpu as usize];
+        if (cpu as usize) < self.common.processors.len() {
+            return self.common.processors[cpu as usize];
         }
         None
     }

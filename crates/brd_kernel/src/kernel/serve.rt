@@ -110,7 +110,7 @@ impl Kernel {
         if has_request(task) {
             return Err(Ercd::Qovr);
         }
-        self.tasks.activate(id, Request::Assigned);
+        self.common.tasks.activate(id, Request::Assigned);
         Ok(OK)
     }
 
@@ -119,7 +119,7 @@ impl Kernel {
     {
         let id = id_in_range(id)?;
         let task = self.named_task(id)?;
-        self.tasks.clear_activation(id);
+        self.common.tasks.clear_activation(id);
         if task.activation.is_some() {
             return Ok(Reply::Answer(1, None));
         }
@@ -163,7 +163,7 @@ impl Kernel {
             return Err(Ercd::Obj);
         }
         let priority = priority_or_initial(priority as u8, task);
-        self.tasks.set_priority(id, priority);
+        self.common.tasks.set_priority(id, priority);
         self.reorder(id, priority, task.status.waiting());
         Ok(OK)
     }
@@ -188,7 +188,7 @@ impl Kernel {
         }
         let task = self.named_task(caller)?;
         if task.wakeup {
-            self.tasks.set_wakeup(caller, false);
+            self.common.tasks.set_wakeup(caller, false);
             return Ok(OK);
         }
         if timeout == 0 {
@@ -231,7 +231,7 @@ impl Kernel {
         if task.wakeup {
             return Err(Ercd::Qovr);
         }
-        self.tasks.set_wakeup(id, true);
+        self.common.tasks.set_wakeup(id, true);
         Ok(OK)
     }
 
@@ -243,7 +243,7 @@ impl Kernel {
         if task.status.is_dormant() {
             return Err(Ercd::Obj);
         }
-        self.tasks.set_wakeup(id, false);
+        self.common.tasks.set_wakeup(id, false);
         if task.wakeup {
             return Ok(Reply::Answer(1, None));
         }
@@ -273,7 +273,7 @@ impl Kernel {
         if task.status.is_suspended() {
             return Err(Ercd::Qovr);
         }
-        self.tasks.suspend(id);
+        self.common.tasks.suspend(id);
         Ok(OK)
     }
 
@@ -285,24 +285,24 @@ impl Kernel {
         if !task.status.is_suspended() {
             return Err(Ercd::Obj);
         }
-        self.tasks.resume(id);
+        self.common.tasks.resume(id);
         Ok(OK)
     }
 
     fn put_chr(&mut self, word: u32) -> Result<Reply, Ercd>
         ensures { Serves self.old self.new result (served (table.put_chr self.old word)) }
     {
-        if self.console.len() >= CONSOLE_SIZE {
+        if self.common.console.len() >= CONSOLE_SIZE {
             return Err(Ercd::Qovr);
         }
-        self.console.push_reserved((word % 256) as u8);
+        self.common.console.push_reserved((word % 256) as u8);
         Ok(OK)
     }
 
     fn ext_ker(&mut self) -> Result<Reply, Ercd>
         ensures { Serves self.old self.new result (served (table.ext_ker self.old)) }
     {
-        self.off = true;
+        self.common.off = true;
         Ok(Reply::Silent)
     }
 
@@ -310,7 +310,7 @@ impl Kernel {
     pub(super) fn named_task(&self, id: TaskId) -> Result<Task, Ercd>
         ensures { result ≡ or_fault Noexs (task_at self.now.tasks id) }
     {
-        match self.tasks.task(id) {
+        match self.common.tasks.task(id) {
             Some(task) => Ok(task),
             None => Err(Ercd::Noexs),
         }

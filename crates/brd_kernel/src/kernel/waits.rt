@@ -34,7 +34,7 @@ impl Kernel {
     pub(super) fn can_wait(&self, id: TaskId) -> bool
         ensures { result ≡ can_wait (task_at self.now.tasks id) }
     {
-        match self.tasks.task(id) {
+        match self.common.tasks.task(id) {
             Some(task) => task.status.is_ready(),
             None => false,
         }
@@ -45,7 +45,7 @@ impl Kernel {
         ensures is { result ≡ due_after self.now ticks }
         ensures counted { result < 2 ^ 64 - 1 }
     {
-        self.time.now() + ticks as u64 + 1
+        self.common.time.now() + ticks as u64 + 1
     }
 
     /// The tick at which a wait of this timeout ends, if it has an end.
@@ -64,12 +64,16 @@ impl Kernel {
     pub(super) fn block(&mut self, id: TaskId, reason: WaitReason, due: Option<u64>)
         requires small { id < 256 }
         requires counted { IfSome due (λ at. at < 2 ^ 64 - 1) }
-        ensures { self.new ≡ record self.old { tasks = through (blocked reason) self.old.tasks id; time = with_due self.old.time id due } }
+        ensures { self.new
+            ≡ record self.old {
+              tasks = through (blocked reason) self.old.tasks id;
+              time = with_due self.old.time id due;
+            } }
     {
-        self.tasks.block(id, reason);
+        self.common.tasks.block(id, reason);
         match due {
-            Some(due) => self.time.arm(id, due),
-            None => self.time.disarm(id),
+            Some(due) => self.common.time.arm(id, due),
+            None => self.common.time.disarm(id),
         }
     }
 
@@ -78,15 +82,15 @@ impl Kernel {
         requires { id < 256 }
         ensures { self.new ≡ released_in self.old id code second }
     {
-        self.tasks.release(id, code, second);
-        self.time.disarm(id);
+        self.common.tasks.release(id, code, second);
+        self.common.time.disarm(id);
     }
 
     /// What a task waits for.
     pub(super) fn reason(&self, id: TaskId) -> Option<WaitReason>
         ensures { result ≡ reason_of self.now id }
     {
-        let task = self.tasks.task(id)?;
+        let task = self.common.tasks.task(id)?;
         task.status.waiting()
     }
 
@@ -127,8 +131,8 @@ impl Kernel {
         ensures { self.new ≡ ended_in self.old id }
     {
         self.leave(id);
-        self.tasks.end(id);
-        self.time.disarm(id);
+        self.common.tasks.end(id);
+        self.common.time.disarm(id);
     }
 
     /// A task has another priority: in the list of what it waits for it is placed anew where that goes by priority,
@@ -160,7 +164,7 @@ impl Kernel {
         ensures { self.new ≡ all_timed_out self.old (due_from self.old.time 0) }
     {
         let mut from = 0u16;
-        while let Some(id) = self.time.next_due(from) {
+        while let Some(id) = self.common.time.next_due(from) {
             self.time_out(id);
             from = id + 1;
         }

@@ -14,10 +14,10 @@ pub returns-in-Some-clause-there : goal.returns-in-Some-clause-there
 returns-in-Some-clause-there c =
     let k : KernelState = c.args.self.now in
     let run : run_tasks (are_there k.tasks) k.processors ≡ true =
-    subst (λ (s : KernelState). run_tasks (are_there s.tasks) s.processors ≡ true) c.self.view_is c.self.invariant.0.running in
+    subst (λ (s : KernelState). run_tasks (are_there s.tasks) s.processors ≡ true) c.self.view_is c.self.invariant.0.kernel.running in
     let who : executor_on k c.args.cpu ≡ Some (executor.Task c.in-Some.id) =
     subst (λ (s : KernelState). executor_on s c.args.cpu ≡ Some (executor.Task c.in-Some.id)) c.self.view_is
-    (executor-is c.self.inside.executing c.self.inside.processors c.args.cpu c.in-Some.id c.self.invariant.3 c.in-Some.is) in
+    (executor-is c.self.inside.common.executing c.self.inside.common.processors c.args.cpu c.in-Some.id c.self.invariant.0.executing c.in-Some.is) in
     subst (λ (x : Option Executor). IfSome x (HasContext k c.args.cpu)) who
     (executor-has k c.args.cpu (processor_at k c.args.cpu) c.if-cpu-lt9.true (run-at (are_there k.tasks) k.processors c.args.cpu run))
 
@@ -25,7 +25,7 @@ pub returns-in-Some-clause-place : goal.returns-in-Some-clause-place
 returns-in-Some-clause-place c =
     let k : KernelState = c.args.self.now in
     let known : c.in-Some.id < 256 =
-    there-small c.self.inside.tasks c.in-Some.id c.are_consistent.ensures
+    there-small c.self.inside.common.tasks c.in-Some.id c.are_consistent.ensures
     (subst (λ (s : KernelState). HasContext s c.args.cpu (executor.Task c.in-Some.id)) (sym c.self.view_is) (returns-in-Some-clause-there c)) in
-    let count : length c.self.inside.tasks.contexts ≡ length k.tasks.contexts = ap (λ (s : KernelState). length s.tasks.contexts) c.self.view_is in
+    let count : length c.self.inside.common.tasks.contexts ≡ length k.tasks.contexts = ap (λ (s : KernelState). length s.tasks.contexts) c.self.view_is in
     omega (arith, known, count, c.are_consistent.ensures.contexts)

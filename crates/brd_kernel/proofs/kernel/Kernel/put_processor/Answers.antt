@@ -9,12 +9,14 @@ use Rattle.brd_kernel.proofs.kernel.Kernel.put_processor.Goals as goal
 
 pub invariant_of-self : goal.invariant_of-self
 invariant_of-self c =
-    let known : is_task_or_none (are_there c.self.inside.tasks) c.args.processor.running ≡ true =
+    let known : is_task_or_none (are_there c.self.inside.common.tasks) c.args.processor.running ≡ true =
     subst (λ (k : KernelState). is_task_or_none (are_there k.tasks) c.args.processor.running ≡ true) (sym c.self.view_is) c.requires.known in
-    let run : run_tasks (are_there c.self.inside.tasks) (slice_set c.self.inside.processors c.args.cpu (Some c.args.processor)) ≡ true =
-    run-set (are_there c.self.inside.tasks) c.self.inside.processors c.args.cpu c.args.processor known c.self.invariant.0.running in (
-      search (rules, run),
+    let run : run_tasks (are_there c.self.inside.common.tasks) (slice_set c.self.inside.common.processors c.args.cpu (Some c.args.processor)) ≡ true =
+    run-set (are_there c.self.inside.common.tasks) c.self.inside.common.processors c.args.cpu c.args.processor known c.self.invariant.0.kernel.running in (
+      record {
+        kernel = search (rules, run);
+        quiet = c.self.invariant.0.quiet;
+        executing = rw c.task.ensures (executing-set c.self.inside.common.executing c.self.inside.common.processors c.args.cpu c.args.processor c.self.invariant.0.executing);
+      },
       c.self.invariant.1,
-      c.self.invariant.2,
-      rw c.task.ensures (executing-set c.self.inside.executing c.self.inside.processors c.args.cpu c.args.processor c.self.invariant.3),
     )

@@ -1,0 +1,39 @@
+-- What a kernel and what is saved of one have in common, and how a kernel is seen in it. (Only private functions'
+-- contracts and the models of both name these.)
+use Rattle.std.specs.Prelude.{◌≡◌, false, map}
+use Rattle.brd_objects.specs.declared.semaphore.Semaphore.{Semaphore}
+use Rattle.brd_objects.specs.declared.flag.Flag.{Flag}
+use Rattle.brd_objects.specs.Table.{Table}
+use Rattle.brd_objects.specs.DataQueues.{DataQueueState}
+use Rattle.brd_kernel.specs.declared.common.Common.{Common}
+use Rattle.brd_kernel.specs.Kernel.{KernelState}
+use Rattle.brd_kernel.specs.Always.{IsKernel, AreQuiet, task_executing}
+
+-- the kernel, with these objects
+abbrev pub kernel_of : Common → Table Semaphore → Table Flag → Table DataQueueState → KernelState
+kernel_of c semaphores flags queues = record {
+  off = c.off;
+  time = c.time;
+  tasks = c.tasks;
+  semaphores = semaphores;
+  flags = flags;
+  queues = queues;
+  spin_locks = c.spin_locks.items;
+  processors = c.processors;
+  handler_contexts = c.handler_contexts.items;
+  lines = c.lines.items;
+  console = c.console.items;
+}
+
+-- what is always true of it, and that what is kept beside it, so that a step needn't find it out, is so
+pub record IsCommon (c : Common) (k : KernelState) : Type 0 where
+  pub kernel : IsKernel k
+  pub quiet : c.pending ≡ false → AreQuiet c.lines.items
+  pub executing : c.executing ≡ map task_executing c.processors
+
+-- a copy makes the same kernel, whatever its objects
+pub record IsCopy (c copy : Common) : Type 0 where
+  pub same : (semaphores : Table Semaphore) (flags : Table Flag) (queues : Table DataQueueState) →
+      kernel_of copy semaphores flags queues ≡ kernel_of c semaphores flags queues
+  pub pending : copy.pending ≡ c.pending
+  pub executing : copy.executing ≡ c.executing
