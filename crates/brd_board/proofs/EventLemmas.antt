@@ -19,7 +19,8 @@ use Rattle.brd_kernel.specs.declared.processor.LineSetup.{LineSetup}
 use Rattle.brd_kernel.specs.declared.processor.Processor.{Processor}
 use Rattle.brd_kernel.specs.declared.processor.Executor.{Executor}
 use Rattle.brd_kernel.specs.declared.processor.Executor.TheVariants as executor
-use Rattle.brd_kernel.specs.Kernel.{KernelState, with_tasks, processor_at, executor_on, with_context_of, accepted_line, with_pending, deliverable, line_at, Executed, executed_in, executed}
+use Rattle.brd_kernel.specs.Kernel.{KernelState, with_tasks, processor_at, executor_on, with_context_of, accepted_line, with_pending, deliverable, line_at}
+use Rattle.brd_board.specs.Executing.{Executed, executed_in, executed}
 use Rattle.brd_kernel.specs.Waits.{ticked_on, ended_by_fault}
 use Rattle.brd_kernel.specs.Dispatch.{dispatched}
 use Rattle.brd_sysgate.specs.Gate.{called}

@@ -9,7 +9,8 @@ use Rattle.brd_exec.specs.declared.outcome.Outcome.TheVariants.{Done, Syscall, E
 use Rattle.brd_exec.proofs.FormLemmas.{IsAlike, form-ran}
 use Rattle.brd_time.specs.Time.{last_count, advanced}
 use Rattle.brd_kernel.specs.declared.processor.Processor.{Processor}
-use Rattle.brd_kernel.specs.Kernel.{context_of, executor_on, executed_by, executed_in, deliverable, processor_at, with_pending, line_at}
+use Rattle.brd_kernel.specs.Kernel.{context_of, executor_on, deliverable, processor_at, with_pending, line_at}
+use Rattle.brd_board.specs.Executing.{executed_by, executed_in}
 use Rattle.brd_kernel.specs.declared.processor.Executor.{Executor}
 use Rattle.brd_kernel.specs.Waits.{ticked_on}
 use Rattle.brd_board.specs.declared.event.Event.{Event}

@@ -12,7 +12,7 @@ use Rattle.brd_kernel.specs.Kernel.{executor_by}
 use Rattle.brd_kernel.specs.Services.{named}
 use Rattle.brd_kernel.proofs.who_runs.RunningCallLemmas.{IsFree, MayServe, IsTaskOf, known_of, none-held}
 use Rattle.brd_kernel.proofs.ThereLemmas.{first-of, second-of}
-use Rattle.brd_kernel.proofs.WalkLemmas.{Stop, GoesOn, Locks, Unlocks, MayWait, Waits, Names, Ends, stop_of, MayStop}
+use Rattle.brd_kernel.proofs.WalkLemmas.{CallerStop, GoesOn, Locks, Unlocks, MayWait, Waits, Names, Ends, stop_of, MayStop}
 use Rattle.brd_sysgate.specs.declared.gate.Caller.{Caller}
 use Rattle.brd_sysgate.specs.declared.gate.Caller.TheVariants.{Task, Handler}
 use Rattle.brd_sysgate.specs.declared.place.Place.{Place}
@@ -22,7 +22,7 @@ use Rattle.brd_sysgate.specs.Gate.{Service, table, a0, is_oneself, may_call, arg
 -- Of each row of the table: from where a call may come by what it may do to its caller; and one that may be about its
 -- caller names it by its first argument. Both are computed over the whole table.
 
-abbrev fits : Stop → Place → Bool
+abbrev fits : CallerStop → Place → Bool
 fits GoesOn from = true
 fits Locks place.Task = true
 fits Locks _ = false
@@ -37,7 +37,7 @@ fits (Names t) _ = false
 fits Ends place.LockedTask = true
 fits Ends _ = false
 
-abbrev named_by : Stop → ℕ → ℕ
+abbrev named_by : CallerStop → ℕ → ℕ
 named_by (Names t) first = t
 named_by _ first = first
 
@@ -57,7 +57,7 @@ table-names a = refl
 -- so a call that comes from where it may, may be served
 abbrev PlacesMay : Processor → ℕ → Caller → ℕ → Type 0
 PlacesMay p id caller first =
-    (stop : Stop) (from : Place) → fits stop from ≡ true → named_by stop first ≡ first → may_call caller from first ≡ true →
+    (stop : CallerStop) (from : Place) → fits stop from ≡ true → named_by stop first ≡ first → may_call caller from first ≡ true →
     MayStop (known_of p id) id stop
 
 abbrev pub MayBe : Processor → ℕ → Result Call Ercd → Type 0
@@ -82,7 +82,7 @@ found : (p : Processor) (id number : ℕ) (caller : Caller) (a : List ℕ) (serv
     MayBe p id (allowed caller (a0 a) (option_map (λ x. record { place = x.place; call = x.call a }) (find (λ x. x.number == number) services)))
 found p id number caller a [] may fit name = tt
 found p id number caller a (s ∷ services) may fit name =
-    let stop : Stop = stop_of (s.call a) in
+    let stop : CallerStop = stop_of (s.call a) in
     found-by (s.number == number) p id number caller a s services
     (may stop s.place (first-of (fits stop s.place) (all_fit a services) fit) (ap (λ l. slice_index_or l 0 (a0 a)) name))
     (found p id number caller a services may (second-of (fits stop s.place) (all_fit a services) fit) (ap (drop 1) name))

@@ -12,9 +12,9 @@ use Rattle.brd_kernel.specs.Always.{HasPlace}
 use Rattle.brd_board.specs.declared.event.Event.TheVariants.{Step}
 use Rattle.brd_board.specs.declared.lease.Block.{Block}
 use Rattle.brd_board.specs.Board.{BoardState, after}
-use Rattle.brd_board.specs.InARow.{GoesOn}
+use Rattle.brd_board.specs.Batch.{GoesOn}
 use Rattle.brd_board.specs.Lease.{most_lent, LeaseState, IsLease, block_in, IsFresh, lent_more, lent_next, Steps, DoesMost}
-use Rattle.brd_board.proofs.RowLemmas.{local-steps-go}
+use Rattle.brd_board.proofs.BatchLemmas.{local-steps-go}
 
 -- past a step that isn't lent there is none
 lent-past : (count done : ℕ) (s : State) (window : List ℕ) (start : ℕ) → lent (suc done) s window start ≡ None → done < count →

@@ -14,6 +14,6 @@ pub mod RunningLemmas
 pub mod OwnLemmas
 pub mod FormLemmas
 pub mod StoringLemmas
-pub mod RowLemmas
+pub mod BatchLemmas
 pub mod SpinLemmas
 mod LeaseLemmas

@@ -18,7 +18,8 @@ use Rattle.brd_kernel.specs.declared.processor.Processor.{Processor}
 use Rattle.brd_kernel.specs.declared.processor.Executor.{Executor}
 use Rattle.brd_kernel.specs.declared.processor.Executor.TheVariants as executor
 use Rattle.brd_kernel.specs.declared.processor.Standing.TheVariants as standing
-use Rattle.brd_kernel.specs.Kernel.{KernelState, processor_at, running_in, executor_by, executor_in, executor_on, handler_context_at, context_of, context_on, with_context_of, standing_by, standing_in, deliverable, line_at, Executed, executed_by, executed_in, executed}
+use Rattle.brd_kernel.specs.Kernel.{KernelState, processor_at, running_in, executor_by, executor_in, executor_on, handler_context_at, context_of, context_on, with_context_of, standing_by, standing_in, deliverable, line_at}
+use Rattle.brd_board.specs.Executing.{Executed, executed_by, executed_in, executed}
 use Rattle.brd_kernel.specs.Waits.{shown_until, seen_at}
 use Rattle.brd_kernel.specs.Running.{IsRunning}
 use Rattle.brd_kernel.proofs.who_runs.RunningLemmas.{runs-once}

@@ -1,5 +1,6 @@
 -- The board: what it consists of, what one event does to it, and what a list of events does.
-use Rattle.std.specs.Prelude.{ℕ, nat_lt, nat_le, ◌&&◌, if◌then◌else◌, List, [], ◌∷◌, slice_index_or, slice_set, Option, Some, None, is_some}
+use Rattle.std.specs.Prelude.{ℕ, nat_lt, nat_le, ◌&&◌, if◌then◌else◌, List, [], ◌∷◌, slice_index_or, slice_set, Option}
+use Rattle.std.specs.Prelude.{Some, None, is_some}
 use Rattle.brd_link.specs.LinkSet.{LinkSet, linked_address, without, without_all}
 use Rattle.brd_mem.specs.Memory.{Memory}
 use Rattle.brd_exec.specs.State.{State}
@@ -10,10 +11,12 @@ use Rattle.brd_time.specs.Time.{last_count, advanced}
 use Rattle.brd_kernel.specs.declared.processor.Processor.{Processor}
 use Rattle.brd_kernel.specs.declared.processor.Standing.{Standing}
 use Rattle.brd_kernel.specs.declared.processor.Spin.{Spin}
-use Rattle.brd_kernel.specs.Kernel.{KernelState, processor_at, context_on, deliverable, accepted_line, with_pending, line_at, standing_on, spin_of, Executed, executed}
+use Rattle.brd_kernel.specs.Kernel.{KernelState, processor_at, context_on, deliverable, accepted_line, with_pending}
+use Rattle.brd_kernel.specs.Kernel.{line_at, standing_on, spin_of}
 use Rattle.brd_kernel.specs.Waits.{ended_by_fault, ticked_on, seen_at}
 use Rattle.brd_kernel.specs.Dispatch.{dispatched, changed_processors}
 use Rattle.brd_sysgate.specs.Gate.{called}
+use Rattle.brd_board.specs.Executing.{Executed, executed}
 use Rattle.brd_board.specs.declared.event.Event.{Event}
 use Rattle.brd_board.specs.declared.event.Event.TheVariants.{Step, Tick, Raise}
 use Rattle.brd_board.specs.declared.event.Report.{Report}
@@ -77,12 +80,14 @@ executes b cpu = executes_in b cpu (executed b.kernel cpu b.memory b.links)
 -- an interrupt is accepted, which ends the link; or an instruction is executed
 abbrev pub accepts_or_executes : BoardState → ℕ → Option ℕ → Happened
 accepts_or_executes b cpu (Some line) =
-    then_dispatched (record b { kernel = accepted_line b.kernel cpu line; links = without b.links cpu }) (report.Accepted line)
+    then_dispatched (record b { kernel = accepted_line b.kernel cpu line; links = without b.links cpu })
+    (report.Accepted line)
 accepts_or_executes b cpu None = executes b cpu
 
 abbrev pub stepped_in : BoardState → ℕ → Option Processor → Happened
 stepped_in b cpu None = reported b report.NoSuch
-stepped_in b cpu (Some p) = if p.stopped then reported b report.Stopped else accepts_or_executes b cpu (deliverable b.kernel cpu)
+stepped_in b cpu (Some p) =
+    if p.stopped then reported b report.Stopped else accepts_or_executes b cpu (deliverable b.kernel cpu)
 
 -- a processor does its next step
 abbrev pub stepped : BoardState → ℕ → Happened
@@ -91,13 +96,15 @@ stepped b cpu = stepped_in b cpu (processor_at b.kernel cpu)
 -- a tick passes, and the waits end whose tick has come; unless the last one has been counted
 abbrev pub tick_passed : BoardState → Happened
 tick_passed b =
-    if nat_lt b.kernel.time.count last_count then then_dispatched (record b { kernel = ticked_on b.kernel (advanced b.kernel.time) }) report.Ticked
+    if nat_lt b.kernel.time.count last_count
+    then then_dispatched (record b { kernel = ticked_on b.kernel (advanced b.kernel.time) }) report.Ticked
     else reported b report.TimeOver
 
 -- an interrupt is raised, where its line has a handler
 abbrev pub line_raised : BoardState → ℕ → Happened
 line_raised b line =
-    if is_some (line_at b.kernel line).handler then reported (record b { kernel = with_pending b.kernel line }) report.Raised
+    if is_some (line_at b.kernel line).handler
+    then reported (record b { kernel = with_pending b.kernel line }) report.Raised
     else reported b report.NoSuch
 
 -- what an event does to a board that is on

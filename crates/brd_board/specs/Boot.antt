@@ -1,5 +1,6 @@
 -- Boot: the board that an image and a configuration make.
-use Rattle.std.specs.Prelude.{ℕ, ◌+◌, ◌-◌, ◌*◌, ◌^◌, nat_le, Bool, true, ◌&&◌, if◌then◌else◌, List, [], ◌∷◌, ◌++◌, length, map, flat_map, replicate, None, unwrap_or, Result, Ok, Err}
+use Rattle.std.specs.Prelude.{ℕ, ◌+◌, ◌-◌, ◌*◌, ◌^◌, nat_le, Bool, true, ◌&&◌, if◌then◌else◌, List, [], ◌∷◌, ◌++◌}
+use Rattle.std.specs.Prelude.{length, map, flat_map, replicate, None, unwrap_or, Result, Ok, Err}
 use Rattle.std.specs.List.{range_with_len}
 use Rattle.brd_base.specs.Space.{base}
 use Rattle.brd_text.specs.Faults.{◌>>=◌}
@@ -42,7 +43,8 @@ loaded order size segments = if are_inside size segments then Ok (memory_of orde
 -- started, and each processor runs its first ready task
 abbrev pub booted_kernel : List TaskSetup → List LineSetup → Configuration → KernelState
 booted_kernel setups lines config =
-    let made = made_kernel config.processors setups lines config.semaphores config.flags config.queues config.spin_locks in
+    let made =
+    made_kernel config.processors setups lines config.semaphores config.flags config.queues config.spin_locks in
     dispatched (with_tasks made (all_started made.tasks config.tasks))
 
 -- the board as boot leaves it: without links and faults
@@ -78,7 +80,17 @@ words_task = record {
 }
 
 abbrev pub words_config : Configuration
-words_config = record { processors = 1; ram = words_ram; tasks = words_task ∷ []; semaphores = []; flags = []; queues = []; spin_locks = []; handlers = [] }
+words_config =
+    record {
+      processors = 1;
+      ram = words_ram;
+      tasks = words_task ∷ [];
+      semaphores = [];
+      flags = [];
+      queues = [];
+      spin_locks = [];
+      handlers = [];
+    }
 
 -- that task: its stack pointer is the end of RAM
 abbrev pub words_setup : TaskSetup
@@ -92,4 +104,6 @@ memory_of_words words =
 -- the board of a list of words, of which 16,384 fit into RAM
 abbrev pub boot_words : List ℕ → Result BoardState BootFault
 boot_words words =
-    if nat_le (length words) 16384 then Ok (booted_board (booted_kernel (words_setup ∷ []) [] words_config) (memory_of_words words)) else Err Outside
+    if nat_le (length words) 16384
+    then Ok (booted_board (booted_kernel (words_setup ∷ []) [] words_config) (memory_of_words words))
+    else Err Outside

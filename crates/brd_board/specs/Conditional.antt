@@ -28,7 +28,8 @@ pub record Leaves (b : BoardState) (cpu rt address : ℕ) (context : State) (sto
   pub memory_is :
       MatchBool stores (stored32 b.memory address (read context rt) ≡ Ok (happens b (Step cpu)).board.memory)
       ((happens b (Step cpu)).board.memory ≡ b.memory)
-  pub context_is : registers_of (happens b (Step cpu)).board cpu ≡ Some (with_register context rt (if stores then 1 else 0))
+  pub context_is : registers_of (happens b (Step cpu)).board cpu
+      ≡ Some (with_register context rt (if stores then 1 else 0))
   pub moves_are : moves b (Step cpu) ≡ (record { processor = cpu; did = Conditional address stores }) ∷ []
 
 -- After these events an SC that raises nothing stores exactly where its processor has a reservation of the word.
@@ -36,7 +37,8 @@ abbrev pub ConditionalLaw : BoardState → List Event → Type 0
 ConditionalLaw board events =
     (cpu rt address : ℕ) (sc : DoesConditional (after board events) cpu rt address) →
     (HasReserved cpu address (history board events) → Leaves (after board events) cpu rt address sc.context true)
-    × ((HasReserved cpu address (history board events) → ⊥) → Leaves (after board events) cpu rt address sc.context false)
+    × ((HasReserved cpu address (history board events) → ⊥) →
+    Leaves (after board events) cpu rt address sc.context false)
 
 -- Where a processor has a reservation of a word, and has itself stored nothing into the block since, the word is the
 -- one that its LL loaded. An SC that comes next meets this word.

@@ -1,5 +1,6 @@
 -- What the processors did in a list of events, and when that leaves a processor a reservation of a word.
-use Rattle.std.specs.Prelude.{◌≡◌, ℕ, nat_lt, ◌==◌, Bool, false, not, ◌&&◌, ◌||◌, if◌then◌else◌, List, [], ◌∷◌, ◌++◌, Option, Some, None}
+use Rattle.std.specs.Prelude.{◌≡◌, ℕ, nat_lt, ◌==◌, Bool, false, not, ◌&&◌, ◌||◌, if◌then◌else◌, List, [], ◌∷◌, ◌++◌}
+use Rattle.std.specs.Prelude.{Option, Some, None}
 use Rattle.std.specs.List.{AllByRecursion}
 use Rattle.brd_link.specs.LinkSet.{is_same_block, without}
 use Rattle.brd_exec.specs.Step.{ran}
@@ -9,7 +10,8 @@ use Rattle.brd_exec.specs.declared.outcome.Outcome.TheVariants.{Done, Syscall, E
 use Rattle.brd_time.specs.Time.{last_count, advanced}
 use Rattle.brd_kernel.specs.declared.processor.Processor.{Processor}
 use Rattle.brd_kernel.specs.declared.processor.Executor.{Executor}
-use Rattle.brd_kernel.specs.Kernel.{processor_at, executor_on, context_of, executed_by, deliverable, accepted_line}
+use Rattle.brd_kernel.specs.Kernel.{processor_at, executor_on, context_of, deliverable, accepted_line}
+use Rattle.brd_board.specs.Executing.{executed_by}
 use Rattle.brd_kernel.specs.Waits.{ticked_on}
 use Rattle.brd_kernel.specs.Dispatch.{dispatched, changed_processors}
 use Rattle.brd_board.specs.declared.event.Event.{Event}
@@ -38,7 +40,8 @@ abbrev pub moves_done : BoardState → ℕ → Did → Outcome → List Move
 moves_done b cpu what Done = (record { processor = cpu; did = what }) ∷ []
 moves_done b cpu what Syscall = (record { processor = cpu; did = Ended }) ∷ moves_dispatched (with_call b cpu)
 moves_done b cpu what (Exception code epc bd) =
-    (record { processor = cpu; did = what }) ∷ moves_dispatched (with_fault b cpu (record { code = code; epc = epc; bd = bd }))
+    (record { processor = cpu; did = what })
+    ∷ moves_dispatched (with_fault b cpu (record { code = code; epc = epc; bd = bd }))
 
 -- nobody executes, or the handler or the running task does one instruction
 abbrev pub moves_executing : BoardState → ℕ → Option Executor → List Move
@@ -63,7 +66,9 @@ moves_stepping b cpu (Some p) = if p.stopped then [] else moves_accepting b cpu 
 abbrev pub moves_on : BoardState → Event → List Move
 moves_on b (Step cpu) = moves_stepping b cpu (processor_at b.kernel cpu)
 moves_on b Tick =
-    if nat_lt b.kernel.time.count last_count then moves_dispatched (record b { kernel = ticked_on b.kernel (advanced b.kernel.time) }) else []
+    if nat_lt b.kernel.time.count last_count
+    then moves_dispatched (record b { kernel = ticked_on b.kernel (advanced b.kernel.time) })
+    else []
 moves_on b (Raise line) = []
 
 -- what the processors do in an event; nothing on a board that is off
@@ -112,4 +117,5 @@ does_store address Ended = false
 
 -- none of these moves is a store of the processor into the block
 abbrev pub Untouched : ℕ → ℕ → List Move → Type 0
-Untouched cpu address moves = AllByRecursion (λ (move : Move). (move.processor == cpu && does_store address move.did) ≡ false) moves
+Untouched cpu address moves =
+    AllByRecursion (λ (move : Move). (move.processor == cpu && does_store address move.did) ≡ false) moves

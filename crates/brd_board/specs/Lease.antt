@@ -1,5 +1,6 @@
 -- Leases: what is needed to do a processor's local instructions apart from the board, and what a lease comes to.
-use Rattle.std.specs.Prelude.{◌≡◌, ℕ, ◌+◌, ◌≤◌, ◌%◌, ◌==◌, Bool, true, false, ◌||◌, if◌then◌else◌, List, replicate, Option, None, Some, is_some, Result, Ok, Err}
+use Rattle.std.specs.Prelude.{◌≡◌, ℕ, ◌+◌, ◌≤◌, ◌%◌, ◌==◌, Bool, true, false, ◌||◌, if◌then◌else◌, List, replicate}
+use Rattle.std.specs.Prelude.{Option, None, Some, is_some, Result, Ok, Err}
 use Rattle.brd_mem.specs.Memory.{Memory}
 use Rattle.brd_mem.specs.Window.{window_start, window_at}
 use Rattle.brd_exec.specs.State.{State}
@@ -87,7 +88,8 @@ pub record DoesMost (limit : ℕ) (old new : LeaseState) (done : ℕ) : Type 0 w
   pub rest : new ≡ record old { len = old.len + done; context = new.context }
   pub limited : done ≤ limit
   pub most : old.len + done ≤ most_lent
-  pub greatest : (count : ℕ) → count ≤ limit → old.len + count ≤ most_lent → is_some (lent_more old count) ≡ true → count ≤ done
+  pub greatest : (count : ℕ) → count ≤ limit → old.len + count ≤ most_lent → is_some (lent_more old count) ≡ true →
+      count ≤ done
 
 -- what the commit of a lease answers and leaves: the board after as many steps of its processor, or Stale
 abbrev pub Commits : BoardState → LeaseState → Result ℕ Stale → BoardState → Type 0

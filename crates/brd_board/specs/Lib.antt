@@ -1,3 +1,4 @@
+pub mod Executing
 pub mod Board
 pub mod Snapshot
 pub mod Setup
@@ -5,7 +6,7 @@ pub mod Boot
 pub mod History
 pub mod Runs
 pub mod Conditional
-pub mod InARow
+pub mod Batch
 pub mod Lease
 pub mod Storing
 pub mod SpinLocks

@@ -28,7 +28,8 @@ pub record ChangesOnlyItsOwn (b : BoardState) (event : Event) (address : ℕ) (n
   -- how tasks were set up, and what else is kept of them
   pub rows : new.kernel.tasks.rows ≡ b.kernel.tasks.rows
   pub registers : (other : ℕ) → (other ≡ cpu → ⊥) → registers_of new other ≡ registers_of b other
-  pub handlers : (other : ℕ) → (other ≡ cpu → ⊥) → handler_context_at new.kernel other ≡ handler_context_at b.kernel other
+  pub handlers : (other : ℕ) → (other ≡ cpu → ⊥) →
+      handler_context_at new.kernel other ≡ handler_context_at b.kernel other
   -- who runs on each processor, its handler, its marks and its spin lock
   pub processors : (other : ℕ) → processor_at new.kernel other ≡ processor_at b.kernel other
   pub standings : (other : ℕ) → standing_of new other ≡ standing_of b other

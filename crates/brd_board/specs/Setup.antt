@@ -2,7 +2,8 @@
 -- where the handler of each interrupt line starts. Where the configuration names a symbol of the image, its value is
 -- meant. The first fault in the order of the statements is answered; of one statement first all its symbols are looked
 -- up, then its addresses are tested.
-use Rattle.std.specs.Prelude.{ℕ, ◌+◌, ◌-◌, ◌%◌, ◌==◌, Bool, true, false, ◌&&◌, if◌then◌else◌, List, [], ◌∷◌, Result, Ok, Err}
+use Rattle.std.specs.Prelude.{ℕ, ◌+◌, ◌-◌, ◌%◌, ◌==◌, Bool, true, false, ◌&&◌, if◌then◌else◌, List, [], ◌∷◌, Result, Ok}
+use Rattle.std.specs.Prelude.{Err}
 use Rattle.std.specs.Int.RustNames.{bit_and}
 use Rattle.brd_base.specs.Space.{base}
 use Rattle.brd_text.specs.Faults as text
@@ -49,7 +50,12 @@ rounded_down n = n - n % 8
 -- end, rounded down, and `free` stays.
 abbrev pub region_by : List Symbol → ℕ → ℕ → Stack → Result Region BootFault
 region_by symbols free stack_size Automatic =
-    Ok (record { low = free - rounded_up stack_size; len = rounded_up stack_size; sp = free; free = free - rounded_up stack_size })
+    Ok (record {
+      low = free - rounded_up stack_size;
+      len = rounded_up stack_size;
+      sp = free;
+      free = free - rounded_up stack_size;
+    })
 region_by symbols free stack_size (At operand) = do
   low ← value_of symbols operand
   Ok (record { low = low; len = stack_size; sp = rounded_down (low + stack_size); free = free })
@@ -61,7 +67,14 @@ region_of symbols free task = region_by symbols free task.stack_size task.stack
 -- the task as its statement says it; the next stack that the configuration leaves open ends at region.free
 abbrev pub placed_in : TaskConfig → ℕ → ℕ → Region → Placed
 placed_in task exinf address region = record {
-  setup = record { id = task.id; cpu = task.processor; priority = task.priority; exinf = exinf; address = address; sp = region.sp };
+  setup = record {
+    id = task.id;
+    cpu = task.processor;
+    priority = task.priority;
+    exinf = exinf;
+    address = address;
+    sp = region.sp;
+  };
   free = region.free;
 }
 
@@ -71,7 +84,8 @@ placed_task size symbols free task = do
   exinf ← value_of symbols task.exinf
   address ← value_of symbols task.address
   region ← region_of symbols free task
-  if is_code_address size address && contains size region.low region.len then Ok (placed_in task exinf address region) else Err Outside
+  if is_code_address size address && contains size region.low region.len then Ok (placed_in task exinf address region)
+      else Err Outside
 
 -- the tasks in the order of their statements
 unfoldable pub setups_from : ℕ → List Symbol → ℕ → List TaskConfig → Result (List TaskSetup) BootFault
@@ -93,7 +107,8 @@ handler_address size symbols operand = do
 
 -- the line of a handler that starts there; the processor takes the line's interrupts
 abbrev pub line_of : HandlerConfig → ℕ → LineSetup
-line_of handler address = record { line = handler.line; handler = record { cpu = handler.processor; address = address } }
+line_of handler address =
+    record { line = handler.line; handler = record { cpu = handler.processor; address = address } }
 
 -- the lines that have a handler, in the order of the handlers' statements
 unfoldable pub handlers_of : ℕ → List Symbol → List HandlerConfig → Result (List LineSetup) BootFault

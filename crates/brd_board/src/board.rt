@@ -33,6 +33,7 @@ mod storing;
 
 use crate::boot::BootFault;
 use crate::event::{Event, Report};
+use crate::executing::{Ended, execute};
 use crate::links::end_links;
 use crate::load::loaded;
 use crate::setup::{handlers_of, setups_of, start_all};
@@ -40,8 +41,8 @@ use crate::snapshot::Snapshot;
 use crate::view::Fault;
 use brd_base::{BASE, List, NoMemory, copy_with_room, same_slices};
 use brd_config::{Config, Operand, Stack, TaskAttributes, TaskConfig};
-use brd_exec::{Context, ExceptionCode, Outcome};
-use brd_kernel::{Ended, Kernel, LineSetup, Spin, Standing, TaskId, TaskSetup, TaskView};
+use brd_exec::{Context, Outcome};
+use brd_kernel::{Kernel, LineSetup, Spin, Standing, TaskId, TaskSetup, TaskView};
 use brd_link::Links;
 use brd_mem::{Image, Ram};
 use brd_sysgate::call;
@@ -261,8 +262,12 @@ impl Board {
             self.dispatch();
             return Report::Accepted(line);
         }
-        let Some(Ended { address, outcome }) = self.kernel.run(cpu, &mut self.ram, &mut self.links)
-        else {
+        let Some(Ended { address, outcome }) = execute(
+            &mut self.kernel,
+            cpu,
+            &mut self.ram,
+            &mut self.links,
+        ) else {
             return match self.kernel.processor(cpu) {
                 None => Report::NoSuch,
                 Some(processor) if processor.stopped => Report::Stopped,
@@ -276,7 +281,7 @@ impl Board {
                 Report::Called(address)
             }
             Outcome::Exception { code, epc, bd } => {
-                self.end_by_fault(cpu, code, epc, bd);
+                self.end_by_fault(cpu, Fault { code, epc, bd });
                 Report::Faulted(address)
             }
         }
@@ -296,12 +301,12 @@ impl Board {
     /// An exception: it is kept as the processor's last one, and ends its task or stops the processor; then the board
     /// dispatches.
     #[inline(never)]
-    fn end_by_fault(&mut self, cpu: u8, code: ExceptionCode, epc: u32, bd: bool)
+    fn end_by_fault(&mut self, cpu: u8, fault: Fault)
         requires { IsProcessor cpu }
-        ensures { self.new ≡ dispatched_board (with_fault self.old cpu (record { code = code; epc = epc; bd = bd })) }
+        ensures { self.new ≡ dispatched_board (with_fault self.old cpu fault) }
     {
         self.kernel.end_by_fault(cpu);
-        self.faults[cpu as usize] = Some(Fault { code, epc, bd });
+        self.faults[cpu as usize] = Some(fault);
         self.dispatch();
     }
 

@@ -23,7 +23,7 @@ ghost use Rattle.brd_board.specs.declared.event.Report.TheVariants as report;
 ghost use Rattle.brd_board.specs.Board.{BoardState, reported, happens, after};
 ghost use Rattle.brd_board.specs.Boot.{boot};
 ghost use Rattle.brd_board.specs.Runs.{ChangesOnlyItsOwn};
-ghost use Rattle.brd_board.specs.InARow.{GoesOn, machine_of, with_machine};
+ghost use Rattle.brd_board.specs.Batch.{GoesOn, machine_of, with_machine};
 ghost use Rattle.brd_board.specs.Conditional.{ConditionalLaw, WordLaw};
 ghost use Rattle.brd_board.specs.Storing.{may_store};
 ghost use Rattle.brd_board.specs.SpinLocks.{LocksGoOn};
@@ -168,7 +168,7 @@ pub fn the_byte_order_stays()
 /// On a board that is on, where somebody executes on a processor and no interrupt is deliverable to it: n steps of that
 /// processor that go on, so long as no SYSCALL and no exception comes, change the context in which they are executed,
 /// memory and links, as the definition of one instruction says of each, and nothing else of the board.
-pub fn steps_in_a_row()
+pub fn steps_of_a_batch()
     ensures { (board : BoardState) (cpu count : ℕ) (who : ExecutorOf) (left : Machine) →
         GoesOn board cpu who → went cpu count (machine_of board cpu who) ≡ Some left →
         after board (replicate count (Step cpu)) ≡ with_machine board cpu who left }

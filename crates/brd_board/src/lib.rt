@@ -7,6 +7,7 @@
 mod board;
 mod boot;
 mod event;
+mod executing;
 pub mod laws;
 mod lease;
 mod links;

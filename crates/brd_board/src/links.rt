@@ -8,7 +8,8 @@ use brd_link::Links;
 
 /// Ends the link of each processor j + 1 whose bit j is set.
 pub fn end_links(links: &mut Links, changed: u8)
-    ensures { links.new ≡ without_all links.old (filter (λ cpu. bit_at changed (cpu - 1) == 1) (1 ∷ 2 ∷ 3 ∷ 4 ∷ 5 ∷ 6 ∷ 7 ∷ 8 ∷ [])) }
+    ensures { links.new
+        ≡ without_all links.old (filter (λ cpu. bit_at changed (cpu - 1) == 1) (1 ∷ 2 ∷ 3 ∷ 4 ∷ 5 ∷ 6 ∷ 7 ∷ 8 ∷ [])) }
 {
     for cpu in 1..9u8 {
         end_if(links, cpu, is_set(changed, cpu));

@@ -13,8 +13,8 @@ pub fn each_number_once()
     ensures { IsTrue (is_above 0 table) }
 {}
 
-/// A call is answered that it is to be made again exactly where that was told before its context went on: so a call that
-/// is served never has to be taken back, and one that is made again is never served.
+/// A call is answered that it is to be made again exactly where that was told before its context went on: so a call
+/// that is served never has to be taken back, and one that is made again is never served.
 pub fn again_is_told_before_the_call()
     ensures { (k : KernelState) (cpu : ℕ) (asked : Result CallOf ErcdOf) →
         asks_again (served_call (with_changed_context advanced k cpu) cpu asked).reply ≡ is_again k asked }

@@ -27,7 +27,8 @@ use Rattle.brd_config.specs.Configuration.{Configuration}
 use Rattle.brd_kernel.specs.declared.processor.Processor.{Processor}
 use Rattle.brd_kernel.specs.declared.processor.Executor.{Executor}
 use Rattle.brd_kernel.specs.declared.processor.Executor.TheVariants as executor
-use Rattle.brd_kernel.specs.Kernel.{KernelState, processor_at, executor_on, context_of, with_context_of, context_on, executed_by, executed_in, accepted_line, deliverable, line_at}
+use Rattle.brd_kernel.specs.Kernel.{KernelState, processor_at, executor_on, context_of, with_context_of, context_on, accepted_line, deliverable, line_at}
+use Rattle.brd_board.specs.Executing.{executed_by, executed_in}
 use Rattle.brd_kernel.specs.Waits.{ticked_on}
 use Rattle.brd_kernel.specs.Dispatch.{dispatched, changed_processors}
 use Rattle.brd_board.proofs.EventLemmas.{boot-begins}

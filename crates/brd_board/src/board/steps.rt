@@ -1,11 +1,11 @@
-//! Many steps of one processor, in rows of decoded instructions.
+//! Many steps of one processor, in batches of decoded instructions.
 
 ghost use Rattle.std.specs.Prelude.{◌≡◌, ◌≤◌, replicate, IfSome};
 ghost use Rattle.brd_kernel.specs.Kernel.{executor_on};
 ghost use Rattle.brd_kernel.specs.Always.{HasPlace};
 ghost use Rattle.brd_board.specs.Board.{after};
 ghost use Rattle.brd_board.specs.declared.event.Event.TheVariants.{Step};
-ghost use Rattle.brd_board.specs.InARow.{GoesRow};
+ghost use Rattle.brd_board.specs.Batch.{GoesBatch};
 
 use super::Board;
 use brd_fast::{Table, go};
@@ -13,16 +13,16 @@ use brd_kernel::Kernel;
 use brd_link::Links;
 use brd_mem::Ram;
 
-/// From how many steps on a row of decoded instructions is worth its beginning and its end (measured).
+/// From how many steps on a batch of decoded instructions is worth its beginning and its end (measured).
 const FEW: u32 = 5;
 
-/// How many steps are done one by one after a row that was shorter than that (own choice).
+/// How many steps are done one by one after a batch that was shorter than that (own choice).
 const STRETCH: u32 = 256;
 
 /// The decoded instructions of a board.
 #[derive(Drop)]
 pub(super) enum Code {
-    /// There are none yet; this many steps were asked for that could have been in rows.
+    /// There are none yet; this many steps were asked for that could have been in batches.
     Unread(u32),
     /// They are in this table.
     Read(Table),
@@ -43,8 +43,8 @@ impl Board {
         self.read_and_step(cpu, count);
     }
 
-    /// Lets a processor do `count` steps, in rows if the board has a table. It is out of line, so that a few steps don't
-    /// pay for it.
+    /// Lets a processor do `count` steps, in batches if the board has a table. It is out of line, so that a few steps
+    /// don't pay for it.
     #[inline(never)]
     fn read_and_step(&mut self, cpu: u8, count: u32)
         ensures { self.new ≡ after self.old (replicate count (Step cpu)) }
@@ -53,17 +53,17 @@ impl Board {
             let _ = self.steps(cpu, count);
             return;
         }
-        self.rows(cpu, count);
+        self.batches(cpu, count);
     }
 
-    /// Lets a processor do `count` steps, in rows where it can. After a short row it does some one by one, so that where
-    /// rows end soon their beginnings and ends cost little.
-    fn rows(&mut self, cpu: u8, count: u32)
+    /// Lets a processor do `count` steps, in batches where it can. After a short batch it does some one by one, so that
+    /// where batches end soon their beginnings and ends cost little.
+    fn batches(&mut self, cpu: u8, count: u32)
         ensures { self.new ≡ after self.old (replicate count (Step cpu)) }
     {
         let mut left = count;
         while left > 0 {
-            let done = self.row(cpu, left);
+            let done = self.batch(cpu, left);
             left -= done;
             let apart = left.min(if done < FEW { STRETCH } else { 1 });
             let _ = self.steps(cpu, apart);
@@ -72,7 +72,7 @@ impl Board {
     }
 
     /// Lets a processor do steps in a row, up to `limit` of them. Answers how many it did.
-    fn row(&mut self, cpu: u8, limit: u32) -> u32
+    fn batch(&mut self, cpu: u8, limit: u32) -> u32
         ensures few { result ≤ limit }
         ensures done { self.new ≡ after self.old (replicate result (Step cpu)) }
     {
@@ -81,7 +81,7 @@ impl Board {
         }
         match &mut self.code {
             Code::Read(table) => {
-                run_row(
+                run_batch(
                     &mut self.kernel,
                     cpu,
                     table,
@@ -105,8 +105,8 @@ impl Board {
     }
 
     /// The decoded instructions of a board that was asked for this many steps, the next ones among them, without any:
-    /// none before they are as many as the table has words (own choice: these take about as much time as it does to make
-    /// one).
+    /// none before they are as many as the table has words (own choice: these take about as much time as it does to
+    /// make one).
     fn read(&self, steps: u32) -> Code {
         if (steps as usize) < Table::len_for(&self.ram) {
             return Code::Unread(steps);
@@ -120,7 +120,7 @@ impl Board {
 
 /// Lets a processor do steps in a row where somebody executes on it, in the context where it lies: up to `limit` of
 /// them. Answers how many it did.
-fn run_row(
+fn run_batch(
     kernel: &mut Kernel,
     cpu: u8,
     table: &mut Table,
@@ -130,7 +130,8 @@ fn run_row(
 ) -> u32
     ensures few { result ≤ limit }
     ensures place { IfSome (executor_on kernel.old cpu) (HasPlace kernel.old cpu) }
-    ensures is { GoesRow (executor_on kernel.old cpu) cpu result kernel.old ram.old links.old kernel.new ram.new links.new }
+    ensures is { GoesBatch (executor_on kernel.old cpu) cpu result kernel.old ram.old links.old kernel.new
+        ram.new links.new }
 {
     let Some(who) = kernel.executor(cpu) else {
         return 0;

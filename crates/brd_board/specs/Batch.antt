@@ -27,11 +27,13 @@ abbrev pub with_machine : BoardState → ℕ → Executor → Machine → BoardS
 with_machine b cpu who m =
     record b { kernel = with_context_of b.kernel cpu who m.state; memory = m.memory; links = m.links }
 
--- What a row of n steps of a processor leaves of the kernel, memory and links: nothing is done where nobody executes;
+-- What a batch of n steps of a processor leaves of the kernel, memory and links: nothing is done where nobody executes;
 -- else they all go on, in the context of who does.
-abbrev pub GoesRow : Option Executor → ℕ → ℕ → KernelState → Memory → LinkSet → KernelState → Memory → LinkSet → Type 0
-GoesRow None cpu count k memory links new stored linked = (count ≡ 0) × (new ≡ k) × (stored ≡ memory) × (linked ≡ links)
-GoesRow (Some who) cpu count k memory links new stored linked =
+abbrev pub GoesBatch : Option Executor → ℕ → ℕ → KernelState → Memory → LinkSet → KernelState → Memory →
+    LinkSet → Type 0
+GoesBatch None cpu count k memory links new stored linked =
+    (count ≡ 0) × (new ≡ k) × (stored ≡ memory) × (linked ≡ links)
+GoesBatch (Some who) cpu count k memory links new stored linked =
     (left : State) × (new ≡ with_context_of k cpu who left)
     × (went cpu count (record { state = context_of k cpu who; memory = memory; links = links })
     ≡ Some (record { state = left; memory = stored; links = linked }))

@@ -15,13 +15,14 @@ use Rattle.brd_tasks.specs.Tasks.{no_context}
 use Rattle.brd_kernel.specs.declared.processor.Processor.{Processor}
 use Rattle.brd_kernel.specs.declared.processor.Executor.{Executor}
 use Rattle.brd_kernel.specs.declared.processor.Executor.TheVariants as executor
-use Rattle.brd_kernel.specs.Kernel.{KernelState, processor_at, executor_by, executor_in, executor_on, context_of, with_context_of, deliverable, executed_by, executed_in}
+use Rattle.brd_kernel.specs.Kernel.{KernelState, processor_at, executor_by, executor_in, executor_on, context_of, with_context_of, deliverable}
+use Rattle.brd_board.specs.Executing.{executed_by, executed_in}
 use Rattle.brd_kernel.specs.Always.{HasPlace}
 use Rattle.brd_board.specs.declared.event.Event.{Event}
 use Rattle.brd_board.specs.declared.event.Event.TheVariants.{Step}
 use Rattle.brd_board.specs.declared.event.Report.TheVariants as report
 use Rattle.brd_board.specs.Board.{BoardState, Happened, reported, with_executed, instruction_done, executes_in, accepts_or_executes, stepped_in, stepped, happens, after}
-use Rattle.brd_board.specs.InARow.{GoesOn, GoesRow, machine_of, with_machine}
+use Rattle.brd_board.specs.Batch.{GoesOn, GoesBatch, machine_of, with_machine}
 
 -- One step.
 
@@ -127,7 +128,7 @@ local-steps-go b cpu count address who s window goes whole is =
     steps-go b cpu count who (record { state = s; memory = b.memory; links = b.links }) goes
     (lent-steps count cpu address (context_of b.kernel cpu who) s b.memory b.links window whole is)
 
--- Rows of steps.
+-- Batches of steps.
 
 -- events of one kind, some after the others
 pub after-both : (first second : ℕ) (b : BoardState) (event : Event) →
@@ -143,14 +144,14 @@ pub none-is : (x : Option ℕ) → is_some x ≡ false → x ≡ None
 none-is None is = refl
 none-is (Some n) is = let wrong : ⊥ = cc in absurd wrong
 
--- what a row leaves is the board after its steps
-pub row-goes : (b : BoardState) (cpu count : ℕ) (found : Option Executor) (new : KernelState) (stored : Memory) (linked : LinkSet) →
+-- what a batch leaves is the board after its steps
+pub batch-goes : (b : BoardState) (cpu count : ℕ) (found : Option Executor) (new : KernelState) (stored : Memory) (linked : LinkSet) →
     b.kernel.off ≡ false → deliverable b.kernel cpu ≡ None → executor_on b.kernel cpu ≡ found → IfSome found (HasPlace b.kernel cpu) →
-    GoesRow found cpu count b.kernel b.memory b.links new stored linked →
+    GoesBatch found cpu count b.kernel b.memory b.links new stored linked →
     record b { kernel = new; memory = stored; links = linked } ≡ after b (replicate count (Step cpu))
-row-goes b cpu count None new stored linked on uninterrupted executes place row =
-    rw row.0 (λ i. record b { kernel = row.1 i; memory = row.2 i; links = row.3 i })
-row-goes b cpu count (Some who) new stored linked on uninterrupted executes place row =
-    let m : Machine = record { state = row.0; memory = stored; links = linked } in
+batch-goes b cpu count None new stored linked on uninterrupted executes place batch =
+    rw batch.0 (λ i. record b { kernel = batch.1 i; memory = batch.2 i; links = batch.3 i })
+batch-goes b cpu count (Some who) new stored linked on uninterrupted executes place batch =
+    let m : Machine = record { state = batch.0; memory = stored; links = linked } in
     let goes : GoesOn b cpu who = record { on = on; executes = executes; uninterrupted = uninterrupted; place = place } in
-    ap (λ k. record b { kernel = k; memory = stored; links = linked }) row.1 ∙ sym (steps-go b cpu count who m goes row.2)
+    ap (λ k. record b { kernel = k; memory = stored; links = linked }) batch.1 ∙ sym (steps-go b cpu count who m goes batch.2)
