@@ -2,6 +2,7 @@ pub mod EventLemmas
 pub mod OneList
 pub mod ReplayLemmas
 pub mod StillLemmas
+pub mod PlayingLemmas
 pub mod Cutting
 pub mod AddLemmas
 pub mod KeptLemmas

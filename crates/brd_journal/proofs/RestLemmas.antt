@@ -40,19 +40,30 @@ pub none_begun : (runs : List Run) (others : ℕ) → ((k d : ℕ) → 0 ≤ k �
 none_begun [] others later = omega arith
 none_begun (r ∷ rs) others later = absurd (omega (arith, later 0 0 (omega arith) (omega arith)))
 
--- the last run that has begun has ended
-pub all_ended : (runs : List Run) (others i start : ℕ) (run : Run) → i < length runs → run ≡ get_or runs i run → start ≡ get_or (starts_of runs) i start
-    → start ≤ others → run.count ≤ others - start → ((k d : ℕ) → i + 1 ≤ k → k < length (starts_of runs) → others < get_or (starts_of runs) k d) → length (events_of runs) ≤ others
-all_ended runs others i start run within is from begun ended later =
+-- a run that has begun has ended
+pub run_ended : (runs : List Run) (others i start : ℕ) (run : Run) → i < length runs → run ≡ get_or runs i run → start ≡ get_or (starts_of runs) i start
+    → start ≤ others → run.count ≤ others - start → length (events_of (take (i + 1) runs)) ≤ others
+run_ended runs others i start run within is from begun ended =
     let here : start ≡ length (events_of (take i runs)) = omega (arith, from, start_at 0 runs i start within) in
     let count : run.count ≡ (get_or runs i run).count = ap (λ (r : Run). r.count) is in
-    let next : length (events_of (take (i + 1) runs)) ≡ start + run.count = omega (arith, one_more_run runs i run within, here, count) in
+    omega (arith, one_more_run runs i run within, here, count, begun, ended)
+
+-- the last run that has begun has ended
+pub all_ended : (runs : List Run) (others i : ℕ) → length (events_of (take (i + 1) runs)) ≤ others
+    → ((k d : ℕ) → i + 1 ≤ k → k < length (starts_of runs) → others < get_or (starts_of runs) k d) → length (events_of runs) ≤ others
+all_ended runs others i ended later =
     elim (cases_lt (i + 1) (length runs)) [
-      | inl more ↦ absurd (omega (arith, later (i + 1) 0 (omega arith) (omega (arith, length-starts 0 runs, more)), start_at 0 runs (i + 1) 0 more, next, begun, ended))
+      | inl more ↦ absurd (omega (arith, later (i + 1) 0 (omega arith) (omega (arith, length-starts 0 runs, more)), start_at 0 runs (i + 1) 0 more, ended))
       | inr last ↦
           let whole : length (events_of (take (i + 1) runs)) ≡ length (events_of runs) = ap (λ (rs : List Run). length (events_of rs)) (take_all (i + 1) runs last) in
-          omega (arith, whole, next, begun, ended)
+          omega (arith, whole, ended)
     ]
+
+-- what is found, if something is
+pub found_by : (runs : List Run) (others : ℕ) (found : Option Run) → IfSome found (λ rest. IsRest (events_of runs) others (Some rest)) →
+    (found ≡ None → length (events_of runs) ≤ others) → IsRest (events_of runs) others found
+found_by runs others None is none = none refl
+found_by runs others (Some rest) is none = is
 
 -- ---- it comes there
 

@@ -1,13 +1,14 @@
 -- An event that does nothing leaves the board as it is, and a line that is raised again is pending already.
-use Rattle.std.proofs.Common.{◌≡◌, ℕ, zero, suc, ◌+◌, ◌-◌, ◌<◌, ◌≤◌, List, [], ◌∷◌, replicate, refl, sym, ap, subst, ◌∙◌, arith}
+use Rattle.std.proofs.Common.{◌≡◌, ℕ, zero, suc, List, [], ◌∷◌, replicate, refl, sym, ap, subst, ◌∙◌}
 use Rattle.std.proofs.lemmas.Bool.{false≢true}
 use Rattle.std.specs.Prelude.{Bool, true, false, Option, None, Some, is_some, nat_lt, if◌then◌else◌, slice_index_or, slice_set}
 use Rattle.brd_exec.specs.declared.outcome.Outcome.{Outcome}
 use Rattle.brd_exec.specs.declared.outcome.Outcome.TheVariants.{Done, Syscall, Exception}
 use Rattle.brd_time.specs.Time.{last_count}
-use Rattle.brd_kernel.specs.declared.processor.Line.{Line}
+use Rattle.brd_kernel.specs.declared.processor.InterruptLine.{InterruptLine}
 use Rattle.brd_kernel.specs.declared.processor.Processor.{Processor}
-use Rattle.brd_kernel.specs.Kernel.{KernelState, processor_at, deliverable, line_at, quiet, with_pending, Executed, executed}
+use Rattle.brd_kernel.specs.Kernel.{KernelState, processor_at, deliverable, line_at, quiet, with_pending}
+use Rattle.brd_board.specs.Executing.{Executed, executed}
 use Rattle.brd_board.specs.declared.event.Event.{Event}
 use Rattle.brd_board.specs.declared.event.Event.TheVariants.{Step, Tick, Raise}
 use Rattle.brd_board.specs.declared.event.Report.{Report}
@@ -15,9 +16,8 @@ use Rattle.brd_board.specs.declared.event.Report.TheVariants as report
 use Rattle.brd_board.proofs.OffLemmas.{off-stays}
 use Rattle.brd_board.specs.Board.{BoardState, Happened, reported, happens, happens_on, line_raised, after, stepped_in, accepts_or_executes, executes_in, instruction_done, with_executed}
 use Rattle.brd_journal.specs.Runs.{copies}
-use Rattle.brd_journal.specs.Still.{did_nothing, does_no_more}
-use Rattle.brd_journal.proofs.EventLemmas.{copies-add, copies-suc, copies-zero}
-use Rattle.brd_journal.proofs.ReplayLemmas.{after-append}
+use Rattle.brd_journal.specs.Still.{did_nothing, does_no_more, Rests}
+use Rattle.brd_journal.proofs.EventLemmas.{copies-zero}
 
 -- What reports that it has done nothing leaves this board.
 abbrev LeavesIt : BoardState → Happened → Type 0
@@ -56,10 +56,10 @@ happens-leaves b event none = either b b.kernel.off _ _ (λ none. refl) (on-leav
 
 -- A line that is raised again.
 
-abbrev pending : Line → Line
+abbrev pending : InterruptLine → InterruptLine
 pending line = record line { pending = true }
 
-pending-again : (lines : List Line) (n : ℕ) (line : Line) →
+pending-again : (lines : List InterruptLine) (n : ℕ) (line : InterruptLine) →
     slice_set (slice_set lines n (pending line)) n (pending (slice_index_or (slice_set lines n (pending line)) n (quiet None)))
     ≡ slice_set lines n (pending line)
 pending-again [] n line = refl
@@ -88,10 +88,6 @@ line-again b line true some =
     ap (λ (done : Happened). (line_raised done.board line).board) (raised-by b line true some)
     ∙ raised-again b line (is_some (line_at (raised b line).kernel line).handler)
     ∙ sym (ap (λ (done : Happened). done.board) (raised-by b line true some))
-
--- A board that an event leaves as it is.
-abbrev pub Rests : BoardState → Event → Type 0
-Rests b event = (happens b event).board ≡ b
 
 on-raises : (b : BoardState) (line : ℕ) → b.kernel.off ≡ false → happens b (Raise line) ≡ line_raised b line
 unfolding happens
@@ -136,33 +132,6 @@ raise-told P b line off raised none = told-by b.kernel.off (is_some (line_at b.k
     told-by true handled = off
     told-by false true = raised
     told-by false false = none
-
--- Playing a run, of which some events are left.
-
--- the rest of the run does nothing
-pub over-run : (b next last : BoardState) (e : Event) (told : Report) (left : ℕ) → record { board = next; report = told } ≡ happens b e →
-    does_no_more e told ≡ true → 0 < left → after b (copies e left) ≡ last → next ≡ last
-over-run b next last e told zero is none some leads = absurd (omega (arith, some))
-over-run b next last e told (suc left) is none some leads =
-    let first : next ≡ (happens b e).board = ap (λ (done : Happened). done.board) is in
-    let still : Rests (happens b e).board e = rests b e (subst (λ (r : Report). does_no_more e r ≡ true) (ap (λ (done : Happened). done.report) is) none) in
-    first ∙ sym (after-still (happens b e).board e left still) ∙ ap (after b) (sym (copies-suc e left)) ∙ leads
-
--- one event, and some more
-pub on-run : (b first next last : BoardState) (e : Event) (told : Report) (left more : ℕ) → record { board = first; report = told } ≡ happens b e →
-    next ≡ after first (copies e more) → 1 + more ≤ left → after b (copies e left) ≡ last → after next (copies e (left - (1 + more))) ≡ last
-on-run b first next last e told left more is gives few leads =
-    let rest : ℕ = left - (1 + more) in
-    let whole : suc (more + rest) ≡ left = omega (arith, few) in
-    let one : first ≡ (happens b e).board = ap (λ (done : Happened). done.board) is in
-    ap (λ x. after x (copies e rest)) (gives ∙ ap (λ x. after x (copies e more)) one)
-    ∙ sym (after-append (happens b e).board (copies e more) (copies e rest))
-    ∙ ap (λ es. after (happens b e).board es) (sym (copies-add e more rest))
-    ∙ ap (after b) (sym (copies-suc e (more + rest)))
-    ∙ ap (λ n. after b (copies e n)) whole ∙ leads
-
-pub none-more : (b last : BoardState) (e : Event) (left : ℕ) → left ≡ 0 → after b (copies e left) ≡ last → b ≡ last
-none-more b last e left none leads = ap (after b) (sym (copies-zero e)) ∙ ap (λ n. after b (copies e n)) (sym none) ∙ leads
 
 pub no-more : (b next : BoardState) (e : Event) (more : ℕ) → next ≡ b → more ≡ 0 → next ≡ after b (copies e more)
 no-more b next e more is none = is ∙ ap (after b) (sym (copies-zero e)) ∙ ap (λ n. after b (copies e n)) (sym none)

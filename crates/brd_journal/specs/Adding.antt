@@ -26,4 +26,5 @@ added runs event count =
 
 -- the same, unless these are more runs than the limit
 abbrev pub added_within : ℕ → List Run → Event → ℕ → Result (List Run) JournalFault
-added_within limit runs event count = if nat_le (length (added runs event count)) limit then Ok (added runs event count) else Err Full
+added_within limit runs event count =
+    if nat_le (length (added runs event count)) limit then Ok (added runs event count) else Err Full

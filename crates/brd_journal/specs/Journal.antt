@@ -19,7 +19,9 @@ most_runs = 4194304
 -- A journal with more events after its own, unless these need more runs than its limit.
 abbrev pub appended : JournalState → List Event → Result JournalState JournalFault
 appended journal more =
-    if nat_le (length (runs_of (journal.events ++ more))) journal.limit then Ok (record journal { events = journal.events ++ more }) else Err Full
+    if nat_le (length (runs_of (journal.events ++ more))) journal.limit
+    then Ok (record journal { events = journal.events ++ more })
+    else Err Full
 
 -- how a journal is kept: its runs and the number of its events
 pub record IsKept (limit : ℕ) (runs : List Run) (len : ℕ) : Type 0 where

@@ -6,3 +6,4 @@ pub mod Text
 pub mod Reading
 pub mod Meaning
 pub mod Still
+pub mod Playing

@@ -30,7 +30,8 @@ abbrev pub IsWrong : ℕ → List Run → List ℕ → JournalFault → Type 0
 IsWrong limit front rest NoMemory = ⊥
 IsWrong limit front rest (Syntax line) = (line ≡ length front + 2) × (rest ≡ [] → ⊥) × HasNoRun rest
 IsWrong limit front rest Full =
-    (run : Run) × (behind : List ℕ) × CanBeSpelled run × (rest ≡ line_text run ++ 10 ∷ behind) × (limit < length (runs_of (events_of (front ++ run ∷ []))))
+    (run : Run) × (behind : List ℕ) × CanBeSpelled run × (rest ≡ line_text run ++ 10 ∷ behind)
+    × (limit < length (runs_of (events_of (front ++ run ∷ []))))
 
 -- A text says no journal: after a first line and a front of good lines, for which the limit suffices, stands a line
 -- with this fault.

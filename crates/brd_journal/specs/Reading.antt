@@ -1,7 +1,8 @@
 -- How a text is read: line by line from the front. The first line that has a fault decides, and a line is read before
 -- its run is appended. Meaning says what a text says without reading it; that both agree is proved as
 -- `laws::texts_follow_the_grammar` and `laws::the_first_wrong_line_decides`.
-use Rattle.std.specs.Prelude.{ℕ, zero, suc, ◌+◌, ◌==◌, Bool, not, if◌then◌else◌, List, [], ◌∷◌, length, take, drop, Option, None, Some, option_and_then, option_map, Result, Ok, Err}
+use Rattle.std.specs.Prelude.{ℕ, zero, suc, ◌+◌, ◌==◌, Bool, not, if◌then◌else◌, List, [], ◌∷◌, length, take, drop}
+use Rattle.std.specs.Prelude.{Option, None, Some, option_and_then, option_map, Result, Ok, Err}
 use Rattle.std.specs.List.{prefix_len}
 use Rattle.std.specs.Str.{bytes_eq}
 use Rattle.brd_text.specs.Faults.{◌>>=◌, or_fault}

@@ -1,6 +1,7 @@
 -- The runs of a list of events (own choice): its longest stretches of equal events, each cut from the front into pieces
 -- of the greatest count.
-use Rattle.std.specs.Prelude.{◌≡◌, ℕ, zero, suc, ◌+◌, ◌/◌, ◌%◌, ◌<◌, ◌≤◌, ◌==◌, Bool, true, false, if◌then◌else◌, List, [], ◌∷◌, ◌++◌, length, drop, replicate, Option, None, Some}
+use Rattle.std.specs.Prelude.{◌≡◌, ℕ, zero, suc, ◌+◌, ◌/◌, ◌%◌, ◌<◌, ◌≤◌, ◌==◌, Bool, true, false, if◌then◌else◌, List}
+use Rattle.std.specs.Prelude.{[], ◌∷◌, ◌++◌, length, drop, replicate, Option, None, Some}
 use Rattle.std.specs.List.{flat_map}
 use Rattle.brd_board.specs.declared.event.Event.{Event}
 use Rattle.brd_board.specs.declared.event.Event.TheVariants.{Step, Tick, Raise}
@@ -65,7 +66,9 @@ first_event (run ∷ runs) = Some run.event
 -- Each run has a count from 1 to the greatest, and the next run has another event, unless the count is the greatest.
 abbrev pub AreCut : List Run → Type 0
 AreCut [] = Unit {0}
-AreCut (run ∷ runs) = (1 ≤ run.count) × (run.count ≤ most_count) × (first_event runs ≡ Some run.event → run.count ≡ most_count) × AreCut runs
+AreCut (run ∷ runs) =
+    (1 ≤ run.count) × (run.count ≤ most_count) × (first_event runs ≡ Some run.event → run.count ≡ most_count)
+    × AreCut runs
 
 -- These runs stand for the events, and are cut so. That just one list of runs does and is, is proved as
 -- `laws::events_have_one_list_of_runs`.
@@ -101,4 +104,5 @@ IsRest events others (Some rest) = IsRestOfRun (runs_of events) others rest
 
 -- after n events an event comes at least n times
 abbrev pub ComesBehind : List Event → ℕ → Run → Type 0
-ComesBehind events others run = (1 ≤ run.count) × (drop others events ≡ copies run.event run.count ++ drop (others + run.count) events)
+ComesBehind events others run =
+    (1 ≤ run.count) × (drop others events ≡ copies run.event run.count ++ drop (others + run.count) events)

@@ -1,9 +1,10 @@
 -- Events that leave a board as it is, however often they come in a row.
-use Rattle.std.specs.Prelude.{◌||◌, Bool, true, false}
+use Rattle.std.specs.Prelude.{◌≡◌, ◌||◌, Bool, true, false}
 use Rattle.brd_board.specs.declared.event.Event.{Event}
 use Rattle.brd_board.specs.declared.event.Event.TheVariants.{Step, Tick, Raise}
 use Rattle.brd_board.specs.declared.event.Report.{Report}
 use Rattle.brd_board.specs.declared.event.Report.TheVariants as report
+use Rattle.brd_board.specs.Board.{BoardState, happens}
 
 -- an event that reports this has done nothing
 abbrev pub did_nothing : Report → Bool
@@ -28,3 +29,7 @@ is_raise (Raise line) = true
 -- line, which is pending now.
 abbrev pub does_no_more : Event → Report → Bool
 does_no_more event told = is_raise event || did_nothing told
+
+-- A board that an event leaves as it is.
+abbrev pub Rests : BoardState → Event → Type 0
+Rests board event = (happens board event).board ≡ board

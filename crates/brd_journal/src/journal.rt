@@ -1,7 +1,6 @@
 //! Journals.
 
 ghost use Rattle.std.specs.Prelude.{◌≡◌, ℕ, ◌≤◌, ◌<◌, ◌==◌, ◌^◌, ◌∷◌, [], length, slice_get, OnErr, IfOk, IfSome, Ok};
-ghost use Rattle.brd_board.specs.Board.{after};
 ghost use Rattle.brd_journal.specs.Faults.{Gives};
 ghost use Rattle.brd_journal.specs.Journal.{most_runs, appended};
 ghost use Rattle.brd_journal.specs.Reading.{journal_of};
@@ -13,7 +12,7 @@ use crate::run::Run;
 use crate::runs::RunTable;
 use crate::writing::written;
 use brd_base::NoMemory;
-use brd_board::{Board, Event};
+use brd_board::Event;
 use brd_word::Order;
 use std::alloc::Global;
 use std::marker::Model;
@@ -36,7 +35,8 @@ impl Model for Journal {
 
     ghost Value = { JournalState };
 
-    ghost view = { λ journal. record { limit = journal.limit; order = journal.order; events = events_of journal.runs } };
+    ghost view = { λ journal.
+        record { limit = journal.limit; order = journal.order; events = events_of journal.runs } };
 
     ghost invariant = { λ journal. IsKept journal.limit journal.runs journal.len };
 }
@@ -113,17 +113,18 @@ impl Journal {
     pub fn event_at(&self, others: u64) -> Option<Event>
         ensures { result ≡ slice_get self.now.events others }
     {
-        let rest = self.rest_at(others)?;
+        let rest = self.rest_at(others, &mut 0)?;
         Some(rest.event)
     }
 
-    /// What is left of a run after n events: its event, and how often the run has that from there on. A binary
-    /// search finds the run.
-    pub fn rest_at(&self, others: u64) -> Option<Run>
+    /// What is left of a run after n events: its event, and how often the run has that from there on. `near` is a run
+    /// that is looked at first, with the next one, and becomes the one that is found; else a binary search finds it.
+    #[inline(always)]
+    pub fn rest_at(&self, others: u64, near: &mut usize) -> Option<Run>
         ensures exact { IsRest self.now.events others result }
         ensures comes { IfSome result (ComesBehind self.now.events others) }
     {
-        self.runs.rest_after(others)
+        self.runs.rest_after(others, near)
     }
 
     /// The runs: the longest stretches of equal events, each cut from the front into pieces of 4,294,967,295.
@@ -135,20 +136,12 @@ impl Journal {
         self.runs.as_slice()
     }
 
-    /// Lets a board do the events, one after the other. A run whose events do nothing ends at once.
-    pub fn replay(&self, board: &mut Board)
-        ensures { board.new ≡ after board.old self.now.events }
-    {
-        for run in self.runs.as_slice() {
-            run.play(board);
-        }
-    }
-
     /// The text: a first line, and a line for each run. It is read as this journal again, where the limit suffices.
     pub fn write_text(&self, alloc: Global) -> Result<Vec<u8>, NoMemory>
         ensures is { IfOk result (λ text. text.items ≡ text_of self.now.order self.now.events) }
         ensures again { IfOk result (λ text. (limit : ℕ) → length (runs_of self.now.events) ≤ limit
-            → journal_of limit text.items ≡ Ok (record { limit = limit; order = self.now.order; events = self.now.events })) }
+            → journal_of limit text.items
+            ≡ Ok (record { limit = limit; order = self.now.order; events = self.now.events })) }
     {
         written(alloc, self.order, self.runs.as_slice())
     }

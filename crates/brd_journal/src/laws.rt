@@ -40,7 +40,8 @@ pub fn the_first_wrong_line_decides()
 
 /// The text of a byte order and a list of events is read as these, where the limit suffices.
 pub fn written_texts_are_read()
-    ensures { (limit : ℕ) (order : Order) (events : List Event) → AllByRecursion IsNumbered events → length (runs_of events) ≤ limit
+    ensures { (limit : ℕ) (order : Order) (events : List Event) → AllByRecursion IsNumbered events →
+        length (runs_of events) ≤ limit
         → journal_of limit (text_of order events) ≡ Ok (record { limit = limit; order = order; events = events }) }
 {}
 

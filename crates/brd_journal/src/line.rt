@@ -20,7 +20,7 @@ pub(crate) const LITTLE_LINE: &[u8] = b"board-journal 2 little";
 const OLD_LINE: &[u8] = b"board-journal 1";
 
 /// The byte order that a first line says. The line stands without its newline.
-pub(crate) fn order_of_line(line: &[u8]) -> Option<Order>
+pub fn order_of_line(line: &[u8]) -> Option<Order>
     ensures { result ≡ reading.order_of_line line.now }
 {
     if line == BIG_LINE {
@@ -102,7 +102,7 @@ fn count_of(digits: &[u8]) -> Option<u32>
 }
 
 /// The first field, and what stands after the space that ends it: nothing, where there is none.
-fn split_field(fields: &[u8]) -> (&[u8], &[u8])
+pub fn split_field(fields: &[u8]) -> (&[u8], &[u8])
     ensures first { result.0.now ≡ reading.first_field fields.now }
     ensures others { result.1.now ≡ reading.other_fields fields.now }
 {

@@ -1,6 +1,7 @@
 //! Lists of runs.
 
-ghost use Rattle.std.specs.Prelude.{◌≡◌, ◌+◌, ◌≤◌, ◌<◌, ◌^◌, ◌++◌, ◌∷◌, [], length, OnOk, OnErr};
+ghost use Rattle.std.specs.Prelude.{◌≡◌, ◌+◌, ◌≤◌, ◌<◌, ◌^◌, ◌++◌, ◌∷◌, [], length, take, OnOk, OnErr, IfSome, None};
+ghost use Rattle.std.specs.Prelude.{Some};
 ghost use Rattle.brd_journal.specs.Adding.{room_in, added_within};
 ghost use Rattle.brd_journal.specs.Faults.{Gives};
 ghost use Rattle.brd_journal.specs.Runs.{AreCut, IsRest, events_of, same_event};
@@ -116,9 +117,25 @@ impl RunTable {
         Ok(())
     }
 
-    /// What is left of a run after n events: its event, and how often that still comes. A binary search finds
-    /// the run.
-    pub(crate) fn rest_after(&self, others: u64) -> Option<Run>
+    /// What is left of a run after n events: its event, and how often that still comes. `near` is a run that is looked
+    /// at first, with the next one, and becomes the one that is found; else a binary search finds it.
+    #[inline(always)]
+    pub(crate) fn rest_after(&self, others: u64, near: &mut usize) -> Option<Run>
+        requires { AreCut self.now }
+        ensures { IsRest (events_of self.now) others result }
+    {
+        if let Some(rest) = self.rest_in(*near, others) {
+            return Some(rest);
+        }
+        *near = near.wrapping_add(1);
+        if let Some(rest) = self.rest_in(*near, others) {
+            return Some(rest);
+        }
+        self.rest_found(others, near)
+    }
+
+    /// What is left of a run after n events, which a binary search finds.
+    fn rest_found(&self, others: u64, near: &mut usize) -> Option<Run>
         requires { AreCut self.now }
         ensures { IsRest (events_of self.now) others result }
     {
@@ -129,8 +146,27 @@ impl RunTable {
         if begun == 0 {
             return None;
         }
-        let run = self.runs[begun - 1];
-        let gone = others - self.starts[begun - 1];
+        *near = begun - 1;
+        self.rest_in(begun - 1, others)
+    }
+
+    /// What is left of a run after n events. None where none of it is left, or it begins later.
+    #[inline(always)]
+    fn rest_in(&self, index: usize, others: u64) -> Option<Run>
+        requires { AreCut self.now }
+        ensures rest { IfSome result (λ rest. IsRest (events_of self.now) others (Some rest)) }
+        ensures ended { result ≡ None → index < length self.now → length (events_of (take index self.now)) ≤ others
+            → length (events_of (take (index + 1) self.now)) ≤ others }
+    {
+        if index >= self.runs.len() {
+            return None;
+        }
+        let run = self.runs[index];
+        let start = self.starts[index];
+        if others < start {
+            return None;
+        }
+        let gone = others - start;
         if gone >= run.count as u64 {
             return None;
         }

@@ -1,6 +1,0 @@
-use Rattle.std.proofs.Common.{arith}
-use Rattle.brd_journal.proofs.ReplayLemmas.{after_run}
-use Rattle.brd_journal.proofs.journal.Journal.replay.Goals as goal
-
-pub loop-run-preserved : goal.loop-run-preserved
-loop-run-preserved c = after_run _ _ _ c.as_slice-run-items.result.now c.loop-run.run-index _ (omega arith) c.play.ensures c.loop-run.invariant
