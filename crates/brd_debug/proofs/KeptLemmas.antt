@@ -10,8 +10,9 @@ use Rattle.brd_board.specs.declared.event.Event.{Event}
 use Rattle.brd_board.specs.Board.{BoardState}
 use Rattle.brd_debug.specs.declared.snapshots.Kept.{Kept}
 use Rattle.brd_board.proofs.FormLemmas.{size-after, order-after}
-use Rattle.brd_debug.specs.declared.playback.Playback.{Playback}
-use Rattle.brd_debug.specs.Kept.{IsPlayed, AreKept, DoFit, SnapshotsState, plan_of, last_of, noted}
+use Rattle.brd_journal.specs.declared.playback.Playback.{Playback}
+use Rattle.brd_journal.specs.Playing.{IsPlayed}
+use Rattle.brd_debug.specs.Kept.{AreKept, DoFit, SnapshotsState, plan_of, last_of, noted}
 
 pub size-played : (boot : BoardState) (events : List Event) (p : Playback) → IsPlayed boot events p → size_of p.board.memory ≡ size_of boot.memory
 size-played boot events p is = ap (λ (b : BoardState). size_of b.memory) is.board ∙ size-after boot (take p.at events)

@@ -7,7 +7,7 @@ use Rattle.std.proofs.lemmas.Nat.{mod-mul-add}
 use Rattle.std.proofs.Math.Nat.{mod-add-div', mul_assoc, mul_right_comm, mul-mod_left}
 use Rattle.brd_board.specs.declared.event.Event.{Event}
 use Rattle.brd_board.specs.Board.{BoardState}
-use Rattle.brd_debug.specs.Playing.{IsStill, AreStill}
+use Rattle.brd_journal.specs.Playing.{IsStill, AreStill}
 use Rattle.brd_debug.specs.Kept.{Plan, last_of, next_multiple, noted, IsNoted}
 
 -- No multiple lies between a position and the next multiple after it.

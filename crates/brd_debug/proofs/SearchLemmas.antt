@@ -1,12 +1,8 @@
 -- The least and the greatest stop of a range, from those of its parts.
 use Rattle.std.proofs.Common.{◌≡◌, ℕ, ◌+◌, ◌<◌, ◌≤◌, refl, sym, subst, arith, inl, inr}
-use Rattle.std.specs.Prelude.{true, false, Option, Some, None, is_some}
+use Rattle.std.specs.Prelude.{Bool, true, false, Decides, if◌then◌else◌, Option, Some, None, is_some}
 use Rattle.std.proofs.lemmas.Bool.{cases_lt, false≢true}
-use Rattle.brd_debug.specs.Stops.{IsLeast, IsGreatest}
-
--- none in a range
-abbrev pub NoneFrom : (ℕ → Type 0) → ℕ → ℕ → Type 0
-NoneFrom Stop from to = (m : ℕ) → from ≤ m → m < to → Stop m → ⊥
+use Rattle.brd_debug.specs.Stops.{NoneFrom, IsLeast, IsGreatest}
 
 pub none-more : (Stop : ℕ → Type 0) (from to : ℕ) → NoneFrom Stop from to → (Stop to → ⊥) → NoneFrom Stop from (to + 1)
 none-more Stop from to none here m above below stop = elim (cases_lt m to) [
@@ -14,10 +10,10 @@ none-more Stop from to none here m above below stop = elim (cases_lt m to) [
   | inr ge ↦ let same : m ≡ to = omega (arith, ge, below) in here (subst Stop same stop)
 ]
 
-pub greatest-here : (Stop : ℕ → Type 0) (from to : ℕ) → from ≤ to → Stop to → IsGreatest Stop from (to + 1) (Some to)
+greatest-here : (Stop : ℕ → Type 0) (from to : ℕ) → from ≤ to → Stop to → IsGreatest Stop from (to + 1) (Some to)
 greatest-here Stop from to above here = (above, omega arith, here, λ m behind before stop. omega (arith, behind, before))
 
-pub greatest-more : (Stop : ℕ → Type 0) (from to : ℕ) (last : Option ℕ) → IsGreatest Stop from to last → (Stop to → ⊥) → IsGreatest Stop from (to + 1) last
+greatest-more : (Stop : ℕ → Type 0) (from to : ℕ) (last : Option ℕ) → IsGreatest Stop from to last → (Stop to → ⊥) → IsGreatest Stop from (to + 1) last
 greatest-more Stop from to None none here = none-more Stop from to none here
 greatest-more Stop from to (Some n) is here = (
   is.0,
@@ -28,6 +24,14 @@ greatest-more Stop from to (Some n) is here = (
     | inr ge ↦ let same : m ≡ to = omega (arith, ge, before) in here (subst Stop same stop)
   ],
 )
+
+-- with one position more
+pub greatest-next : (Stop : ℕ → Type 0) (from at : ℕ) (found : Bool) (last new : Option ℕ) → Decides found (Stop at) → from ≤ at →
+    new ≡ (if found then Some at else last) → IsGreatest Stop from at last → IsGreatest Stop from (at + 1) new
+greatest-next Stop from at true last new is on gives greatest =
+    subst (IsGreatest Stop from (at + 1)) (sym gives) (greatest-here Stop from at on (is.0 refl))
+greatest-next Stop from at false last new is on gives greatest =
+    subst (IsGreatest Stop from (at + 1)) (sym gives) (greatest-more Stop from at last greatest (λ stop. false≢true (is.1 stop)))
 
 -- two ranges, one after the other
 
@@ -44,9 +48,6 @@ pub greatest-on : (Stop : ℕ → Type 0) (from mid to : ℕ) (last : Option ℕ
 greatest-on Stop from mid to None on is none = none-both Stop from mid to is none
 greatest-on Stop from mid to (Some n) on is none =
     (is.0, omega (arith, is.1, on), is.2, λ m behind before stop. none-both Stop (n + 1) mid to (λ k above below s. is.3 k (omega (arith, above)) below s) none m (omega (arith, behind)) before stop)
-
-pub least-one : (Stop : ℕ → Type 0) (from to : ℕ) → from ≤ to → NoneFrom Stop from to → Stop to → IsLeast Stop from (to + 1) (Some to)
-least-one Stop from to above none here = (above, omega arith, here, none)
 
 pub least-whole : (Stop : ℕ → Type 0) (from mid end to n : ℕ) → from ≤ mid → end ≤ to → NoneFrom Stop from mid →
     IsLeast Stop mid end (Some n) → IsLeast Stop from to (Some n)

@@ -8,8 +8,8 @@ use Rattle.brd_board.specs.declared.event.Event.TheVariants.{Step, Tick, Raise}
 use Rattle.brd_board.specs.declared.event.Report.{Report}
 use Rattle.brd_board.specs.declared.event.Report.TheVariants as report
 use Rattle.brd_board.specs.Board.{BoardState, happens}
-use Rattle.brd_journal.specs.Still.{did_nothing, does_no_more}
-use Rattle.brd_journal.proofs.StillLemmas.{Rests, rests, happens-leaves, raise-told}
+use Rattle.brd_journal.specs.Still.{did_nothing, does_no_more, Rests}
+use Rattle.brd_journal.proofs.StillLemmas.{rests, happens-leaves, raise-told}
 use Rattle.brd_debug.specs.declared.stops.Stops.{Stops}
 use Rattle.brd_debug.specs.Stops.{IsBreak, Differs, StopsAt}
 

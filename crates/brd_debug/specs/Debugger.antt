@@ -3,10 +3,10 @@
 use Rattle.std.specs.Prelude.{◌≡◌, ◌⊎◌, ℕ, ◌<◌, ◌≤◌, List, length, Option, Some, None, Result, Ok, Err}
 use Rattle.brd_board.specs.declared.event.Event.{Event}
 use Rattle.brd_board.specs.Board.{BoardState}
+use Rattle.brd_journal.specs.Playing.{board_at}
 use Rattle.brd_debug.specs.declared.fault.DebugFault.{DebugFault}
 use Rattle.brd_debug.specs.declared.fault.DebugFault.TheVariants.{NoMemory, Past}
 use Rattle.brd_debug.specs.declared.stops.Stops.{Stops}
-use Rattle.brd_debug.specs.Stops.{board_at}
 
 pub record DebuggerState : Type 0 where
   pub boot : BoardState

@@ -1,17 +1,11 @@
 -- What a debugger keeps of the boards that a journal makes of its boot.
-use Rattle.std.specs.Prelude.{◌≡◌, ◌⊎◌, ℕ, zero, suc, ◌+◌, ◌-◌, ◌*◌, ◌%◌, ◌≤◌, ◌==◌, ◌&&◌, nat_lt, if◌then◌else◌, List, [], ◌∷◌, ◌++◌, length, map, filter, All}
+use Rattle.std.specs.Prelude.{◌≡◌, ◌⊎◌, ℕ, zero, suc, ◌+◌, ◌-◌, ◌*◌, ◌%◌, ◌≤◌, ◌==◌, ◌&&◌, nat_lt, if◌then◌else◌, List}
+use Rattle.std.specs.Prelude.{[], ◌∷◌, ◌++◌, length, map, filter, All}
 use Rattle.brd_board.specs.declared.event.Event.{Event}
 use Rattle.brd_board.specs.Board.{BoardState}
 use Rattle.brd_board.specs.Snapshot.{restored, Fits}
-use Rattle.brd_debug.specs.declared.playback.Playback.{Playback}
+use Rattle.brd_journal.specs.Playing.{board_at, IsStill}
 use Rattle.brd_debug.specs.declared.snapshots.Kept.{Kept}
-use Rattle.brd_debug.specs.Playing.{IsStill}
-use Rattle.brd_debug.specs.Stops.{board_at}
-
--- a board has played the first n events
-pub record IsPlayed (boot : BoardState) (events : List Event) (playback : Playback) : Type 0 where
-  pub board : playback.board ≡ board_at boot events playback.at
-  pub within : playback.at ≤ length events
 
 -- a snapshot is that of the board after the first n events
 pub record IsKept (boot : BoardState) (events : List Event) (kept : Kept) : Type 0 where
@@ -65,7 +59,10 @@ abbrev pub noted : Plan → ℕ → Plan
 noted plan at =
     if nat_lt (last_of plan.positions) at && (at % plan.interval == 0)
     then (if nat_lt (length plan.positions) most_kept then record plan { positions = plan.positions ++ at ∷ [] }
-    else record { interval = plan.interval * 2; positions = filter (λ position. position % (plan.interval * 2) == 0) plan.positions })
+    else record {
+      interval = plan.interval * 2;
+      positions = filter (λ position. position % (plan.interval * 2) == 0) plan.positions;
+    })
     else plan
 
 -- the next multiple of an interval after a position
@@ -77,10 +74,12 @@ next_multiple interval at = at - at % interval + interval
 abbrev pub IsNoted : BoardState → List Event → Plan → ℕ → ℕ → Plan → Type 0
 IsNoted boot events plan at zero new = new ≡ plan
 IsNoted boot events plan at (suc n) new =
-    IsNoted boot events (noted plan at) (suc at) n new ⊎ (IsStill boot events at × IsNoted boot events plan (suc at) n new)
+    IsNoted boot events (noted plan at) (suc at) n new
+    ⊎ (IsStill boot events at × IsNoted boot events plan (suc at) n new)
 
 -- The same, while a board plays up to a position, from the board that is shown at another one or from a snapshot,
 -- whichever is nearest.
 abbrev pub IsNotedUpTo : BoardState → List Event → SnapshotsState → ℕ → ℕ → Plan → Type 0
 IsNotedUpTo boot events old shown to new =
-    (from : ℕ) × (from ≤ to) × IsLastUpTo old.kept to from × (shown ≤ to → shown ≤ from) × IsNoted boot events (plan_of old) from (to - from) new
+    (from : ℕ) × (from ≤ to) × IsLastUpTo old.kept to from × (shown ≤ to → shown ≤ from)
+    × IsNoted boot events (plan_of old) from (to - from) new

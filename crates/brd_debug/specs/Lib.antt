@@ -1,6 +1,5 @@
 pub mod Marks
 pub mod Stops
 pub mod Watching
-pub mod Playing
 pub mod Kept
 pub mod Debugger

@@ -12,4 +12,5 @@ is_marked (mark ∷ marks) address = mark == address || is_marked marks address
 
 -- breaks or watches with one more, unless it is one already or there are as many as there may be
 abbrev pub marked : List ℕ → ℕ → List ℕ
-marked marks address = if is_marked marks address || nat_le most_marks (length marks) then marks else marks ++ address ∷ []
+marked marks address =
+    if is_marked marks address || nat_le most_marks (length marks) then marks else marks ++ address ∷ []

@@ -1,5 +1,6 @@
 -- The bytes at watched addresses.
-use Rattle.std.specs.Prelude.{◌≡◌, ◌⊎◌, ℕ, ◌<◌, Bool, false, List, [], length, slice_index, slice_index_or, Option, None}
+use Rattle.std.specs.Prelude.{◌≡◌, ◌⊎◌, ℕ, ◌<◌, Bool, false, List, [], length, slice_index, slice_index_or, Option}
+use Rattle.std.specs.Prelude.{None}
 use Rattle.brd_mem.specs.Memory.{Memory, byte_at}
 
 -- the bytes that a memory has at addresses, in their order

@@ -3,18 +3,18 @@
 ghost use Rattle.std.specs.Prelude.{◌≡◌, ◌+◌, ◌<◌, ◌≤◌, ◌^◌, [], length, take, OnOk, OnErr, IfOk, IfSome};
 ghost use Rattle.brd_board.specs.Board.{after};
 ghost use Rattle.brd_debug.specs.Debugger.{shown, Goes, went};
-ghost use Rattle.brd_debug.specs.Kept.{IsPlayed, AreKept};
+ghost use Rattle.brd_journal.specs.Playing.{IsPlayed};
+ghost use Rattle.brd_debug.specs.Kept.{AreKept};
 ghost use Rattle.brd_debug.specs.Marks.{is_marked, marked};
 ghost use Rattle.brd_debug.specs.Stops.{IsStop, IsLeast, IsGreatest};
 
 use crate::fault::DebugFault;
-use crate::playback::Playback;
 use crate::search::{go_back, next_stop, play_near, played_to, stop_before};
 use crate::snapshots::Snapshots;
 use crate::stops::Stops;
 use brd_base::NoMemory;
 use brd_board::Board;
-use brd_journal::Journal;
+use brd_journal::{Journal, Playback};
 use brd_progress::{Progress, Quiet};
 use std::alloc::Global;
 use std::marker::Model;
@@ -30,13 +30,15 @@ pub struct Debugger {
 
 impl Model for Debugger {
     ghost use Rattle.brd_debug.specs.Debugger.{DebuggerState};
-    ghost use Rattle.brd_debug.specs.Kept.{IsPlayed, AreKept};
+    ghost use Rattle.brd_journal.specs.Playing.{IsPlayed};
+    ghost use Rattle.brd_debug.specs.Kept.{AreKept};
 
     ghost Value = { DebuggerState };
 
     ghost view = { λ d. record { boot = d.boot; events = d.journal.events; position = d.shown.at; stops = d.stops } };
 
-    ghost invariant = { λ d. IsPlayed d.boot d.journal.events d.shown × AreKept d.boot d.journal.events d.snapshots.kept };
+    ghost invariant = { λ d. IsPlayed d.boot d.journal.events d.shown
+        × AreKept d.boot d.journal.events d.snapshots.kept };
 }
 
 /// Written out, so that a function that lets one go is proved with a call, and not with the end of each part.
@@ -56,7 +58,13 @@ impl Debugger {
     /// A debugger of this boot and journal, which have the same byte order, before the first event and without stops.
     pub fn new(alloc: Global, boot: Board, journal: Journal) -> Result<Debugger, NoMemory>
         requires orders { boot.memory.order ≡ journal.order }
-        ensures { IfOk result (λ d. d ≡ record { boot = boot; events = journal.events; position = 0; stops = record { breaks = []; watches = [] } }) }
+        ensures { IfOk result
+            (λ d. d ≡ record {
+              boot = boot;
+              events = journal.events;
+              position = 0;
+              stops = record { breaks = []; watches = [] };
+            }) }
     {
         let board = boot.try_copy()?;
         Ok(Debugger {
@@ -87,7 +95,8 @@ impl Debugger {
     /// Stops from now on where an instruction at this address is executed, unless 64 others are set. Answers whether
     /// that is set now.
     pub fn add_break(&mut self, address: u32) -> bool
-        ensures is { self.new ≡ record self.old { stops = record self.old.stops { breaks = marked self.old.stops.breaks address } } }
+        ensures is { self.new
+            ≡ record self.old { stops = record self.old.stops { breaks = marked self.old.stops.breaks address } } }
         ensures set { result ≡ is_marked self.new.stops.breaks address }
     {
         self.stops.breaks.add(address)
@@ -96,7 +105,8 @@ impl Debugger {
     /// Stops from now on where the byte at this address changes, unless 64 others are watched. Answers whether it is
     /// watched now. Where RAM has no byte nothing changes.
     pub fn add_watch(&mut self, address: u32) -> bool
-        ensures is { self.new ≡ record self.old { stops = record self.old.stops { watches = marked self.old.stops.watches address } } }
+        ensures is { self.new
+            ≡ record self.old { stops = record self.old.stops { watches = marked self.old.stops.watches address } } }
         ensures set { result ≡ is_marked self.new.stops.watches address }
     {
         self.stops.watches.add(address)
@@ -132,7 +142,9 @@ impl Debugger {
     /// Goes to the first stop after its position, and answers that. None, and no move, where there is none. An `Err`
     /// leaves it where it is.
     pub fn next_stop(&mut self) -> Result<Option<u64>, NoMemory>
-        ensures least { IfOk result (IsLeast (IsStop self.old.stops self.old.boot self.old.events) (self.old.position + 1) (length self.old.events)) }
+        ensures least { IfOk result
+            (IsLeast (IsStop self.old.stops self.old.boot self.old.events) (self.old.position + 1)
+            (length self.old.events)) }
         ensures moved { IfOk result (λ found. self.new ≡ went self.old found) }
         ensures err { OnErr result (self.new ≡ self.old) }
     {
@@ -145,7 +157,9 @@ impl Debugger {
         &mut self,
         progress: &mut P,
     ) -> Result<Option<u64>, NoMemory>
-        ensures least { IfOk result (IsLeast (IsStop self.old.stops self.old.boot self.old.events) (self.old.position + 1) (length self.old.events)) }
+        ensures least { IfOk result
+            (IsLeast (IsStop self.old.stops self.old.boot self.old.events) (self.old.position + 1)
+            (length self.old.events)) }
         ensures moved { IfOk result (λ found. self.new ≡ went self.old found) }
         ensures err { OnErr result (self.new ≡ self.old) }
     {
@@ -166,7 +180,8 @@ impl Debugger {
     /// Goes back to the last stop before its position, and answers that. None, and no move, where there is none. An
     /// `Err` leaves it where it is.
     pub fn last_stop(&mut self) -> Result<Option<u64>, NoMemory>
-        ensures greatest { IfOk result (IsGreatest (IsStop self.old.stops self.old.boot self.old.events) 0 self.old.position) }
+        ensures greatest { IfOk result
+            (IsGreatest (IsStop self.old.stops self.old.boot self.old.events) 0 self.old.position) }
         ensures moved { IfOk result (λ found. self.new ≡ went self.old found) }
         ensures err { OnErr result (self.new ≡ self.old) }
     {
@@ -179,7 +194,8 @@ impl Debugger {
         &mut self,
         progress: &mut P,
     ) -> Result<Option<u64>, NoMemory>
-        ensures greatest { IfOk result (IsGreatest (IsStop self.old.stops self.old.boot self.old.events) 0 self.old.position) }
+        ensures greatest { IfOk result
+            (IsGreatest (IsStop self.old.stops self.old.boot self.old.events) 0 self.old.position) }
         ensures moved { IfOk result (λ found. self.new ≡ went self.old found) }
         ensures err { OnErr result (self.new ≡ self.old) }
     {

@@ -3,15 +3,17 @@
 ghost use Rattle.std.specs.Prelude.{◌≡◌, ◌+◌, ◌-◌, ◌<◌, ◌≤◌, List as ListOf, length, IfOk, OnOk, OnErr};
 ghost use Rattle.brd_board.specs.declared.event.Event.{Event as EventOf};
 ghost use Rattle.brd_board.specs.Snapshot.{Fits};
-ghost use Rattle.brd_debug.specs.Kept.{IsPlayed, IsKept, AreKept, DoFit, IsLastUpTo, next_multiple, plan_of, IsNoted, IsNotedUpTo};
+ghost use Rattle.brd_journal.specs.Playing.{IsPlayed};
+ghost use Rattle.brd_debug.specs.Kept.{IsKept, AreKept, DoFit, IsLastUpTo, next_multiple, plan_of, IsNoted};
+ghost use Rattle.brd_debug.specs.Kept.{IsNotedUpTo};
 ghost use Rattle.brd_debug.specs.Stops.{IsStop, IsLeast, IsGreatest};
 
-use crate::playback::Playback;
+use crate::playback::{first_stop, last_stop, put_back};
 use crate::snapshots::{Kept, Snapshots};
 use crate::stops::Stops;
 use brd_base::NoMemory;
 use brd_board::Board;
-use brd_journal::Journal;
+use brd_journal::{Journal, Playback};
 use brd_progress::Progress;
 
 /// A board that has played up to a position: from the one that is shown, from a snapshot or from the boot, whichever is
@@ -30,7 +32,8 @@ pub(crate) fn played_to<P: Progress>(
     ensures played { IfOk result (IsPlayed boot.now journal.now.events) }
     ensures at { IfOk result (λ playback. playback.at ≡ to) }
     ensures kept { AreKept boot.now journal.now.events snapshots.new.kept }
-    ensures noted { IfOk result (λ _. IsNotedUpTo boot.now journal.now.events snapshots.old shown.now.at to (plan_of snapshots.new)) }
+    ensures noted { IfOk result
+        (λ _. IsNotedUpTo boot.now journal.now.events snapshots.old shown.now.at to (plan_of snapshots.new)) }
 {
     let mut playback = nearest(boot, snapshots, shown, to)?;
     play_on(boot, journal, snapshots, &mut playback, to, progress)?;
@@ -53,7 +56,9 @@ fn play_on<P: Progress>(
     ensures played { IsPlayed boot.now journal.now.events playback.new }
     ensures at { OnOk result (playback.new.at ≡ to) }
     ensures kept { AreKept boot.now journal.now.events snapshots.new.kept }
-    ensures noted { OnOk result (IsNoted boot.now journal.now.events (plan_of snapshots.old) playback.old.at (to - playback.old.at) (plan_of snapshots.new)) }
+    ensures noted { OnOk result
+        (IsNoted boot.now journal.now.events (plan_of snapshots.old) playback.old.at (to - playback.old.at)
+        (plan_of snapshots.new)) }
 {
     let len = journal.len();
     let from = playback.at;
@@ -84,7 +89,9 @@ pub(crate) fn play_near(
     ensures at { OnOk result (shown.new.at ≡ to) }
     ensures err { OnErr result (shown.new ≡ shown.old) }
     ensures kept { AreKept boot.now journal.now.events snapshots.new.kept }
-    ensures noted { OnOk result (IsNoted boot.now journal.now.events (plan_of snapshots.old) shown.old.at (to - shown.old.at) (plan_of snapshots.new)) }
+    ensures noted { OnOk result
+        (IsNoted boot.now journal.now.events (plan_of snapshots.old) shown.old.at (to - shown.old.at)
+        (plan_of snapshots.new)) }
 {
     let len = journal.len();
     snapshots.note(boot, shown)?;
@@ -110,7 +117,7 @@ pub(crate) fn go_back(
     ensures err { OnErr result (shown.new ≡ shown.old) }
 {
     let _ = journal.len();
-    shown.go_back(boot, snapshots, to)?;
+    put_back(shown, boot, snapshots, to)?;
     shown.play_to(journal, to, to);
     Ok(())
 }
@@ -127,7 +134,8 @@ pub(crate) fn next_stop<P: Progress>(
 ) -> Result<Option<u64>, NoMemory>
     requires shown { IsPlayed boot.now journal.now.events shown.now }
     requires kept { AreKept boot.now journal.now.events snapshots.old.kept }
-    ensures least { IfOk result (IsLeast (IsStop stops.now boot.now journal.now.events) (shown.now.at + 1) (length journal.now.events)) }
+    ensures least { IfOk result
+        (IsLeast (IsStop stops.now boot.now journal.now.events) (shown.now.at + 1) (length journal.now.events)) }
     ensures kept { AreKept boot.now journal.now.events snapshots.new.kept }
 {
     let len = journal.len();
@@ -158,16 +166,19 @@ fn stop_from<P: Progress>(
 ) -> Result<Option<u64>, NoMemory>
     requires played { IsPlayed boot.now journal.now.events playback.old }
     requires kept { AreKept boot.now journal.now.events snapshots.old.kept }
-    ensures least { IfOk result (IsLeast (IsStop stops.now boot.now journal.now.events) playback.old.at (length journal.now.events)) }
+    ensures least { IfOk result
+        (IsLeast (IsStop stops.now boot.now journal.now.events) playback.old.at (length journal.now.events)) }
     ensures kept { AreKept boot.now journal.now.events snapshots.new.kept }
-    ensures noted { OnOk result (IsNoted boot.now journal.now.events (plan_of snapshots.old) playback.old.at (playback.new.at - playback.old.at) (plan_of snapshots.new)) }
+    ensures noted { OnOk result
+        (IsNoted boot.now journal.now.events (plan_of snapshots.old) playback.old.at (playback.new.at - playback.old.at)
+        (plan_of snapshots.new)) }
 {
     let len = journal.len();
     let from = playback.at;
     while playback.at < len {
         snapshots.note(boot, playback)?;
         let end = snapshots.next(playback.at).min(len);
-        let found = playback.first_stop(journal, stops, end, len);
+        let found = first_stop(playback, journal, stops, end, len);
         if found.is_some() {
             return Ok(found);
         }
@@ -193,9 +204,9 @@ pub(crate) fn stop_before<P: Progress>(
     let mut to = shown.at;
     let mut playback = shown.try_copy()?;
     while to > 0 {
-        playback.go_back(boot, snapshots, to - 1)?;
+        put_back(&mut playback, boot, snapshots, to - 1)?;
         let from = playback.at;
-        let found = playback.last_stop(journal, stops, to);
+        let found = last_stop(&mut playback, journal, stops, to);
         if found.is_some() {
             return Ok(found);
         }
@@ -217,7 +228,8 @@ fn nearest(
     ensures at { IfOk result (λ playback. playback.at ≤ to) }
     ensures last { IfOk result (λ playback. IsLastUpTo snapshots.now.kept to playback.at) }
     ensures shown { IfOk result (λ playback. shown.now.at ≤ to → shown.now.at ≤ playback.at) }
-    ensures played { (events : ListOf EventOf) → IsPlayed boot.now events shown.now → AreKept boot.now events snapshots.now.kept
+    ensures played { (events : ListOf EventOf) → IsPlayed boot.now events shown.now
+        → AreKept boot.now events snapshots.now.kept
         → IfOk result (IsPlayed boot.now events) }
 {
     match snapshots.nearest(to) {
@@ -239,7 +251,8 @@ fn nearest(
 fn from_kept(boot: &Board, kept: &Kept) -> Result<Playback, NoMemory>
     requires { Fits boot.now kept.now.snapshot }
     ensures at { IfOk result (λ playback. playback.at ≡ kept.now.at) }
-    ensures played { (events : ListOf EventOf) → IsKept boot.now events kept.now → IfOk result (IsPlayed boot.now events) }
+    ensures played { (events : ListOf EventOf) → IsKept boot.now events kept.now
+        → IfOk result (IsPlayed boot.now events) }
 {
     Ok(Playback {
         board: Board::from_snapshot(boot, &kept.snapshot)?,

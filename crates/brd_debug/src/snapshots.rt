@@ -1,15 +1,17 @@
 //! Snapshots of the boards that a journal makes.
 
-ghost use Rattle.std.specs.Prelude.{◌≡◌, ℕ, ◌+◌, ◌<◌, ◌≤◌, ◌^◌, ◌%◌, ◌==◌, List as ListOf, [], All, Contains, filter, map, OnOk, OnErr, IfOk, IfSome, IfNone};
+ghost use Rattle.std.specs.Prelude.{◌≡◌, ℕ, ◌+◌, ◌<◌, ◌≤◌, ◌^◌, ◌%◌, ◌==◌, List as ListOf, [], All, Contains, filter};
+ghost use Rattle.std.specs.Prelude.{map, OnOk, OnErr, IfOk, IfSome, IfNone};
 ghost use Rattle.brd_mem.specs.Memory.{size_of};
 ghost use Rattle.brd_board.specs.declared.event.Event.{Event as EventOf};
 ghost use Rattle.brd_board.specs.Board.{BoardState as BoardOf};
 ghost use Rattle.brd_board.specs.Snapshot.{restored, Fits};
-ghost use Rattle.brd_debug.specs.Kept.{IsPlayed, AreKept, IsLastUpTo, first_interval, plan_of, last_of, next_multiple, noted};
+ghost use Rattle.brd_journal.specs.Playing.{IsPlayed};
+ghost use Rattle.brd_debug.specs.Kept.{AreKept, IsLastUpTo, first_interval, plan_of, last_of, next_multiple, noted};
 
-use crate::playback::Playback;
 use brd_base::NoMemory;
 use brd_board::{Board, Snapshot};
+use brd_journal::Playback;
 use std::alloc::Global;
 use std::marker::Model;
 
@@ -43,7 +45,8 @@ impl Model for Snapshots {
 
     ghost view = { λ snapshots. record { interval = snapshots.interval; kept = snapshots.kept.items } };
 
-    ghost invariant = { λ snapshots. (1 ≤ snapshots.interval) × (snapshots.interval ≤ 2 ^ 60) × (length snapshots.kept.items ≤ most_kept) };
+    ghost invariant = { λ snapshots. (1 ≤ snapshots.interval) × (snapshots.interval ≤ 2 ^ 60)
+        × (length snapshots.kept.items ≤ most_kept) };
 }
 
 impl Snapshots {

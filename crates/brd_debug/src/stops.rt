@@ -1,16 +1,14 @@
 //! Where a debugger stops.
 
-ghost use Rattle.std.specs.Prelude.{◌≡◌, ◌≤◌, Decides, false, [], length};
+ghost use Rattle.std.specs.Prelude.{◌≡◌, ◌⊎◌, ◌≤◌, Decides, false, [], length};
 ghost use Rattle.brd_debug.specs.Watching.{AreBytesAt, IsSameUnless};
 ghost use Rattle.brd_board.specs.Board.{happens};
 ghost use Rattle.brd_mem.specs.Memory.{Memory as MemoryOf};
 ghost use Rattle.brd_debug.specs.Marks.{most_marks};
-ghost use Rattle.brd_debug.specs.Stops.{IsBreak, Differs, StopsAt};
-ghost use Rattle.brd_journal.specs.Still.{does_no_more};
+ghost use Rattle.brd_debug.specs.Stops.{IsBreak, Differs};
 
 use crate::marks::{MOST_MARKS, Marks};
 use brd_board::{Board, Event, Report};
-use brd_journal::does_no_more;
 
 /// Addresses of instructions, and addresses of bytes.
 #[derive(Drop)]
@@ -19,15 +17,6 @@ pub struct Stops {
     pub breaks: Marks,
     /// Where a byte that changes is a stop.
     pub watches: Marks,
-}
-
-/// What was seen of an event.
-#[derive(Clone, Copy)]
-pub struct Seen {
-    /// Whether it is a stop.
-    pub stop: bool,
-    /// Whether the same event does nothing where it comes again.
-    pub over: bool,
 }
 
 /// The bytes at watched addresses, in the order of these; None where RAM has none.
@@ -55,27 +44,33 @@ impl Stops {
         watched(self.watches.as_slice(), board)
     }
 
-    /// Lets an event happen to a board with these watched bytes, and keeps them up to date. Answers whether that is a
-    /// stop, and whether the event is over then.
-    pub fn happen(&self, board: &mut Board, event: Event, bytes: &mut WatchedBytes) -> Seen
-        requires { AreBytesAt self.now.watches board.old.memory bytes.old.bytes }
-        ensures bytes { AreBytesAt self.now.watches board.new.memory bytes.new.bytes }
-        ensures is { board.new ≡ (happens board.old event).board }
-        ensures stops { Decides result.stop (StopsAt self.now board.old event) }
-        ensures over { result.over ≡ does_no_more event (happens board.old event).report }
+    /// Whether an event that left a board, with this report, is a stop. It may have changed watched bytes, or not; they
+    /// are brought up to date.
+    #[inline(always)]
+    pub fn are_met(
+        &self,
+        report: Report,
+        board: &Board,
+        bytes: &mut WatchedBytes,
+        may_change: bool,
+    ) -> bool
+        ensures stops { (memory : MemoryOf) → AreBytesAt self.now.watches memory bytes.old.bytes
+            → IsSameUnless may_change self.now.watches memory board.now.memory
+            → Decides result (IsBreak self.now.breaks report ⊎ Differs self.now.watches memory board.now.memory) }
+        ensures bytes { (memory : MemoryOf) → AreBytesAt self.now.watches memory bytes.old.bytes
+            → IsSameUnless may_change self.now.watches memory board.now.memory
+            → AreBytesAt self.now.watches board.now.memory bytes.new.bytes }
     {
-        let may_change = self.may_change(board, event);
-        let report = board.event_apart(event);
         let changed = renewed(self.watches.as_slice(), bytes, board, may_change);
-        Seen {
-            stop: self.is_break(report) || changed,
-            over: does_no_more(event, report),
+        if self.is_break(report) {
+            return true;
         }
+        changed
     }
 
     /// Whether an event may change a watched byte: there is one, and the event may change memory.
     #[inline(always)]
-    fn may_change(&self, board: &Board, event: Event) -> bool
+    pub fn may_change(&self, board: &Board, event: Event) -> bool
         ensures { IsSameUnless result self.now.watches board.now.memory (happens board.now event).board.memory }
     {
         if self.watches.as_slice().is_empty() {
@@ -113,9 +108,11 @@ fn watched(watches: &[u32], board: &Board) -> WatchedBytes
 #[inline(always)]
 fn renewed(watches: &[u32], bytes: &mut WatchedBytes, board: &Board, may_differ: bool) -> bool
     requires { length watches.now ≤ most_marks }
-    ensures differ { (memory : MemoryOf) → AreBytesAt watches.now memory bytes.old.bytes → IsSameUnless may_differ watches.now memory board.now.memory
+    ensures differ { (memory : MemoryOf) → AreBytesAt watches.now memory bytes.old.bytes
+        → IsSameUnless may_differ watches.now memory board.now.memory
         → Decides result (Differs watches.now memory board.now.memory) }
-    ensures bytes { (memory : MemoryOf) → AreBytesAt watches.now memory bytes.old.bytes → IsSameUnless may_differ watches.now memory board.now.memory
+    ensures bytes { (memory : MemoryOf) → AreBytesAt watches.now memory bytes.old.bytes
+        → IsSameUnless may_differ watches.now memory board.now.memory
         → AreBytesAt watches.now board.now.memory bytes.new.bytes }
 {
     if !may_differ || !differ(watches, bytes, board) {

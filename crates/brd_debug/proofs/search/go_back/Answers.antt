@@ -1,8 +1,8 @@
 use Rattle.brd_debug.proofs.KeptLemmas.{size-played, order-played}
 use Rattle.brd_debug.proofs.search.go_back.Goals as goal
 
-pub go_back-requires-clause-sizes : goal.go_back-requires-clause-sizes
-go_back-requires-clause-sizes c = size-played c.args.boot.now c.args.journal.now.events c.args.shown.now c.requires.shown
+pub put_back-requires-clause-sizes : goal.put_back-requires-clause-sizes
+put_back-requires-clause-sizes c = size-played c.args.boot.now c.args.journal.now.events c.args.shown.now c.requires.shown
 
-pub go_back-requires-clause-orders : goal.go_back-requires-clause-orders
-go_back-requires-clause-orders c = order-played c.args.boot.now c.args.journal.now.events c.args.shown.now c.requires.shown
+pub put_back-requires-clause-orders : goal.put_back-requires-clause-orders
+put_back-requires-clause-orders c = order-played c.args.boot.now c.args.journal.now.events c.args.shown.now c.requires.shown

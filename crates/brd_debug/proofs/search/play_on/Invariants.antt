@@ -1,6 +1,7 @@
 -- The board has played up to where it is, and the snapshots are those of the journal, as they were noted on the way.
 use Rattle.std.proofs.Common.{◌≤◌, ◌-◌}
-use Rattle.brd_debug.specs.Kept.{IsPlayed, AreKept, IsNoted, plan_of}
+use Rattle.brd_journal.specs.Playing.{IsPlayed}
+use Rattle.brd_debug.specs.Kept.{AreKept, IsNoted, plan_of}
 use Rattle.brd_debug.proofs.search.play_on.Given as goal
 
 abbrev pub invariant-loop-playback : goal.invariant-loop-playback

@@ -6,24 +6,24 @@ use Rattle.brd_debug.proofs.search.stop_before.Goals as goal
 
 pub returns-then-is_some : goal.returns-then-is_some
 returns-then-is_some g c =
-    found-greatest (IsStop c.args.stops.now c.args.boot.now c.args.journal.now.events) 0 c.go_back.new.self.at c.loop-to.to c.args.shown.now.at
+    found-greatest (IsStop c.args.stops.now c.args.boot.now c.args.journal.now.events) 0 c.put_back.new.playback.at c.loop-to.to c.args.shown.now.at
     c.last_stop-found.result (sym c.is_some.ensures ∙ c.if-is_some.true) (omega arith) c.loop-to.invariant.below c.loop-to.invariant.none
-    (c.last_stop-found.ensures.greatest c.args.boot.now (c.in_ok-go_back.ensures.played c.args.journal.now.events c.requires.kept))
+    (c.last_stop-found.ensures.greatest c.args.boot.now (c.in_ok-put_back.ensures.played c.args.journal.now.events c.requires.kept))
 
-pub go_back-requires-clause-sizes : goal.go_back-requires-clause-sizes
-go_back-requires-clause-sizes g c = size-played c.args.boot.now c.args.journal.now.events c.loop-to.playback c.loop-to.invariant.played
+pub put_back-requires-clause-sizes : goal.put_back-requires-clause-sizes
+put_back-requires-clause-sizes g c = size-played c.args.boot.now c.args.journal.now.events c.loop-to.playback c.loop-to.invariant.played
 
-pub go_back-requires-clause-orders : goal.go_back-requires-clause-orders
-go_back-requires-clause-orders g c = order-played c.args.boot.now c.args.journal.now.events c.loop-to.playback c.loop-to.invariant.played
+pub put_back-requires-clause-orders : goal.put_back-requires-clause-orders
+put_back-requires-clause-orders g c = order-played c.args.boot.now c.args.journal.now.events c.loop-to.playback c.loop-to.invariant.played
 
 pub loop-to-preserved : goal.loop-to-preserved
 loop-to-preserved g c = record {
-  played = c.last_stop-found.ensures.played c.args.boot.now (c.in_ok-go_back.ensures.played c.args.journal.now.events c.requires.kept);
-  below = omega (arith, c.in_ok-go_back.ensures.at, c.loop-to.invariant.below);
-  none = none-both (IsStop c.args.stops.now c.args.boot.now c.args.journal.now.events) c.go_back.new.self.at c.loop-to.to c.args.shown.now.at
-      (none-greatest (IsStop c.args.stops.now c.args.boot.now c.args.journal.now.events) c.go_back.new.self.at c.loop-to.to
+  played = c.last_stop-found.ensures.played c.args.boot.now (c.in_ok-put_back.ensures.played c.args.journal.now.events c.requires.kept);
+  below = omega (arith, c.in_ok-put_back.ensures.at, c.loop-to.invariant.below);
+  none = none-both (IsStop c.args.stops.now c.args.boot.now c.args.journal.now.events) c.put_back.new.playback.at c.loop-to.to c.args.shown.now.at
+      (none-greatest (IsStop c.args.stops.now c.args.boot.now c.args.journal.now.events) c.put_back.new.playback.at c.loop-to.to
       c.last_stop-found.result (sym c.is_some.ensures ∙ c.if-is_some.false)
-      (c.last_stop-found.ensures.greatest c.args.boot.now (c.in_ok-go_back.ensures.played c.args.journal.now.events c.requires.kept)))
+      (c.last_stop-found.ensures.greatest c.args.boot.now (c.in_ok-put_back.ensures.played c.args.journal.now.events c.requires.kept)))
       c.loop-to.invariant.none;
 }
 

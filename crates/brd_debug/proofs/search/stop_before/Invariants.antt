@@ -1,8 +1,7 @@
 -- A board has played some events, and there is no stop from here up to the position.
 use Rattle.std.proofs.Common.{◌≤◌}
-use Rattle.brd_debug.specs.Kept.{IsPlayed}
-use Rattle.brd_debug.specs.Stops.{IsStop}
-use Rattle.brd_debug.proofs.SearchLemmas.{NoneFrom}
+use Rattle.brd_journal.specs.Playing.{IsPlayed}
+use Rattle.brd_debug.specs.Stops.{IsStop, NoneFrom}
 use Rattle.brd_debug.proofs.search.stop_before.Given as goal
 
 abbrev pub invariant-loop-to : goal.invariant-loop-to

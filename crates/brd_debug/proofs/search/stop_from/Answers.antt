@@ -24,42 +24,42 @@ loop-playback-init g c = record {
 pub returns-then-is_some-clause-least : goal.returns-then-is_some-clause-least
 returns-then-is_some-clause-least g c =
     found-least (IsStop c.args.stops.now c.args.boot.now c.args.journal.now.events) c.args.playback.now.at c.loop-playback.playback.at
-    c.first_stop-found.new.self.at (length c.args.journal.now.events) c.first_stop-found.result (sym c.is_some.ensures ∙ c.if-is_some.true)
+    c.first_stop-found.new.playback.at (length c.args.journal.now.events) c.first_stop-found.result (sym c.is_some.ensures ∙ c.if-is_some.true)
     c.loop-playback.invariant.from (omega (arith, c.first_stop-found.ensures.at.1, c.len-len.ensures.len)) c.loop-playback.invariant.none
     (c.first_stop-found.ensures.least c.args.boot.now c.loop-playback.invariant.played)
 
 pub returns-then-is_some-clause-noted : goal.returns-then-is_some-clause-noted
 returns-then-is_some-clause-noted g c =
-    let more : c.loop-playback.playback.at < c.first_stop-found.new.self.at =
-    found-more (IsStop c.args.stops.now c.args.boot.now c.args.journal.now.events) c.loop-playback.playback.at c.first_stop-found.new.self.at
+    let more : c.loop-playback.playback.at < c.first_stop-found.new.playback.at =
+    found-more (IsStop c.args.stops.now c.args.boot.now c.args.journal.now.events) c.loop-playback.playback.at c.first_stop-found.new.playback.at
     c.first_stop-found.result (sym c.is_some.ensures ∙ c.if-is_some.true) (c.first_stop-found.ensures.least c.args.boot.now c.loop-playback.invariant.played) in
     noted-both c.args.boot.now c.args.journal.now.events (plan_of c.args.snapshots.now) (plan_of c.loop-playback.snapshots) (plan_of c.note.new.self)
-    c.args.playback.now.at c.loop-playback.playback.at c.first_stop-found.new.self.at c.loop-playback.invariant.from (omega (arith, more))
+    c.args.playback.now.at c.loop-playback.playback.at c.first_stop-found.new.playback.at c.loop-playback.invariant.from (omega (arith, more))
     c.loop-playback.invariant.noted
     (noted-on c.args.boot.now c.args.journal.now.events (plan_of c.loop-playback.snapshots) (plan_of c.note.new.self) c.loop-playback.playback.at
-    c.min-end.result c.first_stop-found.new.self.at c.in_ok-note.ensures.noted more (omega (arith, c.min-end.ensures, c.next.ensures.is))
+    c.min-end.result c.first_stop-found.new.playback.at c.in_ok-note.ensures.noted more (omega (arith, c.min-end.ensures, c.next.ensures.is))
     (c.first_stop-found.ensures.still c.args.boot.now c.loop-playback.invariant.played))
 
 pub loop-playback-preserved : goal.loop-playback-preserved
 loop-playback-preserved g c =
-    let far : c.min-end.result ≤ c.first_stop-found.new.self.at =
+    let far : c.min-end.result ≤ c.first_stop-found.new.playback.at =
     c.first_stop-found.ensures.none (none-of c.first_stop-found.result (sym c.is_some.ensures ∙ c.if-is_some.false)) in
-    let more : c.loop-playback.playback.at < c.first_stop-found.new.self.at =
+    let more : c.loop-playback.playback.at < c.first_stop-found.new.playback.at =
     omega (arith, far, c.min-end.ensures, c.next.ensures.after, c.loop-playback-test.true) in
     record {
       from = omega (arith, more, c.loop-playback.invariant.from);
       none = none-both (IsStop c.args.stops.now c.args.boot.now c.args.journal.now.events) c.args.playback.now.at c.loop-playback.playback.at
-          c.first_stop-found.new.self.at c.loop-playback.invariant.none
-          (none-least (IsStop c.args.stops.now c.args.boot.now c.args.journal.now.events) c.loop-playback.playback.at c.first_stop-found.new.self.at
+          c.first_stop-found.new.playback.at c.loop-playback.invariant.none
+          (none-least (IsStop c.args.stops.now c.args.boot.now c.args.journal.now.events) c.loop-playback.playback.at c.first_stop-found.new.playback.at
           c.first_stop-found.result (sym c.is_some.ensures ∙ c.if-is_some.false)
           (c.first_stop-found.ensures.least c.args.boot.now c.loop-playback.invariant.played));
       played = c.first_stop-found.ensures.played c.args.boot.now c.loop-playback.invariant.played;
       kept = c.in_ok-note.ensures.kept c.args.journal.now.events c.loop-playback.invariant.played c.loop-playback.invariant.kept;
       noted = noted-both c.args.boot.now c.args.journal.now.events (plan_of c.args.snapshots.now) (plan_of c.loop-playback.snapshots) (plan_of c.note.new.self)
-          c.args.playback.now.at c.loop-playback.playback.at c.first_stop-found.new.self.at c.loop-playback.invariant.from (omega (arith, more))
+          c.args.playback.now.at c.loop-playback.playback.at c.first_stop-found.new.playback.at c.loop-playback.invariant.from (omega (arith, more))
           c.loop-playback.invariant.noted
           (noted-on c.args.boot.now c.args.journal.now.events (plan_of c.loop-playback.snapshots) (plan_of c.note.new.self) c.loop-playback.playback.at
-          c.min-end.result c.first_stop-found.new.self.at c.in_ok-note.ensures.noted more (omega (arith, c.min-end.ensures, c.next.ensures.is))
+          c.min-end.result c.first_stop-found.new.playback.at c.in_ok-note.ensures.noted more (omega (arith, c.min-end.ensures, c.next.ensures.is))
           (c.first_stop-found.ensures.still c.args.boot.now c.loop-playback.invariant.played));
     }
 

@@ -1,8 +1,8 @@
 -- Up to where the board has played, there is no stop from where it began on, and the snapshots are noted.
 use Rattle.std.proofs.Common.{◌≤◌, ◌-◌, length}
-use Rattle.brd_debug.specs.Kept.{IsPlayed, AreKept, IsNoted, plan_of}
-use Rattle.brd_debug.specs.Stops.{IsStop}
-use Rattle.brd_debug.proofs.SearchLemmas.{NoneFrom}
+use Rattle.brd_journal.specs.Playing.{IsPlayed}
+use Rattle.brd_debug.specs.Kept.{AreKept, IsNoted, plan_of}
+use Rattle.brd_debug.specs.Stops.{IsStop, NoneFrom}
 use Rattle.brd_debug.proofs.search.stop_from.Given as goal
 
 abbrev pub invariant-loop-playback : goal.invariant-loop-playback
