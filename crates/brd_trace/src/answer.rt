@@ -1,6 +1,6 @@
 //! The answers of service calls.
 
-use crate::service::{Asked, Shown, put_value};
+use crate::service::{AskedCall, Shown, put_value};
 use crate::text::{put, put_signed};
 use brd_base::NoMemory;
 use brd_exec::Context;
@@ -53,7 +53,7 @@ impl Answer {
         self,
         alloc: Global,
         out: &mut Vec<u8>,
-        asked: Asked,
+        asked: AskedCall,
     ) -> Result<(), NoMemory> {
         put(out, " = ")?;
         if asked.counts() && !self.is_error() {

@@ -6,7 +6,7 @@ use brd_base::NoMemory;
 use brd_board::Board;
 use brd_exec::Context;
 use brd_isa::{Insn, LoadOp, Register, decode};
-use brd_listing::{register_name, write_instruction};
+use brd_listing::{write_instruction, write_register};
 use brd_text::hex_digits;
 use brd_word::half_of;
 
@@ -36,7 +36,7 @@ pub(crate) fn put_effect(
     for i in 0..32usize {
         let new = after.registers()[i];
         if before.registers()[i] != new {
-            put_value(out, register_name(Register::low(i as u32)), new)?;
+            put_register(out, Register::low(i as u32), new)?;
         }
     }
     if before.hi() != after.hi() {
@@ -49,6 +49,14 @@ pub(crate) fn put_effect(
         Some(cell) => cell.put(out, board),
         None => Ok(()),
     }
+}
+
+/// Puts at the end a register and its value.
+fn put_register(out: &mut Vec<u8>, register: Register, word: u32) -> Result<(), NoMemory> {
+    put(out, "; ")?;
+    write_register(register, out)?;
+    put(out, " = ")?;
+    put_word(out, word)
 }
 
 /// Puts at the end a name and its value.

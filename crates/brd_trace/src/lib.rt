@@ -1,7 +1,7 @@
 //! What happens on a board under a journal, in words: a line for each event that is more than an ordinary instruction,
 //! and a summary of what stands at the end.
 //!
-//! `specs/Playing.antt` says what it is to play a journal: no event is left out, and none comes in between.
+//! Its board plays a journal as `specs/Playing.antt` of brd_journal says: no event is left out, none comes in between.
 #![tactic(auto)]
 
 mod answer;
@@ -25,6 +25,5 @@ mod waits;
 
 pub use line::HEAD;
 pub use names::Names;
-pub use playback::{Moved, Playback};
 pub use teller::Options;
 pub use tracer::Tracer;

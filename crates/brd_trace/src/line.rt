@@ -23,7 +23,7 @@ pub const HEAD: &str = "     event cpu who        where               what\n";
 
 /// A line: an event, or several in a row that do the same.
 #[derive(Clone, Copy)]
-pub struct Line<'a> {
+pub struct TraceLine<'a> {
     /// The position of the event, or of the first one.
     pub position: u64,
     /// The processor whose step it is.
@@ -36,7 +36,7 @@ pub struct Line<'a> {
     pub what: &'a [u8],
 }
 
-impl<'a> Line<'a> {
+impl<'a> TraceLine<'a> {
     /// Puts the line at the end.
     pub fn put(&self, alloc: Global, names: Names, out: &mut Vec<u8>) -> Result<(), NoMemory> {
         let mut position = Vec::new(alloc);

@@ -1,6 +1,6 @@
 //! Events that change nothing, of which many in a row are one line.
 
-use crate::service::{Asked, LOC_SPN};
+use crate::service::{AskedCall, LOC_SPN};
 use crate::text::{put, put_count, put_named, put_number};
 use brd_base::NoMemory;
 use brd_board::{Standing, TaskId};
@@ -8,7 +8,7 @@ use std::alloc::Global;
 
 /// A task that asks for a spin lock that is held, so that the call comes again.
 #[derive(Clone, Copy, PartialEq, Eq)]
-pub(crate) struct Spin {
+pub(crate) struct SpinningTask {
     /// Its processor.
     pub cpu: u8,
     /// The task.
@@ -29,7 +29,7 @@ pub(crate) enum Quiet {
     /// Steps of a processor that the board doesn't have.
     NoProcessor(u8),
     /// Calls that come again.
-    Spins(Spin),
+    Spins(SpinningTask),
     /// Ticks that release nobody.
     Tick,
     /// Ticks after the last one.
@@ -123,7 +123,7 @@ impl Stretch {
 
     /// Puts at the end the call that comes again, the lock, and how many steps.
     fn put_spins(&self, alloc: Global, out: &mut Vec<u8>, lock: u32) -> Result<(), NoMemory> {
-        let asked = Asked {
+        let asked = AskedCall {
             number: LOC_SPN,
             arguments: [lock, 0, 0, 0],
         };

@@ -2,7 +2,7 @@
 
 use crate::answer::error_name;
 use crate::names::Names;
-use crate::service::{Asked, service_of};
+use crate::service::{AskedCall, service_of};
 use crate::text::{put, put_count, put_named, put_number, put_signed};
 use brd_base::NoMemory;
 use std::alloc::Global;
@@ -11,7 +11,7 @@ use std::alloc::Global;
 #[derive(Clone, Copy)]
 pub(crate) struct Refusals {
     /// The first of them.
-    pub asked: Asked,
+    pub asked: AskedCall,
     /// The answer.
     pub code: u32,
     /// How many there were.
@@ -24,7 +24,7 @@ pub(crate) struct Refusals {
 
 impl Refusals {
     /// Whether a call with this answer is of this kind.
-    fn has(&self, asked: Asked, code: u32) -> bool {
+    fn has(&self, asked: AskedCall, code: u32) -> bool {
         self.code == code
             && (self.asked.number == asked.number
                 || (service_of(self.asked.number).is_none() && service_of(asked.number).is_none()))

@@ -49,17 +49,17 @@ pub(crate) const LOC_SPN: u32 = 60;
 
 /// A service call as the registers ask for it.
 #[derive(Clone, Copy)]
-pub(crate) struct Asked {
+pub(crate) struct AskedCall {
     /// Its number, in $v0.
     pub number: u32,
     /// Its arguments, in $a0 to $a3.
     pub arguments: [u32; 4],
 }
 
-impl Asked {
+impl AskedCall {
     /// What a context asks for that executes a SYSCALL.
-    pub(crate) fn of(context: &Context) -> Asked {
-        Asked {
+    pub(crate) fn of(context: &Context) -> AskedCall {
+        AskedCall {
             number: context.read(Register::low(2)),
             arguments: [
                 context.read(Register::low(4)),

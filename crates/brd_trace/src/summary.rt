@@ -16,8 +16,8 @@ use std::alloc::Global;
 
 impl Tracer {
     /// Puts at the end what stands after the events that were played: what each processor does and its last exception,
-    /// what each task is, whether nothing can release those that wait, and which calls were refused. `put_end` says what
-    /// comes before it.
+    /// what each task is, whether nothing can release those that wait, and which calls were refused. `put_end` says
+    /// what comes before it.
     pub fn put_summary(
         &self,
         alloc: Global,

@@ -1,7 +1,7 @@
 //! What is known of tasks, and what an event changed of them, in words.
 
 use crate::answer::Answer;
-use crate::service::Asked;
+use crate::service::AskedCall;
 use crate::text::{put, put_comma, put_named, put_number};
 use crate::waits::{put_wait, state_name};
 use brd_base::NoMemory;
@@ -28,7 +28,7 @@ pub(crate) struct TaskSeen {
     /// How many wake-ups are queued.
     pub wakeups: u8,
     /// What its registers ask for: the call, while it waits.
-    pub asked: Asked,
+    pub asked: AskedCall,
     /// What its registers have as an answer.
     pub answer: Answer,
     /// Where it goes on.
@@ -51,7 +51,7 @@ pub(crate) fn task_seen(board: &Board, id: TaskId) -> Option<TaskSeen> {
         cpu: view.cpu,
         activations: view.activations,
         wakeups: view.wakeups,
-        asked: Asked::of(&view.context),
+        asked: AskedCall::of(&view.context),
         answer: Answer::of(&view.context),
         pc: view.context.pc(),
         since: None,

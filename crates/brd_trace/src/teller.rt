@@ -1,8 +1,7 @@
 //! What is known of a board, and what is told of each event.
 
-use crate::line::Line;
+use crate::line::TraceLine;
 use crate::names::Names;
-use crate::playback::Moved;
 use crate::quiet::{Quiet, Stretch};
 use crate::recording::Recording;
 use crate::refusals::Refusals;
@@ -11,6 +10,7 @@ use crate::text::put;
 use brd_base::NoMemory;
 use brd_board::{Board, Event, Report, Standing, TaskId};
 use brd_exec::Context;
+use brd_journal::Moved;
 use std::alloc::Global;
 
 /// What a trace shows.
@@ -241,7 +241,7 @@ impl Teller {
         self.stretch = None;
         let mut what = Vec::new(alloc);
         stretch.put(alloc, &mut what)?;
-        let line = Line {
+        let line = TraceLine {
             position: stretch.position,
             cpu: stretch.quiet.processor(),
             who: stretch.quiet.who(),
@@ -313,7 +313,7 @@ impl Teller {
             return Ok(());
         }
         self.end_stretch(it.alloc, it.names, out)?;
-        let line = Line {
+        let line = TraceLine {
             position: before.position,
             cpu: before.processor(),
             who: before.who,
@@ -334,7 +334,7 @@ impl Teller {
         self.options.shown = true;
         let mut what = Vec::new(alloc);
         self.standings.put_all(alloc, &mut what)?;
-        let line = Line {
+        let line = TraceLine {
             position,
             cpu: None,
             who: None,

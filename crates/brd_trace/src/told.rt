@@ -3,15 +3,15 @@
 use crate::answer::Answer;
 use crate::cause::{Raised, word_at};
 use crate::effect::{put_effect, put_instruction};
-use crate::playback::Moved;
-use crate::quiet::{Quiet, Spin};
+use crate::quiet::{Quiet, SpinningTask};
 use crate::refusals::{Refusals, note_refusal};
-use crate::service::{Asked, EXT_KER, EXT_TSK, LOC_SPN, RET_INT, TER_TSK};
+use crate::service::{AskedCall, EXT_KER, EXT_TSK, LOC_SPN, RET_INT, TER_TSK};
 use crate::tasks::{Cause, TaskSeen, task_seen};
 use crate::teller::{Before, LastFault, Scene, Teller};
 use crate::text::{put, put_named};
 use brd_base::NoMemory;
 use brd_board::{Board, Event, Standing};
+use brd_journal::Moved;
 use brd_timeline::MarkKind;
 
 impl Teller {
@@ -44,7 +44,7 @@ impl Teller {
         let Some(context) = before.context else {
             return Ok(());
         };
-        let asked = Asked::of(&context);
+        let asked = AskedCall::of(&context);
         let answer = answer_to(it.board, before, asked);
         if let Some(spin) = spin_of(before, asked, answer, address) {
             return self.tell_quiet(it, out, Quiet::Spins(spin), before.position, 1);
@@ -72,7 +72,7 @@ impl Teller {
     pub(crate) fn note(
         &mut self,
         position: u64,
-        asked: Asked,
+        asked: AskedCall,
         answer: Answer,
         place: u32,
     ) -> Result<(), NoMemory> {
@@ -214,7 +214,7 @@ impl Teller {
 }
 
 /// What a call was answered; `None` where it isn't answered, or not yet.
-fn answer_to(board: &Board, before: &Before, asked: Asked) -> Option<Answer> {
+fn answer_to(board: &Board, before: &Before, asked: AskedCall) -> Option<Answer> {
     match before.who {
         Some(Standing::Task(id)) => {
             let now = task_seen(board, id)?;
@@ -234,12 +234,17 @@ fn answer_to(board: &Board, before: &Before, asked: Asked) -> Option<Answer> {
 }
 
 /// The spinning of a task whose call comes again: it asks for a lock, and $v0 is still the call's number.
-fn spin_of(before: &Before, asked: Asked, answer: Option<Answer>, place: u32) -> Option<Spin> {
+fn spin_of(
+    before: &Before,
+    asked: AskedCall,
+    answer: Option<Answer>,
+    place: u32,
+) -> Option<SpinningTask> {
     let task = before.task()?;
     if asked.number != LOC_SPN || answer?.code != LOC_SPN {
         return None;
     }
-    Some(Spin {
+    Some(SpinningTask {
         cpu: before.cpu,
         task,
         place,

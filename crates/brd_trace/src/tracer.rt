@@ -2,14 +2,14 @@
 
 ghost use Rattle.std.specs.Prelude.{◌≡◌, ◌≤◌, ◌<◌, length, IfOk};
 ghost use Rattle.brd_board.specs.Board.{BoardState as BoardOf};
-ghost use Rattle.brd_trace.specs.Playing.{IsPlayed};
+ghost use Rattle.brd_journal.specs.Playing.{IsPlayed};
 
 use crate::names::Names;
-use crate::playback::Playback;
+use crate::playback::{advance, next_word};
 use crate::teller::{Options, Scene, Teller};
 use brd_base::NoMemory;
 use brd_board::Board;
-use brd_journal::Journal;
+use brd_journal::{Journal, Playback};
 use brd_timeline::Timeline;
 use std::alloc::Global;
 
@@ -22,6 +22,8 @@ pub struct Tracer {
     /// The board, and how many events it has played.
     pub playback: Playback,
     pub(crate) teller: Teller,
+    /// Where the journal looks for the next event's run.
+    near: usize,
 }
 
 impl Tracer {
@@ -33,6 +35,7 @@ impl Tracer {
         Ok(Tracer {
             playback: Playback { board, at: 0 },
             teller,
+            near: 0,
         })
     }
 
@@ -56,12 +59,18 @@ impl Tracer {
         let position = self.playback.at;
         // (an instruction may write over itself, so the word is read before it)
         let word = if self.teller.options.instructions {
-            self.playback.next_word(journal)
+            next_word(&self.playback, journal, &mut self.near)
         } else {
             None
         };
         let mut context = None;
-        let Some(moved) = self.playback.advance(journal, to, &mut context) else {
+        let Some(moved) = advance(
+            &mut self.playback,
+            journal,
+            to,
+            &mut self.near,
+            &mut context,
+        ) else {
             return Ok(());
         };
         if self.teller.passes(moved.report) {
@@ -124,7 +133,11 @@ impl Tracer {
 
     /// The timeline that was made up to here, where one was.
     pub fn into_timeline(self, alloc: Global) -> Result<Option<Timeline>, NoMemory> {
-        let Tracer { playback, teller } = self;
+        let Tracer {
+            playback,
+            teller,
+            near: _,
+        } = self;
         teller.into_timeline(alloc, playback.at)
     }
 }

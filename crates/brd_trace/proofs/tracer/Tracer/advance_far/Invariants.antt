@@ -2,7 +2,7 @@
 -- it says.
 use Rattle.std.proofs.Common.{◌≤◌, ◌-◌}
 use Rattle.brd_board.specs.Board.{BoardState}
-use Rattle.brd_trace.specs.Playing.{IsPlayed}
+use Rattle.brd_journal.specs.Playing.{IsPlayed}
 use Rattle.brd_trace.proofs.tracer.Tracer.advance_far.Given as goal
 
 abbrev pub invariant-loop-self : goal.invariant-loop-self
