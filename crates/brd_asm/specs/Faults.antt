@@ -3,7 +3,8 @@ use Rattle.std.specs.Prelude.{◌≡◌, Bool, true, false, ⊤, Result, Ok, Err
 use Rattle.std.specs.Bool.{MatchBool}
 use Rattle.brd_text.specs.Faults as text
 use Rattle.brd_asm.specs.declared.fault.AsmFault.{AsmFault}
-use Rattle.brd_asm.specs.declared.fault.AsmFault.TheVariants.{NoMemory, Syntax, UnknownName, Twice, Range, Misaligned, Overlap}
+use Rattle.brd_asm.specs.declared.fault.AsmFault.TheVariants.{NoMemory, Syntax, UnknownName, Twice, Range, Misaligned}
+use Rattle.brd_asm.specs.declared.fault.AsmFault.TheVariants.{Overlap}
 
 abbrev pub is_no_memory : AsmFault → Bool
 is_no_memory NoMemory = true

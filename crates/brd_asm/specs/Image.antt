@@ -1,5 +1,6 @@
 -- The image of a source.
-use Rattle.std.specs.Prelude.{◌≡◌, ℕ, ◌+◌, ◌^◌, ◌<◌, ◌≤◌, ℤ, List, [], ◌∷◌, length, map, Option, None, Some, Result, Ok, codes}
+use Rattle.std.specs.Prelude.{◌≡◌, ℕ, ◌+◌, ◌^◌, ◌<◌, ◌≤◌, ℤ, List, [], ◌∷◌, length, map, Option, None, Some, Result, Ok}
+use Rattle.std.specs.Prelude.{codes}
 use Rattle.brd_text.specs.Faults.{◌>>=◌}
 use Rattle.brd_text.specs.Lines.{lines_of}
 use Rattle.brd_word.specs.Words.{bytes_of_word}

@@ -1,6 +1,7 @@
 -- Only private contracts name this: where in the output the bytes of each piece lie, in the order of the source each
 -- after those of the pieces before it, and the ranges by which they are found.
-use Rattle.std.specs.Prelude.{◌≡◌, ℕ, ◌+◌, ◌-◌, ◌≤◌, Bool, ◌&&◌, nat_le, nat_lt, if◌then◌else◌, List, [], ◌∷◌, slice_get, Option, None, Some, option_map, option_and_then}
+use Rattle.std.specs.Prelude.{◌≡◌, ℕ, ◌+◌, ◌-◌, ◌≤◌, Bool, ◌&&◌, nat_le, nat_lt, if◌then◌else◌, List, [], ◌∷◌}
+use Rattle.std.specs.Prelude.{slice_get, Option, None, Some, option_map, option_and_then}
 use Rattle.std.specs.List.{AllByRecursion}
 use Rattle.brd_ranges.specs.declared.range.Range.{Range}
 use Rattle.brd_ranges.specs.Ranges as ranges
@@ -16,7 +17,8 @@ covers p a = nat_le p.place a && nat_lt a (p.place + size_of p.content)
 -- where in the output the byte at an address lies, if a piece has one there
 abbrev pub offset_at : List Piece → ℕ → Option ℕ
 offset_at [] a = None
-offset_at (p ∷ ps) a = if covers p a then Some (a - p.place) else option_map (λ k. size_of p.content + k) (offset_at ps a)
+offset_at (p ∷ ps) a =
+    if covers p a then Some (a - p.place) else option_map (λ k. size_of p.content + k) (offset_at ps a)
 
 -- the byte at an address, by the output
 abbrev pub byte_at : List ℕ → List Piece → ℕ → Option ℕ

@@ -10,7 +10,8 @@ folded a b = bit_xor (bit_and (a * b) (2 ^ 64 - 1)) (a * b / 2 ^ 64)
 -- after the bytes of a name
 abbrev pub written : NameHasher → List ℕ → NameHasher
 written s [] = s
-written s (b ∷ bs) = written (record { state = folded (bit_xor s.state b) s.inner; inner = s.inner; outer = s.outer }) bs
+written s (b ∷ bs) =
+    written (record { state = folded (bit_xor s.state b) s.inner; inner = s.inner; outer = s.outer }) bs
 
 abbrev pub finished : NameHasher → ℕ
 finished s = folded s.state s.outer

@@ -32,12 +32,14 @@ pub record IsLine (text : List ℕ) (number address : ℕ) (said : Line) : Type 
 -- every line has an address, and is read
 abbrev pub HasLines : List ℕ → Type 0
 HasLines text =
-    (before : List (List ℕ)) (bytes : List ℕ) (behind : List (List ℕ)) → lines_of text ≡ before ++ bytes ∷ behind → (address : ℕ) × (said : Line) × IsLine text (1 + length before) address said × (line_of bytes ≡ Some said)
+    (before : List (List ℕ)) (bytes : List ℕ) (behind : List (List ℕ)) → lines_of text ≡ before ++ bytes ∷ behind
+    → (address : ℕ) × (said : Line) × IsLine text (1 + length before) address said × (line_of bytes ≡ Some said)
 
 -- every label's value is the address of its line
 abbrev pub HasLabels : List ℕ → Image → Type 0
 HasLabels text image =
-    (number address : ℕ) (said : Line) → IsLine text number address said → AllByRecursion (λ label. symbol_value image.symbols label ≡ Some address) said.labels
+    (number address : ℕ) (said : Line) → IsLine text number address said
+    → AllByRecursion (λ label. symbol_value image.symbols label ≡ Some address) said.labels
 
 -- these bytes lie in segments, the first of them at this address
 abbrev pub Lies : List Segment → ℕ → List ℕ → Type 0
@@ -47,8 +49,10 @@ Lies segments address bytes = (i : ℕ) → i < length bytes → byte_in segment
 -- instruction, its operands computed with the values of all the source's names.
 abbrev pub HasInstructions : List ℕ → Image → Type 0
 HasInstructions text image =
-    (program : Program) (number address : ℕ) (said : Line) (instruction : Instruction) → program_of text ≡ Ok program → IsLine text number address said → said.statement ≡ Instruct instruction
-    → (insn : Insn) × (instruction_of number address program.names instruction ≡ Ok insn) × (bytes : List ℕ) × HasBytes image.order (Means insn) bytes × Lies image.segments address bytes
+    (program : Program) (number address : ℕ) (said : Line) (instruction : Instruction) → program_of text ≡ Ok program
+    → IsLine text number address said → said.statement ≡ Instruct instruction
+    → (insn : Insn) × (instruction_of number address program.names instruction ≡ Ok insn) × (bytes : List ℕ)
+    × HasBytes image.order (Means insn) bytes × Lies image.segments address bytes
 
 -- a line that names no byte order
 abbrev pub NamesNoOrder : List ℕ → Type 0
@@ -56,5 +60,6 @@ NamesNoOrder bytes = (said : Line) (order : Order) → line_of bytes ≡ Some sa
 
 -- A line with .byteorder names the image's byte order. Where there is none, the image is big-endian.
 pub record HasOrder (text : List ℕ) (image : Image) : Type 0 where
-  pub named : (number address : ℕ) (said : Line) (order : Order) → IsLine text number address said → said.statement ≡ ByteOrder order → image.order ≡ order
+  pub named : (number address : ℕ) (said : Line) (order : Order) → IsLine text number address said
+      → said.statement ≡ ByteOrder order → image.order ≡ order
   pub unnamed : AllByRecursion (λ bytes. NamesNoOrder bytes) (lines_of text) → image.order ≡ Big

@@ -1,5 +1,6 @@
 -- Where the statements of a source stand, and what its names are. Faults in the order in which they count on a line.
-use Rattle.std.specs.Prelude.{ℕ, ◌+◌, ◌-◌, ◌*◌, ◌%◌, ◌^◌, ℤ, pos, negsuc, Bool, not, ◌&&◌, ◌||◌, ◌==◌, nat_lt, nat_le, if◌then◌else◌, List, [], ◌∷◌, ◌++◌, length, Option, None, Some, is_some, Result, Ok, Err}
+use Rattle.std.specs.Prelude.{ℕ, ◌+◌, ◌-◌, ◌*◌, ◌%◌, ◌^◌, ℤ, pos, negsuc, Bool, not, ◌&&◌, ◌||◌, ◌==◌, nat_lt, nat_le}
+use Rattle.std.specs.Prelude.{if◌then◌else◌, List, [], ◌∷◌, ◌++◌, length, Option, None, Some, is_some, Result, Ok, Err}
 use Rattle.std.specs.List.{list_any}
 use Rattle.brd_text.specs.Faults.{◌>>=◌, or_fault}
 use Rattle.brd_base.specs.Space.{base, top}
@@ -8,7 +9,8 @@ use Rattle.brd_word.specs.declared.order.Order.TheVariants.{Big}
 use Rattle.brd_source.specs.declared.statement.Width.{Width}
 use Rattle.brd_source.specs.declared.statement.Width.TheVariants.{Byte, Half, Word}
 use Rattle.brd_source.specs.Statement.{Expression, Instruction, Statement, Line}
-use Rattle.brd_source.specs.Statement.Statement.{Nothing, WithoutEffect, ByteOrder, Instruct, Org, Align, Space, Data, Text, Equal}
+use Rattle.brd_source.specs.Statement.Statement.{Nothing, WithoutEffect, ByteOrder, Instruct, Org, Align, Space, Data}
+use Rattle.brd_source.specs.Statement.Statement.{Text, Equal}
 use Rattle.brd_source.specs.Lines.{line_of}
 use Rattle.brd_asm.specs.declared.fault.AsmFault.{AsmFault}
 use Rattle.brd_asm.specs.declared.fault.AsmFault.TheVariants as fault
@@ -97,7 +99,8 @@ order_by (Some order) = order
 -- big-endian. Anywhere else, also after a label, .byteorder has none of the language's forms.
 abbrev pub settled_by : ℕ → Bool → Option Order → Statement → Result (Option Order) AsmFault
 settled_by line is_labelled order Nothing = Ok (if is_labelled then Some (order_by order) else order)
-settled_by line is_labelled order (ByteOrder named) = if is_labelled || is_some order then Err (fault.Syntax line) else Ok (Some named)
+settled_by line is_labelled order (ByteOrder named) =
+    if is_labelled || is_some order then Err (fault.Syntax line) else Ok (Some named)
 settled_by line is_labelled order WithoutEffect = Ok (Some (order_by order))
 settled_by line is_labelled order (Instruct instruction) = Ok (Some (order_by order))
 settled_by line is_labelled order (Org e) = Ok (Some (order_by order))

@@ -1,6 +1,7 @@
 -- What the pieces of a source mean, with all names known. Of one line first the names count, then the ranges of its
 -- operands, then the alignment of a target.
-use Rattle.std.specs.Prelude.{ℕ, ◌+◌, ◌-◌, ◌*◌, ◌/◌, ◌^◌, ℤ, pos, negsuc, ◌-ℤ◌, ◌==◌, if◌then◌else◌, List, [], ◌∷◌, ◌++◌, replicate, Result, Ok, Err}
+use Rattle.std.specs.Prelude.{ℕ, ◌+◌, ◌-◌, ◌*◌, ◌/◌, ◌^◌, ℤ, pos, negsuc, ◌-ℤ◌, ◌==◌, if◌then◌else◌, List, [], ◌∷◌}
+use Rattle.std.specs.Prelude.{◌++◌, replicate, Result, Ok, Err}
 use Rattle.std.specs.Int.{int_div_euclid}
 use Rattle.brd_text.specs.Faults.{◌>>=◌}
 use Rattle.brd_word.specs.Words.{bytes_of_half, bytes_of_word}
@@ -13,7 +14,7 @@ use Rattle.brd_isa.specs.declared.mnemonic.Mnemonic.TheVariants as mnemonic
 use Rattle.brd_word.specs.declared.order.Order.{Order}
 use Rattle.brd_source.specs.declared.statement.Width.{Width}
 use Rattle.brd_source.specs.declared.statement.Width.TheVariants.{Byte, Half, Word}
-use Rattle.brd_source.specs.Statement.{Expression, Operand, Instruction, register_in, expression_in, immediate_in}
+use Rattle.brd_source.specs.Statement.{Expression, SourceOperand, Instruction, register_in, expression_in, immediate_in}
 use Rattle.brd_asm.specs.declared.fault.AsmFault.{AsmFault}
 use Rattle.brd_asm.specs.declared.fault.AsmFault.TheVariants as fault
 use Rattle.brd_asm.specs.Values.{Name, value_of, modulo, signed_value, unsigned_value, known, within, up_to}
@@ -21,7 +22,7 @@ use Rattle.brd_asm.specs.Layout.{Content, Piece}
 use Rattle.brd_asm.specs.Layout.Content.{Code, Values, Bytes, Zeros}
 
 -- a number from 0 to high: a shift amount or a code
-unfoldable pub number_in : ℕ → List Name → ℕ → Operand → Result ℕ AsmFault
+unfoldable pub number_in : ℕ → List Name → ℕ → SourceOperand → Result ℕ AsmFault
 number_in line names high operand = do
   v ← known line (value_of names (expression_in operand))
   up_to line high v
@@ -33,19 +34,19 @@ signed_field line v = do
   Ok (modulo x (2 ^ 16))
 
 -- the field of an immediate or offset that is read as signed
-unfoldable pub signed_in : ℕ → List Name → Operand → Result ℕ AsmFault
+unfoldable pub signed_in : ℕ → List Name → SourceOperand → Result ℕ AsmFault
 signed_in line names operand = do
   v ← known line (signed_value names (immediate_in operand))
   signed_field line v
 
 -- the field of an immediate that isn't
-unfoldable pub unsigned_in : ℕ → List Name → Operand → Result ℕ AsmFault
+unfoldable pub unsigned_in : ℕ → List Name → SourceOperand → Result ℕ AsmFault
 unsigned_in line names operand = do
   v ← known line (unsigned_value names (immediate_in operand))
   up_to line 65535 v
 
 -- the logical operations have an unsigned immediate
-abbrev pub field_in : ImmediateOp → ℕ → List Name → Operand → Result ℕ AsmFault
+abbrev pub field_in : ImmediateOp → ℕ → List Name → SourceOperand → Result ℕ AsmFault
 field_in Andi line names operand = unsigned_in line names operand
 field_in Ori line names operand = unsigned_in line names operand
 field_in Xori line names operand = unsigned_in line names operand
@@ -56,7 +57,7 @@ unfoldable pub aligned : ℕ → ℤ → Result ℤ AsmFault
 aligned line v = if modulo v 4 == 0 then Ok v else Err (fault.Misaligned line)
 
 -- The offset of a branch at a place: from its slot, which is 4 bytes after it, -32,768 to 32,767 words.
-unfoldable pub offset_to : ℕ → ℕ → List Name → Operand → Result ℕ AsmFault
+unfoldable pub offset_to : ℕ → ℕ → List Name → SourceOperand → Result ℕ AsmFault
 offset_to line place names target = do
   v ← known line (value_of names (expression_in target))
   distance ← within line (negsuc 131071) (pos 131068) (v -ℤ pos (place + 4))
@@ -68,7 +69,7 @@ abbrev pub region_of : ℕ → ℕ
 region_of address = address / 2 ^ 28 * 2 ^ 28
 
 -- The index of a jump at a place. The target has the top four bits of the slot's address.
-unfoldable pub index_to : ℕ → ℕ → List Name → Operand → Result ℕ AsmFault
+unfoldable pub index_to : ℕ → ℕ → List Name → SourceOperand → Result ℕ AsmFault
 index_to line place names target = do
   v ← known line (value_of names (expression_in target))
   x ← within line (pos (region_of (place + 4))) (pos (region_of (place + 4) + (2 ^ 28 - 1))) v
@@ -76,7 +77,7 @@ index_to line place names target = do
   Ok (modulo (int_div_euclid y (pos 4)) (2 ^ 26))
 
 -- The hint and the offset of a prefetch. The names of both count before their ranges.
-unfoldable pub prefetch_in : ℕ → List Name → Operand → Operand → Result (ℕ × ℕ) AsmFault
+unfoldable pub prefetch_in : ℕ → List Name → SourceOperand → SourceOperand → Result (ℕ × ℕ) AsmFault
 prefetch_in line names hint offset = do
   h ← known line (value_of names (expression_in hint))
   v ← known line (signed_value names (immediate_in offset))
@@ -86,10 +87,13 @@ prefetch_in line names hint offset = do
 
 -- The instruction, with its numbers, that stands at a place: a line a form. A register is an operand or the base of an
 -- address.
-abbrev pub insn_of : ℕ → ℕ → List Name → Mnemonic → Operand → Operand → Operand → Result Insn AsmFault
-insn_of line place names (mnemonic.Shift op) a b c = number_in line names 31 c >>= λ n. Ok (insn.Shift op (register_in a) (register_in b) n)
-insn_of line place names (mnemonic.ShiftVariable op) a b c = Ok (insn.ShiftVariable op (register_in a) (register_in b) (register_in c))
-insn_of line place names (mnemonic.ThreeRegisters op) a b c = Ok (insn.ThreeRegisters op (register_in a) (register_in b) (register_in c))
+abbrev pub insn_of : ℕ → ℕ → List Name → Mnemonic → SourceOperand → SourceOperand → SourceOperand → Result Insn AsmFault
+insn_of line place names (mnemonic.Shift op) a b c =
+    number_in line names 31 c >>= λ n. Ok (insn.Shift op (register_in a) (register_in b) n)
+insn_of line place names (mnemonic.ShiftVariable op) a b c =
+    Ok (insn.ShiftVariable op (register_in a) (register_in b) (register_in c))
+insn_of line place names (mnemonic.ThreeRegisters op) a b c =
+    Ok (insn.ThreeRegisters op (register_in a) (register_in b) (register_in c))
 insn_of line place names mnemonic.Multiply a b c = Ok (insn.Multiply (register_in a) (register_in b) (register_in c))
 insn_of line place names mnemonic.JumpRegister a b c = Ok (insn.JumpRegister (register_in a))
 insn_of line place names mnemonic.JumpLinkRegister a b c = Ok (insn.JumpLinkRegister (register_in a) (register_in b))
@@ -101,18 +105,29 @@ insn_of line place names (mnemonic.MoveTo op) a b c = Ok (insn.MoveTo op (regist
 insn_of line place names (mnemonic.Product op) a b c = Ok (insn.Product op (register_in a) (register_in b))
 insn_of line place names (mnemonic.Accumulate op) a b c = Ok (insn.Accumulate op (register_in a) (register_in b))
 insn_of line place names (mnemonic.Count op) a b c = Ok (insn.Count op (register_in a) (register_in b))
-insn_of line place names (mnemonic.Trap op) a b c = number_in line names 1023 c >>= λ n. Ok (insn.Trap op (register_in a) (register_in b) n)
-insn_of line place names (mnemonic.TrapImmediate op) a b c = signed_in line names b >>= λ n. Ok (insn.TrapImmediate op (register_in a) n)
+insn_of line place names (mnemonic.Trap op) a b c =
+    number_in line names 1023 c >>= λ n. Ok (insn.Trap op (register_in a) (register_in b) n)
+insn_of line place names (mnemonic.TrapImmediate op) a b c =
+    signed_in line names b >>= λ n. Ok (insn.TrapImmediate op (register_in a) n)
 insn_of line place names (mnemonic.Jump op) a b c = index_to line place names a >>= λ n. Ok (insn.Jump op n)
-insn_of line place names (mnemonic.Branch op) a b c = offset_to line place names c >>= λ n. Ok (insn.Branch op (register_in a) (register_in b) n)
-insn_of line place names (mnemonic.BranchZero op) a b c = offset_to line place names b >>= λ n. Ok (insn.BranchZero op (register_in a) n)
-insn_of line place names (mnemonic.BranchRegimm op) a b c = offset_to line place names b >>= λ n. Ok (insn.BranchRegimm op (register_in a) n)
-insn_of line place names (mnemonic.WithImmediate op) a b c = field_in op line names c >>= λ n. Ok (insn.WithImmediate op (register_in a) (register_in b) n)
-insn_of line place names mnemonic.LoadUpper a b c = unsigned_in line names b >>= λ n. Ok (insn.LoadUpper (register_in a) n)
-insn_of line place names (mnemonic.Load op) a b c = signed_in line names b >>= λ n. Ok (insn.Load op (register_in a) (register_in b) n)
-insn_of line place names (mnemonic.Store op) a b c = signed_in line names b >>= λ n. Ok (insn.Store op (register_in a) (register_in b) n)
-insn_of line place names (mnemonic.Linked op) a b c = signed_in line names b >>= λ n. Ok (insn.Linked op (register_in a) (register_in b) n)
-insn_of line place names mnemonic.Prefetch a b c = prefetch_in line names a b >>= λ n. Ok (insn.Prefetch n.0 (register_in b) n.1)
+insn_of line place names (mnemonic.Branch op) a b c =
+    offset_to line place names c >>= λ n. Ok (insn.Branch op (register_in a) (register_in b) n)
+insn_of line place names (mnemonic.BranchZero op) a b c =
+    offset_to line place names b >>= λ n. Ok (insn.BranchZero op (register_in a) n)
+insn_of line place names (mnemonic.BranchRegimm op) a b c =
+    offset_to line place names b >>= λ n. Ok (insn.BranchRegimm op (register_in a) n)
+insn_of line place names (mnemonic.WithImmediate op) a b c =
+    field_in op line names c >>= λ n. Ok (insn.WithImmediate op (register_in a) (register_in b) n)
+insn_of line place names mnemonic.LoadUpper a b c =
+    unsigned_in line names b >>= λ n. Ok (insn.LoadUpper (register_in a) n)
+insn_of line place names (mnemonic.Load op) a b c =
+    signed_in line names b >>= λ n. Ok (insn.Load op (register_in a) (register_in b) n)
+insn_of line place names (mnemonic.Store op) a b c =
+    signed_in line names b >>= λ n. Ok (insn.Store op (register_in a) (register_in b) n)
+insn_of line place names (mnemonic.Linked op) a b c =
+    signed_in line names b >>= λ n. Ok (insn.Linked op (register_in a) (register_in b) n)
+insn_of line place names mnemonic.Prefetch a b c =
+    prefetch_in line names a b >>= λ n. Ok (insn.Prefetch n.0 (register_in b) n.1)
 
 unfoldable pub instruction_of : ℕ → ℕ → List Name → Instruction → Result Insn AsmFault
 instruction_of line place names i = insn_of line place names i.mnemonic i.operands.0 i.operands.1 i.operands.2

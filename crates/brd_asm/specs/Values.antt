@@ -1,6 +1,7 @@
 -- The values of names and expressions: whole numbers with sign, which become patterns of bits only after their ranges
 -- are tested.
-use Rattle.std.specs.Prelude.{ℕ, ◌-◌, ◌%◌, ◌^◌, ℤ, pos, negsuc, ◌+ℤ◌, ◌≤ℤ◌, ◌&&◌, nat_le, int_le, if◌then◌else◌, List, [], ◌∷◌, Option, None, Some, option_map, bytes_eq, Result, Ok, Err}
+use Rattle.std.specs.Prelude.{ℕ, ◌-◌, ◌%◌, ◌^◌, ℤ, pos, negsuc, ◌+ℤ◌, ◌≤ℤ◌, ◌&&◌, nat_le, int_le, if◌then◌else◌, List}
+use Rattle.std.specs.Prelude.{[], ◌∷◌, Option, None, Some, option_map, bytes_eq, Result, Ok, Err}
 use Rattle.std.specs.Int.{int_div_euclid}
 use Rattle.brd_source.specs.Statement.{Expression, Immediate}
 use Rattle.brd_source.specs.Statement.Immediate.{Whole, High, Low}

@@ -4,7 +4,8 @@ ghost use Rattle.std.specs.Prelude.{◌≡◌, ◌+◌, ◌<◌, ◌≤◌, ◌^
 ghost use Rattle.brd_source.specs.View as source;
 ghost use Rattle.brd_source.specs.Lines.{line_of};
 ghost use Rattle.brd_asm.specs.Faults.{Gives};
-ghost use Rattle.brd_asm.specs.Layout.{nothing, read, order_by, settled, check_is_new, happened, filled, placed, are_in_ram};
+ghost use Rattle.brd_asm.specs.Layout.{nothing, read, order_by, settled, check_is_new, happened, filled, placed};
+ghost use Rattle.brd_asm.specs.Layout.{are_in_ram};
 ghost use Rattle.brd_asm.specs.View as view;
 ghost use Rattle.brd_asm.specs.LayoutView.{layout};
 
@@ -147,7 +148,8 @@ fn are_in_ram(place: u32, size: u128) -> bool
 /// The name that a statement gives a value to, if it does, may not have one yet.
 #[tactic(auto, unfolding(crate::specs::Layout::check_is_new))]
 fn check_is_new(line: usize, name: Option<&[u8]>, names: &Names) -> Result<(), AsmFault>
-    ensures { Gives (λ nothing. nothing) result (check_is_new line (option_map (λ name. name.now) name.entry) names.now) }
+    ensures { Gives (λ nothing. nothing) result
+        (check_is_new line (option_map (λ name. name.now) name.entry) names.now) }
 {
     match name {
         None => Ok(()),

@@ -21,4 +21,10 @@ mod text;
 mod value;
 
 pub use assembler::assemble;
+pub use effect::{Effect, effect_of, own_name};
 pub use fault::AsmFault;
+pub use layout::Layout;
+pub use names::Names;
+pub use output::{greatest_of, least_of};
+pub use piece::{Content, Piece};
+pub use pieces::Pieces;

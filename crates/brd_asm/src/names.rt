@@ -75,7 +75,8 @@ impl<'a> Names<'a> {
     /// Gives a value to a name, and says whether it had one. If it had, the names are of no more use.
     fn put(&mut self, name: &'a [u8], value: i64) -> Result<bool, NoMemory>
         ensures had { IfOk result (λ had. had ≡ is_defined self.old name.entry.now) }
-        ensures put { IfOk result (λ had. had ≡ false → self.new ≡ self.old ++ record { name = name.entry.now; value = value } ∷ []) }
+        ensures put { IfOk result
+            (λ had. had ≡ false → self.new ≡ self.old ++ record { name = name.entry.now; value = value } ∷ []) }
     {
         let old = self.values.insert(NameKey { name }, value)?;
         Ok(old.is_some())

@@ -5,13 +5,14 @@ ghost use Rattle.std.specs.Int.{int_div_euclid};
 ghost use Rattle.brd_source.specs.View as source;
 ghost use Rattle.brd_asm.specs.Faults.{Gives};
 ghost use Rattle.brd_asm.specs.Values.{modulo};
-ghost use Rattle.brd_asm.specs.Meaning.{number_in, signed_field, signed_in, unsigned_in, field_in, aligned, offset_to, index_to, prefetch_in};
+ghost use Rattle.brd_asm.specs.Meaning.{number_in, signed_field, signed_in, unsigned_in, field_in, aligned, offset_to};
+ghost use Rattle.brd_asm.specs.Meaning.{index_to, prefetch_in};
 
 use crate::fault::AsmFault;
 use crate::names::Names;
 use crate::value::{known, modulo, signed_value, unsigned_value, up_to, value_of, within};
 use brd_isa::{Hint, ImmediateOp, JumpIndex, LongCode, ShiftAmount, ShortCode};
-use brd_source::Operand;
+use brd_source::SourceOperand;
 
 /// What the numbers of an instruction depend on: its line and its place, and the names of the source.
 #[derive(Clone, Copy)]
@@ -27,8 +28,9 @@ pub struct Site<'a, 'b> {
 impl<'a, 'b> Site<'a, 'b> {
     /// A number from 0 to high.
     #[tactic(auto, unfolding(crate::specs::Meaning::number_in))]
-    fn number_in(self, high: u32, operand: Operand) -> Result<u32, AsmFault>
-        ensures is { Gives (λ n. n) result (number_in self.entry.line self.entry.names.now high (source.operand_value operand.entry)) }
+    fn number_in(self, high: u32, operand: SourceOperand) -> Result<u32, AsmFault>
+        ensures is { Gives (λ n. n) result
+            (number_in self.entry.line self.entry.names.now high (source.operand_value operand.entry)) }
         ensures below { IfOk result (λ n. n ≤ high) }
     {
         let v = known(self.line, value_of(self.names, operand.expression()))?;
@@ -36,30 +38,34 @@ impl<'a, 'b> Site<'a, 'b> {
     }
 
     /// A shift amount.
-    pub fn shift_amount(self, operand: Operand) -> Result<ShiftAmount, AsmFault>
-        ensures { Gives (λ n. n) result (number_in self.entry.line self.entry.names.now 31 (source.operand_value operand.entry)) }
+    pub fn shift_amount(self, operand: SourceOperand) -> Result<ShiftAmount, AsmFault>
+        ensures { Gives (λ n. n) result
+            (number_in self.entry.line self.entry.names.now 31 (source.operand_value operand.entry)) }
     {
         Ok(ShiftAmount::low(self.number_in(31, operand)?))
     }
 
     /// The code of a system call or a break.
-    pub fn long_code(self, operand: Operand) -> Result<LongCode, AsmFault>
-        ensures { Gives (λ n. n) result (number_in self.entry.line self.entry.names.now 1048575 (source.operand_value operand.entry)) }
+    pub fn long_code(self, operand: SourceOperand) -> Result<LongCode, AsmFault>
+        ensures { Gives (λ n. n) result
+            (number_in self.entry.line self.entry.names.now 1048575 (source.operand_value operand.entry)) }
     {
         Ok(LongCode::low(self.number_in(0xf_ffff, operand)?))
     }
 
     /// The code of a trap.
-    pub fn short_code(self, operand: Operand) -> Result<ShortCode, AsmFault>
-        ensures { Gives (λ n. n) result (number_in self.entry.line self.entry.names.now 1023 (source.operand_value operand.entry)) }
+    pub fn short_code(self, operand: SourceOperand) -> Result<ShortCode, AsmFault>
+        ensures { Gives (λ n. n) result
+            (number_in self.entry.line self.entry.names.now 1023 (source.operand_value operand.entry)) }
     {
         Ok(ShortCode::low(self.number_in(0x3ff, operand)?))
     }
 
     /// The field of an immediate or an offset that is read as signed.
     #[tactic(auto, unfolding(crate::specs::Meaning::signed_in))]
-    pub fn signed(self, operand: Operand) -> Result<u16, AsmFault>
-        ensures { Gives (λ n. n) result (signed_in self.entry.line self.entry.names.now (source.operand_value operand.entry)) }
+    pub fn signed(self, operand: SourceOperand) -> Result<u16, AsmFault>
+        ensures { Gives (λ n. n) result
+            (signed_in self.entry.line self.entry.names.now (source.operand_value operand.entry)) }
     {
         let v = known(self.line, signed_value(self.names, operand.immediate()))?;
         signed_field(self.line, v)
@@ -67,8 +73,9 @@ impl<'a, 'b> Site<'a, 'b> {
 
     /// The field of an immediate that isn't.
     #[tactic(auto, unfolding(crate::specs::Meaning::unsigned_in))]
-    pub fn unsigned(self, operand: Operand) -> Result<u16, AsmFault>
-        ensures { Gives (λ n. n) result (unsigned_in self.entry.line self.entry.names.now (source.operand_value operand.entry)) }
+    pub fn unsigned(self, operand: SourceOperand) -> Result<u16, AsmFault>
+        ensures { Gives (λ n. n) result
+            (unsigned_in self.entry.line self.entry.names.now (source.operand_value operand.entry)) }
     {
         let v = known(self.line, unsigned_value(self.names, operand.immediate()))?;
         let n = up_to(self.line, 0xffff, v)?;
@@ -76,8 +83,9 @@ impl<'a, 'b> Site<'a, 'b> {
     }
 
     /// The field of an immediate of an arithmetic or logical operation.
-    pub fn field(self, op: ImmediateOp, operand: Operand) -> Result<u16, AsmFault>
-        ensures { Gives (λ n. n) result (field_in op self.entry.line self.entry.names.now (source.operand_value operand.entry)) }
+    pub fn field(self, op: ImmediateOp, operand: SourceOperand) -> Result<u16, AsmFault>
+        ensures { Gives (λ n. n) result
+            (field_in op self.entry.line self.entry.names.now (source.operand_value operand.entry)) }
     {
         match op {
             ImmediateOp::Andi | ImmediateOp::Ori | ImmediateOp::Xori => self.unsigned(operand),
@@ -87,8 +95,9 @@ impl<'a, 'b> Site<'a, 'b> {
 
     /// The offset of a branch: how many words its target lies after the slot.
     #[tactic(auto, unfolding(crate::specs::Meaning::offset_to))]
-    pub fn offset_to(self, target: Operand) -> Result<u16, AsmFault>
-        ensures { Gives (λ n. n) result (offset_to self.entry.line self.entry.place self.entry.names.now (source.operand_value target.entry)) }
+    pub fn offset_to(self, target: SourceOperand) -> Result<u16, AsmFault>
+        ensures { Gives (λ n. n) result
+            (offset_to self.entry.line self.entry.place self.entry.names.now (source.operand_value target.entry)) }
     {
         let slot = self.place as u64 + 4;
         let v = known(self.line, value_of(self.names, target.expression()))?;
@@ -99,8 +108,9 @@ impl<'a, 'b> Site<'a, 'b> {
 
     /// The index of a jump, whose target has the top four bits of the slot's address.
     #[tactic(auto, unfolding(crate::specs::Meaning::index_to))]
-    pub fn index_to(self, target: Operand) -> Result<JumpIndex, AsmFault>
-        ensures { Gives (λ n. n) result (index_to self.entry.line self.entry.place self.entry.names.now (source.operand_value target.entry)) }
+    pub fn index_to(self, target: SourceOperand) -> Result<JumpIndex, AsmFault>
+        ensures { Gives (λ n. n) result
+            (index_to self.entry.line self.entry.place self.entry.names.now (source.operand_value target.entry)) }
     {
         let slot = self.place as u64 + 4;
         let region = (slot / 0x1000_0000 * 0x1000_0000) as i64;
@@ -113,8 +123,14 @@ impl<'a, 'b> Site<'a, 'b> {
 
     /// The hint and the offset of a prefetch: the names of both count before their ranges.
     #[tactic(auto, unfolding(crate::specs::Meaning::prefetch_in))]
-    pub fn prefetch(self, hint: Operand, offset: Operand) -> Result<(Hint, u16), AsmFault>
-        ensures { Gives (λ fields. fields) result (prefetch_in self.entry.line self.entry.names.now (source.operand_value hint.entry) (source.operand_value offset.entry)) }
+    pub fn prefetch(
+        self,
+        hint: SourceOperand,
+        offset: SourceOperand,
+    ) -> Result<(Hint, u16), AsmFault>
+        ensures { Gives (λ fields. fields) result
+            (prefetch_in self.entry.line self.entry.names.now (source.operand_value hint.entry)
+            (source.operand_value offset.entry)) }
     {
         let hint = known(self.line, value_of(self.names, hint.expression()))?;
         let offset = known(self.line, signed_value(self.names, offset.immediate()))?;

@@ -26,7 +26,8 @@ pub fn output_of(
     names: &Names,
     pieces: &[Piece],
 ) -> Result<Vec<u8>, AsmFault>
-    ensures { Meets (λ output contents. IsOutput order contents output.items) result (meanings order names.now (map seen.piece pieces.now)) }
+    ensures { Meets (λ output contents. IsOutput order contents output.items) result
+        (meanings order names.now (map seen.piece pieces.now)) }
 {
     let mut output = Vec::new(alloc);
     for piece in pieces {
@@ -44,7 +45,8 @@ fn put(
     names: &Names,
     piece: &Piece,
 ) -> Result<(), AsmFault>
-    ensures { Meets (λ _ meaning. Adds order meaning output.old.items output.new.items) result (content_meaning order piece.now.line piece.now.place names.now (seen.content piece.now.content)) }
+    ensures { Meets (λ _ meaning. Adds order meaning output.old.items output.new.items) result
+        (content_meaning order piece.now.line piece.now.place names.now (seen.content piece.now.content)) }
 {
     match &piece.content {
         Content::Code(instruction) => {
@@ -147,7 +149,7 @@ fn ranged(line: usize, width: Width, value: i128) -> Result<i64, AsmFault>
 }
 
 /// The least value of a width.
-fn least_of(width: Width) -> i64
+pub fn least_of(width: Width) -> i64
     ensures { result ≡ least_of width }
 {
     match width {
@@ -158,7 +160,7 @@ fn least_of(width: Width) -> i64
 }
 
 /// The greatest value of a width.
-fn greatest_of(width: Width) -> i64
+pub fn greatest_of(width: Width) -> i64
     ensures { result ≡ greatest_of width }
 {
     match width {

@@ -3,7 +3,8 @@
 ghost use Rattle.std.specs.Prelude.{◌≡◌, ◌<◌, ◌≤◌, ◌^◌, ℤ, pos, ◌≤ℤ◌, IfOk, IfSome, Some};
 ghost use Rattle.brd_source.specs.View as source;
 ghost use Rattle.brd_asm.specs.Faults.{Gives};
-ghost use Rattle.brd_asm.specs.Values.{IsSmall, value_of, modulo, high_half, low_half, signed_half, signed_value, unsigned_value, known, within, up_to};
+ghost use Rattle.brd_asm.specs.Values.{IsSmall, value_of, modulo, high_half, low_half, signed_half, signed_value};
+ghost use Rattle.brd_asm.specs.Values.{unsigned_value, known, within, up_to};
 
 use crate::fault::AsmFault;
 use crate::names::Names;

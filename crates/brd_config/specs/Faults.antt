@@ -2,7 +2,8 @@
 use Rattle.std.specs.Prelude.{Bool, true, false, Result}
 use Rattle.brd_text.specs.Faults as text
 use Rattle.brd_config.specs.declared.fault.ConfigFault.{ConfigFault}
-use Rattle.brd_config.specs.declared.fault.ConfigFault.TheVariants.{NoMemory, Syntax, Duplicate, BadId, BadAttribute, BadPriority, BadCount, BadProcessor}
+use Rattle.brd_config.specs.declared.fault.ConfigFault.TheVariants.{NoMemory, Syntax, Duplicate, BadId, BadAttribute}
+use Rattle.brd_config.specs.declared.fault.ConfigFault.TheVariants.{BadPriority, BadCount, BadProcessor}
 
 abbrev pub is_no_memory : ConfigFault → Bool
 is_no_memory NoMemory = true

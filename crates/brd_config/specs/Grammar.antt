@@ -16,7 +16,8 @@ use Rattle.brd_config.specs.declared.objects.QueueConfig.{QueueConfig}
 use Rattle.brd_config.specs.declared.objects.SpinLockConfig.{SpinLockConfig}
 use Rattle.brd_config.specs.declared.objects.HandlerConfig.{HandlerConfig}
 use Rattle.brd_config.specs.declared.statement.Statement.{Statement}
-use Rattle.brd_config.specs.declared.statement.Statement.TheVariants.{Board, Class, ClassEnd, Task, Semaphore, Flag, Queue, SpinLock, Handler}
+use Rattle.brd_config.specs.declared.statement.Statement.TheVariants.{Board, Class, ClassEnd, Task, Semaphore, Flag}
+use Rattle.brd_config.specs.declared.statement.Statement.TheVariants.{Queue, SpinLock, Handler}
 use Rattle.brd_config.specs.declared.statement.TaskStatement.{TaskStatement}
 use Rattle.brd_config.specs.declared.statement.SemaphoreStatement.{SemaphoreStatement}
 use Rattle.brd_config.specs.declared.statement.FlagStatement.{FlagStatement}
@@ -42,8 +43,10 @@ pub data Piece : Type 0 where
 
 -- Attributes with bars between them, whose bits are joined to those before them and come to all of them.
 pub data Joined : ℕ → ℕ → List Token → Type 0 where
-  last : (before : ℕ) (run : List ℕ) (bits : ℕ) → attribute_of run ≡ Some bits → Joined before (bit_or before bits) (Run run ∷ [])
-  bar : (before : ℕ) (run : List ℕ) (bits all : ℕ) (tokens : List Token) → attribute_of run ≡ Some bits → Joined (bit_or before bits) all tokens → Joined before all (Run run ∷ Mark 124 ∷ tokens)
+  last : (before : ℕ) (run : List ℕ) (bits : ℕ) → attribute_of run ≡ Some bits →
+      Joined before (bit_or before bits) (Run run ∷ [])
+  bar : (before : ℕ) (run : List ℕ) (bits all : ℕ) (tokens : List Token) → attribute_of run ≡ Some bits →
+      Joined (bit_or before bits) all tokens → Joined before all (Run run ∷ Mark 124 ∷ tokens)
 
 -- one run, of which this is true
 abbrev pub OneRun : (List ℕ → Type 0) → List Token → Type 0
@@ -62,23 +65,32 @@ IsSpelled (ClassName n) tokens = OneRun (λ run. class_of run ≡ Some n) tokens
 -- one piece after the other
 abbrev pub AreSpelled : List Piece → List Token → Type 0
 AreSpelled [] tokens = tokens ≡ []
-AreSpelled (p ∷ ps) tokens = (front : List Token) × (rest : List Token) × IsSpelled p front × AreSpelled ps rest × (tokens ≡ front ++ rest)
+AreSpelled (p ∷ ps) tokens =
+    (front : List Token) × (rest : List Token) × IsSpelled p front × AreSpelled ps rest × (tokens ≡ front ++ rest)
 
 -- ---- forms
 
 -- ( id , { attributes , .. } ) ;
 abbrev pub object : List ℕ → ℕ → ℕ → List Piece → List Piece
-object keyword id attributes fields = Exactly keyword ∷ Sign 40 ∷ Numeral id ∷ Sign 44 ∷ Sign 123 ∷ Attributes attributes ∷ Sign 44 ∷ (fields ++ Sign 125 ∷ Sign 41 ∷ Sign 59 ∷ [])
+object keyword id attributes fields =
+    Exactly keyword ∷ Sign 40 ∷ Numeral id ∷ Sign 44 ∷ Sign 123 ∷ Attributes attributes ∷ Sign 44
+    ∷ (fields ++ Sign 125 ∷ Sign 41 ∷ Sign 59 ∷ [])
 
 abbrev pub form : Statement → List Piece
-form (Board processors ram) = Exactly (codes "BOARD") ∷ Sign 40 ∷ Numeral processors ∷ Sign 44 ∷ Numeral ram ∷ Sign 41 ∷ Sign 59 ∷ []
+form (Board processors ram) =
+    Exactly (codes "BOARD") ∷ Sign 40 ∷ Numeral processors ∷ Sign 44 ∷ Numeral ram ∷ Sign 41 ∷ Sign 59 ∷ []
 form (Class n) = Exactly (codes "CLASS") ∷ Sign 40 ∷ ClassName n ∷ Sign 41 ∷ Sign 123 ∷ []
 form ClassEnd = Sign 125 ∷ []
-form (Task t) = object (codes "CRE_TSK") t.id t.attributes (Value t.exinf ∷ Sign 44 ∷ Value t.address ∷ Sign 44 ∷ Numeral t.priority ∷ Sign 44 ∷ Numeral t.stack_size ∷ Sign 44 ∷ StackValue t.stack ∷ [])
+form (Task t) =
+    object (codes "CRE_TSK") t.id t.attributes
+    (Value t.exinf ∷ Sign 44 ∷ Value t.address ∷ Sign 44 ∷ Numeral t.priority ∷ Sign 44 ∷ Numeral t.stack_size ∷ Sign 44
+    ∷ StackValue t.stack ∷ [])
 form (Semaphore s) = object (codes "CRE_SEM") s.id s.attributes (Numeral s.initial ∷ Sign 44 ∷ Numeral s.maximum ∷ [])
 form (Flag f) = object (codes "CRE_FLG") f.id f.attributes (Numeral f.pattern ∷ [])
 form (Queue q) = object (codes "CRE_DTQ") q.id q.attributes (Numeral q.capacity ∷ Sign 44 ∷ Area ∷ [])
-form (SpinLock s) = Exactly (codes "CRE_SPN") ∷ Sign 40 ∷ Numeral s.id ∷ Sign 44 ∷ Sign 123 ∷ Attributes s.attributes ∷ Sign 125 ∷ Sign 41 ∷ Sign 59 ∷ []
+form (SpinLock s) =
+    Exactly (codes "CRE_SPN") ∷ Sign 40 ∷ Numeral s.id ∷ Sign 44 ∷ Sign 123 ∷ Attributes s.attributes ∷ Sign 125
+    ∷ Sign 41 ∷ Sign 59 ∷ []
 form (Handler h) = object (codes "DEF_INH") h.line h.attributes (Value h.address ∷ [])
 
 -- The bytes spell the statements, in their forms.
@@ -89,10 +101,21 @@ IsText bytes statements = (tokens : List Token) × Spells bytes tokens × AreSpe
 
 -- what a statement says of its object
 abbrev pub task_said : ℕ → TaskStatement → TaskConfig
-task_said processor t = record { id = t.id; processor = processor; attributes = record { 0 = t.attributes }; exinf = t.exinf; address = t.address; priority = t.priority; stack_size = t.stack_size; stack = t.stack }
+task_said processor t =
+    record {
+      id = t.id;
+      processor = processor;
+      attributes = record { 0 = t.attributes };
+      exinf = t.exinf;
+      address = t.address;
+      priority = t.priority;
+      stack_size = t.stack_size;
+      stack = t.stack;
+    }
 
 abbrev pub semaphore_said : SemaphoreStatement → SemaphoreConfig
-semaphore_said s = record { id = s.id; attributes = record { 0 = s.attributes }; initial = s.initial; maximum = s.maximum }
+semaphore_said s =
+    record { id = s.id; attributes = record { 0 = s.attributes }; initial = s.initial; maximum = s.maximum }
 
 abbrev pub flag_said : FlagStatement → FlagConfig
 flag_said f = record { id = f.id; attributes = record { 0 = f.attributes }; pattern = f.pattern }
@@ -181,7 +204,17 @@ handlers_of class (Handler h ∷ ss) = handler_said (processor_of class) h ∷ h
 
 -- the configuration of a board and the statements after it, whatever their values
 abbrev pub said : ℕ → ℕ → List Statement → Configuration
-said processors ram ss = record { processors = processors; ram = ram; tasks = tasks_of None ss; semaphores = semaphores_of ss; flags = flags_of ss; queues = queues_of ss; spin_locks = spin_locks_of ss; handlers = handlers_of None ss }
+said processors ram ss =
+    record {
+      processors = processors;
+      ram = ram;
+      tasks = tasks_of None ss;
+      semaphores = semaphores_of ss;
+      flags = flags_of ss;
+      queues = queues_of ss;
+      spin_locks = spin_locks_of ss;
+      handlers = handlers_of None ss;
+    }
 
 abbrev pub IsOutside : Option ℕ → Type 0
 IsOutside None = Unit {0}
@@ -192,8 +225,8 @@ IsInside None = ⊥
 IsInside (Some n) = Unit {0}
 
 -- Statements after BOARD, of which the first stands in this class: each class names a processor of the board and is
--- closed again, no class is in a class, BOARD does not come again, a spin lock has no attribute bits, and a handler none
--- but the lowest.
+-- closed again, no class is in a class, BOARD does not come again, a spin lock has no attribute bits, and a handler
+-- none but the lowest.
 -- (The other limits are those of the configuration.)
 abbrev pub AreNested : ℕ → Option ℕ → List Statement → Type 0
 AreNested processors class [] = IsOutside class
@@ -214,4 +247,6 @@ pub record AreValid (processors ram : ℕ) (ss : List Statement) : Type 0 where
 
 -- The text is that of valid statements, BOARD first, and this is what they say.
 abbrev pub Says : List ℕ → Configuration → Type 0
-Says bytes c = (processors : ℕ) × (ram : ℕ) × (ss : List Statement) × IsText bytes (Board processors ram ∷ ss) × AreValid processors ram ss × (c ≡ said processors ram ss)
+Says bytes c =
+    (processors : ℕ) × (ram : ℕ) × (ss : List Statement) × IsText bytes (Board processors ram ∷ ss)
+    × AreValid processors ram ss × (c ≡ said processors ram ss)

@@ -1,6 +1,8 @@
 -- The configuration that a text says, or the fault of its first faulty statement. Of the faults of one statement the
 -- first in this order is answered: Syntax, BadProcessor, BadId, Duplicate, BadAttribute, BadPriority, BadCount.
-use Rattle.std.specs.Prelude.{ℕ, suc, ◌%◌, ◌^◌, Bool, true, false, not, ◌&&◌, nat_le, ◌==◌, if◌then◌else◌, List, [], ◌∷◌, ◌++◌, length, Option, Some, None, is_none, is_some, unwrap_or, Result, Ok, Err, codes}
+use Rattle.std.specs.Prelude.{ℕ, suc, ◌%◌, ◌^◌, Bool, true, false, not, ◌&&◌, nat_le, ◌==◌, if◌then◌else◌, List, []}
+use Rattle.std.specs.Prelude.{◌∷◌, ◌++◌, length, Option, Some, None, is_none, is_some, unwrap_or, Result, Ok, Err}
+use Rattle.std.specs.Prelude.{codes}
 use Rattle.std.specs.List.{list_any}
 use Rattle.std.specs.Str.{bytes_eq}
 use Rattle.std.specs.Int.RustNames.{bit_and}
@@ -10,7 +12,8 @@ use Rattle.brd_text.specs.Faults.{◌>>=◌}
 use Rattle.brd_text.specs.Turns.{Flow, repeated}
 use Rattle.brd_text.specs.Turns.Flow.{More, Done}
 use Rattle.brd_config.specs.declared.fault.ConfigFault.{ConfigFault}
-use Rattle.brd_config.specs.declared.fault.ConfigFault.TheVariants.{NoMemory, Syntax, Duplicate, BadId, BadAttribute, BadPriority, BadCount, BadProcessor}
+use Rattle.brd_config.specs.declared.fault.ConfigFault.TheVariants.{NoMemory, Syntax, Duplicate, BadId, BadAttribute}
+use Rattle.brd_config.specs.declared.fault.ConfigFault.TheVariants.{BadPriority, BadCount, BadProcessor}
 use Rattle.brd_config.specs.declared.objects.TaskConfig.{TaskConfig}
 use Rattle.brd_config.specs.declared.objects.SemaphoreConfig.{SemaphoreConfig}
 use Rattle.brd_config.specs.declared.objects.FlagConfig.{FlagConfig}
@@ -24,7 +27,8 @@ use Rattle.brd_config.specs.declared.statement.QueueStatement.{QueueStatement}
 use Rattle.brd_config.specs.declared.statement.SpinLockStatement.{SpinLockStatement}
 use Rattle.brd_config.specs.declared.statement.HandlerStatement.{HandlerStatement}
 use Rattle.brd_config.specs.declared.statement.Statement.{Statement}
-use Rattle.brd_config.specs.declared.statement.Statement.TheVariants.{Board, Class, ClassEnd, Task, Semaphore, Flag, Queue, SpinLock, Handler}
+use Rattle.brd_config.specs.declared.statement.Statement.TheVariants.{Board, Class, ClassEnd, Task, Semaphore, Flag}
+use Rattle.brd_config.specs.declared.statement.Statement.TheVariants.{Queue, SpinLock, Handler}
 use Rattle.brd_config.specs.Statements.{board_at, statement_at}
 use Rattle.brd_config.specs.Configuration.{Configuration}
 
@@ -71,7 +75,16 @@ task_numbers line tasks t = do
 unfoldable pub task_of : ℕ → List TaskConfig → ℕ → TaskStatement → Result TaskConfig ConfigFault
 task_of line tasks processor t = do
   numbers ← task_numbers line tasks t
-  Ok (record { id = numbers.0; processor = processor; attributes = record { 0 = numbers.1 }; exinf = t.exinf; address = t.address; priority = numbers.2; stack_size = t.stack_size; stack = t.stack })
+  Ok (record {
+    id = numbers.0;
+    processor = processor;
+    attributes = record { 0 = numbers.1 };
+    exinf = t.exinf;
+    address = t.address;
+    priority = numbers.2;
+    stack_size = t.stack_size;
+    stack = t.stack;
+  })
 
 unfoldable pub semaphore_of : ℕ → List SemaphoreConfig → SemaphoreStatement → Result SemaphoreConfig ConfigFault
 semaphore_of line semaphores s = do
@@ -118,7 +131,16 @@ unfoldable pub board_of : ℕ → ℕ → ℕ → Result Configuration ConfigFau
 board_of line processors ram = do
   count ← within 1 8 (BadProcessor line) processors
   sized ← refused (not (is_ram_size ram)) (BadCount line)
-  Ok (record { processors = count; ram = ram; tasks = []; semaphores = []; flags = []; queues = []; spin_locks = []; handlers = [] })
+  Ok (record {
+    processors = count;
+    ram = ram;
+    tasks = [];
+    semaphores = [];
+    flags = [];
+    queues = [];
+    spin_locks = [];
+    handlers = [];
+  })
 
 -- What one more statement, which begins on this line, adds.
 unfoldable pub added : ℕ → State → Statement → Result State ConfigFault
@@ -186,7 +208,8 @@ first_board line t = do
 
 -- The first statement is BOARD.
 unfoldable pub first_statement : Text → Result (State × Text) ConfigFault
-first_statement t = if is_board (first t).token then first_board (first t).line (others t) else Err (Syntax (first t).line)
+first_statement t =
+    if is_board (first t).token then first_board (first t).line (others t) else Err (Syntax (first t).line)
 
 -- what a text says, or its first fault
 unfoldable pub config_of : List ℕ → Result Configuration ConfigFault

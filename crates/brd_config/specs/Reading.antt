@@ -1,5 +1,6 @@
 -- Numbers, marks, attributes and operands at the front of a text. Syntax has the line of the token that does not fit.
-use Rattle.std.specs.Prelude.{ℕ, Bool, true, false, List, [], ◌∷◌, length, take, drop, ◌==◌, if◌then◌else◌, ◌||◌, Option, Some, None, is_some, option_map, Result, Ok, Err, suc, codes}
+use Rattle.std.specs.Prelude.{ℕ, Bool, true, false, List, [], ◌∷◌, length, take, drop, ◌==◌, if◌then◌else◌, ◌||◌}
+use Rattle.std.specs.Prelude.{Option, Some, None, is_some, option_map, Result, Ok, Err, suc, codes}
 use Rattle.std.specs.Str.{bytes_eq}
 use Rattle.std.specs.Int.RustNames.{bit_or}
 use Rattle.brd_text.specs.Bytes.{is_name}
@@ -93,7 +94,8 @@ attribute_at t = do
 
 abbrev pub expect_joint : ℕ → Token → ℕ → Text → Result (Bool × Text) ConfigFault
 expect_joint end (Run run) line rest = Err (Syntax line)
-expect_joint end (Mark b) line rest = if b == 124 then Ok (true, rest) else (if b == end then Ok (false, rest) else Err (Syntax line))
+expect_joint end (Mark b) line rest =
+    if b == 124 then Ok (true, rest) else (if b == end then Ok (false, rest) else Err (Syntax line))
 expect_joint end Unclosed line rest = Err (Syntax line)
 expect_joint end End line rest = Err (Syntax line)
 

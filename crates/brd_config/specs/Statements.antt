@@ -9,9 +9,11 @@ use Rattle.brd_config.specs.declared.fault.ConfigFault.TheVariants.{Syntax}
 use Rattle.brd_config.specs.declared.statement.Keyword.{Keyword}
 use Rattle.brd_config.specs.declared.statement.Keyword.TheVariants as keywords
 use Rattle.brd_config.specs.declared.statement.Statement.{Statement}
-use Rattle.brd_config.specs.declared.statement.Statement.TheVariants.{Board, Class, ClassEnd, Task, Semaphore, Flag, Queue, SpinLock, Handler}
+use Rattle.brd_config.specs.declared.statement.Statement.TheVariants.{Board, Class, ClassEnd, Task, Semaphore, Flag}
+use Rattle.brd_config.specs.declared.statement.Statement.TheVariants.{Queue, SpinLock, Handler}
 use Rattle.brd_config.specs.declared.objects.Stack.{Stack}
-use Rattle.brd_config.specs.Reading.{named_in, number_at, listed_number_at, listed_operand_at, mark_at, operand_at, stack_at, area_at, class_number_at, head_at, tail_at}
+use Rattle.brd_config.specs.Reading.{named_in, number_at, listed_number_at, listed_operand_at, mark_at, operand_at}
+use Rattle.brd_config.specs.Reading.{stack_at, area_at, class_number_at, head_at, tail_at}
 
 abbrev pub keyword_names : List (List ℕ × Keyword)
 keyword_names =
@@ -62,7 +64,19 @@ task_at t = do
   exinf ← listed_operand_at head.2
   address ← listed_operand_at exinf.1
   rest ← task_tail_at address.1
-  Ok (Task (record { id = head.0; attributes = head.1; exinf = exinf.0; address = address.0; priority = rest.0; stack_size = rest.1; stack = rest.2 }), rest.3)
+  Ok (
+    Task
+        (record {
+          id = head.0;
+          attributes = head.1;
+          exinf = exinf.0;
+          address = address.0;
+          priority = rest.0;
+          stack_size = rest.1;
+          stack = rest.2;
+        }),
+    rest.3,
+  )
 
 -- CRE_SEM(semid, {sematr, isemcnt, maxsem});
 unfoldable pub semaphore_at : Text → Result (Statement × Text) ConfigFault

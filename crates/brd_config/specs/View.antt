@@ -5,10 +5,30 @@ use Rattle.brd_config.specs.Configuration.{Configuration}
 use Rattle.brd_config.specs.Meaning.{State}
 
 abbrev pub view : Config → Configuration
-view c = record { processors = c.processors; ram = c.ram; tasks = c.tasks; semaphores = c.semaphores; flags = c.flags; queues = c.queues; spin_locks = c.spin_locks; handlers = c.handlers }
+view c =
+    record {
+      processors = c.processors;
+      ram = c.ram;
+      tasks = c.tasks;
+      semaphores = c.semaphores;
+      flags = c.flags;
+      queues = c.queues;
+      spin_locks = c.spin_locks;
+      handlers = c.handlers;
+    }
 
 abbrev pub drafted : Draft → Configuration
-drafted d = record { processors = d.processors; ram = d.ram; tasks = d.tasks; semaphores = d.semaphores; flags = d.flags; queues = d.queues; spin_locks = d.spin_locks; handlers = d.handlers }
+drafted d =
+    record {
+      processors = d.processors;
+      ram = d.ram;
+      tasks = d.tasks;
+      semaphores = d.semaphores;
+      flags = d.flags;
+      queues = d.queues;
+      spin_locks = d.spin_locks;
+      handlers = d.handlers;
+    }
 
 abbrev pub state_of : Draft → State
 state_of d = record { config = drafted d; class = d.class }

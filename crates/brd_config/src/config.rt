@@ -20,7 +20,17 @@ pub struct Config {
     pub queues: List<QueueConfig>,
     pub spin_locks: List<SpinLockConfig>,
     pub handlers: List<HandlerConfig>,
-    ghost valid: { IsConfiguration (record { processors = processors; ram = ram; tasks = tasks; semaphores = semaphores; flags = flags; queues = queues; spin_locks = spin_locks; handlers = handlers }) },
+    ghost valid: { IsConfiguration
+        (record {
+          processors = processors;
+          ram = ram;
+          tasks = tasks;
+          semaphores = semaphores;
+          flags = flags;
+          queues = queues;
+          spin_locks = spin_locks;
+          handlers = handlers;
+        }) },
 }
 
 /// Written out, so that a function that lets one go is proved with a call, and not with the end of each part.

@@ -16,9 +16,13 @@ mod statements;
 pub use attributes::{FlagAttributes, QueueAttributes, SemaphoreAttributes, TaskAttributes};
 pub use brd_base::List;
 pub use config::Config;
+pub use draft::Draft;
 pub use fault::ConfigFault;
 pub use objects::{
     FlagConfig, HandlerConfig, Operand, QueueConfig, SemaphoreConfig, SpinLockConfig, Stack,
     TaskConfig,
 };
-pub use parser::parse;
+pub use parser::{parse, read_board, read_statement};
+pub use reading::{attribute_named, class_of};
+pub use statement::Keyword;
+pub use statements::{KEYWORDS, keyword_of};

@@ -89,7 +89,11 @@ fn add(draft: &mut Draft, line: usize, statement: Statement) -> Result<(), Confi
 
 /// Takes one more statement, and says whether there was one: else the text ends here.
 #[tactic(auto, unfolding(crate::specs::Meaning::statement_step, crate::specs::Meaning::one_more, crate::specs::Statements::statement_at))]
-fn turn(alloc: Global, draft: &mut Draft, tokens: &mut Scanner) -> Result<bool, ConfigFault>
+pub fn read_statement(
+    alloc: Global,
+    draft: &mut Draft,
+    tokens: &mut Scanner,
+) -> Result<bool, ConfigFault>
     ensures read { Gives (λ more. flow_of more (state_of draft.new, tokens.new) (drafted draft.new)) result
         (meaning.statement_step (state_of draft.old, tokens.old)) }
     ensures shorter { IfOk result (λ more. IsTrue more → length tokens.new.tokens < length tokens.old.tokens) }
@@ -110,7 +114,7 @@ fn finished(alloc: Global, mut draft: Draft, tokens: &mut Scanner) -> Result<Dra
     ensures { Gives drafted result (meaning.statements_from (state_of draft, tokens.old)) }
 {
     'statements: loop {
-        match turn(alloc, &mut draft, tokens) {
+        match read_statement(alloc, &mut draft, tokens) {
             Ok(more) => {
                 if more {
                     continue;
@@ -124,7 +128,7 @@ fn finished(alloc: Global, mut draft: Draft, tokens: &mut Scanner) -> Result<Dra
 
 /// Takes the first statement, which is `BOARD`.
 #[tactic(auto, unfolding(crate::specs::Meaning::first_statement, crate::specs::Meaning::first_board))]
-fn first(alloc: Global, tokens: &mut Scanner) -> Result<Draft, ConfigFault>
+pub fn read_board(alloc: Global, tokens: &mut Scanner) -> Result<Draft, ConfigFault>
     ensures { Gives (λ d. (state_of d, tokens.new)) result (meaning.first_statement tokens.old) }
 {
     let (token, line) = tokens.next();
@@ -144,7 +148,7 @@ fn read(alloc: Global, text: &[u8]) -> Result<Draft, ConfigFault>
     ensures { Gives drafted result (meaning.config_of text.now) }
 {
     let mut tokens = Scanner::new(text);
-    let draft = first(alloc, &mut tokens)?;
+    let draft = read_board(alloc, &mut tokens)?;
     finished(alloc, draft, &mut tokens)
 }
 

@@ -39,7 +39,7 @@ pub(crate) fn find<T: Copy>(rows: &[(&[u8], T)], name: &[u8]) -> Option<T>
 
 /// The bits of an attribute's name.
 #[tactic(auto, unfolding(crate::specs::Reading::attribute_named))]
-fn attribute_named(run: &[u8]) -> Option<u32>
+pub fn attribute_named(run: &[u8]) -> Option<u32>
     ensures { result ≡ reads.attribute_named run.now }
 {
     find(ATTRIBUTES, run)
@@ -58,7 +58,7 @@ fn attribute_of(run: &[u8]) -> Option<u32>
 
 /// The number of a class's name.
 #[tactic(auto, unfolding(crate::specs::Reading::class_of))]
-fn class_of(run: &[u8]) -> Option<u32>
+pub fn class_of(run: &[u8]) -> Option<u32>
     ensures { result ≡ reads.class_of run.now }
 {
     if run.len() < 4 {
@@ -157,7 +157,8 @@ fn joint(tokens: &mut Scanner, end: u8) -> Result<bool, ConfigFault>
 /// Takes one more attribute, and joins its bits to these; says whether another one follows.
 #[tactic(auto, unfolding(crate::specs::Reading::attribute_step))]
 fn joined(tokens: &mut Scanner, end: u8, bits: u32) -> Result<(u32, bool), ConfigFault>
-    ensures read { Gives (λ x. flow_of x.1 (x.0, tokens.new) (x.0, tokens.new)) result (reads.attribute_step end (bits, tokens.old)) }
+    ensures read { Gives (λ x. flow_of x.1 (x.0, tokens.new) (x.0, tokens.new)) result
+        (reads.attribute_step end (bits, tokens.old)) }
     ensures shorter { OnOk result (length tokens.new.tokens < length tokens.old.tokens) }
 {
     let attribute = attribute(tokens)?;

@@ -72,7 +72,7 @@ pub(crate) struct HandlerStatement {
 
 /// The token with which a statement begins.
 #[derive(Clone, Copy)]
-pub(crate) enum Keyword {
+pub enum Keyword {
     Board,
     Class,
     Task,

@@ -19,7 +19,7 @@ use brd_text::{Scanner, Token};
 use std::alloc::Global;
 
 /// The keyword of each kind of statement.
-const KEYWORDS: &[(&[u8], Keyword)] = &[
+pub const KEYWORDS: &[(&[u8], Keyword)] = &[
     (b"BOARD", Keyword::Board),
     (b"CLASS", Keyword::Class),
     (b"CRE_TSK", Keyword::Task),
@@ -32,7 +32,7 @@ const KEYWORDS: &[(&[u8], Keyword)] = &[
 
 /// The keyword that a run is.
 #[tactic(auto, unfolding(crate::specs::Statements::keyword_of))]
-fn keyword_of(run: &[u8]) -> Option<Keyword>
+pub fn keyword_of(run: &[u8]) -> Option<Keyword>
     ensures { result ≡ statements.keyword_of run.now }
 {
     find(KEYWORDS, run)
@@ -218,7 +218,8 @@ pub(crate) fn statement(
     line: usize,
     tokens: &mut Scanner,
 ) -> Result<Statement, ConfigFault>
-    ensures read { Gives (λ s. (s, tokens.new)) result (statements.statement_by in_class (seen token.entry) line tokens.old) }
+    ensures read { Gives (λ s. (s, tokens.new)) result
+        (statements.statement_by in_class (seen token.entry) line tokens.old) }
     ensures shorter { OnOk result (length tokens.new.tokens ≤ length tokens.old.tokens) }
 {
     match token {

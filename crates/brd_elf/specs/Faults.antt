@@ -2,7 +2,8 @@
 use Rattle.std.specs.Prelude.{Bool, true, false, Result}
 use Rattle.brd_text.specs.Faults as text
 use Rattle.brd_elf.specs.declared.fault.ElfFault.{ElfFault}
-use Rattle.brd_elf.specs.declared.fault.ElfFault.TheVariants.{NoMemory, NotElf, Unsupported, Truncated, Sizes, Overlap, Outside, Symbols}
+use Rattle.brd_elf.specs.declared.fault.ElfFault.TheVariants.{NoMemory, NotElf, Unsupported, Truncated, Sizes, Overlap}
+use Rattle.brd_elf.specs.declared.fault.ElfFault.TheVariants.{Outside, Symbols}
 
 abbrev pub is_no_memory : ElfFault → Bool
 is_no_memory NoMemory = true

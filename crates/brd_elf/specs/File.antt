@@ -1,6 +1,7 @@
 -- The file of an image, its numbers in the image's byte order: header, program headers, segments, symbol table,
 -- strings, section names, section headers.
-use Rattle.std.specs.Prelude.{ℕ, ◌+◌, ◌-◌, ◌*◌, ◌%◌, ◌^◌, ◌<◌, ◌≤◌, List, [], ◌∷◌, ◌++◌, length, replicate, flat_map, codes}
+use Rattle.std.specs.Prelude.{ℕ, ◌+◌, ◌-◌, ◌*◌, ◌%◌, ◌^◌, ◌<◌, ◌≤◌, List, [], ◌∷◌, ◌++◌, length, replicate, flat_map}
+use Rattle.std.specs.Prelude.{codes}
 use Rattle.std.specs.List.{AllByRecursion}
 use Rattle.brd_word.specs.declared.order.Order.{Order}
 use Rattle.brd_word.specs.declared.order.Order.TheVariants.{Big, Little}
@@ -29,7 +30,8 @@ padded bytes = bytes ++ replicate (padding (length bytes)) 0
 -- flags (readable, writable, executable), align.
 abbrev pub program_header : Order → ℕ → Segment → List ℕ
 program_header order offset segment =
-    words order (1 ∷ offset ∷ segment.address ∷ segment.address ∷ length segment.bytes ∷ length segment.bytes ∷ 7 ∷ 1 ∷ [])
+    words order
+    (1 ∷ offset ∷ segment.address ∷ segment.address ∷ length segment.bytes ∷ length segment.bytes ∷ 7 ∷ 1 ∷ [])
 
 -- the program headers of segments whose bytes lie from an offset on, each from a multiple of 4
 unfoldable pub program_headers_from : Order → ℕ → List Segment → List ℕ
@@ -123,7 +125,8 @@ unfoldable pub file : Image → List ℕ
 file image =
     header_bytes image.order image.entry (programs_at image.segments) (sections_at image) (length image.segments)
     ++ body_of image
-    ++ section_headers image.order (symbols_at image) (length (symbol_table image.order image.symbols)) (strings_at image) (length (strings image.symbols)) (names_at image)
+    ++ section_headers image.order (symbols_at image) (length (symbol_table image.order image.symbols))
+    (strings_at image) (length (strings image.symbols)) (names_at image)
 
 -- an image that a file can hold: a count of 65,535 is the mark of extended numbering, and offsets are words
 pub record Fits (image : Image) : Type 0 where

@@ -1,5 +1,6 @@
 -- The ELF header, 52 bytes (System V ABI, "ELF Header"), and which of them are read here.
-use Rattle.std.specs.Prelude.{ℕ, List, [], ◌∷◌, length, Option, None, Some, Result, Ok, Err, not, ◌&&◌, ◌==◌, nat_lt, nat_eq, if◌then◌else◌, slice_index}
+use Rattle.std.specs.Prelude.{ℕ, List, [], ◌∷◌, length, Option, None, Some, Result, Ok, Err, not, ◌&&◌, ◌==◌, nat_lt}
+use Rattle.std.specs.Prelude.{nat_eq, if◌then◌else◌, slice_index}
 use Rattle.std.specs.List.{starts_with}
 use Rattle.brd_word.specs.declared.order.Order.{Order}
 use Rattle.brd_word.specs.declared.order.Order.TheVariants.{Big, Little}
@@ -23,8 +24,16 @@ abbrev pub header_at : Order → List ℕ → Header
 header_at order file = record {
   order = order;
   entry = word_at order file 24;
-  programs = record { offset = word_at order file 28; entry_size = half_at order file 42; count = half_at order file 44 };
-  sections = record { offset = word_at order file 32; entry_size = half_at order file 46; count = half_at order file 48 };
+  programs = record {
+    offset = word_at order file 28;
+    entry_size = half_at order file 42;
+    count = half_at order file 44;
+  };
+  sections = record {
+    offset = word_at order file 32;
+    entry_size = half_at order file 46;
+    count = half_at order file 48;
+  };
 }
 
 -- The first field with a value that isn't read here, by its offset: EI_CLASS other than ELFCLASS32, EI_DATA than

@@ -1,5 +1,6 @@
 -- Only private contracts name this: places of a string table whose strings have numbers.
-use Rattle.std.specs.Prelude.{◌≡◌, ℕ, suc, ◌^◌, ◌<◌, ◌≤◌, List, [], length, drop, slice_index_or, count_by, Option, None, Some, is_some}
+use Rattle.std.specs.Prelude.{◌≡◌, ℕ, suc, ◌^◌, ◌<◌, ◌≤◌, List, [], length, drop, slice_index_or, count_by, Option}
+use Rattle.std.specs.Prelude.{None, Some, is_some}
 use Rattle.brd_elf.specs.Symbols.{string_of}
 use Rattle.brd_elf.specs.Trie.{path_of, AreDistinct}
 
@@ -26,5 +27,7 @@ pub record IsNumbering (numbered : Numbered) : Type 0 where
   pub there : 0 < length numbered.paths
   pub empty : path_of numbered.paths 0 ≡ []
   pub distinct : AreDistinct numbered.paths
-  pub within : (place number : ℕ) → slice_index_or numbered.numbers place None ≡ Some number → number < length numbered.paths
-  pub strings : (place number : ℕ) → slice_index_or numbered.numbers place None ≡ Some number → string_of (drop place numbered.strings) ≡ Some (path_of numbered.paths number)
+  pub within : (place number : ℕ) → slice_index_or numbered.numbers place None ≡ Some number →
+      number < length numbered.paths
+  pub strings : (place number : ℕ) → slice_index_or numbered.numbers place None ≡ Some number →
+      string_of (drop place numbered.strings) ≡ Some (path_of numbered.paths number)

@@ -1,6 +1,7 @@
 -- Section headers, 40 bytes each, and the symbol table, 16 bytes a symbol (System V ABI, "Sections", "Symbol Table",
 -- "String Table").
-use Rattle.std.specs.Prelude.{ℕ, zero, suc, ◌+◌, ◌*◌, ◌/◌, ◌%◌, Bool, not, ◌&&◌, ◌||◌, ◌==◌, nat_le, if◌then◌else◌, List, [], ◌∷◌, ◌++◌, take, drop, Option, None, Some, option_map, Result, Ok, Err}
+use Rattle.std.specs.Prelude.{ℕ, zero, suc, ◌+◌, ◌*◌, ◌/◌, ◌%◌, Bool, not, ◌&&◌, ◌||◌, ◌==◌, nat_le, if◌then◌else◌}
+use Rattle.std.specs.Prelude.{List, [], ◌∷◌, ◌++◌, take, drop, Option, None, Some, option_map, Result, Ok, Err}
 use Rattle.std.specs.List.{list_any}
 use Rattle.std.specs.Str.{bytes_eq}
 use Rattle.brd_word.specs.declared.order.Order.{Order}
@@ -60,7 +61,8 @@ strings_of order file table at =
 
 -- the symbol that bytes begin with
 abbrev pub entry_at : Order → List ℕ → Entry
-entry_at order bytes = record { name = word_at order bytes 0; value = word_at order bytes 4; section = half_at order bytes 14 }
+entry_at order bytes =
+    record { name = word_at order bytes 0; value = word_at order bytes 4; section = half_at order bytes 14 }
 
 -- the string that bytes begin with: those before the first byte 0
 abbrev pub string_of : List ℕ → Option (List ℕ)

@@ -1,6 +1,7 @@
 -- Only private contracts name this: strings by their numbers. 0 is the empty string, and each node of a list makes one
 -- more string, a byte in front of an earlier one.
-use Rattle.std.specs.Prelude.{◌≡◌, ℕ, suc, ◌^◌, ◌<◌, ◌≤◌, List, [], ◌∷◌, ◌++◌, length, slice_index_or, Option, None, Some}
+use Rattle.std.specs.Prelude.{◌≡◌, ℕ, suc, ◌^◌, ◌<◌, ◌≤◌, List, [], ◌∷◌, ◌++◌, length, slice_index_or, Option, None}
+use Rattle.std.specs.Prelude.{Some}
 use Rattle.brd_elf.specs.declared.trie.Node.{Node}
 
 -- the string that a number stands for
@@ -40,9 +41,13 @@ pub record IsTrie (lasts : List (Option ℕ)) (nodes : List Node) : Type 0 where
   pub count : length (paths_of nodes) ≡ suc (length nodes)
   pub empty : path_of (paths_of nodes) 0 ≡ []
   pub rests : (at : ℕ) → at < length nodes → (node_at nodes at).rest ≤ at
-  pub paths : (at : ℕ) → at < length nodes → path_of (paths_of nodes) (suc at) ≡ (node_at nodes at).byte ∷ path_of (paths_of nodes) (node_at nodes at).rest
+  pub paths : (at : ℕ) → at < length nodes →
+      path_of (paths_of nodes) (suc at) ≡ (node_at nodes at).byte ∷ path_of (paths_of nodes) (node_at nodes at).rest
   pub distinct : AreDistinct (paths_of nodes)
-  pub last : (number at : ℕ) → slice_index_or lasts number None ≡ Some at → (at < length nodes) × ((node_at nodes at).rest ≡ number)
+  pub last : (number at : ℕ) → slice_index_or lasts number None ≡ Some at →
+      (at < length nodes) × ((node_at nodes at).rest ≡ number)
   pub all : (at : ℕ) → at < length nodes → IsUpTo (slice_index_or lasts (node_at nodes at).rest None) at
-  pub before : (at other : ℕ) → at < length nodes → (node_at nodes at).before ≡ Some other → (other < at) × ((node_at nodes other).rest ≡ (node_at nodes at).rest)
-  pub all_before : (at other : ℕ) → at < length nodes → other < at → (node_at nodes other).rest ≡ (node_at nodes at).rest → IsUpTo (node_at nodes at).before other
+  pub before : (at other : ℕ) → at < length nodes → (node_at nodes at).before ≡ Some other →
+      (other < at) × ((node_at nodes other).rest ≡ (node_at nodes at).rest)
+  pub all_before : (at other : ℕ) → at < length nodes → other < at →
+      (node_at nodes other).rest ≡ (node_at nodes at).rest → IsUpTo (node_at nodes at).before other

@@ -58,7 +58,7 @@ pub fn header_of(file: &[u8]) -> Result<Header, ElfFault>
 
 /// In which order the bytes of the file's numbers lie, by its e_ident alone.
 #[tactic(auto, unfolding(crate::specs::Header::order_of))]
-fn order_of(file: &[u8]) -> Order
+pub fn order_of(file: &[u8]) -> Order
     requires { 52 ≤ length file.now }
     ensures { result ≡ order_of file.now }
 {

@@ -21,6 +21,8 @@ mod trie;
 mod writing;
 
 pub use fault::ElfFault;
+pub use fields::{half_at, word_at};
+pub use header::order_of;
 pub use reading::read;
 pub use size::fits;
 pub use writing::write;

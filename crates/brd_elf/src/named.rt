@@ -1,6 +1,7 @@
 //! The symbols that are kept, with a register for the test whether a name is new.
 
-ghost use Rattle.std.specs.Prelude.{◌≡◌, ℕ, ◌^◌, ◌<◌, ◌≤◌, List, [], ◌∷◌, ◌++◌, length, drop, slice_index_or, true, false, option_map, Some, IfOk, OnOk, OnErr, IfSome};
+ghost use Rattle.std.specs.Prelude.{◌≡◌, ℕ, ◌^◌, ◌<◌, ◌≤◌, List, [], ◌∷◌, ◌++◌, length, drop, slice_index_or, true};
+ghost use Rattle.std.specs.Prelude.{false, option_map, Some, IfOk, OnOk, OnErr, IfSome};
 ghost use Rattle.brd_elf.specs.Faults.{Gives};
 ghost use Rattle.brd_elf.specs.Symbols.{string_of, kept};
 ghost use Rattle.brd_elf.specs.Trie.{path_of};
@@ -29,7 +30,8 @@ impl<'a> Model for Named<'a> {
 
     ghost Value = { Known };
 
-    ghost view = { λ named. record { strings = named.places.strings; symbols = named.symbols.items; paths = named.places.paths } };
+    ghost view = { λ named.
+        record { strings = named.places.strings; symbols = named.symbols.items; paths = named.places.paths } };
 
     ghost invariant = { λ named. IsRegister named.marks.items
         (record { strings = named.places.strings; symbols = named.symbols.items; paths = named.places.paths }) };
@@ -76,7 +78,8 @@ impl<'a> Named<'a> {
     fn number_of(&mut self, start: usize) -> Result<Option<u32>, NoMemory>
         ensures symbols { self.new.symbols ≡ self.old.symbols }
         ensures strings { self.new.strings ≡ self.old.strings }
-        ensures string { IfOk result (λ number. option_map (path_of self.new.paths) number ≡ string_of (drop start self.old.strings)) }
+        ensures string { IfOk result
+            (λ number. option_map (path_of self.new.paths) number ≡ string_of (drop start self.old.strings)) }
         ensures there { IfOk result (λ number. IfSome number (λ n. n < length self.new.paths)) }
     {
         self.places.number_of(start)
@@ -139,7 +142,8 @@ fn mark(marks: &mut Vec<bool>, at: usize) -> Result<(), NoMemory>
     ensures here { OnOk result (slice_index_or marks.new.items at false ≡ true) }
     ensures others { OnOk result ((place : ℕ) → (place ≡ at → ⊥)
         → slice_index_or marks.new.items place false ≡ slice_index_or marks.old.items place false) }
-    ensures size { OnOk result ((limit : ℕ) → length marks.old.items ≤ limit → at < limit → length marks.new.items ≤ limit) }
+    ensures size { OnOk result
+        ((limit : ℕ) → length marks.old.items ≤ limit → at < limit → length marks.new.items ≤ limit) }
 {
     if at >= marks.len() {
         marks.resize(at + 1, false)?;

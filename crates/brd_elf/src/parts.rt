@@ -1,8 +1,11 @@
 //! The parts of the file of an image.
 
-ghost use Rattle.std.specs.Prelude.{◌∷◌, [], ◌≡◌, ℕ, ◌+◌, ◌*◌, ◌^◌, ◌<◌, ◌≤◌, ◌++◌, length, replicate, flat_map, OnOk, IfOk};
+ghost use Rattle.std.specs.Prelude.{◌∷◌, [], ◌≡◌, ℕ, ◌+◌, ◌*◌, ◌^◌, ◌<◌, ◌≤◌, ◌++◌, length, replicate, flat_map, OnOk};
+ghost use Rattle.std.specs.Prelude.{IfOk};
 ghost use Rattle.std.specs.List.{AllByRecursion};
-ghost use Rattle.brd_elf.specs.File.{halves, words, padding, padded, program_header, program_headers_from, data_of, symbol_entry, symbol_entries_from, symbol_table, strings, section_names, section_headers, header_bytes, data_encoding, ident};
+ghost use Rattle.brd_elf.specs.File.{halves, words, padding, padded, program_header, program_headers_from, data_of};
+ghost use Rattle.brd_elf.specs.File.{symbol_entry, symbol_entries_from, symbol_table, strings, section_names};
+ghost use Rattle.brd_elf.specs.File.{section_headers, header_bytes, data_encoding, ident};
 
 use crate::fields::{put_half, put_word};
 use brd_base::NoMemory;
@@ -86,7 +89,8 @@ pub fn put_header(
     sections_at: usize,
     count: usize,
 ) -> Result<(), NoMemory>
-    ensures put { OnOk result (out.new.items ≡ out.old.items ++ header_bytes order entry programs_at sections_at count) }
+    ensures put { OnOk result
+        (out.new.items ≡ out.old.items ++ header_bytes order entry programs_at sections_at count) }
     ensures word { entry < 2 ^ 32 }
 {
     put_ident(out, order)?;
@@ -106,7 +110,8 @@ pub fn lay_out_segments(
     segments: &[Segment],
 ) -> Result<(Vec<u8>, Vec<u8>), NoMemory>
     requires { length segments.now ≤ 2 ^ 24 }
-    ensures programs { IfOk result (λ parts. parts.0.items ≡ program_headers_from order (52 + 32 * length segments.now) segments.now) }
+    ensures programs { IfOk result
+        (λ parts. parts.0.items ≡ program_headers_from order (52 + 32 * length segments.now) segments.now) }
     ensures bytes { IfOk result (λ parts. parts.1.items ≡ data_of segments.now) }
 {
     let start = HEADER_LEN + PROGRAM_LEN * segments.len();
@@ -127,7 +132,9 @@ fn put_all_segments(
     segments: &[Segment],
 ) -> Result<(), NoMemory>
     requires { start < 2 ^ 32 }
-    ensures programs { OnOk result (programs.new.items ≡ programs.old.items ++ program_headers_from order (start + length loaded.old.items) segments.now) }
+    ensures programs { OnOk result
+        (programs.new.items
+        ≡ programs.old.items ++ program_headers_from order (start + length loaded.old.items) segments.now) }
     ensures bytes { OnOk result (loaded.new.items ≡ loaded.old.items ++ data_of segments.now) }
 {
     for segment in segments {
@@ -146,7 +153,9 @@ fn put_segment(
     segment: &Segment,
 ) -> Result<(), NoMemory>
     requires { start + length loaded.old.items < 2 ^ 64 }
-    ensures program { OnOk result (programs.new.items ≡ programs.old.items ++ program_header order (start + length loaded.old.items) segment.now) }
+    ensures program { OnOk result
+        (programs.new.items
+        ≡ programs.old.items ++ program_header order (start + length loaded.old.items) segment.now) }
     ensures bytes { OnOk result (loaded.new.items ≡ loaded.old.items ++ padded segment.now.bytes) }
 {
     put_program_header(programs, order, start + loaded.len(), segment)?;
@@ -210,8 +219,10 @@ fn put_all_named(
     order: Order,
     symbols: &[Symbol],
 ) -> Result<(), NoMemory>
-    ensures entries { OnOk result (table.new.items ≡ table.old.items ++ symbol_entries_from order (length strings.old.items) symbols.now) }
-    ensures strings { OnOk result (strings.new.items ≡ strings.old.items ++ flat_map (λ symbol. symbol.name ++ 0 ∷ []) symbols.now) }
+    ensures entries { OnOk result
+        (table.new.items ≡ table.old.items ++ symbol_entries_from order (length strings.old.items) symbols.now) }
+    ensures strings { OnOk result
+        (strings.new.items ≡ strings.old.items ++ flat_map (λ symbol. symbol.name ++ 0 ∷ []) symbols.now) }
     ensures words { OnOk result (AllByRecursion (λ symbol. symbol.value < 2 ^ 32) symbols.now) }
 {
     for symbol in symbols {
@@ -227,7 +238,8 @@ fn put_named(
     order: Order,
     symbol: &Symbol,
 ) -> Result<(), NoMemory>
-    ensures entry { OnOk result (table.new.items ≡ table.old.items ++ symbol_entry order (length strings.old.items) symbol.now.value) }
+    ensures entry { OnOk result
+        (table.new.items ≡ table.old.items ++ symbol_entry order (length strings.old.items) symbol.now.value) }
     ensures string { OnOk result (strings.new.items ≡ strings.old.items ++ symbol.now.name ++ 0 ∷ []) }
     ensures word { symbol.now.value < 2 ^ 32 }
 {

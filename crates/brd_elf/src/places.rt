@@ -1,6 +1,7 @@
 //! Numbers for the strings at the places of a string table: two places have one number exactly if they have one string.
 
-ghost use Rattle.std.specs.Prelude.{◌≡◌, ℕ, ◌+◌, ◌^◌, ◌<◌, ◌≤◌, [], ◌∷◌, length, drop, replicate, slice_index_or, slice_set, option_copied, option_map, Some, None, IfOk, IfSome, IfNone};
+ghost use Rattle.std.specs.Prelude.{◌≡◌, ℕ, ◌+◌, ◌^◌, ◌<◌, ◌≤◌, [], ◌∷◌, length, drop, replicate, slice_index_or};
+ghost use Rattle.std.specs.Prelude.{slice_set, option_copied, option_map, Some, None, IfOk, IfSome, IfNone};
 ghost use Rattle.brd_elf.specs.Symbols.{string_of};
 ghost use Rattle.brd_elf.specs.Trie.{path_of, AreDistinct, IsMore};
 ghost use Rattle.brd_elf.specs.Places.{AreLetters, AreNew};
@@ -27,7 +28,8 @@ impl<'a> Model for Places<'a> {
 
     ghost Value = { Numbered };
 
-    ghost view = { λ places. record { strings = places.strings.now; numbers = places.numbers.items; paths = places.trie } };
+    ghost view = { λ places.
+        record { strings = places.strings.now; numbers = places.numbers.items; paths = places.trie } };
 
     ghost invariant = { λ places. IsNumbering
         (record { strings = places.strings.now; numbers = places.numbers.items; paths = places.trie }) };
@@ -75,7 +77,8 @@ impl<'a> Places<'a> {
     #[inline(never)]
     pub fn number_of(&mut self, start: usize) -> Result<Option<u32>, NoMemory>
         ensures strings { self.new.strings ≡ self.old.strings }
-        ensures string { IfOk result (λ number. option_map (path_of self.new.paths) number ≡ string_of (drop start self.old.strings)) }
+        ensures string { IfOk result
+            (λ number. option_map (path_of self.new.paths) number ≡ string_of (drop start self.old.strings)) }
         ensures there { IfOk result (λ number. IfSome number (λ n. n < length self.new.paths)) }
         ensures kept { IsMore self.old.paths self.new.paths }
         ensures distinct { AreDistinct self.new.paths }
@@ -98,7 +101,8 @@ impl<'a> Places<'a> {
         ensures within { IfSome result (λ found. (start ≤ found.0) × (found.0 < length self.now.strings)) }
         ensures letters { IfSome result (λ found. AreLetters self.now.strings start found.0) }
         ensures new { IfSome result (λ found. AreNew self.now.numbers start found.0) }
-        ensures string { IfSome result (λ found. string_of (drop found.0 self.now.strings) ≡ Some (path_of self.now.paths found.1)) }
+        ensures string { IfSome result
+            (λ found. string_of (drop found.0 self.now.strings) ≡ Some (path_of self.now.paths found.1)) }
         ensures there { IfSome result (λ found. found.1 < length self.now.paths) }
         ensures distinct { AreDistinct self.now.paths }
     {
@@ -122,7 +126,8 @@ impl<'a> Places<'a> {
         requires string { string_of (drop (at + 1) self.old.strings) ≡ Some (path_of self.old.paths rest) }
         ensures strings { self.new.strings ≡ self.old.strings }
         ensures numbers { IfOk result (λ number. self.new.numbers ≡ slice_set self.old.numbers at (Some number)) }
-        ensures string { IfOk result (λ number. string_of (drop at self.old.strings) ≡ Some (path_of self.new.paths number)) }
+        ensures string { IfOk result
+            (λ number. string_of (drop at self.old.strings) ≡ Some (path_of self.new.paths number)) }
         ensures there { IfOk result (λ number. number < length self.new.paths) }
         ensures kept { IsMore self.old.paths self.new.paths }
         ensures distinct { AreDistinct self.new.paths }

@@ -2,7 +2,8 @@
 
 ghost use Rattle.std.specs.Prelude.{◌≡◌, ℕ, ◌+◌, ◌*◌, ◌≤◌, ◌<◌, ◌^◌, length, drop, true, IfOk, IfSome, IsOk};
 ghost use Rattle.brd_elf.specs.Faults.{Gives};
-ghost use Rattle.brd_elf.specs.Symbols.{section_at, is_whole, section_bytes, symbol_table_from, is_symbol_table, is_string_table, linked, strings_of};
+ghost use Rattle.brd_elf.specs.Symbols.{section_at, is_whole, section_bytes, symbol_table_from, is_symbol_table};
+ghost use Rattle.brd_elf.specs.Symbols.{is_string_table, linked, strings_of};
 
 use crate::fault::ElfFault;
 use crate::fields::{has_bytes, word_at};

@@ -2,7 +2,8 @@
 
 ghost use Rattle.std.specs.Prelude.{◌≡◌, ℕ, ◌+◌, ◌*◌, ◌≤◌, ◌<◌, ◌^◌, [], ◌∷◌, ◌++◌, length, drop, IfOk, OnOk, false};
 ghost use Rattle.brd_elf.specs.Faults.{Gives};
-ghost use Rattle.brd_elf.specs.Segments.{program_header_at, is_dynamic, is_skipped, has_bad_sizes, is_cut, is_outside, lies_in, loaded_bytes, load_fault, loaded, loaded_from, segments_of};
+ghost use Rattle.brd_elf.specs.Segments.{program_header_at, is_dynamic, is_skipped, has_bad_sizes, is_cut, is_outside};
+ghost use Rattle.brd_elf.specs.Segments.{lies_in, loaded_bytes, load_fault, loaded, loaded_from, segments_of};
 
 use crate::fault::ElfFault;
 use crate::fields::{has_bytes, word_at};
@@ -85,7 +86,8 @@ fn load(
     segments: &mut Loaded,
 ) -> Result<(), ElfFault>
     requires { at + 32 ≤ length file.now }
-    ensures { Gives (λ _. segments.new) result (loaded file.now at (program_header_at order (drop at file.now)) segments.old) }
+    ensures { Gives (λ _. segments.new) result
+        (loaded file.now at (program_header_at order (drop at file.now)) segments.old) }
 {
     let header = program_header_at(&file[at..], order);
     if is_dynamic(header) {

@@ -98,7 +98,8 @@ impl Trie {
     fn add(&mut self, rest: u32, byte: u8) -> Result<u32, NoMemory>
         requires rest { rest < length self.old }
         requires room { length self.old < 2 ^ 32 }
-        requires new { (number : ℕ) → number < length self.old → path_of self.old number ≡ byte ∷ path_of self.old rest → ⊥ }
+        requires new { (number : ℕ) → number < length self.old
+            → path_of self.old number ≡ byte ∷ path_of self.old rest → ⊥ }
         ensures path { IfOk result (λ number. path_of self.new number ≡ byte ∷ path_of self.old rest) }
         ensures there { IfOk result (λ number. number < length self.new) }
         ensures few { length self.new ≤ length self.old + 1 }

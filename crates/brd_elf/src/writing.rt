@@ -3,7 +3,8 @@
 ghost use Rattle.std.specs.Prelude.{◌≡◌, ℕ, ◌+◌, ◌*◌, ◌^◌, ◌<◌, ◌≤◌, ◌++◌, length, IfOk, Ok};
 ghost use Rattle.std.specs.List.{AllByRecursion};
 ghost use Rattle.brd_mem.specs.Image.{IsPlain};
-ghost use Rattle.brd_elf.specs.File.{program_headers_from, data_of, body_of, symbols_at, strings_at, names_at, sections_at, symbol_table, strings, file, Fits, HasWords};
+ghost use Rattle.brd_elf.specs.File.{program_headers_from, data_of, body_of, symbols_at, strings_at, names_at};
+ghost use Rattle.brd_elf.specs.File.{sections_at, symbol_table, strings, file, Fits, HasWords};
 ghost use Rattle.brd_elf.specs.Meaning.{meaning};
 
 use crate::parts::{
@@ -84,7 +85,8 @@ fn body_of(alloc: Global, image: &Image) -> Result<Body, NoMemory>
     requires { IsPlain image.now }
     ensures bytes { IfOk result (λ body. body.bytes.items ≡ body_of image.now) }
     ensures symbols_at { IfOk result (λ body. body.symbols_at ≡ symbols_at image.now) }
-    ensures symbols_size { IfOk result (λ body. body.symbols_size ≡ length (symbol_table image.now.order image.now.symbols)) }
+    ensures symbols_size { IfOk result
+        (λ body. body.symbols_size ≡ length (symbol_table image.now.order image.now.symbols)) }
     ensures strings_at { IfOk result (λ body. body.strings_at ≡ strings_at image.now) }
     ensures strings_size { IfOk result (λ body. body.strings_size ≡ length (strings image.now.symbols)) }
     ensures names_at { IfOk result (λ body. body.names_at ≡ names_at image.now) }
