@@ -1,6 +1,6 @@
 //! What a diagnosis has found.
 
-use crate::hint::{Hint, MOST_OF_ADVICE, MOST_OF_NAME};
+use crate::hint::{FaultHint, MOST_OF_ADVICE, MOST_OF_NAME};
 
 /// What is wrong at a place of a line. In the template `~` stands for the word, `^` for the other word, `?` for the
 /// number in decimal, `&` for the second one, and `@` for the
@@ -66,7 +66,7 @@ impl<'a> Finding<'a> {
     }
 
     /// Puts what is said at the end of a text.
-    pub(crate) fn put_on(&self, hint: &mut Hint) {
+    pub(crate) fn put_on(&self, hint: &mut FaultHint) {
         for byte in self.template {
             match *byte {
                 b'~' => hint.put_front(self.word, MOST_OF_NAME),
@@ -80,40 +80,25 @@ impl<'a> Finding<'a> {
     }
 }
 
-/// The text of what was found in a line of that number and of n bytes, of the input that is called so. No text
-/// where nothing was found.
-pub(crate) fn told(input: &[u8], line: usize, len: usize, found: Option<Finding>) -> Hint {
-    let mut hint = Hint::none();
+/// The text of what was found in the input that is called so: in a line of that number and of n bytes, where these are
+/// told. No text where nothing was found.
+pub(crate) fn told(
+    input: &[u8],
+    line: Option<usize>,
+    len: Option<usize>,
+    found: Option<Finding>,
+) -> FaultHint {
+    let mut hint = FaultHint::none();
     if let Some(finding) = found {
         hint.put_all(input);
-        hint.put_all(b": line ");
-        hint.put_number(line as u64);
-        hint.put_all(b", column ");
-        hint.put_number((len.saturating_sub(finding.rest) as u64).saturating_add(1));
-        hint.put_all(b": ");
-        finding.put_on(&mut hint);
-    }
-    hint
-}
-
-/// The text of what was found, where no column is told.
-pub(crate) fn told_of_line(input: &[u8], line: usize, found: Option<Finding>) -> Hint {
-    let mut hint = Hint::none();
-    if let Some(finding) = found {
-        hint.put_all(input);
-        hint.put_all(b": line ");
-        hint.put_number(line as u64);
-        hint.put_all(b": ");
-        finding.put_on(&mut hint);
-    }
-    hint
-}
-
-/// The text of what was found, where no line is told.
-pub(crate) fn told_of_input(input: &[u8], found: Option<Finding>) -> Hint {
-    let mut hint = Hint::none();
-    if let Some(finding) = found {
-        hint.put_all(input);
+        if let Some(line) = line {
+            hint.put_all(b": line ");
+            hint.put_number(line as u64);
+        }
+        if let Some(len) = len {
+            hint.put_all(b", column ");
+            hint.put_number((len.saturating_sub(finding.rest) as u64).saturating_add(1));
+        }
         hint.put_all(b": ");
         finding.put_on(&mut hint);
     }

@@ -2,6 +2,7 @@
 
 ghost use Rattle.std.specs.Prelude.{⊤};
 
+use itoa::Buffer;
 use std::fmt;
 use std::marker::Model;
 
@@ -16,21 +17,21 @@ pub(crate) const MOST_OF_ADVICE: usize = 120;
 
 /// The text of a diagnosis: printable ASCII on one line, or nothing. Contracts see nothing of it.
 #[derive(Debug, Drop)]
-pub struct Hint {
+pub struct FaultHint {
     bytes: [u8; 230],
     len: usize,
 }
 
-impl Model for Hint {
+impl Model for FaultHint {
     ghost Value = { ⊤ };
 
     ghost view = { λ _. tt };
 }
 
-impl Hint {
+impl FaultHint {
     /// No text.
     pub fn none() -> Self {
-        Hint {
+        FaultHint {
             bytes: [0; 230],
             len: 0,
         }
@@ -70,16 +71,8 @@ impl Hint {
 
     /// Puts a number at the end, in decimal.
     pub(crate) fn put_number(&mut self, number: u64) {
-        let mut unit = 1_000_000_000_000_000u64;
-        let mut begun = false;
-        for _ in 0..16 {
-            let digit = number / unit.max(1) % 10;
-            begun = begun || digit > 0 || unit <= 1;
-            if begun {
-                self.put(b'0' + digit as u8);
-            }
-            unit /= 10;
-        }
+        let mut buffer = Buffer::new();
+        self.put_all(buffer.format(number).as_bytes());
     }
 
     /// Puts an address at the end: `0x`, and eight hexadecimal digits.
@@ -90,7 +83,7 @@ impl Hint {
     }
 }
 
-impl fmt::Display for Hint {
+impl fmt::Display for FaultHint {
     fn fmt<W: fmt::Write>(&self, f: &mut fmt::Formatter<W>) -> fmt::Result {
         let mut left = self.len;
         for byte in self.bytes.as_slice() {

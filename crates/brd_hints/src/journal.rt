@@ -1,35 +1,32 @@
 //! Diagnoses of journals and scripts.
 
-use crate::finding::{Finding, told, told_of_line};
-use crate::hint::Hint;
+use crate::finding::{Finding, told};
+use crate::hint::FaultHint;
 use crate::names::has_name;
-use crate::scan::{behind, cut, first, place_of};
+use crate::scan::{behind, first};
+use brd_journal::{Journal, JournalFault, MOST_RUNS, order_of_line, run_of_line, split_field};
 use brd_text::{is_digit, plain_decimal, split_line};
+use brd_word::Order;
+use std::alloc::Global;
 
-/// What the first line of a journal may be: the byte order of its boards stands in it, and without one it is
-/// big-endian.
-const FIRST: &[&[u8]] = &[
-    b"board-journal 2 big",
-    b"board-journal 2 little",
-    b"board-journal 1",
-];
-
-/// The greatest count of a run.
-const MOST_COUNT: u64 = 4_294_967_295;
-
-/// The diagnosis of a line of a journal, counted from 1, that has no form.
-pub fn journal_hint(text: &[u8], number: usize) -> Hint {
+/// The diagnosis of a journal's fault.
+pub fn journal_hint(alloc: Global, text: &[u8], fault: JournalFault) -> FaultHint {
+    let number = match fault {
+        JournalFault::Syntax { line } => line,
+        JournalFault::Full => return full_hint(alloc, text),
+        JournalFault::NoMemory => return FaultHint::none(),
+    };
     let (line, is_ended) = line_of(text, number);
     let found = if number == 1 {
         first_line_fault(line, is_ended)
     } else {
         line_fault(line, is_ended, true)
     };
-    told(b"the journal", number, line.len(), found)
+    told(b"the journal", Some(number), Some(line.len()), found)
 }
 
 /// The diagnosis of a line of a script, counted from 1, that has no form or with which there are too many events.
-pub fn script_hint(text: &[u8], number: usize) -> Hint {
+pub fn script_hint(text: &[u8], number: usize) -> FaultHint {
     let (line, is_ended) = line_of(text, number);
     let found = match line_fault(line, is_ended, false) {
         Some(found) => Some(found),
@@ -39,7 +36,7 @@ pub fn script_hint(text: &[u8], number: usize) -> Hint {
             &[],
         )),
     };
-    told(b"the script", number, line.len(), found)
+    told(b"the script", Some(number), Some(line.len()), found)
 }
 
 /// The line of this number, and whether a newline ends it.
@@ -65,7 +62,7 @@ fn first_line_fault(line: &[u8], is_ended: bool) -> Option<Finding<'_>> {
     if let Some(found) = byte_fault(line) {
         return Some(found);
     }
-    if is_first_line(line) {
+    if order_of_line(line).is_some() {
         return ending_fault(line, is_ended);
     }
     let template = match first(line) {
@@ -76,16 +73,6 @@ fn first_line_fault(line: &[u8], is_ended: bool) -> Option<Finding<'_>> {
             b"the first line is `board-journal 2 big` or `board-journal 2 little`, found ~".as_slice(),
     };
     Some(Finding::at(line, template, line))
-}
-
-/// Whether a line is one of the first lines.
-fn is_first_line(line: &[u8]) -> bool {
-    for known in FIRST {
-        if line == *known {
-            return true;
-        }
-    }
-    false
 }
 
 /// A line without a newline.
@@ -126,7 +113,7 @@ fn line_fault(line: &[u8], is_ended: bool, is_journal: bool) -> Option<Finding<'
     if let Some(found) = space_fault(line) {
         return Some(found);
     }
-    let (letter, rest) = field(line);
+    let (letter, rest) = split_field(line);
     let form = match letter {
         b"S" if is_journal => b"S CPU COUNT".as_slice(),
         b"S" => {
@@ -140,7 +127,7 @@ fn line_fault(line: &[u8], is_ended: bool, is_journal: bool) -> Option<Finding<'
         b"R" => b"R LINE COUNT".as_slice(),
         _ => return Some(letter_fault(line, letter, is_journal)),
     };
-    if let Some(found) = fields_fault(line, form, rest) {
+    if let Some(found) = fields_fault(form, rest) {
         return Some(found);
     }
     ending_fault(line, is_ended)
@@ -148,7 +135,7 @@ fn line_fault(line: &[u8], is_ended: bool, is_journal: bool) -> Option<Finding<'
 
 /// A line that begins with none of the letters.
 fn letter_fault<'a>(line: &'a [u8], letter: &'a [u8], is_journal: bool) -> Finding<'a> {
-    let template = if is_first_line(line) {
+    let template = if order_of_line(line).is_some() {
         b"~ is the first line alone: journals are joined without it".as_slice()
     } else if has_name(b"s t r", letter) {
         b"~ is written in upper case".as_slice()
@@ -157,7 +144,11 @@ fn letter_fault<'a>(line: &'a [u8], letter: &'a [u8], is_journal: bool) -> Findi
     } else {
         b"a line is `T COUNT` or `R LINE COUNT`, found ~".as_slice()
     };
-    let word = if is_first_line(line) { line } else { letter };
+    let word = if order_of_line(line).is_some() {
+        line
+    } else {
+        letter
+    };
     Finding::at(line, template, word)
 }
 
@@ -181,27 +172,16 @@ fn space_fault(line: &[u8]) -> Option<Finding<'_>> {
     None
 }
 
-/// The first field of a line, and what is after the space that ends it.
-fn field(line: &[u8]) -> (&[u8], &[u8]) {
-    match place_of(line, b' ') {
-        Some(place) => {
-            let (front, _) = cut(line, place);
-            (front, behind(line, place.saturating_add(1)))
-        }
-        None => (line, behind(line, line.len())),
-    }
-}
-
 /// What is wrong with the fields after the letter of a line of this form.
-fn fields_fault<'a>(line: &'a [u8], form: &'a [u8], rest: &'a [u8]) -> Option<Finding<'a>> {
-    let (_, mut names) = field(form);
+fn fields_fault<'a>(form: &'a [u8], rest: &'a [u8]) -> Option<Finding<'a>> {
+    let (_, mut names) = split_field(form);
     let mut left = rest;
     for _ in 0..2 {
         if names.is_empty() {
             break;
         }
-        let (name, more) = field(names);
-        let (number, behind_number) = field(left);
+        let (name, more) = split_field(names);
+        let (number, behind_number) = split_field(left);
         if let Some(template) = number_fault(name, number) {
             let word = if number.is_empty() { name } else { number };
             return Some(Finding::at(left, template, word).with_other(if number.is_empty() {
@@ -216,14 +196,13 @@ fn fields_fault<'a>(line: &'a [u8], form: &'a [u8], rest: &'a [u8]) -> Option<Fi
     if left.is_empty() {
         return None;
     }
-    let _ = line;
     Some(Finding::at(left, b"~ is too much: the form is ^", left).with_other(form))
 }
 
 /// What is wrong with a field that is a number.
 fn number_fault(name: &[u8], number: &[u8]) -> Option<&'static [u8]> {
     let is_count = first(name) == b'C' && name.len() > 3;
-    let most = if is_count { MOST_COUNT } else { 255 };
+    let most = if is_count { u32::MAX as u64 } else { 255 };
     if number.is_empty() {
         return Some(b"~ is missing: the form is ^");
     }
@@ -262,56 +241,27 @@ fn are_digits(text: &[u8]) -> bool {
     true
 }
 
-/// The diagnosis of a journal that needs more than n runs: the line that needs one more.
-pub fn full_hint(text: &[u8], limit: u64) -> Hint {
+/// The diagnosis of a journal that needs more runs than one has: the line that needs one more.
+fn full_hint(alloc: Global, text: &[u8]) -> FaultHint {
+    let mut journal = Journal::new(alloc, MOST_RUNS, Order::Big);
     let (_, mut rest) = split_line(text);
-    let mut line = 2usize;
-    let mut last: &[u8] = &[];
-    let mut total = 0u64;
-    let mut runs = 0u64;
-    for _ in 0..text.len() {
-        let (run, after) = split_line(rest.unwrap_or(&[]));
-        let (event, count) = event_of(run);
-        if event == last {
-            total = total.saturating_add(count);
-        } else {
-            runs = runs.saturating_add(pieces(total));
-            last = event;
-            total = count;
-        }
-        if runs.saturating_add(pieces(total)) > limit {
-            let found = Finding::at(
-                run,
-                b"with this line there are more than ? runs, which is the limit",
-                &[],
-            );
-            return told_of_line(b"the journal", line, Some(found.with_number(limit)));
-        }
-        if after.is_none() {
-            return Hint::none();
-        }
-        rest = after;
-        line = line.saturating_add(1);
-    }
-    Hint::none()
-}
-
-/// How many runs n equal events need.
-fn pieces(total: u64) -> u64 {
-    total / MOST_COUNT + (total % MOST_COUNT).min(1)
-}
-
-/// The event of a line, as it is written, and how often it comes.
-fn event_of(line: &[u8]) -> (&[u8], u64) {
-    let mut end = 0usize;
-    for (i, byte) in line.iter().enumerate() {
-        if *byte == b' ' {
-            end = i;
+    for line in 2..usize::MAX {
+        let Some(left) = rest else {
+            return FaultHint::none();
+        };
+        let (bytes, after) = split_line(left);
+        let Some(run) = run_of_line(bytes) else {
+            return FaultHint::none();
+        };
+        match journal.push_run(run.event, run.count) {
+            Ok(()) => rest = after,
+            Err(JournalFault::Full) => {
+                let template = b"with this line there are more than ? runs, which is the limit";
+                let found = Finding::at(bytes, template, &[]).with_number(MOST_RUNS as u64);
+                return told(b"the journal", Some(line), None, Some(found));
+            }
+            Err(_) => return FaultHint::none(),
         }
     }
-    let (event, rest) = cut(line, end);
-    (
-        event,
-        plain_decimal(behind(rest, 1), MOST_COUNT).unwrap_or(0),
-    )
+    FaultHint::none()
 }

@@ -1,6 +1,7 @@
 //! Lists of names, and names that are nearly the same.
 
-use crate::scan::{behind, cut, run, skip_blanks};
+use crate::scan::{behind, cut, first, place_of, run, skip_blanks};
+use brd_text::split_line;
 
 /// Whether a list has a name. The names of a list are separated by spaces, and case doesn't count.
 pub(crate) fn has_name(list: &[u8], name: &[u8]) -> bool {
@@ -18,61 +19,36 @@ pub(crate) fn has_name(list: &[u8], name: &[u8]) -> bool {
     false
 }
 
-/// The name of a list that is nearly this one: with a letter more or less or two turned, or else with another letter.
-pub(crate) fn near_name<'a>(list: &'a [u8], name: &[u8]) -> Option<&'a [u8]> {
-    match name_near(list, name, false) {
-        Some(near) => Some(near),
-        None => name_near(list, name, true),
-    }
+/// The name of a table that is nearly this one: with a letter more or less or two turned, or else with another letter.
+pub(crate) fn near_name<'a, T>(rows: &'a [(&'a [u8], T)], name: &[u8]) -> Option<&'a [u8]> {
+    name_near(rows, name, false).or(name_near(rows, name, true))
 }
 
-/// The name of the lists of a table that is nearly this one, likewise.
-pub(crate) fn near_in<'a>(
-    rows: &'a [(&'a [u8], usize, &'a [u8])],
-    name: &[u8],
-) -> Option<&'a [u8]> {
-    match name_near_in(rows, name, false) {
-        Some(near) => Some(near),
-        None => name_near_in(rows, name, true),
-    }
-}
-
-/// The first name of the lists of a table that is near in this way.
-fn name_near_in<'a>(
-    rows: &'a [(&'a [u8], usize, &'a [u8])],
+/// The first name of a table that is near in this way. What begins with a dot is near to what does so too.
+pub(crate) fn name_near<'a, T>(
+    rows: &'a [(&'a [u8], T)],
     name: &[u8],
     is_other_letter: bool,
 ) -> Option<&'a [u8]> {
-    for (_, _, names) in rows {
-        if let Some(near) = name_near(names, name, is_other_letter) {
-            return Some(near);
+    for (known, _) in rows {
+        let may_be = first(name) != b'.' || first(known) == b'.';
+        if may_be && is_near(known, name, is_other_letter) {
+            return Some(*known);
         }
     }
     None
 }
 
-/// The first name of a list that is near in this way.
-fn name_near<'a>(list: &'a [u8], name: &[u8], is_other_letter: bool) -> Option<&'a [u8]> {
-    let mut rest = list;
-    for _ in 0..list.len() {
-        let (known, after) = run(skip_blanks(rest));
-        if known.is_empty() {
-            return None;
+/// The advice of a table for a name: what stands in the first line that has it before its colon, behind that.
+pub(crate) fn advice<'a>(table: &'a [u8], name: &[u8]) -> Option<&'a [u8]> {
+    let mut rest = table;
+    for _ in 0..table.len() {
+        let (row, after) = split_line(rest);
+        let (names, text) = cut(row, place_of(row, b':')?);
+        if has_name(names, name) {
+            return Some(skip_blanks(behind(text, 1)));
         }
-        if is_near(known, name, is_other_letter) {
-            return Some(known);
-        }
-        rest = after;
-    }
-    None
-}
-
-/// The advice of a table for a name: what stands beside the first list that has it.
-pub(crate) fn advice<'a>(rows: &'a [(&'a [u8], &'a [u8])], name: &[u8]) -> Option<&'a [u8]> {
-    for (list, text) in rows {
-        if has_name(list, name) {
-            return Some(*text);
-        }
+        rest = after?;
     }
     None
 }

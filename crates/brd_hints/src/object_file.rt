@@ -1,55 +1,33 @@
 //! Diagnoses of object files: what the field says at which a fault is found.
 
-use crate::finding::{Finding, told_of_input};
-use crate::hint::Hint;
+use crate::finding::{Finding, told};
+use crate::hint::FaultHint;
+use brd_elf::{ElfFault, half_at, order_of, word_at};
 
-/// What the input is called.
-const OBJECT_FILE: &[u8] = b"the object file";
-
-/// The diagnosis of an object file whose fault is at this offset; `outside` where it is a segment that isn't loaded
-/// where it has to be.
-pub fn object_file_hint(bytes: &[u8], at: usize, outside: bool) -> Hint {
-    let found = if outside {
-        Some(outside_fault(bytes, at))
-    } else {
-        unsupported(bytes, at)
+/// The diagnosis of an object file's fault.
+pub fn object_file_hint(bytes: &[u8], fault: ElfFault) -> FaultHint {
+    let found = match fault {
+        ElfFault::Unsupported { at } => unsupported(bytes, at),
+        ElfFault::Outside { at } => Some(outside_fault(bytes, at)),
+        _ => None,
     };
-    told_of_input(OBJECT_FILE, found)
+    told(b"the object file", None, None, found)
 }
 
-/// The byte at an offset, 0 after the end.
-fn byte_at(bytes: &[u8], at: usize) -> u8 {
-    match bytes.get(at) {
-        Some(byte) => *byte,
-        None => 0,
+/// The halfword at an offset, in the file's byte order; 0 where the file ends before it.
+fn half(bytes: &[u8], at: usize) -> u64 {
+    if bytes.len() < 52 || at > bytes.len() - 2 {
+        return 0;
     }
+    half_at(bytes, at, order_of(bytes)) as u64
 }
 
-/// Whether the file is little-endian: whether its byte 5 is 1 (System V ABI, EI_DATA).
-fn is_little(bytes: &[u8]) -> bool {
-    byte_at(bytes, 5) == 1
-}
-
-/// The halfword at an offset, in the file's byte order.
-pub(crate) fn half_at(bytes: &[u8], at: usize) -> u64 {
-    let first = byte_at(bytes, at) as u64;
-    let second = byte_at(bytes, at.saturating_add(1)) as u64;
-    if is_little(bytes) {
-        second * 256 + first
-    } else {
-        first * 256 + second
+/// The word at an offset, likewise.
+fn word(bytes: &[u8], at: usize) -> u64 {
+    if bytes.len() < 52 || at > bytes.len() - 4 {
+        return 0;
     }
-}
-
-/// The word at an offset, in the file's byte order.
-pub(crate) fn word_at(bytes: &[u8], at: usize) -> u64 {
-    let first = half_at(bytes, at);
-    let second = half_at(bytes, at.saturating_add(2));
-    if is_little(bytes) {
-        second.saturating_mul(65_536).saturating_add(first)
-    } else {
-        first.saturating_mul(65_536).saturating_add(second)
-    }
+    word_at(bytes, at, order_of(bytes)) as u64
 }
 
 /// The machines that are often met, by their numbers.
@@ -75,10 +53,9 @@ fn machine(number: u64) -> &'static [u8] {
 
 /// What isn't supported at this offset.
 fn unsupported<'a>(bytes: &[u8], at: usize) -> Option<Finding<'a>> {
-    let value = byte_at(bytes, at);
-    let half = half_at(bytes, at);
-    let (template, word) = match (at, value, half) {
-        (4, 2, _) => (
+    let half = half(bytes, at);
+    let (template, word) = match (at, bytes.get(at), half) {
+        (4, Some(2), _) => (
             b"it is ELF64, of 64 bits: wanted is ELF32, for MIPS32 (gcc: -march=mips32 -mabi=32)".as_slice(),
             b"".as_slice(),
         ),
@@ -98,7 +75,7 @@ fn unsupported<'a>(bytes: &[u8], at: usize) -> Option<Finding<'a>> {
             b"it is for ~ (machine ?): wanted is MIPS (machine 8), as mips-linux-gnu-gcc makes it".as_slice(),
             machine(half),
         ),
-        _ => (segment_advice(word_at(bytes, at), at)?, b"".as_slice()),
+        _ => (segment_advice(word(bytes, at), at)?, b"".as_slice()),
     };
     Some(Finding::at(&[], template, word).with_number(half))
 }
@@ -118,6 +95,6 @@ fn outside_fault<'a>(bytes: &[u8], at: usize) -> Finding<'a> {
         b"it loads ? bytes to @, outside of 0x80000000 to 0x80ffffff: link it with -T examples/firmware.ld",
         &[],
     )
-    .with_number(word_at(bytes, at.saturating_add(20)))
-    .with_address(word_at(bytes, at.saturating_add(8)))
+    .with_number(word(bytes, at.saturating_add(20)))
+    .with_address(word(bytes, at.saturating_add(8)))
 }

@@ -1,50 +1,69 @@
 //! What is wrong with the operands of a statement.
 
 use crate::finding::Finding;
-use crate::names::has_name;
 use crate::scan::{
     before_comma, behind, behind_commas, count, first, place_of, run, skip_blanks, token, trim_end,
 };
-use crate::values::{is_numeric_label, is_register, is_register_name};
-use brd_text::{is_digit, is_name, is_run_byte, number};
+use crate::statements::Parts;
+use brd_isa::{Mnemonic, ProductOp};
+use brd_source::{Kind, Operation, register_behind, register_of};
+use brd_text::{is_digit, is_letter, is_name, is_run_byte, number};
 
-/// What is wrong with the operands of a word that takes those of a form, and n at least.
+/// Whether an operand of a kind has to be written.
+fn is_needed(kind: Kind) -> bool {
+    !matches!(kind, Kind::Nothing | Kind::Link | Kind::Code)
+}
+
+/// The kind of the operand at a place.
+fn kind_at(kinds: (Kind, Kind, Kind), place: usize) -> Kind {
+    match place {
+        0 => kinds.0,
+        1 => kinds.1,
+        _ => kinds.2,
+    }
+}
+
+/// What is wrong with the operands of a statement that takes those of these kinds, which are told so.
 pub(crate) fn operand_fault<'a>(
-    word: &'a [u8],
-    form: &'a [u8],
-    least: usize,
-    operands: &'a [u8],
+    parts: &Parts<'a>,
+    kinds: (Kind, Kind, Kind),
+    told: &'static [u8],
 ) -> Option<Finding<'a>> {
-    let most = if form.is_empty() {
-        0
-    } else {
-        count(form, b',').saturating_add(1)
-    };
-    let have = if operands.is_empty() {
-        0
-    } else {
-        count(operands, b',').saturating_add(1)
-    };
+    let operands = parts.operands;
+    let most = pieces_of(told);
+    let have = pieces_of(operands);
     if let Some(found) = comma_fault(operands) {
         return Some(found);
     }
+    let least = is_needed(kinds.0) as usize
+        + is_needed(kinds.1) as usize
+        + is_needed(kinds.2) as usize;
     if have < least || have > most {
-        return Some(counted(word, form, have, operands));
+        return Some(counted(parts, told, have));
     }
     for place in 0..have {
-        let kind = before_comma(behind_commas(form, place)?);
+        let name = before_comma(behind_commas(told, place)?);
         let rest = behind_commas(operands, place)?;
-        if let Some(found) = kind_fault(kind, rest) {
+        if let Some(found) = kind_fault(kind_at(kinds, place), name, rest) {
             return Some(found);
         }
     }
     None
 }
 
+/// How many pieces a text has with commas between them.
+fn pieces_of(text: &[u8]) -> usize {
+    if text.is_empty() {
+        0
+    } else {
+        count(text, b',').saturating_add(1)
+    }
+}
+
 /// Too few operands, or too many.
-fn counted<'a>(word: &'a [u8], form: &'a [u8], have: usize, operands: &'a [u8]) -> Finding<'a> {
-    let template = match (form.is_empty(), have) {
-        (_, 3) if has_name(b"div divu", word) => {
+fn counted<'a>(parts: &Parts<'a>, told: &'static [u8], have: usize) -> Finding<'a> {
+    let template = match (told.is_empty(), have) {
+        (_, 3) if is_quotient(parts.operation) => {
             b"~ takes ^, found 3 operands (mflo has the quotient, mfhi the rest)".as_slice()
         }
         (true, _) => b"~ takes no operands, found ?".as_slice(),
@@ -52,9 +71,17 @@ fn counted<'a>(word: &'a [u8], form: &'a [u8], have: usize, operands: &'a [u8]) 
         (_, 1) => b"~ takes ^, found 1 operand".as_slice(),
         _ => b"~ takes ^, found ? operands".as_slice(),
     };
-    Finding::at(operands, template, word)
-        .with_other(form)
+    Finding::at(parts.operands, template, parts.word)
+        .with_other(told)
         .with_number(have as u64)
+}
+
+/// Whether an operation makes a quotient.
+fn is_quotient(operation: Option<Operation>) -> bool {
+    matches!(
+        operation,
+        Some(Operation::Mnemonic(Mnemonic::Product(ProductOp::Div | ProductOp::Divu)))
+    )
 }
 
 /// A comma that is missing, or one too many.
@@ -94,12 +121,12 @@ fn joined<'a>(rest: &'a [u8], piece: &'a [u8]) -> Option<Finding<'a>> {
     ))
 }
 
-/// What is wrong with an operand of this kind, which stands at the front.
-fn kind_fault<'a>(kind: &'a [u8], rest: &'a [u8]) -> Option<Finding<'a>> {
+/// What is wrong with an operand of this kind and name, which stands at the front.
+fn kind_fault<'a>(kind: Kind, name: &'a [u8], rest: &'a [u8]) -> Option<Finding<'a>> {
     let operand = before_comma(rest);
-    let template = match first(kind) {
-        b'r' => register_fault(operand),
-        b'o' => base_fault(operand),
+    let template = match kind {
+        Kind::Register | Kind::Link => register_fault(operand),
+        Kind::Address => base_fault(operand),
         _ => value_fault(operand),
     }?;
     let shown = if first(operand) == b'%' || first(operand) == b'-' {
@@ -107,13 +134,13 @@ fn kind_fault<'a>(kind: &'a [u8], rest: &'a [u8]) -> Option<Finding<'a>> {
     } else {
         token(operand)
     };
-    Some(Finding::at(rest, template, shown).with_other(kind))
+    Some(Finding::at(rest, template, shown).with_other(name))
 }
 
 /// What is wrong with an operand that should be a register.
 fn register_fault(operand: &[u8]) -> Option<&'static [u8]> {
     let (name, after) = run(operand);
-    if is_register(name) {
+    if register_of(name).is_some() {
         return if after.is_empty() {
             None
         } else {
@@ -125,7 +152,7 @@ fn register_fault(operand: &[u8]) -> Option<&'static [u8]> {
             b"~ is no register: there are $0 to $31, and $zero $at $v0 $v1 $a0-$a3 $t0-$t9 $s0-$s8 $k0 $k1 $gp $sp $fp $ra",
         );
     }
-    if is_register_name(name) {
+    if is_letter(first(name)) && register_behind(name).is_some() {
         return Some(b"a register is written with $: $~");
     }
     if first(name) == b'r' || is_digit(first(name)) {
@@ -152,7 +179,7 @@ fn base_fault(operand: &[u8]) -> Option<&'static [u8]> {
     if first(skip_blanks(after)) != b')' {
         return Some(b"a ) is missing behind the base: write offset(base), as 0($t0)");
     }
-    if !is_register(name) {
+    if register_of(name).is_none() {
         return Some(b"the base in ( ) isn't a register: write offset(base), as 0($t0)");
     }
     if first(operand) == b'(' {
@@ -230,9 +257,18 @@ pub(crate) fn values_fault(operands: &[u8]) -> Option<Finding<'_>> {
     }
     for place in 0..count(operands, b',').saturating_add(1) {
         let rest = behind_commas(operands, place)?;
-        if let Some(found) = kind_fault(b"value", rest) {
+        if let Some(found) = kind_fault(Kind::Number, b"value", rest) {
             return Some(found);
         }
     }
     None
+}
+
+/// Whether a run is digits, and then `f` or `b`, as a reference to a numeric label is.
+fn is_numeric_label(word: &[u8]) -> bool {
+    match word {
+        [digit, b'f' | b'b'] => is_digit(*digit),
+        [digit, other, b'f' | b'b'] => is_digit(*digit) && is_digit(*other),
+        _ => false,
+    }
 }

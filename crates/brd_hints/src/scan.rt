@@ -1,5 +1,6 @@
 //! Pieces of a line.
 
+use brd_source::first_token;
 use brd_text::{is_blank, run_len};
 
 /// The first n bytes, and what is after them.
@@ -52,31 +53,17 @@ pub(crate) fn token(text: &[u8]) -> &[u8] {
 
 /// The first byte, or 0 where there is none.
 pub(crate) fn first(text: &[u8]) -> u8 {
-    match text.first() {
-        Some(byte) => *byte,
-        None => 0,
-    }
+    text.first().copied().unwrap_or(0)
 }
 
 /// The place of a byte.
 pub(crate) fn place_of(text: &[u8], wanted: u8) -> Option<usize> {
-    for (i, byte) in text.iter().enumerate() {
-        if *byte == wanted {
-            return Some(i);
-        }
-    }
-    None
+    text.iter().position(|byte| *byte == wanted)
 }
 
 /// How often a byte stands in the text.
 pub(crate) fn count(text: &[u8], wanted: u8) -> usize {
-    let mut count = 0usize;
-    for byte in text {
-        if *byte == wanted {
-            count = count.saturating_add(1);
-        }
-    }
-    count
+    text.iter().filter(|byte| **byte == wanted).count()
 }
 
 /// What is after n commas, without the blanks at its front. `None` where there are fewer.
@@ -109,24 +96,13 @@ pub(crate) fn before_comma(text: &[u8]) -> &[u8] {
 
 /// The code of a line of assembler source: what stands before its comment.
 pub(crate) fn code_of(line: &[u8]) -> &[u8] {
-    let mut quoted = false;
-    let mut escaped = false;
-    let mut slash = false;
-    for (i, byte) in line.iter().enumerate() {
-        let is_slash = !quoted && *byte == b'/';
-        if quoted {
-            quoted = escaped || *byte != b'"';
-            escaped = !escaped && *byte == b'\\';
-        } else if *byte == b'"' {
-            quoted = true;
-        } else if *byte == b'#' {
-            let (front, _) = cut(line, i);
-            return front;
-        } else if is_slash && slash {
-            let (front, _) = cut(line, i.saturating_sub(1));
-            return front;
-        }
-        slash = is_slash;
+    let mut rest = line;
+    for _ in 0..line.len() {
+        let Some((_, after)) = first_token(rest) else {
+            break;
+        };
+        rest = after;
     }
-    line
+    let (code, _) = cut(line, line.len().saturating_sub(skip_blanks(rest).len()));
+    code
 }

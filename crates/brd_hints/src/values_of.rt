@@ -1,72 +1,39 @@
 //! The values of a configuration's statements.
 
-use crate::configuration::allowed_attributes;
 use crate::finding::Finding;
-use crate::names::advice;
-use crate::scan::behind;
-use brd_text::{Scanner, Token, is_name, number};
-
-/// How many statements of a line are looked at.
-const MOST_STATEMENTS: usize = 16;
-
-/// What is wrong with the values of a statement.
-#[derive(Clone, Copy, PartialEq, Eq)]
-pub(crate) enum Problem {
-    Duplicate,
-    Id,
-    Attribute,
-    Priority,
-    Count,
-    Processor,
-}
+use crate::keywords::told_of;
+use brd_base::is_ram_size;
+use brd_config::{
+    ConfigFault, Keyword, attribute_named, class_of, keyword_of, read_board, read_statement,
+};
+use brd_text::{Scanner, Token, number};
+use std::alloc::Global;
 
 /// A statement whose form is right.
 #[derive(Clone, Copy)]
-pub(crate) struct Valued<'a> {
-    /// Its word; nothing after the last statement.
-    pub word: &'a [u8],
+struct Valued<'a> {
+    /// Its word; nothing where it is the end of a class.
+    word: &'a [u8],
     /// Its line.
-    pub line: usize,
+    line: usize,
     /// Its operands in their order: numbers, with the bits of attributes joined; 0 for a name.
-    pub values: [u64; 8],
-    /// The names among them.
-    pub names: [&'a [u8]; 8],
+    values: [u64; 8],
 }
-
-/// The values of the attributes that aren't 0.
-const BITS: &[(&[u8], u64)] = &[
-    (b"TA_ASM", 1),
-    (b"TA_TPRI", 1),
-    (b"TA_ACT", 2),
-    (b"TA_WMUL", 2),
-    (b"TA_CLR", 4),
-];
 
 /// What a run stands for.
 fn value_of(word: &[u8]) -> u64 {
-    for (name, bits) in BITS {
-        if *name == word {
-            return *bits;
-        }
-    }
-    let digits = if word.starts_with(b"TCL_".as_slice()) {
-        behind(word, 4)
-    } else {
-        word
-    };
-    match number(digits) {
+    match attribute_named(word).or(class_of(word)).or(number(word)) {
         Some(value) => value as u64,
         None => 0,
     }
 }
 
-/// The next statement, of no more tokens than this.
-pub(crate) fn next_statement<'a>(scanner: &mut Scanner<'a>, most: usize) -> Valued<'a> {
+/// The next statement of a text of n bytes.
+fn next_statement<'a>(scanner: &mut Scanner<'a>, most: usize) -> Option<Valued<'a>> {
     let mut read = Valued {
         word: &[],
         line: 0,
         values: [0; 8],
-        names: [&[]; 8],
     };
     let mut slot = 0usize;
     for _ in 0..most {
@@ -78,267 +45,164 @@ pub(crate) fn next_statement<'a>(scanner: &mut Scanner<'a>, most: usize) -> Valu
             }
             Token::Run(word) => read.put(slot, word),
             Token::Mark(b',') => slot = slot.saturating_add(1),
-            Token::Mark(b';') => return read,
-            Token::Mark(b'{') if read.word == b"CLASS".as_slice() => return read,
+            Token::Mark(b';') => return Some(read),
+            Token::Mark(b'{') if is_class(read.word) => return Some(read),
+            Token::Mark(b'}') if read.word.is_empty() => return Some(read),
             Token::Mark(_) => {}
-            Token::End | Token::Unclosed => return read,
+            Token::End | Token::Unclosed => return None,
         }
     }
-    read
+    None
+}
+
+/// Whether a word begins a class.
+fn is_class(word: &[u8]) -> bool {
+    matches!(keyword_of(word), Some(Keyword::Class))
 }
 
 impl<'a> Valued<'a> {
     /// Takes a run as the operand of this place, or as another attribute there.
-    fn put(&mut self, slot: usize, word: &'a [u8]) {
+    fn put(&mut self, slot: usize, word: &[u8]) {
         if slot < 8 {
             self.values[slot] |= value_of(word);
-            if is_name(word) {
-                self.names[slot] = word;
-            }
         }
     }
 
     /// The operand of this place.
-    pub(crate) fn value(&self, slot: usize) -> u64 {
+    fn value(&self, slot: usize) -> u64 {
         if slot < 8 { self.values[slot] } else { 0 }
     }
-
-    /// The name of this place; nothing where there is none.
-    pub(crate) fn name(&self, slot: usize) -> &'a [u8] {
-        if slot < 8 { self.names[slot] } else { &[] }
-    }
 }
 
-/// The limits of operands: the statement, the place, the least value and the greatest, what is said.
-const LIMITS: &[(Problem, &[u8], usize, u64, u64, &[u8])] = &[
-    (
-        Problem::Processor,
-        b"BOARD",
-        0,
-        1,
-        8,
-        b"a board has 1 to 8 processors, found ?",
-    ),
-    (
-        Problem::Count,
-        b"BOARD",
-        1,
-        0x1_0000,
-        0x100_0000,
-        b"the RAM of BOARD is 0x10000 to 0x1000000 bytes, in steps of 0x10000, found @",
-    ),
-    (
-        Problem::Id,
-        b"CRE_TSK",
-        0,
-        1,
-        255,
-        b"the ID of ~ is 1 to 255, found ?",
-    ),
-    (
-        Problem::Id,
-        b"CRE_SEM",
-        0,
-        1,
-        255,
-        b"the ID of ~ is 1 to 255, found ?",
-    ),
-    (
-        Problem::Id,
-        b"CRE_FLG",
-        0,
-        1,
-        255,
-        b"the ID of ~ is 1 to 255, found ?",
-    ),
-    (
-        Problem::Id,
-        b"CRE_DTQ",
-        0,
-        1,
-        255,
-        b"the ID of ~ is 1 to 255, found ?",
-    ),
-    (
-        Problem::Id,
-        b"CRE_SPN",
-        0,
-        1,
-        255,
-        b"the ID of ~ is 1 to 255, found ?",
-    ),
-    (
-        Problem::Id,
-        b"DEF_INH",
-        0,
-        0,
-        31,
-        b"the interrupt line of ~ is 0 to 31, found ?",
-    ),
-    (
-        Problem::Attribute,
-        b"CRE_TSK",
-        1,
-        0,
-        3,
-        b"~ has no attribute with the bits of ?: there are ^",
-    ),
-    (
-        Problem::Attribute,
-        b"CRE_SEM",
-        1,
-        0,
-        1,
-        b"~ has no attribute with the bits of ?: there are ^",
-    ),
-    (
-        Problem::Attribute,
-        b"CRE_FLG",
-        1,
-        0,
-        7,
-        b"~ has no attribute with the bits of ?: there are ^",
-    ),
-    (
-        Problem::Attribute,
-        b"CRE_DTQ",
-        1,
-        0,
-        1,
-        b"~ has no attribute with the bits of ?: there are ^",
-    ),
-    (
-        Problem::Attribute,
-        b"CRE_SPN",
-        1,
-        0,
-        0,
-        b"~ has no attribute with the bits of ?: there are ^",
-    ),
-    (
-        Problem::Attribute,
-        b"DEF_INH",
-        1,
-        0,
-        1,
-        b"~ has no attribute with the bits of ?: there are ^",
-    ),
-    (
-        Problem::Priority,
-        b"CRE_TSK",
-        4,
-        1,
-        16,
-        b"the priority of a task is 1 (highest) to 16, found ?",
-    ),
-    (
-        Problem::Count,
-        b"CRE_TSK",
-        5,
-        1,
-        0xffff_ffff,
-        b"the stack size of a task is in bytes and not 0",
-    ),
-    (
-        Problem::Count,
-        b"CRE_SEM",
-        3,
-        1,
-        65_535,
-        b"the maximum of a semaphore is 1 to 65535, found ?",
-    ),
-    (
-        Problem::Count,
-        b"CRE_DTQ",
-        2,
-        0,
-        256,
-        b"the capacity of a data queue is 0 to 256, found ?",
-    ),
-];
-
-/// What is wrong with the values of a statement that begins on this line.
-pub(crate) fn value_fault(text: &[u8], line: usize, problem: Problem) -> Option<Finding<'_>> {
-    let mut scanner = Scanner::new(text);
-    let mut processors = 0u64;
-    let mut tried = 0usize;
-    for before in 0..text.len() {
-        let read = next_statement(&mut scanner, text.len());
-        if read.word.is_empty() || read.line > line || tried > MOST_STATEMENTS {
-            return None;
-        }
-        if read.line == line {
-            tried = tried.saturating_add(1);
-            let found = if problem == Problem::Duplicate {
-                duplicate(text, before, &read)
-            } else {
-                out_of_limits(&read, problem).or(other_limit(&read, problem, processors))
-            };
-            if found.is_some() {
-                return found;
-            }
-        }
-        if processors == 0 {
-            processors = read.value(0);
-        }
-    }
-    None
-}
-
-/// The first operand of a statement that isn't within its limits.
-fn out_of_limits<'a>(read: &Valued<'a>, problem: Problem) -> Option<Finding<'a>> {
-    for (of, word, slot, least, most, template) in LIMITS {
-        let value = read.value(*slot);
-        if *of == problem && *word == read.word && (value < *least || value > *most) {
-            return Some(
-                Finding::at(&[], template, read.word)
-                    .with_number(value)
-                    .with_address(value)
-                    .with_other(allowed_attributes(read.word)),
-            );
-        }
-    }
-    None
-}
-
-/// What no limit of a single operand says.
-fn other_limit<'a>(read: &Valued<'a>, problem: Problem, processors: u64) -> Option<Finding<'a>> {
-    let (template, number, second) = match problem {
-        Problem::Count if read.word == b"BOARD".as_slice() => (
-            b"the RAM of BOARD comes in steps of 0x10000, found @".as_slice(),
-            0,
-            0,
-        ),
-        Problem::Count if read.word == b"CRE_SEM".as_slice() => (
-            b"the initial count of a semaphore is at most its maximum &, found ?".as_slice(),
-            read.value(2),
-            read.value(3),
-        ),
-        Problem::Processor => (
-            b"there is no processor ?: BOARD has &".as_slice(),
-            read.value(0),
-            processors,
-        ),
-        _ => return None,
+/// How many statements come before the first that can't stand there, and the number of processors.
+fn before_fault(alloc: Global, text: &[u8]) -> Option<(usize, u64)> {
+    let mut tokens = Scanner::new(text);
+    let mut draft = match read_board(alloc, &mut tokens) {
+        Ok(draft) => draft,
+        Err(ConfigFault::NoMemory) => return None,
+        Err(_) => return Some((0, 0)),
     };
+    for before in 1..usize::MAX {
+        match read_statement(alloc, &mut draft, &mut tokens) {
+            Ok(true) => {}
+            Ok(false) | Err(ConfigFault::NoMemory) => return None,
+            Err(_) => return Some((before, draft.processors as u64)),
+        }
+    }
+    None
+}
+
+/// What is wrong with the values of the first statement of a text that can't stand there.
+pub(crate) fn value_fault(alloc: Global, text: &[u8], fault: ConfigFault) -> Option<Finding<'_>> {
+    let (before, processors) = before_fault(alloc, text)?;
+    let mut scanner = Scanner::new(text);
+    for _ in 0..before {
+        next_statement(&mut scanner, text.len())?;
+    }
+    let read = next_statement(&mut scanner, text.len())?;
+    let keyword = keyword_of(read.word)?;
+    if matches!(fault, ConfigFault::Duplicate { .. }) {
+        return duplicate(text, before, &read, keyword);
+    }
+    let (slot, template) = limit_of(fault, keyword, &read)?;
+    let is_semaphore = matches!(keyword, Keyword::Semaphore);
     Some(
         Finding::at(&[], template, read.word)
-            .with_number(number)
-            .with_second(second)
-            .with_address(read.value(1)),
+            .with_number(read.value(slot))
+            .with_second(if is_semaphore {
+                read.value(3)
+            } else {
+                processors
+            })
+            .with_address(read.value(slot))
+            .with_other(told_of(keyword).attributes),
     )
 }
 
+/// The operand of a statement that has this fault, and what is said of it.
+fn limit_of(fault: ConfigFault, keyword: Keyword, read: &Valued) -> Option<(usize, &'static [u8])> {
+    let (slot, template) = match (fault, keyword) {
+        (ConfigFault::BadProcessor { .. }, Keyword::Board) => {
+            (0, b"a board has 1 to 8 processors, found ?".as_slice())
+        }
+        (ConfigFault::BadProcessor { .. }, _) => (
+            0,
+            b"there is no processor ?: BOARD has &".as_slice(),
+        ),
+        (ConfigFault::BadId { .. }, Keyword::Handler) => {
+            (0, b"the interrupt line of ~ is 0 to 31, found ?".as_slice())
+        }
+        (ConfigFault::BadId { .. }, _) => (0, b"the ID of ~ is 1 to 255, found ?".as_slice()),
+        (ConfigFault::BadAttribute { .. }, _) => {
+            (
+                1,
+                b"~ has no attribute with the bits of ?: there are ^".as_slice(),
+            )
+        }
+        (ConfigFault::BadPriority { .. }, _) => {
+            (
+                4,
+                b"the priority of a task is 1 (highest) to 16, found ?".as_slice(),
+            )
+        }
+        (ConfigFault::BadCount { .. }, Keyword::Board) => (1, ram_advice(read.value(1))),
+        (ConfigFault::BadCount { .. }, Keyword::Task) => {
+            (
+                5,
+                b"the stack size of a task is in bytes and not 0".as_slice(),
+            )
+        }
+        (ConfigFault::BadCount { .. }, Keyword::Semaphore) if is_maximum(read.value(3)) => {
+            (
+                2,
+                b"the initial count of a semaphore is at most its maximum &, found ?".as_slice(),
+            )
+        }
+        (ConfigFault::BadCount { .. }, Keyword::Semaphore) => {
+            (
+                3,
+                b"the maximum of a semaphore is 1 to 65535, found ?".as_slice(),
+            )
+        }
+        (ConfigFault::BadCount { .. }, Keyword::Queue) => {
+            (
+                2,
+                b"the capacity of a data queue is 0 to 256, found ?".as_slice(),
+            )
+        }
+        _ => return None,
+    };
+    Some((slot, template))
+}
+
+/// What is said of a size that RAM can't have.
+fn ram_advice(size: u64) -> &'static [u8] {
+    if is_ram_size((size / 0x1_0000 * 0x1_0000 % 0x1_0000_0000) as u32) {
+        b"the RAM of BOARD comes in steps of 0x10000, found @"
+    } else {
+        b"the RAM of BOARD is 0x10000 to 0x1000000 bytes, in steps of 0x10000, found @"
+    }
+}
+
+/// Whether a semaphore can have a maximum.
+fn is_maximum(maximum: u64) -> bool {
+    maximum != 0 && maximum <= u16::MAX as u64
+}
+
 /// What is defined for the second time, where n statements stand before it.
-fn duplicate<'a>(text: &[u8], statements: usize, again: &Valued<'a>) -> Option<Finding<'a>> {
+fn duplicate<'a>(
+    text: &[u8],
+    before: usize,
+    again: &Valued<'a>,
+    keyword: Keyword,
+) -> Option<Finding<'a>> {
     let mut scanner = Scanner::new(text);
-    for _ in 0..statements {
-        let read = next_statement(&mut scanner, text.len());
-        let is_board = again.word == b"BOARD".as_slice();
+    let is_board = matches!(keyword, Keyword::Board);
+    for _ in 0..before {
+        let read = next_statement(&mut scanner, text.len())?;
         if read.word == again.word && (is_board || read.value(0) == again.value(0)) {
-            let template = advice(KINDS, again.word)?;
             return Some(
-                Finding::at(&[], template, again.word)
+                Finding::at(&[], told_of(keyword).again, again.word)
                     .with_number(again.value(0))
                     .with_second(read.line as u64),
             );
@@ -347,16 +211,16 @@ fn duplicate<'a>(text: &[u8], statements: usize, again: &Valued<'a>) -> Option<F
     None
 }
 
-/// What is said of what is there already.
-const KINDS: &[(&[u8], &[u8])] = &[
-    (b"BOARD", b"BOARD comes once, and stands on line & already"),
-    (b"CRE_TSK", b"task ? is there already, on line &"),
-    (b"CRE_SEM", b"semaphore ? is there already, on line &"),
-    (b"CRE_FLG", b"event flag ? is there already, on line &"),
-    (b"CRE_DTQ", b"data queue ? is there already, on line &"),
-    (b"CRE_SPN", b"spin lock ? is there already, on line &"),
-    (
-        b"DEF_INH",
-        b"interrupt line ? has a handler already, on line &",
-    ),
-];
+/// The line of the statement of this word and with this ID; 0 where there is none.
+pub(crate) fn line_of(text: &[u8], word: &[u8], id: u64) -> u64 {
+    let mut scanner = Scanner::new(text);
+    for _ in 0..text.len() {
+        let Some(read) = next_statement(&mut scanner, text.len()) else {
+            return 0;
+        };
+        if read.word == word && read.value(0) == id {
+            return read.line as u64;
+        }
+    }
+    0
+}

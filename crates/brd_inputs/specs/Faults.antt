@@ -15,7 +15,9 @@ use Rattle.brd_inputs.specs.Excerpt.{name_excerpt}
 use Rattle.brd_inputs.specs.FileKinds.{build_looks_like, journal_looks_like, script_looks_like}
 use Rattle.brd_inputs.specs.declared.input_name.InputName.{InputName}
 use Rattle.brd_inputs.specs.declared.fault.CommandFault.{CommandFault}
-use Rattle.brd_inputs.specs.declared.fault.CommandFault.TheVariants.{NoMemory, Argument, Words, Source, ImageTooLarge, Open, Read, TooLong, TooManyReads, Build, Journal, OtherOrder, Script, Race, Trace, Schedule, Write}
+use Rattle.brd_inputs.specs.declared.fault.CommandFault.TheVariants.{NoMemory, Argument, Words, Source, ImageTooLarge}
+use Rattle.brd_inputs.specs.declared.fault.CommandFault.TheVariants.{Open, Read, TooLong, TooManyReads, Build, Journal}
+use Rattle.brd_inputs.specs.declared.fault.CommandFault.TheVariants.{OtherOrder, Script, Race, Trace, Schedule, Write}
 
 -- the status that the program ends with
 abbrev pub status_of : CommandFault → ℕ
@@ -51,7 +53,8 @@ IsOfOpen name error _ = ⊥
 
 -- the fault of a board of an object file and a configuration: that memory ran out stands alone
 abbrev pub of_build : List ℕ → List ℕ → BuildFault → CommandFault
-of_build image config fault = if build.is_no_memory fault then NoMemory else Build fault (build_looks_like image config fault)
+of_build image config fault =
+    if build.is_no_memory fault then NoMemory else Build fault (build_looks_like image config fault)
 
 -- the fault of a journal's text, likewise
 abbrev pub of_journal : List ℕ → JournalFault → CommandFault

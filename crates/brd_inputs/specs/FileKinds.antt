@@ -1,5 +1,6 @@
 -- What a file looks like by its front, and which faults of its form say so (own choice).
-use Rattle.std.specs.Prelude.{ℕ, Bool, nat_eq, nat_le, ◌&&◌, ◌||◌, ◌==◌, if◌then◌else◌, List, length, take, codes, Option, Some, None, option_and_then}
+use Rattle.std.specs.Prelude.{ℕ, Bool, nat_eq, nat_le, ◌&&◌, ◌||◌, ◌==◌, if◌then◌else◌, List, length, take, codes}
+use Rattle.std.specs.Prelude.{Option, Some, None, option_and_then}
 use Rattle.std.specs.List.{starts_with, list_all}
 use Rattle.brd_text.specs.Bytes.{is_blank}
 use Rattle.brd_text.specs.Tokens.{first, tokens_of}
@@ -16,7 +17,8 @@ use Rattle.brd_journal.specs.declared.fault.JournalFault.TheVariants as journal_
 use Rattle.brd_threads.specs.declared.fault.ScriptFault.{ScriptFault}
 use Rattle.brd_threads.specs.declared.fault.ScriptFault.TheVariants as script_fault
 use Rattle.brd_inputs.specs.declared.file_kind.FileKind.{FileKind}
-use Rattle.brd_inputs.specs.declared.file_kind.FileKind.TheVariants.{ObjectFile, Configuration, Journal, Script, Source, Empty}
+use Rattle.brd_inputs.specs.declared.file_kind.FileKind.TheVariants.{ObjectFile, Configuration, Journal, Script, Source}
+use Rattle.brd_inputs.specs.declared.file_kind.FileKind.TheVariants.{Empty}
 
 -- the first word, after blanks and comments, is BOARD
 abbrev pub begins_with_board : List ℕ → Bool

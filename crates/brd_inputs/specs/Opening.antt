@@ -1,5 +1,5 @@
--- Which files a command over a board opens, and in which order. `opened` says what a call on files did: the files before,
--- a name, what the call gave, and the files after.
+-- Which files a command over a board opens, and in which order. `opened` says what a call on files did: the files
+-- before, a name, what the call gave, and the files after.
 use Rattle.std.specs.Prelude.{◌≡◌, ℕ, List, Result, Ok, Err, IsErrAnd}
 use Rattle.std.specs.declared.io.Error.{Error}
 use Rattle.brd_inputs.specs.Faults.{IsOfOpen}
@@ -13,13 +13,16 @@ pub data OpensInputs {F R : Type 0} (opened : F → List ℕ → Result R Error 
   no_image : {error : Error} → opened old image (Err error) new → IsErrAnd result (IsOfOpen image error) →
       OpensInputs opened old image config last result new
   no_config : {between : F} {reader : R} {error : Error} →
-      opened old image (Ok reader) between → opened between config (Err error) new → IsErrAnd result (IsOfOpen config error) →
+      opened old image (Ok reader) between → opened between config (Err error) new →
+      IsErrAnd result (IsOfOpen config error) →
       OpensInputs opened old image config last result new
   no_last : {first second : F} {of_image of_config : R} {error : Error} →
-      opened old image (Ok of_image) first → opened first config (Ok of_config) second → opened second last (Err error) new →
+      opened old image (Ok of_image) first → opened first config (Ok of_config) second →
+      opened second last (Err error) new →
       IsErrAnd result (IsOfOpen last error) →
       OpensInputs opened old image config last result new
   all : {first second : F} {inputs : Inputs R} →
-      opened old image (Ok inputs.image) first → opened first config (Ok inputs.config) second → opened second last (Ok inputs.last) new →
+      opened old image (Ok inputs.image) first → opened first config (Ok inputs.config) second →
+      opened second last (Ok inputs.last) new →
       result ≡ Ok inputs →
       OpensInputs opened old image config last result new

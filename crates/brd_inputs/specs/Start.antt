@@ -18,7 +18,8 @@ use Rattle.brd_threads.specs.declared.fault.ScriptFault.TheVariants as script_fa
 use Rattle.brd_inputs.specs.FileKinds.{build_looks_like, journal_looks_like, script_looks_like}
 use Rattle.brd_inputs.specs.Input.{most_bytes}
 use Rattle.brd_inputs.specs.declared.fault.CommandFault.{CommandFault}
-use Rattle.brd_inputs.specs.declared.fault.CommandFault.TheVariants.{NoMemory, Read, TooLong, TooManyReads, Build, Journal, OtherOrder, Script}
+use Rattle.brd_inputs.specs.declared.fault.CommandFault.TheVariants.{NoMemory, Read, TooLong, TooManyReads, Build}
+use Rattle.brd_inputs.specs.declared.fault.CommandFault.TheVariants.{Journal, OtherOrder, Script}
 use Rattle.brd_inputs.specs.declared.input_name.InputName.{InputName}
 use Rattle.brd_inputs.specs.declared.input_name.InputName.TheVariants as input_name
 use Rattle.brd_inputs.specs.declared.inputs.Texts.{Texts}
@@ -71,14 +72,17 @@ pub record AreRead (image config text : List ℕ) (texts : Texts) : Type 0 where
 -- looks.
 abbrev pub KeepsFromMaking : InputName → List ℕ → List ℕ → List ℕ → CommandFault → Type 0
 KeepsFromMaking last image config text NoMemory = Unit {0}
-KeepsFromMaking last image config text (Build fault kind) = (loaded image config ≡ Err fault) × (fault ≢ build_fault.NoMemory) × (kind ≡ build_looks_like image config fault)
+KeepsFromMaking last image config text (Build fault kind) =
+    (loaded image config ≡ Err fault) × (fault ≢ build_fault.NoMemory) × (kind ≡ build_looks_like image config fault)
 KeepsFromMaking last image config text (Journal fault kind) =
-    (last ≡ input_name.Journal) × (board : BoardState) × (loaded image config ≡ Ok board) × (journal_of most_runs text ≡ Err fault) × (fault ≢ journal_fault.NoMemory)
+    (last ≡ input_name.Journal) × (board : BoardState) × (loaded image config ≡ Ok board)
+    × (journal_of most_runs text ≡ Err fault) × (fault ≢ journal_fault.NoMemory)
     × (kind ≡ journal_looks_like text fault)
 KeepsFromMaking last image config text (OtherOrder order) =
     (last ≡ input_name.Journal) × AreOfOtherOrders image config text order
 KeepsFromMaking last image config text (Script fault kind) =
-    (last ≡ input_name.Script) × (board : BoardState) × (loaded image config ≡ Ok board) × (script_of text ≡ Err fault) × (fault ≢ script_fault.NoMemory)
+    (last ≡ input_name.Script) × (board : BoardState) × (loaded image config ≡ Ok board) × (script_of text ≡ Err fault)
+    × (fault ≢ script_fault.NoMemory)
     × (kind ≡ script_looks_like text fault)
 KeepsFromMaking last image config text _ = ⊥
 
@@ -96,17 +100,23 @@ length_of image config text input = length text
 
 -- the input of this name is one of the three, those before it were read, and it is longer than an input may be
 abbrev pub IsTooLong : InputName → List ℕ → List ℕ → List ℕ → InputName → Type 0
-IsTooLong last image config text input = IsReached last image config input × (most_bytes < length_of image config text input)
+IsTooLong last image config text input =
+    IsReached last image config input × (most_bytes < length_of image config text input)
 
 -- Why three inputs give no start: the first of them that can't be read whole; or all were read, and what they say gives
 -- none.
 abbrev pub KeepsFromStarting : InputName → List ℕ → List ℕ → List ℕ → CommandFault → Type 0
 KeepsFromStarting last image config text NoMemory = Unit {0}
-KeepsFromStarting last image config text (Read input error) = IsReached last image config input × (error_kind error ≢ OutOfMemory)
+KeepsFromStarting last image config text (Read input error) =
+    IsReached last image config input × (error_kind error ≢ OutOfMemory)
 KeepsFromStarting last image config text (TooLong input) = IsTooLong last image config text input
 KeepsFromStarting last image config text (TooManyReads input) = IsReached last image config input
-KeepsFromStarting last image config text (Build fault kind) = AreWithin image config text × KeepsFromMaking last image config text (Build fault kind)
-KeepsFromStarting last image config text (Journal fault kind) = AreWithin image config text × KeepsFromMaking last image config text (Journal fault kind)
-KeepsFromStarting last image config text (OtherOrder order) = AreWithin image config text × KeepsFromMaking last image config text (OtherOrder order)
-KeepsFromStarting last image config text (Script fault kind) = AreWithin image config text × KeepsFromMaking last image config text (Script fault kind)
+KeepsFromStarting last image config text (Build fault kind) =
+    AreWithin image config text × KeepsFromMaking last image config text (Build fault kind)
+KeepsFromStarting last image config text (Journal fault kind) =
+    AreWithin image config text × KeepsFromMaking last image config text (Journal fault kind)
+KeepsFromStarting last image config text (OtherOrder order) =
+    AreWithin image config text × KeepsFromMaking last image config text (OtherOrder order)
+KeepsFromStarting last image config text (Script fault kind) =
+    AreWithin image config text × KeepsFromMaking last image config text (Script fault kind)
 KeepsFromStarting last image config text _ = ⊥

@@ -4,7 +4,7 @@ ghost use Rattle.std.specs.Prelude.{◌≡◌};
 
 use crate::excerpt::Excerpt;
 use crate::file_kind::{FileKind, looks};
-use brd_hints::Hint;
+use brd_hints::FaultHint;
 use std::fmt::{self, Display};
 use std::marker::Model;
 
@@ -13,7 +13,7 @@ use std::marker::Model;
 #[derive(Debug, Drop)]
 pub struct Clue {
     kind: Option<FileKind>,
-    hint: Hint,
+    hint: FaultHint,
 }
 
 impl Model for Clue {
@@ -27,7 +27,7 @@ impl Model for Clue {
 
 impl Clue {
     /// The kind, and the diagnosis.
-    pub fn new(kind: Option<FileKind>, hint: Hint) -> Self
+    pub fn new(kind: Option<FileKind>, hint: FaultHint) -> Self
         ensures { result ≡ kind }
     {
         Clue { kind, hint }

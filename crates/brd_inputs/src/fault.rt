@@ -6,7 +6,7 @@ ghost use Rattle.brd_inputs.specs.declared.file_kind.FileKind.TheVariants.{Scrip
 ghost use Rattle.brd_inputs.specs.declared.fault.CommandFault.TheVariants.{NoMemory as no_memory};
 
 use crate::clue::{Clue, told_fault, told_of_line};
-use crate::diagnosis::{build_hint, journal_fault_hint, script_fault_hint};
+use crate::diagnosis::{build_hint, script_fault_hint};
 use crate::excerpt::Excerpt;
 use crate::file_kind::{FileKind, other_kind};
 use crate::input_name::InputName;
@@ -17,6 +17,7 @@ use brd_asm::AsmFault;
 use brd_base::NoMemory;
 use brd_config::ConfigFault;
 use brd_elf::ElfFault;
+use brd_hints::journal_hint;
 use brd_image::BuildFault;
 use brd_journal::JournalFault;
 use brd_threads::{RaceFault, ScriptFault};
@@ -82,7 +83,8 @@ pub enum CommandFault {
 }
 
 impl CommandFault {
-    ghost use Rattle.brd_inputs.specs.Faults.{status_of, IsOfRead, IsOfOpen, IsOfArguments, of_build, of_journal, of_race, of_script};
+    ghost use Rattle.brd_inputs.specs.Faults.{status_of, IsOfRead, IsOfOpen, IsOfArguments, of_build, of_journal};
+    ghost use Rattle.brd_inputs.specs.Faults.{of_race, of_script};
 
     /// The fault of a read of an input that failed: lack of memory, or the error itself.
     pub fn of_read(input: InputName, error: io::Error) -> Self
@@ -119,23 +121,23 @@ impl CommandFault {
 
     /// The fault of an object file and a configuration that make no board: lack of memory, or the fault itself, and the
     /// other kind of which the faulty one looks.
-    pub fn of_build(fault: BuildFault, image: &[u8], config: &[u8]) -> Self
+    pub fn of_build(alloc: Global, fault: BuildFault, image: &[u8], config: &[u8]) -> Self
         ensures { result ≡ of_build image.now config.now fault }
     {
         match fault {
             BuildFault::NoMemory => CommandFault::NoMemory,
-            _ => CommandFault::Build(fault, build_clue(fault, image, config)),
+            _ => CommandFault::Build(fault, build_clue(alloc, fault, image, config)),
         }
     }
 
     /// The fault of a text that is no journal: lack of memory, or the fault itself, and the other kind of which the
     /// text looks.
-    pub fn of_journal(fault: JournalFault, text: &[u8]) -> Self
+    pub fn of_journal(alloc: Global, fault: JournalFault, text: &[u8]) -> Self
         ensures { result ≡ of_journal text.now fault }
     {
         match fault {
             JournalFault::NoMemory => CommandFault::NoMemory,
-            _ => CommandFault::Journal(fault, journal_clue(fault, text)),
+            _ => CommandFault::Journal(fault, journal_clue(alloc, fault, text)),
         }
     }
 
@@ -228,19 +230,19 @@ fn journal_looks_like(fault: JournalFault, text: &[u8]) -> Option<FileKind>
 
 /// What is said beside the fault of an object file and a configuration: the other kind of which the faulty one looks,
 /// and the diagnosis.
-fn build_clue(fault: BuildFault, image: &[u8], config: &[u8]) -> Clue
+fn build_clue(alloc: Global, fault: BuildFault, image: &[u8], config: &[u8]) -> Clue
     ensures { result ≡ kinds.build_looks_like image.now config.now fault }
 {
     let kind = build_looks_like(fault, image, config);
-    Clue::new(kind, build_hint(fault, image, config))
+    Clue::new(kind, build_hint(alloc, fault, image, config))
 }
 
 /// What is said beside the fault of a journal, likewise.
-fn journal_clue(fault: JournalFault, text: &[u8]) -> Clue
+fn journal_clue(alloc: Global, fault: JournalFault, text: &[u8]) -> Clue
     ensures { result ≡ kinds.journal_looks_like text.now fault }
 {
     let kind = journal_looks_like(fault, text);
-    Clue::new(kind, journal_fault_hint(fault, text))
+    Clue::new(kind, journal_hint(alloc, text, fault))
 }
 
 /// What is said beside the fault of a script, likewise.

@@ -1,5 +1,5 @@
-//! What the commands of the program `board` read: files that are opened by their names, inputs that are read whole, what
-//! a command over a board starts with, and the faults with which a command ends.
+//! What the commands of the program `board` read: files that are opened by their names, inputs that are read whole,
+//! what a command over a board starts with, and the faults with which a command ends.
 //!
 //! `specs/Opening.antt` says which files are opened, and in which order; `specs/Input.antt` and `specs/Start.antt` what
 //! is read, and what keeps it from that; `specs/Faults.antt` the status of each fault.
@@ -20,8 +20,8 @@ mod start;
 mod trace_fault;
 mod words_fault;
 
+pub use brd_hints::source_hint;
 pub use clue::Clue;
-pub use diagnosis::source_fault_hint;
 pub use excerpt::Excerpt;
 pub use fault::CommandFault;
 pub use file_kind::{FileKind, other_kind};

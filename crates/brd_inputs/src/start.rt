@@ -69,11 +69,11 @@ fn make_start(alloc: Global, texts: &Texts) -> Result<Start, CommandFault>
         config,
     } = match load_with_parts(alloc, &texts.image, &texts.config) {
         Ok(loaded) => loaded,
-        Err(fault) => return Err(CommandFault::of_build(fault, &texts.image, &texts.config)),
+        Err(fault) => return Err(CommandFault::of_build(alloc, fault, &texts.image, &texts.config)),
     };
     let journal = match read_text(alloc, &texts.last, MOST_RUNS) {
         Ok(journal) => journal,
-        Err(fault) => return Err(CommandFault::of_journal(fault, &texts.last)),
+        Err(fault) => return Err(CommandFault::of_journal(alloc, fault, &texts.last)),
     };
     if journal.order() != board.order() {
         return Err(CommandFault::OtherOrder(board.order()));
@@ -115,7 +115,7 @@ fn make_race_start(alloc: Global, texts: &Texts) -> Result<RaceStart, CommandFau
         config,
     } = match load_with_parts(alloc, &texts.image, &texts.config) {
         Ok(loaded) => loaded,
-        Err(fault) => return Err(CommandFault::of_build(fault, &texts.image, &texts.config)),
+        Err(fault) => return Err(CommandFault::of_build(alloc, fault, &texts.image, &texts.config)),
     };
     let script = match read_script(alloc, &texts.last) {
         Ok(script) => script,
