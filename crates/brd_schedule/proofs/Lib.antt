@@ -1,1 +1,2 @@
 mod MadeLemmas
+pub mod StepLemmas

@@ -1,7 +1,12 @@
--- Which lists of events a plan allows (own choice). Events are counted from 1.
-use Rattle.std.specs.Prelude.{◌≡◌, ℕ, ◌+◌, ◌%◌, ◌==◌, ◌≤◌, ◌<◌, nat_lt, ◌&&◌, if◌then◌else◌, List, [], ◌∷◌, length, Option, None, Some, MatchOption}
+-- Which lists of events a plan allows, and which it makes (own choice). Events are counted from 1.
+use Rattle.std.specs.Prelude.{◌≡◌, ℕ, zero, suc, ◌+◌, ◌%◌, ◌==◌, ◌≤◌, ◌<◌, nat_lt, ◌&&◌, if◌then◌else◌, List, []}
+use Rattle.std.specs.Prelude.{◌∷◌, ◌++◌, length, Option, None, Some, is_none, unwrap_or, MatchOption}
 use Rattle.brd_board.specs.declared.event.Event.{Event}
 use Rattle.brd_board.specs.declared.event.Event.TheVariants.{Step, Tick, Raise}
+use Rattle.brd_journal.specs.Journal.{most_runs}
+use Rattle.brd_journal.specs.declared.fault.JournalFault.{JournalFault}
+use Rattle.brd_journal.specs.declared.fault.JournalFault.TheVariants.{Full, NoMemory, Syntax}
+use Rattle.brd_schedule.specs.Steps.{stepper}
 use Rattle.brd_schedule.specs.declared.plan.Plan.{Plan}
 use Rattle.brd_schedule.specs.declared.plan.Raise as asked
 
@@ -35,3 +40,27 @@ ArePlanned plan number (event ∷ events) = IsPlanned plan number event × ArePl
 -- the events of a plan: as many as it asks for, each a raise, a tick or a step as it says
 abbrev pub IsMade : Plan → List Event → Type 0
 IsMade plan events = (length events ≡ plan.events) × ArePlanned plan 1 events
+
+-- one step more, where the event of this number is a step
+abbrev pub steps_on : Plan → ℕ → ℕ → ℕ
+steps_on plan number steps = if is_none (fixed plan number) then steps + 1 else steps
+
+-- how many of the first n events are steps
+abbrev pub steps_among : Plan → ℕ → ℕ
+steps_among plan zero = 0
+steps_among plan (suc n) = steps_on plan (suc n) (steps_among plan n)
+
+-- the event of this number, before which there are n steps
+abbrev pub event_of : Plan → ℕ → ℕ → Event
+event_of plan steps number = unwrap_or (fixed plan number) (Step (stepper plan steps))
+
+-- the first n events of a plan
+abbrev pub made : Plan → ℕ → List Event
+made plan zero = []
+made plan (suc n) = made plan n ++ event_of plan (steps_among plan n) (suc n) ∷ []
+
+-- Why a plan can't be made: memory ran out, or its events need more runs than a journal may have, and so are more.
+abbrev pub EndsMaking : Plan → JournalFault → Type 0
+EndsMaking plan NoMemory = Unit {0}
+EndsMaking plan Full = most_runs < plan.events
+EndsMaking plan (Syntax line) = ⊥

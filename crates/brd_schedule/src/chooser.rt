@@ -1,6 +1,8 @@
 //! Who takes the next step.
 
-ghost use Rattle.std.specs.Prelude.{◌≤◌};
+ghost use Rattle.std.specs.Prelude.{◌≡◌, ◌+◌, ◌≤◌, IfOk};
+ghost use Rattle.brd_schedule.specs.Steps as step;
+ghost use Rattle.brd_schedule.specs.Steps.{IsBefore, stepper};
 
 use crate::drawn::Drawn;
 use crate::lowered::Lowered;
@@ -21,39 +23,47 @@ pub(crate) enum Chooser {
 
 impl Chooser {
     /// The rule of a plan, before the first step.
-    pub(crate) fn new(alloc: Global, plan: &Plan) -> Result<Self, NoMemory> {
+    #[tactic(auto, unfolding(crate::specs::Steps::drawn_before, crate::specs::Steps::priorities_before))]
+    pub(crate) fn new(alloc: Global, plan: &Plan) -> Result<Self, NoMemory>
+        ensures { IfOk result (IsBefore plan.now 0) }
+    {
         match plan.rule {
-            Rule::InTurns { each } => Ok(Chooser::Turns(each.max(1))),
+            Rule::InTurns { each } => Ok(Chooser::Turns(each)),
             Rule::Drawn {
                 seed,
                 switch,
                 weights,
             } => Ok(Chooser::Drawn(Drawn::new(seed, switch, weights))),
             Rule::Lowered { seed, changes } => {
-                let lowered = Lowered::new(alloc, seed, changes, plan.events)?;
-                Ok(Chooser::Lowered(lowered))
+                match Lowered::new(alloc, seed, changes, plan.events) {
+                    Ok(lowered) => Ok(Chooser::Lowered(lowered)),
+                    Err(fault) => Err(fault),
+                }
             }
         }
     }
 
-    /// The processor, one of n, that takes the step after m others.
-    pub(crate) fn next(&mut self, cpus: u8, steps: u32) -> u8
-        requires { 1 ≤ cpus }
-        ensures least { 1 ≤ result }
-        ensures most { result ≤ cpus }
+    /// The processor that takes the step after n others, by the rule of this plan.
+    #[tactic(auto, unfolding(crate::specs::Steps::stepper, crate::specs::Steps::drawn_before, crate::specs::Steps::priorities_before))]
+    pub(crate) fn next(&mut self, plan: &Plan, steps: u32) -> u8
+        requires cpus { 1 ≤ plan.now.cpus }
+        requires before { IsBefore plan.now steps self.old }
+        ensures is { result ≡ stepper plan.now steps }
+        ensures after { IsBefore plan.now (steps + 1) self.new }
     {
         let chosen = match self {
-            Chooser::Turns(each) => turn(cpus, *each, steps),
+            Chooser::Turns(each) => turn(plan.cpus, *each, steps),
             Chooser::Drawn(drawn) => drawn.next(),
-            Chooser::Lowered(lowered) => lowered.next(cpus, steps),
+            Chooser::Lowered(lowered) => lowered.next(plan.cpus, steps),
         };
-        within(chosen, cpus)
+        within(chosen, plan.cpus)
     }
 }
 
 /// Whose turn it is after n steps, of which each processor takes m.
 fn turn(cpus: u8, each: u32, steps: u32) -> u8
     requires { 1 ≤ cpus }
+    ensures { result ≡ step.turn cpus each steps }
 {
     let turns = steps / each.max(1);
     (turns % cpus as u32) as u8 + 1
@@ -62,11 +72,7 @@ fn turn(cpus: u8, each: u32, steps: u32) -> u8
 /// One of n processors.
 fn within(cpu: u8, cpus: u8) -> u8
     requires { 1 ≤ cpus }
-    ensures least { 1 ≤ result }
-    ensures most { result ≤ cpus }
+    ensures { result ≡ step.within cpus cpu }
 {
-    if cpu == 0 {
-        return 1;
-    }
-    cpu.min(cpus)
+    cpu.max(1).min(cpus)
 }

@@ -1,7 +1,7 @@
 //! Journals that are made by a rule: who takes the next step, and when a tick or an interrupt line comes.
 //!
-//! `specs/Schedule.antt` says which lists of events a plan allows. Who takes a step is the rule's own: in turns, drawn
-//! at random, or by priorities that are lowered at random places. The same plan gives the same journal.
+//! `specs/Schedule.antt` says which lists of events a plan allows, and which one it makes; `specs/Steps.antt` who takes
+//! the steps by the plan's rule: in turns, drawn at random, or by priorities that are lowered at random places.
 #![tactic(auto)]
 
 mod chooser;

@@ -26,7 +26,7 @@ pub enum Rule {
         weights: [u32; 8],
     },
     /// The one of the highest priority. Priorities are drawn, and so are n steps, before each of which that of
-    /// the one that would go is lowered below all others (Burckhardt and others, ASPLOS 2010).
+    /// the one that would go is lowered below all that were drawn (Burckhardt and others, ASPLOS 2010).
     Lowered {
         seed: u64,
         changes: u32,
