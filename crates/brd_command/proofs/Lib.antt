@@ -5,8 +5,9 @@ pub mod RunLemmas
 pub mod TraceLemmas
 pub mod RaceLemmas
 pub mod DebugLineLemmas
-pub mod ProgressLemmas
 pub mod LengthLemmas
 pub mod HeadlineLemmas
 pub mod ReplayLemmas
 pub mod RefusalLemmas
+pub mod JournalLemmas
+pub mod TurnsLemmas

@@ -1,5 +1,6 @@
 -- What `debug` answers to commands (own choice).
-use Rattle.std.specs.Prelude.{◌≡◌, ℕ, ◌+◌, nat_le, Bool, if◌then◌else◌, List, [], ◌∷◌, ◌++◌, length, drop, codes, Option, Some, None}
+use Rattle.std.specs.Prelude.{◌≡◌, ℕ, ◌+◌, nat_le, Bool, if◌then◌else◌, List, [], ◌∷◌, ◌++◌, length, drop, codes}
+use Rattle.std.specs.Prelude.{Option, Some, None}
 use Rattle.brd_exec.specs.State.{State}
 use Rattle.brd_mem.specs.Memory.{byte_at}
 use Rattle.brd_board.specs.Board.{registers_of}
@@ -10,7 +11,8 @@ use Rattle.brd_text.specs.Hex.{hex_of}
 use Rattle.brd_report.specs.Report.{number_line}
 use Rattle.brd_report.specs.Shown.{context_shown}
 use Rattle.brd_command.specs.declared.debug_line.DebugCommand.{DebugCommand}
-use Rattle.brd_command.specs.declared.debug_line.DebugCommand.TheVariants.{Goto, Next, Back, Break, Watch, Registers, Memory, Quit, Unknown}
+use Rattle.brd_command.specs.declared.debug_line.DebugCommand.TheVariants.{Goto, Next, Back, Break, Watch, Registers}
+use Rattle.brd_command.specs.declared.debug_line.DebugCommand.TheVariants.{Memory, Quit, Unknown}
 
 -- these bytes and a newline
 abbrev pub ended : List ℕ → List ℕ
@@ -18,7 +20,8 @@ ended bytes = bytes ++ 10 ∷ []
 
 -- `goto`: the position, or how many events there are, where there are fewer
 abbrev pub goto_text : DebuggerState → ℕ → List ℕ
-goto_text d n = if nat_le n (length d.events) then number_line (codes "at") n else number_line (codes "past") (length d.events)
+goto_text d n =
+    if nat_le n (length d.events) then number_line (codes "at") n else number_line (codes "past") (length d.events)
 
 -- the debugger after `goto`: at the position, where there are n events
 abbrev pub after_goto : DebuggerState → ℕ → DebuggerState
@@ -59,8 +62,10 @@ Does d Next answer next =
 Does d Back answer next =
     (found : Option ℕ) × IsGreatest (IsStop d.stops d.boot d.events) 0 d.position found
     × (answer ≡ found_text found) × (next ≡ went d found)
-Does d (Break address) answer next = (answer ≡ set_text (is_marked next.stops.breaks address)) × (next ≡ with_break d address)
-Does d (Watch address) answer next = (answer ≡ set_text (is_marked next.stops.watches address)) × (next ≡ with_watch d address)
+Does d (Break address) answer next =
+    (answer ≡ set_text (is_marked next.stops.breaks address)) × (next ≡ with_break d address)
+Does d (Watch address) answer next =
+    (answer ≡ set_text (is_marked next.stops.watches address)) × (next ≡ with_watch d address)
 Does d (Registers cpu) answer next = (answer ≡ registers_text (registers_of (shown d) cpu)) × (next ≡ d)
 Does d (Memory address) answer next = (answer ≡ byte_text (byte_at (shown d).memory address)) × (next ≡ d)
 Does d Quit answer next = ⊥
@@ -73,7 +78,8 @@ DoesOrQuits d command (Some answer) next = Does d command answer next
 
 -- A debugger has done the first of some commands, one after the other: what it has answered, what it is then, and which
 -- commands are left.
-pub data HasDone (first : DebuggerState) (commands : List DebugCommand) : List ℕ → DebuggerState → List DebugCommand → Type 0 where
+pub data HasDone (first : DebuggerState) (commands : List DebugCommand) : List ℕ → DebuggerState → List DebugCommand →
+    Type 0 where
   nothing_yet : HasDone first commands [] first commands
   one_more : (bytes answer : List ℕ) (d next : DebuggerState) (command : DebugCommand) (left : List DebugCommand) →
       HasDone first commands bytes d (command ∷ left) → Does d command answer next →

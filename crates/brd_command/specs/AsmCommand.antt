@@ -17,7 +17,8 @@ use Rattle.brd_inputs.specs.Input.{most_bytes}
 use Rattle.brd_report.specs.Output.{Writes, WritesFront}
 use Rattle.brd_inputs.specs.declared.fault.CommandFault.{CommandFault}
 use Rattle.brd_inputs.specs.declared.input_name.InputName.TheVariants as input_name
-use Rattle.brd_inputs.specs.declared.fault.CommandFault.TheVariants.{NoMemory, Source, ImageTooLarge, Read, TooLong, TooManyReads, Write}
+use Rattle.brd_inputs.specs.declared.fault.CommandFault.TheVariants.{NoMemory, Source, ImageTooLarge, Read, TooLong}
+use Rattle.brd_inputs.specs.declared.fault.CommandFault.TheVariants.{TooManyReads, Write}
 
 -- The object file of a source: the file of its image, and what it means is that image again, whose memory has the bytes
 -- that the source says, each at its place (`IsImage`), and so a word of each of its instructions.
@@ -64,7 +65,8 @@ RefusesSource ImageTooLarge source old new =
     (length source ≤ most_bytes) × KeepsFromAssembling source ImageTooLarge × Keeps old new
 RefusesSource (Read input error) source old new =
     (input ≡ input_name.Source) × (error_kind error ≢ OutOfMemory) × Keeps old new
-RefusesSource (TooLong input) source old new = (input ≡ input_name.Source) × (most_bytes < length source) × Keeps old new
+RefusesSource (TooLong input) source old new =
+    (input ≡ input_name.Source) × (most_bytes < length source) × Keeps old new
 RefusesSource (TooManyReads input) source old new = (input ≡ input_name.Source) × Keeps old new
 RefusesSource (Write error) source old new = (length source ≤ most_bytes) × WritesFront (IsObjectFile source) old new
 RefusesSource _ source old new = ⊥

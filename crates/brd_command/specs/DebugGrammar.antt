@@ -4,7 +4,8 @@ use Rattle.std.specs.Prelude.{◌≡◌, ℕ, ◌<◌, ◌^◌, List, ◌++◌, 
 use Rattle.std.specs.Fmt.{decimal}
 use Rattle.brd_text.specs.Hex.{hex_word_of}
 use Rattle.brd_command.specs.declared.debug_line.DebugCommand.{DebugCommand}
-use Rattle.brd_command.specs.declared.debug_line.DebugCommand.TheVariants.{Goto, Next, Back, Break, Watch, Registers, Memory, Quit, Unknown}
+use Rattle.brd_command.specs.declared.debug_line.DebugCommand.TheVariants.{Goto, Next, Back, Break, Watch, Registers}
+use Rattle.brd_command.specs.declared.debug_line.DebugCommand.TheVariants.{Memory, Quit, Unknown}
 
 -- a front, and after it a number below a limit, in decimal digits without leading zeros
 pub record HasNumber (front : List ℕ) (line : List ℕ) (number limit : ℕ) : Type 0 where

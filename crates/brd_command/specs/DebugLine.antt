@@ -1,11 +1,13 @@
 -- The commands of `debug`, and the lines that say them (own choice).
-use Rattle.std.specs.Prelude.{ℕ, ◌+◌, ◌-◌, ◌^◌, ◌==◌, if◌then◌else◌, List, [], ◌∷◌, length, take, drop, map, codes, Option, Some, None, option_map}
+use Rattle.std.specs.Prelude.{ℕ, ◌+◌, ◌-◌, ◌^◌, ◌==◌, if◌then◌else◌, List, [], ◌∷◌, length, take, drop, map, codes}
+use Rattle.std.specs.Prelude.{Option, Some, None, option_map}
 use Rattle.std.specs.Str.{bytes_eq}
 use Rattle.brd_text.specs.Hex.{hex_word_of}
 use Rattle.brd_text.specs.Lines.{in_front}
 use Rattle.brd_text.specs.Numbers.{plain_decimal_of}
 use Rattle.brd_command.specs.declared.debug_line.DebugCommand.{DebugCommand}
-use Rattle.brd_command.specs.declared.debug_line.DebugCommand.TheVariants.{Goto, Next, Back, Break, Watch, Registers, Memory, Quit, Unknown}
+use Rattle.brd_command.specs.declared.debug_line.DebugCommand.TheVariants.{Goto, Next, Back, Break, Watch, Registers}
+use Rattle.brd_command.specs.declared.debug_line.DebugCommand.TheVariants.{Memory, Quit, Unknown}
 
 -- The lines of an input. A newline ends a line, and the last one may lack it; newlines belong to no line. So an input
 -- that ends with a newline has no empty line after it.
@@ -20,7 +22,8 @@ line_size (b ∷ bs) = if b == 10 then 1 else line_size bs + 1
 
 -- where a line begins so, what is said of its rest; else the other
 abbrev pub if_begins : List ℕ → (List ℕ → Option DebugCommand) → List ℕ → Option DebugCommand → Option DebugCommand
-if_begins front say line other = if bytes_eq (take (length front) line) front then say (drop (length front) line) else other
+if_begins front say line other =
+    if bytes_eq (take (length front) line) front then say (drop (length front) line) else other
 
 -- `goto` and a position below 2 to the 64th, `regs` and a number below 256, both decimal without leading zeros;
 -- `break`, `watch` and `mem` and an address of eight hexadecimal digits of either case

@@ -1,5 +1,6 @@
 -- The command `debug`: what it writes for what it reads, and how it ends where it doesn't.
-use Rattle.std.specs.Prelude.{◌≡◌, ◌≢◌, ◌⊎◌, ℕ, ◌+◌, ◌<◌, ◌≤◌, List, [], ◌∷◌, ◌++◌, length, Option, Some, IfSome, Result, Ok, Err}
+use Rattle.std.specs.Prelude.{◌≡◌, ◌≢◌, ◌⊎◌, ℕ, ◌+◌, ◌<◌, ◌≤◌, List, [], ◌∷◌, ◌++◌, length, Option, Some, IfSome}
+use Rattle.std.specs.Prelude.{Result, Ok, Err}
 use Rattle.std.specs.Io.KnownBytes.{Keeps}
 use Rattle.std.specs.IoError.{error_kind}
 use Rattle.std.specs.declared.io.ErrorKind.TheVariants.{OutOfMemory}
@@ -19,7 +20,13 @@ use Rattle.brd_inputs.specs.declared.start.Start.{Start}
 
 -- the debugger of a board and a journal, before the first command
 abbrev pub debugger_of : Start → DebuggerState
-debugger_of start = record { boot = start.board; events = start.journal.events; position = 0; stops = record { breaks = []; watches = [] } }
+debugger_of start =
+    record {
+      boot = start.board;
+      events = start.journal.events;
+      position = 0;
+      stops = record { breaks = []; watches = [] };
+    }
 
 -- what a debugger answers to the first of some commands
 pub record AnswersToFirst (d : DebuggerState) (commands : List DebugCommand) (bytes : List ℕ) : Type 0 where
@@ -77,17 +84,20 @@ StopsAnswering NoMemory d text old new = Writes (AnswersToFirst d (commands_of t
 StopsAnswering (Read from error) d text old new =
     (from ≡ StandardInput) × (error_kind error ≢ OutOfMemory) × Writes (AnswersToFirst d (commands_of text)) old new
 StopsAnswering (TooLong from) d text old new = (from ≡ StandardInput) × Writes (AnswersUpToLimit d text) old new
-StopsAnswering (TooManyReads from) d text old new = (from ≡ StandardInput) × Writes (AnswersToFirst d (commands_of text)) old new
+StopsAnswering (TooManyReads from) d text old new =
+    (from ≡ StandardInput) × Writes (AnswersToFirst d (commands_of text)) old new
 StopsAnswering (Write error) d text old new = Writes (AnswersCutShort d (commands_of text)) old new
 StopsAnswering _ d text old new = ⊥
 
 -- how a debugger ends whose commands are a text: it has answered to all, or was stopped
-abbrev pub EndsAnswering : Result Unit CommandFault → DebuggerState → List ℕ → Option (List ℕ) → Option (List ℕ) → Option (List ℕ) → Type 0
+abbrev pub EndsAnswering : Result Unit CommandFault → DebuggerState → List ℕ → Option (List ℕ) → Option (List ℕ) →
+    Option (List ℕ) → Type 0
 EndsAnswering (Ok done) d text unread old new = Writes (AnswersToAll d text unread) old new
 EndsAnswering (Err fault) d text unread old new = StopsAnswering fault d text old new
 
 -- Three inputs give a debugger, and it ends so: of standard input that was to read, and this is left.
-pub record Debugs (image config journal : List ℕ) (unread_first unread : Option (List ℕ)) (result : Result Unit CommandFault)
+pub record Debugs (image config journal : List ℕ) (unread_first unread : Option (List ℕ))
+    (result : Result Unit CommandFault)
     (old new : Option (List ℕ)) : Type 0 where
   pub start : Start
   pub within : AreWithin image config journal
@@ -96,7 +106,8 @@ pub record Debugs (image config journal : List ℕ) (unread_first unread : Optio
 
 -- Because of the three inputs, or for lack of memory, there is no debugger. Standard input wasn't read, and nothing was
 -- written.
-pub record GivesNoDebugger {C : Type 0} (image config journal : List ℕ) (input_first input : C) (result : Result Unit CommandFault)
+pub record GivesNoDebugger {C : Type 0} (image config journal : List ℕ) (input_first input : C)
+    (result : Result Unit CommandFault)
     (old new : Option (List ℕ)) : Type 0 where
   pub fault : CommandFault
   pub is_fault : result ≡ Err fault
@@ -105,7 +116,8 @@ pub record GivesNoDebugger {C : Type 0} (image config journal : List ℕ) (input
   pub nothing : Keeps old new
 
 -- how `debug` ends
-abbrev pub DebugEnds : {C : Type 0} → (C → Option (List ℕ)) → List ℕ → List ℕ → List ℕ → C → C → Result Unit CommandFault → Option (List ℕ) → Option (List ℕ) → Type 0
+abbrev pub DebugEnds : {C : Type 0} → (C → Option (List ℕ)) → List ℕ → List ℕ → List ℕ → C → C →
+    Result Unit CommandFault → Option (List ℕ) → Option (List ℕ) → Type 0
 DebugEnds remaining image config journal input_first input result old new =
     Debugs image config journal (remaining input_first) (remaining input) result old new
     ⊎ GivesNoDebugger image config journal input_first input result old new

@@ -25,7 +25,8 @@ pub data AsmFilesEnd {F R W : Type 0}
   not_opened : {error : Error} → opened old source (Err error) new → IsErrAnd result (IsOfOpen source error) →
       AsmFilesEnd opened created closed remaining contents old source out result new
   not_created : {between : F} {reader : R} {error : Error} →
-      opened old source (Ok reader) between → created between out (Err error) new → IsErrAnd result (IsOfOpen out error) →
+      opened old source (Ok reader) between → created between out (Err error) new →
+      IsErrAnd result (IsOfOpen out error) →
       AsmFilesEnd opened created closed remaining contents old source out result new
   ended : {between both : F} {reader : R} {writer last : W} →
       opened old source (Ok reader) between → created between out (Ok writer) both → closed both last new →
@@ -35,11 +36,14 @@ pub data AsmFilesEnd {F R W : Type 0}
 -- The report is written only where all three files were opened; else nothing was written.
 pub data RunFilesEnd {F R : Type 0}
     (opened : F → List ℕ → Result R Error → F → Type 0) (remaining : R → Option (List ℕ))
-    (old : F) (image config journal : List ℕ) (before after : Option (List ℕ)) (result : Result Unit CommandFault) (new : F) : Type 0 where
-  not_opened : {fault : CommandFault} → OpensInputs opened old image config journal (Err fault) new → result ≡ Err fault → before ≡ after →
+    (old : F) (image config journal : List ℕ) (before after : Option (List ℕ)) (result : Result Unit CommandFault)
+    (new : F) : Type 0 where
+  not_opened : {fault : CommandFault} → OpensInputs opened old image config journal (Err fault) new →
+      result ≡ Err fault → before ≡ after →
       RunFilesEnd opened remaining old image config journal before after result new
   ended : {inputs : Inputs R} → OpensInputs opened old image config journal (Ok inputs) new →
-      IfSome (remaining inputs.image) (λ file. IfSome (remaining inputs.config) (λ statements. IfSome (remaining inputs.last) (λ events.
+      IfSome (remaining inputs.image)
+      (λ file. IfSome (remaining inputs.config) (λ statements. IfSome (remaining inputs.last) (λ events.
       RunEnds result file statements events before after))) →
       RunFilesEnd opened remaining old image config journal before after result new
 
@@ -51,14 +55,18 @@ pub data RaceFilesEnd {F R W : Type 0}
     (closed : F → W → F → Type 0) (remaining : R → Option (List ℕ)) (contents : W → Option (List ℕ))
     (old : F) (image config script : List ℕ) (quota : ℕ) (out : List ℕ) (before after : Option (List ℕ))
     (result : Result Unit CommandFault) (new : F) : Type 0 where
-  not_opened : {fault : CommandFault} → OpensInputs opened old image config script (Err fault) new → result ≡ Err fault → before ≡ after →
+  not_opened : {fault : CommandFault} → OpensInputs opened old image config script (Err fault) new →
+      result ≡ Err fault → before ≡ after →
       RaceFilesEnd opened created closed remaining contents old image config script quota out before after result new
-  not_created : {all : F} {inputs : Inputs R} {error : Error} → OpensInputs opened old image config script (Ok inputs) all →
+  not_created : {all : F} {inputs : Inputs R} {error : Error} →
+      OpensInputs opened old image config script (Ok inputs) all →
       created all out (Err error) new → IsErrAnd result (IsOfOpen out error) → before ≡ after →
       RaceFilesEnd opened created closed remaining contents old image config script quota out before after result new
-  ended : {all both : F} {inputs : Inputs R} {writer last : W} → OpensInputs opened old image config script (Ok inputs) all →
+  ended : {all both : F} {inputs : Inputs R} {writer last : W} →
+      OpensInputs opened old image config script (Ok inputs) all →
       created all out (Ok writer) both → closed both last new →
-      IfSome (remaining inputs.image) (λ file. IfSome (remaining inputs.config) (λ statements. IfSome (remaining inputs.last) (λ text.
+      IfSome (remaining inputs.image)
+      (λ file. IfSome (remaining inputs.config) (λ statements. IfSome (remaining inputs.last) (λ text.
       RaceEnds result quota file statements text (contents writer) (contents last) before after))) →
       RaceFilesEnd opened created closed remaining contents old image config script quota out before after result new
 
@@ -68,11 +76,13 @@ pub data DebugFilesEnd {F R C : Type 0}
     (opened : F → List ℕ → Result R Error → F → Type 0) (remaining : R → Option (List ℕ)) (unread : C → Option (List ℕ))
     (old : F) (image config journal : List ℕ) (input_first input : C) (before after : Option (List ℕ))
     (result : Result Unit CommandFault) (new : F) : Type 0 where
-  not_opened : {fault : CommandFault} → OpensInputs opened old image config journal (Err fault) new → result ≡ Err fault → before ≡ after →
+  not_opened : {fault : CommandFault} → OpensInputs opened old image config journal (Err fault) new →
+      result ≡ Err fault → before ≡ after →
       input ≡ input_first →
       DebugFilesEnd opened remaining unread old image config journal input_first input before after result new
   ended : {inputs : Inputs R} → OpensInputs opened old image config journal (Ok inputs) new →
-      IfSome (remaining inputs.image) (λ file. IfSome (remaining inputs.config) (λ statements. IfSome (remaining inputs.last) (λ events.
+      IfSome (remaining inputs.image)
+      (λ file. IfSome (remaining inputs.config) (λ statements. IfSome (remaining inputs.last) (λ events.
       DebugEnds unread file statements events input_first input result before after))) →
       DebugFilesEnd opened remaining unread old image config journal input_first input before after result new
 
@@ -81,9 +91,11 @@ pub data TraceFilesEnd {F R : Type 0}
     (opened : F → List ℕ → Result R Error → F → Type 0) (remaining : R → Option (List ℕ))
     (old : F) (image config journal : List ℕ) (options : TraceOptions) (before after : Option (List ℕ))
     (result : Result Unit CommandFault) (new : F) : Type 0 where
-  not_opened : {fault : CommandFault} → OpensInputs opened old image config journal (Err fault) new → result ≡ Err fault → before ≡ after →
+  not_opened : {fault : CommandFault} → OpensInputs opened old image config journal (Err fault) new →
+      result ≡ Err fault → before ≡ after →
       TraceFilesEnd opened remaining old image config journal options before after result new
   ended : {inputs : Inputs R} → OpensInputs opened old image config journal (Ok inputs) new →
-      IfSome (remaining inputs.image) (λ file. IfSome (remaining inputs.config) (λ statements. IfSome (remaining inputs.last) (λ events.
+      IfSome (remaining inputs.image)
+      (λ file. IfSome (remaining inputs.config) (λ statements. IfSome (remaining inputs.last) (λ events.
       TraceEnds result options file statements events before after))) →
       TraceFilesEnd opened remaining old image config journal options before after result new

@@ -4,6 +4,7 @@ pub mod AsmCommand
 pub mod RunCommand
 pub mod RaceCommand
 pub mod Turns
+pub mod JournalTexts
 pub mod JournalCommand
 pub mod DebugLine
 pub mod DebugGrammar

@@ -29,7 +29,8 @@ IsLeftOf text rest = (front : List ℕ) × (text ≡ front ++ rest)
 
 -- Of an input with these bytes left the first line was taken, or none, since it has no more.
 abbrev pub TakesLine : List ℕ → Taken → Option (List ℕ) → Option (List ℕ) → Taken → Type 0
-TakesLine text old None after new = (command_lines text ≡ []) × (after ≡ Some []) × (new.bytes ≡ old.bytes + length text)
+TakesLine text old None after new =
+    (command_lines text ≡ []) × (after ≡ Some []) × (new.bytes ≡ old.bytes + length text)
 TakesLine text old (Some line) after new =
     (rest : List ℕ) × (after ≡ Some rest) × (command_lines text ≡ line ∷ command_lines rest)
     × (new.bytes + length rest ≡ old.bytes + length text) × IsLeftOf text rest

@@ -22,7 +22,8 @@ use Rattle.brd_inputs.specs.declared.start.RaceStart.{RaceStart}
 -- the text of a station's journal, which is read as this byte order and these events again, and the report of its board
 pub record IsShown (station : StationState) (journal report : List ℕ) : Type 0 where
   pub is_text : journal ≡ text_of station.journal.order station.journal.events
-  pub is_read : journal_of most_runs journal ≡ Ok (record { limit = most_runs; order = station.journal.order; events = station.journal.events })
+  pub is_read : journal_of most_runs journal
+      ≡ Ok (record { limit = most_runs; order = station.journal.order; events = station.journal.events })
   pub is_reported : report ≡ report_of (length station.journal.events) (board_of station)
 
 -- how a race of a board with a script ends whose threads have all been at work, with this quota for each processor
@@ -33,7 +34,8 @@ HasEnded quota start answer =
 -- what is shown of the station left by a race of a board with a script, with this quota for each processor
 pub record ShowsStation (quota : ℕ) (start : RaceStart) (journal report : List ℕ) : Type 0 where
   pub station : StationState
-  pub has_raced : HasRaced start.board start.script.items (replicate (processors_of start.board) quota) most_runs station
+  pub has_raced : HasRaced start.board start.script.items (replicate (processors_of start.board) quota)
+      most_runs station
   pub has_ended : HasEnded quota start (Ok station)
   pub is_shown : IsShown station journal report
 
@@ -80,14 +82,19 @@ pub data WritesRaceFront (quota : ℕ) (image config text : List ℕ) (out_old o
 
 -- Nothing is written where memory or threads ran out, or where what was read or the race has a fault. Where writing
 -- failed, a front was.
-abbrev pub RefusesRace : CommandFault → ℕ → List ℕ → List ℕ → List ℕ → Option (List ℕ) → Option (List ℕ) → Option (List ℕ) → Option (List ℕ) → Type 0
+abbrev pub RefusesRace : CommandFault → ℕ → List ℕ → List ℕ → List ℕ → Option (List ℕ) → Option (List ℕ) →
+    Option (List ℕ) → Option (List ℕ) → Type 0
 RefusesRace NoMemory quota image config text out_old out old new = Keeps out_old out × Keeps old new
-RefusesRace (Race fault) quota image config text out_old out old new = HasFault quota image config text fault × Keeps out_old out × Keeps old new
-RefusesRace (Write error) quota image config text out_old out old new = WritesRaceFront quota image config text out_old out old new
+RefusesRace (Race fault) quota image config text out_old out old new =
+    HasFault quota image config text fault × Keeps out_old out × Keeps old new
+RefusesRace (Write error) quota image config text out_old out old new =
+    WritesRaceFront quota image config text out_old out old new
 RefusesRace fault quota image config text out_old out old new =
     KeepsFromStarting input_name.Script image config text fault × Keeps out_old out × Keeps old new
 
 -- how `race` ends: the journal and the report were written, or it was refused
-abbrev pub RaceEnds : Result Unit CommandFault → ℕ → List ℕ → List ℕ → List ℕ → Option (List ℕ) → Option (List ℕ) → Option (List ℕ) → Option (List ℕ) → Type 0
+abbrev pub RaceEnds : Result Unit CommandFault → ℕ → List ℕ → List ℕ → List ℕ → Option (List ℕ) → Option (List ℕ) →
+    Option (List ℕ) → Option (List ℕ) → Type 0
 RaceEnds (Ok done) quota image config text out_old out old new = WritesRace quota image config text out_old out old new
-RaceEnds (Err fault) quota image config text out_old out old new = RefusesRace fault quota image config text out_old out old new
+RaceEnds (Err fault) quota image config text out_old out old new =
+    RefusesRace fault quota image config text out_old out old new

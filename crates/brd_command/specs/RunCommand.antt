@@ -22,7 +22,8 @@ pub record ShowsRun (image config text bytes : List ℕ) : Type 0 where
 abbrev pub RefusesRun : CommandFault → List ℕ → List ℕ → List ℕ → Option (List ℕ) → Option (List ℕ) → Type 0
 RefusesRun NoMemory image config journal old new = Keeps old new
 RefusesRun (Write error) image config journal old new = WritesFront (ShowsRun image config journal) old new
-RefusesRun fault image config journal old new = KeepsFromStarting input_name.Journal image config journal fault × Keeps old new
+RefusesRun fault image config journal old new =
+    KeepsFromStarting input_name.Journal image config journal fault × Keeps old new
 
 -- how `run` ends: the report was written, or it was refused
 abbrev pub RunEnds : Result Unit CommandFault → List ℕ → List ℕ → List ℕ → Option (List ℕ) → Option (List ℕ) → Type 0

@@ -1,5 +1,6 @@
 -- The command `trace`: from what it starts, what it writes then, and how it ends where it doesn't.
-use Rattle.std.specs.Prelude.{◌≡◌, ◌≢◌, ◌⊎◌, ℕ, ◌<◌, ◌≤◌, min, false, List, length, ◌++◌, codes, Option, Some, None, unwrap_or, Result, Ok, Err}
+use Rattle.std.specs.Prelude.{◌≡◌, ◌≢◌, ◌⊎◌, ℕ, ◌<◌, ◌≤◌, min, false, List, length, ◌++◌, codes, Option, Some, None}
+use Rattle.std.specs.Prelude.{unwrap_or, Result, Ok, Err}
 use Rattle.std.specs.Bool.{MatchBool}
 use Rattle.std.specs.Io.KnownBytes.{Appends, Keeps}
 use Rattle.brd_timeline.specs.Ends.{EndsWith}
@@ -87,20 +88,23 @@ EndsTracing (Err (Trace fault)) options len old new = KeepsFromTracing options l
 EndsTracing (Err fault) options len old new = IsOfWriting fault
 
 -- Three inputs give a board and a journal, of which there is a trace.
-pub record GivesTrace (result : Result Unit CommandFault) (options : TraceOptions) (image config journal : List ℕ) (old new : Option (List ℕ)) : Type 0 where
+pub record GivesTrace (result : Result Unit CommandFault) (options : TraceOptions) (image config journal : List ℕ)
+    (old new : Option (List ℕ)) : Type 0 where
   pub start : Start
   pub within : AreWithin image config journal
   pub is_start : IsStart image config journal start
   pub ends : EndsTracing result options (length start.journal.events) old new
 
 -- Because of the three inputs, or for lack of memory, there is no trace, and nothing was written.
-pub record GivesNoTrace (result : Result Unit CommandFault) (image config journal : List ℕ) (old new : Option (List ℕ)) : Type 0 where
+pub record GivesNoTrace (result : Result Unit CommandFault) (image config journal : List ℕ)
+    (old new : Option (List ℕ)) : Type 0 where
   pub fault : CommandFault
   pub is_fault : result ≡ Err fault
   pub keeps_from : KeepsFromStarting input_name.Journal image config journal fault
   pub nothing : Keeps old new
 
 -- how `trace` ends
-abbrev pub TraceEnds : Result Unit CommandFault → TraceOptions → List ℕ → List ℕ → List ℕ → Option (List ℕ) → Option (List ℕ) → Type 0
+abbrev pub TraceEnds : Result Unit CommandFault → TraceOptions → List ℕ → List ℕ → List ℕ → Option (List ℕ) →
+    Option (List ℕ) → Type 0
 TraceEnds result options image config journal old new =
     GivesTrace result options image config journal old new ⊎ GivesNoTrace result image config journal old new

@@ -1,6 +1,7 @@
 -- The text that `words` reads: words of eight hexadecimal digits, with blanks or newlines between them, at most 16,384
 -- (own choice).
-use Rattle.std.specs.Prelude.{◌≡◌, ℕ, ◌-◌, ◌==◌, Bool, true, false, not, if◌then◌else◌, List, [], ◌∷◌, ◌++◌, take_while, Option, Some, None, Result, Ok, Err}
+use Rattle.std.specs.Prelude.{◌≡◌, ℕ, ◌-◌, ◌==◌, Bool, true, false, not, if◌then◌else◌, List, [], ◌∷◌, ◌++◌, take_while}
+use Rattle.std.specs.Prelude.{Option, Some, None, Result, Ok, Err}
 use Rattle.brd_text.specs.Bytes.{is_blank}
 use Rattle.brd_text.specs.Hex.{hex_word_of}
 use Rattle.brd_text.specs.Lines.{line_after}

@@ -13,7 +13,8 @@ use Rattle.brd_command.specs.WordText.{words_of_text}
 use Rattle.brd_inputs.specs.declared.words_fault.WordsFault.TheVariants as words_fault
 use Rattle.brd_inputs.specs.declared.fault.CommandFault.{CommandFault}
 use Rattle.brd_inputs.specs.declared.input_name.InputName.TheVariants.{StandardInput}
-use Rattle.brd_inputs.specs.declared.fault.CommandFault.TheVariants.{NoMemory, Words, Read, TooLong, TooManyReads, Write}
+use Rattle.brd_inputs.specs.declared.fault.CommandFault.TheVariants.{NoMemory, Words, Read, TooLong, TooManyReads}
+use Rattle.brd_inputs.specs.declared.fault.CommandFault.TheVariants.{Write}
 
 -- the bytes that show the board of these words after n steps of processor 1
 pub record ShowsWords (words : List ℕ) (steps : ℕ) (bytes : List ℕ) : Type 0 where
@@ -33,10 +34,12 @@ abbrev pub RefusesWords : CommandFault → List ℕ → ℕ → Option (List ℕ
 RefusesWords NoMemory input steps old new = Keeps old new
 RefusesWords (Words fault) input steps old new =
     (length input ≤ most_bytes) × (words_of_text input ≡ Err fault) × (fault ≢ words_fault.NoMemory) × Keeps old new
-RefusesWords (Read from error) input steps old new = (from ≡ StandardInput) × (error_kind error ≢ OutOfMemory) × Keeps old new
+RefusesWords (Read from error) input steps old new =
+    (from ≡ StandardInput) × (error_kind error ≢ OutOfMemory) × Keeps old new
 RefusesWords (TooLong from) input steps old new = (from ≡ StandardInput) × (most_bytes < length input) × Keeps old new
 RefusesWords (TooManyReads from) input steps old new = (from ≡ StandardInput) × Keeps old new
-RefusesWords (Write error) input steps old new = (length input ≤ most_bytes) × WritesFront (ShowsText input steps) old new
+RefusesWords (Write error) input steps old new =
+    (length input ≤ most_bytes) × WritesFront (ShowsText input steps) old new
 RefusesWords _ input steps old new = ⊥
 
 -- how `words` ends: the board of the input was written, or it was refused

@@ -7,8 +7,7 @@ ghost use Rattle.brd_inputs.specs.FileKinds.{source_looks_like};
 
 use brd_asm::{AsmFault, assemble};
 use brd_inputs::{
-    Clue, CommandFault, Excerpt, FileKind, Files, InputName, other_kind, read_whole,
-    source_fault_hint,
+    Clue, CommandFault, Excerpt, FileKind, Files, InputName, other_kind, read_whole, source_hint,
 };
 use brd_report::write_whole;
 use std::alloc::Global;
@@ -71,7 +70,7 @@ fn object_file(alloc: Global, source: &[u8]) -> Result<Vec<u8>, CommandFault>
         Err(AsmFault::NoMemory) => return Err(CommandFault::NoMemory),
         Err(fault) => {
             let excerpt = Excerpt::of_line(alloc, source, line_of(fault))?;
-            let clue = clue_of(fault, source);
+            let clue = clue_of(alloc, fault, source);
             return Err(CommandFault::Source(fault, excerpt, clue));
         }
     };
@@ -107,9 +106,9 @@ fn looks_like(fault: AsmFault, source: &[u8]) -> Option<FileKind>
 }
 
 /// What is said beside the fault of a source: the other kind of which it looks, and the diagnosis of the faulty line.
-fn clue_of(fault: AsmFault, source: &[u8]) -> Clue
+fn clue_of(alloc: Global, fault: AsmFault, source: &[u8]) -> Clue
     ensures { result ≡ source_looks_like source.now fault }
 {
     let kind = looks_like(fault, source);
-    Clue::new(kind, source_fault_hint(fault, line_of(fault), source))
+    Clue::new(kind, source_hint(alloc, source, fault))
 }

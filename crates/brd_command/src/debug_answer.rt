@@ -48,7 +48,8 @@ fn goto<P: Progress>(
     progress: &mut P,
 ) -> Result<Vec<u8>, NoMemory>
     ensures { IfOk result (λ text.
-        (text.items ≡ answers.goto_text debugger.old position) × (debugger.new ≡ answers.after_goto debugger.old position)) }
+        (text.items ≡ answers.goto_text debugger.old position)
+        × (debugger.new ≡ answers.after_goto debugger.old position)) }
 {
     match debugger.goto_telling(position, progress) {
         Ok(()) => number(alloc, "at", position),

@@ -27,7 +27,8 @@ pub fn debug<R: Read, C: Read, W: Write, P: Progress>(
 ) -> Result<(), CommandFault>
     ensures { IfSome (R.remaining inputs.old.image) (λ file. IfSome (R.remaining inputs.old.config) (λ statements.
         IfSome (R.remaining inputs.old.last) (λ events.
-        DebugEnds C.remaining file statements events input.old input.new result (W.contents writer.old) (W.contents writer.new)))) }
+        DebugEnds C.remaining file statements events input.old input.new result (W.contents writer.old)
+        (W.contents writer.new)))) }
 {
     let start = match read_start(alloc, inputs) {
         Ok(start) => start,
@@ -68,7 +69,8 @@ fn answer_all<R: Read, W: Write, P: Progress>(
     progress: &mut P,
 ) -> Result<(), CommandFault>
     ensures { IfSome (R.remaining input.old) (λ text.
-        EndsAnswering result debugger.old text (R.remaining input.new) (W.contents writer.old) (W.contents writer.new)) }
+        EndsAnswering result debugger.old text (R.remaining input.new) (W.contents writer.old)
+        (W.contents writer.new)) }
 {
     let mut taken = Taken {
         bytes: 0,

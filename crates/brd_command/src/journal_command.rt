@@ -2,7 +2,7 @@
 
 ghost use Rattle.std.specs.Prelude.{◌≡◌, ◌≤◌, ◌&&◌, nat_lt, is_some, IfSome, MatchResult};
 ghost use Rattle.brd_command.specs.JournalCommand.{IsOfMaking, JournalEnds, KeepsFromMakingOne, MakesJournal};
-ghost use Rattle.brd_schedule.specs.Schedule.{IsMade};
+ghost use Rattle.brd_schedule.specs.Schedule.{IsMade, made as events_made};
 
 use crate::journal_options::{JournalOptions, raises_of, rule_of};
 use brd_inputs::{CommandFault, ScheduleFault};
@@ -42,7 +42,7 @@ fn journal_text(
     options: JournalOptions<'_>,
 ) -> Result<Vec<u8>, CommandFault>
     ensures { MatchResult result (λ text. MakesJournal cpus events options.entry text.items)
-        (KeepsFromMakingOne cpus options.entry) }
+        (KeepsFromMakingOne cpus events options.entry) }
 {
     let Some(cpus) = processors(cpus) else {
         return Err(CommandFault::Schedule(ScheduleFault::Processors));
@@ -77,7 +77,7 @@ fn journal_text(
 
 /// The number of processors, where it is 1 to 8.
 fn processors(cpus: u32) -> Option<u8>
-    ensures count { IfSome result (λ count. (count ≡ cpus) × (1 ≤ count)) }
+    ensures count { IfSome result (λ count. (count ≡ cpus) × (1 ≤ count) × (count ≤ 8)) }
     ensures exact { is_some result ≡ (nat_lt 0 cpus && nat_lt cpus 9) }
 {
     match cpus {
@@ -89,7 +89,9 @@ fn processors(cpus: u32) -> Option<u8>
 /// The journal of a plan, for boards of this byte order.
 fn made(alloc: Global, plan: &Plan, order: Order) -> Result<Journal, CommandFault>
     requires { 1 ≤ plan.now.cpus }
-    ensures { MatchResult result (λ journal. IsMade plan.now journal.events × (journal.order ≡ order)) IsOfMaking }
+    ensures { MatchResult result (λ journal. IsMade plan.now journal.events
+        × (journal.events ≡ events_made plan.now plan.now.events) × (journal.order ≡ order))
+        (IsOfMaking plan.now.events) }
 {
     match make(alloc, plan, order) {
         Ok(journal) => Ok(journal),

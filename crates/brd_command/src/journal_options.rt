@@ -1,14 +1,19 @@
 //! The options of `journal`.
 
-ghost use Rattle.std.specs.Prelude.{◌≡◌, true, is_some, IfErr, IfOk};
-ghost use Rattle.brd_command.specs.JournalCommand.{AreOfOneWay, IsOfRaises, IsOfRule};
-ghost use Rattle.brd_inputs.specs.declared.schedule_fault.ScheduleFault.TheVariants.{Weights};
+ghost use Rattle.std.specs.Prelude.{◌≡◌, ◌<◌, ◌≤◌, ◌==◌, ◌∷◌, length, option_map, replicate, IfSome, MatchResult};
+ghost use Rattle.std.specs.List.{list_all, list_any, position_or_len};
+ghost use Rattle.brd_command.specs.JournalCommand.{AreOfOneWay, IsOfRaises, IsOfRule, IsOfWeights, IsRule};
+ghost use Rattle.brd_command.specs.JournalTexts as texts;
+ghost use Rattle.brd_command.specs.JournalTexts.{AreParts, SaysRaises, SaysWeights, eight, pieces_behind, pieces_of};
 
 use brd_inputs::ScheduleFault;
 use brd_schedule::{MOST_CHANGES, Raise, Rule};
 use brd_text::plain_decimal;
 use brd_word::Order;
 use std::alloc::Global;
+
+/// The highest number of an interrupt line.
+const MOST_LINE: u64 = 255;
 
 /// The greatest number of an event.
 const MOST_EVENTS: u64 = 1_000_000;
@@ -42,8 +47,9 @@ const USUAL_SWITCH: u32 = 500;
 
 /// Who takes the steps of n processors.
 pub(crate) fn rule_of(cpus: u8, options: &JournalOptions) -> Result<Rule, ScheduleFault>
-    ensures ok { IfOk result (λ _. AreOfOneWay options.now) }
-    ensures fault { IfErr result (IsOfRule options.now) }
+    requires { cpus ≤ 8 }
+    ensures { MatchResult result (λ rule. AreOfOneWay options.now × IsRule cpus options.now rule)
+        (IsOfRule cpus options.now) }
 {
     let is_drawn = options.switch.is_some() || options.weights.is_some();
     let Some(seed) = options.seed else {
@@ -67,56 +73,94 @@ pub(crate) fn rule_of(cpus: u8, options: &JournalOptions) -> Result<Rule, Schedu
     if switch > 1_000 {
         return Err(ScheduleFault::Switch);
     }
-    let weights = weights_of(cpus, options.weights)?;
-    Ok(Rule::Drawn {
-        seed,
-        switch,
-        weights,
-    })
+    match weights_of(cpus, options.weights) {
+        Ok(weights) => Ok(Rule::Drawn {
+            seed,
+            switch,
+            weights,
+        }),
+        Err(fault) => Err(fault),
+    }
 }
 
-/// The weights of n processors: each 1 where nothing is said.
+/// The weights of n processors that a text says: each 1 where there is none.
 fn weights_of(cpus: u8, text: Option<&str>) -> Result<[u32; 8], ScheduleFault>
-    ensures { IfErr result (λ fault. (fault ≡ Weights) × (is_some text.entry ≡ true)) }
+    requires { cpus ≤ 8 }
+    ensures { MatchResult result (SaysWeights cpus (option_map (λ it. it.now) text.entry))
+        (IsOfWeights cpus (option_map (λ it. it.now) text.entry)) }
+{
+    match text {
+        Some(text) => weights_in(cpus, text.as_bytes()),
+        None => Ok(alike(cpus)),
+    }
+}
+
+/// The same weight for each of n processors.
+fn alike(cpus: u8) -> [u32; 8]
+    requires { cpus ≤ 8 }
+    ensures { result ≡ eight cpus (replicate cpus 1) }
 {
     let mut weights = [0u32; 8];
-    let Some(text) = text else {
-        for weight in weights.iter_mut().take(cpus as usize) {
-            *weight = 1;
-        }
-        return Ok(weights);
-    };
-    let mut rest = Some(text.as_bytes());
-    let mut total = 0u32;
-    for weight in weights.iter_mut().take(cpus as usize) {
+    for place in 0..cpus as usize {
+        weights[place] = 1;
+    }
+    weights
+}
+
+/// The weights of n processors that a text says.
+fn weights_in(cpus: u8, text: &[u8]) -> Result<[u32; 8], ScheduleFault>
+    requires { cpus ≤ 8 }
+    ensures { MatchResult result (SaysWeights cpus (Some text.now)) (IsOfWeights cpus (Some text.now)) }
+{
+    let mut weights = [0u32; 8];
+    let mut rest = Some(text);
+    for place in 0..cpus as usize {
         let Some(left) = rest else {
             return Err(ScheduleFault::Weights);
         };
         let (number, after) = piece(left);
-        let Some(value) = plain_decimal(number, MOST_WEIGHT) else {
+        let Some(weight) = plain_decimal(number, MOST_WEIGHT) else {
             return Err(ScheduleFault::Weights);
         };
-        *weight = value as u32;
-        total = total.saturating_add(*weight);
+        weights[place] = weight as u32;
         rest = after;
     }
-    if rest.is_some() || total == 0 {
+    if rest.is_some() || are_zero(weights.as_slice()) {
         return Err(ScheduleFault::Weights);
     }
     Ok(weights)
 }
 
+/// Whether each weight is 0.
+fn are_zero(weights: &[u32]) -> bool
+    ensures { result ≡ list_all (λ weight. weight == 0) weights.now }
+{
+    for weight in weights {
+        if *weight != 0 {
+            return false;
+        }
+    }
+    true
+}
+
 /// The raises that a text says.
 pub(crate) fn raises_of(alloc: Global, text: Option<&str>) -> Result<Vec<Raise>, ScheduleFault>
-    ensures { IfErr result (IsOfRaises text.entry) }
+    ensures { MatchResult result (λ raises. SaysRaises (option_map (λ it. it.now) text.entry) raises.items)
+        (IsOfRaises (option_map (λ it. it.now) text.entry)) }
+{
+    match text {
+        Some(text) => raises_in(alloc, text.as_bytes()),
+        None => Ok(Vec::new(alloc)),
+    }
+}
+
+/// The raises that a text says.
+fn raises_in(alloc: Global, text: &[u8]) -> Result<Vec<Raise>, ScheduleFault>
+    ensures { MatchResult result (λ raises. SaysRaises (Some text.now) raises.items) (IsOfRaises (Some text.now)) }
 {
     let mut raises = Vec::new(alloc);
-    let Some(text) = text else {
-        return Ok(raises);
-    };
-    let bytes = text.as_bytes();
-    let mut rest = bytes;
-    for _ in 0..bytes.len() {
+    let mut rest = text;
+    'pieces: loop {
         let (word, after) = piece(rest);
         let Some(raise) = raise_of(word) else {
             return Err(ScheduleFault::Raise);
@@ -124,19 +168,20 @@ pub(crate) fn raises_of(alloc: Global, text: Option<&str>) -> Result<Vec<Raise>,
         if is_raised(raises.as_slice(), raise.at) {
             return Err(ScheduleFault::Raise);
         }
-        if raises.push(raise).is_err() {
+        let Ok(()) = raises.push(raise) else {
             return Err(ScheduleFault::NoMemory);
-        }
+        };
         let Some(left) = after else {
             return Ok(raises);
         };
         rest = left;
     }
-    Err(ScheduleFault::Raise)
 }
 
 /// Whether a line is raised as the event of this number.
-fn is_raised(raises: &[Raise], at: u32) -> bool {
+fn is_raised(raises: &[Raise], at: u32) -> bool
+    ensures { result ≡ list_any (λ raise. raise.at == at) raises.now }
+{
     for raise in raises {
         if raise.at == at {
             return true;
@@ -146,10 +191,19 @@ fn is_raised(raises: &[Raise], at: u32) -> bool {
 }
 
 /// The raise that `LINE@EVENT` says.
-fn raise_of(word: &[u8]) -> Option<Raise> {
-    let (line, event) = parted(word, b'@');
-    let line = plain_decimal(line, 255)?;
-    let at = plain_decimal(event?, MOST_EVENTS)?;
+#[tactic(auto, unfolding(crate::specs::JournalTexts::raise_of))]
+fn raise_of(word: &[u8]) -> Option<Raise>
+    ensures { result ≡ texts.raise_of word.now }
+{
+    let (line, Some(event)) = parted(word, b'@') else {
+        return None;
+    };
+    let Some(line) = plain_decimal(line, MOST_LINE) else {
+        return None;
+    };
+    let Some(at) = plain_decimal(event, MOST_EVENTS) else {
+        return None;
+    };
     if at == 0 {
         return None;
     }
@@ -160,20 +214,33 @@ fn raise_of(word: &[u8]) -> Option<Raise> {
 }
 
 /// What stands before the first comma, and what is after it.
-fn piece(text: &[u8]) -> (&[u8], Option<&[u8]>) {
+fn piece(text: &[u8]) -> (&[u8], Option<&[u8]>)
+    ensures pieces { pieces_of text.now ≡ result.0.now ∷ pieces_behind (option_map (λ it. it.now) result.1) }
+    ensures shorter { IfSome result.1 (λ behind. length behind.now < length text.now) }
+{
     parted(text, b',')
 }
 
 /// What stands before the first such byte, and what is after it.
-fn parted(text: &[u8], mark: u8) -> (&[u8], Option<&[u8]>) {
+fn parted(text: &[u8], mark: u8) -> (&[u8], Option<&[u8]>)
+    ensures { AreParts mark text.now result.0.now (option_map (λ it. it.now) result.1) }
+{
+    let (front, end) = text.split_at(len_before(text, mark));
+    match end.split_first() {
+        None => (front, None),
+        Some((_, behind)) => (front, Some(behind)),
+    }
+}
+
+/// How many bytes stand before the first such byte.
+fn len_before(text: &[u8], mark: u8) -> usize
+    ensures is { result ≡ position_or_len (λ byte. byte == mark) text.now }
+    ensures within { result ≤ length text.now }
+{
     for (i, byte) in text.iter().enumerate() {
         if *byte == mark {
-            let (front, end) = text.split_at(i);
-            return match end.split_first() {
-                Some((_, behind)) => (front, Some(behind)),
-                None => (front, None),
-            };
+            return i;
         }
     }
-    (text, None)
+    text.len()
 }

@@ -97,7 +97,8 @@ pub fn race_files<F: Files, W: Write, P: Progress + Send, R: Threads + Wait + Sy
     progress: &mut P,
 ) -> Result<(), CommandFault>
     ensures { RaceFilesEnd F.opened F.created F.closed F.Input.remaining F.Output.contents
-        files.old image.now config.now script.now quota out.now (W.contents output.old) (W.contents output.new) result files.new }
+        files.old image.now config.now script.now quota out.now (W.contents output.old)
+        (W.contents output.new) result files.new }
 {
     let mut inputs = match open_inputs(alloc, files, image, config, script) {
         Ok(inputs) => inputs,

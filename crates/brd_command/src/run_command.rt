@@ -68,11 +68,11 @@ fn report_after<P: Progress>(
         output.items ≡ report_of (length start.journal.events) (after start.board start.journal.events)) }
 {
     let Start {
-        mut board,
+        board,
         image: _,
         config: _,
         journal,
     } = start;
-    replay(&journal, &mut board, progress);
+    let board = replay(&journal, board, progress);
     report(alloc, &board, journal.len())
 }

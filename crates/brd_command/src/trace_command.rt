@@ -31,8 +31,8 @@ use std::alloc::Global;
 use std::io::{Read, Write};
 
 /// Reads an object file, a configuration and a journal to their ends, in this order, lets the board that the first two
-/// make do the journal's events, and writes what happens. Nothing is written where what was read has a fault. How far it
-/// is, is told on the way.
+/// make do the journal's events, and writes what happens. Nothing is written where what was read has a fault. How far
+/// it is, is told on the way.
 pub fn trace<R: Read, W: Write, P: Progress>(
     alloc: Global,
     inputs: &mut Inputs<R>,
@@ -173,7 +173,7 @@ impl<'a> Traced<'a> {
         ensures goes { tracer.old.playback.at < to → tracer.old.playback.at < tracer.new.playback.at }
     {
         let mut lines = Vec::new(self.alloc);
-        let piece = tracer.playback.at.saturating_add(u64::from(PIECE)).min(to);
+        let piece = tracer.playback.at.saturating_add(PIECE).min(to);
         tracer.advance_far(self.alloc, self.names, self.journal, piece, &mut lines)?;
         Ok(lines)
     }
@@ -231,7 +231,8 @@ impl<'a> Traced<'a> {
         requires start { tracer.playback.at ≡ 0 }
         requires from { self.now.part.from ≤ self.now.part.to }
         requires within { self.now.part.to ≤ length self.now.journal.now.events }
-        ensures { MatchResult result (λ _. WritesFirst (λ first. first ≡ head) (W.contents writer.old) (W.contents writer.new)) IsOfWriting }
+        ensures { MatchResult result
+            (λ _. WritesFirst (λ first. first ≡ head) (W.contents writer.old) (W.contents writer.new)) IsOfWriting }
     {
         let mut tracer = tracer;
         self.play(&mut tracer, self.part.from, progress)?;
@@ -277,7 +278,8 @@ impl<'a> Traced<'a> {
     ) -> Result<(), CommandFault>
         requires start { tracer.playback.at ≡ 0 }
         requires within { self.now.part.to ≤ length self.now.journal.now.events }
-        ensures { MatchResult result (λ _. WritesFirst (EndsWith (codes "\n")) (W.contents writer.old) (W.contents writer.new)) IsOfWriting }
+        ensures { MatchResult result
+            (λ _. WritesFirst (EndsWith (codes "\n")) (W.contents writer.old) (W.contents writer.new)) IsOfWriting }
     {
         let mut tracer = tracer;
         self.play(&mut tracer, self.part.to, progress)?;
@@ -318,7 +320,8 @@ impl<'a> Traced<'a> {
         requires start { tracer.playback.at ≡ 0 }
         requires from { self.now.part.from ≤ self.now.part.to }
         requires within { self.now.part.to ≤ length self.now.journal.now.events }
-        ensures { MatchResult result (λ _. Writes (EndsWith (codes "\n]}\n")) (W.contents writer.old) (W.contents writer.new)) IsOfWriting }
+        ensures { MatchResult result
+            (λ _. Writes (EndsWith (codes "\n]}\n")) (W.contents writer.old) (W.contents writer.new)) IsOfWriting }
     {
         let timeline = self.timeline(tracer, progress)?;
         let mut out = Vec::new(self.alloc);

@@ -1,7 +1,10 @@
 //! How often the processors of a race took turns.
 
-ghost use Rattle.std.specs.Prelude.{◌≡◌};
-ghost use Rattle.brd_command.specs.Turns.{are_few};
+ghost use Rattle.std.specs.Prelude.{◌≡◌, length};
+ghost use Rattle.brd_journal.specs.Runs.{runs_of};
+ghost use Rattle.brd_threads.specs.Processors.{processors_of};
+ghost use Rattle.brd_threads.specs.Station.{board_of};
+ghost use Rattle.brd_command.specs.Turns.{are_few, steps_to};
 
 use brd_progress::Progress;
 use brd_threads::{Race, Station, processors};
@@ -16,7 +19,11 @@ pub(crate) struct Turns {
 
 impl Turns {
     /// Those of a race that left this station.
-    pub(crate) fn of<K: Race>(station: &Station<K>) -> Turns {
+    pub(crate) fn of<K: Race>(station: &Station<K>) -> Turns
+        ensures processors { result.processors ≡ processors_of (board_of station.now) }
+        ensures steps { result.steps ≡ steps_to station.now 8 }
+        ensures runs { result.runs ≡ length (runs_of station.now.journal.events) }
+    {
         let mut steps = 0u64;
         for cpu in 1..9u8 {
             steps = steps.saturating_add(station.steps(cpu).unwrap_or(0));

@@ -1,8 +1,10 @@
--- The runs that are left lead from here to where all of them lead.
-use Rattle.std.proofs.Common.{◌≡◌, drop}
-use Rattle.brd_board.specs.Board.{after}
-use Rattle.brd_journal.specs.Runs.{events_of}
+-- The board has played the first events, as many as it says.
+use Rattle.std.proofs.Common.{◌-◌, length}
+use Rattle.brd_journal.specs.Playing.{IsPlayed}
 use Rattle.brd_command.proofs.progress.replay.Given as goal
 
-abbrev pub invariant-loop-run : goal.invariant-loop-run
-invariant-loop-run g l = after l.board (events_of (drop l.run-index l.run-items)) ≡ after l.fn.board l.journal.events
+abbrev pub invariant-loop-playback : goal.invariant-loop-playback
+invariant-loop-playback g l = IsPlayed l.fn.board l.journal.events l.playback
+
+abbrev pub decreases-loop-playback : goal.decreases-loop-playback
+decreases-loop-playback g l = length l.journal.events - l.playback.at

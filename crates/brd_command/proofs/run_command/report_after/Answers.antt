@@ -5,4 +5,4 @@ use Rattle.brd_command.proofs.run_command.report_after.Goals as goal
 
 pub returns : goal.returns
 returns g c = subst (λ shown. IfOk c.report.result (λ output. output.items ≡ shown))
-    (λ i. report_of (c.len.ensures.len i) (c.replay.ensures i)) c.report.ensures
+    (λ i. report_of (c.len.ensures.len i) (c.replay-board.ensures i)) c.report.ensures

@@ -1,0 +1,7 @@
+use Rattle.std.specs.Prelude.{option_map}
+use Rattle.brd_command.proofs.JournalLemmas.{parts_are_pieces}
+use Rattle.brd_command.proofs.journal_options.piece.Goals as goal
+
+pub returns-clause-pieces : goal.returns-clause-pieces
+returns-clause-pieces c =
+    parts_are_pieces c.args.text.now c.parted.result.0.now (option_map (λ it. it.now) c.parted.result.1) c.parted.ensures
