@@ -1,20 +1,15 @@
 -- What the turns of a search come to.
-use Rattle.std.proofs.Common.{◌≡◌, ℕ, ◌+◌, ◌<◌, ◌≤◌, List, [], ◌∷◌, ◌++◌, length, take, refl, sym, ap, subst, ◌∙◌, arith}
-use Rattle.std.specs.Prelude.{Bool, true, false, All, ◌&&◌}
+use Rattle.std.proofs.Common.{◌≡◌, ℕ, List, [], ◌∷◌, ◌++◌, take, refl, sym, ap, subst, ◌∙◌, arith}
+use Rattle.std.specs.Prelude.{Bool, true, false, All, ◌&&◌, Option}
 use Rattle.std.proofs.lemmas.Bool.{false≢true}
 use Rattle.std.proofs.lemmas.List.Elements.{All-push}
 use Rattle.brd_board.specs.declared.event.Event.{Event}
-use Rattle.brd_board.specs.Board.{BoardState, happens}
 use Rattle.brd_explore.specs.declared.search.Search.{Search}
 use Rattle.brd_explore.specs.declared.search.Saved.{Saved}
-use Rattle.brd_explore.specs.declared.search.Turn.{Turn}
-use Rattle.brd_explore.specs.declared.search.Turn.TheVariants as turn
-use Rattle.brd_explore.specs.declared.search.Answer.{Answer}
-use Rattle.brd_explore.specs.declared.search.Answer.TheVariants as answer
 use Rattle.brd_explore.specs.declared.wanted.Wanted.{Wanted}
-use Rattle.brd_explore.specs.Schedules.{Place, next}
+use Rattle.brd_explore.specs.Schedules.{Place}
 use Rattle.brd_explore.specs.Failures.{fails_now}
-use Rattle.brd_explore.specs.Searching.{place_of, place_of_saved, NoneLeft, NoneFrom, NoneFails, Leads, AreOnPath, IsOnPath, AreAlike, IsSized, Takes, Tries, HasGone, HasStayed, HasGoneBack, LeavesOut, LeadsOn, Finds, Answers}
+use Rattle.brd_explore.specs.Searching.{place_of, place_of_saved, NoneLeft, NoneFrom, NoneFails, Leads, AreOnPath, IsOnPath, AreAlike, IsSized, Takes, Tries, HasGone, HasStayed, HasGoneBack, LeavesOut, LeadsOn, Finds, Answers, ended_by}
 use Rattle.brd_explore.proofs.SizeLemmas.{alike-after}
 use Rattle.brd_explore.proofs.SearchLemmas.{none-fails, failing}
 
@@ -76,9 +71,8 @@ none-begins wanted among from s begins fine none =
     subst (NoneFails wanted among) begins.place
     (none-fails wanted among (place_of s) (subst (NoneFrom wanted among (place_of s)) begins.at none.here) (failing wanted among s none begins.fresh fine'))
 
-pub finds : (wanted : Wanted) (among : List Event) (from : Place) (s t : Search) (turn : Turn) (found : Answer) → Begins from s →
-    fails_now wanted from.board ≡ false → LeavesOut wanted among s t turn → ((f : Place) → IsOnPath among f s → LeadsOn wanted among f t turn) →
-    Finds t turn found → Answers wanted among from found
-finds wanted among from s t turn.On found begins fine out on is = subst (Answers wanted among from) (sym is) tt
-finds wanted among from s t turn.Found found begins fine out on is = subst (Answers wanted among from) (sym is) (on from (begins-on among from s begins))
-finds wanted among from s t turn.Over found begins fine out on is = subst (Answers wanted among from) (sym is) (none-begins wanted among from s begins fine out)
+pub finds : (wanted : Wanted) (among : List Event) (from : Place) (s t : Search) (found : Bool) (schedule : Option (List Event)) → Begins from s →
+    fails_now wanted from.board ≡ false → LeavesOut wanted among s t (ended_by found) →
+    ((f : Place) → IsOnPath among f s → LeadsOn wanted among f t (ended_by found)) → Finds t found schedule → Answers wanted among from schedule
+finds wanted among from s t true schedule begins fine out on is = subst (Answers wanted among from) (sym is) (on from (begins-on among from s begins))
+finds wanted among from s t false schedule begins fine out on is = subst (Answers wanted among from) (sym is) (none-begins wanted among from s begins fine out)

@@ -8,7 +8,7 @@ use Rattle.brd_journal.specs.Still.{did_nothing}
 use Rattle.brd_journal.proofs.StillLemmas.{happens-leaves}
 use Rattle.brd_explore.specs.Schedules.{Place, does, next, place_after, IsWithin}
 
-not-false : (b : Bool) → not b ≡ false → b ≡ true
+pub not-false : (b : Bool) → not b ≡ false → b ≡ true
 not-false true is = refl
 not-false false is = absurd (false≢true (sym is))
 

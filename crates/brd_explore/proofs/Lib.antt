@@ -6,3 +6,5 @@ mod FindLemmas
 mod PartLemmas
 mod ShrinkLemmas
 mod LawLemmas
+mod LessLemmas
+mod ShardLemmas

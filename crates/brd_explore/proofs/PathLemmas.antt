@@ -1,6 +1,6 @@
 -- The path of a search leads to where it is.
-use Rattle.std.proofs.Common.{◌≡◌, ℕ, zero, suc, ◌+◌, ◌<◌, ◌≤◌, List, [], ◌∷◌, ◌++◌, length, take, refl, sym, ap, subst, ◌∙◌, arith, ◌⊎◌, inl, inr}
-use Rattle.std.specs.Prelude.{Bool, true, false, if◌then◌else◌}
+use Rattle.std.proofs.Common.{◌≡◌, ℕ, ◌+◌, ◌<◌, ◌≤◌, List, [], ◌∷◌, ◌++◌, length, take, refl, sym, ap, subst, ◌∙◌, arith, inl, inr}
+use Rattle.std.specs.Prelude.{true, false, if◌then◌else◌}
 use Rattle.std.proofs.lemmas.Bool.{cases_lt, false≢true}
 use Rattle.std.proofs.lemmas.List.{length-take-le, take_all, take-take, take-append-le, length-append}
 use Rattle.brd_board.specs.declared.event.Event.{Event}
@@ -23,7 +23,7 @@ leads-after among p [] to leads = leads
 leads-after among p (e ∷ es) to leads =
     ap (λ test. if test then place_after (next p e) es else place_after p es) leads.2 ∙ leads-after among (next p e) es to leads.3
 
-leads-on : (among : List Event) (p : Place) (es : List Event) (to : Place) (e : Event) → Leads among p es to →
+pub leads-on : (among : List Event) (p : Place) (es : List Event) (to : Place) (e : Event) → Leads among p es to →
     IsAmong among e → is_left to e ≡ true → does to.board e ≡ true → Leads among p (es ++ e ∷ []) (next to e)
 leads-on among p [] to e leads one left did = (
   one,

@@ -1,6 +1,6 @@
 -- What a search leaves out doesn't fail.
-use Rattle.std.proofs.Common.{◌≡◌, ℕ, zero, suc, ◌+◌, ◌<◌, ◌≤◌, List, [], ◌∷◌, ◌++◌, length, take, refl, sym, ap, subst, ◌∙◌, arith, ◌⊎◌, inl, inr}
-use Rattle.std.specs.Prelude.{Bool, true, false, All, Some, if◌then◌else◌}
+use Rattle.std.proofs.Common.{◌≡◌, ℕ, ◌+◌, ◌<◌, ◌≤◌, List, [], ◌∷◌, length, sym, ap, subst, ◌∙◌, arith, ◌⊎◌, inl, inr}
+use Rattle.std.specs.Prelude.{true, false, All, Some, if◌then◌else◌}
 use Rattle.std.proofs.lemmas.Bool.{cases_lt, cases_Bool, false≢true}
 use Rattle.std.proofs.lemmas.List.Elements.{All-nil, All-push, All-pop}
 use Rattle.brd_board.specs.declared.event.Event.{Event}
@@ -8,18 +8,18 @@ use Rattle.brd_board.specs.Board.{BoardState}
 use Rattle.brd_explore.specs.declared.search.Search.{Search}
 use Rattle.brd_explore.specs.declared.search.Saved.{Saved}
 use Rattle.brd_explore.specs.declared.wanted.Wanted.{Wanted}
-use Rattle.brd_explore.specs.Schedules.{Place, does, is_left, next, place_after, event_at, IsAmong, IsWithin, IsEnd}
+use Rattle.brd_explore.specs.Schedules.{Place, does, is_left, next, place_after, event_at, IsEnd}
 use Rattle.brd_explore.specs.Failures.{fails_now, fails_at_end}
-use Rattle.brd_explore.specs.Searching.{FailsAt, Fails, NoneFails, NoneBegins, NoneFrom, IsTooMuch, place_of, place_of_saved, NoneLeft, HasGone, HasStayed, HasGoneBack, KeepsRest}
+use Rattle.brd_explore.specs.Searching.{FailsAt, NoneFails, NoneBegins, NoneFrom, IsTooMuch, place_of, place_of_saved, NoneLeft, HasGone, HasStayed, HasGoneBack, KeepsRest}
 
 -- whichever way a test of an event goes
-does-or : (b : BoardState) (e : Event) → (does b e ≡ true) ⊎ (does b e ≡ false)
+pub does-or : (b : BoardState) (e : Event) → (does b e ≡ true) ⊎ (does b e ≡ false)
 does-or b e = cases_Bool (does b e)
 
-after-doing : (p : Place) (e : Event) (es : List Event) → does p.board e ≡ true → place_after p (e ∷ es) ≡ place_after (next p e) es
+pub after-doing : (p : Place) (e : Event) (es : List Event) → does p.board e ≡ true → place_after p (e ∷ es) ≡ place_after (next p e) es
 after-doing p e es did = ap (λ test. if test then place_after (next p e) es else place_after p es) did
 
-after-nothing : (p : Place) (e : Event) (es : List Event) → does p.board e ≡ false → place_after p (e ∷ es) ≡ place_after p es
+pub after-nothing : (p : Place) (e : Event) (es : List Event) → does p.board e ≡ false → place_after p (e ∷ es) ≡ place_after p es
 after-nothing p e es none = ap (λ test. if test then place_after (next p e) es else place_after p es) none
 
 -- Where the place doesn't fail, and no schedule that begins with one of the events fails, none does.

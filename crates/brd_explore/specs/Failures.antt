@@ -1,13 +1,14 @@
 -- What of a board is a failure, by now or at the end of a schedule.
-use Rattle.std.specs.Prelude.{◌≡◌, ℕ, zero, suc, ◌+◌, ◌%◌, ◌^◌, nat_lt, nat_le, ◌==◌, Bool, true, false, not, ◌&&◌, ◌||◌, if◌then◌else◌, List, [], ◌∷◌, Option, Some, None, is_some}
+use Rattle.std.specs.Prelude.{ℕ, zero, suc, ◌+◌, ◌%◌, ◌^◌, nat_lt, nat_le, ◌==◌, Bool, false, not, ◌&&◌, ◌||◌, List, []}
+use Rattle.std.specs.Prelude.{◌∷◌, Option, Some, None, is_some}
 use Rattle.std.specs.List.{list_any, starts_with}
 use Rattle.brd_word.specs.declared.order.Order.{Order}
 use Rattle.brd_word.specs.Words.{word_of_bytes}
-use Rattle.brd_mem.specs.Memory.{Memory, byte_at}
+use Rattle.brd_mem.specs.Memory.{byte_at}
 use Rattle.brd_tasks.specs.declared.task.TaskView.{TaskView}
 use Rattle.brd_board.specs.declared.event.Event.{Event}
 use Rattle.brd_board.specs.declared.event.Event.TheVariants.{Step}
-use Rattle.brd_board.specs.Board.{BoardState, after, registers_of, fault_of, task_of}
+use Rattle.brd_board.specs.Board.{BoardState, after, fault_of, task_of}
 use Rattle.brd_explore.specs.Schedules.{does}
 use Rattle.brd_explore.specs.declared.wanted.Failure.{Failure}
 use Rattle.brd_explore.specs.declared.wanted.Failure.TheVariants as failure
@@ -22,7 +23,7 @@ some_below (suc n) has = some_below n has || has n
 abbrev pub has_fault : BoardState → Bool
 has_fault b = some_below 9 (λ cpu. is_some (fault_of b cpu))
 
--- no step of a processor does anything: nobody executes anywhere, and no interrupt is accepted
+-- no step of a processor does anything: nobody executes anywhere, and no interrupt is accepted, or the board is off
 abbrev pub nobody_goes : BoardState → Bool
 nobody_goes b = not (some_below 9 (λ cpu. does b (Step cpu)))
 
@@ -34,10 +35,14 @@ abbrev pub has_due : Option TaskView → Bool
 has_due None = false
 has_due (Some task) = is_some task.due
 
--- A deadlock: the board is on, a task waits, no wait ends by a tick, and nobody goes.
+-- some wait ends by a tick
+abbrev pub some_are_due : BoardState → Bool
+some_are_due b = some_below 256 (λ id. has_due (task_of b id))
+
+-- A deadlock: the board is on, a task waits, no wait ends by a tick, and nobody goes. (An interrupt line that is raised
+-- could still end it.)
 abbrev pub is_stuck : BoardState → Bool
-is_stuck b =
-    not b.kernel.off && some_below 256 (λ id. waits (task_of b id)) && not (some_below 256 (λ id. has_due (task_of b id))) && nobody_goes b
+is_stuck b = not b.kernel.off && some_below 256 (λ id. waits (task_of b id)) && not (some_are_due b) && nobody_goes b
 
 -- the word at an address, where RAM has its four bytes
 abbrev pub word_in : Order → Option ℕ → Option ℕ → Option ℕ → Option ℕ → Option ℕ
@@ -49,7 +54,8 @@ word_in order (Some a) (Some b) (Some c) None = None
 
 unfoldable pub word_of : BoardState → ℕ → Option ℕ
 word_of b address =
-    word_in b.memory.order (byte_at b.memory address) (byte_at b.memory ((address + 1) % 2 ^ 32)) (byte_at b.memory ((address + 2) % 2 ^ 32))
+    word_in b.memory.order (byte_at b.memory address) (byte_at b.memory ((address + 1) % 2 ^ 32))
+    (byte_at b.memory ((address + 2) % 2 ^ 32))
     (byte_at b.memory ((address + 3) % 2 ^ 32))
 
 abbrev pub is_value : ℕ → Option ℕ → Bool
@@ -86,7 +92,8 @@ fails_at_last b failure.On = not b.kernel.off
 unfoldable pub fails_now : Wanted → BoardState → Bool
 fails_now wanted b = list_any (fails_by_now b) wanted.failures
 
--- The fair end: a number of rounds of the same events, in which every processor has its turn, and time passes.
+-- The fair end: a number of rounds of the same events. (Whoever asks for it makes a round in which every processor has
+-- its turn, and time passes.)
 abbrev pub rounds : ℕ → List Event → BoardState → BoardState
 rounds zero round b = b
 rounds (suc n) round b = after (rounds n round b) round
@@ -94,6 +101,17 @@ rounds (suc n) round b = after (rounds n round b) round
 unfoldable pub ended : Wanted → BoardState → BoardState
 ended wanted b = rounds wanted.rounds wanted.round b
 
+-- A board is at rest: it is off, or nobody goes and no wait ends by a tick.
+abbrev pub is_at_rest : BoardState → Bool
+is_at_rest b = b.kernel.off || (not (some_are_due b) && nobody_goes b)
+
+-- An end is judged by what a last board may lack where there is a fair end, or where the board is at rest. (Else the
+-- bounds may have cut the schedule short, and what it lacks says nothing.)
+unfoldable pub is_judged : Wanted → BoardState → Bool
+is_judged wanted b = nat_lt 0 wanted.rounds || is_at_rest b
+
 -- Where a schedule's last board goes on to its fair end, the board there shows a failure, or one of a last board.
 unfoldable pub fails_at_end : Wanted → BoardState → Bool
-fails_at_end wanted b = fails_now wanted (ended wanted b) || list_any (fails_at_last (ended wanted b)) wanted.failures
+fails_at_end wanted b =
+    fails_now wanted (ended wanted b)
+    || (list_any (fails_at_last (ended wanted b)) wanted.failures && is_judged wanted (ended wanted b))

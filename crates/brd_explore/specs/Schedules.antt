@@ -1,5 +1,6 @@
 -- Schedules of a board within bounds: which event may come, and what each takes of the bounds.
-use Rattle.std.specs.Prelude.{◌≡◌, ℕ, ◌-◌, ◌<◌, nat_lt, ◌==◌, Bool, true, false, not, ◌&&◌, ◌||◌, if◌then◌else◌, List, [], ◌∷◌, length, slice_index_or, is_some}
+use Rattle.std.specs.Prelude.{◌≡◌, ℕ, ◌-◌, ◌<◌, nat_lt, ◌==◌, Bool, true, false, not, ◌&&◌, ◌||◌, if◌then◌else◌, List}
+use Rattle.std.specs.Prelude.{[], ◌∷◌, length, slice_index_or, is_some}
 use Rattle.brd_board.specs.declared.event.Event.{Event}
 use Rattle.brd_board.specs.declared.event.Event.TheVariants.{Step, Tick, Raise}
 use Rattle.brd_board.specs.Board.{BoardState, happens, registers_of}
@@ -10,8 +11,9 @@ use Rattle.brd_explore.specs.declared.bounds.Bounds.{Bounds}
 unfoldable pub does : BoardState → Event → Bool
 does b event = not (did_nothing (happens b event).report)
 
--- A step of a processor preempts another one, the one that stepped last, if somebody executes there. Leaving a processor
--- on which nobody executes is free (Musuvathi and Qadeer, Iterative Context Bounding, 2007, count so too).
+-- A step of a processor preempts another one, the one that stepped last, if somebody executes there. Leaving a
+-- processor that can't go on is free (Musuvathi and Qadeer, Iterative Context Bounding, 2007); so is leaving one on
+-- which nobody executes, though an interrupt is about to be accepted there (own choice).
 unfoldable pub preempts : BoardState → ℕ → ℕ → Bool
 preempts b last cpu = not (cpu == last) && is_some (registers_of b last)
 
@@ -56,7 +58,12 @@ is_left p event = affords p.left p.board p.last event
 
 -- the place after an event that does something
 abbrev pub next : Place → Event → Place
-next p event = record { board = (happens p.board event).board; left = spent p.left p.board p.last event; last = stepper p.last event }
+next p event =
+    record {
+      board = (happens p.board event).board;
+      left = spent p.left p.board p.last event;
+      last = stepper p.last event;
+    }
 
 -- The place after a list of events. An event that does nothing is nobody's, and takes nothing of the bounds.
 abbrev pub place_after : Place → List Event → Place
@@ -82,4 +89,5 @@ IsWithin among p (event ∷ events) =
 
 -- A place is an end where nothing more can come: each event that may come does nothing, or nothing is left for it.
 abbrev pub IsEnd : List Event → Place → Type 0
-IsEnd among p = (k : ℕ) → k < length among → is_left p (event_at among k) ≡ true → does p.board (event_at among k) ≡ false
+IsEnd among p =
+    (k : ℕ) → k < length among → is_left p (event_at among k) ≡ true → does p.board (event_at among k) ≡ false

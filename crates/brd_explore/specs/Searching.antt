@@ -1,13 +1,12 @@
--- What fails, and what a search has left.
-use Rattle.std.specs.Prelude.{◌≡◌, ◌⊎◌, ℕ, ◌+◌, ◌≤◌, ◌<◌, Bool, true, false, List, [], ◌∷◌, ◌++◌, length, take, All, replicate}
+-- What fails, and what a search has left. Only the contracts of private functions name the records of a search's state.
+use Rattle.std.specs.Prelude.{◌≡◌, ◌⊎◌, ℕ, zero, suc, ◌+◌, ◌-◌, ◌*◌, ◌≤◌, ◌<◌, Bool, true, false, List, [], ◌∷◌, ◌++◌}
+use Rattle.std.specs.Prelude.{length, take, All, Option, Some, None}
 use Rattle.brd_mem.specs.Memory.{size_of}
 use Rattle.brd_board.specs.declared.event.Event.{Event}
 use Rattle.brd_board.specs.Board.{BoardState}
 use Rattle.brd_explore.specs.declared.wanted.Wanted.{Wanted}
 use Rattle.brd_explore.specs.declared.search.Search.{Search}
 use Rattle.brd_explore.specs.declared.search.Saved.{Saved}
-use Rattle.brd_explore.specs.declared.search.Answer.{Answer}
-use Rattle.brd_explore.specs.declared.search.Answer.TheVariants as answer
 use Rattle.brd_explore.specs.declared.search.Turn.{Turn}
 use Rattle.brd_explore.specs.declared.search.Turn.TheVariants as turn
 use Rattle.brd_explore.specs.Schedules.{Place, does, is_left, next, place_after, event_at, IsAmong, IsWithin, IsEnd}
@@ -27,7 +26,8 @@ NoneFails wanted among p = (events : List Event) → IsWithin among p events →
 
 -- none that begins with an event that does something
 abbrev pub NoneBegins : Wanted → List Event → Place → Event → Type 0
-NoneBegins wanted among p event = does p.board event ≡ true → is_left p event ≡ true → NoneFails wanted among (next p event)
+NoneBegins wanted among p event =
+    does p.board event ≡ true → is_left p event ≡ true → NoneFails wanted among (next p event)
 
 -- none that begins with one of the events from an index on
 abbrev pub NoneFrom : Wanted → List Event → Place → ℕ → Type 0
@@ -85,7 +85,8 @@ pub record IsSized (s : Search) : Type 0 where
 abbrev pub KeepsRest : List Event → Search → ℕ → Search → Type 0
 KeepsRest among s at t =
     ((t.saved.items ≡ s.saved.items) × IsTooMuch among (place_of s) (at + 1) (length among))
-    ⊎ ((f : Saved) × (t.saved.items ≡ s.saved.items ++ f ∷ []) × (place_of_saved f ≡ place_of s) × (f.at ≡ at + 1) × (f.len ≡ length s.path.items))
+    ⊎ ((f : Saved) × (t.saved.items ≡ s.saved.items ++ f ∷ []) × (place_of_saved f ≡ place_of s) × (f.at ≡ at + 1)
+    × (f.len ≡ length s.path.items))
 
 -- it has gone on by an event that did something
 pub record HasGone (among : List Event) (s : Search) (n : ℕ) (t : Search) : Type 0 where
@@ -145,18 +146,44 @@ pub record IsSame (s t : Search) : Type 0 where
 
 -- the place after an event that has done something, or the same one
 abbrev pub Takes : Search → Event → Search → Bool → Type 0
-Takes s event t true = (does s.board event ≡ true) × (place_of t ≡ next (place_of s) event) × (t.at ≡ 0) × (t.fresh ≡ true) × (t.path.items ≡ s.path.items ++ event ∷ [])
-Takes s event t false = (does s.board event ≡ false) × (place_of t ≡ place_of s) × (t.at ≡ s.at) × (t.fresh ≡ s.fresh) × (t.path.items ≡ s.path.items)
+Takes s event t true =
+    (does s.board event ≡ true) × (place_of t ≡ next (place_of s) event) × (t.at ≡ 0) × (t.fresh ≡ true)
+    × (t.path.items ≡ s.path.items ++ event ∷ [])
+Takes s event t false =
+    (does s.board event ≡ false) × (place_of t ≡ place_of s) × (t.at ≡ s.at) × (t.fresh ≡ s.fresh)
+    × (t.path.items ≡ s.path.items)
 
--- What a search answers is so: the schedule is within the bounds and fails, or no schedule within the bounds fails. One
--- that was stopped says nothing.
-abbrev pub Answers : Wanted → List Event → Place → Answer → Type 0
-Answers wanted among from (answer.Fails events) = IsWithin among from events.items × Fails wanted among from events.items
-Answers wanted among from answer.NoneFails = NoneFails wanted among from
-Answers wanted among from answer.Stopped = Unit {0}
+-- How many turns a search takes at most from a place for which so many events are left, of n that may come, and of
+-- which the first ones have been tried: one to go back, and for each event one to try it, and those from the place
+-- after it.
+abbrev pub most_turns : ℕ → ℕ → ℕ → ℕ
+most_turns n zero tried = 1
+most_turns n (suc left) tried = 1 + (n - tried) * (1 + most_turns n left 0)
+
+abbrev pub most_saved : ℕ → List Saved → ℕ
+most_saved n [] = 0
+most_saved n (f ∷ fs) = most_turns n f.left.events f.at + most_saved n fs
+
+abbrev pub turns_left : List Event → Search → ℕ
+turns_left among s = most_turns (length among) s.left.events s.at + most_saved (length among) s.saved.items
+
+-- a search that goes on has fewer turns left
+abbrev pub HasLess : List Event → Search → Search → Turn → Type 0
+HasLess among s t turn.On = turns_left among t < turns_left among s
+HasLess among s t turn.Found = Unit {0}
+HasLess among s t turn.Over = Unit {0}
+
+-- how a search ends that has found a schedule, and one that hasn't
+abbrev pub ended_by : Bool → Turn
+ended_by true = turn.Found
+ended_by false = turn.Over
+
+-- What a search answers is so: the schedule is within the bounds and fails, or no schedule within the bounds fails.
+abbrev pub Answers : Wanted → List Event → Place → Option (List Event) → Type 0
+Answers wanted among from (Some events) = IsWithin among from events × Fails wanted among from events
+Answers wanted among from None = NoneFails wanted among from
 
 -- which answer follows from what a search came to
-abbrev pub Finds : Search → Turn → Answer → Type 0
-Finds s turn.On found = found ≡ answer.Stopped
-Finds s turn.Found found = found ≡ answer.Fails s.path
-Finds s turn.Over found = found ≡ answer.NoneFails
+abbrev pub Finds : Search → Bool → Option (List Event) → Type 0
+Finds s true found = found ≡ Some s.path.items
+Finds s false found = found ≡ None

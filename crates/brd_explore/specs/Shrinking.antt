@@ -1,11 +1,12 @@
 -- What is left of a list of events that fails.
-use Rattle.std.specs.Prelude.{◌≡◌, ◌⊎◌, ℕ, ◌+◌, ◌<◌, Bool, true, false, ◌||◌, List, [], ◌∷◌, ◌++◌, length, take, drop}
+use Rattle.std.specs.Prelude.{◌≡◌, ◌⊎◌, ℕ, ◌+◌, ◌<◌, Bool, false, ◌||◌, List, [], ◌∷◌, ◌++◌, length, take, drop}
 use Rattle.brd_board.specs.declared.event.Event.{Event}
 use Rattle.brd_board.specs.Board.{BoardState, after}
 use Rattle.brd_explore.specs.declared.wanted.Wanted.{Wanted}
 use Rattle.brd_explore.specs.Failures.{fails_now, fails_at_end}
 
--- A list of events fails: the board after it shows a failure, or the fair end of the list does.
+-- A list of events fails: the board after it shows a failure, or the end of the list does. (Unlike a schedule within
+-- bounds, a list may end where more could come; where there is no fair end, its last board is the end.)
 unfoldable pub fails_after : Wanted → BoardState → Bool
 fails_after wanted b = fails_now wanted b || fails_at_end wanted b
 

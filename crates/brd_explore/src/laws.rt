@@ -1,9 +1,13 @@
 //! What is true of all schedules.
 
-ghost use Rattle.std.specs.Prelude.{◌≡◌, ◌++◌, List};
+ghost use Rattle.std.specs.Prelude.{◌≡◌, ◌++◌, ◌<◌, ℕ, List};
 ghost use Rattle.brd_board.specs.declared.event.Event.{Event as EventOf};
 ghost use Rattle.brd_board.specs.Board.{after};
 ghost use Rattle.brd_explore.specs.Schedules.{Place, place_after, IsWithin};
+ghost use Rattle.brd_explore.specs.Searching.{NoneFails};
+ghost use Rattle.brd_explore.specs.Shards.{NoneFailsInShard};
+ghost use Rattle.brd_explore.specs.declared.shard.Shard.{Shard as ShardOf};
+ghost use Rattle.brd_explore.specs.declared.wanted.Wanted.{Wanted as WantedOf};
 
 /// The board at the end of a schedule is the one after its events, also of those that do nothing.
 pub fn a_schedule_is_its_events()
@@ -15,4 +19,11 @@ pub fn a_schedule_is_its_events()
 pub fn beginnings_are_within()
     ensures { (among : List EventOf) (place : Place) (events more : List EventOf) →
         IsWithin among place (events ++ more) → IsWithin among place events }
+{}
+
+/// The shards of a number of them are the whole: where none of their schedules fails, none within the bounds does.
+pub fn shards_are_the_whole()
+    ensures { (of : ℕ) → 0 < of → (wanted : WantedOf) (among : List EventOf) (place : Place) →
+        ((shard : ShardOf) → shard.of ≡ of → shard.number < of → NoneFailsInShard wanted shard among place 0) →
+        NoneFails wanted among place }
 {}

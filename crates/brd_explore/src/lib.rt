@@ -4,10 +4,12 @@
 mod bounds;
 pub mod laws;
 mod search;
+mod shard;
 mod shrinking;
 mod wanted;
 
 pub use bounds::Bounds;
-pub use search::{Answer, Found, ToTheEnd, Watch, find};
+pub use search::{Found, Nobody, Watch, find};
+pub use shard::{Shard, find_in_shard};
 pub use shrinking::{fails, shrink};
 pub use wanted::{Failure, Wanted};

@@ -1,6 +1,7 @@
 //! The search: depth first, by a stack of places to go back to.
 
-ghost use Rattle.std.specs.Prelude.{◌≡◌, ◌&&◌, take, ◌∷◌, ◌++◌, ◌+◌, ◌≤◌, ◌<◌, [], ℕ, true, false, length, List as ListOf, IfOk, OnOk, IfSome, IfNone, All, Some, None};
+ghost use Rattle.std.specs.Prelude.{option_map, ◌≡◌, ◌&&◌, take, ◌∷◌, ◌++◌, ◌+◌, ◌≤◌, ◌<◌, [], ℕ, true, false, length};
+ghost use Rattle.std.specs.Prelude.{List as ListOf, IfOk, OnOk, IfSome, IfNone, All, Some, None};
 ghost use Rattle.brd_board.specs.declared.event.Event.{Event as EventOf};
 ghost use Rattle.brd_board.specs.Board.{happens};
 ghost use Rattle.brd_explore.specs.Schedules.{does, Place, is_left, next, event_at, IsWithin, IsAmong, start};
@@ -21,6 +22,8 @@ ghost use Rattle.brd_explore.specs.Searching.{
   LeadsOn,
   Answers,
   Finds,
+  HasLess,
+  ended_by,
   place_of,
   place_of_saved,
 };
@@ -45,26 +48,26 @@ pub struct Saved {
 
 /// Where a search is.
 pub struct Search {
-    board: Board,
-    left: Bounds,
-    last: u8,
+    pub(crate) board: Board,
+    pub(crate) left: Bounds,
+    pub(crate) last: u8,
     /// The index of the first event that is still to be tried here.
-    at: usize,
+    pub(crate) at: usize,
     /// Whether no event that was tried here has done anything.
-    fresh: bool,
+    pub(crate) fresh: bool,
     /// The events that lead here.
-    path: Vec<Event>,
+    pub(crate) path: Vec<Event>,
     /// The places to go back to, the last one first.
-    saved: Vec<Saved>,
+    pub(crate) saved: Vec<Saved>,
     /// Boards that are needed no more.
-    spare: Vec<Board>,
+    pub(crate) spare: Vec<Board>,
     /// How many schedules have come to their end.
-    tried: u64,
+    pub(crate) tried: u64,
 }
 
 /// What a turn of a search came to.
 #[derive(Clone, Copy, PartialEq, Eq)]
-enum Turn {
+pub(crate) enum Turn {
     /// The search goes on.
     On,
     /// The path fails.
@@ -120,7 +123,9 @@ impl Saved {
 impl Search {
     /// The index of the first event, from this one on, for which something is left here.
     fn choice(&self, among: &[Event], from: usize) -> Option<usize>
-        ensures some { IfSome result (λ at. (from ≤ at) × (at < length among.now) × (is_left (place_of self.now) (event_at among.now at) ≡ true) × IsTooMuch among.now (place_of self.now) from at) }
+        ensures some { IfSome result
+            (λ at. (from ≤ at) × (at < length among.now) × (is_left (place_of self.now) (event_at among.now at) ≡ true)
+            × IsTooMuch among.now (place_of self.now) from at) }
         ensures none { IfNone result (IsTooMuch among.now (place_of self.now) from (length among.now)) }
     {
         for at in from..among.len() {
@@ -148,7 +153,8 @@ impl Search {
     /// A copy of this place, where the events from an index on are still to be tried.
     fn saved(&mut self, at: usize) -> Result<Saved, NoMemory>
         requires { IsSized self.old }
-        ensures saved { IfOk result (λ f. (place_of_saved f ≡ place_of self.old) × (f.at ≡ at) × (f.len ≡ length self.old.path.items)) }
+        ensures saved { IfOk result
+            (λ f. (place_of_saved f ≡ place_of self.old) × (f.at ≡ at) × (f.len ≡ length self.old.path.items)) }
         ensures rest { IsSame self.old self.new }
         ensures sized { IsSized self.new }
     {
@@ -163,7 +169,7 @@ impl Search {
     }
 
     /// Does an event. Answers whether it has done something, and is at the place after it then.
-    fn take(&mut self, event: Event) -> Result<bool, NoMemory>
+    pub(crate) fn take(&mut self, event: Event) -> Result<bool, NoMemory>
         requires { IsSized self.old }
         ensures is { IfOk result (λ done. Takes self.old event self.new done) }
         ensures saved { self.new.saved.items ≡ self.old.saved.items }
@@ -211,7 +217,8 @@ impl Search {
     fn try_from(&mut self, among: &[Event], at: usize, saved: Saved) -> Result<bool, NoMemory>
         requires sized { IsSized self.old }
         requires within { at < length among.now }
-        requires saved { (place_of_saved saved ≡ place_of self.old) × (saved.at ≡ at + 1) × (saved.len ≡ length self.old.path.items) }
+        requires saved { (place_of_saved saved ≡ place_of self.old) × (saved.at ≡ at + 1)
+            × (saved.len ≡ length self.old.path.items) }
         ensures is { IfOk result (λ done. Tries among.now self.old at self.new done) }
         ensures sized { IsSized self.new }
     {
@@ -244,7 +251,9 @@ impl Search {
         requires left { is_left (place_of self.old) (event_at among.now at) ≡ true }
         requires before { IsTooMuch among.now (place_of self.old) self.old.at at }
         ensures out { IfOk result (LeavesOut wanted.now among.now self.old self.new) }
-        ensures on { (from : Place) → IsOnPath among.now from self.old → IfOk result (LeadsOn wanted.now among.now from self.new) }
+        ensures on { (from : Place) → IsOnPath among.now from self.old
+            → IfOk result (LeadsOn wanted.now among.now from self.new) }
+        ensures falls { IfOk result (HasLess among.now self.old self.new) }
         ensures sized { IsSized self.new }
     {
         let done = self.try_event(among, at)?;
@@ -271,7 +280,8 @@ impl Search {
     fn put_back(&mut self, saved: Saved)
         requires sized { IsSized self.old }
         requires alike { AreAlike saved.board self.old.board }
-        ensures place { (place_of self.new ≡ place_of_saved saved) × (self.new.at ≡ saved.at) × (self.new.fresh ≡ false) }
+        ensures place { (place_of self.new ≡ place_of_saved saved) × (self.new.at ≡ saved.at)
+            × (self.new.fresh ≡ false) }
         ensures path { self.new.path.items ≡ take saved.len self.old.path.items }
         ensures saved { self.new.saved.items ≡ self.old.saved.items }
         ensures sized { IsSized self.new }
@@ -286,7 +296,7 @@ impl Search {
     }
 
     /// Whether this is an end that fails. The board goes on to its fair end.
-    fn ends_badly(&mut self, wanted: &Wanted) -> Result<bool, NoMemory>
+    pub(crate) fn ends_badly(&mut self, wanted: &Wanted) -> Result<bool, NoMemory>
         requires { IsSized self.old }
         ensures is { IfOk result (λ fails. fails ≡ (self.old.fresh && fails_at_end wanted.now self.old.board)) }
         ensures saved { self.new.saved.items ≡ self.old.saved.items }
@@ -305,7 +315,9 @@ impl Search {
         requires sized { IsSized self.old }
         requires rest { IsTooMuch among.now (place_of self.old) self.old.at (length among.now) }
         ensures out { IfOk result (LeavesOut wanted.now among.now self.old self.new) }
-        ensures on { (from : Place) → IsOnPath among.now from self.old → IfOk result (LeadsOn wanted.now among.now from self.new) }
+        ensures on { (from : Place) → IsOnPath among.now from self.old
+            → IfOk result (LeadsOn wanted.now among.now from self.new) }
+        ensures falls { IfOk result (HasLess among.now self.old self.new) }
         ensures sized { IsSized self.new }
     {
         let _ = among.len();
@@ -322,7 +334,9 @@ impl Search {
     fn turn(&mut self, among: &[Event], wanted: &Wanted) -> Result<Turn, NoMemory>
         requires { IsSized self.old }
         ensures out { IfOk result (LeavesOut wanted.now among.now self.old self.new) }
-        ensures on { (from : Place) → IsOnPath among.now from self.old → IfOk result (LeadsOn wanted.now among.now from self.new) }
+        ensures on { (from : Place) → IsOnPath among.now from self.old
+            → IfOk result (LeadsOn wanted.now among.now from self.new) }
+        ensures falls { IfOk result (HasLess among.now self.old self.new) }
         ensures sized { IsSized self.new }
     {
         match self.choice(among, self.at) {
@@ -331,28 +345,30 @@ impl Search {
         }
     }
 
-    /// Takes turns until something is found or nothing is left, or until it is told to stop.
-    fn run<W: Watch>(
+    /// Takes turns until something is found, or nothing is left. Answers whether something is found.
+    pub(crate) fn run<W: Watch>(
         &mut self,
         among: &[Event],
         wanted: &Wanted,
         watch: &mut W,
-    ) -> Result<Turn, NoMemory>
+    ) -> Result<bool, NoMemory>
         requires { IsSized self.old }
-        ensures out { IfOk result (LeavesOut wanted.now among.now self.old self.new) }
-        ensures on { (from : Place) → IsOnPath among.now from self.old → IfOk result (LeadsOn wanted.now among.now from self.new) }
+        ensures out { IfOk result (λ found. LeavesOut wanted.now among.now self.old self.new (ended_by found)) }
+        ensures on { (from : Place) → IsOnPath among.now from self.old
+            → IfOk result (λ found. LeadsOn wanted.now among.now from self.new (ended_by found)) }
+        ensures sized { IsSized self.new }
     {
-        for _ in 0..u64::MAX {
-            let turn = self.turn(among, wanted)?;
-            if turn != Turn::On || !watch.goes_on(self.tried) {
-                return Ok(turn);
+        loop {
+            match self.turn(among, wanted)? {
+                Turn::Found => return Ok(true),
+                Turn::Over => return Ok(false),
+                Turn::On => watch.tried(self.tried),
             }
         }
-        Ok(Turn::On)
     }
 
     /// A search that begins at a board.
-    fn new(alloc: Global, board: &Board, bounds: Bounds) -> Result<Search, NoMemory>
+    pub(crate) fn new(alloc: Global, board: &Board, bounds: Bounds) -> Result<Search, NoMemory>
         ensures place { IfOk result (λ s. place_of s ≡ start board.now bounds) }
         ensures begins { IfOk result (λ s. (s.at ≡ 0) × (s.fresh ≡ true) × (s.path.items ≡ []) × (s.saved.items ≡ [])) }
         ensures sized { IfOk result IsSized }
@@ -372,7 +388,7 @@ impl Search {
     }
 
     /// Its path.
-    fn into_path(self) -> Vec<Event>
+    pub(crate) fn into_path(self) -> Vec<Event>
         ensures { result ≡ self.path }
     {
         let Search {
@@ -390,51 +406,34 @@ impl Search {
     }
 
     /// What it came to, and how many schedules it has tried.
-    fn into_found(self, turn: Turn) -> Found
-        ensures { Finds self turn result.answer }
+    pub(crate) fn into_found(self, found: bool) -> Found
+        ensures { Finds self found (option_map (λ events. events.items) result.schedule) }
     {
         let tried = self.tried;
-        let answer = match turn {
-            Turn::Found => Answer::Fails(self.into_path()),
-            Turn::Over => Answer::NoneFails,
-            Turn::On => Answer::Stopped,
-        };
-        Found { answer, tried }
+        let schedule = if found { Some(self.into_path()) } else { None };
+        Found { schedule, tried }
     }
 }
 
-/// What is told how many schedules a search has tried, and may stop it.
+/// What is told how many schedules a search has tried.
 pub trait Watch {
-    /// So many schedules have come to their end. Answers whether the search is to go on.
-    fn goes_on(&mut self, tried: u64) -> bool;
+    /// So many schedules have come to their end.
+    fn tried(&mut self, schedules: u64);
 }
 
-/// What lets a search go on to its end.
+/// Who doesn't watch.
 #[derive(Clone, Copy)]
-pub struct ToTheEnd;
+pub struct Nobody;
 
-impl Watch for ToTheEnd {
-    fn goes_on(&mut self, _tried: u64) -> bool {
-        true
-    }
-}
-
-/// What a search answers.
-#[derive(Drop)]
-pub enum Answer {
-    /// This schedule is within the bounds, and fails.
-    Fails(Vec<Event>),
-    /// No schedule within the bounds fails.
-    NoneFails,
-    /// It was told to stop, and says nothing. (It stops by itself after 2^64 - 1 turns.)
-    Stopped,
+impl Watch for Nobody {
+    fn tried(&mut self, _schedules: u64) {}
 }
 
 /// What a search came to.
 #[derive(Drop)]
 pub struct Found {
-    /// What it answers.
-    pub answer: Answer,
+    /// A schedule within the bounds that fails. `None`: no schedule that was to be searched fails.
+    pub schedule: Option<Vec<Event>>,
     /// How many schedules have come to their end.
     pub tried: u64,
 }
@@ -448,15 +447,17 @@ pub fn find<W: Watch>(
     wanted: &Wanted,
     watch: &mut W,
 ) -> Result<Found, NoMemory>
-    ensures { IfOk result (λ found. Answers wanted.now among.now (start board.now bounds) found.answer) }
+    ensures { IfOk result
+        (λ found.
+        Answers wanted.now among.now (start board.now bounds) (option_map (λ events. events.items) found.schedule)) }
 {
     if wanted.fails_now(board)? {
         return Ok(Found {
-            answer: Answer::Fails(Vec::new(alloc)),
+            schedule: Some(Vec::new(alloc)),
             tried: 0,
         });
     }
     let mut search = Search::new(alloc, board, bounds)?;
-    let turn = search.run(among, wanted, watch)?;
-    Ok(search.into_found(turn))
+    let found = search.run(among, wanted, watch)?;
+    Ok(search.into_found(found))
 }

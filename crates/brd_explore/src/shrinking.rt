@@ -123,7 +123,10 @@ fn needless(
     wanted: &Wanted,
 ) -> Result<Option<usize>, NoMemory>
     requires alike { AreAlike scratch.old board.now }
-    ensures some { IfOk result (λ found. IfSome found (λ at. (at < length events.now) × (is_failing wanted.now board.now (without events.now at (at + 1)) ≡ true))) }
+    ensures some { IfOk result
+        (λ found.
+        IfSome found
+        (λ at. (at < length events.now) × (is_failing wanted.now board.now (without events.now at (at + 1)) ≡ true))) }
     ensures none { IfOk result (λ found. IfNone found (IsLeast wanted.now board.now events.now)) }
     ensures alike { AreAlike scratch.new board.now }
 {

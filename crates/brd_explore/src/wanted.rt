@@ -5,6 +5,7 @@ ghost use Rattle.std.specs.List.{list_any};
 ghost use Rattle.brd_board.specs.Board.{after};
 ghost use Rattle.brd_explore.specs.Failures.{
   nobody_goes,
+  is_judged,
   is_stuck,
   some_below,
   waits,
@@ -54,7 +55,7 @@ pub enum Failure {
         /// The most that it may be.
         most: u32,
     },
-    /// At the end the board is still on.
+    /// At the end the board is on.
     On,
 }
 
@@ -65,7 +66,8 @@ pub struct Wanted {
     pub failures: List<Failure>,
     /// The events of a round of the fair end.
     pub round: List<Event>,
-    /// How many rounds the fair end has: 0 where the schedule's last event is the end.
+    /// How many rounds the fair end has: 0 where the schedule's last event is the end. That is judged by what it lacks
+    /// only where the board is at rest.
     pub rounds: u32,
 }
 
@@ -93,7 +95,59 @@ impl Wanted {
         if self.fails_now(board)? {
             return Ok(true);
         }
-        Ok(self.fails_at_last(board))
+        if self.fails_at_last(board) {
+            return self.is_judged(board);
+        }
+        Ok(false)
+    }
+
+    /// Whether an end is judged by what it lacks: there is a fair end, or the board is at rest.
+    #[tactic(auto, unfolding(crate::specs::Failures::is_judged))]
+    fn is_judged(&self, board: &Board) -> Result<bool, NoMemory>
+        ensures { IfOk result (λ judged. judged ≡ is_judged self.now board.now) }
+    {
+        if self.rounds > 0 || board.is_off() {
+            return Ok(true);
+        }
+        if some_are_due(board) {
+            return Ok(false);
+        }
+        nobody_goes(board)
+    }
+
+    /// The first failure that the last board of a list that fails shows. The board goes on to its fair end where it
+    /// shows none before.
+    pub fn shown(&self, board: &mut Board) -> Result<Option<&Failure>, NoMemory> {
+        let now = self.shown_now(board)?;
+        if now.is_some() {
+            return Ok(now);
+        }
+        self.play_fairly(board);
+        let now = self.shown_now(board)?;
+        if now.is_some() {
+            return Ok(now);
+        }
+        Ok(self.shown_at_last(board))
+    }
+
+    /// The first failure that a board shows.
+    fn shown_now(&self, board: &Board) -> Result<Option<&Failure>, NoMemory> {
+        for failure in self.failures.as_slice() {
+            if failure.shows(board)? {
+                return Ok(Some(failure));
+            }
+        }
+        Ok(None)
+    }
+
+    /// The first failure that a last board shows.
+    fn shown_at_last(&self, board: &Board) -> Option<&Failure> {
+        for failure in self.failures.as_slice() {
+            if failure.shows_at_last(board) {
+                return Some(failure);
+            }
+        }
+        None
     }
 
     /// Whether a list's last board shows a failure, or the list's end does. The board goes on to its fair end.

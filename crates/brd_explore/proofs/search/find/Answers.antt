@@ -1,12 +1,14 @@
-use Rattle.std.proofs.Common.{sym, ◌∙◌}
+use Rattle.std.proofs.Common.{sym, ◌∙◌, Vec, Global}
+use Rattle.std.specs.Prelude.{option_map}
+use Rattle.brd_board.specs.declared.event.Event.{Event}
 use Rattle.brd_explore.specs.Schedules.{start}
 use Rattle.brd_explore.proofs.FindLemmas.{finds}
 use Rattle.brd_explore.proofs.search.find.Goals as goal
 
 pub returns : goal.returns
 returns g c =
-    finds c.args.wanted.now c.args.among.now (start c.args.board.now c.args.bounds) c.in_ok-search.search c.run.new.self c.in_ok-turn.turn
-    c.into_found.result.answer
+    finds c.args.wanted.now c.args.among.now (start c.args.board.now c.args.bounds) c.in_ok-search.search c.run.new.self c.in_ok-found.found
+    (option_map (λ (v : Vec Event Global). v.items) c.into_found.result.schedule)
     (record {
       place = c.in_ok-search.ensures.place;
       at = c.in_ok-search.ensures.begins.0;
@@ -14,4 +16,4 @@ returns g c =
       path = c.in_ok-search.ensures.begins.2;
       saved = c.in_ok-search.ensures.begins.3;
     })
-    (sym c.in_ok-fails_now.ensures ∙ c.if-branch.false) c.in_ok-turn.ensures.out c.in_ok-turn.ensures.on c.into_found.ensures
+    (sym c.in_ok-fails_now.ensures ∙ c.if-branch.false) c.in_ok-found.ensures.out c.in_ok-found.ensures.on c.into_found.ensures

@@ -1,5 +1,5 @@
 -- What is left fails still.
-use Rattle.std.specs.Prelude.{◌≡◌, ◌-◌, true, length}
+use Rattle.std.specs.Prelude.{◌≡◌, true, length}
 use Rattle.brd_explore.specs.Searching.{AreAlike}
 use Rattle.brd_explore.specs.Shrinking.{is_failing, IsPart}
 use Rattle.brd_explore.proofs.shrinking.leave_out_each.Given as goal

@@ -1,4 +1,4 @@
-use Rattle.std.proofs.Common.{sym, ap, ◌∙◌, arith}
+use Rattle.std.proofs.Common.{sym, ◌∙◌, arith}
 use Rattle.brd_board.specs.Board.{task_of}
 use Rattle.brd_explore.specs.Failures.{has_due}
 use Rattle.brd_explore.proofs.FailureLemmas.{some-none, some-more, some-found}

@@ -1,7 +1,7 @@
 -- None of those so far does.
-use Rattle.std.specs.Prelude.{◌≡◌, false, is_some}
+use Rattle.std.specs.Prelude.{◌≡◌, false}
 use Rattle.brd_board.specs.Board.{task_of}
-use Rattle.brd_explore.specs.Failures.{some_below, waits, has_due}
+use Rattle.brd_explore.specs.Failures.{some_below, waits}
 use Rattle.brd_explore.proofs.wanted.some_wait.Given as goal
 
 abbrev pub invariant-loop-id : goal.invariant-loop-id

@@ -1,4 +1,4 @@
-use Rattle.std.proofs.Common.{◌≡◌, refl, ap, ◌∙◌}
+use Rattle.std.proofs.Common.{refl, ap}
 use Rattle.brd_board.specs.Board.{BoardState}
 use Rattle.brd_explore.specs.Searching.{place_of}
 use Rattle.brd_explore.proofs.SizeLemmas.{sized-moved, none-done, some-done, alike-done, same-place}

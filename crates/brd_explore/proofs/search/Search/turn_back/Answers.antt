@@ -1,8 +1,8 @@
-use Rattle.std.proofs.Common.{◌≡◌, sym, ◌∙◌}
-use Rattle.std.specs.Prelude.{true, ◌&&◌}
+use Rattle.std.proofs.Common.{sym, ◌∙◌}
 use Rattle.brd_explore.specs.Failures.{fails_at_end}
 use Rattle.brd_explore.proofs.SearchLemmas.{leaves-back, leaves-over}
 use Rattle.brd_explore.proofs.PathLemmas.{on-back-gone, found-end}
+use Rattle.brd_explore.proofs.LessLemmas.{less-back}
 use Rattle.brd_explore.proofs.FindLemmas.{both-true, not-both, back-same}
 use Rattle.brd_explore.proofs.search.Search.turn_back.Goals as goal
 
@@ -29,3 +29,7 @@ returns-clause-out c =
     leaves-over c.args.wanted.now c.args.among.now c.args.self.now c.requires.rest
     (not-both c.args.self.now.fresh (fails_at_end c.args.wanted.now c.args.self.now.board) (sym c.in_ok-ends_badly.ensures.is ∙ c.if-branch.false))
     (sym c.ends_badly.ensures.saved ∙ c.if-go_back.ensures.is)
+
+pub returns-then-go_back-clause-falls : goal.returns-then-go_back-clause-falls
+returns-then-go_back-clause-falls c = less-back c.args.among.now c.args.self.now c.go_back.new.self
+    (back-same c.args.self.now c.ends_badly.new.self c.go_back.new.self c.ends_badly.ensures.saved c.ends_badly.ensures.path c.if-go_back.ensures.is)

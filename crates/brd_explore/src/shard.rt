@@ -1,0 +1,270 @@
+//! A search that several machines share, by the branches that leave its first schedule.
+
+ghost use Rattle.std.specs.Prelude.{option_map, ◌≡◌, ◌+◌, ◌%◌, ◌<◌, [], ℕ, true, length, IfOk, IfSome, IfNone};
+ghost use Rattle.brd_explore.specs.Schedules.{event_at, start};
+ghost use Rattle.brd_explore.specs.Searching.{IsSized, place_of};
+ghost use Rattle.brd_explore.specs.Shards.{AnswersInShard, may_come, ways};
+ghost use Rattle.brd_explore.specs.Sharing.{BeginsHere, EndsTrunk, GoesAlong, IsFirst, IsOnTrunk, SearchesBranch};
+ghost use Rattle.brd_explore.specs.Sharing.{SearchesBranches, SearchesFrom, SearchesShard, SearchesWay};
+
+use crate::bounds::{Bounds, did_nothing};
+use crate::search::{Found, Search, Turn, Watch};
+use crate::wanted::Wanted;
+use brd_base::NoMemory;
+use brd_board::{Board, Event};
+use std::alloc::Global;
+
+/// One of the shards of a search.
+#[derive(Clone, Copy, Debug, PartialEq, Eq)]
+pub struct Shard {
+    /// Its number, from 0.
+    pub number: u32,
+    /// How many shards there are.
+    pub of: u32,
+}
+
+/// Searches those schedules of a board within bounds that are in a shard, for one that fails.
+pub fn find_in_shard<W: Watch>(
+    alloc: Global,
+    board: &Board,
+    bounds: Bounds,
+    among: &[Event],
+    shard: Shard,
+    wanted: &Wanted,
+    watch: &mut W,
+) -> Result<Found, NoMemory>
+    requires { 0 < shard.of }
+    ensures { IfOk result
+        (λ found.
+        AnswersInShard wanted.now shard among.now (start board.now bounds)
+        (option_map (λ events. events.items) found.schedule)) }
+{
+    if wanted.fails_now(board)? {
+        return Ok(Found {
+            schedule: Some(Vec::new(alloc)),
+            tried: 0,
+        });
+    }
+    let mut trunk = Search::new(alloc, board, bounds)?;
+    let found = trunk.run_in_shard(among, shard, wanted, watch)?;
+    Ok(trunk.into_found(found))
+}
+
+impl Search {
+    /// Goes along the trunk, and searches the branches of a shard. Answers whether something is found.
+    fn run_in_shard<W: Watch>(
+        &mut self,
+        among: &[Event],
+        shard: Shard,
+        wanted: &Wanted,
+        watch: &mut W,
+    ) -> Result<bool, NoMemory>
+        requires of { 0 < shard.of }
+        requires trunk { IsOnTrunk wanted.now self.old }
+        ensures { IfOk result (SearchesShard wanted.now shard among.now self.old self.new) }
+    {
+        let mut number = 0;
+        loop {
+            match self.along(among, shard, &mut number, wanted, watch)? {
+                Turn::Found => return Ok(true),
+                Turn::Over => return Ok(false),
+                Turn::On => (),
+            }
+        }
+    }
+
+    /// Searches the branches of a shard that leave the trunk here, and goes on along the trunk. `number` is that of the
+    /// branches so far, without whole multiples of how many shards there are.
+    fn along<W: Watch>(
+        &mut self,
+        among: &[Event],
+        shard: Shard,
+        number: &mut u32,
+        wanted: &Wanted,
+        watch: &mut W,
+    ) -> Result<Turn, NoMemory>
+        requires of { 0 < shard.of }
+        requires trunk { IsOnTrunk wanted.now self.old }
+        requires number { number.old < shard.of }
+        ensures goes { IfOk result (GoesAlong wanted.now shard among.now self.old number.old self.new number.new) }
+        ensures number { number.new < shard.of }
+    {
+        let Some(first) = self.first_way(among)? else {
+            return Ok(if self.trunk_ends(among, wanted)? {
+                Turn::Found
+            } else {
+                Turn::Over
+            });
+        };
+        if self.search_branches(among, first, shard, number, wanted, watch)? {
+            return Ok(Turn::Found);
+        }
+        self.take(among[first])?;
+        if wanted.fails_now(&self.board)? {
+            return Ok(Turn::Found);
+        }
+        Ok(Turn::On)
+    }
+
+    /// Whether the end of the trunk, where no event may come, fails.
+    fn trunk_ends(&mut self, among: &[Event], wanted: &Wanted) -> Result<bool, NoMemory>
+        requires trunk { IsOnTrunk wanted.now self.old }
+        requires over { ways among.now (place_of self.old) (length among.now) ≡ 0 }
+        ensures { IfOk result (EndsTrunk wanted.now among.now self.old self.new) }
+    {
+        let _ = among.len();
+        self.ends_badly(wanted)
+    }
+
+    /// Searches the branches of a shard that leave the trunk here. Answers whether something is found.
+    fn search_branches<W: Watch>(
+        &mut self,
+        among: &[Event],
+        first: usize,
+        shard: Shard,
+        number: &mut u32,
+        wanted: &Wanted,
+        watch: &mut W,
+    ) -> Result<bool, NoMemory>
+        requires of { 0 < shard.of }
+        requires sized { IsSized self.old }
+        requires first { IsFirst among.now (place_of self.old) first }
+        requires number { number.old < shard.of }
+        ensures is { IfOk result (SearchesBranches wanted.now shard among.now self.old number.old self.new number.new) }
+        ensures number { number.new < shard.of }
+        ensures sized { IsSized self.new }
+    {
+        for at in first + 1..among.len() {
+            if self.search_way(among, at, shard, number, wanted, watch)? {
+                return Ok(true);
+            }
+        }
+        Ok(false)
+    }
+
+    /// Searches the branch that leaves the trunk by an event, if that may come and the branch is one of the shard's.
+    /// Answers whether something is found.
+    fn search_way<W: Watch>(
+        &mut self,
+        among: &[Event],
+        at: usize,
+        shard: Shard,
+        number: &mut u32,
+        wanted: &Wanted,
+        watch: &mut W,
+    ) -> Result<bool, NoMemory>
+        requires of { 0 < shard.of }
+        requires sized { IsSized self.old }
+        requires within { at < length among.now }
+        requires number { number.old < shard.of }
+        ensures is { IfOk result (SearchesWay wanted.now shard among.now at self.old number.old self.new number.new) }
+        ensures number { number.new < shard.of }
+        ensures sized { IsSized self.new }
+    {
+        if !self.comes(among[at])? {
+            return Ok(false);
+        }
+        if *number == shard.number && self.search_branch(among, at, wanted, watch)? {
+            return Ok(true);
+        }
+        *number = after(*number, shard.of);
+        Ok(false)
+    }
+
+    /// Searches the branch that leaves the trunk by an event that may come. Answers whether something is found.
+    fn search_branch<W: Watch>(
+        &mut self,
+        among: &[Event],
+        at: usize,
+        wanted: &Wanted,
+        watch: &mut W,
+    ) -> Result<bool, NoMemory>
+        requires sized { IsSized self.old }
+        requires within { at < length among.now }
+        requires comes { may_come (place_of self.old) (event_at among.now at) ≡ true }
+        ensures is { IfOk result (SearchesBranch wanted.now among.now at self.old self.new) }
+        ensures sized { IsSized self.new }
+    {
+        let mut branch = self.branch()?;
+        branch.take(among[at])?;
+        let found = branch.fails(among, wanted, watch)?;
+        self.tried = branch.tried;
+        if found {
+            self.path = branch.into_path();
+        }
+        Ok(found)
+    }
+
+    /// Whether the board fails, or a search from here finds something.
+    fn fails<W: Watch>(
+        &mut self,
+        among: &[Event],
+        wanted: &Wanted,
+        watch: &mut W,
+    ) -> Result<bool, NoMemory>
+        requires sized { IsSized self.old }
+        requires begins { BeginsHere self.old }
+        ensures { IfOk result (SearchesFrom wanted.now among.now self.old self.new) }
+    {
+        if wanted.fails_now(&self.board)? {
+            return Ok(true);
+        }
+        self.run(among, wanted, watch)
+    }
+
+    /// A search that begins here.
+    fn branch(&self) -> Result<Search, NoMemory>
+        ensures place { IfOk result (λ s. place_of s ≡ place_of self.now) }
+        ensures path { IfOk result (λ s. s.path.items ≡ self.now.path.items) }
+        ensures begins { IfOk result BeginsHere }
+        ensures sized { IfOk result IsSized }
+    {
+        let alloc = *self.path.allocator();
+        let path = Vec::from_slice(alloc, self.path.as_slice())?;
+        let board = self.board.try_copy()?;
+        Ok(Search {
+            board,
+            left: self.left,
+            last: self.last,
+            at: 0,
+            fresh: true,
+            path,
+            saved: Vec::new(alloc),
+            spare: Vec::new(alloc),
+            tried: self.tried,
+        })
+    }
+
+    /// The index of the first event that may come here.
+    fn first_way(&self, among: &[Event]) -> Result<Option<usize>, NoMemory>
+        ensures some { IfOk result (λ found. IfSome found (IsFirst among.now (place_of self.now))) }
+        ensures none { IfOk result (λ found. IfNone found (ways among.now (place_of self.now) (length among.now) ≡ 0)) }
+    {
+        for at in 0..among.len() {
+            if self.comes(among[at])? {
+                return Ok(Some(at));
+            }
+        }
+        Ok(None)
+    }
+
+    /// Whether an event may come here.
+    fn comes(&self, event: Event) -> Result<bool, NoMemory>
+        ensures { IfOk result (λ comes. comes ≡ may_come (place_of self.now) event) }
+    {
+        if !self.left.affords(&self.board, self.last, event) {
+            return Ok(false);
+        }
+        let mut copy = self.board.try_copy()?;
+        Ok(!did_nothing(copy.event_apart(event)))
+    }
+}
+
+/// The number after one, without whole multiples of how many there are.
+fn after(number: u32, of: u32) -> u32
+    requires { number < of }
+    ensures is { result ≡ (number + 1) % of }
+    ensures below { result < of }
+{
+    if number + 1 == of { 0 } else { number + 1 }
+}
