@@ -1,0 +1,44 @@
+//! The options of a search, as they are given.
+
+/// How large a search is.
+#[derive(Clone, Copy, Debug, PartialEq, Eq)]
+pub struct Sizes {
+    /// How many events a schedule has at most.
+    pub events: u32,
+    /// How many preemptions.
+    pub preemptions: u32,
+    /// How many ticks.
+    pub ticks: u32,
+    /// How many raises of interrupt lines.
+    pub raises: u32,
+    /// How many rounds the fair end has.
+    pub fair: u32,
+}
+
+/// What is looked for.
+#[derive(Clone, Copy)]
+pub struct Looks<'a> {
+    /// An exception that ends a task, or stops a processor.
+    pub exception: bool,
+    /// A deadlock.
+    pub deadlock: bool,
+    /// A board that is on at the end.
+    pub on: bool,
+    /// Words that aren't as they should be, as `count=2,inside=0..1`.
+    pub words: Option<&'a str>,
+}
+
+/// The options of a search.
+#[derive(Clone, Copy)]
+pub struct SearchOptions<'a> {
+    /// How large it is.
+    pub sizes: Sizes,
+    /// Which interrupt lines may be raised, with commas between them.
+    pub lines: Option<&'a str>,
+    /// What is looked for. Nothing: exceptions and deadlocks.
+    pub looks: Looks<'a>,
+    /// Whether a schedule that is found is to have as few events as it can.
+    pub shortest: bool,
+    /// Which shard is searched, as `K/M`.
+    pub shard: Option<&'a str>,
+}

@@ -1,0 +1,145 @@
+//! The search itself: with few preemptions first, and then shorter.
+
+ghost use Rattle.std.specs.Prelude.{option_map, ◌≡◌, ◌<◌, true, IfOk, IfSome, IfNone};
+ghost use Rattle.brd_search.specs.Searches.{Answers, IsFewer, IsLeast, IsShortest};
+ghost use Rattle.brd_explore.specs.Schedules.{start};
+ghost use Rattle.brd_explore.specs.Shards.{AnswersInShard};
+
+use crate::plan::Plan;
+use brd_base::NoMemory;
+use brd_board::{Board, Event};
+use brd_explore::{Bounds, Found, Watch, find_in_shard};
+use std::alloc::Global;
+
+/// What a search came to.
+#[derive(Drop)]
+pub struct Searched {
+    /// A schedule that fails, if one was found.
+    pub schedule: Option<Vec<Event>>,
+    /// The bounds within which it was found; those of the whole search where none was.
+    pub bounds: Bounds,
+    /// How many schedules have come to their end: all of those within the bounds where none was found.
+    pub tried: u64,
+}
+
+/// Searches the schedules of a board for one that fails: those without preemptions first, then those with one, and so
+/// on; and then, where that is asked for, for one with fewer events, until there is none.
+pub fn search<W: Watch>(
+    alloc: Global,
+    board: &Board,
+    plan: &Plan,
+    watch: &mut W,
+) -> Result<Searched, NoMemory>
+    requires { 0 < plan.now.shard.of }
+    ensures is { IfOk result
+        (λ found. Answers plan.now board.now found.bounds (option_map (λ events. events.items) found.schedule)) }
+    ensures short { plan.now.shortest ≡ true →
+        IfOk result
+        (λ found. IsShortest plan.now board.now found.bounds (option_map (λ events. events.items) found.schedule)) }
+{
+    let searched = with_fewest(alloc, board, plan, watch)?;
+    if plan.shortest {
+        return shortest(alloc, board, plan, searched, watch);
+    }
+    Ok(searched)
+}
+
+/// Searches the schedules without preemptions first, then those with one, and so on.
+fn with_fewest<W: Watch>(
+    alloc: Global,
+    board: &Board,
+    plan: &Plan,
+    watch: &mut W,
+) -> Result<Searched, NoMemory>
+    requires { 0 < plan.now.shard.of }
+    ensures { IfOk result
+        (λ found. Answers plan.now board.now found.bounds (option_map (λ events. events.items) found.schedule)) }
+{
+    for preemptions in 0..plan.bounds.preemptions {
+        let bounds = Bounds {
+            preemptions,
+            ..plan.bounds
+        };
+        let searched = within(alloc, board, plan, bounds, watch)?;
+        if searched.schedule.is_some() {
+            return Ok(searched);
+        }
+    }
+    within(alloc, board, plan, plan.bounds, watch)
+}
+
+/// Searches the schedules within bounds.
+fn within<W: Watch>(
+    alloc: Global,
+    board: &Board,
+    plan: &Plan,
+    bounds: Bounds,
+    watch: &mut W,
+) -> Result<Searched, NoMemory>
+    requires { 0 < plan.now.shard.of }
+    ensures is { IfOk result
+        (λ found.
+        AnswersInShard plan.now.wanted plan.now.shard plan.now.among (start board.now bounds)
+        (option_map (λ events. events.items) found.schedule)) }
+    ensures bounds { IfOk result (λ found. found.bounds ≡ bounds) }
+{
+    let Found { schedule, tried } = find_in_shard(
+        alloc,
+        board,
+        bounds,
+        plan.among.as_slice(),
+        plan.shard,
+        &plan.wanted,
+        watch,
+    )?;
+    Ok(Searched {
+        schedule,
+        bounds,
+        tried,
+    })
+}
+
+/// Searches for a schedule with fewer events as long as there is one.
+fn shortest<W: Watch>(
+    alloc: Global,
+    board: &Board,
+    plan: &Plan,
+    found: Searched,
+    watch: &mut W,
+) -> Result<Searched, NoMemory>
+    requires of { 0 < plan.now.shard.of }
+    requires is { Answers plan.now board.now found.bounds (option_map (λ events. events.items) found.schedule) }
+    ensures is { IfOk result
+        (λ found. Answers plan.now board.now found.bounds (option_map (λ events. events.items) found.schedule)) }
+    ensures short { IfOk result
+        (λ found. IsShortest plan.now board.now found.bounds (option_map (λ events. events.items) found.schedule)) }
+{
+    let mut best = found;
+    while let Some(bounds) = fewer(&best) {
+        let searched = within(alloc, board, plan, bounds, watch)?;
+        if searched.schedule.is_none() {
+            return Ok(best);
+        }
+        best = searched;
+    }
+    Ok(best)
+}
+
+/// The bounds of a schedule with fewer events than the one that was found.
+fn fewer(found: &Searched) -> Option<Bounds>
+    ensures some { IfSome result
+        (λ bounds. IsFewer found.now.bounds (option_map (λ events. events.items) found.now.schedule) bounds) }
+    ensures none { IfNone result (IsLeast found.now.bounds (option_map (λ events. events.items) found.now.schedule)) }
+{
+    let len = found.schedule.as_ref()?.len();
+    let most = u32::try_from(len)
+        .unwrap_or(u32::MAX)
+        .min(found.bounds.events);
+    if most == 0 {
+        return None;
+    }
+    Some(Bounds {
+        events: most - 1,
+        ..found.bounds
+    })
+}
