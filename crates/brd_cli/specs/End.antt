@@ -6,8 +6,8 @@ use Rattle.clap.specs.declared.error.kind.ErrorKind.{ErrorKind}
 use Rattle.clap.specs.declared.error.kind.ErrorKind.TheVariants.{DisplayHelp, DisplayVersion, OutOfMemory}
 use Rattle.brd_inputs.specs.Faults.{status_of}
 use Rattle.brd_inputs.specs.declared.fault.CommandFault.TheVariants.{NoMemory}
-use Rattle.brd_cli.specs.declared.end.Stop.{Stop}
-use Rattle.brd_cli.specs.declared.end.Stop.TheVariants.{Fault, Usage}
+use Rattle.brd_cli.specs.declared.end.EarlyEnd.{EarlyEnd}
+use Rattle.brd_cli.specs.declared.end.EarlyEnd.TheVariants.{Fault, Usage}
 
 -- the status of a command line that isn't done: help that was asked for is no fault
 abbrev pub status_of_usage : ErrorKind → ℕ
@@ -17,16 +17,16 @@ status_of_usage OutOfMemory = 3
 status_of_usage _ = 2
 
 -- the status that the program ends with
-abbrev pub status_of_end : Result Unit Stop → ℕ
+abbrev pub status_of_end : Result Unit EarlyEnd → ℕ
 status_of_end (Ok done) = 0
 status_of_end (Err (Fault fault)) = status_of fault
 status_of_end (Err (Usage error)) = status_of_usage (kind_of error)
 
 -- the program has run out of memory
-abbrev pub IsWantOfMemory : Stop → Type 0
+abbrev pub IsWantOfMemory : EarlyEnd → Type 0
 IsWantOfMemory stop = stop ≡ Fault NoMemory
 
 -- a parse that failed: for lack of memory, or by the command line
-abbrev pub IsStopOf : Error → Stop → Type 0
-IsStopOf error (Fault fault) = (kind_of error ≡ OutOfMemory) × (fault ≡ NoMemory)
-IsStopOf error (Usage e) = (kind_of error ≢ OutOfMemory) × (e ≡ error)
+abbrev pub IsEarlyEndOf : Error → EarlyEnd → Type 0
+IsEarlyEndOf error (Fault fault) = (kind_of error ≡ OutOfMemory) × (fault ≡ NoMemory)
+IsEarlyEndOf error (Usage e) = (kind_of error ≢ OutOfMemory) × (e ≡ error)

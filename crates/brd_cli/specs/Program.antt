@@ -7,11 +7,11 @@ use Rattle.brd_command.specs.Request.{RequestEnds}
 use Rattle.brd_inputs.specs.declared.fault.CommandFault.{CommandFault}
 use Rattle.brd_command.specs.declared.request.Request.{Request}
 use Rattle.brd_cli.specs.Requests.{IsAnswer}
-use Rattle.brd_cli.specs.declared.end.Stop.{Stop}
-use Rattle.brd_cli.specs.declared.end.Stop.TheVariants.{Fault}
+use Rattle.brd_cli.specs.declared.end.EarlyEnd.{EarlyEnd}
+use Rattle.brd_cli.specs.declared.end.EarlyEnd.TheVariants.{Fault}
 
 -- the program's end, from its command's
-abbrev pub stop_of : Result Unit CommandFault → Result Unit Stop
+abbrev pub stop_of : Result Unit CommandFault → Result Unit EarlyEnd
 stop_of (Ok done) = Ok done
 stop_of (Err fault) = Err (Fault fault)
 
@@ -22,8 +22,8 @@ pub data ProgramEnds {F I O R W : Type 0}
     (closed : F → O → F → Type 0) (remaining : I → Option (List ℕ)) (contents : O → Option (List ℕ))
     (unread : R → Option (List ℕ)) (written : W → Option (List ℕ))
     (words : List Text) (files_old files : F) (input_old input : R) (output_old output : W)
-    (result : Result Unit Stop) : Type 0 where
-  not_asked : {stop : Stop} → IsAnswer words (Err stop) → result ≡ Err stop →
+    (result : Result Unit EarlyEnd) : Type 0 where
+  not_asked : {stop : EarlyEnd} → IsAnswer words (Err stop) → result ≡ Err stop →
       files ≡ files_old → input ≡ input_old → output ≡ output_old →
       ProgramEnds opened created closed remaining contents unread written
       words files_old files input_old input output_old output result

@@ -1,6 +1,7 @@
 -- What a command line asks for: the request of a command's name and of what was given for its arguments, which `clap`
 -- keeps in rows.
-use Rattle.std.specs.Prelude.{◌≡◌, ◌∷◌, ◌⊎◌, ℕ, ⊤, List, [], Bool, true, false, if◌then◌else◌, Option, None, Some, Result, Ok, Err, codes, bytes_eq, option_map}
+use Rattle.std.specs.Prelude.{◌≡◌, ◌∷◌, ◌⊎◌, ℕ, ⊤, List, [], Bool, true, false, if◌then◌else◌, Option, None, Some}
+use Rattle.std.specs.Prelude.{Result, Ok, Err, codes, bytes_eq, option_map}
 use Rattle.std.specs.Bool.{MatchBool}
 use Rattle.std.specs.Str.Parse.{ParsesUnsigned}
 use Rattle.clap.specs.Words.{IsAmong, Row, Text, fault_of, first_of, kind_of, one_of, subcommand_of}
@@ -14,8 +15,8 @@ use Rattle.brd_command.specs.declared.trace_options.TraceFormat.TheVariants as f
 use Rattle.brd_command.specs.declared.trace_options.TraceOptions.{TraceOptions}
 use Rattle.brd_command.specs.declared.request.Request.{Request}
 use Rattle.brd_command.specs.declared.request.Request.TheVariants.{Words, Asm, Run, Race, Debug, Trace, Journal}
-use Rattle.brd_cli.specs.declared.end.Stop.{Stop}
-use Rattle.brd_cli.specs.declared.end.Stop.TheVariants.{Fault, Usage}
+use Rattle.brd_cli.specs.declared.end.EarlyEnd.{EarlyEnd}
+use Rattle.brd_cli.specs.declared.end.EarlyEnd.TheVariants.{Fault, Usage}
 use Rattle.brd_cli.specs.Usage.{board, inputs, race_files, source_and_out}
 
 -- ---- what was given
@@ -150,7 +151,7 @@ IsAsked (Some found) request = IsRequestOf found.0 found.1 request
 -- What the words of a command line come to, of which the first is the program's name: what the command that they name
 -- asks for, where nothing is wrong with them; else one of the faults of the first step that fails, or lack of memory.
 -- The last case is for words that pass though the command or an argument is missing, which none are known to do.
-abbrev pub IsAnswer : List Text → Result Request Stop → Type 0
+abbrev pub IsAnswer : List Text → Result Request EarlyEnd → Type 0
 IsAnswer words (Ok request) = (fault_of board words ≡ []) × IsAsked (subcommand_of board words) (Some request)
 IsAnswer words (Err (Fault fault)) = fault ≡ NoMemory
 IsAnswer words (Err (Usage error)) =

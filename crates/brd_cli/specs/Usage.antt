@@ -68,7 +68,8 @@ run = command_with (codes "run") (map needed inputs)
 
 abbrev pub race : App
 race = command_with (codes "race")
-    (needed (codes "IMAGE") ∷ needed (codes "CONFIG") ∷ needed (codes "SCRIPT") ∷ number (codes "QUOTA") ∷ needed (codes "OUT") ∷ [])
+    (needed (codes "IMAGE") ∷ needed (codes "CONFIG") ∷ needed (codes "SCRIPT") ∷ number (codes "QUOTA")
+    ∷ needed (codes "OUT") ∷ [])
 
 abbrev pub debug : App
 debug = command_with (codes "debug") (map needed inputs)

@@ -2,7 +2,7 @@
 
 ghost use Rattle.std.specs.Prelude.{◌≡◌};
 ghost use Rattle.std.specs.Process.{exit_status};
-ghost use Rattle.brd_cli.specs.End.{status_of_usage, status_of_end, IsStopOf, IsWantOfMemory};
+ghost use Rattle.brd_cli.specs.End.{status_of_usage, status_of_end, IsEarlyEndOf, IsWantOfMemory};
 
 use brd_base::NoMemory;
 use brd_inputs::CommandFault;
@@ -11,50 +11,50 @@ use std::process::ExitCode;
 
 /// Why the program ends before its command is done.
 #[derive(Drop)]
-pub enum Stop {
+pub enum EarlyEnd {
     /// The command has a fault, or the command line couldn't be taken.
     Fault(CommandFault),
     /// The command line is wrong, or asks for help.
     Usage(clap::Error),
 }
 
-impl From<CommandFault> for Stop {
-    ghost use Rattle.brd_cli.specs.declared.end.Stop.TheVariants.{Fault};
+impl From<CommandFault> for EarlyEnd {
+    ghost use Rattle.brd_cli.specs.declared.end.EarlyEnd.TheVariants.{Fault};
 
     ghost from_gives = { λ fault stop. stop ≡ Fault fault };
 
     fn from(fault: CommandFault) -> Self {
-        Stop::Fault(fault)
+        EarlyEnd::Fault(fault)
     }
 }
 
-impl From<clap::Error> for Stop {
-    ghost from_gives = { IsStopOf };
+impl From<clap::Error> for EarlyEnd {
+    ghost from_gives = { IsEarlyEndOf };
 
     fn from(error: clap::Error) -> Self {
         if error.kind() == ErrorKind::OutOfMemory {
-            return Stop::Fault(CommandFault::NoMemory);
+            return EarlyEnd::Fault(CommandFault::NoMemory);
         }
-        Stop::Usage(error)
+        EarlyEnd::Usage(error)
     }
 }
 
-impl From<NoMemory> for Stop {
+impl From<NoMemory> for EarlyEnd {
     ghost from_gives = { λ _ stop. IsWantOfMemory stop };
 
     fn from(_e: NoMemory) -> Self {
-        Stop::Fault(CommandFault::NoMemory)
+        EarlyEnd::Fault(CommandFault::NoMemory)
     }
 }
 
 /// The program's status: 0 where the command was done, else that of the fault or of the command line.
-pub fn exit_code(end: &Result<(), Stop>) -> ExitCode
+pub fn exit_code(end: &Result<(), EarlyEnd>) -> ExitCode
     ensures { exit_status result ≡ status_of_end end.now }
 {
     let status = match end {
         Ok(()) => 0,
-        Err(Stop::Fault(fault)) => fault.status(),
-        Err(Stop::Usage(error)) => usage_status(error.kind()),
+        Err(EarlyEnd::Fault(fault)) => fault.status(),
+        Err(EarlyEnd::Usage(error)) => usage_status(error.kind()),
     };
     ExitCode::from(status)
 }

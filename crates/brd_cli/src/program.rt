@@ -3,7 +3,7 @@
 ghost use Rattle.std.specs.Prelude.{map};
 ghost use Rattle.brd_cli.specs.Program.{ProgramEnds};
 
-use crate::end::Stop;
+use crate::end::EarlyEnd;
 use crate::request::asked;
 use brd_command::{Files, Progress, perform};
 use std::alloc::Global;
@@ -13,8 +13,8 @@ use std::sync::Wait;
 use std::thread::Threads;
 
 /// Does what the words of a command line ask for, of which the first is the program's name, on files, standard input
-/// and standard output. Nothing is touched where they are refused, or ask for help. How far a long command is, is told on
-/// the way.
+/// and standard output. Nothing is touched where they are refused, or ask for help. How far a long command is, is told
+/// on the way.
 pub fn carry_out<
     S: AsStr,
     F: Files,
@@ -30,7 +30,7 @@ pub fn carry_out<
     input: &mut R,
     output: &mut W,
     progress: &mut P,
-) -> Result<(), Stop>
+) -> Result<(), EarlyEnd>
     ensures { ProgramEnds F.opened F.created F.closed F.Input.remaining F.Output.contents R.remaining W.contents
         (map S.text words.entry.now) files.old files.new input.old input.new output.old output.new result }
 {
@@ -40,6 +40,6 @@ pub fn carry_out<
     };
     match perform(rt, alloc, files, input, output, progress, request) {
         Ok(()) => Ok(()),
-        Err(fault) => Err(Stop::Fault(fault)),
+        Err(fault) => Err(EarlyEnd::Fault(fault)),
     }
 }

@@ -3,12 +3,13 @@
 ghost use Rattle.std.specs.Prelude.{◌≡◌, ◌∷◌, [], IfOk, codes, map, option_map};
 ghost use Rattle.clap.specs.Words.{app_of, first_of, found_of, kind_of, one_of, rows_of, subcommand_rows_of};
 ghost use Rattle.clap.specs.declared.error.kind.ErrorKind.TheVariants.{MissingSubcommand};
-ghost use Rattle.brd_cli.specs.Requests.{AreJournalOptions, AreTraceOptions, IsAnswer, IsAsked, IsJournal, IsNumber, IsNumberOf};
+ghost use Rattle.brd_cli.specs.Requests.{AreJournalOptions, AreTraceOptions, IsAnswer, IsAsked, IsJournal, IsNumber};
+ghost use Rattle.brd_cli.specs.Requests.{IsNumberOf};
 ghost use Rattle.brd_cli.specs.Requests.{IsFlag, IsRace, IsRequestOf, IsTrace, format_named, given, order_named};
 ghost use Rattle.brd_cli.specs.Usage as usage;
 ghost use Rattle.brd_cli.specs.Usage.{inputs, race_files};
 
-use crate::end::Stop;
+use crate::end::EarlyEnd;
 use crate::usage::board_command;
 use brd_base::NoMemory;
 use brd_command::{JournalOptions, Order, Request, TraceFormat, TraceOptions};
@@ -18,7 +19,7 @@ use std::alloc::Global;
 use std::convert::AsStr;
 
 /// What the words of a command line ask for, of which the first is the program's name.
-pub fn asked<'a, S: AsStr>(alloc: Global, words: &'a [S]) -> Result<Request<'a>, Stop>
+pub fn asked<'a, S: AsStr>(alloc: Global, words: &'a [S]) -> Result<Request<'a>, EarlyEnd>
     ensures { IsAnswer (map S.text words.entry.now) result }
 {
     let mut board = board_command(alloc)?;
@@ -26,14 +27,14 @@ pub fn asked<'a, S: AsStr>(alloc: Global, words: &'a [S]) -> Result<Request<'a>,
 }
 
 /// What the words of a command line ask the program for.
-fn asked_of<'a, S: AsStr>(board: &mut Command<'a>, words: &'a [S]) -> Result<Request<'a>, Stop>
+fn asked_of<'a, S: AsStr>(board: &mut Command<'a>, words: &'a [S]) -> Result<Request<'a>, EarlyEnd>
     ensures { app_of board.old ≡ usage.board → IsAnswer (map S.text words.entry.now) result }
 {
     let matches = board.try_get_matches_from_mut(words)?;
     if let Some(request) = request_of(&matches) {
         return Ok(request);
     }
-    Err(Stop::from(missing(board)?))
+    Err(EarlyEnd::from(missing(board)?))
 }
 
 /// What is wrong with a command line that has no command.

@@ -8,9 +8,10 @@ use std::mem::size_of;
 /// brd_isa's `Insn` has them. A `Destination` is the register that it writes, never register 0; a `Source` is one that
 /// it reads. An entry takes 8 bytes: the operation, up to three bytes of registers or of a shift's amount, and a word.
 ///
-/// An instruction that would write to register 0 is `Nop`, unless it jumps or may raise an exception: then it is `Slow`.
+/// An instruction that would write to register 0 is `Nop`, unless it jumps or may raise an exception: then it is
+/// `Slow`.
 #[derive(Clone, Copy)]
-pub enum Entry {
+pub enum CodeEntry {
     /// Says nothing: a word that stands for no instruction, or for one without an entry. These are traps, SYSCALL,
     /// BREAK, LL, SC, a JALR whose return address goes to register 0, and loads, ADD, ADDI and SUB to register 0.
     Slow,
@@ -171,4 +172,4 @@ pub enum Entry {
     Bgezall(Source, u32),
 }
 
-const _: () = prove!(size_of::<Entry>() == 8);
+const _: () = prove!(size_of::<CodeEntry>() == 8);

@@ -11,5 +11,5 @@ mod forms;
 mod register;
 
 pub use decode::entry_of;
-pub use entry::Entry;
+pub use entry::CodeEntry;
 pub use register::{Destination, Source};

@@ -36,7 +36,8 @@ abbrev pub did_action : ℕ → State → Memory → LinkSet → Action → Did
 did_action cpu s memory links (Action.Local after) = Passed
 did_action cpu s memory links (Action.MayStop outcome) = Passed
 did_action cpu s memory links (Action.Loads op rt address) = Passed
-did_action cpu s memory links (Action.Stores op rt address) = did_store address (store_gives op memory address (read s rt))
+did_action cpu s memory links (Action.Stores op rt address) =
+    did_store address (store_gives op memory address (read s rt))
 did_action cpu s memory links (Action.LoadsLinked rt address) = did_load_linked address (loaded32 memory address)
 did_action cpu s memory links (Action.StoresIfLinked rt address) =
     did_conditional address (is_linked links cpu address) (stored32 memory address (read s rt))

@@ -48,9 +48,9 @@ fn run_word(context: &mut Context, word: u32) -> bool
     }
 }
 
-/// Does an instruction where it is local and no branch or jump in a delay slot, one line a form of operands. A branch or
-/// a jump tests itself whether it is in one. (The lines stand in `execute` too, with those that access memory: if one
-/// called the other, the compiler would bring all decoded instructions together before it.)
+/// Does an instruction where it is local and no branch or jump in a delay slot, one line a form of operands. A branch
+/// or a jump tests itself whether it is in one. (The lines stand in `execute` too, with those that access memory: if
+/// one called the other, the compiler would bring all decoded instructions together before it.)
 #[inline(always)]
 fn execute_local(context: &mut Context, insn: &Insn) -> bool
     ensures { DoesLent (lent_insn context.old (Some insn.now)) context.old result context.new }

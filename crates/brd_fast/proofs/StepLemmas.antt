@@ -14,7 +14,7 @@ use Rattle.brd_exec.specs.Action.{Action, action}
 use Rattle.brd_exec.specs.Step.{Effect, done, has_slot, of_word, of_fetch, of_next, next_instruction, effect, ended, ran}
 use Rattle.brd_exec.specs.Went.{Machine, went_by, went_on, went}
 use Rattle.brd_exec.proofs.FormLemmas.{IsAlike, form-ran}
-use Rattle.brd_entries.specs.declared.entry.Entry.{Entry}
+use Rattle.brd_entries.specs.declared.entry.CodeEntry.{CodeEntry}
 use Rattle.brd_entries.specs.Means.{Means}
 use Rattle.brd_fast.specs.Plans.{Plan, planned, CarriesOut}
 use Rattle.brd_fast.specs.Moves.{Acts, Turns}
@@ -82,7 +82,7 @@ plan-steps (Plan.Jumps after) cpu s memory links found result new_s new_memory n
     (λ outside. ap (λ f. went_by (of_next cpu s memory links (of_word s f))) for.1
     ∙ turns-goes s.slot (has_slot for.0) cpu for.0 s memory links after outside for.2)
 
-entry-meant : (entry : Entry) (cpu : ℕ) (s : State) (memory : Memory) (links : LinkSet) (word : ℕ) (result : Bool) (new_s : State) (new_memory : Memory) (new_links : LinkSet) →
+entry-meant : (entry : CodeEntry) (cpu : ℕ) (s : State) (memory : Memory) (links : LinkSet) (word : ℕ) (result : Bool) (new_s : State) (new_memory : Memory) (new_links : LinkSet) →
     fetched memory s.pc ≡ Ok word → Means entry (decoded word) →
     CarriesOut cpu (planned entry s) s memory links result new_s new_memory new_links →
     Steps (went_by (effect cpu s memory links)) (record { state = s; memory = memory; links = links }) result
@@ -99,7 +99,7 @@ steps-prop how old true new = hlevel props
 steps-prop how old false new = hlevel props
 
 -- who does the entry of the next word may do a step
-pub entry-steps : (entry : Entry) (cpu : ℕ) (s : State) (memory : Memory) (links : LinkSet) (word : ℕ) (result : Bool) (new_s : State) (new_memory : Memory) (new_links : LinkSet) →
+pub entry-steps : (entry : CodeEntry) (cpu : ℕ) (s : State) (memory : Memory) (links : LinkSet) (word : ℕ) (result : Bool) (new_s : State) (new_memory : Memory) (new_links : LinkSet) →
     fetched memory s.pc ≡ Ok word → ∥ Means entry (decoded word) ∥₁ →
     CarriesOut cpu (planned entry s) s memory links result new_s new_memory new_links →
     MaySteps cpu (record { state = s; memory = memory; links = links }) result
@@ -112,7 +112,7 @@ pub zero-steps : (cpu : ℕ) (s : State) (memory : Memory) (links : LinkSet) →
     went cpu 1 (record { state = s; memory = memory; links = links })
     ≡ Some (record { state = advanced s; memory = memory; links = links })
 zero-steps cpu s memory links fetch =
-    entry-meant Entry.Nop cpu s memory links 0 true (advanced s) memory links fetch
+    entry-meant CodeEntry.Nop cpu s memory links 0 true (advanced s) memory links fetch
     zero-is-nop (refl, refl, refl, refl)
 
 some-is : (x y : Machine) → Some x ≡ Some y → x ≡ y

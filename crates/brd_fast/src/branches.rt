@@ -9,7 +9,7 @@ ghost use Rattle.brd_fast.specs.Place.{state_of, reached, Leaves};
 ghost use Rattle.brd_fast.specs.Plans.{branched_by, calling};
 ghost use Rattle.brd_fast.specs.Moves.{Turns};
 
-use crate::line::Line;
+use crate::line::StraightLine;
 use crate::registers::word;
 use brd_entries::{Destination, Source};
 use brd_exec::{Context, is_below_zero};
@@ -28,7 +28,7 @@ pub fn is_at_most_zero(word: u32) -> bool
 
 /// Does a branch, which its delay slot follows whether it is taken or not (MD00086, "Branch Delay Slots").
 #[inline(always)]
-pub fn branch(line: &mut Line, taken: bool, reach: u32) -> bool
+pub fn branch(line: &mut StraightLine, taken: bool, reach: u32) -> bool
     requires { line.old.on ≡ true }
     ensures is { (s : State) → Turns (branched_by (state_of s line.old) false taken (reached line.old.npc reach))
         (state_of s line.old) result (state_of s line.new) }
@@ -53,7 +53,7 @@ pub fn branch(line: &mut Line, taken: bool, reach: u32) -> bool
 
 /// Does a branch-likely, which goes on after its delay slot where it isn't taken (MD00086, BEQL).
 #[inline(always)]
-pub fn branch_likely(line: &mut Line, taken: bool, reach: u32) -> bool
+pub fn branch_likely(line: &mut StraightLine, taken: bool, reach: u32) -> bool
     requires { line.old.on ≡ true }
     ensures is { (s : State) → Turns (branched_by (state_of s line.old) true taken (reached line.old.npc reach))
         (state_of s line.old) result (state_of s line.new) }
@@ -78,7 +78,7 @@ pub fn branch_likely(line: &mut Line, taken: bool, reach: u32) -> bool
 
 /// Writes the return address to register 31: that of the instruction after the delay slot.
 #[inline(always)]
-fn put_return_address(context: &mut Context, line: &Line)
+fn put_return_address(context: &mut Context, line: &StraightLine)
     requires { line.now.on ≡ true }
     ensures { context.new ≡ write context.old 31 ((line.now.pc + 8) % 2 ^ 32) }
 {
@@ -87,7 +87,7 @@ fn put_return_address(context: &mut Context, line: &Line)
 
 /// Does a branch that writes the return address, taken or not.
 #[inline(always)]
-pub fn call(context: &mut Context, line: &mut Line, taken: bool, reach: u32) -> bool
+pub fn call(context: &mut Context, line: &mut StraightLine, taken: bool, reach: u32) -> bool
     requires { line.old.on ≡ true }
     ensures is { Turns (branched_by (calling (state_of context.old line.old)) false taken (reached line.old.npc reach))
         (state_of context.old line.old) result (state_of context.new line.new) }
@@ -106,7 +106,7 @@ pub fn call(context: &mut Context, line: &mut Line, taken: bool, reach: u32) -> 
 
 /// Does a branch-likely that writes the return address, taken or not.
 #[inline(always)]
-pub fn call_likely(context: &mut Context, line: &mut Line, taken: bool, reach: u32) -> bool
+pub fn call_likely(context: &mut Context, line: &mut StraightLine, taken: bool, reach: u32) -> bool
     requires { line.old.on ≡ true }
     ensures is { Turns (branched_by (calling (state_of context.old line.old)) true taken (reached line.old.npc reach))
         (state_of context.old line.old) result (state_of context.new line.new) }
@@ -129,7 +129,7 @@ pub fn call_likely(context: &mut Context, line: &mut Line, taken: bool, reach: u
 
 /// Does `j target`.
 #[inline(always)]
-pub fn jump(line: &mut Line, index: JumpIndex) -> bool
+pub fn jump(line: &mut StraightLine, index: JumpIndex) -> bool
     requires { line.old.on ≡ true }
     ensures is { (s : State) → Turns (jumped (state_of s line.old) (jump_target (state_of s line.old) index))
         (state_of s line.old) result (state_of s line.new) }
@@ -147,7 +147,7 @@ pub fn jump(line: &mut Line, index: JumpIndex) -> bool
 
 /// Does `jal target`.
 #[inline(always)]
-pub fn jump_and_link(context: &mut Context, line: &mut Line, index: JumpIndex) -> bool
+pub fn jump_and_link(context: &mut Context, line: &mut StraightLine, index: JumpIndex) -> bool
     requires { line.old.on ≡ true }
     ensures is { Turns
         (jumped (calling (state_of context.old line.old)) (jump_target (state_of context.old line.old) index))
@@ -167,7 +167,7 @@ pub fn jump_and_link(context: &mut Context, line: &mut Line, index: JumpIndex) -
 
 /// Does `jr rs`.
 #[inline(always)]
-pub fn jump_register(context: &Context, line: &mut Line, rs: Source) -> bool
+pub fn jump_register(context: &Context, line: &mut StraightLine, rs: Source) -> bool
     requires { line.old.on ≡ true }
     ensures is { Turns (jumped (state_of context.now line.old) (read context.now rs))
         (state_of context.now line.old) result (state_of context.now line.new) }
@@ -185,7 +185,12 @@ pub fn jump_register(context: &Context, line: &mut Line, rs: Source) -> bool
 
 /// Does `jalr rd, rs`. The target is what the register was before the return address was written.
 #[inline(always)]
-pub fn call_register(context: &mut Context, line: &mut Line, rd: Destination, rs: Source) -> bool
+pub fn call_register(
+    context: &mut Context,
+    line: &mut StraightLine,
+    rd: Destination,
+    rs: Source,
+) -> bool
     requires { line.old.on ≡ true }
     ensures is { Turns
         (jumped (write (state_of context.old line.old) rd (return_address_of (state_of context.old line.old)))

@@ -8,12 +8,12 @@ use crate::branches::{
     branch, branch_likely, call, call_likely, call_register, is_at_most_zero, jump, jump_and_link,
     jump_register,
 };
-use crate::line::Line;
+use crate::line::StraightLine;
 use crate::memory::{load, store};
 use crate::registers::{
     accumulate, add, count, pass, product, set, set_if, shift, shift_variable, subtract, word,
 };
-use brd_entries::Entry;
+use brd_entries::CodeEntry;
 use brd_exec::{Context, is_below_zero, is_signed_below, multiply_value};
 use brd_isa::{AccumulateOp, CountOp, LoadOp, ProductOp, ShiftOp, ShiftVariableOp, StoreOp};
 use brd_link::Links;
@@ -25,10 +25,10 @@ use brd_mem::Ram;
 /// ends with its own answer.
 #[inline(always)]
 pub fn carry_out(
-    entry: &Entry,
+    entry: &CodeEntry,
     cpu: u8,
     context: &mut Context,
-    line: &mut Line,
+    line: &mut StraightLine,
     ram: &mut Ram,
     links: &mut Links,
 ) -> bool
@@ -39,121 +39,142 @@ pub fn carry_out(
     ensures leaves { Leaves line.old result line.new }
 {
     match *entry {
-        Entry::Slow => false,
-        Entry::Nop => pass(line),
-        Entry::Sll(rd, rt, sa) => shift(context, line, ShiftOp::Sll, rd, rt, sa),
-        Entry::Srl(rd, rt, sa) => shift(context, line, ShiftOp::Srl, rd, rt, sa),
-        Entry::Sra(rd, rt, sa) => shift(context, line, ShiftOp::Sra, rd, rt, sa),
-        Entry::Sllv(rd, rt, rs) => shift_variable(context, line, ShiftVariableOp::Sllv, rd, rt, rs),
-        Entry::Srlv(rd, rt, rs) => shift_variable(context, line, ShiftVariableOp::Srlv, rd, rt, rs),
-        Entry::Srav(rd, rt, rs) => shift_variable(context, line, ShiftVariableOp::Srav, rd, rt, rs),
-        Entry::Movz(rd, rs, rt) => set_if(context, line, word(context, rt) == 0, rd, rs),
-        Entry::Movn(rd, rs, rt) => set_if(context, line, word(context, rt) != 0, rd, rs),
-        Entry::Add(rd, rs, rt) => {
+        CodeEntry::Slow => false,
+        CodeEntry::Nop => pass(line),
+        CodeEntry::Sll(rd, rt, sa) => shift(context, line, ShiftOp::Sll, rd, rt, sa),
+        CodeEntry::Srl(rd, rt, sa) => shift(context, line, ShiftOp::Srl, rd, rt, sa),
+        CodeEntry::Sra(rd, rt, sa) => shift(context, line, ShiftOp::Sra, rd, rt, sa),
+        CodeEntry::Sllv(rd, rt, rs) => shift_variable(
+            context,
+            line,
+            ShiftVariableOp::Sllv,
+            rd,
+            rt,
+            rs,
+        ),
+        CodeEntry::Srlv(rd, rt, rs) => shift_variable(
+            context,
+            line,
+            ShiftVariableOp::Srlv,
+            rd,
+            rt,
+            rs,
+        ),
+        CodeEntry::Srav(rd, rt, rs) => shift_variable(
+            context,
+            line,
+            ShiftVariableOp::Srav,
+            rd,
+            rt,
+            rs,
+        ),
+        CodeEntry::Movz(rd, rs, rt) => set_if(context, line, word(context, rt) == 0, rd, rs),
+        CodeEntry::Movn(rd, rs, rt) => set_if(context, line, word(context, rt) != 0, rd, rs),
+        CodeEntry::Add(rd, rs, rt) => {
             let word = word(context, rt);
             add(context, line, rd, rs, word)
         }
-        Entry::Addu(rd, rs, rt) => {
+        CodeEntry::Addu(rd, rs, rt) => {
             let word = word(context, rs).wrapping_add(word(context, rt));
             set(context, line, rd, word)
         }
-        Entry::Sub(rd, rs, rt) => subtract(context, line, rd, rs, rt),
-        Entry::Subu(rd, rs, rt) => {
+        CodeEntry::Sub(rd, rs, rt) => subtract(context, line, rd, rs, rt),
+        CodeEntry::Subu(rd, rs, rt) => {
             let word = word(context, rs).wrapping_sub(word(context, rt));
             set(context, line, rd, word)
         }
-        Entry::And(rd, rs, rt) => {
+        CodeEntry::And(rd, rs, rt) => {
             let word = word(context, rs) & word(context, rt);
             set(context, line, rd, word)
         }
-        Entry::Or(rd, rs, rt) => {
+        CodeEntry::Or(rd, rs, rt) => {
             let word = word(context, rs) | word(context, rt);
             set(context, line, rd, word)
         }
-        Entry::Xor(rd, rs, rt) => {
+        CodeEntry::Xor(rd, rs, rt) => {
             let word = word(context, rs) ^ word(context, rt);
             set(context, line, rd, word)
         }
-        Entry::Nor(rd, rs, rt) => {
+        CodeEntry::Nor(rd, rs, rt) => {
             let word = !(word(context, rs) | word(context, rt));
             set(context, line, rd, word)
         }
-        Entry::Slt(rd, rs, rt) => {
+        CodeEntry::Slt(rd, rs, rt) => {
             let word = u32::from(is_signed_below(word(context, rs), word(context, rt)));
             set(context, line, rd, word)
         }
-        Entry::Sltu(rd, rs, rt) => {
+        CodeEntry::Sltu(rd, rs, rt) => {
             let word = u32::from(word(context, rs) < word(context, rt));
             set(context, line, rd, word)
         }
-        Entry::Mul(rd, rs, rt) => {
+        CodeEntry::Mul(rd, rs, rt) => {
             let word = multiply_value(word(context, rs), word(context, rt));
             set(context, line, rd, word)
         }
-        Entry::Addi(rt, rs, immediate) => add(context, line, rt, rs, immediate),
-        Entry::Addiu(rt, rs, immediate) => {
+        CodeEntry::Addi(rt, rs, immediate) => add(context, line, rt, rs, immediate),
+        CodeEntry::Addiu(rt, rs, immediate) => {
             let word = word(context, rs).wrapping_add(immediate);
             set(context, line, rt, word)
         }
-        Entry::Slti(rt, rs, immediate) => {
+        CodeEntry::Slti(rt, rs, immediate) => {
             let word = u32::from(is_signed_below(word(context, rs), immediate));
             set(context, line, rt, word)
         }
-        Entry::Sltiu(rt, rs, immediate) => {
+        CodeEntry::Sltiu(rt, rs, immediate) => {
             let word = u32::from(word(context, rs) < immediate);
             set(context, line, rt, word)
         }
-        Entry::Andi(rt, rs, immediate) => {
+        CodeEntry::Andi(rt, rs, immediate) => {
             let word = word(context, rs) & immediate;
             set(context, line, rt, word)
         }
-        Entry::Ori(rt, rs, immediate) => {
+        CodeEntry::Ori(rt, rs, immediate) => {
             let word = word(context, rs) | immediate;
             set(context, line, rt, word)
         }
-        Entry::Xori(rt, rs, immediate) => {
+        CodeEntry::Xori(rt, rs, immediate) => {
             let word = word(context, rs) ^ immediate;
             set(context, line, rt, word)
         }
-        Entry::Lui(rt, word) => set(context, line, rt, word),
-        Entry::Mfhi(rd) => {
+        CodeEntry::Lui(rt, word) => set(context, line, rt, word),
+        CodeEntry::Mfhi(rd) => {
             let word = context.hi();
             set(context, line, rd, word)
         }
-        Entry::Mflo(rd) => {
+        CodeEntry::Mflo(rd) => {
             let word = context.lo();
             set(context, line, rd, word)
         }
-        Entry::Mthi(rs) => {
+        CodeEntry::Mthi(rs) => {
             let word = word(context, rs);
             context.set_hi(word);
             line.advance();
             true
         }
-        Entry::Mtlo(rs) => {
+        CodeEntry::Mtlo(rs) => {
             let word = word(context, rs);
             context.set_lo(word);
             line.advance();
             true
         }
-        Entry::Mult(rs, rt) => product(context, line, ProductOp::Mult, rs, rt),
-        Entry::Multu(rs, rt) => product(context, line, ProductOp::Multu, rs, rt),
-        Entry::Div(rs, rt) => product(context, line, ProductOp::Div, rs, rt),
-        Entry::Divu(rs, rt) => product(context, line, ProductOp::Divu, rs, rt),
-        Entry::Madd(rs, rt) => accumulate(context, line, AccumulateOp::Madd, rs, rt),
-        Entry::Maddu(rs, rt) => accumulate(context, line, AccumulateOp::Maddu, rs, rt),
-        Entry::Msub(rs, rt) => accumulate(context, line, AccumulateOp::Msub, rs, rt),
-        Entry::Msubu(rs, rt) => accumulate(context, line, AccumulateOp::Msubu, rs, rt),
-        Entry::Clz(rd, rs) => count(context, line, CountOp::Clz, rd, rs),
-        Entry::Clo(rd, rs) => count(context, line, CountOp::Clo, rd, rs),
-        Entry::Lb(rt, base, offset) => load(context, line, ram, LoadOp::Lb, rt, base, offset),
-        Entry::Lh(rt, base, offset) => load(context, line, ram, LoadOp::Lh, rt, base, offset),
-        Entry::Lwl(rt, base, offset) => load(context, line, ram, LoadOp::Lwl, rt, base, offset),
-        Entry::Lw(rt, base, offset) => load(context, line, ram, LoadOp::Lw, rt, base, offset),
-        Entry::Lbu(rt, base, offset) => load(context, line, ram, LoadOp::Lbu, rt, base, offset),
-        Entry::Lhu(rt, base, offset) => load(context, line, ram, LoadOp::Lhu, rt, base, offset),
-        Entry::Lwr(rt, base, offset) => load(context, line, ram, LoadOp::Lwr, rt, base, offset),
-        Entry::Sb(rt, base, offset) => store(
+        CodeEntry::Mult(rs, rt) => product(context, line, ProductOp::Mult, rs, rt),
+        CodeEntry::Multu(rs, rt) => product(context, line, ProductOp::Multu, rs, rt),
+        CodeEntry::Div(rs, rt) => product(context, line, ProductOp::Div, rs, rt),
+        CodeEntry::Divu(rs, rt) => product(context, line, ProductOp::Divu, rs, rt),
+        CodeEntry::Madd(rs, rt) => accumulate(context, line, AccumulateOp::Madd, rs, rt),
+        CodeEntry::Maddu(rs, rt) => accumulate(context, line, AccumulateOp::Maddu, rs, rt),
+        CodeEntry::Msub(rs, rt) => accumulate(context, line, AccumulateOp::Msub, rs, rt),
+        CodeEntry::Msubu(rs, rt) => accumulate(context, line, AccumulateOp::Msubu, rs, rt),
+        CodeEntry::Clz(rd, rs) => count(context, line, CountOp::Clz, rd, rs),
+        CodeEntry::Clo(rd, rs) => count(context, line, CountOp::Clo, rd, rs),
+        CodeEntry::Lb(rt, base, offset) => load(context, line, ram, LoadOp::Lb, rt, base, offset),
+        CodeEntry::Lh(rt, base, offset) => load(context, line, ram, LoadOp::Lh, rt, base, offset),
+        CodeEntry::Lwl(rt, base, offset) => load(context, line, ram, LoadOp::Lwl, rt, base, offset),
+        CodeEntry::Lw(rt, base, offset) => load(context, line, ram, LoadOp::Lw, rt, base, offset),
+        CodeEntry::Lbu(rt, base, offset) => load(context, line, ram, LoadOp::Lbu, rt, base, offset),
+        CodeEntry::Lhu(rt, base, offset) => load(context, line, ram, LoadOp::Lhu, rt, base, offset),
+        CodeEntry::Lwr(rt, base, offset) => load(context, line, ram, LoadOp::Lwr, rt, base, offset),
+        CodeEntry::Sb(rt, base, offset) => store(
             context,
             line,
             cpu,
@@ -164,7 +185,7 @@ pub fn carry_out(
             base,
             offset,
         ),
-        Entry::Sh(rt, base, offset) => store(
+        CodeEntry::Sh(rt, base, offset) => store(
             context,
             line,
             cpu,
@@ -175,7 +196,7 @@ pub fn carry_out(
             base,
             offset,
         ),
-        Entry::Swl(rt, base, offset) => store(
+        CodeEntry::Swl(rt, base, offset) => store(
             context,
             line,
             cpu,
@@ -186,7 +207,7 @@ pub fn carry_out(
             base,
             offset,
         ),
-        Entry::Sw(rt, base, offset) => store(
+        CodeEntry::Sw(rt, base, offset) => store(
             context,
             line,
             cpu,
@@ -197,7 +218,7 @@ pub fn carry_out(
             base,
             offset,
         ),
-        Entry::Swr(rt, base, offset) => store(
+        CodeEntry::Swr(rt, base, offset) => store(
             context,
             line,
             cpu,
@@ -208,43 +229,63 @@ pub fn carry_out(
             base,
             offset,
         ),
-        Entry::J(index) => jump(line, index),
-        Entry::Jal(index) => jump_and_link(context, line, index),
-        Entry::Jr(rs) => jump_register(context, line, rs),
-        Entry::Jalr(rd, rs) => call_register(context, line, rd, rs),
-        Entry::Beq(rs, rt, reach) => branch(line, word(context, rs) == word(context, rt), reach),
-        Entry::Bne(rs, rt, reach) => branch(line, word(context, rs) != word(context, rt), reach),
-        Entry::Beql(rs, rt, reach) => branch_likely(
+        CodeEntry::J(index) => jump(line, index),
+        CodeEntry::Jal(index) => jump_and_link(context, line, index),
+        CodeEntry::Jr(rs) => jump_register(context, line, rs),
+        CodeEntry::Jalr(rd, rs) => call_register(context, line, rd, rs),
+        CodeEntry::Beq(rs, rt, reach) => branch(
             line,
             word(context, rs) == word(context, rt),
             reach,
         ),
-        Entry::Bnel(rs, rt, reach) => branch_likely(
+        CodeEntry::Bne(rs, rt, reach) => branch(
             line,
             word(context, rs) != word(context, rt),
             reach,
         ),
-        Entry::Blez(rs, reach) => branch(line, is_at_most_zero(word(context, rs)), reach),
-        Entry::Bgtz(rs, reach) => branch(line, !is_at_most_zero(word(context, rs)), reach),
-        Entry::Blezl(rs, reach) => branch_likely(line, is_at_most_zero(word(context, rs)), reach),
-        Entry::Bgtzl(rs, reach) => branch_likely(line, !is_at_most_zero(word(context, rs)), reach),
-        Entry::Bltz(rs, reach) => branch(line, is_below_zero(word(context, rs)), reach),
-        Entry::Bgez(rs, reach) => branch(line, !is_below_zero(word(context, rs)), reach),
-        Entry::Bltzl(rs, reach) => branch_likely(line, is_below_zero(word(context, rs)), reach),
-        Entry::Bgezl(rs, reach) => branch_likely(line, !is_below_zero(word(context, rs)), reach),
-        Entry::Bltzal(rs, reach) => {
+        CodeEntry::Beql(rs, rt, reach) => branch_likely(
+            line,
+            word(context, rs) == word(context, rt),
+            reach,
+        ),
+        CodeEntry::Bnel(rs, rt, reach) => branch_likely(
+            line,
+            word(context, rs) != word(context, rt),
+            reach,
+        ),
+        CodeEntry::Blez(rs, reach) => branch(line, is_at_most_zero(word(context, rs)), reach),
+        CodeEntry::Bgtz(rs, reach) => branch(line, !is_at_most_zero(word(context, rs)), reach),
+        CodeEntry::Blezl(rs, reach) => branch_likely(
+            line,
+            is_at_most_zero(word(context, rs)),
+            reach,
+        ),
+        CodeEntry::Bgtzl(rs, reach) => branch_likely(
+            line,
+            !is_at_most_zero(word(context, rs)),
+            reach,
+        ),
+        CodeEntry::Bltz(rs, reach) => branch(line, is_below_zero(word(context, rs)), reach),
+        CodeEntry::Bgez(rs, reach) => branch(line, !is_below_zero(word(context, rs)), reach),
+        CodeEntry::Bltzl(rs, reach) => branch_likely(line, is_below_zero(word(context, rs)), reach),
+        CodeEntry::Bgezl(rs, reach) => branch_likely(
+            line,
+            !is_below_zero(word(context, rs)),
+            reach,
+        ),
+        CodeEntry::Bltzal(rs, reach) => {
             let taken = is_below_zero(word(context, rs));
             call(context, line, taken, reach)
         }
-        Entry::Bgezal(rs, reach) => {
+        CodeEntry::Bgezal(rs, reach) => {
             let taken = !is_below_zero(word(context, rs));
             call(context, line, taken, reach)
         }
-        Entry::Bltzall(rs, reach) => {
+        CodeEntry::Bltzall(rs, reach) => {
             let taken = is_below_zero(word(context, rs));
             call_likely(context, line, taken, reach)
         }
-        Entry::Bgezall(rs, reach) => {
+        CodeEntry::Bgezall(rs, reach) => {
             let taken = !is_below_zero(word(context, rs));
             call_likely(context, line, taken, reach)
         }

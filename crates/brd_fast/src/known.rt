@@ -4,7 +4,7 @@ ghost use Rattle.std.specs.Prelude.{◌≡◌};
 ghost use Rattle.brd_word.specs.declared.order.Order.{Order};
 ghost use Rattle.brd_fast.specs.Known.{IsRight};
 
-use brd_entries::{Entry, entry_of};
+use brd_entries::{CodeEntry, entry_of};
 use brd_word::{Order, bytes_of, word_of};
 
 /// A word and its entry.
@@ -12,7 +12,7 @@ use brd_word::{Order, bytes_of, word_of};
 pub struct Known {
     /// The word's four bytes as they lie in RAM, as one number: the little-endian word of them, whatever the order is.
     pub raw: u32,
-    pub entry: Entry,
+    pub entry: CodeEntry,
 }
 
 impl Known {
@@ -23,7 +23,7 @@ impl Known {
     {
         Known {
             raw: 0,
-            entry: Entry::Nop,
+            entry: CodeEntry::Nop,
         }
     }
 

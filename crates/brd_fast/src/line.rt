@@ -24,12 +24,12 @@ enum Next {
     Target,
 }
 
-/// Instructions that lie one after the other, which a processor does without a look at where it is. Places are counted
-/// in words from RAM's first, and the end of the line is the only test of where a step is: it stands for the end of the
-/// words that have entries, for the delay slot that a branch makes of the next word, and for the last of the steps that
-/// are asked for.
+/// A straight line: instructions that lie one after the other, which a processor does without a look at where it is.
+/// Places are counted in words from RAM's first, and the end of the line is the only test of where a step is: it stands
+/// for the end of the words that have entries, for the delay slot that a branch makes of the next word, and for the
+/// last of the steps that are asked for.
 #[derive(Drop)]
-pub struct Line {
+pub struct StraightLine {
     /// The next instruction's word.
     at: usize,
     /// The word before which the line ends.
@@ -43,7 +43,7 @@ pub struct Line {
     target: usize,
 }
 
-impl Model for Line {
+impl Model for StraightLine {
     ghost use Rattle.brd_fast.specs.Place.{Place};
     ghost use Rattle.brd_fast.specs.Line.{placed, IsLine};
 
@@ -54,11 +54,11 @@ impl Model for Line {
     ghost invariant = { λ line. IsLine line.at line.end line.stop line.words line.next line.target };
 }
 
-impl Line {
+impl StraightLine {
     /// The line of a context that is to do `count` steps in the first `words` of RAM; None where its next instruction,
     /// or the target after the delay slot in which that is, isn't one of them, where no step is to be done, and where
     /// outside of a delay slot another instruction than the next word's comes after it.
-    pub fn of(context: &Context, words: usize, count: u32) -> Option<Line>
+    pub fn of(context: &Context, words: usize, count: u32) -> Option<StraightLine>
         requires few { words ≤ 2 ^ 22 }
         ensures place { IfSome result (λ line. state_of context.now line ≡ context.now) }
         ensures left { IfSome result (λ line. line.left ≡ count) }
@@ -73,7 +73,7 @@ impl Line {
             if target >= words {
                 return None;
             }
-            return Some(Line {
+            return Some(StraightLine {
                 at,
                 end: at,
                 stop: target + count as usize - 1,
@@ -86,7 +86,7 @@ impl Line {
             return None;
         }
         let stop = at + count as usize;
-        Some(Line {
+        Some(StraightLine {
             at,
             end: stop.min(words),
             stop,
@@ -184,8 +184,8 @@ impl Line {
         Some(target)
     }
 
-    /// The word that a jump by an index goes to, where there is one or it would be the first past the last: the top four
-    /// bits of its address are those of the delay slot's (MD00086, J).
+    /// The word that a jump by an index goes to, where there is one or it would be the first past the last: the top
+    /// four bits of its address are those of the delay slot's (MD00086, J).
     #[inline(always)]
     pub fn indexed(&self, index: JumpIndex) -> Option<usize>
         requires on { self.now.on ≡ true }

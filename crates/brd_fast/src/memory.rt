@@ -9,7 +9,7 @@ ghost use Rattle.brd_exec.specs.Went.{went_by};
 ghost use Rattle.brd_fast.specs.Place.{state_of, Leaves};
 ghost use Rattle.brd_fast.specs.Moves.{Leads, Acts};
 
-use crate::line::Line;
+use crate::line::StraightLine;
 use crate::registers::{set, word};
 use brd_entries::{Destination, Source};
 use brd_exec::Context;
@@ -21,7 +21,7 @@ use brd_mem::Ram;
 #[inline(always)]
 pub fn load(
     context: &mut Context,
-    line: &mut Line,
+    line: &mut StraightLine,
     ram: &Ram,
     op: LoadOp,
     rt: Destination,
@@ -46,7 +46,7 @@ pub fn load(
 #[inline(always)]
 pub fn store(
     context: &Context,
-    line: &mut Line,
+    line: &mut StraightLine,
     cpu: u8,
     ram: &mut Ram,
     links: &mut Links,

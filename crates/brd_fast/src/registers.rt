@@ -17,7 +17,7 @@ ghost use Rattle.brd_exec.specs.Action.{with_word};
 ghost use Rattle.brd_fast.specs.Place.{state_of, IsAt, Leaves};
 ghost use Rattle.brd_fast.specs.Moves.{Moves, Leads};
 
-use crate::line::Line;
+use crate::line::StraightLine;
 use brd_entries::{Destination, Source};
 use brd_exec::{
     Context, accumulate_value, count_value, product_value, shift_value, shift_variable_value,
@@ -35,7 +35,7 @@ pub fn word(context: &Context, source: Source) -> u32
 
 /// Goes on to the next instruction.
 #[inline(always)]
-pub fn pass(line: &mut Line) -> bool
+pub fn pass(line: &mut StraightLine) -> bool
     requires { line.old.on ≡ true }
     ensures done { result ≡ true }
     ensures is { IsAt line.new line.old.npc ((line.old.npc + 4) % 2 ^ 32) false }
@@ -47,7 +47,7 @@ pub fn pass(line: &mut Line) -> bool
 
 /// Goes on to the next instruction with this word in a register.
 #[inline(always)]
-pub fn set(context: &mut Context, line: &mut Line, rd: Destination, word: u32) -> bool
+pub fn set(context: &mut Context, line: &mut StraightLine, rd: Destination, word: u32) -> bool
     requires { line.old.on ≡ true }
     ensures is { Moves (with_register (state_of context.old line.old) rd word) result (state_of context.new line.new) }
     ensures leaves { Leaves line.old result line.new }
@@ -61,7 +61,7 @@ pub fn set(context: &mut Context, line: &mut Line, rd: Destination, word: u32) -
 #[inline(always)]
 pub fn set_if(
     context: &mut Context,
-    line: &mut Line,
+    line: &mut StraightLine,
     sets: bool,
     rd: Destination,
     rs: Source,
@@ -80,7 +80,7 @@ pub fn set_if(
 #[inline(always)]
 pub fn shift(
     context: &mut Context,
-    line: &mut Line,
+    line: &mut StraightLine,
     op: ShiftOp,
     rd: Destination,
     rt: Source,
@@ -99,7 +99,7 @@ pub fn shift(
 #[inline(always)]
 pub fn shift_variable(
     context: &mut Context,
-    line: &mut Line,
+    line: &mut StraightLine,
     op: ShiftVariableOp,
     rd: Destination,
     rt: Source,
@@ -120,7 +120,7 @@ pub fn shift_variable(
 #[inline(always)]
 pub fn count(
     context: &mut Context,
-    line: &mut Line,
+    line: &mut StraightLine,
     op: CountOp,
     rd: Destination,
     rs: Source,
@@ -136,7 +136,13 @@ pub fn count(
 
 /// Adds a word to a register's, unless the sum overflows.
 #[inline(always)]
-pub fn add(context: &mut Context, line: &mut Line, rd: Destination, rs: Source, b: u32) -> bool
+pub fn add(
+    context: &mut Context,
+    line: &mut StraightLine,
+    rd: Destination,
+    rs: Source,
+    b: u32,
+) -> bool
     requires { line.old.on ≡ true }
     ensures is { Leads (with_word (state_of context.old line.old) rd
         (unless_overflow (sum_overflows (read context.old rs) b) (sum_of (read context.old rs) b)))
@@ -154,7 +160,7 @@ pub fn add(context: &mut Context, line: &mut Line, rd: Destination, rs: Source, 
 #[inline(always)]
 pub fn subtract(
     context: &mut Context,
-    line: &mut Line,
+    line: &mut StraightLine,
     rd: Destination,
     rs: Source,
     rt: Source,
@@ -178,7 +184,7 @@ pub fn subtract(
 #[inline(always)]
 pub fn product(
     context: &mut Context,
-    line: &mut Line,
+    line: &mut StraightLine,
     op: ProductOp,
     rs: Source,
     rt: Source,
@@ -199,7 +205,7 @@ pub fn product(
 #[inline(always)]
 pub fn accumulate(
     context: &mut Context,
-    line: &mut Line,
+    line: &mut StraightLine,
     op: AccumulateOp,
     rs: Source,
     rt: Source,

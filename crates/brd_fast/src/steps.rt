@@ -9,17 +9,17 @@ ghost use Rattle.brd_fast.specs.Steps.{MaySteps, machine_at};
 
 use crate::entries::carry_out;
 use crate::known::Known;
-use crate::line::{Line, index_of};
+use crate::line::{StraightLine, index_of};
 use crate::table::Table;
 use brd_exec::Context;
 use brd_link::Links;
 use brd_mem::Ram;
 
 /// Does steps of a processor's context, one after the other, as many as `count` at most, and answers how many it did.
-/// It ends early at whatever is unusual: what has no entry (`Entry::Slow`) or would raise an exception; a branch or a
-/// jump in a delay slot, to a word for which the table has no place, or whose own slot lies past these words or past the
-/// last of the steps. That is left to do, and nothing of it is done. With a table for RAM of another byte order it does
-/// nothing.
+/// It ends early at whatever is unusual: what has no entry (`CodeEntry::Slow`) or would raise an exception; a branch or
+/// a jump in a delay slot, to a word for which the table has no place, or whose own slot lies past these words or past
+/// the last of the steps. That is left to do, and nothing of it is done. With a table for RAM of another byte order it
+/// does nothing.
 pub fn go(
     table: &mut Table,
     cpu: u8,
@@ -76,7 +76,7 @@ fn known_steps(
         ≡ Some (record { state = context.new; memory = ram.new; links = links.new }) }
 {
     let words = known.len().min(ram.size() / 4);
-    let Some(mut line) = Line::of(context, words, count) else {
+    let Some(mut line) = StraightLine::of(context, words, count) else {
         return 0;
     };
     'lines: for _ in 0..count {
@@ -99,7 +99,7 @@ fn step(
     known: &[Known],
     cpu: u8,
     context: &mut Context,
-    line: &mut Line,
+    line: &mut StraightLine,
     ram: &mut Ram,
     links: &mut Links,
 ) -> bool

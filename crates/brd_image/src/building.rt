@@ -4,7 +4,8 @@ ghost use Rattle.std.specs.Prelude.{◌≡◌, ℕ, List, false, IfOk, IfErr, Ma
 ghost use Rattle.brd_mem.specs.declared.image.Image.{Image as ImageOf};
 ghost use Rattle.brd_elf.specs.File.{Fits, file};
 ghost use Rattle.brd_image.specs.Faults.{Gives, holds_no_memory, is_of_elf};
-ghost use Rattle.brd_image.specs.Building.{Builds, GivesBoard, HasParts, IsImageOf, IsObjectFile, KeepsFromAssembling, booted, loaded};
+ghost use Rattle.brd_image.specs.Building.{Builds, GivesBoard, HasParts, IsImageOf, IsObjectFile, KeepsFromAssembling};
+ghost use Rattle.brd_image.specs.Building.{booted, loaded};
 ghost use Rattle.brd_image.specs.Headline.{Starts};
 
 use crate::fault::BuildFault;

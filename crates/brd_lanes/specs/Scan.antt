@@ -1,5 +1,6 @@
 -- What the scans look for, and which place is the answer.
-use Rattle.std.specs.Prelude.{ℕ, ◌+◌, ◌<◌, ◌≤◌, Bool, not, ◌&&◌, ◌==◌, if◌then◌else◌, IsTrue, IsFalse, nat_le, nat_lt, bit_and, Option, Some, None, List, slice_index}
+use Rattle.std.specs.Prelude.{ℕ, ◌+◌, ◌<◌, ◌≤◌, Bool, not, ◌&&◌, ◌==◌, if◌then◌else◌, IsTrue, IsFalse, nat_le, nat_lt}
+use Rattle.std.specs.Prelude.{bit_and, Option, Some, None, List, slice_index}
 
 -- the test fails at each index from `start` on and below `end`
 abbrev pub NoneBetween : (ℕ → Bool) → ℕ → ℕ → Type 0

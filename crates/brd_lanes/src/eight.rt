@@ -1,5 +1,6 @@
 //! One block of eight elements of each scan, by lanes.
-ghost use Rattle.std.specs.Prelude.{◌≡◌, ◌≢◌, ℕ, ◌+◌, ◌-◌, ◌%◌, ◌^◌, ◌<◌, ◌≤◌, ◌==◌, if◌then◌else◌, length, slice_index, slice_range, MatchBool, Contains};
+ghost use Rattle.std.specs.Prelude.{◌≡◌, ◌≢◌, ℕ, ◌+◌, ◌-◌, ◌%◌, ◌^◌, ◌<◌, ◌≤◌, ◌==◌, if◌then◌else◌, length};
+ghost use Rattle.std.specs.Prelude.{slice_index, slice_range, MatchBool, Contains};
 ghost use Rattle.std.specs.Int.{bit_at};
 ghost use Rattle.brd_lanes.specs.Scan.{IsLeast, NoneBetween, is_satisfied_at, is_due_at, is_address_at, is_in_block};
 

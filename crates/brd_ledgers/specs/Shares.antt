@@ -1,13 +1,14 @@
 -- What a processor's share is: whose it is, and what it has counted.
 use Rattle.std.specs.Prelude.{◌≡◌, ℕ, ◌+◌, ◌<◌, ◌≤◌, List, length, slice_index_or}
-use Rattle.brd_ledgers.specs.declared.share.Token.{Token}
-use Rattle.brd_ledgers.specs.declared.share.Token.TheVariants.{First, Second, Third, Fourth, Fifth, Sixth, Seventh, Eighth}
+use Rattle.brd_ledgers.specs.declared.share.ShareToken.{ShareToken}
+use Rattle.brd_ledgers.specs.declared.share.ShareToken.TheVariants.{First, Second, Third, Fourth, Fifth, Sixth, Seventh}
+use Rattle.brd_ledgers.specs.declared.share.ShareToken.TheVariants.{Eighth}
 
 pub record Counted : Type 0 where
   pub cpu : ℕ
   pub count : ℕ
 
-abbrev pub cpu_of : {K : Type 0} → Token K → ℕ
+abbrev pub cpu_of : {K : Type 0} → ShareToken K → ℕ
 cpu_of (First count) = 1
 cpu_of (Second count) = 2
 cpu_of (Third count) = 3
@@ -17,7 +18,7 @@ cpu_of (Sixth count) = 6
 cpu_of (Seventh count) = 7
 cpu_of (Eighth count) = 8
 
-abbrev pub count_of : {K : Type 0} → Token K → ℕ
+abbrev pub count_of : {K : Type 0} → ShareToken K → ℕ
 count_of (First count) = count
 count_of (Second count) = count
 count_of (Third count) = count

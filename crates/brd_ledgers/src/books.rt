@@ -1,12 +1,13 @@
 //! A station's books: a tally for each processor that there may be.
 
-ghost use Rattle.std.specs.Prelude.{◌≡◌, ℕ, ◌+◌, ◌<◌, ◌≤◌, ◌^◌, ◌∷◌, [], length, slice_index_or, slice_set, vec_len, Decides, IfOk};
+ghost use Rattle.std.specs.Prelude.{◌≡◌, ℕ, ◌+◌, ◌<◌, ◌≤◌, ◌^◌, ◌∷◌, [], length, slice_index_or, slice_set, vec_len};
+ghost use Rattle.std.specs.Prelude.{Decides, IfOk};
 ghost use Rattle.brd_ledgers.specs.Blanks.{AreOf};
 ghost use Rattle.brd_ledgers.specs.Shares.{AreNew, IsOwn};
 
 use crate::blanks::Blanks;
 use crate::ledger::{Eighth, Fifth, First, Fourth, Race, Second, Seventh, Sixth, Third};
-use crate::share::{Share, Token};
+use crate::share::{Share, ShareToken};
 use crate::tally::{Tally, opened};
 use std::alloc::{AllocError, Global};
 use std::marker::Model;
@@ -30,7 +31,8 @@ impl<K: Race> Model for Books<K> {
 
     ghost Value = { List ℕ };
 
-    ghost view = { λ books. 0 ∷ books.first ∷ books.second ∷ books.third ∷ books.fourth ∷ books.fifth ∷ books.sixth ∷ books.seventh ∷ books.eighth ∷ [] };
+    ghost view = { λ books. 0 ∷ books.first ∷ books.second ∷ books.third ∷ books.fourth ∷ books.fifth ∷ books.sixth
+        ∷ books.seventh ∷ books.eighth ∷ [] };
 }
 
 /// Books that have counted nothing, and a share for each of the processors from 1 to `processors`.
@@ -65,28 +67,28 @@ pub fn open_books<K: Race>(
     let (eighth, eighth_hold) = opened::<Eighth<K>>(eighth);
     let mut shares = Vec::with_capacity(alloc, 8)?;
     shares.push(Share {
-        token: Token::First(first_hold),
+        token: ShareToken::First(first_hold),
     })?;
     shares.push(Share {
-        token: Token::Second(second_hold),
+        token: ShareToken::Second(second_hold),
     })?;
     shares.push(Share {
-        token: Token::Third(third_hold),
+        token: ShareToken::Third(third_hold),
     })?;
     shares.push(Share {
-        token: Token::Fourth(fourth_hold),
+        token: ShareToken::Fourth(fourth_hold),
     })?;
     shares.push(Share {
-        token: Token::Fifth(fifth_hold),
+        token: ShareToken::Fifth(fifth_hold),
     })?;
     shares.push(Share {
-        token: Token::Sixth(sixth_hold),
+        token: ShareToken::Sixth(sixth_hold),
     })?;
     shares.push(Share {
-        token: Token::Seventh(seventh_hold),
+        token: ShareToken::Seventh(seventh_hold),
     })?;
     shares.push(Share {
-        token: Token::Eighth(eighth_hold),
+        token: ShareToken::Eighth(eighth_hold),
     })?;
     shares.truncate(processors);
     let books = Books {
@@ -150,14 +152,14 @@ impl<K: Race> Books<K> {
         ensures share { share.new ≡ record share.old { count = share.old.count + more } }
     {
         match &mut share.token {
-            Token::First(hold) => self.first.add(hold, more),
-            Token::Second(hold) => self.second.add(hold, more),
-            Token::Third(hold) => self.third.add(hold, more),
-            Token::Fourth(hold) => self.fourth.add(hold, more),
-            Token::Fifth(hold) => self.fifth.add(hold, more),
-            Token::Sixth(hold) => self.sixth.add(hold, more),
-            Token::Seventh(hold) => self.seventh.add(hold, more),
-            Token::Eighth(hold) => self.eighth.add(hold, more),
+            ShareToken::First(hold) => self.first.add(hold, more),
+            ShareToken::Second(hold) => self.second.add(hold, more),
+            ShareToken::Third(hold) => self.third.add(hold, more),
+            ShareToken::Fourth(hold) => self.fourth.add(hold, more),
+            ShareToken::Fifth(hold) => self.fifth.add(hold, more),
+            ShareToken::Sixth(hold) => self.sixth.add(hold, more),
+            ShareToken::Seventh(hold) => self.seventh.add(hold, more),
+            ShareToken::Eighth(hold) => self.eighth.add(hold, more),
         }
     }
 
@@ -168,14 +170,14 @@ impl<K: Race> Books<K> {
         ensures share { share.new ≡ share.old }
     {
         match &mut share.token {
-            Token::First(hold) => self.first.audit(hold),
-            Token::Second(hold) => self.second.audit(hold),
-            Token::Third(hold) => self.third.audit(hold),
-            Token::Fourth(hold) => self.fourth.audit(hold),
-            Token::Fifth(hold) => self.fifth.audit(hold),
-            Token::Sixth(hold) => self.sixth.audit(hold),
-            Token::Seventh(hold) => self.seventh.audit(hold),
-            Token::Eighth(hold) => self.eighth.audit(hold),
+            ShareToken::First(hold) => self.first.audit(hold),
+            ShareToken::Second(hold) => self.second.audit(hold),
+            ShareToken::Third(hold) => self.third.audit(hold),
+            ShareToken::Fourth(hold) => self.fourth.audit(hold),
+            ShareToken::Fifth(hold) => self.fifth.audit(hold),
+            ShareToken::Sixth(hold) => self.sixth.audit(hold),
+            ShareToken::Seventh(hold) => self.seventh.audit(hold),
+            ShareToken::Eighth(hold) => self.eighth.audit(hold),
         }
     }
 }

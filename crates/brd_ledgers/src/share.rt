@@ -8,7 +8,7 @@ use std::marker::Model;
 
 /// The hold of one of the eight tallies.
 #[derive(Drop)]
-pub(crate) enum Token<K: Race> {
+pub(crate) enum ShareToken<K: Race> {
     First(Hold<First<K>>),
     Second(Hold<Second<K>>),
     Third(Hold<Third<K>>),
@@ -22,7 +22,7 @@ pub(crate) enum Token<K: Race> {
 /// What one processor's thread has counted. There is one for each processor, and only with it does the count grow.
 #[derive(Drop)]
 pub struct Share<K: Race> {
-    pub(crate) token: Token<K>,
+    pub(crate) token: ShareToken<K>,
 }
 
 impl<K: Race> Model for Share<K> {
@@ -40,14 +40,14 @@ impl<K: Race> Share<K> {
         ensures within { (1 ≤ result) × (result ≤ 8) }
     {
         match &self.token {
-            Token::First(_) => 1,
-            Token::Second(_) => 2,
-            Token::Third(_) => 3,
-            Token::Fourth(_) => 4,
-            Token::Fifth(_) => 5,
-            Token::Sixth(_) => 6,
-            Token::Seventh(_) => 7,
-            Token::Eighth(_) => 8,
+            ShareToken::First(_) => 1,
+            ShareToken::Second(_) => 2,
+            ShareToken::Third(_) => 3,
+            ShareToken::Fourth(_) => 4,
+            ShareToken::Fifth(_) => 5,
+            ShareToken::Sixth(_) => 6,
+            ShareToken::Seventh(_) => 7,
+            ShareToken::Eighth(_) => 8,
         }
     }
 
@@ -56,14 +56,14 @@ impl<K: Race> Share<K> {
         ensures { result ≡ self.now.count }
     {
         match &self.token {
-            Token::First(hold) => hold.count(),
-            Token::Second(hold) => hold.count(),
-            Token::Third(hold) => hold.count(),
-            Token::Fourth(hold) => hold.count(),
-            Token::Fifth(hold) => hold.count(),
-            Token::Sixth(hold) => hold.count(),
-            Token::Seventh(hold) => hold.count(),
-            Token::Eighth(hold) => hold.count(),
+            ShareToken::First(hold) => hold.count(),
+            ShareToken::Second(hold) => hold.count(),
+            ShareToken::Third(hold) => hold.count(),
+            ShareToken::Fourth(hold) => hold.count(),
+            ShareToken::Fifth(hold) => hold.count(),
+            ShareToken::Sixth(hold) => hold.count(),
+            ShareToken::Seventh(hold) => hold.count(),
+            ShareToken::Eighth(hold) => hold.count(),
         }
     }
 }

@@ -1,7 +1,8 @@
 //! Laws of the changes, over every set of links: what a theorem about a whole run goes by.
 ghost use Rattle.std.specs.Prelude.{◌≡◌, ℕ, ◌≤◌, ◌==◌, ◌&&◌, ◌||◌, not, if◌then◌else◌, List};
 ghost use Rattle.std.specs.List.{list_any};
-ghost use Rattle.brd_link.specs.LinkSet.{LinkSet, IsLinkSet, is_linked, linked_address, without, without_all, with_link, is_same_block, after_store};
+ghost use Rattle.brd_link.specs.LinkSet.{LinkSet, IsLinkSet, is_linked, linked_address, without, without_all};
+ghost use Rattle.brd_link.specs.LinkSet.{with_link, is_same_block, after_store};
 
 /// Which processors are linked to which addresses after a change, by who was before it.
 pub fn pairs_after_a_change()

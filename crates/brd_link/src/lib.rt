@@ -6,9 +6,11 @@
 //! aligned, which is an own choice. Each call takes no memory and answers whatever the address is.
 #![tactic(auto)]
 
-ghost use Rattle.std.specs.Prelude.{◌≡◌, ◌≢◌, ℕ, ◌≤◌, ◌<◌, ◌↔◌, ◌==◌, if◌then◌else◌, IsTrue, Some, None, [], slice_index};
+ghost use Rattle.std.specs.Prelude.{◌≡◌, ◌≢◌, ℕ, ◌≤◌, ◌<◌, ◌↔◌, ◌==◌, if◌then◌else◌, IsTrue, Some, None, []};
+ghost use Rattle.std.specs.Prelude.{slice_index};
 ghost use Rattle.std.specs.Int.{bit_at};
-ghost use Rattle.brd_link.specs.LinkSet.{IsLinkSet, is_linked, linked_address, without, with_link, after_store, outside_block};
+ghost use Rattle.brd_link.specs.LinkSet.{IsLinkSet, is_linked, linked_address, without, with_link, after_store};
+ghost use Rattle.brd_link.specs.LinkSet.{outside_block};
 
 pub mod laws;
 

@@ -12,7 +12,8 @@ use Rattle.brd_mem.specs.declared.image.Symbol.{Symbol}
 -- Words lie from the first address of RAM on, each with the most significant byte first; no words make no segment.
 abbrev pub segments_of_words : List ℕ → List Segment
 segments_of_words [] = []
-segments_of_words (word ∷ words) = record { address = base; bytes = flat_map (bytes_of_word Order.Big) (word ∷ words) } ∷ []
+segments_of_words (word ∷ words) =
+    record { address = base; bytes = flat_map (bytes_of_word Order.Big) (word ∷ words) } ∷ []
 
 -- the image of words: it is big-endian, starts at the first of them, and names nothing
 abbrev pub image_of_words : List ℕ → Image

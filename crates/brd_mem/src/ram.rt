@@ -1,9 +1,11 @@
 //! The RAM.
 
-ghost use Rattle.std.specs.Prelude.{◌≡◌, Decides, ℕ, ◌+◌, ◌-◌, ◌*◌, ◌%◌, ◌^◌, ◌<◌, ◌≤◌, ◌↔◌, ◌++◌, length, bytes_eq, true, Ok, OnOk, IfOk, IsErrOf};
+ghost use Rattle.std.specs.Prelude.{◌≡◌, Decides, ℕ, ◌+◌, ◌-◌, ◌*◌, ◌%◌, ◌^◌, ◌<◌, ◌≤◌, ◌↔◌, ◌++◌, length, bytes_eq};
+ghost use Rattle.std.specs.Prelude.{true, Ok, OnOk, IfOk, IsErrOf};
 ghost use Rattle.brd_base.specs.Space.{base, IsRamSize};
 ghost use Rattle.brd_word.specs.Words.{bytes_of_word};
-ghost use Rattle.brd_mem.specs.Memory.{Memory, memory_of_bytes, size_of, zeros, contains, bytes_at, with_bytes, copied, byte_at};
+ghost use Rattle.brd_mem.specs.Memory.{Memory, memory_of_bytes, size_of, zeros, contains, bytes_at, with_bytes, copied};
+ghost use Rattle.brd_mem.specs.Memory.{byte_at};
 ghost use Rattle.brd_mem.specs.Access.{
   place_of,
   fetched,
@@ -136,8 +138,8 @@ impl Ram {
         Ok(word_of(self.bytes_at(at), self.order))
     }
 
-    /// The four bytes of an instruction word at an aligned address in RAM, given by its place (how many bytes lie before
-    /// it), as one number: the little-endian word of them, in either order of RAM.
+    /// The four bytes of an instruction word at an aligned address in RAM, given by its place (how many bytes lie
+    /// before it), as one number: the little-endian word of them, in either order of RAM.
     #[inline(always)]
     pub fn raw_at(&self, at: usize) -> u32
         requires aligned { at % 4 ≡ 0 }

@@ -4,7 +4,7 @@ use Rattle.std.specs.Prelude.{Bool, true, false, not, if◌then◌else◌, filte
 use Rattle.std.specs.Option.{option_map}
 use Rattle.std.proofs.lemmas.Bool.{cond_both}
 use Rattle.std.proofs.lemmas.Bool.Decides.{nat_tests}
-use Rattle.brd_queue.specs.declared.entry.Entry.{Entry}
+use Rattle.brd_queue.specs.declared.entry.QueueEntry.{QueueEntry}
 use Rattle.brd_queue.specs.Queue.{Plain}
 use Rattle.brd_objects.specs.declared.want.Mode.{Mode}
 use Rattle.brd_objects.specs.declared.want.Mode.TheVariants as modes
@@ -18,35 +18,35 @@ use Rattle.brd_objects.specs.DataQueues.{DataQueueState, sent_to, sent, outcome_
 
 -- Without TA_CLR.
 
-released-by : (holds : Bool) (e : Entry Want) (ids : List ℕ) (es : List (Entry Want)) → ids ≡ map (λ x. x.id) es → (if holds then e.id ∷ ids else ids) ≡ map (λ x. x.id) (if holds then e ∷ es else es)
+released-by : (holds : Bool) (e : QueueEntry Want) (ids : List ℕ) (es : List (QueueEntry Want)) → ids ≡ map (λ x. x.id) es → (if holds then e.id ∷ ids else ids) ≡ map (λ x. x.id) (if holds then e ∷ es else es)
 released-by true e ids es others = ap (λ l. e.id ∷ l) others
 released-by false e ids es others = others
 
-pub released-all : (p : ℕ) (ws : List (Entry Want)) → released_of false p ws ≡ map (λ e. e.id) (filter (λ e. satisfies p e.wanted) ws)
+pub released-all : (p : ℕ) (ws : List (QueueEntry Want)) → released_of false p ws ≡ map (λ e. e.id) (filter (λ e. satisfies p e.wanted) ws)
 released-all p [] = refl
 released-all p (w ∷ ws) = released-by (satisfies p w.wanted) w (released_of false p ws) (filter (λ e. satisfies p e.wanted) ws) (released-all p ws)
 
-kept-by : (holds : Bool) (e : Entry Want) (kept es : List (Entry Want)) → kept ≡ es → (if holds then kept else e ∷ kept) ≡ (if not holds then e ∷ es else es)
+kept-by : (holds : Bool) (e : QueueEntry Want) (kept es : List (QueueEntry Want)) → kept ≡ es → (if holds then kept else e ∷ kept) ≡ (if not holds then e ∷ es else es)
 kept-by true e kept es others = others
 kept-by false e kept es others = ap (λ l. e ∷ l) others
 
-pub kept-all : (p : ℕ) (ws : List (Entry Want)) → kept_of false p ws ≡ filter (λ e. not (satisfies p e.wanted)) ws
+pub kept-all : (p : ℕ) (ws : List (QueueEntry Want)) → kept_of false p ws ≡ filter (λ e. not (satisfies p e.wanted)) ws
 kept-all p [] = refl
 kept-all p (w ∷ ws) = kept-by (satisfies p w.wanted) w (kept_of false p ws) (filter (λ e. not (satisfies p e.wanted)) ws) (kept-all p ws)
 
-pub pattern-stays : (p : ℕ) (ws : List (Entry Want)) → pattern_after false p ws ≡ p
+pub pattern-stays : (p : ℕ) (ws : List (QueueEntry Want)) → pattern_after false p ws ≡ p
 pattern-stays p [] = refl
 pattern-stays p (w ∷ ws) = pattern-stays p ws
 
 -- With TA_CLR.
 
 -- what is true of a waiting list of which one waiter is released
-record IsOne (p : ℕ) (ws : List (Entry Want)) (e : Entry Want) : Type 0 where
+record IsOne (p : ℕ) (ws : List (QueueEntry Want)) (e : QueueEntry Want) : Type 0 where
   released : released_of true p ws ≡ e.id ∷ []
   kept : kept_of true p ws ≡ without_satisfied p ws
   pattern : pattern_after true p ws ≡ 0
 
-one-by : (holds : Bool) (p : ℕ) (w : Entry Want) (ws : List (Entry Want)) (e : Entry Want) → satisfies p w.wanted ≡ holds → (if holds then Some w else first_satisfied p ws) ≡ Some e →
+one-by : (holds : Bool) (p : ℕ) (w : QueueEntry Want) (ws : List (QueueEntry Want)) (e : QueueEntry Want) → satisfies p w.wanted ≡ holds → (if holds then Some w else first_satisfied p ws) ≡ Some e →
     (first_satisfied p ws ≡ Some e → IsOne p ws e) → IsOne p (w ∷ ws) e
 one-by true p w ws e test is others =
     let same : w ≡ e = cc in
@@ -63,22 +63,22 @@ one-by false p w ws e test is others =
       pattern = ap (λ t. if t then 0 else pattern_after true p ws) test ∙ rest.pattern;
     }
 
-one-all : (p : ℕ) (ws : List (Entry Want)) (e : Entry Want) → first_satisfied p ws ≡ Some e → IsOne p ws e
+one-all : (p : ℕ) (ws : List (QueueEntry Want)) (e : QueueEntry Want) → first_satisfied p ws ≡ Some e → IsOne p ws e
 one-all p [] e is = let wrong : ⊥ = cc in absurd wrong
 one-all p (w ∷ ws) e is = one-by (satisfies p w.wanted) p w ws e refl is (one-all p ws e)
 
-pub one-released : (p : ℕ) (ws : List (Entry Want)) (e : Entry Want) → first_satisfied p ws ≡ Some e →
+pub one-released : (p : ℕ) (ws : List (QueueEntry Want)) (e : QueueEntry Want) → first_satisfied p ws ≡ Some e →
     (released_of true p ws ≡ e.id ∷ []) × (kept_of true p ws ≡ without_satisfied p ws) × (pattern_after true p ws ≡ 0)
 one-released p ws e is = let one : IsOne p ws e = one-all p ws e is in (one.released, one.kept, one.pattern)
 
 -- Nobody.
 
-record IsNone (clears : Bool) (p : ℕ) (ws : List (Entry Want)) : Type 0 where
+record IsNone (clears : Bool) (p : ℕ) (ws : List (QueueEntry Want)) : Type 0 where
   released : released_of clears p ws ≡ []
   kept : kept_of clears p ws ≡ ws
   pattern : pattern_after clears p ws ≡ p
 
-past : (clears : Bool) (p : ℕ) (w : Entry Want) (ws : List (Entry Want)) → satisfies p w.wanted ≡ false → IsNone clears p ws → IsNone clears p (w ∷ ws)
+past : (clears : Bool) (p : ℕ) (w : QueueEntry Want) (ws : List (QueueEntry Want)) → satisfies p w.wanted ≡ false → IsNone clears p ws → IsNone clears p (w ∷ ws)
 past true p w ws test rest = record {
   released = ap (λ t. if t then w.id ∷ [] else released_of true p ws) test ∙ rest.released;
   kept = ap (λ t. if t then ws else w ∷ kept_of true p ws) test ∙ ap (λ l. w ∷ l) rest.kept;
@@ -90,16 +90,16 @@ past false p w ws test rest = record {
   pattern = rest.pattern;
 }
 
-none-by : (holds : Bool) (clears : Bool) (p : ℕ) (w : Entry Want) (ws : List (Entry Want)) → satisfies p w.wanted ≡ holds → (if holds then Some w else first_satisfied p ws) ≡ None →
+none-by : (holds : Bool) (clears : Bool) (p : ℕ) (w : QueueEntry Want) (ws : List (QueueEntry Want)) → satisfies p w.wanted ≡ holds → (if holds then Some w else first_satisfied p ws) ≡ None →
     (first_satisfied p ws ≡ None → IsNone clears p ws) → IsNone clears p (w ∷ ws)
 none-by true clears p w ws test is others = let wrong : ⊥ = cc in absurd wrong
 none-by false clears p w ws test is others = past clears p w ws test (others is)
 
-none-all : (clears : Bool) (p : ℕ) (ws : List (Entry Want)) → first_satisfied p ws ≡ None → IsNone clears p ws
+none-all : (clears : Bool) (p : ℕ) (ws : List (QueueEntry Want)) → first_satisfied p ws ≡ None → IsNone clears p ws
 none-all clears p [] is = record { released = refl; kept = refl; pattern = refl }
 none-all clears p (w ∷ ws) is = none-by (satisfies p w.wanted) clears p w ws refl is (none-all clears p ws)
 
-pub none-released : (clears : Bool) (p : ℕ) (ws : List (Entry Want)) → first_satisfied p ws ≡ None →
+pub none-released : (clears : Bool) (p : ℕ) (ws : List (QueueEntry Want)) → first_satisfied p ws ≡ None →
     (released_of clears p ws ≡ []) × (kept_of clears p ws ≡ ws) × (pattern_after clears p ws ≡ p)
 none-released clears p ws is = let none : IsNone clears p ws = none-all clears p ws is in (none.released, none.kept, none.pattern)
 
@@ -114,19 +114,19 @@ pub unsatisfied : (want : Want) → want.bits ≢ 0 → satisfies 0 want ≡ fal
 unfolding satisfies
 unsatisfied want some = none-has want.mode want.bits some
 
-nobody-at-all : (ws : List (Entry Want)) → WantBits ws → first_satisfied 0 ws ≡ None
+nobody-at-all : (ws : List (QueueEntry Want)) → WantBits ws → first_satisfied 0 ws ≡ None
 nobody-at-all [] bits = refl
 nobody-at-all (w ∷ ws) bits = ap (λ t. if t then Some w else first_satisfied 0 ws) (unsatisfied w.wanted bits.0) ∙ nobody-at-all ws bits.1
 
-bits-left : (p : ℕ) (ws : List (Entry Want)) → WantBits ws → WantBits (without_satisfied p ws)
+bits-left : (p : ℕ) (ws : List (QueueEntry Want)) → WantBits ws → WantBits (without_satisfied p ws)
 bits-left p [] bits = tt
 bits-left p (w ∷ ws) bits = cond_both (satisfies p w.wanted) _ _ WantBits (λ is. bits.1) (λ not. (bits.0, bits-left p ws bits.1))
 
-record IsNext (p : ℕ) (ws : List (Entry Want)) (e : Entry Want) : Type 0 where
+record IsNext (p : ℕ) (ws : List (QueueEntry Want)) (e : QueueEntry Want) : Type 0 where
   released : released_of false p ws ≡ e.id ∷ released_of false p (without_satisfied p ws)
   kept : kept_of false p ws ≡ kept_of false p (without_satisfied p ws)
 
-next-by : (holds : Bool) (p : ℕ) (w : Entry Want) (ws : List (Entry Want)) (e : Entry Want) → satisfies p w.wanted ≡ holds → (if holds then Some w else first_satisfied p ws) ≡ Some e →
+next-by : (holds : Bool) (p : ℕ) (w : QueueEntry Want) (ws : List (QueueEntry Want)) (e : QueueEntry Want) → satisfies p w.wanted ≡ holds → (if holds then Some w else first_satisfied p ws) ≡ Some e →
     (first_satisfied p ws ≡ Some e → IsNext p ws e) → IsNext p (w ∷ ws) e
 next-by true p w ws e test is others =
     let same : w ≡ e = cc in
@@ -147,7 +147,7 @@ next-by false p w ws e test is others =
           ∙ sym (ap (kept_of false p) rest ∙ ap (λ t. if t then kept_of false p (without_satisfied p ws) else w ∷ kept_of false p (without_satisfied p ws)) test);
     }
 
-next-all : (p : ℕ) (ws : List (Entry Want)) (e : Entry Want) → first_satisfied p ws ≡ Some e → IsNext p ws e
+next-all : (p : ℕ) (ws : List (QueueEntry Want)) (e : QueueEntry Want) → first_satisfied p ws ≡ Some e → IsNext p ws e
 next-all p [] e is = let wrong : ⊥ = cc in absurd wrong
 next-all p (w ∷ ws) e is = next-by (satisfies p w.wanted) p w ws e refl is (next-all p ws e)
 
@@ -155,13 +155,13 @@ abbrev Turns : Flag → ℕ → ℕ → Flag → Type 0
 Turns f id pattern next = (pattern ≡ f.pattern) × (all_released f ≡ id ∷ all_released next) × (with_all_released f ≡ with_all_released next)
 
 -- the parts of a flag
-abbrev flag-is : Flag → ℕ → List (Entry Want) → Flag
+abbrev flag-is : Flag → ℕ → List (QueueEntry Want) → Flag
 flag-is f pattern waiters = record f { pattern = pattern; waiters = waiters }
 
-turn-by : (clears : Bool) (f : Flag) (e : Entry Want) → f.clears ≡ clears → WantBits f.waiters → first_satisfied f.pattern f.waiters ≡ Some e → Turns f e.id f.pattern (released_to f (Some e))
+turn-by : (clears : Bool) (f : Flag) (e : QueueEntry Want) → f.clears ≡ clears → WantBits f.waiters → first_satisfied f.pattern f.waiters ≡ Some e → Turns f e.id f.pattern (released_to f (Some e))
 turn-by true f e mode bits is =
     let one : IsOne f.pattern f.waiters e = one-all f.pattern f.waiters e is in
-    let left : List (Entry Want) = without_satisfied f.pattern f.waiters in
+    let left : List (QueueEntry Want) = without_satisfied f.pattern f.waiters in
     let none : IsNone true 0 left = none-all true 0 left (nobody-at-all left (bits-left f.pattern f.waiters bits)) in
     let now : (if f.clears then 0 else f.pattern) ≡ 0 = ap (λ c. if c then 0 else f.pattern) mode in (
       refl,
@@ -176,7 +176,7 @@ turn-by true f e mode bits is =
     )
 turn-by false f e mode bits is =
     let next : IsNext f.pattern f.waiters e = next-all f.pattern f.waiters e is in
-    let left : List (Entry Want) = without_satisfied f.pattern f.waiters in
+    let left : List (QueueEntry Want) = without_satisfied f.pattern f.waiters in
     let now : (if f.clears then 0 else f.pattern) ≡ f.pattern = ap (λ c. if c then 0 else f.pattern) mode in (
       refl,
       ap (λ c. released_of c f.pattern f.waiters) mode ∙ next.released
@@ -189,7 +189,7 @@ turn-by false f e mode bits is =
           ∙ sym (ap (λ c. kept_of c (if f.clears then 0 else f.pattern) left) mode ∙ ap (λ p. kept_of false p left) now)),
     )
 
-turn-of : (f : Flag) (found : Option (Entry Want)) (id pattern : ℕ) → WantBits f.waiters → first_satisfied f.pattern f.waiters ≡ found →
+turn-of : (f : Flag) (found : Option (QueueEntry Want)) (id pattern : ℕ) → WantBits f.waiters → first_satisfied f.pattern f.waiters ≡ found →
     option_map {U = ℕ × ℕ} (λ e. (e.id, f.pattern)) found ≡ Some (id, pattern) → Turns f id pattern (released_to f found)
 turn-of f None id pattern bits is next = let wrong : ⊥ = cc in absurd wrong
 turn-of f (Some e) id pattern bits is next =
@@ -199,7 +199,7 @@ turn-of f (Some e) id pattern bits is next =
 pub turn : (f : Flag) (id pattern : ℕ) → WantBits f.waiters → next_released f ≡ Some (id, pattern) → Turns f id pattern (with_next_released f)
 turn f id pattern bits next = turn-of f (first_satisfied f.pattern f.waiters) id pattern bits refl next
 
-ended-of : (f : Flag) (found : Option (Entry Want)) → first_satisfied f.pattern f.waiters ≡ found → option_map {U = ℕ × ℕ} (λ e. (e.id, f.pattern)) found ≡ None →
+ended-of : (f : Flag) (found : Option (QueueEntry Want)) → first_satisfied f.pattern f.waiters ≡ found → option_map {U = ℕ × ℕ} (λ e. (e.id, f.pattern)) found ≡ None →
     (all_released f ≡ []) × (with_all_released f ≡ f)
 ended-of f (Some e) is next = let wrong : ⊥ = cc in absurd wrong
 ended-of f None is next =
@@ -215,7 +215,7 @@ second-by : {A : Type 0} → (clears : Bool) (f : Flag) (g : List ℕ → ℕ �
     g (released_of f.clears (if f.clears then 0 else f.pattern) (without_satisfied f.pattern f.waiters)) (if f.clears then 0 else f.pattern)
     ≡ g (released_of f.clears (if f.clears then 0 else f.pattern) (without_satisfied f.pattern f.waiters)) f.pattern
 second-by true f g same mode bits =
-    let left : List (Entry Want) = without_satisfied f.pattern f.waiters in
+    let left : List (QueueEntry Want) = without_satisfied f.pattern f.waiters in
     let none : IsNone true 0 left = none-all true 0 left (nobody-at-all left (bits-left f.pattern f.waiters bits)) in
     let now : (if f.clears then 0 else f.pattern) ≡ 0 = ap (λ c. if c then 0 else f.pattern) mode in
     let nobody : released_of f.clears (if f.clears then 0 else f.pattern) left ≡ [] =
@@ -224,7 +224,7 @@ second-by true f g same mode bits =
 second-by false f g same mode bits =
     ap (g (released_of f.clears (if f.clears then 0 else f.pattern) (without_satisfied f.pattern f.waiters))) (ap (λ c. if c then 0 else f.pattern) mode)
 
-second-of : {A : Type 0} → (f : Flag) (found : Option (Entry Want)) (id pattern : ℕ) (g : List ℕ → ℕ → A) → ((p q : ℕ) → g [] p ≡ g [] q) → WantBits f.waiters →
+second-of : {A : Type 0} → (f : Flag) (found : Option (QueueEntry Want)) (id pattern : ℕ) (g : List ℕ → ℕ → A) → ((p q : ℕ) → g [] p ≡ g [] q) → WantBits f.waiters →
     option_map {U = ℕ × ℕ} (λ e. (e.id, f.pattern)) found ≡ Some (id, pattern) → g (all_released (released_to f found)) (released_to f found).pattern ≡ g (all_released (released_to f found)) f.pattern
 second-of f None id pattern g same bits next = let wrong : ⊥ = cc in absurd wrong
 second-of f (Some e) id pattern g same bits next = second-by f.clears f g same refl bits
@@ -235,20 +235,20 @@ second f id pattern g same bits next = second-of f (first_satisfied f.pattern f.
 
 -- who is released no longer waits
 
-shorter-by : (holds : Bool) (w : Entry Want) (ws rest : List (Entry Want)) → (holds ≡ false → length rest < length ws) → length (if holds then ws else w ∷ rest) < length (w ∷ ws)
+shorter-by : (holds : Bool) (w : QueueEntry Want) (ws rest : List (QueueEntry Want)) → (holds ≡ false → length rest < length ws) → length (if holds then ws else w ∷ rest) < length (w ∷ ws)
 shorter-by true w ws rest less = omega arith
 shorter-by false w ws rest less = omega (arith, less refl)
 
-found-in : (holds : Bool) (w : Entry Want) (rest : Option (Entry Want)) (e : Entry Want) → holds ≡ false → (if holds then Some w else rest) ≡ Some e → rest ≡ Some e
+found-in : (holds : Bool) (w : QueueEntry Want) (rest : Option (QueueEntry Want)) (e : QueueEntry Want) → holds ≡ false → (if holds then Some w else rest) ≡ Some e → rest ≡ Some e
 found-in true w rest e test is = let wrong : ⊥ = cc in absurd wrong
 found-in false w rest e test is = is
 
-shorter-all : (p : ℕ) (ws : List (Entry Want)) (e : Entry Want) → first_satisfied p ws ≡ Some e → length (without_satisfied p ws) < length ws
+shorter-all : (p : ℕ) (ws : List (QueueEntry Want)) (e : QueueEntry Want) → first_satisfied p ws ≡ Some e → length (without_satisfied p ws) < length ws
 shorter-all p [] e is = let wrong : ⊥ = cc in absurd wrong
 shorter-all p (w ∷ ws) e is =
     shorter-by (satisfies p w.wanted) w ws (without_satisfied p ws) (λ test. shorter-all p ws e (found-in (satisfies p w.wanted) w (first_satisfied p ws) e test is))
 
-shorter-of : (f : Flag) (found : Option (Entry Want)) (id pattern : ℕ) → first_satisfied f.pattern f.waiters ≡ found → option_map {U = ℕ × ℕ} (λ e. (e.id, f.pattern)) found ≡ Some (id, pattern) →
+shorter-of : (f : Flag) (found : Option (QueueEntry Want)) (id pattern : ℕ) → first_satisfied f.pattern f.waiters ≡ found → option_map {U = ℕ × ℕ} (λ e. (e.id, f.pattern)) found ≡ Some (id, pattern) →
     length (released_to f found).waiters < length f.waiters
 shorter-of f None id pattern is next = let wrong : ⊥ = cc in absurd wrong
 shorter-of f (Some e) id pattern is next = shorter-all f.pattern f.waiters e is
@@ -258,14 +258,14 @@ shorter f id pattern next = shorter-of f (first_satisfied f.pattern f.waiters) i
 
 -- Data queues.
 
-abbrev all-of : List ℕ → List (Entry ℕ) → List ℕ
+abbrev all-of : List ℕ → List (QueueEntry ℕ) → List ℕ
 all-of stored senders = stored ++ map (λ e. e.wanted) senders
 
-moved-up : (newer : List ℕ) (first : Entry ℕ) (others : List (Entry ℕ)) → all-of newer (first ∷ others) ≡ all-of (newer ++ first.wanted ∷ []) others
+moved-up : (newer : List ℕ) (first : QueueEntry ℕ) (others : List (QueueEntry ℕ)) → all-of newer (first ∷ others) ≡ all-of (newer ++ first.wanted ∷ []) others
 moved-up [] first others = refl
 moved-up (n ∷ newer) first others = ap (λ l. n ∷ l) (moved-up newer first others)
 
-received-of : (q : DataQueueState) (stored : List ℕ) (senders : List (Entry ℕ)) (r : Received) → q.stored ≡ stored → q.senders ≡ senders → receipt_by stored senders ≡ Some r →
+received-of : (q : DataQueueState) (stored : List ℕ) (senders : List (QueueEntry ℕ)) (r : Received) → q.stored ≡ stored → q.senders ≡ senders → receipt_by stored senders ≡ Some r →
     all-of stored senders ≡ r.datum ∷ contents (received_by q stored senders)
 received-of q [] [] r data_is senders_are is = let wrong : ⊥ = cc in absurd wrong
 received-of q [] (first ∷ others) r data_is senders_are is =
@@ -281,7 +281,7 @@ received-of q (oldest ∷ newer) (first ∷ others) r data_is senders_are is =
 pub received-first : (q : DataQueueState) (r : Received) → receipt q ≡ Some r → contents q ≡ r.datum ∷ contents (received q)
 received-first q r is = received-of q q.stored q.senders r refl refl is
 
-empty-of : (q : DataQueueState) (stored : List ℕ) (senders : List (Entry ℕ)) → receipt_by stored senders ≡ None → (all-of stored senders ≡ []) × (received_by q stored senders ≡ q)
+empty-of : (q : DataQueueState) (stored : List ℕ) (senders : List (QueueEntry ℕ)) → receipt_by stored senders ≡ None → (all-of stored senders ≡ []) × (received_by q stored senders ≡ q)
 empty-of q [] [] is = (refl, refl)
 empty-of q [] (first ∷ others) is = let wrong : ⊥ = cc in absurd wrong
 empty-of q (oldest ∷ newer) [] is = let wrong : ⊥ = cc in absurd wrong

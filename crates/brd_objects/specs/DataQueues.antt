@@ -1,12 +1,13 @@
 -- Data queues (uITRON 4.0 specification, "Data Queues"): data in the order in which they were stored, the tasks that
 -- wait to send one, each with it, and the tasks that wait to receive one.
-use Rattle.std.specs.Prelude.{ℕ, ◌<◌, nat_lt, Bool, if◌then◌else◌, List, [], ◌∷◌, ◌++◌, length, map, drop, Option, None, Some, IfSome}
+use Rattle.std.specs.Prelude.{ℕ, ◌<◌, nat_lt, Bool, if◌then◌else◌, List, [], ◌∷◌, ◌++◌, length, map, drop, Option, None}
+use Rattle.std.specs.Prelude.{Some, IfSome}
 use Rattle.brd_config.specs.declared.objects.QueueConfig.{QueueConfig}
-use Rattle.brd_queue.specs.declared.entry.Entry.{Entry}
-use Rattle.brd_queue.specs.declared.entry.Order.{Order}
-use Rattle.brd_queue.specs.declared.entry.Order.TheVariants.{Arrival}
+use Rattle.brd_queue.specs.declared.entry.QueueEntry.{QueueEntry}
+use Rattle.brd_queue.specs.declared.entry.QueueOrder.{QueueOrder}
+use Rattle.brd_queue.specs.declared.entry.QueueOrder.TheVariants.{Arrival}
 use Rattle.brd_queue.specs.Queue.{Plain, without, placed, reordered}
-use Rattle.brd_objects.specs.Order.{order_of}
+use Rattle.brd_objects.specs.QueueOrder.{order_of}
 use Rattle.brd_objects.specs.Table.{Table, made_below}
 use Rattle.brd_objects.specs.declared.sent.Sent.{Sent}
 use Rattle.brd_objects.specs.declared.sent.Sent.TheVariants.{Handed, Stored, Full}
@@ -14,14 +15,21 @@ use Rattle.brd_objects.specs.declared.sent.Received.{Received}
 
 pub record DataQueueState : Type 0 where
   pub capacity : ℕ  -- how many data it stores
-  pub order : Order  -- in which senders wait; receivers always wait by arrival
+  pub order : QueueOrder  -- in which senders wait; receivers always wait by arrival
   pub stored : List ℕ  -- the oldest first
-  pub senders : List (Entry ℕ)  -- each with its datum
+  pub senders : List (QueueEntry ℕ)  -- each with its datum
   pub receivers : List Plain
 
 -- as the configuration says it: empty, and nobody waits
 abbrev pub data_queue_of : QueueConfig → DataQueueState
-data_queue_of config = record { capacity = config.capacity; order = order_of config.attributes.0; stored = []; senders = []; receivers = [] }
+data_queue_of config =
+    record {
+      capacity = config.capacity;
+      order = order_of config.attributes.0;
+      stored = [];
+      senders = [];
+      receivers = [];
+    }
 
 abbrev pub made_queues : List QueueConfig → Table DataQueueState
 made_queues configs = made_below (λ config. config.id) data_queue_of configs 256
@@ -66,7 +74,7 @@ forced_outcome q = outcome (with_room q)
 -- A datum is received: the oldest one, and the datum of the first sender takes the free place; where none is stored,
 -- the first sender's.
 
-abbrev pub received_by : DataQueueState → List ℕ → List (Entry ℕ) → DataQueueState
+abbrev pub received_by : DataQueueState → List ℕ → List (QueueEntry ℕ) → DataQueueState
 received_by q [] [] = q
 received_by q [] (first ∷ others) = record q { senders = others }
 received_by q (oldest ∷ newer) [] = record q { stored = newer }
@@ -77,7 +85,7 @@ received q = received_by q q.stored q.senders
 
 -- what is received, and who no longer waits to send
 
-abbrev pub receipt_by : List ℕ → List (Entry ℕ) → Option Received
+abbrev pub receipt_by : List ℕ → List (QueueEntry ℕ) → Option Received
 receipt_by [] [] = None
 receipt_by [] (first ∷ others) = Some (record { datum = first.wanted; sender = Some first.id })
 receipt_by (oldest ∷ newer) [] = Some (record { datum = oldest; sender = None })
@@ -89,10 +97,12 @@ receipt q = receipt_by q.stored q.senders
 -- a task waits to send a datum, or to receive one
 
 abbrev pub awaited_by_sender : ℕ → ℕ → ℕ → DataQueueState → DataQueueState
-awaited_by_sender id priority datum q = record q { senders = placed q.order (record { id = id; priority = priority; wanted = datum }) q.senders }
+awaited_by_sender id priority datum q =
+    record q { senders = placed q.order (record { id = id; priority = priority; wanted = datum }) q.senders }
 
 abbrev pub awaited_by_receiver : ℕ → ℕ → DataQueueState → DataQueueState
-awaited_by_receiver id priority q = record q { receivers = placed Arrival (record { id = id; priority = priority; wanted = tt }) q.receivers }
+awaited_by_receiver id priority q =
+    record q { receivers = placed Arrival (record { id = id; priority = priority; wanted = tt }) q.receivers }
 
 -- a task no longer waits, and its datum goes with it
 abbrev pub data_queue_left : ℕ → DataQueueState → DataQueueState
@@ -100,7 +110,11 @@ data_queue_left id q = record q { senders = without id q.senders; receivers = wi
 
 -- a task that waits is given a priority: by arrival it keeps its place, by priority it comes after its equals
 abbrev pub data_queue_reordered : ℕ → ℕ → DataQueueState → DataQueueState
-data_queue_reordered id priority q = record q { senders = reordered q.order id priority q.senders; receivers = reordered Arrival id priority q.receivers }
+data_queue_reordered id priority q =
+    record q {
+      senders = reordered q.order id priority q.senders;
+      receivers = reordered Arrival id priority q.receivers;
+    }
 
 -- the IDs of the tasks that are named are below 256
 

@@ -3,9 +3,9 @@ use Rattle.std.specs.Prelude.{ℕ, Bool, not, ◌&&◌, if◌then◌else◌, Lis
 use Rattle.std.specs.Option.{option_map}
 use Rattle.std.specs.Int.RustNames.{bit_and, bit_or}
 use Rattle.brd_config.specs.declared.objects.FlagConfig.{FlagConfig}
-use Rattle.brd_queue.specs.declared.entry.Entry.{Entry}
+use Rattle.brd_queue.specs.declared.entry.QueueEntry.{QueueEntry}
 use Rattle.brd_queue.specs.Queue.{without, placed, reordered, is_empty}
-use Rattle.brd_objects.specs.Order.{has_attribute, order_of}
+use Rattle.brd_objects.specs.QueueOrder.{has_attribute, order_of}
 use Rattle.brd_objects.specs.Table.{Table, made_below}
 use Rattle.brd_objects.specs.declared.want.Want.{Want}
 use Rattle.brd_objects.specs.Waiters.{satisfies, first_satisfied, without_satisfied}
@@ -58,7 +58,8 @@ is_occupied f = not f.many && not (is_empty f.waiters)
 
 -- a task waits
 abbrev pub flag_awaited : ℕ → ℕ → Want → Flag → Flag
-flag_awaited id priority want f = record f { waiters = placed f.order (record { id = id; priority = priority; wanted = want }) f.waiters }
+flag_awaited id priority want f =
+    record f { waiters = placed f.order (record { id = id; priority = priority; wanted = want }) f.waiters }
 
 -- a task no longer waits
 abbrev pub flag_left : ℕ → Flag → Flag
@@ -71,9 +72,10 @@ flag_reordered id priority f = record f { waiters = reordered f.order id priorit
 -- Who is released, one after the other: the first waiter that the pattern satisfies leaves with that pattern, and under
 -- TA_CLR clears it.
 
-abbrev pub released_to : Flag → Option (Entry Want) → Flag
+abbrev pub released_to : Flag → Option (QueueEntry Want) → Flag
 released_to f None = f
-released_to f (Some e) = record f { pattern = pattern_left f.clears f.pattern; waiters = without_satisfied f.pattern f.waiters }
+released_to f (Some e) =
+    record f { pattern = pattern_left f.clears f.pattern; waiters = without_satisfied f.pattern f.waiters }
 
 abbrev pub with_next_released : Flag → Flag
 with_next_released f = released_to f (first_satisfied f.pattern f.waiters)
@@ -84,25 +86,29 @@ next_released f = option_map (λ e. (e.id, f.pattern)) (first_satisfied f.patter
 -- All who are released, from the front of a waiting list: who is satisfied leaves with the pattern; under TA_CLR the
 -- first of them clears it, and the rest of the list stays as it is.
 
-abbrev pub pattern_after : Bool → ℕ → List (Entry Want) → ℕ
+abbrev pub pattern_after : Bool → ℕ → List (QueueEntry Want) → ℕ
 pattern_after clears pattern [] = pattern
-pattern_after clears pattern (first ∷ others) = if clears && satisfies pattern first.wanted then 0 else pattern_after clears pattern others
+pattern_after clears pattern (first ∷ others) =
+    if clears && satisfies pattern first.wanted then 0 else pattern_after clears pattern others
 
-abbrev pub released_of : Bool → ℕ → List (Entry Want) → List ℕ
+abbrev pub released_of : Bool → ℕ → List (QueueEntry Want) → List ℕ
 released_of clears pattern [] = []
 released_of clears pattern (first ∷ others) =
-    if satisfies pattern first.wanted then first.id ∷ (if clears then [] else released_of clears pattern others) else released_of clears pattern others
+    if satisfies pattern first.wanted then first.id ∷ (if clears then [] else released_of clears pattern others)
+    else released_of clears pattern others
 
-abbrev pub kept_of : Bool → ℕ → List (Entry Want) → List (Entry Want)
+abbrev pub kept_of : Bool → ℕ → List (QueueEntry Want) → List (QueueEntry Want)
 kept_of clears pattern [] = []
 kept_of clears pattern (first ∷ others) =
-    if satisfies pattern first.wanted then (if clears then others else kept_of clears pattern others) else first ∷ kept_of clears pattern others
+    if satisfies pattern first.wanted then (if clears then others else kept_of clears pattern others)
+    else first ∷ kept_of clears pattern others
 
 abbrev pub all_released : Flag → List ℕ
 all_released f = released_of f.clears f.pattern f.waiters
 
 abbrev pub with_all_released : Flag → Flag
-with_all_released f = record f { pattern = pattern_after f.clears f.pattern f.waiters; waiters = kept_of f.clears f.pattern f.waiters }
+with_all_released f =
+    record f { pattern = pattern_after f.clears f.pattern f.waiters; waiters = kept_of f.clears f.pattern f.waiters }
 
 -- Of a flag that may not be there.
 

@@ -1,5 +1,5 @@
 pub mod Table
-pub mod Order
+pub mod QueueOrder
 pub mod Semaphores
 pub mod Waiters
 pub mod Flags

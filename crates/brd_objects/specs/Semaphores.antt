@@ -1,15 +1,17 @@
 -- Semaphores (uITRON 4.0 specification, "Semaphores"): a count, and the tasks that wait for one.
-use Rattle.std.specs.Prelude.{ℕ, ◌+◌, ◌-◌, ◌==◌, nat_le, nat_lt, Bool, false, not, ◌&&◌, if◌then◌else◌, List, [], ◌∷◌, Option, None, Some}
+use Rattle.std.specs.Prelude.{ℕ, ◌+◌, ◌-◌, ◌==◌, nat_le, nat_lt, Bool, false, not, ◌&&◌, if◌then◌else◌, List, [], ◌∷◌}
+use Rattle.std.specs.Prelude.{Option, None, Some}
 use Rattle.std.specs.Option.{option_map}
 use Rattle.brd_config.specs.declared.objects.SemaphoreConfig.{SemaphoreConfig}
 use Rattle.brd_queue.specs.Queue.{Plain, without, placed, reordered, is_empty, first_of}
-use Rattle.brd_objects.specs.Order.{order_of}
+use Rattle.brd_objects.specs.QueueOrder.{order_of}
 use Rattle.brd_objects.specs.Table.{Table, made_below}
 use Rattle.brd_objects.specs.declared.semaphore.Semaphore.{Semaphore}
 
 -- as the configuration says it: nobody waits
 abbrev pub semaphore_of : SemaphoreConfig → Semaphore
-semaphore_of config = record { count = config.initial; maximum = config.maximum; order = order_of config.attributes.0; waiters = [] }
+semaphore_of config =
+    record { count = config.initial; maximum = config.maximum; order = order_of config.attributes.0; waiters = [] }
 
 abbrev pub made_semaphores : List SemaphoreConfig → Table Semaphore
 made_semaphores configs = made_below (λ config. config.id) semaphore_of configs 256
@@ -41,7 +43,8 @@ taken s = if s.count == 0 then s else record s { count = s.count - 1 }
 
 -- a task waits
 abbrev pub semaphore_awaited : ℕ → ℕ → Semaphore → Semaphore
-semaphore_awaited id priority s = record s { waiters = placed s.order (record { id = id; priority = priority; wanted = tt }) s.waiters }
+semaphore_awaited id priority s =
+    record s { waiters = placed s.order (record { id = id; priority = priority; wanted = tt }) s.waiters }
 
 -- a task no longer waits
 abbrev pub semaphore_left : ℕ → Semaphore → Semaphore

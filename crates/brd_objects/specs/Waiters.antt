@@ -2,7 +2,7 @@
 use Rattle.std.specs.Prelude.{◌≢◌, ℕ, ◌==◌, Bool, not, if◌then◌else◌, List, [], ◌∷◌, find, Option}
 use Rattle.std.specs.List.{AllByRecursion}
 use Rattle.std.specs.Int.RustNames.{bit_and}
-use Rattle.brd_queue.specs.declared.entry.Entry.{Entry}
+use Rattle.brd_queue.specs.declared.entry.QueueEntry.{QueueEntry}
 use Rattle.brd_objects.specs.declared.want.Mode.{Mode}
 use Rattle.brd_objects.specs.declared.want.Mode.TheVariants as mode
 use Rattle.brd_objects.specs.declared.want.Want.{Want}
@@ -18,13 +18,14 @@ satisfies pattern want = has_bits want.mode pattern want.bits
 
 -- the first waiter that a pattern satisfies, and the others
 
-abbrev pub first_satisfied : ℕ → List (Entry Want) → Option (Entry Want)
+abbrev pub first_satisfied : ℕ → List (QueueEntry Want) → Option (QueueEntry Want)
 first_satisfied pattern waiters = find (λ e. satisfies pattern e.wanted) waiters
 
-abbrev pub without_satisfied : ℕ → List (Entry Want) → List (Entry Want)
+abbrev pub without_satisfied : ℕ → List (QueueEntry Want) → List (QueueEntry Want)
 without_satisfied pattern [] = []
-without_satisfied pattern (first ∷ others) = if satisfies pattern first.wanted then others else first ∷ without_satisfied pattern others
+without_satisfied pattern (first ∷ others) =
+    if satisfies pattern first.wanted then others else first ∷ without_satisfied pattern others
 
 -- Nobody waits for no bits (E_PAR): all of none are set in every pattern, also in one that a release has cleared.
-abbrev pub WantBits : List (Entry Want) → Type 0
+abbrev pub WantBits : List (QueueEntry Want) → Type 0
 WantBits waiters = AllByRecursion (λ e. e.wanted.bits ≢ 0) waiters

@@ -1,7 +1,7 @@
 //! A data queue.
 
 ghost use Rattle.std.specs.Prelude.{◌≡◌, ◌<◌, ◌≤◌, IfOk, IfSome, length, vec_capacity};
-ghost use Rattle.brd_objects.specs.Order.{order_of};
+ghost use Rattle.brd_objects.specs.QueueOrder.{order_of};
 ghost use Rattle.brd_objects.specs.DataQueues.{
   data_queue_of,
   has_room,
@@ -27,7 +27,7 @@ use crate::sent::{Received, Sent};
 use bitflags::Flags;
 use brd_base::{NoMemory, Same, copy_with_room};
 use brd_config::{QueueAttributes, QueueConfig};
-use brd_queue::{Entry, Order, Queue};
+use brd_queue::{Queue, QueueEntry, QueueOrder};
 pub use saved::SavedDataQueue;
 use std::alloc::{AllocError, Global};
 use std::marker::Model;
@@ -36,7 +36,7 @@ use std::marker::Model;
 #[derive(Drop)]
 pub struct DataQueue {
     capacity: u16,
-    order: Order,
+    order: QueueOrder,
     stored: Vec<u32>,
     senders: Queue<u32>,
     receivers: Queue<()>,
@@ -48,7 +48,14 @@ impl Model for DataQueue {
 
     ghost Value = { DataQueueState };
 
-    ghost view = { λ q. record { capacity = q.capacity; order = q.order; stored = q.stored.items; senders = q.senders; receivers = q.receivers } };
+    ghost view = { λ q.
+        record {
+          capacity = q.capacity;
+          order = q.order;
+          stored = q.stored.items;
+          senders = q.senders;
+          receivers = q.receivers;
+        } };
 
     ghost invariant = { λ q. (length q.stored.items ≤ q.capacity) × (q.capacity ≤ vec_capacity q.stored) };
 }
@@ -118,7 +125,7 @@ impl Object for DataQueue {
     /// Receivers always wait by arrival.
     fn reorder(&mut self, task: u16, priority: u8) {
         self.senders.reorder(self.order, task, priority);
-        self.receivers.reorder(Order::Arrival, task, priority);
+        self.receivers.reorder(QueueOrder::Arrival, task, priority);
     }
 
     fn save(&self) -> Result<SavedDataQueue, NoMemory> {
@@ -210,7 +217,7 @@ impl DataQueue {
         requires { task < 256 }
         ensures { self.new ≡ awaited_by_sender task priority datum self.old }
     {
-        let entry = Entry {
+        let entry = QueueEntry {
             id: task,
             priority,
             wanted: datum,
@@ -223,21 +230,21 @@ impl DataQueue {
         requires { task < 256 }
         ensures { self.new ≡ awaited_by_receiver task priority self.old }
     {
-        let entry = Entry {
+        let entry = QueueEntry {
             id: task,
             priority,
             wanted: (),
         };
-        self.receivers.place(Order::Arrival, entry);
+        self.receivers.place(QueueOrder::Arrival, entry);
     }
 }
 
 /// The order in which senders wait for a queue of these attributes.
-fn order_of(attributes: QueueAttributes) -> Order
+fn order_of(attributes: QueueAttributes) -> QueueOrder
     ensures { result ≡ order_of attributes.0 }
 {
     if attributes.contains(QueueAttributes::TA_TPRI) {
-        return Order::Priority;
+        return QueueOrder::Priority;
     }
-    Order::Arrival
+    QueueOrder::Arrival
 }

@@ -1,7 +1,7 @@
 //! An event flag.
 
 ghost use Rattle.std.specs.Prelude.{◌≡◌, ◌≢◌, ◌<◌, IfOk, IfSome};
-ghost use Rattle.brd_objects.specs.Order.{order_of};
+ghost use Rattle.brd_objects.specs.QueueOrder.{order_of};
 ghost use Rattle.brd_objects.specs.Flags.{
   flag_of,
   joined,
@@ -26,7 +26,7 @@ use crate::want::Want;
 use bitflags::Flags;
 use brd_base::{NoMemory, Same};
 use brd_config::{FlagAttributes, FlagConfig};
-use brd_queue::{Entry, Order};
+use brd_queue::{QueueEntry, QueueOrder};
 pub use saved::SavedFlag;
 use std::alloc::Global;
 
@@ -34,7 +34,7 @@ use std::alloc::Global;
 #[derive(Clone, Drop)]
 pub struct Flag {
     pattern: u32,
-    order: Order,
+    order: QueueOrder,
     /// Several tasks may wait (TA_WMUL).
     many: bool,
     /// A release clears the pattern (TA_CLR).
@@ -178,7 +178,7 @@ impl Flag {
         requires bits { want.bits ≢ 0 }
         ensures { self.new ≡ flag_awaited task priority want self.old }
     {
-        let entry = Entry {
+        let entry = QueueEntry {
             id: task,
             priority,
             wanted: want,
@@ -188,11 +188,11 @@ impl Flag {
 }
 
 /// The order in which tasks wait for a flag of these attributes.
-fn order_of(attributes: FlagAttributes) -> Order
+fn order_of(attributes: FlagAttributes) -> QueueOrder
     ensures { result ≡ order_of attributes.0 }
 {
     if attributes.contains(FlagAttributes::TA_TPRI) {
-        return Order::Priority;
+        return QueueOrder::Priority;
     }
-    Order::Arrival
+    QueueOrder::Arrival
 }

@@ -1,28 +1,32 @@
 //! What is true of flags and data queues.
 
 ghost use Rattle.std.specs.Prelude.{◌≡◌, ℕ, List, [], ◌∷◌, ◌++◌, Bool, true, false, not, None, Some, filter, map};
-ghost use Rattle.brd_queue.specs.declared.entry.Entry.{Entry as EntryOf};
+ghost use Rattle.brd_queue.specs.declared.entry.QueueEntry.{QueueEntry as QueueEntryOf};
 ghost use Rattle.brd_objects.specs.declared.want.Want.{Want as WantOf};
 ghost use Rattle.brd_objects.specs.declared.flag.Flag.{Flag as FlagOf};
 ghost use Rattle.brd_objects.specs.declared.sent.Received.{Received as ReceivedOf};
 ghost use Rattle.brd_objects.specs.declared.sent.Sent.TheVariants.{Handed, Stored, Full};
 ghost use Rattle.brd_objects.specs.Waiters.{satisfies, first_satisfied, without_satisfied, WantBits};
-ghost use Rattle.brd_objects.specs.Flags.{released_of, kept_of, pattern_after, all_released, with_all_released, next_released, with_next_released};
+ghost use Rattle.brd_objects.specs.Flags.{released_of, kept_of, pattern_after, all_released, with_all_released};
+ghost use Rattle.brd_objects.specs.Flags.{next_released, with_next_released};
 ghost use Rattle.brd_objects.specs.DataQueues.{DataQueueState, sent, outcome, received, receipt, contents};
 
 /// Who is released when bits have been set. Without TA_CLR all whom the pattern satisfies, in their order; the others
 /// stay in theirs, and so does the pattern. With TA_CLR the first of them alone, who clears the pattern.
 pub fn who_is_released()
-    ensures released { (pattern : ℕ) (waiters : List (EntryOf WantOf)) →
+    ensures released { (pattern : ℕ) (waiters : List (QueueEntryOf WantOf)) →
         released_of false pattern waiters ≡ map (λ e. e.id) (filter (λ e. satisfies pattern e.wanted) waiters) }
-    ensures kept { (pattern : ℕ) (waiters : List (EntryOf WantOf)) →
+    ensures kept { (pattern : ℕ) (waiters : List (QueueEntryOf WantOf)) →
         kept_of false pattern waiters ≡ filter (λ e. not (satisfies pattern e.wanted)) waiters }
-    ensures stays { (pattern : ℕ) (waiters : List (EntryOf WantOf)) → pattern_after false pattern waiters ≡ pattern }
-    ensures first { (pattern : ℕ) (waiters : List (EntryOf WantOf)) (e : EntryOf WantOf) → first_satisfied pattern waiters ≡ Some e →
+    ensures stays { (pattern : ℕ) (waiters : List (QueueEntryOf WantOf)) →
+        pattern_after false pattern waiters ≡ pattern }
+    ensures first { (pattern : ℕ) (waiters : List (QueueEntryOf WantOf)) (e : QueueEntryOf WantOf) →
+        first_satisfied pattern waiters ≡ Some e →
         (released_of true pattern waiters ≡ e.id ∷ [])
         × (kept_of true pattern waiters ≡ without_satisfied pattern waiters)
         × (pattern_after true pattern waiters ≡ 0) }
-    ensures nobody { (clears : Bool) (pattern : ℕ) (waiters : List (EntryOf WantOf)) → first_satisfied pattern waiters ≡ None →
+    ensures nobody { (clears : Bool) (pattern : ℕ) (waiters : List (QueueEntryOf WantOf)) →
+        first_satisfied pattern waiters ≡ None →
         (released_of clears pattern waiters ≡ []) × (kept_of clears pattern waiters ≡ waiters)
         × (pattern_after clears pattern waiters ≡ pattern) }
 {}

@@ -1,7 +1,7 @@
 //! A semaphore.
 
 ghost use Rattle.std.specs.Prelude.{◌≡◌, ◌<◌, IfOk, IfSome};
-ghost use Rattle.brd_objects.specs.Order.{order_of};
+ghost use Rattle.brd_objects.specs.QueueOrder.{order_of};
 ghost use Rattle.brd_objects.specs.Semaphores.{
   semaphore_of,
   returned,
@@ -20,7 +20,7 @@ use crate::object::Object;
 use bitflags::Flags;
 use brd_base::{NoMemory, Same};
 use brd_config::{SemaphoreAttributes, SemaphoreConfig};
-use brd_queue::{Entry, Order, Queue};
+use brd_queue::{Queue, QueueEntry, QueueOrder};
 pub use saved::SavedSemaphore;
 use std::alloc::Global;
 
@@ -29,7 +29,7 @@ use std::alloc::Global;
 pub struct Semaphore {
     count: u16,
     maximum: u16,
-    order: Order,
+    order: QueueOrder,
     waiters: Queue<()>,
 }
 
@@ -139,7 +139,7 @@ impl Semaphore {
         requires { task < 256 }
         ensures { self.new ≡ semaphore_awaited task priority self.old }
     {
-        let entry = Entry {
+        let entry = QueueEntry {
             id: task,
             priority,
             wanted: (),
@@ -149,11 +149,11 @@ impl Semaphore {
 }
 
 /// The order in which tasks wait for a semaphore of these attributes.
-fn order_of(attributes: SemaphoreAttributes) -> Order
+fn order_of(attributes: SemaphoreAttributes) -> QueueOrder
     ensures { result ≡ order_of attributes.0 }
 {
     if attributes.contains(SemaphoreAttributes::TA_TPRI) {
-        return Order::Priority;
+        return QueueOrder::Priority;
     }
-    Order::Arrival
+    QueueOrder::Arrival
 }

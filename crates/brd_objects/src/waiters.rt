@@ -1,7 +1,7 @@
 //! The tasks that wait for an event flag.
 
 ghost use Rattle.std.specs.Prelude.{◌≡◌, ◌≢◌, ◌<◌, [], length, remove, slice_get, Some, false, IfNone, IfOk, IfSome};
-ghost use Rattle.brd_queue.specs.declared.entry.Order.TheVariants.{Priority};
+ghost use Rattle.brd_queue.specs.declared.entry.QueueOrder.TheVariants.{Priority};
 ghost use Rattle.brd_queue.specs.Queue.{has, without, entered, placed, reordered, is_empty};
 ghost use Rattle.brd_objects.specs.Waiters.{first_satisfied, without_satisfied, WantBits};
 
@@ -10,7 +10,7 @@ mod saved;
 use crate::want::Want;
 use brd_base::{NoMemory, Same, copy_with_room};
 use brd_lanes::first_match;
-use brd_queue::{Entry, MOST_TASKS, Order, Queue, insert_within};
+use brd_queue::{MOST_TASKS, Queue, QueueEntry, QueueOrder, insert_within};
 pub use saved::SavedWaiters;
 use std::alloc::{AllocError, Global};
 use std::marker::Model;
@@ -26,12 +26,12 @@ pub struct Waiters {
 
 impl Model for Waiters {
     ghost use Rattle.std.specs.Prelude.{◌≡◌, ◌≤◌, List, vec_capacity};
-    ghost use Rattle.brd_queue.specs.declared.entry.Entry.{Entry};
+    ghost use Rattle.brd_queue.specs.declared.entry.QueueEntry.{QueueEntry};
     ghost use Rattle.brd_objects.specs.declared.want.Want.{Want};
     ghost use Rattle.brd_objects.specs.Columns.{AreColumns};
     ghost use Rattle.brd_objects.specs.Waiters.{WantBits};
 
-    ghost Value = { List (Entry Want) };
+    ghost Value = { List (QueueEntry Want) };
 
     ghost view = { λ w. w.queue };
 
@@ -87,7 +87,7 @@ impl Waiters {
     }
 
     /// The first waiter that a pattern satisfies leaves, and is answered.
-    pub fn take_satisfied(&mut self, pattern: u32) -> Option<Entry<Want>>
+    pub fn take_satisfied(&mut self, pattern: u32) -> Option<QueueEntry<Want>>
         ensures is { self.new ≡ without_satisfied pattern self.old }
         ensures who { result ≡ first_satisfied pattern self.old }
         ensures stays { IfNone result (self.new ≡ self.old) }
@@ -100,7 +100,7 @@ impl Waiters {
     }
 
     /// The waiter at a place leaves.
-    fn take(&mut self, at: usize) -> Entry<Want>
+    fn take(&mut self, at: usize) -> QueueEntry<Want>
         requires { at < length self.old }
         ensures is { self.new ≡ remove self.old at }
         ensures entry { slice_get self.old at ≡ Some result }
@@ -112,7 +112,7 @@ impl Waiters {
     }
 
     /// A task waits; one that does already leaves its old place.
-    pub fn place(&mut self, order: Order, entry: Entry<Want>)
+    pub fn place(&mut self, order: QueueOrder, entry: QueueEntry<Want>)
         requires small { entry.id < 256 }
         requires bits { entry.wanted.bits ≢ 0 }
         ensures { self.new ≡ placed order entry self.old }
@@ -136,12 +136,12 @@ impl Waiters {
 
     /// A task, where it waits, is given a priority: by arrival it keeps its place, by priority it comes after its
     /// equals.
-    pub fn reorder(&mut self, order: Order, id: u16, priority: u8)
+    pub fn reorder(&mut self, order: QueueOrder, id: u16, priority: u8)
         ensures { self.new ≡ reordered order id priority self.old }
     {
         match order {
-            Order::Arrival => self.queue.reorder(Order::Arrival, id, priority),
-            Order::Priority => self.move_behind(id, priority),
+            QueueOrder::Arrival => self.queue.reorder(QueueOrder::Arrival, id, priority),
+            QueueOrder::Priority => self.move_behind(id, priority),
         }
     }
 
@@ -150,7 +150,7 @@ impl Waiters {
         ensures { self.new ≡ reordered Priority id priority self.old }
     {
         if let Some(entry) = self.queue.entry(id) {
-            self.place(Order::Priority, Entry { priority, ..entry });
+            self.place(QueueOrder::Priority, QueueEntry { priority, ..entry });
         }
     }
 }

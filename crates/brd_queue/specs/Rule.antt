@@ -2,18 +2,18 @@
 -- and of equal priority whoever came earlier.
 use Rattle.std.specs.Prelude.{◌≡◌, ◌<◌, ◌≤◌, List, [], ◌∷◌, ◌++◌}
 use Rattle.std.specs.List.{AllByRecursion}
-use Rattle.brd_queue.specs.declared.entry.Entry.{Entry}
+use Rattle.brd_queue.specs.declared.entry.QueueEntry.{QueueEntry}
 
 -- no entry stands before one of higher priority
-abbrev pub IsByPriority : {W : Type 0} → List (Entry W) → Type 0
+abbrev pub IsByPriority : {W : Type 0} → List (QueueEntry W) → Type 0
 IsByPriority [] = Unit {0}
 IsByPriority (x ∷ xs) = AllByRecursion (λ other. x.priority ≤ other.priority) xs × IsByPriority xs
 
 -- An entry came to a queue: the others stand as they stood, all that have its priority or a higher one before it, the
 -- rest after it.
-pub record Enters {W : Type 0} (e : Entry W) (old new : List (Entry W)) : Type 0 where
-  pub before : List (Entry W)
-  pub behind : List (Entry W)
+pub record Enters {W : Type 0} (e : QueueEntry W) (old new : List (QueueEntry W)) : Type 0 where
+  pub before : List (QueueEntry W)
+  pub behind : List (QueueEntry W)
   pub was : old ≡ before ++ behind
   pub is : new ≡ before ++ e ∷ behind
   pub not_below : AllByRecursion (λ other. other.priority ≤ e.priority) before

@@ -4,7 +4,7 @@ use brd_base::Same;
 
 /// A task in a queue.
 #[derive(Clone, Copy, Default, PartialEq, Eq)]
-pub struct Entry<W> {
+pub struct QueueEntry<W> {
     /// The task's ID.
     pub id: u16,
     /// Its priority; a lower number is served first.
@@ -13,7 +13,7 @@ pub struct Entry<W> {
     pub wanted: W,
 }
 
-impl<W: Same> Same for Entry<W> {
+impl<W: Same> Same for QueueEntry<W> {
     fn same(&self, other: &Self) -> bool {
         self.id == other.id && self.priority == other.priority && self.wanted.same(&other.wanted)
     }
@@ -21,7 +21,7 @@ impl<W: Same> Same for Entry<W> {
 
 /// Where a task enters a queue (uITRON 4.0 specification, the attributes TA_TFIFO and TA_TPRI).
 #[derive(Clone, Copy, PartialEq, Eq)]
-pub enum Order {
+pub enum QueueOrder {
     /// At the end.
     Arrival,
     /// After those of its own priority or a higher one, before those of a lower one.

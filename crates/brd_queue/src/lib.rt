@@ -9,6 +9,6 @@ pub mod laws;
 mod queue;
 mod room;
 
-pub use entry::{Entry, Order};
+pub use entry::{QueueEntry, QueueOrder};
 pub use queue::{Queue, SavedQueue};
 pub use room::{MOST_TASKS, insert_within};

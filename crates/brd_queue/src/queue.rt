@@ -1,12 +1,14 @@
 //! A queue of tasks.
 
-ghost use Rattle.std.specs.Prelude.{◌≡◌, ◌<◌, ◌≤◌, ℕ, [], false, insert, length, drop, remove, slice_get, IfNone, IfOk, IfSome, find, is_some, vec_capacity, ◌==◌};
+ghost use Rattle.std.specs.Prelude.{◌≡◌, ◌<◌, ◌≤◌, ℕ, [], false, insert, length, drop, remove, slice_get, IfNone, IfOk};
+ghost use Rattle.std.specs.Prelude.{IfSome, find, is_some, vec_capacity, ◌==◌};
 ghost use Rattle.std.specs.Option.{option_map};
-ghost use Rattle.brd_queue.specs.Queue.{AreApart, has, entered, behind_equals, without, moved_behind, with_priority, renumbered, reordered, placed, is_empty, first_of};
+ghost use Rattle.brd_queue.specs.Queue.{AreApart, has, entered, behind_equals, without, moved_behind, with_priority};
+ghost use Rattle.brd_queue.specs.Queue.{renumbered, reordered, placed, is_empty, first_of};
 
 mod saved;
 
-use crate::entry::{Entry, Order};
+use crate::entry::{QueueEntry, QueueOrder};
 use crate::room::{MOST_TASKS, insert_within};
 use brd_base::{NoMemory, Same, copy_with_room, same_slices};
 pub use saved::SavedQueue;
@@ -17,15 +19,15 @@ use std::marker::Model;
 /// that there can be, so only `new` takes memory.
 #[derive(Drop)]
 pub struct Queue<W> {
-    entries: Vec<Entry<W>>,
+    entries: Vec<QueueEntry<W>>,
 }
 
 impl<W> Model for Queue<W> {
     ghost use Rattle.std.specs.Prelude.{◌≤◌, List, vec_capacity};
     ghost use Rattle.brd_queue.specs.Queue.{AreApart};
-    ghost use Rattle.brd_queue.specs.declared.entry.Entry.{Entry};
+    ghost use Rattle.brd_queue.specs.declared.entry.QueueEntry.{QueueEntry};
 
-    ghost Value = { List (Entry W) };
+    ghost Value = { List (QueueEntry W) };
 
     ghost view = { λ queue. queue.entries.items };
 
@@ -59,7 +61,7 @@ impl<W: Copy + Drop> Queue<W> {
     }
 
     /// The entries in the order in which they are served.
-    pub fn as_slice(&self) -> &[Entry<W>]
+    pub fn as_slice(&self) -> &[QueueEntry<W>]
         ensures { result.now ≡ self.now }
     {
         self.entries.as_slice()
@@ -73,7 +75,7 @@ impl<W: Copy + Drop> Queue<W> {
     }
 
     /// The entry that is served next.
-    pub fn first(&self) -> Option<Entry<W>>
+    pub fn first(&self) -> Option<QueueEntry<W>>
         ensures is { result ≡ first_of self.now }
         ensures small { IfSome result (λ entry. entry.id < 256) }
     {
@@ -93,7 +95,7 @@ impl<W: Copy + Drop> Queue<W> {
     }
 
     /// The entry of a task, where it stands in it.
-    pub fn entry(&self, id: u16) -> Option<Entry<W>>
+    pub fn entry(&self, id: u16) -> Option<QueueEntry<W>>
         ensures is { result ≡ find (λ entry. entry.id == id) self.now }
         ensures small { IfSome result (λ entry. entry.id < 256) }
     {
@@ -102,7 +104,7 @@ impl<W: Copy + Drop> Queue<W> {
 
     /// Puts a task, which doesn't stand in it yet, where the order says. Answers before how many others it was put from
     /// the front.
-    pub fn enter(&mut self, order: Order, entry: Entry<W>) -> usize
+    pub fn enter(&mut self, order: QueueOrder, entry: QueueEntry<W>) -> usize
         requires small { entry.id < 256 }
         requires new { has entry.id self.old ≡ false }
         ensures is { self.new ≡ entered order entry self.old }
@@ -116,7 +118,7 @@ impl<W: Copy + Drop> Queue<W> {
     }
 
     /// Serves the first entry, which leaves.
-    pub fn serve(&mut self) -> Option<Entry<W>>
+    pub fn serve(&mut self) -> Option<QueueEntry<W>>
         ensures is { self.new ≡ drop 1 self.old }
         ensures first { result ≡ first_of self.old }
         ensures small { IfSome result (λ entry. entry.id < 256) }
@@ -127,7 +129,7 @@ impl<W: Copy + Drop> Queue<W> {
     }
 
     /// Takes the entry at a place out.
-    pub fn take(&mut self, at: usize) -> Entry<W>
+    pub fn take(&mut self, at: usize) -> QueueEntry<W>
         requires { at < length self.old }
         ensures is { self.new ≡ remove self.old at }
         ensures entry { slice_get self.old at ≡ Some result }
@@ -150,7 +152,7 @@ impl<W: Copy + Drop> Queue<W> {
     }
 
     /// Puts a task where the order says; one that stands in it already leaves its old place.
-    pub fn place(&mut self, order: Order, entry: Entry<W>)
+    pub fn place(&mut self, order: QueueOrder, entry: QueueEntry<W>)
         requires { entry.id < 256 }
         ensures { self.new ≡ placed order entry self.old }
     {
@@ -160,12 +162,12 @@ impl<W: Copy + Drop> Queue<W> {
 
     /// Gives a task that stands in it a priority: by arrival it keeps its place, by priority it comes after its
     /// equals.
-    pub fn reorder(&mut self, order: Order, id: u16, priority: u8)
+    pub fn reorder(&mut self, order: QueueOrder, id: u16, priority: u8)
         ensures { self.new ≡ reordered order id priority self.old }
     {
         match order {
-            Order::Arrival => self.renumber(id, priority),
-            Order::Priority => {
+            QueueOrder::Arrival => self.renumber(id, priority),
+            QueueOrder::Priority => {
                 let entry = with_priority(self.entry(id), priority);
                 self.move_behind(entry);
             }
@@ -180,18 +182,18 @@ impl<W: Copy + Drop> Queue<W> {
     }
 
     /// Puts the entry of a task, with a new priority perhaps, after its equals.
-    fn move_behind(&mut self, entry: Option<Entry<W>>)
+    fn move_behind(&mut self, entry: Option<QueueEntry<W>>)
         requires { IfSome entry (λ e. e.id < 256) }
         ensures { self.new ≡ moved_behind entry self.old }
     {
         if let Some(entry) = entry {
-            self.place(Order::Priority, entry);
+            self.place(QueueOrder::Priority, entry);
         }
     }
 }
 
 /// Gives a task a priority at the place where it stands.
-fn renumber<W: Copy + Drop>(entries: &mut [Entry<W>], id: u16, priority: u8)
+fn renumber<W: Copy + Drop>(entries: &mut [QueueEntry<W>], id: u16, priority: u8)
     ensures { entries.new ≡ renumbered id priority entries.old }
 {
     for entry in entries.iter_mut() {
@@ -202,15 +204,18 @@ fn renumber<W: Copy + Drop>(entries: &mut [Entry<W>], id: u16, priority: u8)
 }
 
 /// An entry, if there is one, with another priority.
-fn with_priority<W: Copy + Drop>(entry: Option<Entry<W>>, priority: u8) -> Option<Entry<W>>
+fn with_priority<W: Copy + Drop>(
+    entry: Option<QueueEntry<W>>,
+    priority: u8,
+) -> Option<QueueEntry<W>>
     ensures { result ≡ option_map (with_priority priority) entry }
 {
     let entry = entry?;
-    Some(Entry { priority, ..entry })
+    Some(QueueEntry { priority, ..entry })
 }
 
 /// The entry of a task.
-fn entry_of<W: Copy + Drop>(entries: &[Entry<W>], id: u16) -> Option<Entry<W>>
+fn entry_of<W: Copy + Drop>(entries: &[QueueEntry<W>], id: u16) -> Option<QueueEntry<W>>
     ensures { result ≡ find (λ entry. entry.id == id) entries.now }
 {
     for entry in entries {
@@ -222,18 +227,22 @@ fn entry_of<W: Copy + Drop>(entries: &[Entry<W>], id: u16) -> Option<Entry<W>>
 }
 
 /// How many entries stand before one that comes.
-fn place_for<W: Copy + Drop>(entries: &[Entry<W>], order: Order, entry: Entry<W>) -> usize
+fn place_for<W: Copy + Drop>(
+    entries: &[QueueEntry<W>],
+    order: QueueOrder,
+    entry: QueueEntry<W>,
+) -> usize
     ensures within { result ≤ length entries.now }
     ensures is { insert entries.now result entry ≡ entered order entry entries.now }
 {
     match order {
-        Order::Arrival => entries.len(),
-        Order::Priority => place_of(entries, entry),
+        QueueOrder::Arrival => entries.len(),
+        QueueOrder::Priority => place_of(entries, entry),
     }
 }
 
 /// How many entries stand before one that comes by priority.
-fn place_of<W: Copy + Drop>(entries: &[Entry<W>], entry: Entry<W>) -> usize
+fn place_of<W: Copy + Drop>(entries: &[QueueEntry<W>], entry: QueueEntry<W>) -> usize
     ensures within { result ≤ length entries.now }
     ensures is { insert entries.now result entry ≡ behind_equals entry entries.now }
 {
@@ -246,7 +255,7 @@ fn place_of<W: Copy + Drop>(entries: &[Entry<W>], entry: Entry<W>) -> usize
 }
 
 /// The place of a task's entry.
-fn place_with<W: Copy + Drop>(entries: &[Entry<W>], id: u16) -> Option<usize>
+fn place_with<W: Copy + Drop>(entries: &[QueueEntry<W>], id: u16) -> Option<usize>
     ensures within { IfSome result (λ at. at < length entries.now) }
     ensures is { IfSome result (λ at. AreApart entries.now → remove entries.now at ≡ without id entries.now) }
     ensures none { IfNone result (without id entries.now ≡ entries.now) }

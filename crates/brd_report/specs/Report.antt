@@ -35,7 +35,8 @@ standing_text (Handler line) context = executor_text (codes "handler") line cont
 -- the line of a processor, where there is one of that number
 abbrev pub processor_line : ℕ → Option Standing → Option State → List ℕ
 processor_line cpu None context = []
-processor_line cpu (Some standing) context = codes "cpu " ++ decimal cpu ++ 32 ∷ standing_text standing context ++ 10 ∷ []
+processor_line cpu (Some standing) context =
+    codes "cpu " ++ decimal cpu ++ 32 ∷ standing_text standing context ++ 10 ∷ []
 
 abbrev pub state_text : TaskState → List ℕ
 state_text Dormant = codes "dormant"

@@ -1,7 +1,8 @@
 //! What `words` prints of a board.
 
 ghost use Rattle.std.specs.Prelude.{◌≡◌, ◌++◌, OnOk};
-ghost use Rattle.brd_report.specs.Shown.{line_of, line_unless_zero, registers_shown, context_shown, bit_digit, fault_shown};
+ghost use Rattle.brd_report.specs.Shown.{line_of, line_unless_zero, registers_shown, context_shown, bit_digit};
+ghost use Rattle.brd_report.specs.Shown.{fault_shown};
 
 use brd_base::NoMemory;
 use brd_board::Fault;

@@ -1,5 +1,6 @@
 -- How rings lie in their heads and links. Only the contracts of private functions name these.
-use Rattle.std.specs.Prelude.{◌≡◌, ◌<◌, ℕ, zero, suc, ◌==◌, true, false, if◌then◌else◌, List, [], ◌∷◌, length, map, slice_index_or, slice_set}
+use Rattle.std.specs.Prelude.{◌≡◌, ◌<◌, ℕ, zero, suc, ◌==◌, true, false, if◌then◌else◌, List, [], ◌∷◌, length, map}
+use Rattle.std.specs.Prelude.{slice_index_or, slice_set}
 use Rattle.brd_rings.specs.declared.link.Link.{Link}
 use Rattle.brd_rings.specs.declared.link.Ring.{Ring}
 use Rattle.brd_rings.specs.declared.link.Ring.TheVariants.{Empty, From}
@@ -26,12 +27,15 @@ with_previous node previous links = slice_set links node (record { next = next_a
 -- the links with a node before another
 abbrev pub linked_before : ℕ → ℕ → List Link → List Link
 linked_before head node links =
-    slice_set (with_previous head node (with_next (previous_at links head) node links)) node (record { next = head; previous = previous_at links head })
+    slice_set (with_previous head node (with_next (previous_at links head) node links)) node
+    (record { next = head; previous = previous_at links head })
 
 -- the links without a node, whose neighbours are linked to each other
 abbrev pub unlinked : ℕ → List Link → List Link
 unlinked node links =
-    slice_set (with_previous (next_at links node) (previous_at links node) (with_next (previous_at links node) (next_at links node) links)) node loose
+    slice_set
+    (with_previous (next_at links node) (previous_at links node)
+    (with_next (previous_at links node) (next_at links node) links)) node loose
 
 -- the head of a ring without a node
 abbrev pub head_after : Ring → ℕ → ℕ → Ring
@@ -41,7 +45,8 @@ head_after (From head) node next = if head == node then (if next == node then Em
 -- the nodes by following the links from one until they come back to the head, as many as there may be at most
 abbrev pub followed : List Link → ℕ → ℕ → ℕ → List ℕ
 followed links head zero node = []
-followed links head (suc most) node = node ∷ (if next_at links node == head then [] else followed links head most (next_at links node))
+followed links head (suc most) node =
+    node ∷ (if next_at links node == head then [] else followed links head most (next_at links node))
 
 -- the nodes of a ring
 unfoldable pub ring_of : List Link → Ring → List ℕ
@@ -79,4 +84,5 @@ pub record IsLinked (heads : List Ring) (links : List Link) (rings : List (List 
   pub headed : (ring : ℕ) → slice_index_or heads ring Empty ≡ stored (ring_at rings ring)
   pub round : (ring : ℕ) → IsRound links (ring_at rings ring)
   pub apart : IsApart rings
-  pub free : (node : ℕ) → ((ring : ℕ) → has node (ring_at rings ring) ≡ false) → (next_at links node ≡ 0) × (previous_at links node ≡ 0)
+  pub free : (node : ℕ) → ((ring : ℕ) → has node (ring_at rings ring) ≡ false) →
+      (next_at links node ≡ 0) × (previous_at links node ≡ 0)

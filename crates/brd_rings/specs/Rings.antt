@@ -1,5 +1,6 @@
 -- Rings of nodes. Nodes are numbers below 256, and a ring is the list of its nodes from the head on.
-use Rattle.std.specs.Prelude.{◌≡◌, ◌<◌, ℕ, ◌==◌, Bool, true, false, ◌||◌, if◌then◌else◌, List, [], ◌∷◌, ◌++◌, Option, None, Some, slice_index_or}
+use Rattle.std.specs.Prelude.{◌≡◌, ◌<◌, ℕ, ◌==◌, Bool, true, false, ◌||◌, if◌then◌else◌, List, [], ◌∷◌, ◌++◌, Option}
+use Rattle.std.specs.Prelude.{None, Some, slice_index_or}
 
 -- the ring of a number
 abbrev pub ring_at : List (List ℕ) → ℕ → List ℕ
@@ -33,4 +34,5 @@ AreApart (x ∷ xs) = (x < 256) × (has x xs ≡ false) × AreApart xs
 -- no node stands in two places
 pub record IsApart (rings : List (List ℕ)) : Type 0 where
   pub each : (ring : ℕ) → AreApart (ring_at rings ring)
-  pub alone : (node ring other : ℕ) → has node (ring_at rings ring) ≡ true → has node (ring_at rings other) ≡ true → ring ≡ other
+  pub alone : (node ring other : ℕ) → has node (ring_at rings ring) ≡ true → has node (ring_at rings other) ≡ true →
+      ring ≡ other

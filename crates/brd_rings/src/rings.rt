@@ -1,6 +1,7 @@
 //! Rings by their numbers.
 
-ghost use Rattle.std.specs.Prelude.{◌≡◌, Decides, ◌<◌, ℕ, true, false, [], ◌∷◌, ◌++◌, IfOk, length, replicate, slice_set};
+ghost use Rattle.std.specs.Prelude.{◌≡◌, Decides, ◌<◌, ℕ, true, false, [], ◌∷◌, ◌++◌, IfOk, length, replicate};
+ghost use Rattle.std.specs.Prelude.{slice_set};
 ghost use Rattle.brd_rings.specs.Rings.{ring_at, has, without, turned, head_of, IsApart};
 ghost use Rattle.brd_rings.specs.Layout.{loose, head_after};
 ghost use Rattle.brd_rings.specs.declared.link.Ring.TheVariants.{Empty};

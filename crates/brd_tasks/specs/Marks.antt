@@ -11,8 +11,10 @@ mark_at marks cpu priority = bit_at (slice_index_or marks (word_of cpu priority)
 
 abbrev pub with_mark : ℕ → ℕ → List ℕ → List ℕ
 with_mark cpu priority marks =
-    slice_set marks (word_of cpu priority) (bit_or (slice_index_or marks (word_of cpu priority) 0) (1 * 2 ^ (priority % 64) % 2 ^ 64))
+    slice_set marks (word_of cpu priority)
+    (bit_or (slice_index_or marks (word_of cpu priority) 0) (1 * 2 ^ (priority % 64) % 2 ^ 64))
 
 abbrev pub without_mark : ℕ → ℕ → List ℕ → List ℕ
 without_mark cpu priority marks =
-    slice_set marks (word_of cpu priority) (bit_and (slice_index_or marks (word_of cpu priority) 0) (bit_not w64 (1 * 2 ^ (priority % 64) % 2 ^ 64)))
+    slice_set marks (word_of cpu priority)
+    (bit_and (slice_index_or marks (word_of cpu priority) 0) (bit_not w64 (1 * 2 ^ (priority % 64) % 2 ^ 64)))

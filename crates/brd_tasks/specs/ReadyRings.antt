@@ -20,7 +20,8 @@ number_of cpu priority = cpu * 256 + priority
 -- the rings of a processor from a priority on, n of them
 abbrev pub joined : List (List ℕ) → ℕ → ℕ → ℕ → List Plain
 joined rings cpu priority zero = []
-joined rings cpu priority (suc count) = entries priority (ring_at rings (number_of cpu priority)) ++ joined rings cpu (suc priority) count
+joined rings cpu priority (suc count) =
+    entries priority (ring_at rings (number_of cpu priority)) ++ joined rings cpu (suc priority) count
 
 -- the ready list of a processor: its rings, the highest priority first
 unfoldable pub ready_of : List (List ℕ) → ℕ → List Plain
@@ -38,4 +39,5 @@ mark_of (x ∷ xs) = 1
 pub record IsMarked (rings : List (List ℕ)) (marks : List ℕ) : Type 0 where
   pub count : length rings ≡ 2304
   pub long : length marks ≡ 36
-  pub marked : (cpu priority : ℕ) → cpu < 9 → priority < 256 → mark_at marks cpu priority ≡ mark_of (ring_at rings (number_of cpu priority))
+  pub marked : (cpu priority : ℕ) → cpu < 9 → priority < 256 →
+      mark_at marks cpu priority ≡ mark_of (ring_at rings (number_of cpu priority))

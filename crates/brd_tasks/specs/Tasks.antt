@@ -102,13 +102,16 @@ left id (Some task) ready =
 -- the ready lists with a task that is ready, after its equals
 abbrev pub entered : ℕ → Task → List (List Plain) → List (List Plain)
 entered id task ready =
-    if is_ready task.status then slice_set ready task.cpu (behind_equals (record { id = id; priority = task.priority; wanted = tt }) (slice_index_or ready task.cpu []))
+    if is_ready task.status
+    then slice_set ready task.cpu
+    (behind_equals (record { id = id; priority = task.priority; wanted = tt }) (slice_index_or ready task.cpu []))
     else ready
 
 -- A task is written anew: it leaves the ready list in which it was, and where it is ready comes after its equals on
 -- its processor.
 abbrev pub placed : TaskTable → ℕ → Task → TaskTable
-placed t id task = record t { rows = slice_set t.rows id (Some task); ready = entered id task (left id (task_at t id) t.ready) }
+placed t id task =
+    record t { rows = slice_set t.rows id (Some task); ready = entered id task (left id (task_at t id) t.ready) }
 
 -- a task is written anew, and the ready lists stay
 abbrev pub patched : TaskTable → ℕ → Task → TaskTable
@@ -132,7 +135,8 @@ starts t id cpu task = with_context (placed t id (started cpu task)) id (opening
 -- a dormant task starts by a request; any other keeps it until it ends, in the place of one that it has kept before
 abbrev pub activated : TaskTable → ℕ → Request → TaskTable
 activated t id request = where_there t (task_at t id) (λ task.
-    if is_dormant task.status then starts t id (processor_of request task) task else patched t id (record task { activation = Some request }))
+    if is_dormant task.status then starts t id (processor_of request task) task
+    else patched t id (record task { activation = Some request }))
 
 abbrev pub ended_by : TaskTable → ℕ → Task → Option Request → TaskTable
 ended_by t id task None = placed t id (record task { status = Dormant; wakeup = false })
@@ -162,7 +166,8 @@ released_to t id answer second task (Some status) =
 
 -- the wait of a task ends, and its service call is answered
 abbrev pub released_with : TaskTable → ℕ → ℕ → Option ℕ → TaskTable
-released_with t id answer second = where_there t (task_at t id) (λ task. released_to t id answer second task (released task.status))
+released_with t id answer second =
+    where_there t (task_at t id) (λ task. released_to t id answer second task (released task.status))
 
 -- a task is given another priority or processor; one that is ready comes after its equals, also where nothing has
 -- changed

@@ -1,6 +1,7 @@
 //! The ready lists.
 
-ghost use Rattle.std.specs.Prelude.{◌≡◌, ◌<◌, ℕ, true, false, Some, IfSome, IfOk, length, replicate, slice_index_or, slice_set, []};
+ghost use Rattle.std.specs.Prelude.{◌≡◌, ◌<◌, ℕ, true, false, Some, IfSome, IfOk, length, replicate, slice_index_or};
+ghost use Rattle.std.specs.Prelude.{slice_set, []};
 ghost use Rattle.brd_queue.specs.Queue.{has, priority_in, behind_equals, without, rotated};
 ghost use Rattle.brd_tasks.specs.Status.{is_ready};
 ghost use Rattle.brd_tasks.specs.Tasks.{left, entered, first_id};
@@ -76,7 +77,8 @@ impl ReadyLists {
     pub fn leave(&mut self, id: TaskId, task: Option<Task>)
         requires small { id < 256 }
         requires listed { IfSome task (λ it. it.cpu < 9) }
-        requires there { IfSome task (λ it. is_ready it.status ≡ true → priority_in id (slice_index_or self.old it.cpu []) ≡ Some it.priority) }
+        requires there { IfSome task
+            (λ it. is_ready it.status ≡ true → priority_in id (slice_index_or self.old it.cpu []) ≡ Some it.priority) }
         ensures { self.new ≡ left id task self.old }
     {
         let Some(task) = task else { return };
@@ -101,7 +103,9 @@ impl ReadyLists {
     pub fn rotate(&mut self, cpu: u8, priority: u8)
         requires { cpu < 9 }
         ensures is { self.new ≡ slice_set self.old cpu (rotated priority (slice_index_or self.old cpu [])) }
-        ensures stay { (id : ℕ) → priority_in id (rotated priority (slice_index_or self.old cpu [])) ≡ priority_in id (slice_index_or self.old cpu []) }
+        ensures stay { (id : ℕ) →
+            priority_in id (rotated priority (slice_index_or self.old cpu []))
+            ≡ priority_in id (slice_index_or self.old cpu []) }
     {
         self.rings.are_apart();
         self.rings.rotate(number(cpu, priority));
@@ -111,7 +115,8 @@ impl ReadyLists {
     fn put_behind(&mut self, cpu: u8, priority: u8, id: u8)
         requires listed { cpu < 9 }
         requires new { (other : ℕ) → has id (slice_index_or self.old other []) ≡ false }
-        ensures { self.new ≡ slice_set self.old cpu (behind_equals (entry priority id) (slice_index_or self.old cpu [])) }
+        ensures { self.new
+            ≡ slice_set self.old cpu (behind_equals (entry priority id) (slice_index_or self.old cpu [])) }
     {
         self.rings.enter(number(cpu, priority), id);
         set_mark(&mut self.mask, cpu, priority);

@@ -42,7 +42,9 @@ pub fn first_mark(marks: &[u64], cpu: u8) -> Option<u8>
     requires long { length marks.now ≡ 36 }
     requires listed { cpu < 9 }
     ensures none { IfNone result ((priority : ℕ) → priority < 256 → mark_at marks.now cpu priority ≡ 0) }
-    ensures some { IfSome result (λ first. (first < 256) × (mark_at marks.now cpu first ≡ 1) × ((priority : ℕ) → priority < first → mark_at marks.now cpu priority ≡ 0)) }
+    ensures some { IfSome result
+        (λ first. (first < 256) × (mark_at marks.now cpu first ≡ 1)
+        × ((priority : ℕ) → priority < first → mark_at marks.now cpu priority ≡ 0)) }
 {
     for i in 0..4u8 {
         let word = marks[place(cpu, i * 64)];

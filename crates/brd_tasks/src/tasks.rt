@@ -54,7 +54,8 @@ impl Model for Tasks {
 
     ghost view = { λ t. record { rows = t.rows.items; contexts = t.contexts.items; ready = t.ready } };
 
-    ghost invariant = { λ t. IsConsistent (record { rows = t.rows.items; contexts = t.contexts.items; ready = t.ready }) };
+    ghost invariant = { λ t.
+        IsConsistent (record { rows = t.rows.items; contexts = t.contexts.items; ready = t.ready }) };
 }
 
 /// Written out, so that a function that lets one go is proved with a call, and not with the end of each part.
@@ -348,7 +349,8 @@ impl Tasks {
     #[tactic(auto, using(crate::proofs::ThereLemmas::there_set))]
     fn patch(&mut self, id: TaskId, task: Task)
         requires known { IsSome (task_at self.old id) }
-        requires same { IfSome (task_at self.old id) (λ old. (task.status ≡ old.status) × (task.cpu ≡ old.cpu) × (task.priority ≡ old.priority)) }
+        requires same { IfSome (task_at self.old id)
+            (λ old. (task.status ≡ old.status) × (task.cpu ≡ old.cpu) × (task.priority ≡ old.priority)) }
         requires well { IsTask task }
         ensures is { self.new ≡ patched self.old id task }
         ensures there { are_there self.new ≡ are_there self.old }

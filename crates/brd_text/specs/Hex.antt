@@ -13,5 +13,7 @@ hex_digit value = if nat_lt value 10 then 48 + value else 87 + value
 -- a word as eight hexadecimal digits, in lower case
 unfoldable pub hex_of : ℕ → List ℕ
 hex_of word =
-    hex_digit (word / 2 ^ 28 % 16) ∷ hex_digit (word / 2 ^ 24 % 16) ∷ hex_digit (word / 2 ^ 20 % 16) ∷ hex_digit (word / 2 ^ 16 % 16)
-    ∷ hex_digit (word / 2 ^ 12 % 16) ∷ hex_digit (word / 2 ^ 8 % 16) ∷ hex_digit (word / 2 ^ 4 % 16) ∷ hex_digit (word % 16) ∷ []
+    hex_digit (word / 2 ^ 28 % 16) ∷ hex_digit (word / 2 ^ 24 % 16) ∷ hex_digit (word / 2 ^ 20 % 16)
+    ∷ hex_digit (word / 2 ^ 16 % 16)
+    ∷ hex_digit (word / 2 ^ 12 % 16) ∷ hex_digit (word / 2 ^ 8 % 16) ∷ hex_digit (word / 2 ^ 4 % 16)
+    ∷ hex_digit (word % 16) ∷ []

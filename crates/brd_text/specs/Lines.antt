@@ -1,6 +1,7 @@
 -- The lines of a text. A line ends with a newline or with the text; newlines belong to no line. So a text that ends
 -- with a newline has one more line, which is empty. Lines are counted from 1.
-use Rattle.std.specs.Prelude.{ℕ, zero, suc, ◌+◌, ◌==◌, Bool, not, if◌then◌else◌, List, [], ◌∷◌, Option, None, Some, slice_index_or}
+use Rattle.std.specs.Prelude.{ℕ, zero, suc, ◌+◌, ◌==◌, Bool, not, if◌then◌else◌, List, [], ◌∷◌, Option, None, Some}
+use Rattle.std.specs.Prelude.{slice_index_or}
 
 -- lines, with one more byte at the front of the first
 abbrev pub in_front : ℕ → List (List ℕ) → List (List ℕ)

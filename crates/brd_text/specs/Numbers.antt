@@ -1,6 +1,7 @@
 -- Numbers as they are written: decimal digits up to a greatest value, and decimal digits or hexadecimal ones after 0x,
 -- below 2 to the 32nd.
-use Rattle.std.specs.Prelude.{ℕ, ◌+◌, ◌-◌, ◌*◌, Bool, false, not, ◌&&◌, nat_le, ◌==◌, if◌then◌else◌, List, [], ◌∷◌, length, Option, Some, None, option_and_then}
+use Rattle.std.specs.Prelude.{ℕ, ◌+◌, ◌-◌, ◌*◌, Bool, false, not, ◌&&◌, nat_le, ◌==◌, if◌then◌else◌, List, [], ◌∷◌}
+use Rattle.std.specs.Prelude.{length, Option, Some, None, option_and_then}
 
 -- the value of a hexadecimal digit: 0 to 9, a to f or A to F
 unfoldable pub hex_digit_value : ℕ → Option ℕ
@@ -23,7 +24,8 @@ digit_of base b = at_most (base - 1) (hex_digit_value b)
 abbrev pub value_behind : ℕ → Option ℕ → List ℕ → Option ℕ
 value_behind base v [] = v
 value_behind base None (b ∷ bs) = None
-value_behind base (Some v) (b ∷ bs) = value_behind base (option_and_then (λ d. Some (base * v + d)) (digit_of base b)) bs
+value_behind base (Some v) (b ∷ bs) =
+    value_behind base (option_and_then (λ d. Some (base * v + d)) (digit_of base b)) bs
 
 -- the value of at least one digit, unless it is greater than this
 abbrev pub value_of : ℕ → ℕ → List ℕ → Option ℕ
@@ -51,7 +53,8 @@ most_word = 0xffffffff
 abbrev pub number_by : List ℕ → Option ℕ
 number_by [] = None
 number_by (a ∷ []) = value_of 10 most_word (a ∷ [])
-number_by (a ∷ b ∷ bs) = if (a == 48) && (b == 120) then value_of 16 most_word bs else value_of 10 most_word (a ∷ b ∷ bs)
+number_by (a ∷ b ∷ bs) =
+    if (a == 48) && (b == 120) then value_of 16 most_word bs else value_of 10 most_word (a ∷ b ∷ bs)
 
 unfoldable pub number_of : List ℕ → Option ℕ
 number_of bytes = number_by bytes

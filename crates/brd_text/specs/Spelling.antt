@@ -17,15 +17,19 @@ begins_with_run_byte (b ∷ bs) = is_run_byte b
 
 pub data Spells : List ℕ → List Token → Type 0 where
   nothing : Spells [] []
-  blank : (b : ℕ) (bytes : List ℕ) (tokens : List Token) → is_blank b ≡ true → Spells bytes tokens → Spells (b ∷ bytes) tokens
-  line_comment : (comment bytes : List ℕ) (tokens : List Token) → list_all (λ b. not (b == 10)) comment ≡ true → Spells (10 ∷ bytes) tokens
+  blank : (b : ℕ) (bytes : List ℕ) (tokens : List Token) → is_blank b ≡ true → Spells bytes tokens
+      → Spells (b ∷ bytes) tokens
+  line_comment : (comment bytes : List ℕ) (tokens : List Token) → list_all (λ b. not (b == 10)) comment ≡ true
+      → Spells (10 ∷ bytes) tokens
       → Spells (47 ∷ 47 ∷ (comment ++ 10 ∷ bytes)) tokens
   last_comment : (comment : List ℕ) → list_all (λ b. not (b == 10)) comment ≡ true → Spells (47 ∷ 47 ∷ comment) []
   block_comment : (comment bytes : List ℕ) (tokens : List Token) → has_closing comment ≡ false → Spells bytes tokens
       → Spells (47 ∷ 42 ∷ (comment ++ 42 ∷ 47 ∷ bytes)) tokens
-  run : (b : ℕ) (bs bytes : List ℕ) (tokens : List Token) → list_all is_run_byte (b ∷ bs) ≡ true → begins_with_run_byte bytes ≡ false
+  run : (b : ℕ) (bs bytes : List ℕ) (tokens : List Token) → list_all is_run_byte (b ∷ bs) ≡ true
+      → begins_with_run_byte bytes ≡ false
       → Spells bytes tokens → Spells (b ∷ (bs ++ bytes)) (Run (b ∷ bs) ∷ tokens)
-  mark : (b : ℕ) (bytes : List ℕ) (tokens : List Token) → is_run_byte b ≡ false → is_blank b ≡ false → opens_comment b bytes ≡ false
+  mark : (b : ℕ) (bytes : List ℕ) (tokens : List Token) → is_run_byte b ≡ false → is_blank b ≡ false
+      → opens_comment b bytes ≡ false
       → Spells bytes tokens → Spells (b ∷ bytes) (Mark b ∷ tokens)
 
 -- the tokens of a text, wherever they stand

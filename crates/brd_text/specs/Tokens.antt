@@ -1,6 +1,7 @@
 -- The tokens of a text with the lines on which they begin. Blanks, newlines, comments from // to the end of the
 -- line, and comments from /* to */ stand between tokens. Lines are counted from 1 by newlines, those in comments too.
-use Rattle.std.specs.Prelude.{ℕ, Bool, ◌&&◌, ◌||◌, ◌==◌, if◌then◌else◌, List, [], ◌∷◌, drop, take_while, Option, Some, None}
+use Rattle.std.specs.Prelude.{ℕ, Bool, ◌&&◌, ◌||◌, ◌==◌, if◌then◌else◌, List, [], ◌∷◌, drop, take_while, Option, Some}
+use Rattle.std.specs.Prelude.{None}
 use Rattle.brd_text.specs.Bytes.{is_run_byte, is_blank, begins_with}
 use Rattle.brd_text.specs.Lines.{line_after}
 use Rattle.brd_text.specs.declared.token.Token as code
@@ -52,7 +53,8 @@ token_at Closing b bs = None
 abbrev pub place_outside : ℕ → List ℕ → Place
 place_outside b bs =
     if is_run_byte b then InRun
-    else (if b == 47 then (if begins_with 47 bs then InLine else (if begins_with 42 bs then Opened else Between)) else Between)
+    else (if b == 47 then (if begins_with 47 bs then InLine else (if begins_with 42 bs then Opened else Between))
+    else Between)
 
 -- the place of the byte after b, before bs
 abbrev pub place_after : Place → ℕ → List ℕ → Place
@@ -78,7 +80,8 @@ at_end Closing line = record { tokens = record { token = Unclosed; line = line }
 
 abbrev pub tokens_in : Place → ℕ → List ℕ → Text
 tokens_in place line [] = at_end place line
-tokens_in place line (b ∷ bs) = with_token (token_at place b bs) line (tokens_in (place_after place b bs) (line_after line b) bs)
+tokens_in place line (b ∷ bs) =
+    with_token (token_at place b bs) line (tokens_in (place_after place b bs) (line_after line b) bs)
 
 abbrev pub tokens_of : List ℕ → Text
 tokens_of bytes = tokens_in Between 1 bytes

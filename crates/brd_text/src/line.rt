@@ -7,7 +7,8 @@ ghost use Rattle.brd_text.specs.Lines as lines;
 /// The first line, without the newline that ends it, and the text after that newline. `None` where the line ends with
 /// the text: then it is the last.
 pub fn split_line(text: &[u8]) -> (&[u8], Option<&[u8]>)
-    ensures lines { lines.lines_of text.now ≡ result.0.now ∷ lines.lines_behind (option_map (λ behind. behind.now) result.1) }
+    ensures lines { lines.lines_of text.now
+        ≡ result.0.now ∷ lines.lines_behind (option_map (λ behind. behind.now) result.1) }
     ensures shorter { IfSome result.1 (λ behind. length behind.now < length text.now) }
 {
     let (line, end) = text.split_at(line_len(text));

@@ -15,9 +15,11 @@ steps_under lease = replicate lease.len (Step lease.cpu)
 -- the lease is stale, whatever room there is; else where the journal has no room for the steps, or memory ran out.
 abbrev pub Commits : StationState → LeaseState → Result ℕ CommitFault → StationState → Type 0
 Commits old lease (Ok count) new =
-    IsFresh (board_of old) lease × (has_room old.journal (steps_under lease) ≡ true) × (count ≡ lease.len) × (new ≡ with_events old (steps_under lease))
+    IsFresh (board_of old) lease × (has_room old.journal (steps_under lease) ≡ true) × (count ≡ lease.len)
+    × (new ≡ with_events old (steps_under lease))
 Commits old lease (Err NoMemory) new = IsFresh (board_of old) lease × (new ≡ old)
-Commits old lease (Err JournalFull) new = IsFresh (board_of old) lease × (has_room old.journal (steps_under lease) ≡ false) × (new ≡ old)
+Commits old lease (Err JournalFull) new =
+    IsFresh (board_of old) lease × (has_room old.journal (steps_under lease) ≡ false) × (new ≡ old)
 Commits old lease (Err Stale) new = (IsFresh (board_of old) lease → ⊥) × (new ≡ old)
 
 -- a processor's lease under which nothing was done yet

@@ -1,5 +1,6 @@
 -- What a race answers, and what its threads do.
-use Rattle.std.specs.Prelude.{◌≡◌, ◌⊎◌, ℕ, ◌+◌, ◌<◌, ◌≤◌, Bool, true, false, List, [], ◌∷◌, length, take, slice_index_or}
+use Rattle.std.specs.Prelude.{◌≡◌, ◌⊎◌, ℕ, ◌+◌, ◌<◌, ◌≤◌, Bool, true, false, List, [], ◌∷◌, length, take}
+use Rattle.std.specs.Prelude.{slice_index_or}
 use Rattle.std.specs.Prelude.{Option, None, Some, Result, Ok, Err}
 use Rattle.brd_board.specs.Board.{BoardState}
 use Rattle.brd_board.specs.Lease.{LeaseState, lease_of}
@@ -53,7 +54,8 @@ first_fault (worked ∷ workers) driver = fault_or worked.1 (first_fault workers
 
 -- no processor does more steps than its quota
 abbrev pub AreWithin : List ℕ → StationState → Type 0
-AreWithin quotas station = (i : ℕ) → i < length quotas → steps (i + 1) station.journal.events ≤ slice_index_or quotas i 0
+AreWithin quotas station =
+    (i : ℕ) → i < length quotas → steps (i + 1) station.journal.events ≤ slice_index_or quotas i 0
 
 -- each processor does as many steps as its quota
 abbrev pub AreMet : List ℕ → StationState → Type 0
@@ -69,7 +71,8 @@ AreCounted workers station =
 -- outside is what was taken of the script, all of it unless the board is off. There is a quota for each processor of
 -- the board: no processor has done more steps than its quota, and each as many, unless the board is off; no step is of
 -- another number. The journal has no more runs than `limit`.
-pub record HasRaced (boot : BoardState) (script : List Outer) (quotas : List ℕ) (limit : ℕ) (station : StationState) : Type 0 where
+pub record HasRaced (boot : BoardState) (script : List Outer) (quotas : List ℕ) (limit : ℕ)
+    (station : StationState) : Type 0 where
   pub boot_is : station.boot ≡ boot
   pub script_is : station.script ≡ script
   pub order : station.journal.order ≡ boot.memory.order
@@ -82,18 +85,21 @@ pub record HasRaced (boot : BoardState) (script : List Outer) (quotas : List ℕ
 
 -- What is answered where no thread had a fault: the station that they left, of whose processors each worker has counted
 -- the steps, if it is what a race leaves; and Broken exactly if it isn't.
-abbrev pub AnswersLeft : List (Counted × Result Bool RaceFault) → StationState → (StationState → Type 0) → Result StationState RaceFault → Type 0
+abbrev pub AnswersLeft : List (Counted × Result Bool RaceFault) → StationState → (StationState → Type 0)
+    → Result StationState RaceFault → Type 0
 AnswersLeft workers left Has (Ok station) = (station ≡ left) × AreCounted workers station × Has station
 AnswersLeft workers left Has (Err fault) = (fault ≡ race.Broken) × (Has left → ⊥)
 
 -- what is answered once all threads have ended: their first fault, if there is one
-abbrev pub Answers : Option RaceFault → List (Counted × Result Bool RaceFault) → StationState → (StationState → Type 0) → Result StationState RaceFault → Type 0
+abbrev pub Answers : Option RaceFault → List (Counted × Result Bool RaceFault) → StationState → (StationState → Type 0)
+    → Result StationState RaceFault → Type 0
 Answers (Some fault) workers left Has answer = answer ≡ Err fault
 Answers None workers left Has answer = AnswersLeft workers left Has answer
 
 -- How a race ends whose threads have all been at work: by what its workers and its driver gave back, and by what they
 -- left.
-pub record HasEnded (boot : BoardState) (script : List Outer) (quotas : List ℕ) (limit : ℕ) (answer : Result StationState RaceFault) : Type 0 where
+pub record HasEnded (boot : BoardState) (script : List Outer) (quotas : List ℕ) (limit : ℕ)
+    (answer : Result StationState RaceFault) : Type 0 where
   pub workers : List (Counted × Result Bool RaceFault)
   pub driver : Result Unit StationFault
   pub left : StationState

@@ -1,6 +1,7 @@
 -- How the text of a script is read: line by line from the front, each as a line of a journal's text that is no step.
 -- The first line that has a fault decides.
-use Rattle.std.specs.Prelude.{ℕ, ◌+◌, ◌==◌, nat_le, if◌then◌else◌, List, [], ◌∷◌, ◌++◌, length, replicate, Option, None, Some, option_and_then, Result, Ok, Err}
+use Rattle.std.specs.Prelude.{ℕ, ◌+◌, ◌==◌, nat_le, if◌then◌else◌, List, [], ◌∷◌, ◌++◌, length, replicate, Option, None}
+use Rattle.std.specs.Prelude.{Some, option_and_then, Result, Ok, Err}
 use Rattle.brd_text.specs.Faults.{◌>>=◌, or_fault}
 use Rattle.brd_text.specs.Lines.{lines_of}
 use Rattle.brd_journal.specs.declared.run.Run.{Run}
@@ -16,7 +17,8 @@ most_entries = 1000000
 
 -- entries with `count` more of one at the end, unless that makes too many
 abbrev pub repeated_within : List Outer → ℕ → Outer → Option (List Outer)
-repeated_within script count entry = if nat_le (length script + count) most_entries then Some (script ++ replicate count entry) else None
+repeated_within script count entry =
+    if nat_le (length script + count) most_entries then Some (script ++ replicate count entry) else None
 
 -- entries with those of a run at the end; none where the run is of steps
 abbrev pub with_run : List Outer → Run → Option (List Outer)

@@ -1,5 +1,6 @@
 -- A station: a boot, the journal of what has happened since, and a script of what comes from outside.
-use Rattle.std.specs.Prelude.{◌≡◌, ℕ, ◌+◌, ◌<◌, ◌≤◌, Bool, true, nat_le, if◌then◌else◌, List, [], ◌∷◌, ◌++◌, length, take, slice_get, slice_index_or}
+use Rattle.std.specs.Prelude.{◌≡◌, ℕ, ◌+◌, ◌<◌, ◌≤◌, Bool, true, nat_le, if◌then◌else◌, List, [], ◌∷◌, ◌++◌, length}
+use Rattle.std.specs.Prelude.{take, slice_get, slice_index_or}
 use Rattle.std.specs.Prelude.{Option, None, Some, Result, Ok, Err}
 use Rattle.brd_board.specs.declared.event.Event.{Event}
 use Rattle.brd_board.specs.declared.event.Report.{Report}
@@ -21,7 +22,8 @@ pub record StationState : Type 0 where
 -- What a station's type says. The board is what the journal's events make of the boot, and the journal has the boot's
 -- byte order; of what comes from outside, the journal has the entries of the script that were taken, in their order;
 -- and the books have the steps of each processor.
-pub record IsReplay (boot board : BoardState) (journal : JournalState) (script : List Outer) (taken : ℕ) (books : List ℕ) : Type 0 where
+pub record IsReplay (boot board : BoardState) (journal : JournalState) (script : List Outer) (taken : ℕ)
+    (books : List ℕ) : Type 0 where
   pub replay : board ≡ after boot journal.events
   pub order : journal.order ≡ boot.memory.order
   pub within : taken ≤ length script
@@ -35,7 +37,12 @@ board_of station = after station.boot station.journal.events
 -- a station to which nothing has happened
 abbrev pub begun : BoardState → List Outer → ℕ → StationState
 begun boot script limit =
-    record { boot = boot; journal = record { limit = limit; order = boot.memory.order; events = [] }; script = script; taken = 0 }
+    record {
+      boot = boot;
+      journal = record { limit = limit; order = boot.memory.order; events = [] };
+      script = script;
+      taken = 0;
+    }
 
 -- whether the journal's limit suffices for more events after its own
 abbrev pub has_room : JournalState → List Event → Bool
@@ -61,8 +68,10 @@ report_on station event = (happens (board_of station) event).report
 abbrev pub EntryHappens : Option Outer → StationState → Result (Option Report) StationFault → StationState → Type 0
 EntryHappens None old answer new = (answer ≡ Ok None) × (new ≡ old)
 EntryHappens (Some entry) old (Ok told) new =
-    (told ≡ Some (report_on old (event_of entry))) × (new ≡ with_entry old entry) × (has_room old.journal (event_of entry ∷ []) ≡ true)
-EntryHappens (Some entry) old (Err fault) new = (new ≡ old) × IsFaultFor (has_room old.journal (event_of entry ∷ [])) fault
+    (told ≡ Some (report_on old (event_of entry))) × (new ≡ with_entry old entry)
+    × (has_room old.journal (event_of entry ∷ []) ≡ true)
+EntryHappens (Some entry) old (Err fault) new =
+    (new ≡ old) × IsFaultFor (has_room old.journal (event_of entry ∷ [])) fault
 
 -- the next entry of a station's script
 abbrev pub next_entry : StationState → Option Outer

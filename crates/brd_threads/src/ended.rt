@@ -1,11 +1,13 @@
 //! The threads of a race: their start, what they give back, and what they leave.
 
-ghost use Rattle.std.specs.Prelude.{◌≡◌, ◌≢◌, ℕ, ◌+◌, ◌<◌, ◌≤◌, ◌==◌, true, false, length, slice_index_or, take, vec_len, Decides, IfOk};
+ghost use Rattle.std.specs.Prelude.{◌≡◌, ◌≢◌, ℕ, ◌+◌, ◌<◌, ◌≤◌, ◌==◌, true, false, length, slice_index_or, take};
+ghost use Rattle.std.specs.Prelude.{vec_len, Decides, IfOk};
 ghost use Rattle.brd_journal.specs.Runs.{runs_of};
 ghost use Rattle.brd_ledgers.specs.Shares.{AreNew};
 ghost use Rattle.brd_threads.specs.Outers.{outers, steps};
 ghost use Rattle.brd_threads.specs.Station.{AreOfFirst, board_of};
-ghost use Rattle.brd_threads.specs.Races.{Answers, AnswersLeft, AreCounted, AreMet, HasRaced, HasWorked, HaveWorked, first_fault};
+ghost use Rattle.brd_threads.specs.Races.{Answers, AnswersLeft, AreCounted, AreMet, HasRaced, HasWorked, HaveWorked};
+ghost use Rattle.brd_threads.specs.Races.{first_fault};
 
 use crate::fault::{RaceFault, StationFault};
 use crate::gate::Gate;

@@ -1,6 +1,7 @@
 //! The station, what threads share under one lock: a board, its journal, and the script of what comes from outside.
 
-ghost use Rattle.std.specs.Prelude.{◌≡◌, ℕ, ◌+◌, ◌<◌, ◌≤◌, ◌==◌, ◌^◌, ◌∷◌, [], length, take, replicate, vec_len, Decides, Some, IfOk, IfSome, OnOk, OnErr, IfErr};
+ghost use Rattle.std.specs.Prelude.{◌≡◌, ℕ, ◌+◌, ◌<◌, ◌≤◌, ◌==◌, ◌^◌, ◌∷◌, [], length, take, replicate, vec_len};
+ghost use Rattle.std.specs.Prelude.{Decides, Some, IfOk, IfSome, OnOk, OnErr, IfErr};
 ghost use Rattle.brd_board.specs.declared.event.Event.TheVariants.{Step};
 ghost use Rattle.brd_board.specs.Lease.{lease_of};
 ghost use Rattle.brd_journal.specs.Journal.{most_runs};

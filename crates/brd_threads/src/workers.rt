@@ -108,7 +108,8 @@ fn is_committed<K: Race>(
     share: &mut Share<K>,
 ) -> Result<bool, StationFault>
     requires mine { lease.cpu ≡ share.old.cpu }
-    ensures done { result ≡ Ok true → (0 < lease.len) × (share.new ≡ record share.old { count = share.old.count + lease.len }) }
+    ensures done { result ≡ Ok true →
+        (0 < lease.len) × (share.new ≡ record share.old { count = share.old.count + lease.len }) }
     ensures not { result ≡ Ok false → share.new ≡ share.old }
     ensures stale { (IsFresh (board_of station.old) lease → ⊥) → result ≡ Ok false }
     ensures err { OnErr result (share.new ≡ share.old) }

@@ -1,6 +1,7 @@
 -- How the code keeps the tick at which a wait ends (its contracts speak of `Time` alone): a number stands for a wait
 -- without an end.
-use Rattle.std.specs.Prelude.{◌≤◌, ◌<◌, ℕ, ◌-◌, ◌^◌, ◌==◌, if◌then◌else◌, List, length, slice_index_or, Option, None, Some}
+use Rattle.std.specs.Prelude.{◌≤◌, ◌<◌, ℕ, ◌-◌, ◌^◌, ◌==◌, if◌then◌else◌, List, length, slice_index_or, Option, None}
+use Rattle.std.specs.Prelude.{Some}
 
 abbrev pub never : ℕ
 never = 2 ^ 64 - 1

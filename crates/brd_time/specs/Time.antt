@@ -1,5 +1,6 @@
 -- Time: how many ticks have passed, and at which tick the wait of each task ends, where it has an end.
-use Rattle.std.specs.Prelude.{ℕ, ◌+◌, ◌-◌, ◌^◌, nat_le, nat_lt, Bool, false, if◌then◌else◌, List, filter, find, replicate, slice_index_or, slice_set, Option, None, Some}
+use Rattle.std.specs.Prelude.{ℕ, ◌+◌, ◌-◌, ◌^◌, nat_le, nat_lt, Bool, false, if◌then◌else◌, List, filter, find}
+use Rattle.std.specs.Prelude.{replicate, slice_index_or, slice_set, Option, None, Some}
 use Rattle.std.specs.List.{range_with_len}
 
 pub record Time : Type 0 where

@@ -33,7 +33,8 @@ impl Model for Timeouts {
 
     ghost view = { λ t. record { count = t.count; dues = map due_in t.dues.items } };
 
-    ghost invariant = { λ t. (length t.dues.items ≡ 256) × (t.count ≤ last_count) × AreNotBefore t.earliest t.dues.items };
+    ghost invariant = { λ t. (length t.dues.items ≡ 256) × (t.count ≤ last_count)
+        × AreNotBefore t.earliest t.dues.items };
 }
 
 /// Written out, so that a function that lets one go is proved with a call, and not with the end of each part.

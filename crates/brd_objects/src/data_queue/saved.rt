@@ -4,14 +4,14 @@ ghost use Rattle.std.specs.Prelude.{◌≡◌, IfOk};
 
 use super::DataQueue;
 use brd_base::{NoMemory, copy_with_room};
-use brd_queue::{Order, SavedQueue};
+use brd_queue::{QueueOrder, SavedQueue};
 use std::marker::Model;
 
 /// A data queue without room for any data but those that are stored, and any task but those that wait.
 #[derive(Drop)]
 pub struct SavedDataQueue {
     capacity: u16,
-    order: Order,
+    order: QueueOrder,
     stored: Vec<u32>,
     senders: SavedQueue<u32>,
     receivers: SavedQueue<()>,
@@ -23,7 +23,14 @@ impl Model for SavedDataQueue {
 
     ghost Value = { DataQueueState };
 
-    ghost view = { λ q. record { capacity = q.capacity; order = q.order; stored = q.stored.items; senders = q.senders; receivers = q.receivers } };
+    ghost view = { λ q.
+        record {
+          capacity = q.capacity;
+          order = q.order;
+          stored = q.stored.items;
+          senders = q.senders;
+          receivers = q.receivers;
+        } };
 
     ghost invariant = { λ q. length q.stored.items ≤ q.capacity };
 }

@@ -5,14 +5,14 @@ ghost use Rattle.std.specs.Prelude.{◌≡◌, IfOk};
 use super::Flag;
 use crate::waiters::SavedWaiters;
 use brd_base::NoMemory;
-use brd_queue::Order;
+use brd_queue::QueueOrder;
 use std::marker::Model;
 
 /// An event flag without room for any task but those that wait.
 #[derive(Drop)]
 pub struct SavedFlag {
     pattern: u32,
-    order: Order,
+    order: QueueOrder,
     many: bool,
     clears: bool,
     waiters: SavedWaiters,
@@ -23,7 +23,8 @@ impl Model for SavedFlag {
 
     ghost Value = { Flag };
 
-    ghost view = { λ f. record { pattern = f.pattern; order = f.order; many = f.many; clears = f.clears; waiters = f.waiters } };
+    ghost view = { λ f.
+        record { pattern = f.pattern; order = f.order; many = f.many; clears = f.clears; waiters = f.waiters } };
 }
 
 impl Flag {

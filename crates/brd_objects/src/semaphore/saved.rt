@@ -4,7 +4,7 @@ ghost use Rattle.std.specs.Prelude.{◌≡◌, IfOk};
 
 use super::Semaphore;
 use brd_base::NoMemory;
-use brd_queue::{Order, SavedQueue};
+use brd_queue::{QueueOrder, SavedQueue};
 use std::marker::Model;
 
 /// A semaphore without room for any task but those that wait.
@@ -12,7 +12,7 @@ use std::marker::Model;
 pub struct SavedSemaphore {
     count: u16,
     maximum: u16,
-    order: Order,
+    order: QueueOrder,
     waiters: SavedQueue<()>,
 }
 

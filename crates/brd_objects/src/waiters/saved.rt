@@ -18,12 +18,12 @@ pub struct SavedWaiters {
 
 impl Model for SavedWaiters {
     ghost use Rattle.std.specs.Prelude.{List};
-    ghost use Rattle.brd_queue.specs.declared.entry.Entry.{Entry};
+    ghost use Rattle.brd_queue.specs.declared.entry.QueueEntry.{QueueEntry};
     ghost use Rattle.brd_objects.specs.declared.want.Want.{Want};
     ghost use Rattle.brd_objects.specs.Columns.{AreColumns};
     ghost use Rattle.brd_objects.specs.Waiters.{WantBits};
 
-    ghost Value = { List (Entry Want) };
+    ghost Value = { List (QueueEntry Want) };
 
     ghost view = { λ w. w.queue };
 

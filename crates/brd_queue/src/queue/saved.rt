@@ -3,7 +3,7 @@
 ghost use Rattle.std.specs.Prelude.{◌≡◌, IfOk};
 
 use super::Queue;
-use crate::entry::Entry;
+use crate::entry::QueueEntry;
 use crate::room::MOST_TASKS;
 use brd_base::{NoMemory, copy_with_room};
 use std::marker::Model;
@@ -12,15 +12,15 @@ use std::marker::Model;
 /// short.
 #[derive(Drop)]
 pub struct SavedQueue<W> {
-    entries: Vec<Entry<W>>,
+    entries: Vec<QueueEntry<W>>,
 }
 
 impl<W> Model for SavedQueue<W> {
     ghost use Rattle.std.specs.Prelude.{List};
     ghost use Rattle.brd_queue.specs.Queue.{AreApart};
-    ghost use Rattle.brd_queue.specs.declared.entry.Entry.{Entry};
+    ghost use Rattle.brd_queue.specs.declared.entry.QueueEntry.{QueueEntry};
 
-    ghost Value = { List (Entry W) };
+    ghost Value = { List (QueueEntry W) };
 
     ghost view = { λ saved. saved.entries.items };
 

@@ -4,11 +4,11 @@ use Rattle.clap.specs.Words.{Text}
 use Rattle.brd_command.specs.declared.request.Request.{Request}
 use Rattle.brd_cli.specs.End.{IsWantOfMemory}
 use Rattle.brd_cli.specs.Requests.{IsAnswer}
-use Rattle.brd_cli.specs.declared.end.Stop.{Stop}
-use Rattle.brd_cli.specs.declared.end.Stop.TheVariants.{Fault, Usage}
+use Rattle.brd_cli.specs.declared.end.EarlyEnd.{EarlyEnd}
+use Rattle.brd_cli.specs.declared.end.EarlyEnd.TheVariants.{Fault, Usage}
 use Rattle.brd_cli.proofs.request.asked.Goals as goal
 
-out_of_memory : (words : List Text) (result : Result Request Stop) → IsErrAnd result IsWantOfMemory → IsAnswer words result
+out_of_memory : (words : List Text) (result : Result Request EarlyEnd) → IsErrAnd result IsWantOfMemory → IsAnswer words result
 out_of_memory words (Ok request) is = absurd is
 out_of_memory words (Err (Fault fault)) is = cc
 out_of_memory words (Err (Usage error)) is = cc

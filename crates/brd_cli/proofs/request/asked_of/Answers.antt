@@ -5,11 +5,11 @@ use Rattle.clap.specs.Words.{App, HasKind, IsAmong, Row, Text, fault_of, is_simp
 use Rattle.clap.specs.declared.error.Error.{Error}
 use Rattle.clap.specs.declared.error.kind.ErrorKind.TheVariants.{MissingSubcommand}
 use Rattle.brd_command.specs.declared.request.Request.{Request}
-use Rattle.brd_cli.specs.End.{IsStopOf}
+use Rattle.brd_cli.specs.End.{IsEarlyEndOf}
 use Rattle.brd_cli.specs.Requests.{IsAnswer, IsAsked}
 use Rattle.brd_cli.specs.Usage.{board}
-use Rattle.brd_cli.specs.declared.end.Stop.{Stop}
-use Rattle.brd_cli.specs.declared.end.Stop.TheVariants.{Fault, Usage}
+use Rattle.brd_cli.specs.declared.end.EarlyEnd.{EarlyEnd}
+use Rattle.brd_cli.specs.declared.end.EarlyEnd.TheVariants.{Fault, Usage}
 use Rattle.brd_cli.proofs.request.asked_of.Goals as goal
 
 board_is_simple : (is_simple_and_free board ≡ true) × (is_simple board ≡ true)
@@ -32,8 +32,8 @@ returns-in-Some g c = λ is.
     is_answer _ _ _ c.in-Some.request is parse.kinds parse.ok.2 (search rules)
 
 -- what a parse that failed comes to
-refused : (app : App) (words : List Text) (error : Error) (result : Result Request Stop) → app ≡ board
-    → (is_simple_and_free app ≡ true → HasKind (fault_of app words) error) → IsErrAnd result (IsStopOf error) → IsAnswer words result
+refused : (app : App) (words : List Text) (error : Error) (result : Result Request EarlyEnd) → app ≡ board
+    → (is_simple_and_free app ≡ true → HasKind (fault_of app words) error) → IsErrAnd result (IsEarlyEndOf error) → IsAnswer words result
 refused app words error (Ok request) is has stop = absurd stop
 refused app words error (Err (Fault fault)) is has stop = stop.1
 refused app words error (Err (Usage e)) is has stop =
@@ -45,9 +45,9 @@ refused app words error (Err (Usage e)) is has stop =
     ]
 
 -- what a parse comes to that found nothing that asks for something
-missed : {X : Type 0} (app : App) (words : List Text) (found : Option (Text × List Row)) (error : Error) (stop : Stop) → app ≡ board
+missed : {X : Type 0} (app : App) (words : List Text) (found : Option (Text × List Row)) (error : Error) (stop : EarlyEnd) → app ≡ board
     → (is_simple app ≡ true → X × (found ≡ subcommand_of app words)) → IsAsked found None
-    → kind_of error ≡ MissingSubcommand → IsStopOf error stop → IsAnswer words (Err stop)
+    → kind_of error ≡ MissingSubcommand → IsEarlyEndOf error stop → IsAnswer words (Err stop)
 missed app words found error (Fault fault) is finds asked missing stop = stop.1
 missed app words found error (Usage e) is finds asked missing stop = inr (
   subst (λ (x : Error). kind_of x ≡ MissingSubcommand) (sym stop.1) missing,

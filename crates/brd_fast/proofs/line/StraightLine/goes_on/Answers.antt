@@ -2,7 +2,7 @@ use Rattle.std.proofs.Common.{◌+◌, ◌-◌, ◌∙◌, refl, ap, sym, subst,
 use Rattle.std.specs.Prelude.{nat_le}
 use Rattle.brd_fast.specs.Line.{placed, Comes}
 use Rattle.brd_fast.proofs.LineLemmas.{empty-slot}
-use Rattle.brd_fast.proofs.line.Line.goes_on.Goals as goal
+use Rattle.brd_fast.proofs.line.StraightLine.goes_on.Goals as goal
 
 pub returns-then-raw_at-eq0 : goal.returns-then-raw_at-eq0
 returns-then-raw_at-eq0 c =
