@@ -79,18 +79,18 @@ gate-times:
 
 # Speed, on this machine: millions of events a second, and of other units.
 bench:
-	cd crates/board_bench && rt run >/dev/null
-	crates/board_bench/out/board_bench 100000000
-	cd crates/repeat_bench && rt run >/dev/null
-	crates/repeat_bench/out/repeat_bench 200000000
-	cd crates/lanes_bench && rt run >/dev/null
-	crates/lanes_bench/out/lanes_bench time
-	cd crates/config_bench && rt run >/dev/null
-	crates/config_bench/out/config_bench 1
-	cd crates/asm_bench && rt run >/dev/null
-	crates/asm_bench/out/asm_bench time
-	cd crates/elf_bench && rt run >/dev/null
-	crates/elf_bench/out/elf_bench time
+	cd crates/bench_board && rt run >/dev/null
+	crates/bench_board/out/bench_board 100000000
+	cd crates/bench_repeat && rt run >/dev/null
+	crates/bench_repeat/out/bench_repeat 200000000
+	cd crates/bench_lanes && rt run >/dev/null
+	crates/bench_lanes/out/bench_lanes time
+	cd crates/bench_config && rt run >/dev/null
+	crates/bench_config/out/bench_config 1
+	cd crates/bench_asm && rt run >/dev/null
+	crates/bench_asm/out/bench_asm time
+	cd crates/bench_elf && rt run >/dev/null
+	crates/bench_elf/out/bench_elf time
 	$(MAKE) board
 	tests/debug_speed $(BOARD)
 	tests/race_speed $(BOARD)

@@ -1,6 +1,9 @@
 //! What the tests of several crates share.
 #![tactic(auto)]
 
+mod rows;
+
+pub use rows::{put_line, put_unescaped, row_of, unescaped};
 use std::alloc::{AllocError, Global};
 use std::fmt::{Debug, Display};
 use std::test::Fail;

@@ -1,0 +1,413 @@
+//! What a search answers, and how many schedules it tries.
+
+ghost use Rattle.std.specs.Prelude.{◌<◌};
+
+use super::sources::{
+    APART, DEADLOCK, LOOP, LOST_UPDATE, PETERSON, PETERSON_SWAPPED, REPAIRED, TWO,
+};
+use brd_base::List;
+use brd_board::{Board, Event};
+use brd_explore::{Bounds, Failure, Nobody, Shard, Wanted, find, find_in_shard};
+use brd_image::build;
+use std::alloc::Global;
+use std::test::Fail;
+use test_help::none_wrong;
+
+/// What is not to happen.
+#[derive(Clone, Copy)]
+enum Wrong {
+    Exception,
+    Deadlock,
+    /// The word at 0x80000000 isn't this at the end.
+    Count(u32),
+    /// The word at 0x8000000c is more than this.
+    Inside(u32),
+    On,
+}
+
+/// A search.
+struct Case {
+    source: &'static str,
+    config: &'static str,
+    /// Events, preemptions, ticks.
+    bounds: (u32, u32, u32),
+    among: &'static [Event],
+    wrong: Wrong,
+    /// How many rounds of `FAIR` the end has.
+    rounds: u32,
+    answer: Told,
+}
+
+/// What is told of a search.
+#[derive(Clone, Copy, PartialEq, Eq)]
+enum Told {
+    Fails,
+    NoneFails,
+    /// None of so many.
+    NoneOf(u64),
+    /// A fault.
+    Nothing,
+}
+
+const BOTH: &[Event] = &[Event::Step(1), Event::Step(2)];
+
+const TIMED: &[Event] = &[Event::Step(1), Event::Step(2), Event::Tick];
+
+const ONE: &[Event] = &[Event::Step(1)];
+
+const FAIR: &[Event] = &[Event::Step(1), Event::Step(2), Event::Tick];
+
+/// The lost update and the deadlock are found with one preemption, and not with none; that two tasks are inside a lock
+/// that each takes once needs two: one leaves the first task before its flag is set, the other one the second inside.
+/// (By turns, step for step, the update is lost too: both load before either stores.) Of n steps of two processors that
+/// both go on for ever there are 2 (1 + (n - 1) + (n - 1)(n - 2) / 2) schedules with at most two preemptions: the first
+/// processor, and the places of the switches. With one tick, at one of n places, n - 1 steps are left.
+const CASES: &[Case] = &[
+    Case {
+        source: LOST_UPDATE,
+        config: TWO,
+        bounds: (60, 0, 0),
+        among: BOTH,
+        wrong: Wrong::Count(2),
+        rounds: 0,
+        answer: Told::NoneOf(2),
+    },
+    Case {
+        source: LOST_UPDATE,
+        config: TWO,
+        bounds: (60, 1, 0),
+        among: BOTH,
+        wrong: Wrong::Count(2),
+        rounds: 0,
+        answer: Told::Fails,
+    },
+    Case {
+        source: LOST_UPDATE,
+        config: TWO,
+        bounds: (0, 0, 0),
+        among: BOTH,
+        wrong: Wrong::Count(2),
+        rounds: 60,
+        answer: Told::Fails,
+    },
+    Case {
+        source: REPAIRED,
+        config: TWO,
+        bounds: (6, 1, 0),
+        among: BOTH,
+        wrong: Wrong::Count(2),
+        rounds: 60,
+        answer: Told::NoneFails,
+    },
+    Case {
+        source: REPAIRED,
+        config: TWO,
+        bounds: (60, 2, 0),
+        among: BOTH,
+        wrong: Wrong::Count(2),
+        rounds: 0,
+        answer: Told::NoneFails,
+    },
+    Case {
+        source: DEADLOCK,
+        config: APART,
+        bounds: (60, 0, 0),
+        among: BOTH,
+        wrong: Wrong::Deadlock,
+        rounds: 0,
+        answer: Told::NoneOf(2),
+    },
+    Case {
+        source: DEADLOCK,
+        config: APART,
+        bounds: (60, 1, 0),
+        among: BOTH,
+        wrong: Wrong::Deadlock,
+        rounds: 0,
+        answer: Told::Fails,
+    },
+    Case {
+        source: DEADLOCK,
+        config: APART,
+        bounds: (60, 1, 0),
+        among: BOTH,
+        wrong: Wrong::Exception,
+        rounds: 0,
+        answer: Told::NoneFails,
+    },
+    Case {
+        source: PETERSON_SWAPPED,
+        config: TWO,
+        bounds: (60, 2, 0),
+        among: BOTH,
+        wrong: Wrong::Inside(1),
+        rounds: 0,
+        answer: Told::Fails,
+    },
+    Case {
+        source: PETERSON_SWAPPED,
+        config: TWO,
+        bounds: (60, 1, 0),
+        among: BOTH,
+        wrong: Wrong::Inside(1),
+        rounds: 0,
+        answer: Told::NoneFails,
+    },
+    Case {
+        source: PETERSON,
+        config: TWO,
+        bounds: (40, 2, 0),
+        among: BOTH,
+        wrong: Wrong::Inside(1),
+        rounds: 0,
+        answer: Told::NoneFails,
+    },
+    Case {
+        source: LOOP,
+        config: TWO,
+        bounds: (0, 0, 0),
+        among: BOTH,
+        wrong: Wrong::Exception,
+        rounds: 0,
+        answer: Told::NoneOf(1),
+    },
+    Case {
+        source: LOOP,
+        config: TWO,
+        bounds: (0, 0, 0),
+        among: BOTH,
+        wrong: Wrong::On,
+        rounds: 0,
+        answer: Told::NoneOf(1),
+    },
+    Case {
+        source: LOOP,
+        config: TWO,
+        bounds: (0, 0, 0),
+        among: BOTH,
+        wrong: Wrong::On,
+        rounds: 1,
+        answer: Told::Fails,
+    },
+    Case {
+        source: LOOP,
+        config: TWO,
+        bounds: (6, 0, 0),
+        among: BOTH,
+        wrong: Wrong::Exception,
+        rounds: 0,
+        answer: Told::NoneOf(2),
+    },
+    Case {
+        source: LOOP,
+        config: TWO,
+        bounds: (6, 2, 0),
+        among: BOTH,
+        wrong: Wrong::Exception,
+        rounds: 0,
+        answer: Told::NoneOf(32),
+    },
+    Case {
+        source: LOOP,
+        config: TWO,
+        bounds: (6, 1, 1),
+        among: TIMED,
+        wrong: Wrong::Exception,
+        rounds: 0,
+        answer: Told::NoneOf(72),
+    },
+];
+
+/// A million steps in a row.
+const DEEP: &Case = &Case {
+    source: LOOP,
+    config: TWO,
+    bounds: (1_000_000, 0, 0),
+    among: ONE,
+    wrong: Wrong::Exception,
+    rounds: 0,
+    answer: Told::NoneOf(1),
+};
+
+/// The failure of a case.
+fn failure_of(wrong: Wrong) -> Failure {
+    match wrong {
+        Wrong::Exception => Failure::Exception,
+        Wrong::Deadlock => Failure::Deadlock,
+        Wrong::Count(value) => {
+            Failure::Word {
+                address: 0x8000_0000,
+                value,
+            }
+        }
+        Wrong::Inside(most) => {
+            Failure::Outside {
+                address: 0x8000_000c,
+                least: 0,
+                most,
+            }
+        }
+        Wrong::On => Failure::On,
+    }
+}
+
+/// What a case's search wants.
+fn wanted_of(alloc: Global, case: &Case) -> Option<Wanted> {
+    let mut failures = List::new(alloc);
+    let round = List::from_slice(alloc, FAIR).ok()?;
+    failures.push(failure_of(case.wrong)).ok()?;
+    Some(Wanted {
+        failures,
+        round,
+        rounds: case.rounds,
+    })
+}
+
+/// The bounds of a case.
+fn bounds_of(case: &Case) -> Bounds {
+    let (events, preemptions, ticks) = case.bounds;
+    Bounds {
+        events,
+        preemptions,
+        ticks,
+        raises: 0,
+    }
+}
+
+/// What is told of the search of a case at a board.
+fn search_of(alloc: Global, board: &Board, case: &Case) -> Told {
+    let Some(wanted) = wanted_of(alloc, case) else {
+        return Told::Nothing;
+    };
+    match find(
+        alloc,
+        board,
+        bounds_of(case),
+        case.among,
+        &wanted,
+        &mut Nobody,
+    ) {
+        Ok(found) => told_of(found.schedule.is_some(), found.tried),
+        Err(_) => Told::Nothing,
+    }
+}
+
+/// What is told of a search that has found a schedule, or none.
+fn told_of(found: bool, tried: u64) -> Told {
+    if found {
+        Told::Fails
+    } else {
+        Told::NoneOf(tried)
+    }
+}
+
+/// Whether the search of a case comes to what it should.
+fn goes_well(alloc: Global, case: &Case) -> bool {
+    match build(alloc, case.source.as_bytes(), case.config.as_bytes()) {
+        Ok(board) => agree(search_of(alloc, &board, case), case.answer),
+        Err(_) => false,
+    }
+}
+
+/// Whether what is told is what is wanted, where that may leave the number open.
+fn agree(told: Told, wanted: Told) -> bool {
+    match told {
+        Told::NoneOf(_) => wanted == Told::NoneFails || told == wanted,
+        _ => told == wanted,
+    }
+}
+
+/// The first case that comes to something else.
+fn first_wrong(alloc: Global) -> Option<usize> {
+    for (row, case) in CASES.iter().enumerate() {
+        if !goes_well(alloc, case) {
+            return Some(row);
+        }
+    }
+    None
+}
+
+/// The stack doesn't grow with the events of a schedule.
+#[test]
+fn a_million_events(rt: HostRuntime) {
+    assert!(rt; goes_well(rt.alloc(), DEEP));
+}
+
+/// Races are found, and where none is found so many schedules were tried.
+#[test]
+fn races_are_found(rt: HostRuntime) -> Result<(), Fail> {
+    none_wrong(first_wrong(rt.alloc()))
+}
+
+/// What is told of the searches of all shards: that one fails, or none of so many, of which each shard has the trunk's.
+fn search_of_shards(alloc: Global, board: &Board, case: &Case, of: u32) -> Told {
+    let mut all = Told::NoneOf(1);
+    for number in 0..of {
+        all = together(
+            all,
+            search_of_shard(alloc, board, case, Shard { number, of }),
+        );
+    }
+    all
+}
+
+/// What is told of a search and of the next one.
+fn together(all: Told, next: Told) -> Told {
+    match (all, next) {
+        (Told::NoneOf(tried), Told::NoneOf(more)) => {
+            Told::NoneOf(tried.saturating_add(more).saturating_sub(1))
+        }
+        (Told::Fails, Told::NoneOf(_)) => Told::Fails,
+        _ => next,
+    }
+}
+
+/// What is told of the search of one shard of a case at a board.
+fn search_of_shard(alloc: Global, board: &Board, case: &Case, shard: Shard) -> Told
+    requires { 0 < shard.of }
+{
+    let Some(wanted) = wanted_of(alloc, case) else {
+        return Told::Nothing;
+    };
+    let bounds = bounds_of(case);
+    match find_in_shard(
+        alloc,
+        board,
+        bounds,
+        case.among,
+        shard,
+        &wanted,
+        &mut Nobody,
+    ) {
+        Ok(found) => told_of(found.schedule.is_some(), found.tried),
+        Err(_) => Told::Nothing,
+    }
+}
+
+/// Whether the shards of a case come together to what the whole search comes to.
+fn goes_well_in_shards(alloc: Global, case: &Case) -> bool {
+    match build(alloc, case.source.as_bytes(), case.config.as_bytes()) {
+        Ok(board) => {
+            let whole = search_of(alloc, &board, case);
+            search_of_shards(alloc, &board, case, 1) == whole
+                && search_of_shards(alloc, &board, case, 3) == whole
+        }
+        Err(_) => false,
+    }
+}
+
+/// The first case whose shards come to something else.
+fn first_wrong_in_shards(alloc: Global) -> Option<usize> {
+    for (row, case) in CASES.iter().enumerate() {
+        if !goes_well_in_shards(alloc, case) {
+            return Some(row);
+        }
+    }
+    None
+}
+
+/// Some shard finds a race that the whole search finds, and together they try the same schedules.
+#[test]
+fn shards_find_the_same(rt: HostRuntime) -> Result<(), Fail> {
+    none_wrong(first_wrong_in_shards(rt.alloc()))
+}

@@ -1,0 +1,138 @@
+//! What is told of searches.
+
+use super::sources::{APART, DEADLOCK, LOST_UPDATE, REPAIRED, TWO};
+use brd_base::NoMemory;
+use brd_board::Board;
+use brd_explore::Nobody;
+use brd_image::{Loaded, build};
+use brd_search::{
+    Looks, Plan, SearchOptions, Searched, Sizes, plan_of, put_failure, put_none, put_schedule,
+    search,
+};
+use std::alloc::Global;
+use std::test::Fail;
+use test_help::none_wrong;
+
+/// A search and what is told of it.
+struct Case {
+    source: &'static str,
+    config: &'static str,
+    events: u32,
+    preemptions: u32,
+    looks: Looks<'static>,
+    told: &'static str,
+}
+
+const LOST: Looks = Looks {
+    exception: false,
+    deadlock: false,
+    on: false,
+    words: Some("0x80000000=2"),
+};
+
+const DEAD: Looks = Looks {
+    exception: false,
+    deadlock: true,
+    on: false,
+    words: None,
+};
+
+const CASES: &[Case] = &[
+    Case {
+        source: LOST_UPDATE,
+        config: TWO,
+        events: 60,
+        preemptions: 2,
+        looks: LOST,
+        told: "       0  processor 2 goes on at 80000010
+       3  processor 2 stops before addiu $t0, $t0, 1 at 8000001c; processor 1 goes on at 80000010
+      13  processor 2 goes on at 8000001c
+the word at 80000000 is 1, not 2
+",
+    },
+    Case {
+        source: REPAIRED,
+        config: TWO,
+        events: 60,
+        preemptions: 1,
+        looks: LOST,
+        told: "none of 24 schedules fails: at most 60 events, 1 preemption, 0 ticks and 0 raises
+",
+    },
+    Case {
+        source: DEADLOCK,
+        config: APART,
+        events: 60,
+        preemptions: 2,
+        looks: DEAD,
+        told: "       0  processor 2 goes on at 80000020
+       3  processor 2 stops before addiu $a0, $zero, 1 at 8000002c; processor 1 goes on at 80000000
+       9  processor 2 goes on at 8000002c
+a deadlock: nobody goes on, and a task waits
+",
+    },
+];
+
+/// What is told of the search of a case.
+fn told_of(alloc: Global, case: &Case) -> Option<Vec<u8>> {
+    let board = build(alloc, case.source.as_bytes(), case.config.as_bytes()).ok()?;
+    let plan = plan_of(alloc, &options_of(case), 2, &[], None).ok()?;
+    let searched = search(alloc, &board, &plan, &mut Nobody).ok()?;
+    let mut out = Vec::new(alloc);
+    told(alloc, &board, &plan, &searched, &mut out).ok()?;
+    Some(out)
+}
+
+/// The options of a case.
+fn options_of(case: &Case) -> SearchOptions<'static> {
+    SearchOptions {
+        sizes: Sizes {
+            events: case.events,
+            preemptions: case.preemptions,
+            ticks: 0,
+            raises: 0,
+            fair: 0,
+        },
+        lines: None,
+        looks: case.looks,
+        shortest: true,
+        shard: None,
+    }
+}
+
+/// Tells of a search: the switches of the schedule that it has found, and what fails there; or that there is none.
+fn told(
+    alloc: Global,
+    board: &Board,
+    plan: &Plan,
+    searched: &Searched,
+    out: &mut Vec<u8>,
+) -> Result<(), NoMemory> {
+    let Some(events) = &searched.schedule else {
+        return put_none(alloc, plan, searched.tried, out);
+    };
+    let mut copy = board.try_copy()?;
+    put_schedule(alloc, &[], &mut copy, events, out)?;
+    if let Some(failure) = plan.wanted.shown(&mut copy)? {
+        put_failure(alloc, &[], &copy, failure, out)?;
+    }
+    out.push(b'\n')?;
+    Ok(())
+}
+
+/// The first case of which something else is told.
+fn first_wrong(alloc: Global) -> Option<usize> {
+    for (row, case) in CASES.iter().enumerate() {
+        let told = told_of(alloc, case);
+        if told.as_deref() != Some(case.told.as_bytes()) {
+            return Some(row);
+        }
+    }
+    None
+}
+
+/// The lost update and the deadlock are told by their switches, and by what fails; where nothing fails, the bounds are.
+#[test]
+fn searches_are_told(rt: HostRuntime) -> Result<(), Fail> {
+    none_wrong(first_wrong(rt.alloc()))
+}
