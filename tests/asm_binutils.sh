@@ -1,6 +1,6 @@
 #!/bin/sh
 # Assembles one source with the board's assembler and with GNU as and ld (Debian: binutils-mips-linux-gnu), in both byte
-# orders, and compares the bytes. It is the source of crates/input_tests/src/tests/asm/every.rt, of every mnemonic,
+# orders, and compares the bytes. It is the source of crates/test_input/src/tests/asm/every.rt, of every mnemonic,
 # one-word form and directive.
 #
 #   tests/asm_binutils.sh [BOARD]       BOARD: the program, by default build/board
@@ -25,7 +25,7 @@ fail() {
 }
 
 # The rows of the constant SOURCE, without their ends and escapes.
-sed -n '/^pub const SOURCE: &str = "\\$/,/";$/p' "$top/crates/input_tests/src/tests/asm/every.rt" |
+sed -n '/^pub const SOURCE: &str = "\\$/,/";$/p' "$top/crates/test_input/src/tests/asm/every.rt" |
   sed -e 1d -e 's/\\n\\$//' -e 's/\\n";$//' -e 's/\\"/"/g' -e 's/\\\\/\\/g' > "$work/every.s"
 lines=$(wc -l < "$work/every.s")
 [ "$lines" -gt 100 ] || fail "no source in every.rt"

@@ -1,12 +1,12 @@
 #!/bin/sh
-# Links firmware with GNU as and ld (Debian: binutils-mips-linux-gnu) and reads it with the program elf_bench.
+# Links firmware with GNU as and ld (Debian: binutils-mips-linux-gnu) and reads it with the program bench_elf.
 #
-#   tests/elf_binutils.sh [PROGRAM]     PROGRAM: elf_bench, by default as `rt ci` leaves it
+#   tests/elf_binutils.sh [PROGRAM]     PROGRAM: bench_elf, by default as `rt ci` leaves it
 #
 # One line for each case; the status is 1 if one failed. Without the package it prints which tool it wants, and no more.
 set -u
 top=$(cd "$(dirname "$0")/.." && pwd)
-program=${1:-$top/crates/elf_bench/out/elf_bench}
+program=${1:-$top/crates/bench_elf/out/bench_elf}
 if ! [ -x "$program" ]; then
   echo "failed: elf_binutils: $program isn't there" >&2
   exit 1

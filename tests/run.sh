@@ -2,8 +2,8 @@
 # The tests of `board run`: tests/run.sh PROGRAM. Each folder of tests/scenarios is one: `source.s`, which is assembled,
 # or the object file `image.elf`; `config.cfg`; `journal`; and `report`, what `run` prints, or `fault`, what it says on
 # standard error with status 1. The head of the source says what happens in it. Folders of tests/debugging that have a
-# report are some too, and so are the scenes of crates/board_rows that tests/scenes.reports names (tests/scenes makes
-# their folders); board_rows compares what is seen in registers and memory alone. What no folder can say follows.
+# report are some too, and so are the scenes of crates/rows_board that tests/scenes.reports names (tests/scenes makes
+# their folders); rows_board compares what is seen in registers and memory alone. What no folder can say follows.
 . "$(dirname "$0")/check.sh"
 . tests/growths.sh
 
