@@ -2,32 +2,14 @@
 use Rattle.std.specs.Prelude.{◌≡◌, ◌<◌, ℕ, zero, suc, ◌-◌, nat_lt, ◌==◌, Bool, false, if◌then◌else◌, List}
 use Rattle.std.specs.Prelude.{[], ◌∷◌, ◌++◌, length, map, replicate, nat_eq, Option, None, Some, option_and_then}
 use Rattle.std.specs.Prelude.{option_map}
-use Rattle.std.specs.List.{slice_split, list_all, position_or_len, before_first, after_first, IsDistinct}
+use Rattle.std.specs.List.{list_all, position_or_len, before_first, after_first, IsDistinct}
 use Rattle.brd_text.specs.Numbers.{plain_decimal_of}
+use Rattle.brd_text.specs.Pieces.{pieces_of}
 use Rattle.brd_schedule.specs.declared.plan.Raise.{Raise}
 
--- the bytes are a comma, an at sign
-abbrev pub is_comma : ℕ → Bool
-is_comma byte = byte == 44
-
+-- the byte is an at sign
 abbrev pub is_at_sign : ℕ → Bool
 is_at_sign byte = byte == 64
-
--- the pieces of a text between its commas: one more than it has commas
-abbrev pub pieces_of : List ℕ → List (List ℕ)
-pieces_of text = slice_split is_comma text
-
--- the pieces behind a piece: those of the text behind its comma, and none where no comma ends it
-abbrev pub pieces_behind : Option (List ℕ) → List (List ℕ)
-pieces_behind None = []
-pieces_behind (Some text) = pieces_of text
-
--- what stands before the first such byte of a text, and what is behind it
-abbrev pub AreParts : ℕ → List ℕ → List ℕ → Option (List ℕ) → Type 0
-AreParts mark text front None = (position_or_len (λ b. b == mark) text ≡ length text) × (front ≡ text)
-AreParts mark text front (Some behind) =
-    (position_or_len (λ b. b == mark) text < length text)
-    × (front ≡ before_first (λ b. b == mark) text) × (behind ≡ after_first (λ b. b == mark) text)
 
 -- what f gives of each element, where it gives something of each
 abbrev pub all_of : {X Y : Type 0} → (X → Option Y) → List X → Option (List Y)

@@ -4,11 +4,11 @@ ghost use Rattle.std.specs.Prelude.{◌≡◌, ◌<◌, ◌≤◌, ◌==◌, ◌
 ghost use Rattle.std.specs.List.{list_all, list_any, position_or_len};
 ghost use Rattle.brd_command.specs.JournalCommand.{AreOfOneWay, IsOfRaises, IsOfRule, IsOfWeights, IsRule};
 ghost use Rattle.brd_command.specs.JournalTexts as texts;
-ghost use Rattle.brd_command.specs.JournalTexts.{AreParts, SaysRaises, SaysWeights, eight, pieces_behind, pieces_of};
+ghost use Rattle.brd_command.specs.JournalTexts.{SaysRaises, SaysWeights, eight};
 
 use brd_inputs::ScheduleFault;
 use brd_schedule::{MOST_CHANGES, Raise, Rule};
-use brd_text::plain_decimal;
+use brd_text::{parted, piece, plain_decimal};
 use brd_word::Order;
 use std::alloc::Global;
 
@@ -211,36 +211,4 @@ fn raise_of(word: &[u8]) -> Option<Raise>
         line: line as u8,
         at: at as u32,
     })
-}
-
-/// What stands before the first comma, and what is after it.
-fn piece(text: &[u8]) -> (&[u8], Option<&[u8]>)
-    ensures pieces { pieces_of text.now ≡ result.0.now ∷ pieces_behind (option_map (λ it. it.now) result.1) }
-    ensures shorter { IfSome result.1 (λ behind. length behind.now < length text.now) }
-{
-    parted(text, b',')
-}
-
-/// What stands before the first such byte, and what is after it.
-fn parted(text: &[u8], mark: u8) -> (&[u8], Option<&[u8]>)
-    ensures { AreParts mark text.now result.0.now (option_map (λ it. it.now) result.1) }
-{
-    let (front, end) = text.split_at(len_before(text, mark));
-    match end.split_first() {
-        None => (front, None),
-        Some((_, behind)) => (front, Some(behind)),
-    }
-}
-
-/// How many bytes stand before the first such byte.
-fn len_before(text: &[u8], mark: u8) -> usize
-    ensures is { result ≡ position_or_len (λ byte. byte == mark) text.now }
-    ensures within { result ≤ length text.now }
-{
-    for (i, byte) in text.iter().enumerate() {
-        if *byte == mark {
-            return i;
-        }
-    }
-    text.len()
 }

@@ -5,3 +5,4 @@ pub mod Runs
 pub mod FaultLemmas
 pub mod TurnLemmas
 pub mod Spelled
+pub mod PieceLemmas

@@ -7,3 +7,4 @@ pub mod Hex
 pub mod Faults
 pub mod Turns
 pub mod Spelling
+pub mod Pieces

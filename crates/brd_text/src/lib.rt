@@ -1,5 +1,5 @@
-//! What the product's texts share: bytes by kind, lines, numbers, bytes to tokens with their lines, the shape of 'a
-//! value or the first fault', and a step that is repeated over the tokens of a text.
+//! What the product's texts share: bytes by kind, lines, pieces between commas, numbers, bytes to tokens with their
+//! lines, the shape of 'a value or the first fault', and a step that is repeated over the tokens of a text.
 #![tactic(auto)]
 
 mod byte;
@@ -9,6 +9,7 @@ mod hex;
 pub mod laws;
 mod line;
 mod numeral;
+mod pieces;
 mod scanner;
 mod token;
 
@@ -17,5 +18,6 @@ pub use front::{behind, run_len};
 pub use hex::{hex_digits, hex_word};
 pub use line::{line_after, line_at, split_line};
 pub use numeral::{decimal, hex_value, number, plain_decimal};
+pub use pieces::{parted, piece};
 pub use scanner::Scanner;
 pub use token::Token;

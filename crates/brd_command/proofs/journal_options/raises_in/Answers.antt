@@ -1,6 +1,6 @@
 use Rattle.std.proofs.Common.{ap, sym, ◌∙◌, Option, Bor, List, ℕ, []}
 use Rattle.std.specs.Prelude.{option_map}
-use Rattle.brd_command.specs.JournalTexts.{pieces_behind, pieces_of}
+use Rattle.brd_text.specs.Pieces.{pieces_behind, pieces_of}
 use Rattle.brd_command.proofs.JournalLemmas.{nothing_read, raised_again, raised_on, read_on, whole_text}
 use Rattle.brd_command.proofs.journal_options.raises_in.Goals as goal
 

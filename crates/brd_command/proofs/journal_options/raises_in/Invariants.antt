@@ -1,6 +1,6 @@
 -- the raises of the pieces so far
 use Rattle.std.proofs.Common.{length}
-use Rattle.brd_command.specs.JournalTexts.{pieces_of}
+use Rattle.brd_text.specs.Pieces.{pieces_of}
 use Rattle.brd_command.proofs.JournalLemmas.{HasRead}
 use Rattle.brd_command.proofs.journal_options.raises_in.Given as goal
 

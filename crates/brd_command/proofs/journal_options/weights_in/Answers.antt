@@ -1,6 +1,6 @@
 use Rattle.std.proofs.Common.{◌≡◌, ap, sym, ◌∙◌, arith, Option, Bor, List, ℕ}
 use Rattle.std.specs.Prelude.{option_map}
-use Rattle.brd_command.specs.JournalTexts.{pieces_behind}
+use Rattle.brd_text.specs.Pieces.{pieces_behind}
 use Rattle.brd_command.proofs.JournalLemmas.{all_zero, not_used_up, some_of_bytes, weighed, weighed_more}
 use Rattle.brd_command.proofs.journal_options.weights_in.Goals.{then-is_some-via-then-is_some, then-is_some-via-else-is_some+then-are_zero}
 use Rattle.brd_command.proofs.journal_options.weights_in.Goals as goal

@@ -1,6 +1,6 @@
 -- the weights of the pieces so far
 use Rattle.std.specs.Prelude.{option_map}
-use Rattle.brd_command.specs.JournalTexts.{pieces_behind}
+use Rattle.brd_text.specs.Pieces.{pieces_behind}
 use Rattle.brd_command.proofs.JournalLemmas.{HasWeighed}
 use Rattle.brd_command.proofs.journal_options.weights_in.Given as goal
 

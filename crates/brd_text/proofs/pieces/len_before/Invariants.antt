@@ -1,7 +1,7 @@
 -- What was passed are other bytes.
 use Rattle.std.proofs.Common.{◌≡◌, ◌+◌, drop, eqb}
 use Rattle.std.specs.List.{position_or_len}
-use Rattle.brd_command.proofs.journal_options.len_before.Given as goal
+use Rattle.brd_text.proofs.pieces.len_before.Given as goal
 
 abbrev pub invariant-loop-i : goal.invariant-loop-i
 invariant-loop-i l =

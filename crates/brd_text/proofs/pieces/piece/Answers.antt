@@ -1,6 +1,6 @@
 use Rattle.std.specs.Prelude.{option_map}
-use Rattle.brd_command.proofs.JournalLemmas.{parts_are_pieces}
-use Rattle.brd_command.proofs.journal_options.piece.Goals as goal
+use Rattle.brd_text.proofs.PieceLemmas.{parts_are_pieces}
+use Rattle.brd_text.proofs.pieces.piece.Goals as goal
 
 pub returns-clause-pieces : goal.returns-clause-pieces
 returns-clause-pieces c =
