@@ -1,23 +1,14 @@
 #!/bin/bash
-# Compares the table of service calls of docs/KERNEL.md with the definitions: numbers, places, arguments and refusals
-# have to be those of brd_sysgate's table and of brd_kernel's rows. Run by tests/commands.
+# Compares the table of service calls of docs/KERNEL.md with the definitions: numbers, names, places, arguments and
+# refusals have to be those of brd_sysgate's table and of brd_kernel's rows. Run by tests/commands.
 set -u
 cd "$(dirname "$0")/.." || exit 2
 gate=crates/brd_sysgate/specs/Gate.antt
 rows=crates/brd_kernel/specs/Services.antt
 
-# a line a call: number|name without its underscore|place|how many arguments
+# a line a call: number|name|place|how many arguments
 of_gate() {
-    sed -n 's/^ *∷* *service \([0-9]*\) place\.\([A-Za-z]*\) (λ a\. call\.\([A-Za-z]*\)\(.*\)))*$/\1|\3|\2|\4/p' "$gate" |
-        while IFS='|' read -r number name place arguments; do
-            echo "$number|${name,,}|$place|$(grep -o 'a[0-3] a' <<< "$arguments" | wc -l)"
-        done
-}
-
-# The call of the table for which a number stands: one that may wait stands there as its form with a timeout (wai_sem,
-# pol_sem as twai_sem), and a handler's as that of tasks where both do the same (isig_sem as sig_sem).
-in_table() {
-    sed -E 's/^i(rel_wai|sig_sem|set_flg|psnd_dtq|fsnd_dtq|get_tid)$/\1/; s/^pol_/wai_/; s/^p(snd|rcv)_/\1_/; s/^(slp|wai|snd|rcv)_/t\1_/' <<< "$1"
+    sed -n 's/^ *∷* *service \([0-9]*\) (codes "\([a-z_]*\)") \([0-9]\) place\.\([A-Za-z]*\) .*$/\1|\2|\4|\3/p' "$gate"
 }
 
 of_doc() {
@@ -34,7 +25,7 @@ of_doc() {
             words=$(tr -d ' ' <<< "$arguments")
             count=0
             [ -n "$words" ] && count=$(($(tr -cd ',' <<< "$words" | wc -c) + 1))
-            echo "$number|$(in_table "$name" | tr -d _)|$place|$count"
+            echo "$number|$name|$place|$count"
         done
 }
 

@@ -1,5 +1,5 @@
 -- The gate of service calls: the call that a context asks for, by its number in $v0 and its arguments in $a0 to $a3.
-use Rattle.std.specs.Prelude.{ℕ, ◌==◌, nat_lt, Bool, true, false, not, ◌&&◌, ◌||◌, if◌then◌else◌, List, [], ◌∷◌, find}
+use Rattle.std.specs.Prelude.{ℕ, ◌==◌, nat_lt, Bool, true, false, not, ◌&&◌, ◌||◌, if◌then◌else◌, List, [], ◌∷◌, find, codes}
 use Rattle.std.specs.Prelude.{slice_index, is_some, Option, None, Some, Result, Ok, Err}
 use Rattle.std.specs.Option.{option_map}
 use Rattle.brd_exec.specs.State.{State, read, advanced}
@@ -23,14 +23,18 @@ use Rattle.brd_sysgate.specs.declared.place.Place.{Place}
 use Rattle.brd_sysgate.specs.declared.place.Place.TheVariants as place
 use Rattle.brd_sysgate.specs.declared.place.Asked.{Asked}
 
--- a row of the table: a call's number, from where it may come, and what it is by its arguments
+-- a row of the table: a call's number, its name, how many arguments it takes, from where it may come, and what it is by
+-- its arguments
 pub record Service : Type 0 where
   pub number : ℕ
+  pub name : List ℕ
+  pub takes : ℕ
   pub place : Place
   pub call : List ℕ → Call
 
-abbrev pub service : ℕ → Place → (List ℕ → Call) → Service
-service number place call = record { number = number; place = place; call = call }
+abbrev pub service : ℕ → List ℕ → ℕ → Place → (List ℕ → Call) → Service
+service number name takes place call =
+    record { number = number; name = name; takes = takes; place = place; call = call }
 
 -- the arguments: $a0, $a1, $a2, $a3
 
@@ -53,61 +57,61 @@ poll = 0
 -- the calls in the order of their numbers; every other number is E_RSFN
 abbrev pub table : List Service
 table =
-    service 1 place.Task (λ a. call.ActTsk (a0 a))
-    ∷ service 2 place.Task (λ a. call.CanAct (a0 a))
-    ∷ service 3 place.LockedTask (λ a. call.ExtTsk)
-    ∷ service 4 place.Task (λ a. call.TerTsk (a0 a))
-    ∷ service 5 place.Task (λ a. call.ChgPri (a0 a) (a1 a))
-    ∷ service 6 place.Task (λ a. call.GetPri (a0 a))
-    ∷ service 7 place.Task (λ a. call.MactTsk (a0 a) (a1 a))
-    ∷ service 8 place.OnTask (λ a. call.MigTsk (a0 a) (a1 a))
-    ∷ service 9 place.Task (λ a. call.GetPid)
-    ∷ service 10 place.Task (λ a. call.RotRdq (a0 a))
-    ∷ service 11 place.Task (λ a. call.GetTid)
-    ∷ service 12 place.Task (λ a. call.DisDsp)
-    ∷ service 13 place.Task (λ a. call.EnaDsp)
-    ∷ service 14 place.LockedTask (λ a. call.LocCpu)
-    ∷ service 15 place.NotHolding (λ a. call.UnlCpu)
-    ∷ service 16 place.Waiting (λ a. call.TslpTsk forever)
-    ∷ service 17 place.Waiting (λ a. call.TslpTsk (a0 a))
-    ∷ service 18 place.Task (λ a. call.WupTsk (a0 a))
-    ∷ service 19 place.Task (λ a. call.CanWup (a0 a))
-    ∷ service 20 place.Task (λ a. call.RelWai (a0 a))
-    ∷ service 21 place.OnTask (λ a. call.SusTsk (a0 a))
-    ∷ service 22 place.Task (λ a. call.RsmTsk (a0 a))
-    ∷ service 23 place.Waiting (λ a. call.DlyTsk (a0 a))
-    ∷ service 24 place.Task (λ a. call.SigSem (a0 a))
-    ∷ service 25 place.Waiting (λ a. call.TwaiSem (a0 a) forever)
-    ∷ service 26 place.Task (λ a. call.TwaiSem (a0 a) poll)
-    ∷ service 27 place.Waiting (λ a. call.TwaiSem (a0 a) (a1 a))
-    ∷ service 28 place.Task (λ a. call.SetFlg (a0 a) (a1 a))
-    ∷ service 29 place.Task (λ a. call.ClrFlg (a0 a) (a1 a))
-    ∷ service 30 place.Waiting (λ a. call.TwaiFlg (a0 a) (a1 a) (a2 a) forever)
-    ∷ service 31 place.Task (λ a. call.TwaiFlg (a0 a) (a1 a) (a2 a) poll)
-    ∷ service 32 place.Waiting (λ a. call.TwaiFlg (a0 a) (a1 a) (a2 a) (a3 a))
-    ∷ service 33 place.Waiting (λ a. call.TsndDtq (a0 a) (a1 a) forever)
-    ∷ service 34 place.Task (λ a. call.TsndDtq (a0 a) (a1 a) poll)
-    ∷ service 35 place.Waiting (λ a. call.TsndDtq (a0 a) (a1 a) (a2 a))
-    ∷ service 36 place.Task (λ a. call.FsndDtq (a0 a) (a1 a))
-    ∷ service 37 place.Waiting (λ a. call.TrcvDtq (a0 a) forever)
-    ∷ service 38 place.Task (λ a. call.TrcvDtq (a0 a) poll)
-    ∷ service 39 place.Waiting (λ a. call.TrcvDtq (a0 a) (a1 a))
-    ∷ service 40 place.Task (λ a. call.PutChr (a0 a))
-    ∷ service 41 place.LockedTask (λ a. call.ExtKer)
-    ∷ service 48 place.Handler (λ a. call.IactTsk (a0 a))
-    ∷ service 49 place.Handler (λ a. call.IwupTsk (a0 a))
-    ∷ service 50 place.Handler (λ a. call.RelWai (a0 a))
-    ∷ service 51 place.Handler (λ a. call.SigSem (a0 a))
-    ∷ service 52 place.Handler (λ a. call.SetFlg (a0 a) (a1 a))
-    ∷ service 53 place.Handler (λ a. call.TsndDtq (a0 a) (a1 a) poll)
-    ∷ service 54 place.Handler (λ a. call.FsndDtq (a0 a) (a1 a))
-    ∷ service 55 place.Handler (λ a. call.IrotRdq (a0 a))
-    ∷ service 56 place.Handler (λ a. call.GetTid)
-    ∷ service 57 place.Handler (λ a. call.ImactTsk (a0 a) (a1 a))
-    ∷ service 58 place.Handler (λ a. call.RetInt)
-    ∷ service 60 place.Task (λ a. call.LocSpn (a0 a))
-    ∷ service 61 place.Task (λ a. call.TrySpn (a0 a))
-    ∷ service 62 place.LockedTask (λ a. call.UnlSpn (a0 a))
+    service 1 (codes "act_tsk") 1 place.Task (λ a. call.ActTsk (a0 a))
+    ∷ service 2 (codes "can_act") 1 place.Task (λ a. call.CanAct (a0 a))
+    ∷ service 3 (codes "ext_tsk") 0 place.LockedTask (λ a. call.ExtTsk)
+    ∷ service 4 (codes "ter_tsk") 1 place.Task (λ a. call.TerTsk (a0 a))
+    ∷ service 5 (codes "chg_pri") 2 place.Task (λ a. call.ChgPri (a0 a) (a1 a))
+    ∷ service 6 (codes "get_pri") 1 place.Task (λ a. call.GetPri (a0 a))
+    ∷ service 7 (codes "mact_tsk") 2 place.Task (λ a. call.MactTsk (a0 a) (a1 a))
+    ∷ service 8 (codes "mig_tsk") 2 place.OnTask (λ a. call.MigTsk (a0 a) (a1 a))
+    ∷ service 9 (codes "get_pid") 0 place.Task (λ a. call.GetPid)
+    ∷ service 10 (codes "rot_rdq") 1 place.Task (λ a. call.RotRdq (a0 a))
+    ∷ service 11 (codes "get_tid") 0 place.Task (λ a. call.GetTid)
+    ∷ service 12 (codes "dis_dsp") 0 place.Task (λ a. call.DisDsp)
+    ∷ service 13 (codes "ena_dsp") 0 place.Task (λ a. call.EnaDsp)
+    ∷ service 14 (codes "loc_cpu") 0 place.LockedTask (λ a. call.LocCpu)
+    ∷ service 15 (codes "unl_cpu") 0 place.NotHolding (λ a. call.UnlCpu)
+    ∷ service 16 (codes "slp_tsk") 0 place.Waiting (λ a. call.TslpTsk forever)
+    ∷ service 17 (codes "tslp_tsk") 1 place.Waiting (λ a. call.TslpTsk (a0 a))
+    ∷ service 18 (codes "wup_tsk") 1 place.Task (λ a. call.WupTsk (a0 a))
+    ∷ service 19 (codes "can_wup") 1 place.Task (λ a. call.CanWup (a0 a))
+    ∷ service 20 (codes "rel_wai") 1 place.Task (λ a. call.RelWai (a0 a))
+    ∷ service 21 (codes "sus_tsk") 1 place.OnTask (λ a. call.SusTsk (a0 a))
+    ∷ service 22 (codes "rsm_tsk") 1 place.Task (λ a. call.RsmTsk (a0 a))
+    ∷ service 23 (codes "dly_tsk") 1 place.Waiting (λ a. call.DlyTsk (a0 a))
+    ∷ service 24 (codes "sig_sem") 1 place.Task (λ a. call.SigSem (a0 a))
+    ∷ service 25 (codes "wai_sem") 1 place.Waiting (λ a. call.TwaiSem (a0 a) forever)
+    ∷ service 26 (codes "pol_sem") 1 place.Task (λ a. call.TwaiSem (a0 a) poll)
+    ∷ service 27 (codes "twai_sem") 2 place.Waiting (λ a. call.TwaiSem (a0 a) (a1 a))
+    ∷ service 28 (codes "set_flg") 2 place.Task (λ a. call.SetFlg (a0 a) (a1 a))
+    ∷ service 29 (codes "clr_flg") 2 place.Task (λ a. call.ClrFlg (a0 a) (a1 a))
+    ∷ service 30 (codes "wai_flg") 3 place.Waiting (λ a. call.TwaiFlg (a0 a) (a1 a) (a2 a) forever)
+    ∷ service 31 (codes "pol_flg") 3 place.Task (λ a. call.TwaiFlg (a0 a) (a1 a) (a2 a) poll)
+    ∷ service 32 (codes "twai_flg") 4 place.Waiting (λ a. call.TwaiFlg (a0 a) (a1 a) (a2 a) (a3 a))
+    ∷ service 33 (codes "snd_dtq") 2 place.Waiting (λ a. call.TsndDtq (a0 a) (a1 a) forever)
+    ∷ service 34 (codes "psnd_dtq") 2 place.Task (λ a. call.TsndDtq (a0 a) (a1 a) poll)
+    ∷ service 35 (codes "tsnd_dtq") 3 place.Waiting (λ a. call.TsndDtq (a0 a) (a1 a) (a2 a))
+    ∷ service 36 (codes "fsnd_dtq") 2 place.Task (λ a. call.FsndDtq (a0 a) (a1 a))
+    ∷ service 37 (codes "rcv_dtq") 1 place.Waiting (λ a. call.TrcvDtq (a0 a) forever)
+    ∷ service 38 (codes "prcv_dtq") 1 place.Task (λ a. call.TrcvDtq (a0 a) poll)
+    ∷ service 39 (codes "trcv_dtq") 2 place.Waiting (λ a. call.TrcvDtq (a0 a) (a1 a))
+    ∷ service 40 (codes "put_chr") 1 place.Task (λ a. call.PutChr (a0 a))
+    ∷ service 41 (codes "ext_ker") 0 place.LockedTask (λ a. call.ExtKer)
+    ∷ service 48 (codes "iact_tsk") 1 place.Handler (λ a. call.IactTsk (a0 a))
+    ∷ service 49 (codes "iwup_tsk") 1 place.Handler (λ a. call.IwupTsk (a0 a))
+    ∷ service 50 (codes "irel_wai") 1 place.Handler (λ a. call.RelWai (a0 a))
+    ∷ service 51 (codes "isig_sem") 1 place.Handler (λ a. call.SigSem (a0 a))
+    ∷ service 52 (codes "iset_flg") 2 place.Handler (λ a. call.SetFlg (a0 a) (a1 a))
+    ∷ service 53 (codes "ipsnd_dtq") 2 place.Handler (λ a. call.TsndDtq (a0 a) (a1 a) poll)
+    ∷ service 54 (codes "ifsnd_dtq") 2 place.Handler (λ a. call.FsndDtq (a0 a) (a1 a))
+    ∷ service 55 (codes "irot_rdq") 1 place.Handler (λ a. call.IrotRdq (a0 a))
+    ∷ service 56 (codes "iget_tid") 0 place.Handler (λ a. call.GetTid)
+    ∷ service 57 (codes "imact_tsk") 2 place.Handler (λ a. call.ImactTsk (a0 a) (a1 a))
+    ∷ service 58 (codes "ret_int") 0 place.Handler (λ a. call.RetInt)
+    ∷ service 60 (codes "loc_spn") 1 place.Task (λ a. call.LocSpn (a0 a))
+    ∷ service 61 (codes "try_spn") 1 place.Task (λ a. call.TrySpn (a0 a))
+    ∷ service 62 (codes "unl_spn") 1 place.LockedTask (λ a. call.UnlSpn (a0 a))
     ∷ []
 
 -- the number 0 or one's own
@@ -133,6 +137,11 @@ may_call Handler place.Handler named = true
 abbrev pub row_of : ℕ → Option Service
 row_of number = find (λ s. s.number == number) table
 
+-- the name of a call, and how many arguments it takes
+abbrev pub name_of : ℕ → Option (List ℕ × ℕ)
+name_of number = option_map (λ s. (s.name, s.takes)) (row_of number)
+
+-- from where a call may come, and what it is
 abbrev pub asked : ℕ → List ℕ → Option Asked
 asked number a = option_map (λ s. record { place = s.place; call = s.call a }) (row_of number)
 

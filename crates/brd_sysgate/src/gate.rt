@@ -1,9 +1,9 @@
 //! Reading a service call from the registers, and writing its answer to them.
 
-ghost use Rattle.std.specs.Prelude.{◌≡◌};
-ghost use Rattle.brd_sysgate.specs.Gate.{asked, may_call, is_oneself, read_of, written};
+ghost use Rattle.std.specs.Prelude.{◌≡◌, option_map};
+ghost use Rattle.brd_sysgate.specs.Gate.{asked, name_of, may_call, is_oneself, read_of, written};
 
-use crate::place::{Asked, Place};
+use crate::place::{Asked, Place, Service};
 use brd_exec::Context;
 use brd_isa::Register;
 use brd_kernel::{Call, Ercd, Reply};
@@ -44,13 +44,13 @@ pub fn read(context: &Context, caller: Caller) -> Result<Call, Ercd>
         context.read(Register::low(6)),
         context.read(Register::low(7)),
     ];
-    let Some(asked) = service(context.read(Register::low(2)), arguments) else {
+    let Some(service) = service(context.read(Register::low(2)), arguments) else {
         return Err(Ercd::Rsfn);
     };
-    if !may_call(caller, asked.place, arguments[0]) {
+    if !may_call(caller, service.asked.place, arguments[0]) {
         return Err(Ercd::Ctx);
     }
-    Ok(asked.call)
+    Ok(service.asked.call)
 }
 
 /// Writes a reply to the caller's registers.
@@ -62,70 +62,87 @@ pub fn write(context: &mut Context, reply: Reply)
     }
 }
 
-/// The call of a number, with these arguments.
-fn service(number: u32, arguments: [u32; 4]) -> Option<Asked>
-    ensures { result ≡ asked number arguments }
+/// The service of a number, as it is asked for with these arguments.
+pub fn service(number: u32, arguments: [u32; 4]) -> Option<Service>
+    ensures is { option_map (λ s. s.asked) result ≡ asked number arguments }
+    ensures named { option_map (λ s. (s.name.now, s.takes)) result ≡ name_of number }
 {
     let [a0, a1, a2, a3] = arguments;
-    let (place, call) = match number {
-        1 => (Place::Task, Call::ActTsk(a0)),
-        2 => (Place::Task, Call::CanAct(a0)),
-        3 => (Place::LockedTask, Call::ExtTsk),
-        4 => (Place::Task, Call::TerTsk(a0)),
-        5 => (Place::Task, Call::ChgPri(a0, a1)),
-        6 => (Place::Task, Call::GetPri(a0)),
-        7 => (Place::Task, Call::MactTsk(a0, a1)),
-        8 => (Place::OnTask, Call::MigTsk(a0, a1)),
-        9 => (Place::Task, Call::GetPid),
-        10 => (Place::Task, Call::RotRdq(a0)),
-        11 => (Place::Task, Call::GetTid),
-        12 => (Place::Task, Call::DisDsp),
-        13 => (Place::Task, Call::EnaDsp),
-        14 => (Place::LockedTask, Call::LocCpu),
-        15 => (Place::NotHolding, Call::UnlCpu),
-        16 => (Place::Waiting, Call::TslpTsk(FOREVER)),
-        17 => (Place::Waiting, Call::TslpTsk(a0)),
-        18 => (Place::Task, Call::WupTsk(a0)),
-        19 => (Place::Task, Call::CanWup(a0)),
-        20 => (Place::Task, Call::RelWai(a0)),
-        21 => (Place::OnTask, Call::SusTsk(a0)),
-        22 => (Place::Task, Call::RsmTsk(a0)),
-        23 => (Place::Waiting, Call::DlyTsk(a0)),
-        24 => (Place::Task, Call::SigSem(a0)),
-        25 => (Place::Waiting, Call::TwaiSem(a0, FOREVER)),
-        26 => (Place::Task, Call::TwaiSem(a0, POLL)),
-        27 => (Place::Waiting, Call::TwaiSem(a0, a1)),
-        28 => (Place::Task, Call::SetFlg(a0, a1)),
-        29 => (Place::Task, Call::ClrFlg(a0, a1)),
-        30 => (Place::Waiting, Call::TwaiFlg(a0, a1, a2, FOREVER)),
-        31 => (Place::Task, Call::TwaiFlg(a0, a1, a2, POLL)),
-        32 => (Place::Waiting, Call::TwaiFlg(a0, a1, a2, a3)),
-        33 => (Place::Waiting, Call::TsndDtq(a0, a1, FOREVER)),
-        34 => (Place::Task, Call::TsndDtq(a0, a1, POLL)),
-        35 => (Place::Waiting, Call::TsndDtq(a0, a1, a2)),
-        36 => (Place::Task, Call::FsndDtq(a0, a1)),
-        37 => (Place::Waiting, Call::TrcvDtq(a0, FOREVER)),
-        38 => (Place::Task, Call::TrcvDtq(a0, POLL)),
-        39 => (Place::Waiting, Call::TrcvDtq(a0, a1)),
-        40 => (Place::Task, Call::PutChr(a0)),
-        41 => (Place::LockedTask, Call::ExtKer),
-        48 => (Place::Handler, Call::IactTsk(a0)),
-        49 => (Place::Handler, Call::IwupTsk(a0)),
-        50 => (Place::Handler, Call::RelWai(a0)),
-        51 => (Place::Handler, Call::SigSem(a0)),
-        52 => (Place::Handler, Call::SetFlg(a0, a1)),
-        53 => (Place::Handler, Call::TsndDtq(a0, a1, POLL)),
-        54 => (Place::Handler, Call::FsndDtq(a0, a1)),
-        55 => (Place::Handler, Call::IrotRdq(a0)),
-        56 => (Place::Handler, Call::GetTid),
-        57 => (Place::Handler, Call::ImactTsk(a0, a1)),
-        58 => (Place::Handler, Call::RetInt),
-        60 => (Place::Task, Call::LocSpn(a0)),
-        61 => (Place::Task, Call::TrySpn(a0)),
-        62 => (Place::LockedTask, Call::UnlSpn(a0)),
+    let (name, takes, place, call): (&'static [u8], u8, Place, Call) = match number {
+        1 => (b"act_tsk", 1, Place::Task, Call::ActTsk(a0)),
+        2 => (b"can_act", 1, Place::Task, Call::CanAct(a0)),
+        3 => (b"ext_tsk", 0, Place::LockedTask, Call::ExtTsk),
+        4 => (b"ter_tsk", 1, Place::Task, Call::TerTsk(a0)),
+        5 => (b"chg_pri", 2, Place::Task, Call::ChgPri(a0, a1)),
+        6 => (b"get_pri", 1, Place::Task, Call::GetPri(a0)),
+        7 => (b"mact_tsk", 2, Place::Task, Call::MactTsk(a0, a1)),
+        8 => (b"mig_tsk", 2, Place::OnTask, Call::MigTsk(a0, a1)),
+        9 => (b"get_pid", 0, Place::Task, Call::GetPid),
+        10 => (b"rot_rdq", 1, Place::Task, Call::RotRdq(a0)),
+        11 => (b"get_tid", 0, Place::Task, Call::GetTid),
+        12 => (b"dis_dsp", 0, Place::Task, Call::DisDsp),
+        13 => (b"ena_dsp", 0, Place::Task, Call::EnaDsp),
+        14 => (b"loc_cpu", 0, Place::LockedTask, Call::LocCpu),
+        15 => (b"unl_cpu", 0, Place::NotHolding, Call::UnlCpu),
+        16 => (b"slp_tsk", 0, Place::Waiting, Call::TslpTsk(FOREVER)),
+        17 => (b"tslp_tsk", 1, Place::Waiting, Call::TslpTsk(a0)),
+        18 => (b"wup_tsk", 1, Place::Task, Call::WupTsk(a0)),
+        19 => (b"can_wup", 1, Place::Task, Call::CanWup(a0)),
+        20 => (b"rel_wai", 1, Place::Task, Call::RelWai(a0)),
+        21 => (b"sus_tsk", 1, Place::OnTask, Call::SusTsk(a0)),
+        22 => (b"rsm_tsk", 1, Place::Task, Call::RsmTsk(a0)),
+        23 => (b"dly_tsk", 1, Place::Waiting, Call::DlyTsk(a0)),
+        24 => (b"sig_sem", 1, Place::Task, Call::SigSem(a0)),
+        25 => (b"wai_sem", 1, Place::Waiting, Call::TwaiSem(a0, FOREVER)),
+        26 => (b"pol_sem", 1, Place::Task, Call::TwaiSem(a0, POLL)),
+        27 => (b"twai_sem", 2, Place::Waiting, Call::TwaiSem(a0, a1)),
+        28 => (b"set_flg", 2, Place::Task, Call::SetFlg(a0, a1)),
+        29 => (b"clr_flg", 2, Place::Task, Call::ClrFlg(a0, a1)),
+        30 => (
+            b"wai_flg",
+            3,
+            Place::Waiting,
+            Call::TwaiFlg(a0, a1, a2, FOREVER),
+        ),
+        31 => (b"pol_flg", 3, Place::Task, Call::TwaiFlg(a0, a1, a2, POLL)),
+        32 => (
+            b"twai_flg",
+            4,
+            Place::Waiting,
+            Call::TwaiFlg(a0, a1, a2, a3),
+        ),
+        33 => (
+            b"snd_dtq",
+            2,
+            Place::Waiting,
+            Call::TsndDtq(a0, a1, FOREVER),
+        ),
+        34 => (b"psnd_dtq", 2, Place::Task, Call::TsndDtq(a0, a1, POLL)),
+        35 => (b"tsnd_dtq", 3, Place::Waiting, Call::TsndDtq(a0, a1, a2)),
+        36 => (b"fsnd_dtq", 2, Place::Task, Call::FsndDtq(a0, a1)),
+        37 => (b"rcv_dtq", 1, Place::Waiting, Call::TrcvDtq(a0, FOREVER)),
+        38 => (b"prcv_dtq", 1, Place::Task, Call::TrcvDtq(a0, POLL)),
+        39 => (b"trcv_dtq", 2, Place::Waiting, Call::TrcvDtq(a0, a1)),
+        40 => (b"put_chr", 1, Place::Task, Call::PutChr(a0)),
+        41 => (b"ext_ker", 0, Place::LockedTask, Call::ExtKer),
+        48 => (b"iact_tsk", 1, Place::Handler, Call::IactTsk(a0)),
+        49 => (b"iwup_tsk", 1, Place::Handler, Call::IwupTsk(a0)),
+        50 => (b"irel_wai", 1, Place::Handler, Call::RelWai(a0)),
+        51 => (b"isig_sem", 1, Place::Handler, Call::SigSem(a0)),
+        52 => (b"iset_flg", 2, Place::Handler, Call::SetFlg(a0, a1)),
+        53 => (b"ipsnd_dtq", 2, Place::Handler, Call::TsndDtq(a0, a1, POLL)),
+        54 => (b"ifsnd_dtq", 2, Place::Handler, Call::FsndDtq(a0, a1)),
+        55 => (b"irot_rdq", 1, Place::Handler, Call::IrotRdq(a0)),
+        56 => (b"iget_tid", 0, Place::Handler, Call::GetTid),
+        57 => (b"imact_tsk", 2, Place::Handler, Call::ImactTsk(a0, a1)),
+        58 => (b"ret_int", 0, Place::Handler, Call::RetInt),
+        60 => (b"loc_spn", 1, Place::Task, Call::LocSpn(a0)),
+        61 => (b"try_spn", 1, Place::Task, Call::TrySpn(a0)),
+        62 => (b"unl_spn", 1, Place::LockedTask, Call::UnlSpn(a0)),
         _ => return None,
     };
-    Some(Asked { place, call })
+    let asked = Asked { place, call };
+    Some(Service { name, takes, asked })
 }
 
 /// Whether a call of that place may come from a caller. `named` is the call's first argument.

@@ -27,3 +27,14 @@ pub struct Asked {
     /// The call with its arguments.
     pub call: Call,
 }
+
+/// A service: its name and its arguments beside the call that it is.
+#[derive(Clone, Copy)]
+pub struct Service {
+    /// Its name (uITRON 4.0 specification; TOPPERS/FMP).
+    pub name: &'static [u8],
+    /// How many arguments it takes: $a0 and the registers after it.
+    pub takes: u8,
+    /// What it is with the arguments that it is asked for with.
+    pub asked: Asked,
+}

@@ -2,7 +2,7 @@
 
 use crate::answer::error_name;
 use crate::names::Names;
-use crate::service::{AskedCall, service_of};
+use crate::service::AskedCall;
 use crate::text::{put, put_count, put_named, put_number, put_signed};
 use brd_base::NoMemory;
 use std::alloc::Global;
@@ -27,7 +27,7 @@ impl Refusals {
     fn has(&self, asked: AskedCall, code: u32) -> bool {
         self.code == code
             && (self.asked.number == asked.number
-                || (service_of(self.asked.number).is_none() && service_of(asked.number).is_none()))
+                || (self.asked.service().is_none() && asked.service().is_none()))
     }
 
     /// Puts a line at the end: the call, its answer, how often it came, and where the first time.
