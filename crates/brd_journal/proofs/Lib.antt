@@ -1,6 +1,6 @@
 pub mod EventLemmas
 pub mod OneList
-pub mod ReplayLemmas
+pub mod AfterLemmas
 pub mod StillLemmas
 pub mod PlayingLemmas
 pub mod Cutting

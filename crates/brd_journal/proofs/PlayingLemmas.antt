@@ -10,7 +10,7 @@ use Rattle.brd_journal.specs.declared.run.Run.{Run}
 use Rattle.brd_journal.specs.Playing.{board_at, IsPlayed, AreStill}
 use Rattle.brd_journal.specs.Runs.{copies, ComesBehind}
 use Rattle.brd_journal.specs.Still.{does_no_more, Rests}
-use Rattle.brd_journal.proofs.ReplayLemmas.{after-append}
+use Rattle.brd_journal.proofs.AfterLemmas.{after-append}
 use Rattle.brd_journal.proofs.EventLemmas.{copies-suc, copies-one}
 use Rattle.brd_journal.proofs.StillLemmas.{rests, after-still}
 

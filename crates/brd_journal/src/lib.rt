@@ -21,4 +21,4 @@ pub use journal::{Journal, MOST_RUNS};
 pub use line::{order_of_line, run_of_line, split_field};
 pub use playback::{Moved, Playback};
 pub use reading::read_text;
-pub use run::{Run, does_no_more};
+pub use run::Run;

@@ -15,7 +15,7 @@ pub struct Run {
 }
 
 /// Whether an event that comes again does nothing, once it has reported this.
-pub fn does_no_more(event: Event, report: Report) -> bool
+pub(crate) fn does_no_more(event: Event, report: Report) -> bool
     ensures { result ≡ does_no_more event report }
 {
     matches!(event, Event::Raise(_))

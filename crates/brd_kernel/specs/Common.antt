@@ -31,7 +31,7 @@ pub record IsCommon (c : Common) (k : KernelState) : Type 0 where
   pub quiet : c.pending ≡ false → AreQuiet c.lines.items
   pub executing : c.executing ≡ map task_executing c.processors
 
--- a copy makes the same kernel, whatever its objects
+-- a copy makes the same kernel, whatever its objects, and has the same beside it
 pub record IsCopy (c copy : Common) : Type 0 where
   pub same : (semaphores : Table Semaphore) (flags : Table Flag) (queues : Table DataQueueState) →
       kernel_of copy semaphores flags queues ≡ kernel_of c semaphores flags queues

@@ -9,7 +9,7 @@ use Rattle.brd_board.specs.declared.event.Event.{Event}
 use Rattle.brd_board.specs.declared.event.Event.TheVariants.{Step}
 use Rattle.brd_board.specs.Board.{BoardState, happens, after}
 use Rattle.brd_journal.specs.Journal.{JournalState}
-use Rattle.brd_journal.proofs.ReplayLemmas.{after-append}
+use Rattle.brd_journal.proofs.AfterLemmas.{after-append}
 use Rattle.brd_ledgers.specs.Shares.{IsOwn}
 use Rattle.brd_threads.specs.declared.outer.Outer.{Outer}
 use Rattle.brd_threads.specs.Outers.{event_of, outers, steps}
