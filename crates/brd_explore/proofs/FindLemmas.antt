@@ -9,9 +9,9 @@ use Rattle.brd_explore.specs.declared.search.Saved.{Saved}
 use Rattle.brd_explore.specs.declared.wanted.Wanted.{Wanted}
 use Rattle.brd_explore.specs.Schedules.{Place}
 use Rattle.brd_explore.specs.Failures.{fails_now}
-use Rattle.brd_explore.specs.Searching.{place_of, place_of_saved, NoneLeft, NoneFrom, NoneFails, Leads, AreOnPath, IsOnPath, AreAlike, IsSized, Takes, Tries, HasGone, HasStayed, HasGoneBack, LeavesOut, LeadsOn, Finds, Answers, ended_by}
+use Rattle.brd_explore.specs.Searching.{place_of, place_of_saved, NoneLeft, NoneFails, Leads, AreOnPath, IsOnPath, AreAlike, IsSized, Takes, Tries, HasGone, HasStayed, HasGoneBack, LeavesOut, LeadsOn, Finds, Answers, ended_by}
 use Rattle.brd_explore.proofs.SizeLemmas.{alike-after}
-use Rattle.brd_explore.proofs.SearchLemmas.{none-fails, failing}
+use Rattle.brd_explore.proofs.SearchLemmas.{none-from}
 
 taken-alike : (s t : Search) (event : Event) (done : Bool) → done ≡ true → Takes s event t done → AreAlike s.board t.board
 taken-alike s t event true is takes = subst (AreAlike s.board) (ap (λ (p : Place). p.board) (sym takes.1)) (alike-after s.board (event ∷ []))
@@ -69,7 +69,7 @@ none-begins : (wanted : Wanted) (among : List Event) (from : Place) (s : Search)
 none-begins wanted among from s begins fine none =
     let fine' : fails_now wanted s.board ≡ false = ap (λ (p : Place). fails_now wanted p.board) begins.place ∙ fine in
     subst (NoneFails wanted among) begins.place
-    (none-fails wanted among (place_of s) (subst (NoneFrom wanted among (place_of s)) begins.at none.here) (failing wanted among s none begins.fresh fine'))
+    (none-from wanted among s none.here begins.at begins.fresh fine')
 
 pub finds : (wanted : Wanted) (among : List Event) (from : Place) (s t : Search) (found : Bool) (schedule : Option (List Event)) → Begins from s →
     fails_now wanted from.board ≡ false → LeavesOut wanted among s t (ended_by found) →

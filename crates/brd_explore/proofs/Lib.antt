@@ -8,3 +8,4 @@ mod ShrinkLemmas
 mod LawLemmas
 mod LessLemmas
 mod ShardLemmas
+mod KnownLemmas

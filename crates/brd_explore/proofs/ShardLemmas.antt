@@ -14,10 +14,10 @@ use Rattle.brd_explore.specs.declared.search.Search.{Search}
 use Rattle.brd_explore.specs.declared.wanted.Wanted.{Wanted}
 use Rattle.brd_explore.specs.Schedules.{Place, does, is_left, next, one_if, event_at, IsWithin, IsEnd}
 use Rattle.brd_explore.specs.Failures.{fails_now, fails_at_end}
-use Rattle.brd_explore.specs.Searching.{FailsAt, Fails, NoneFails, NoneBegins, NoneFrom, NoneLeft, Leads, AreOnPath, IsOnPath, Takes, IsSame, IsSized, Finds, LeavesOut, LeadsOn, ended_by, place_of}
+use Rattle.brd_explore.specs.Searching.{FailsAt, Fails, NoneFails, NoneBegins, NoneLeft, Leads, AreOnPath, IsOnPath, Takes, IsSame, IsSized, Finds, LeavesOut, LeadsOn, ended_by, place_of}
 use Rattle.brd_explore.specs.Shards.{may_come, ways, branches, IsOnBranch, IsInShard, NoneFailsInShard, AnswersInShard}
 use Rattle.brd_explore.specs.Sharing.{IsFirst, NoneOnBranches, BeginsHere, SearchesFrom, SearchesBranch, SearchesBranches, SearchesShard, SearchesWay, SoFar, IsOnTrunk, EndsTrunk, GoesOn, PathFails, HasComeAlong}
-use Rattle.brd_explore.proofs.SearchLemmas.{does-or, after-doing, after-nothing, none-fails, failing}
+use Rattle.brd_explore.proofs.SearchLemmas.{does-or, after-doing, after-nothing, none-from}
 use Rattle.brd_explore.proofs.PathLemmas.{leads-on, leads-within, leads-after, found-now}
 use Rattle.brd_explore.proofs.LessLemmas.{left-after}
 
@@ -208,7 +208,7 @@ branch-on among from s t at below comes on place path begins =
 pub none-here : (wanted : Wanted) (among : List Event) (s : Search) → BeginsHere s → fails_now wanted s.board ≡ false → NoneLeft wanted among s →
     NoneFails wanted among (place_of s)
 none-here wanted among s begins fine none =
-    none-fails wanted among (place_of s) (subst (NoneFrom wanted among (place_of s)) begins.at none.here) (failing wanted among s none begins.fresh fine)
+    none-from wanted among s none.here begins.at begins.fresh fine
 
 pub searched-from : (wanted : Wanted) (among : List Event) (s t : Search) (found : Bool) → BeginsHere s → fails_now wanted s.board ≡ false →
     LeavesOut wanted among s t (ended_by found) → ((f : Place) → IsOnPath among f s → LeadsOn wanted among f t (ended_by found)) →

@@ -4,7 +4,7 @@ use Rattle.std.specs.Prelude.{Bool, true, false}
 use Rattle.std.proofs.lemmas.Bool.{cases_lt}
 use Rattle.brd_board.specs.declared.event.Event.{Event}
 use Rattle.brd_board.specs.Board.{BoardState, after}
-use Rattle.brd_journal.proofs.ReplayLemmas.{after-append}
+use Rattle.brd_journal.proofs.AfterLemmas.{after-append}
 use Rattle.brd_explore.specs.declared.wanted.Wanted.{Wanted}
 use Rattle.brd_explore.specs.Failures.{ended}
 use Rattle.brd_explore.specs.Searching.{AreAlike}

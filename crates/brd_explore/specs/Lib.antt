@@ -1,6 +1,7 @@
 pub mod Schedules
 pub mod Failures
 pub mod Searching
+pub mod Knowing
 pub mod Shards
 pub mod Sharing
 pub mod Shrinking

@@ -1,6 +1,6 @@
 -- What fails, and what a search has left. Only the contracts of private functions name the records of a search's state.
 use Rattle.std.specs.Prelude.{◌≡◌, ◌⊎◌, ℕ, zero, suc, ◌+◌, ◌-◌, ◌*◌, ◌≤◌, ◌<◌, Bool, true, false, List, [], ◌∷◌, ◌++◌}
-use Rattle.std.specs.Prelude.{length, take, All, Option, Some, None}
+use Rattle.std.specs.Prelude.{length, take, drop, All, Option, Some, None}
 use Rattle.brd_mem.specs.Memory.{size_of}
 use Rattle.brd_board.specs.declared.event.Event.{Event}
 use Rattle.brd_board.specs.Board.{BoardState}
@@ -44,12 +44,19 @@ place_of s = record { board = s.board; left = s.left; last = s.last }
 abbrev pub place_of_saved : Saved → Place
 place_of_saved s = record { board = s.board; left = s.left; last = s.last }
 
--- what a search hasn't looked at yet doesn't fail
-pub record NoneLeft (wanted : Wanted) (among : List Event) (s : Search) : Type 0 where
+-- what a search hasn't looked at yet from where it is doesn't fail
+pub record NoneHere (wanted : Wanted) (among : List Event) (s : Search) : Type 0 where
   pub here : NoneFrom wanted among (place_of s) s.at
   -- where no event has come here yet, this may be an end
   pub «end» : s.fresh ≡ true → IsEnd among (place_of s) → fails_at_end wanted s.board ≡ true → ⊥
-  pub saved : All (λ f. NoneFrom wanted among (place_of_saved f) f.at) s.saved.items
+
+-- nor does it from the saved places, but for the first ones
+pub record NoneLeftFrom (wanted : Wanted) (among : List Event) (height : ℕ) (s : Search) : Type 0 where
+  pub here : NoneHere wanted among s
+  pub saved : All (λ f. NoneFrom wanted among (place_of_saved f) f.at) (drop height s.saved.items)
+
+abbrev pub NoneLeft : Wanted → List Event → Search → Type 0
+NoneLeft wanted among s = NoneLeftFrom wanted among 0 s
 
 -- a list of events leads from a place to another one, all of them within the bounds
 abbrev pub Leads : List Event → Place → List Event → Place → Type 0

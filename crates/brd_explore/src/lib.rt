@@ -2,6 +2,7 @@
 #![tactic(auto)]
 
 mod bounds;
+mod known;
 pub mod laws;
 mod search;
 mod shard;

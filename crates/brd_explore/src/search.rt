@@ -6,6 +6,9 @@ ghost use Rattle.brd_board.specs.declared.event.Event.{Event as EventOf};
 ghost use Rattle.brd_board.specs.Board.{happens};
 ghost use Rattle.brd_explore.specs.Schedules.{does, Place, is_left, next, event_at, IsWithin, IsAmong, start};
 ghost use Rattle.brd_explore.specs.Failures.{fails_now, fails_at_end, ended};
+ghost use Rattle.brd_explore.specs.declared.search.Search.{Search as SearchOf};
+ghost use Rattle.brd_explore.specs.declared.wanted.Wanted.{Wanted as WantedOf};
+ghost use Rattle.brd_explore.specs.Knowing.{Knows, KnowsOn, AreDone, AreOver, ArePending, Leaves};
 ghost use Rattle.brd_explore.specs.Searching.{
   AreAlike,
   Fails,
@@ -29,6 +32,7 @@ ghost use Rattle.brd_explore.specs.Searching.{
 };
 
 use crate::bounds::{Bounds, did_nothing, stepper};
+use crate::known::Known;
 use crate::wanted::Wanted;
 use brd_base::NoMemory;
 use brd_board::{Board, Event};
@@ -61,7 +65,7 @@ pub struct Search {
     pub(crate) saved: Vec<Saved>,
     /// Boards that are needed no more.
     pub(crate) spare: Vec<Board>,
-    /// How many schedules have come to their end.
+    /// How many schedules have come to their end, and weren't left at a place that was known.
     pub(crate) tried: u64,
 }
 
@@ -245,22 +249,49 @@ impl Search {
     }
 
     /// Goes on by an event for which something is left. Answers what that came to.
-    fn go_on(&mut self, among: &[Event], at: usize, wanted: &Wanted) -> Result<Turn, NoMemory>
+    fn go_on(
+        &mut self,
+        among: &[Event],
+        at: usize,
+        wanted: &Wanted,
+        known: &mut Known,
+    ) -> Result<Turn, NoMemory>
         requires sized { IsSized self.old }
+        requires known { Knows wanted.now among.now self.old known.old }
         requires within { (self.old.at ≤ at) × (at < length among.now) }
         requires left { is_left (place_of self.old) (event_at among.now at) ≡ true }
         requires before { IsTooMuch among.now (place_of self.old) self.old.at at }
         ensures out { IfOk result (LeavesOut wanted.now among.now self.old self.new) }
         ensures on { (from : Place) → IsOnPath among.now from self.old
             → IfOk result (LeadsOn wanted.now among.now from self.new) }
+        ensures known { IfOk result (KnowsOn wanted.now among.now self.new known.new) }
         ensures falls { IfOk result (HasLess among.now self.old self.new) }
         ensures sized { IsSized self.new }
     {
-        let done = self.try_event(among, at)?;
-        if done && wanted.fails_now(&self.board)? {
+        if !self.try_event(among, at)? {
+            return Ok(Turn::On);
+        }
+        if wanted.fails_now(&self.board)? {
             return Ok(Turn::Found);
         }
+        if known.knows(self) {
+            return Ok(self.leave(known));
+        }
         Ok(Turn::On)
+    }
+
+    /// Goes back from a place of which nothing is left to be searched. Answers what that came to.
+    fn leave(&mut self, known: &mut Known) -> Turn
+        requires { IsSized self.old }
+        ensures is { Leaves self.old self.new result }
+        ensures done { (wanted : WantedOf) (among : ListOf EventOf) → AreDone wanted among known.old →
+            AreOver wanted among (length self.old.saved.items) known.old → AreDone wanted among known.new }
+        ensures pending { (wanted : WantedOf) (among : ListOf EventOf) (search : SearchOf) →
+            ArePending wanted among search known.old → ArePending wanted among search known.new }
+        ensures sized { IsSized self.new }
+    {
+        known.settle(self.saved.len());
+        if self.go_back() { Turn::On } else { Turn::Over }
     }
 
     /// Goes back to the place that was saved last. Answers whether there was one.
@@ -311,12 +342,19 @@ impl Search {
     }
 
     /// Goes back, since nothing is left for any event here. Answers what that came to.
-    fn turn_back(&mut self, among: &[Event], wanted: &Wanted) -> Result<Turn, NoMemory>
+    fn turn_back(
+        &mut self,
+        among: &[Event],
+        wanted: &Wanted,
+        known: &mut Known,
+    ) -> Result<Turn, NoMemory>
         requires sized { IsSized self.old }
+        requires known { Knows wanted.now among.now self.old known.old }
         requires rest { IsTooMuch among.now (place_of self.old) self.old.at (length among.now) }
         ensures out { IfOk result (LeavesOut wanted.now among.now self.old self.new) }
         ensures on { (from : Place) → IsOnPath among.now from self.old
             → IfOk result (LeadsOn wanted.now among.now from self.new) }
+        ensures known { IfOk result (KnowsOn wanted.now among.now self.new known.new) }
         ensures falls { IfOk result (HasLess among.now self.old self.new) }
         ensures sized { IsSized self.new }
     {
@@ -324,24 +362,28 @@ impl Search {
         if self.ends_badly(wanted)? {
             return Ok(Turn::Found);
         }
-        if self.go_back() {
-            return Ok(Turn::On);
-        }
-        Ok(Turn::Over)
+        Ok(self.leave(known))
     }
 
     /// Takes a turn of the search. Answers what that came to.
-    fn turn(&mut self, among: &[Event], wanted: &Wanted) -> Result<Turn, NoMemory>
-        requires { IsSized self.old }
+    fn turn(
+        &mut self,
+        among: &[Event],
+        wanted: &Wanted,
+        known: &mut Known,
+    ) -> Result<Turn, NoMemory>
+        requires sized { IsSized self.old }
+        requires known { Knows wanted.now among.now self.old known.old }
         ensures out { IfOk result (LeavesOut wanted.now among.now self.old self.new) }
         ensures on { (from : Place) → IsOnPath among.now from self.old
             → IfOk result (LeadsOn wanted.now among.now from self.new) }
+        ensures known { IfOk result (KnowsOn wanted.now among.now self.new known.new) }
         ensures falls { IfOk result (HasLess among.now self.old self.new) }
         ensures sized { IsSized self.new }
     {
         match self.choice(among, self.at) {
-            Some(at) => self.go_on(among, at, wanted),
-            None => self.turn_back(among, wanted),
+            Some(at) => self.go_on(among, at, wanted, known),
+            None => self.turn_back(among, wanted, known),
         }
     }
 
@@ -350,16 +392,19 @@ impl Search {
         &mut self,
         among: &[Event],
         wanted: &Wanted,
+        known: &mut Known,
         watch: &mut W,
     ) -> Result<bool, NoMemory>
-        requires { IsSized self.old }
+        requires sized { IsSized self.old }
+        requires known { Knows wanted.now among.now self.old known.old }
         ensures out { IfOk result (λ found. LeavesOut wanted.now among.now self.old self.new (ended_by found)) }
         ensures on { (from : Place) → IsOnPath among.now from self.old
             → IfOk result (λ found. LeadsOn wanted.now among.now from self.new (ended_by found)) }
+        ensures known { IfOk result (λ found. KnowsOn wanted.now among.now self.new known.new (ended_by found)) }
         ensures sized { IsSized self.new }
     {
         loop {
-            match self.turn(among, wanted)? {
+            match self.turn(among, wanted, known)? {
                 Turn::Found => return Ok(true),
                 Turn::Over => return Ok(false),
                 Turn::On => watch.tried(self.tried),
@@ -417,7 +462,7 @@ impl Search {
 
 /// What is told how many schedules a search has tried.
 pub trait Watch {
-    /// So many schedules have come to their end.
+    /// So many schedules have come to their end, as `Found` counts them.
     fn tried(&mut self, schedules: u64);
 }
 
@@ -434,17 +479,20 @@ impl Watch for Nobody {
 pub struct Found {
     /// A schedule within the bounds that fails. `None`: no schedule that was to be searched fails.
     pub schedule: Option<Vec<Event>>,
-    /// How many schedules have come to their end.
+    /// How many schedules have come to their end: all, or with places that are remembered fewer. A schedule isn't counted
+    /// that was left at a place from which every schedule was searched before.
     pub tried: u64,
 }
 
-/// Searches the schedules of a board within bounds, of which each event is one of these, for one that fails.
+/// Searches the schedules of a board within bounds, of which each event is one of these, for one that fails. At most
+/// `remember` places are kept, so that none of them is searched a second time.
 pub fn find<W: Watch>(
     alloc: Global,
     board: &Board,
     bounds: Bounds,
     among: &[Event],
     wanted: &Wanted,
+    remember: usize,
     watch: &mut W,
 ) -> Result<Found, NoMemory>
     ensures { IfOk result
@@ -458,6 +506,7 @@ pub fn find<W: Watch>(
         });
     }
     let mut search = Search::new(alloc, board, bounds)?;
-    let found = search.run(among, wanted, watch)?;
+    let mut known = Known::new(alloc, remember);
+    let found = search.run(among, wanted, &mut known, watch)?;
     Ok(search.into_found(found))
 }

@@ -1,13 +1,15 @@
 //! A search that several machines share, by the branches that leave its first schedule.
 
-ghost use Rattle.std.specs.Prelude.{option_map, ◌≡◌, ◌+◌, ◌%◌, ◌<◌, [], ℕ, true, length, IfOk, IfSome, IfNone};
+ghost use Rattle.std.specs.Prelude.{option_map, ◌≡◌, ◌+◌, ◌%◌, ◌<◌, [], ℕ, true, false, length, IfOk, IfSome, IfNone};
 ghost use Rattle.brd_explore.specs.Schedules.{event_at, start};
+ghost use Rattle.brd_explore.specs.Knowing.{AreDone, KnowsAlong};
 ghost use Rattle.brd_explore.specs.Searching.{IsSized, place_of};
 ghost use Rattle.brd_explore.specs.Shards.{AnswersInShard, may_come, ways};
 ghost use Rattle.brd_explore.specs.Sharing.{BeginsHere, EndsTrunk, GoesAlong, IsFirst, IsOnTrunk, SearchesBranch};
 ghost use Rattle.brd_explore.specs.Sharing.{SearchesBranches, SearchesFrom, SearchesShard, SearchesWay};
 
 use crate::bounds::{Bounds, did_nothing};
+use crate::known::Known;
 use crate::search::{Found, Search, Turn, Watch};
 use crate::wanted::Wanted;
 use brd_base::NoMemory;
@@ -23,7 +25,8 @@ pub struct Shard {
     pub of: u32,
 }
 
-/// Searches those schedules of a board within bounds that are in a shard, for one that fails.
+/// Searches those schedules of a board within bounds that are in a shard, for one that fails. At most `remember` places
+/// are kept, so that none of them is searched a second time.
 pub fn find_in_shard<W: Watch>(
     alloc: Global,
     board: &Board,
@@ -31,6 +34,7 @@ pub fn find_in_shard<W: Watch>(
     among: &[Event],
     shard: Shard,
     wanted: &Wanted,
+    remember: usize,
     watch: &mut W,
 ) -> Result<Found, NoMemory>
     requires { 0 < shard.of }
@@ -46,7 +50,8 @@ pub fn find_in_shard<W: Watch>(
         });
     }
     let mut trunk = Search::new(alloc, board, bounds)?;
-    let found = trunk.run_in_shard(among, shard, wanted, watch)?;
+    let mut known = Known::new(alloc, remember);
+    let found = trunk.run_in_shard(among, shard, wanted, &mut known, watch)?;
     Ok(trunk.into_found(found))
 }
 
@@ -57,15 +62,17 @@ impl Search {
         among: &[Event],
         shard: Shard,
         wanted: &Wanted,
+        known: &mut Known,
         watch: &mut W,
     ) -> Result<bool, NoMemory>
         requires of { 0 < shard.of }
         requires trunk { IsOnTrunk wanted.now self.old }
+        requires known { AreDone wanted.now among.now known.old }
         ensures { IfOk result (SearchesShard wanted.now shard among.now self.old self.new) }
     {
         let mut number = 0;
         loop {
-            match self.along(among, shard, &mut number, wanted, watch)? {
+            match self.along(among, shard, &mut number, wanted, known, watch)? {
                 Turn::Found => return Ok(true),
                 Turn::Over => return Ok(false),
                 Turn::On => (),
@@ -81,13 +88,16 @@ impl Search {
         shard: Shard,
         number: &mut u32,
         wanted: &Wanted,
+        known: &mut Known,
         watch: &mut W,
     ) -> Result<Turn, NoMemory>
         requires of { 0 < shard.of }
         requires trunk { IsOnTrunk wanted.now self.old }
         requires number { number.old < shard.of }
+        requires known { AreDone wanted.now among.now known.old }
         ensures goes { IfOk result (GoesAlong wanted.now shard among.now self.old number.old self.new number.new) }
         ensures number { number.new < shard.of }
+        ensures known { IfOk result (λ turn. KnowsAlong wanted.now among.now known.new turn) }
     {
         let Some(first) = self.first_way(among)? else {
             return Ok(if self.trunk_ends(among, wanted)? {
@@ -96,7 +106,7 @@ impl Search {
                 Turn::Over
             });
         };
-        if self.search_branches(among, first, shard, number, wanted, watch)? {
+        if self.search_branches(among, first, shard, number, wanted, known, watch)? {
             return Ok(Turn::Found);
         }
         self.take(among[first])?;
@@ -124,18 +134,21 @@ impl Search {
         shard: Shard,
         number: &mut u32,
         wanted: &Wanted,
+        known: &mut Known,
         watch: &mut W,
     ) -> Result<bool, NoMemory>
         requires of { 0 < shard.of }
         requires sized { IsSized self.old }
         requires first { IsFirst among.now (place_of self.old) first }
         requires number { number.old < shard.of }
+        requires known { AreDone wanted.now among.now known.old }
         ensures is { IfOk result (SearchesBranches wanted.now shard among.now self.old number.old self.new number.new) }
         ensures number { number.new < shard.of }
+        ensures known { IfOk result (λ found. found ≡ false → AreDone wanted.now among.now known.new) }
         ensures sized { IsSized self.new }
     {
         for at in first + 1..among.len() {
-            if self.search_way(among, at, shard, number, wanted, watch)? {
+            if self.search_way(among, at, shard, number, wanted, known, watch)? {
                 return Ok(true);
             }
         }
@@ -151,20 +164,23 @@ impl Search {
         shard: Shard,
         number: &mut u32,
         wanted: &Wanted,
+        known: &mut Known,
         watch: &mut W,
     ) -> Result<bool, NoMemory>
         requires of { 0 < shard.of }
         requires sized { IsSized self.old }
         requires within { at < length among.now }
         requires number { number.old < shard.of }
+        requires known { AreDone wanted.now among.now known.old }
         ensures is { IfOk result (SearchesWay wanted.now shard among.now at self.old number.old self.new number.new) }
         ensures number { number.new < shard.of }
+        ensures known { IfOk result (λ found. found ≡ false → AreDone wanted.now among.now known.new) }
         ensures sized { IsSized self.new }
     {
         if !self.comes(among[at])? {
             return Ok(false);
         }
-        if *number == shard.number && self.search_branch(among, at, wanted, watch)? {
+        if *number == shard.number && self.search_branch(among, at, wanted, known, watch)? {
             return Ok(true);
         }
         *number = after(*number, shard.of);
@@ -177,17 +193,20 @@ impl Search {
         among: &[Event],
         at: usize,
         wanted: &Wanted,
+        known: &mut Known,
         watch: &mut W,
     ) -> Result<bool, NoMemory>
         requires sized { IsSized self.old }
         requires within { at < length among.now }
         requires comes { may_come (place_of self.old) (event_at among.now at) ≡ true }
+        requires known { AreDone wanted.now among.now known.old }
         ensures is { IfOk result (SearchesBranch wanted.now among.now at self.old self.new) }
+        ensures known { IfOk result (λ found. found ≡ false → AreDone wanted.now among.now known.new) }
         ensures sized { IsSized self.new }
     {
         let mut branch = self.branch()?;
         branch.take(among[at])?;
-        let found = branch.fails(among, wanted, watch)?;
+        let found = branch.fails(among, wanted, known, watch)?;
         self.tried = branch.tried;
         if found {
             self.path = branch.into_path();
@@ -200,16 +219,23 @@ impl Search {
         &mut self,
         among: &[Event],
         wanted: &Wanted,
+        known: &mut Known,
         watch: &mut W,
     ) -> Result<bool, NoMemory>
         requires sized { IsSized self.old }
         requires begins { BeginsHere self.old }
-        ensures { IfOk result (SearchesFrom wanted.now among.now self.old self.new) }
+        requires known { AreDone wanted.now among.now known.old }
+        ensures is { IfOk result (SearchesFrom wanted.now among.now self.old self.new) }
+        ensures known { IfOk result (λ found. found ≡ false → AreDone wanted.now among.now known.new) }
     {
         if wanted.fails_now(&self.board)? {
             return Ok(true);
         }
-        self.run(among, wanted, watch)
+        known.begin();
+        if known.knows(self) {
+            return Ok(false);
+        }
+        self.run(among, wanted, known, watch)
     }
 
     /// A search that begins here.

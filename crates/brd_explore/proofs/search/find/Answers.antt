@@ -3,7 +3,14 @@ use Rattle.std.specs.Prelude.{option_map}
 use Rattle.brd_board.specs.declared.event.Event.{Event}
 use Rattle.brd_explore.specs.Schedules.{start}
 use Rattle.brd_explore.proofs.FindLemmas.{finds}
+use Rattle.brd_explore.proofs.KnownLemmas.{pending-none}
 use Rattle.brd_explore.proofs.search.find.Goals as goal
+
+pub run-requires-clause-known : goal.run-requires-clause-known
+run-requires-clause-known g c = record {
+  done = c.new-known.ensures.done c.args.wanted.now c.args.among.now;
+  pending = pending-none c.args.wanted.now c.args.among.now c.in_ok-search.search c.new-known.result c.new-known.ensures.pending;
+}
 
 pub returns : goal.returns
 returns g c =

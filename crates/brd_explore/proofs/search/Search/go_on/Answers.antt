@@ -1,46 +1,80 @@
-use Rattle.std.proofs.Common.{sym, ◌∙◌}
-use Rattle.brd_explore.proofs.SearchLemmas.{leaves-gone, leaves-stayed}
-use Rattle.brd_explore.proofs.PathLemmas.{on-gone, on-stayed, found-now}
+use Rattle.std.proofs.Common.{sym, ◌∙◌, arith}
+use Rattle.brd_explore.proofs.SearchLemmas.{leaves-gone, none-known}
+use Rattle.brd_explore.proofs.PathLemmas.{on-gone, found-now}
 use Rattle.brd_explore.proofs.LessLemmas.{less-gone, less-stayed}
 use Rattle.brd_explore.proofs.FindLemmas.{gone-of, stayed-of}
+use Rattle.brd_explore.proofs.KnownLemmas.{knows-gone, knows-stayed, knows-left, knows-more, over-from, leaves-out, leaves-out-gone, leads-left, less-left, less-both}
 use Rattle.brd_explore.proofs.search.Search.go_on.Goals as goal
-use Rattle.brd_explore.proofs.search.Search.go_on.Goals.{else-done-via-then-done+in_ok-fails_now+else-branch, else-done-via-else-done}
+
+pub returns-then-not-branch-clause-known : goal.returns-then-not-branch-clause-known
+returns-then-not-branch-clause-known c = knows-stayed c.args.wanted.now c.args.among.now c.args.self.now c.try_event.new.self c.args.known.now c.args.at c.requires.within.0 c.requires.before
+    (stayed-of c.args.among.now c.args.self.now c.try_event.new.self c.args.at c.in_ok-try_event.field-0 c.if-not-branch.true c.in_ok-try_event.ensures.is)
+    c.requires.known
+
+pub returns-then-not-branch-clause-falls : goal.returns-then-not-branch-clause-falls
+returns-then-not-branch-clause-falls c = less-stayed c.args.among.now c.args.self.now c.try_event.new.self c.args.at c.requires.within.0 c.requires.within.1 c.requires.left
+    (stayed-of c.args.among.now c.args.self.now c.try_event.new.self c.args.at c.in_ok-try_event.field-0 c.if-not-branch.true c.in_ok-try_event.ensures.is)
 
 pub returns-then-branch-clause-on : goal.returns-then-branch-clause-on
 returns-then-branch-clause-on c = λ from on.
     found-now c.args.wanted.now c.args.among.now from c.try_event.new.self
     (on-gone c.args.among.now from c.args.self.now c.try_event.new.self c.args.at c.requires.within.1 c.requires.left on
-    (gone-of c.args.among.now c.args.self.now c.try_event.new.self c.args.at c.in_ok-done.done c.if-done.true c.in_ok-done.ensures.is))
+    (gone-of c.args.among.now c.args.self.now c.try_event.new.self c.args.at c.in_ok-try_event.field-0 c.if-not-branch.false c.in_ok-try_event.ensures.is))
     (sym c.in_ok-fails_now.ensures ∙ c.if-branch.true)
 
+pub returns-then-knows-clause-out : goal.returns-then-knows-clause-out
+returns-then-knows-clause-out c =
+    leaves-out-gone c.args.wanted.now c.args.among.now c.args.self.now c.try_event.new.self c.leave.new.self c.args.at c.leave.result c.requires.within.0 c.requires.within.1 c.requires.left c.requires.before
+    (gone-of c.args.among.now c.args.self.now c.try_event.new.self c.args.at c.in_ok-try_event.field-0 c.if-not-branch.false c.in_ok-try_event.ensures.is)
+    (sym c.in_ok-fails_now.ensures ∙ c.if-branch.false)
+    (leaves-out c.args.wanted.now c.args.among.now c.try_event.new.self c.leave.new.self c.leave.result (none-known c.args.wanted.now c.args.among.now c.try_event.new.self (c.knows.ensures.is c.args.wanted.now c.args.among.now c.requires.known.done c.if-knows.true)) c.leave.ensures.is)
+
+pub returns-then-knows-clause-on : goal.returns-then-knows-clause-on
+returns-then-knows-clause-on c = λ from on.
+    leads-left c.args.wanted.now c.args.among.now from c.try_event.new.self c.leave.new.self c.leave.result c.leave.ensures.is
+    (on-gone c.args.among.now from c.args.self.now c.try_event.new.self c.args.at c.requires.within.1 c.requires.left on
+    (gone-of c.args.among.now c.args.self.now c.try_event.new.self c.args.at c.in_ok-try_event.field-0 c.if-not-branch.false c.in_ok-try_event.ensures.is))
+
+pub returns-then-knows-clause-known : goal.returns-then-knows-clause-known
+returns-then-knows-clause-known c =
+    let gone = gone-of c.args.among.now c.args.self.now c.try_event.new.self c.args.at c.in_ok-try_event.field-0 c.if-not-branch.false c.in_ok-try_event.ensures.is in
+    let fine = sym c.in_ok-fails_now.ensures ∙ c.if-branch.false in
+    let knows = knows-more c.args.wanted.now c.args.among.now c.try_event.new.self c.args.known.now c.knows.new.self gone.at gone.fresh fine (c.knows.ensures.done c.args.wanted.now c.args.among.now)
+    c.knows.ensures.pending
+    (knows-gone c.args.wanted.now c.args.among.now c.args.self.now c.try_event.new.self c.args.known.now c.args.at c.requires.within.0 c.requires.within.1 c.requires.left c.requires.before gone fine
+    c.requires.known) in
+    let here = none-known c.args.wanted.now c.args.among.now c.try_event.new.self (c.knows.ensures.is c.args.wanted.now c.args.among.now c.requires.known.done c.if-knows.true) in
+    knows-left c.args.wanted.now c.args.among.now c.try_event.new.self c.leave.new.self c.leave.new.known c.leave.result here c.leave.ensures.is
+    (c.leave.ensures.done c.args.wanted.now c.args.among.now knows.done (over-from c.args.wanted.now c.args.among.now c.try_event.new.self c.knows.new.self here knows.pending))
+    (c.leave.ensures.pending c.args.wanted.now c.args.among.now c.try_event.new.self knows.pending)
+
+pub returns-then-knows-clause-falls : goal.returns-then-knows-clause-falls
+returns-then-knows-clause-falls c = less-both c.args.among.now c.args.self.now c.try_event.new.self c.leave.new.self c.leave.result
+    (less-gone c.args.among.now c.args.self.now c.try_event.new.self c.args.at c.requires.within.0 c.requires.within.1 c.requires.left
+    (gone-of c.args.among.now c.args.self.now c.try_event.new.self c.args.at c.in_ok-try_event.field-0 c.if-not-branch.false c.in_ok-try_event.ensures.is))
+    (less-left c.args.among.now c.try_event.new.self c.leave.new.self c.leave.result c.leave.ensures.is)
+
 pub returns-clause-out : goal.returns-clause-out
-returns-clause-out c = elim c.else-done.branch [
-  | else-done-via-then-done+in_ok-fails_now+else-branch w ↦
-      leaves-gone c.args.wanted.now c.args.among.now c.args.self.now c.try_event.new.self c.args.at c.requires.within.0 c.requires.within.1
-      c.requires.left c.requires.before
-      (gone-of c.args.among.now c.args.self.now c.try_event.new.self c.args.at c.in_ok-done.done w.if-done.true c.in_ok-done.ensures.is)
-      (sym w.in_ok-fails_now.ensures ∙ w.if-branch.false)
-  | else-done-via-else-done w ↦
-      leaves-stayed c.args.wanted.now c.args.among.now c.args.self.now c.try_event.new.self c.args.at c.requires.within.0 c.requires.before
-      (stayed-of c.args.among.now c.args.self.now c.try_event.new.self c.args.at c.in_ok-done.done w.if-done.false c.in_ok-done.ensures.is)
-]
+returns-clause-out c =
+    leaves-gone c.args.wanted.now c.args.among.now 0 c.args.self.now c.try_event.new.self c.args.at (omega arith) c.requires.within.0 c.requires.within.1 c.requires.left c.requires.before
+    (gone-of c.args.among.now c.args.self.now c.try_event.new.self c.args.at c.in_ok-try_event.field-0 c.if-not-branch.false c.in_ok-try_event.ensures.is)
+    (sym c.in_ok-fails_now.ensures ∙ c.if-branch.false)
 
 pub returns-clause-on : goal.returns-clause-on
-returns-clause-on c = elim c.else-done.branch [
-  | else-done-via-then-done+in_ok-fails_now+else-branch w ↦ λ from on.
-      on-gone c.args.among.now from c.args.self.now c.try_event.new.self c.args.at c.requires.within.1 c.requires.left on
-      (gone-of c.args.among.now c.args.self.now c.try_event.new.self c.args.at c.in_ok-done.done w.if-done.true c.in_ok-done.ensures.is)
-  | else-done-via-else-done w ↦ λ from on.
-      on-stayed c.args.among.now from c.args.self.now c.try_event.new.self c.args.at c.requires.within.0 c.requires.before on
-      (stayed-of c.args.among.now c.args.self.now c.try_event.new.self c.args.at c.in_ok-done.done w.if-done.false c.in_ok-done.ensures.is)
-]
+returns-clause-on c = λ from on.
+    on-gone c.args.among.now from c.args.self.now c.try_event.new.self c.args.at c.requires.within.1 c.requires.left on
+    (gone-of c.args.among.now c.args.self.now c.try_event.new.self c.args.at c.in_ok-try_event.field-0 c.if-not-branch.false c.in_ok-try_event.ensures.is)
+
+pub returns-clause-known : goal.returns-clause-known
+returns-clause-known c =
+    let gone = gone-of c.args.among.now c.args.self.now c.try_event.new.self c.args.at c.in_ok-try_event.field-0 c.if-not-branch.false c.in_ok-try_event.ensures.is in
+    let fine = sym c.in_ok-fails_now.ensures ∙ c.if-branch.false in
+    let knows = knows-more c.args.wanted.now c.args.among.now c.try_event.new.self c.args.known.now c.knows.new.self gone.at gone.fresh fine (c.knows.ensures.done c.args.wanted.now c.args.among.now)
+    c.knows.ensures.pending
+    (knows-gone c.args.wanted.now c.args.among.now c.args.self.now c.try_event.new.self c.args.known.now c.args.at c.requires.within.0 c.requires.within.1 c.requires.left c.requires.before gone fine
+    c.requires.known) in
+    knows
 
 pub returns-clause-falls : goal.returns-clause-falls
-returns-clause-falls c = elim c.else-done.branch [
-  | else-done-via-then-done+in_ok-fails_now+else-branch w ↦
-      less-gone c.args.among.now c.args.self.now c.try_event.new.self c.args.at c.requires.within.0 c.requires.within.1 c.requires.left
-      (gone-of c.args.among.now c.args.self.now c.try_event.new.self c.args.at c.in_ok-done.done w.if-done.true c.in_ok-done.ensures.is)
-  | else-done-via-else-done w ↦
-      less-stayed c.args.among.now c.args.self.now c.try_event.new.self c.args.at c.requires.within.0 c.requires.within.1 c.requires.left
-      (stayed-of c.args.among.now c.args.self.now c.try_event.new.self c.args.at c.in_ok-done.done w.if-done.false c.in_ok-done.ensures.is)
-]
+returns-clause-falls c = less-gone c.args.among.now c.args.self.now c.try_event.new.self c.args.at c.requires.within.0 c.requires.within.1 c.requires.left
+    (gone-of c.args.among.now c.args.self.now c.try_event.new.self c.args.at c.in_ok-try_event.field-0 c.if-not-branch.false c.in_ok-try_event.ensures.is)

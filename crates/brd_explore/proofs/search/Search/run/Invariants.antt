@@ -1,12 +1,14 @@
 -- What the turns so far have left out doesn't fail, and the path is still one from where the search began.
 use Rattle.brd_explore.specs.Schedules.{Place}
 use Rattle.brd_explore.specs.Searching.{IsSized, IsOnPath, NoneLeft, turns_left}
+use Rattle.brd_explore.specs.Knowing.{Knows}
 use Rattle.brd_explore.proofs.search.Search.run.Given as goal
 
 abbrev pub invariant-loop-watch : goal.invariant-loop-watch
 invariant-loop-watch g l = record {
   out : NoneLeft l.wanted l.among l.self → NoneLeft l.wanted l.among l.fn.self;
   on : (from : Place) → IsOnPath l.among from l.fn.self → IsOnPath l.among from l.self;
+  known : Knows l.wanted l.among l.self l.known;
   sized : IsSized l.self;
 }
 

@@ -10,5 +10,5 @@ returns-then-found-clause-is g c = branch-found c.args.wanted.now c.args.among.n
     c.fails.new.self _ c.in_ok-take.field-0 c.in_ok-found.found c.if-found.true c.requires.within c.requires.comes c.in_ok-branch.ensures.place
     c.in_ok-branch.ensures.path c.in_ok-branch.ensures.begins
     (subst (λ e. Takes c.in_ok-branch.branch e c.take.new.self c.in_ok-take.field-0) (read-event c.args.among.now c.args.at (Step 0) c.requires.within)
-    c.in_ok-take.ensures.is) c.take.ensures.saved c.in_ok-found.ensures
+    c.in_ok-take.ensures.is) c.take.ensures.saved c.in_ok-found.ensures.is
     (ap (λ (v : Vec Event Global). v.items) c.into_path.ensures)

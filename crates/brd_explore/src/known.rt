@@ -1,0 +1,262 @@
+//! What a search knows: places from which every schedule was searched, and none fails.
+
+ghost use Rattle.std.specs.Prelude.{◌≡◌, ◌∷◌, ◌++◌, ◌≤◌, ◌<◌, [], length, true, List as ListOf, IfOk, IfSome, IfNone};
+ghost use Rattle.brd_board.specs.declared.event.Event.{Event as EventOf};
+ghost use Rattle.brd_explore.specs.declared.search.Search.{Search as SearchOf};
+ghost use Rattle.brd_explore.specs.declared.wanted.Wanted.{Wanted as WantedOf};
+ghost use Rattle.brd_explore.specs.Searching.{NoneFails, place_of};
+ghost use Rattle.brd_explore.specs.Knowing.{place_of_kept, AreDone, AreOver, ArePending, IsKeptOf, Notes};
+
+use crate::bounds::Bounds;
+use crate::search::Search;
+use brd_base::NoMemory;
+use brd_board::Board;
+use std::alloc::Global;
+
+/// A place that a search is to know again.
+pub struct Kept {
+    board: Board,
+    left: Bounds,
+    last: u8,
+    /// How many places there were to go back to when the search came here.
+    height: usize,
+    /// Equal places have the same.
+    mark: u64,
+}
+
+/// The places that a search knows.
+pub struct Known {
+    /// Those from which there are schedules still to be searched, in the order in which the search came there.
+    pub(crate) pending: Vec<Kept>,
+    /// Those of which nothing is left to be searched. Each has the slot of its mark, from which it drops another one.
+    pub(crate) done: Vec<Option<Kept>>,
+    /// How many all these are, or more: no more are kept than `done` has slots.
+    pub(crate) count: usize,
+}
+
+impl Drop for Kept {
+    fn drop(self) {
+        let Kept {
+            board: _,
+            left: _,
+            last: _,
+            height: _,
+            mark: _,
+        } = self;
+    }
+}
+
+impl Drop for Known {
+    fn drop(self) {
+        let Known {
+            pending: _,
+            done: _,
+            count: _,
+        } = self;
+    }
+}
+
+impl Kept {
+    /// A copy of the place where a search is.
+    fn of(search: &Search, mark: u64) -> Result<Kept, NoMemory>
+        ensures { IfOk result (IsKeptOf search.now) }
+    {
+        Ok(Kept {
+            board: search.board.try_copy()?,
+            left: search.left,
+            last: search.last,
+            height: search.saved.len(),
+            mark,
+        })
+    }
+
+    /// Whether a search, whose place has this mark, is here. Where the marks differ the places do.
+    fn is_place_of(&self, search: &Search, mark: u64) -> bool
+        ensures { result ≡ true → place_of_kept self.now ≡ place_of search.now }
+    {
+        self.mark == mark
+            && self.last == search.last
+            && self.left == search.left
+            && self.board.same(&search.board)
+    }
+}
+
+impl Known {
+    /// Nothing, with room for so many places; for fewer, if there is no memory for more.
+    pub(crate) fn new(alloc: Global, most: usize) -> Known
+        ensures done { (wanted : WantedOf) (among : ListOf EventOf) → AreDone wanted among result }
+        ensures pending { result.pending.items ≡ [] }
+    {
+        let mut done = Vec::new(alloc);
+        for _ in 0..most {
+            let _ = done.push(None);
+        }
+        Known {
+            pending: Vec::new(alloc),
+            done,
+            count: 0,
+        }
+    }
+
+    /// Lets go what is pending, since another search begins.
+    pub(crate) fn begin(&mut self)
+        ensures pending { self.new.pending.items ≡ [] }
+        ensures done { self.new.done.items ≡ self.old.done.items }
+    {
+        self.count = self.count.saturating_sub(self.pending.len());
+        self.pending.clear();
+    }
+
+    /// Whether the place where a search is, to which it has just come, equals one from which every schedule was searched.
+    /// If not, it is kept as a pending one, where there is room and memory.
+    pub(crate) fn knows(&mut self, search: &Search) -> bool
+        ensures is { (wanted : WantedOf) (among : ListOf EventOf) → AreDone wanted among self.old → result ≡ true →
+            NoneFails wanted among (place_of search.now) }
+        ensures done { (wanted : WantedOf) (among : ListOf EventOf) → AreDone wanted among self.old →
+            AreDone wanted among self.new }
+        ensures pending { Notes search.now self.old self.new }
+    {
+        if self.done.is_empty() {
+            return false;
+        }
+        let mark = mark_of(search);
+        if self.has(search, mark) {
+            return true;
+        }
+        self.note(search, mark);
+        false
+    }
+
+    /// Whether the place where a search is, of this mark, equals one from which every schedule was searched.
+    fn has(&self, search: &Search, mark: u64) -> bool
+        ensures { (wanted : WantedOf) (among : ListOf EventOf) → AreDone wanted among self.now → result ≡ true →
+            NoneFails wanted among (place_of search.now) }
+    {
+        let Some(slot) = self.slot(mark) else {
+            return false;
+        };
+        match &self.done[slot] {
+            Some(kept) => kept.is_place_of(search, mark),
+            None => false,
+        }
+    }
+
+    /// Keeps the place where a search is, of this mark, as a pending one, where there is room and memory.
+    fn note(&mut self, search: &Search, mark: u64)
+        ensures done { (wanted : WantedOf) (among : ListOf EventOf) → AreDone wanted among self.old →
+            AreDone wanted among self.new }
+        ensures pending { Notes search.now self.old self.new }
+    {
+        if !self.has_room(mark) {
+            return;
+        }
+        let Ok(kept) = Kept::of(search, mark) else {
+            return;
+        };
+        if self.pending.push(kept).is_ok() {
+            self.count = self.count.saturating_add(1);
+        }
+    }
+
+    /// Whether another place can be kept. Where there is no room, the one goes that has the mark's slot.
+    fn has_room(&mut self, mark: u64) -> bool
+        ensures done { (wanted : WantedOf) (among : ListOf EventOf) → AreDone wanted among self.old →
+            AreDone wanted among self.new }
+        ensures pending { self.new.pending.items ≡ self.old.pending.items }
+    {
+        if self.count < self.done.len() {
+            return true;
+        }
+        let Some(slot) = self.slot(mark) else {
+            return false;
+        };
+        if self.done[slot].take().is_none() {
+            return false;
+        }
+        self.count = self.count.saturating_sub(1);
+        true
+    }
+
+    /// Notes that nothing is left to be searched from the pending places at this height of the stack or above.
+    pub(crate) fn settle(&mut self, height: usize)
+        ensures done { (wanted : WantedOf) (among : ListOf EventOf) → AreDone wanted among self.old →
+            AreOver wanted among height self.old → AreDone wanted among self.new }
+        ensures pending { (wanted : WantedOf) (among : ListOf EventOf) (search : SearchOf) →
+            ArePending wanted among search self.old → ArePending wanted among search self.new }
+    {
+        while let Some(kept) = self.next_over(height) {
+            self.keep(kept);
+        }
+    }
+
+    /// The pending place to which the search came last, if it is at this height or above.
+    fn next_over(&mut self, height: usize) -> Option<Kept>
+        ensures some { IfSome result
+            (λ kept. (self.old.pending.items ≡ self.new.pending.items ++ kept ∷ []) × (height ≤ kept.height)) }
+        ensures none { IfNone result (self.new.pending.items ≡ self.old.pending.items) }
+        ensures done { self.new.done.items ≡ self.old.done.items }
+    {
+        if self.pending.last()?.height < height {
+            return None;
+        }
+        self.pending.pop()
+    }
+
+    /// Keeps a place of which nothing is left to be searched, in place of the one that has its slot.
+    fn keep(&mut self, kept: Kept)
+        ensures done { (wanted : WantedOf) (among : ListOf EventOf) → AreDone wanted among self.old →
+            NoneFails wanted among (place_of_kept kept) → AreDone wanted among self.new }
+        ensures pending { self.new.pending.items ≡ self.old.pending.items }
+    {
+        let Some(slot) = self.slot(kept.mark) else {
+            return;
+        };
+        if self.done[slot].replace(kept).is_some() {
+            self.count = self.count.saturating_sub(1);
+        }
+    }
+
+    /// The slot of a mark, if there is any.
+    fn slot(&self, mark: u64) -> Option<usize>
+        ensures { IfSome result (λ slot. slot < length self.now.done.items) }
+    {
+        let len = self.done.len();
+        if len == 0 {
+            return None;
+        }
+        Some((mark % len as u64) as usize)
+    }
+}
+
+/// A number that equal places have in common, and other ones hardly (FNV-1a, by words): from the clock, the console, what
+/// is left, and what executes.
+fn mark_of(search: &Search) -> u64 {
+    let board = &search.board;
+    let left = search.left;
+    let mut mark = 0xcbf2_9ce4_8422_2325;
+    for cpu in 1..9u8 {
+        if let Some(context) = board.registers(cpu) {
+            mark = marked_by_registers(marked(mark, u64::from(context.pc())), context.registers());
+        }
+    }
+    mark = marked(mark, u64::from(left.events));
+    mark = marked(mark, u64::from(left.preemptions));
+    mark = marked(mark, u64::from(search.last));
+    mark = marked(mark, board.console().len() as u64);
+    mark = marked(mark, board.now());
+    mark ^ (mark >> 32)
+}
+
+/// A mark, and what registers hold.
+fn marked_by_registers(mark: u64, registers: &[u32]) -> u64 {
+    let mut mark = mark;
+    for word in registers {
+        mark = marked(mark, u64::from(*word));
+    }
+    mark
+}
+
+/// A mark, and a number more.
+fn marked(mark: u64, number: u64) -> u64 {
+    (mark ^ number).wrapping_mul(0x0000_0100_0000_01b3)
+}
