@@ -1,5 +1,8 @@
 //! What is wrong with the options of a search.
 
+ghost use Rattle.std.specs.Prelude.{◌≡◌};
+
+use brd_base::NoMemory;
 use thiserror::Error;
 
 /// What is wrong with the options of a search.
@@ -11,6 +14,12 @@ pub enum SearchFault {
     /// There are more events than there may be.
     #[error("--events is a number from 0 to 1,000,000")]
     Events,
+    /// The fair end has more rounds than it may have.
+    #[error("--fair is a number of rounds from 0 to 20,000")]
+    Fair,
+    /// More is to be remembered than may be.
+    #[error("--remember is a number of MiB from 0 to 4,096")]
+    Remember,
     /// The lines aren't numbers of interrupt lines.
     #[error("--lines has interrupt lines from 0 to 31 with commas between them, as 3,4")]
     Lines,
@@ -24,7 +33,23 @@ pub enum SearchFault {
     /// A place of a word is no symbol of the image.
     #[error("--word names a symbol that the object file doesn't have")]
     NoSymbol,
+    /// The text of the console has a backslash that begins no escape.
+    #[error("--console has a text, in which \\n, \\r, \\t, \\\\ and \\xHH stand for a byte")]
+    Console,
+    /// A journal that is made shorter has more events than it may have.
+    #[error("the journal has more than 1,000,000 events")]
+    Journal,
     /// A shard isn't one of its number.
     #[error("--shard is K/M, shard K of M, with K from 1 to M")]
     Shard,
+}
+
+impl From<NoMemory> for SearchFault {
+    ghost use Rattle.brd_search.specs.declared.fault.SearchFault.TheVariants.{NoMemory as no_memory};
+
+    ghost from_gives = { λ _ fault. fault ≡ no_memory };
+
+    fn from(_e: NoMemory) -> Self {
+        SearchFault::NoMemory
+    }
 }

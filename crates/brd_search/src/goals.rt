@@ -1,75 +1,152 @@
 //! What words should be, as an option says it.
 
+ghost use Rattle.std.specs.Prelude.{◌≡◌, IfErr, OnOk};
+ghost use Rattle.brd_mem.specs.Image.{symbol_value};
+ghost use Rattle.brd_search.specs.Plans as plans;
+ghost use Rattle.brd_search.specs.Plans.{Adds, IsOfGoal, IsOfGoals, goals_of, parts_of, text_of};
+
 use crate::fault::SearchFault;
-use crate::lists::{parted, piece};
 use brd_base::List;
 use brd_explore::Failure;
 use brd_mem::Symbol;
-use brd_text::{number, plain_decimal};
+use brd_text::{is_digit, number, parted, piece};
 
-/// What the words of a text should be: for each piece between commas the failure that is looked for.
-pub(crate) fn add_goals(
-    text: &str,
-    symbols: &[Symbol],
+/// Adds the failures that the words of an option look for.
+pub(crate) fn add_words(
     failures: &mut List<Failure>,
-) -> Result<(), SearchFault> {
-    let bytes = text.as_bytes();
-    let mut rest = bytes;
-    for _ in 0..bytes.len() {
+    words: Option<&str>,
+    symbols: &[Symbol],
+) -> Result<(), SearchFault>
+    ensures ok { OnOk result (Adds (goals_of symbols.now (text_of words.entry)) failures.old failures.new) }
+    ensures err { IfErr result (IsOfGoals symbols.now (text_of words.entry)) }
+{
+    match words {
+        Some(text) => add_goals(failures, text.as_bytes(), symbols),
+        None => Ok(()),
+    }
+}
+
+/// Adds for each word between the commas of a text the failure that is looked for.
+fn add_goals(
+    failures: &mut List<Failure>,
+    text: &[u8],
+    symbols: &[Symbol],
+) -> Result<(), SearchFault>
+    ensures ok { OnOk result (Adds (goals_of symbols.now (Some text.now)) failures.old failures.new) }
+    ensures err { IfErr result (IsOfGoals symbols.now (Some text.now)) }
+{
+    let mut rest = text;
+    'pieces: loop {
         let (word, after) = piece(rest);
         let failure = goal_of(word, symbols)?;
-        if failures.push(failure).is_err() {
-            return Err(SearchFault::NoMemory);
-        }
+        failures.push(failure)?;
         let Some(left) = after else {
             return Ok(());
         };
         rest = left;
     }
-    Err(SearchFault::Word)
 }
 
 /// The failure that `PLACE=VALUE` or `PLACE=LEAST..MOST` looks for.
-fn goal_of(word: &[u8], symbols: &[Symbol]) -> Result<Failure, SearchFault> {
+#[tactic(auto, unfolding(crate::specs::Plans::goal_of, crate::specs::Plans::parts_of))]
+fn goal_of(word: &[u8], symbols: &[Symbol]) -> Result<Failure, SearchFault>
+    ensures is { result ≡ plans.goal_of symbols.now word.now }
+    ensures fault { IfErr result IsOfGoal }
+{
     let (place, Some(value)) = parted(word, b'=') else {
         return Err(SearchFault::Word);
     };
     let address = address_of(place, symbols)?;
-    let (least, Some(rest)) = parted(value, b'.') else {
-        return match number(value) {
-            Some(value) => Ok(Failure::Word { address, value }),
-            None => Err(SearchFault::Word),
-        };
+    failure_of(address, value)
+}
+
+/// The failure of the word at an address that `VALUE` or `LEAST..MOST` says.
+#[tactic(auto, unfolding(crate::specs::Plans::parts_of))]
+fn failure_of(address: u32, value: &[u8]) -> Result<Failure, SearchFault>
+    ensures is { result ≡ plans.value_by address value.now (parts_of 46 value.now) }
+    ensures fault { IfErr result IsOfGoal }
+{
+    let (least, Some(most)) = parted(value, b'.') else {
+        return value_at(address, number(value));
     };
-    match (number(least), most_of(rest)) {
-        (Some(least), Some(most)) => {
-            Ok(Failure::Outside {
-                address,
-                least,
-                most,
-            })
-        }
-        _ => Err(SearchFault::Word),
+    outside(address, number(least), most_of(most))
+}
+
+/// The failure of the word at an address that is to be a value, where there is one.
+fn value_at(address: u32, value: Option<u32>) -> Result<Failure, SearchFault>
+    ensures is { result ≡ plans.value_at address value }
+    ensures fault { IfErr result IsOfGoal }
+{
+    match value {
+        Some(value) => Ok(Failure::Word { address, value }),
+        None => Err(SearchFault::Word),
     }
+}
+
+/// The failure of the word at an address that is to lie in a range, where its ends are there.
+fn outside(address: u32, least: Option<u32>, most: Option<u32>) -> Result<Failure, SearchFault>
+    ensures is { result ≡ plans.outside address least most }
+    ensures fault { IfErr result IsOfGoal }
+{
+    let Some(least) = least else {
+        return Err(SearchFault::Word);
+    };
+    let Some(most) = most else {
+        return Err(SearchFault::Word);
+    };
+    Ok(Failure::Outside {
+        address,
+        least,
+        most,
+    })
 }
 
 /// The number after the second point of a range.
-fn most_of(rest: &[u8]) -> Option<u32> {
-    match rest.split_first() {
-        Some((b'.', most)) => number(most),
-        _ => None,
+fn most_of(rest: &[u8]) -> Option<u32>
+    ensures { result ≡ plans.most_of rest.now }
+{
+    let (first, most) = rest.split_first()?;
+    if *first != b'.' {
+        return None;
+    }
+    number(most)
+}
+
+/// The address of a place: a number where it begins with a digit, or the value of a symbol.
+fn address_of(place: &[u8], symbols: &[Symbol]) -> Result<u32, SearchFault>
+    ensures is { result ≡ plans.address_of symbols.now place.now }
+    ensures fault { IfErr result IsOfGoal }
+{
+    if begins_with_digit(place) {
+        return match number(place) {
+            Some(address) => Ok(address),
+            None => Err(SearchFault::Word),
+        };
+    }
+    match symbol_value(symbols, place) {
+        Some(address) => Ok(address),
+        None => Err(SearchFault::NoSymbol),
     }
 }
 
-/// The address of a place: the value of a symbol, or a hexadecimal number.
-fn address_of(place: &[u8], symbols: &[Symbol]) -> Result<u32, SearchFault> {
-    if let Some(b'0'..=b'9') = place.first() {
-        return number(place).ok_or(SearchFault::Word);
+/// Whether a text begins with a digit.
+fn begins_with_digit(text: &[u8]) -> bool
+    ensures { result ≡ plans.begins_with_digit text.now }
+{
+    match text.first() {
+        Some(first) => is_digit(*first),
+        None => false,
     }
+}
+
+/// The value of the symbol of that name.
+fn symbol_value(symbols: &[Symbol], name: &[u8]) -> Option<u32>
+    ensures { result ≡ symbol_value symbols.now name.now }
+{
     for symbol in symbols {
-        if symbol.name.as_slice() == place {
-            return Ok(symbol.value);
+        if name == symbol.name.as_slice() {
+            return Some(symbol.value);
         }
     }
-    Err(SearchFault::NoSymbol)
+    None
 }

@@ -1,16 +1,24 @@
 //! What is asked of a search through schedules, and what is told of it.
+//!
+//! `specs/Plans.antt` says which search options ask for, and what may be wrong with them; `specs/Searches.antt` what a
+//! search answers; `specs/Shown.antt` after which events a board shows what fails.
 #![tactic(auto)]
 
+mod coming;
+mod console;
 mod fault;
 mod goals;
-mod lists;
 mod options;
 mod plan;
 mod searching;
+mod shown;
 mod told;
+mod wanting;
 
 pub use fault::SearchFault;
 pub use options::{Looks, SearchOptions, Sizes};
 pub use plan::{Plan, plan_of};
 pub use searching::{Searched, search};
-pub use told::{put_failure, put_none, put_schedule};
+pub use shown::shown_events;
+pub use told::{put_failure, put_found, put_none, put_schedule};
+pub use wanting::wanted_of;

@@ -26,6 +26,9 @@ pub struct Looks<'a> {
     pub on: bool,
     /// Words that aren't as they should be, as `count=2,inside=0..1`.
     pub words: Option<&'a str>,
+    /// A console that isn't as it should be, as `done\n`: `\n`, `\r`, `\t`, `\\` and `\xHH`, with two hexadecimal
+    /// digits, stand for a byte.
+    pub console: Option<&'a str>,
 }
 
 /// The options of a search.
@@ -41,4 +44,6 @@ pub struct SearchOptions<'a> {
     pub shortest: bool,
     /// Which shard is searched, as `K/M`.
     pub shard: Option<&'a str>,
+    /// How many MiB of states the search remembers at most.
+    pub remember: u32,
 }

@@ -1,23 +1,27 @@
 //! What is searched, and for what.
 
-ghost use Rattle.std.specs.Prelude.{◌<◌, IfOk};
+ghost use Rattle.std.specs.Prelude.{MatchResult};
+ghost use Rattle.brd_search.specs.Plans.{IsPlan, KeepsFromPlanning, IsSized, IsOfSizes, IsShard, IsNoShard, text_of};
 
+use crate::coming::may_come;
 use crate::fault::SearchFault;
-use crate::goals::add_goals;
-use crate::lists::{parted, piece};
 use crate::options::{SearchOptions, Sizes};
-use brd_base::{List, NoMemory};
+use crate::wanting::wanted_of;
+use brd_base::List;
 use brd_board::Event;
-use brd_explore::{Bounds, Failure, Shard, Wanted};
+use brd_explore::{Bounds, Shard, Wanted};
 use brd_mem::Symbol;
-use brd_text::plain_decimal;
+use brd_text::{parted, plain_decimal};
 use std::alloc::Global;
 
-/// The most events of a schedule.
+/// The most events of a schedule (own choice).
 const MOST_EVENTS: u32 = 1_000_000;
 
-/// How many steps each processor takes in a round of the fair end, after which comes a tick (own choice).
-const ROUND: u32 = 16;
+/// How many MiB of states are remembered at most (own choice).
+const MOST_REMEMBERED: u32 = 4_096;
+
+/// How many shards there are at most (own choice).
+const MOST_SHARDS: u64 = 1_000_000;
 
 /// A search.
 pub struct Plan {
@@ -31,6 +35,8 @@ pub struct Plan {
     pub shard: Shard,
     /// Whether a schedule that is found is to have as few events as it can.
     pub shortest: bool,
+    /// How many MiB of places are remembered at most.
+    pub remember: u32,
 }
 
 /// Written out, so that a function that lets one go is proved with a call.
@@ -42,45 +48,42 @@ impl Drop for Plan {
             wanted: _,
             shard: _,
             shortest: _,
+            remember: _,
         } = self;
     }
 }
 
-/// The search that options ask for, of a board of so many processors whose image has these symbols. `console` is what
-/// the console should have.
+/// The search that options ask for, of a board of so many processors whose image has these symbols.
+///
+/// # Errors
+///
+/// What is wrong with the options, or `NoMemory`.
 pub fn plan_of(
     alloc: Global,
     options: &SearchOptions<'_>,
     cpus: u8,
     symbols: &[Symbol],
-    console: Option<&[u8]>,
 ) -> Result<Plan, SearchFault>
-    ensures { IfOk result (λ plan. 0 < plan.shard.of) }
+    ensures { MatchResult result (IsPlan options.now cpus symbols.now) (KeepsFromPlanning options.now symbols.now) }
 {
     let bounds = bounds_of(options)?;
     let shard = shard_of(options.shard)?;
-    let among = among_of(alloc, options, cpus)?;
-    let failures = failures_of(alloc, options, symbols, console)?;
-    let round = match round_of(alloc, cpus) {
-        Ok(round) => round,
-        Err(NoMemory) => return Err(SearchFault::NoMemory),
-    };
-    let wanted = Wanted {
-        failures,
-        round,
-        rounds: options.sizes.fair,
-    };
+    let among = may_come(alloc, options, cpus)?;
+    let wanted = wanted_of(alloc, &options.looks, options.sizes.fair, cpus, symbols)?;
     Ok(Plan {
         bounds,
         among,
         wanted,
         shard,
         shortest: options.shortest,
+        remember: options.remember,
     })
 }
 
-/// The bounds that options give.
-fn bounds_of(options: &SearchOptions<'_>) -> Result<Bounds, SearchFault> {
+/// The bounds that options give. They ask neither for too many events nor for too much that is remembered.
+fn bounds_of(options: &SearchOptions<'_>) -> Result<Bounds, SearchFault>
+    ensures { MatchResult result (IsSized options.now) (IsOfSizes options.now) }
+{
     let Sizes {
         events,
         preemptions,
@@ -91,8 +94,8 @@ fn bounds_of(options: &SearchOptions<'_>) -> Result<Bounds, SearchFault> {
     if events > MOST_EVENTS {
         return Err(SearchFault::Events);
     }
-    if raises > 0 && options.lines.is_none() {
-        return Err(SearchFault::NoLines);
+    if options.remember > MOST_REMEMBERED {
+        return Err(SearchFault::Remember);
     }
     Ok(Bounds {
         events,
@@ -104,141 +107,33 @@ fn bounds_of(options: &SearchOptions<'_>) -> Result<Bounds, SearchFault> {
 
 /// The shard that `K/M` says; the whole where nothing is said.
 fn shard_of(text: Option<&str>) -> Result<Shard, SearchFault>
-    ensures { IfOk result (λ shard. shard.number < shard.of) }
+    ensures { MatchResult result (IsShard (text_of text.entry)) (IsNoShard (text_of text.entry)) }
 {
-    let Some(text) = text else {
-        return Ok(Shard { number: 0, of: 1 });
-    };
-    let (number, Some(of)) = parted(text.as_bytes(), b'/') else {
+    match text {
+        Some(text) => shard_in(text.as_bytes()),
+        None => Ok(Shard { number: 0, of: 1 }),
+    }
+}
+
+/// The shard that `K/M` says.
+#[tactic(auto, unfolding(crate::specs::Plans::parts_of))]
+fn shard_in(text: &[u8]) -> Result<Shard, SearchFault>
+    ensures { MatchResult result (IsShard (Some text.now)) (IsNoShard (Some text.now)) }
+{
+    let (number, Some(count)) = parted(text, b'/') else {
         return Err(SearchFault::Shard);
     };
-    match (
-        plain_decimal(number, 1_000_000),
-        plain_decimal(of, 1_000_000),
-    ) {
-        (Some(number), Some(of)) if 0 < number && number <= of => {
-            Ok(Shard {
-                number: (number - 1) as u32,
-                of: of as u32,
-            })
-        }
-        _ => Err(SearchFault::Shard),
-    }
-}
-
-/// The events that may come: a step of each processor, a tick, each of the lines.
-fn among_of(
-    alloc: Global,
-    options: &SearchOptions<'_>,
-    cpus: u8,
-) -> Result<List<Event>, SearchFault> {
-    let mut among = List::new(alloc);
-    let steps = add_steps(&mut among, cpus);
-    if steps.is_err() {
-        return Err(SearchFault::NoMemory);
-    }
-    if options.sizes.ticks > 0 && among.push(Event::Tick).is_err() {
-        return Err(SearchFault::NoMemory);
-    }
-    match options.lines {
-        Some(text) if options.sizes.raises > 0 => add_lines(&mut among, text)?,
-        _ => {}
-    }
-    Ok(among)
-}
-
-/// Adds a step of each processor.
-fn add_steps(events: &mut List<Event>, cpus: u8) -> Result<(), NoMemory> {
-    for cpu in 0..cpus {
-        events.push(Event::Step(cpu.saturating_add(1)))?;
-    }
-    Ok(())
-}
-
-/// Adds a raise of each line that a text names.
-fn add_lines(events: &mut List<Event>, text: &str) -> Result<(), SearchFault> {
-    let bytes = text.as_bytes();
-    let mut rest = bytes;
-    for _ in 0..bytes.len() {
-        let (word, after) = piece(rest);
-        let Some(line) = plain_decimal(word, 31) else {
-            return Err(SearchFault::Lines);
-        };
-        if events.push(Event::Raise(line as u8)).is_err() {
-            return Err(SearchFault::NoMemory);
-        }
-        let Some(left) = after else {
-            return Ok(());
-        };
-        rest = left;
-    }
-    Err(SearchFault::Lines)
-}
-
-/// What is looked for.
-fn failures_of(
-    alloc: Global,
-    options: &SearchOptions<'_>,
-    symbols: &[Symbol],
-    console: Option<&[u8]>,
-) -> Result<List<Failure>, SearchFault> {
-    let mut failures = List::new(alloc);
-    let nothing = says_nothing(options, console);
-    if add_kinds(&mut failures, options, nothing).is_err() {
-        return Err(SearchFault::NoMemory);
-    }
-    if let Some(words) = options.looks.words {
-        add_goals(words, symbols, &mut failures)?;
-    }
-    match add_console(alloc, &mut failures, console) {
-        Ok(()) => Ok(failures),
-        Err(NoMemory) => Err(SearchFault::NoMemory),
-    }
-}
-
-/// Whether options don't say what is looked for.
-fn says_nothing(options: &SearchOptions<'_>, console: Option<&[u8]>) -> bool {
-    let looks = options.looks;
-    !looks.exception && !looks.deadlock && !looks.on && looks.words.is_none() && console.is_none()
-}
-
-/// Adds the failures that have no value; exceptions and deadlocks where nothing is looked for.
-fn add_kinds(
-    failures: &mut List<Failure>,
-    options: &SearchOptions<'_>,
-    nothing: bool,
-) -> Result<(), NoMemory> {
-    if options.looks.exception || nothing {
-        failures.push(Failure::Exception)?;
-    }
-    if options.looks.deadlock || nothing {
-        failures.push(Failure::Deadlock)?;
-    }
-    if options.looks.on {
-        failures.push(Failure::On)?;
-    }
-    Ok(())
-}
-
-/// Adds the wanted console.
-fn add_console(
-    alloc: Global,
-    failures: &mut List<Failure>,
-    console: Option<&[u8]>,
-) -> Result<(), NoMemory> {
-    let Some(text) = console else {
-        return Ok(());
+    let Some(number) = plain_decimal(number, MOST_SHARDS) else {
+        return Err(SearchFault::Shard);
     };
-    let text = List::from_slice(alloc, text)?;
-    failures.push(Failure::Console(text))
-}
-
-/// A round of the fair end: each processor takes a step in turn, some times over, and then a tick passes.
-fn round_of(alloc: Global, cpus: u8) -> Result<List<Event>, NoMemory> {
-    let mut round = List::new(alloc);
-    for _ in 0..ROUND {
-        add_steps(&mut round, cpus)?;
+    let Some(count) = plain_decimal(count, MOST_SHARDS) else {
+        return Err(SearchFault::Shard);
+    };
+    if number == 0 || count < number {
+        return Err(SearchFault::Shard);
     }
-    round.push(Event::Tick)?;
-    Ok(round)
+    Ok(Shard {
+        number: (number - 1) as u32,
+        of: count as u32,
+    })
 }

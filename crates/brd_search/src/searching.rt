@@ -90,6 +90,7 @@ fn within<W: Watch>(
         plan.among.as_slice(),
         plan.shard,
         &plan.wanted,
+        places(board, plan.remember),
         watch,
     )?;
     Ok(Searched {
@@ -98,6 +99,37 @@ fn within<W: Watch>(
         tried,
     })
 }
+
+/// How many bytes a place takes beside its RAM, about (own choice).
+const BESIDE: usize = 8_192;
+
+/// How many bytes a MiB has.
+const MEBIBYTE: usize = 1_048_576;
+
+/// How many places of a board so many MiB hold.
+fn places(board: &Board, mebibytes: u32) -> usize {
+    let place = ram_len(board).saturating_add(BESIDE).max(1);
+    mebibytes as usize * MEBIBYTE / place
+}
+
+/// How many bytes of RAM a board has, in whole pages.
+fn ram_len(board: &Board) -> usize {
+    for page in 0..PAGES {
+        if board.memory(RAM + page * PAGE).is_none() {
+            return (page * PAGE) as usize;
+        }
+    }
+    (PAGES * PAGE) as usize
+}
+
+/// Where RAM begins.
+const RAM: u32 = 0x8000_0000;
+
+/// How many bytes a page has, of which a RAM has some.
+const PAGE: u32 = 4_096;
+
+/// How many pages a RAM has at most.
+const PAGES: u32 = 4_096;
 
 /// Searches for a schedule with fewer events as long as there is one.
 fn shortest<W: Watch>(

@@ -1,22 +1,16 @@
 //! What is told of a search: what fails, the few switches that matter, and within which bounds nothing fails.
 
 use crate::plan::Plan;
-use crate::searching::Searched;
+use crate::shown::shows_now;
 use brd_base::NoMemory;
 use brd_board::{Board, Event};
-use brd_explore::{Bounds, Failure};
+use brd_explore::{Bounds, Failure, Wanted};
 use brd_isa::decode;
 use brd_listing::{write_instruction, write_place};
 use brd_mem::Symbol;
 use brd_text::hex_digits;
 use brd_word::word_of;
 use std::alloc::Global;
-
-/// What is written, and what it needs.
-#[derive(Clone, Copy)]
-struct Names<'a> {
-    symbols: &'a [Symbol],
-}
 
 /// Puts a text at the end.
 fn put(out: &mut Vec<u8>, text: &str) -> Result<(), NoMemory> {
@@ -52,9 +46,8 @@ fn put_bounds(alloc: Global, out: &mut Vec<u8>, bounds: Bounds) -> Result<(), No
     put_count(alloc, out, u64::from(bounds.raises), "raise")
 }
 
-/// Puts at the end that no schedule fails, and of how many within which bounds.
+/// Puts at the end of how many schedules none fails, and within which bounds, as what follows "none of ".
 pub fn put_none(alloc: Global, plan: &Plan, tried: u64, out: &mut Vec<u8>) -> Result<(), NoMemory> {
-    put(out, "none of ")?;
     put_count(alloc, out, tried, "schedule")?;
     put(out, " fails: at most ")?;
     put_bounds(alloc, out, plan.bounds)?;
@@ -65,6 +58,45 @@ pub fn put_none(alloc: Global, plan: &Plan, tried: u64, out: &mut Vec<u8>) -> Re
         put_number(alloc, out, u64::from(plan.shard.of))?;
     }
     put(out, "\n")
+}
+
+/// Puts at the end how many events a schedule has, whether what fails shows only at its fair end, and what fails; and
+/// below that the schedule.
+pub fn put_found(
+    alloc: Global,
+    symbols: &[Symbol],
+    board: &Board,
+    wanted: &Wanted,
+    events: &[Event],
+    out: &mut Vec<u8>,
+) -> Result<(), NoMemory> {
+    put(out, "after ")?;
+    put_count(alloc, out, events.len() as u64, "event")?;
+    if wanted.rounds > 0 && !shows_now(wanted, board, events)? {
+        put(out, " and the fair end")?;
+    }
+    put(out, ": ")?;
+    put_shown(alloc, symbols, board, wanted, events, out)?;
+    put(out, "\n")?;
+    let mut copy = board.try_copy()?;
+    put_schedule(alloc, symbols, &mut copy, events, out)
+}
+
+/// Puts at the end the first failure that the board shows after events, or at their fair end.
+fn put_shown(
+    alloc: Global,
+    symbols: &[Symbol],
+    board: &Board,
+    wanted: &Wanted,
+    events: &[Event],
+    out: &mut Vec<u8>,
+) -> Result<(), NoMemory> {
+    let mut copy = board.try_copy()?;
+    copy.play(events);
+    match wanted.shown(&mut copy)? {
+        Some(failure) => put_failure(alloc, symbols, &copy, failure, out),
+        None => put(out, "nothing"),
+    }
 }
 
 /// Puts at the end what fails on a board.

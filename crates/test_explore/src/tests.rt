@@ -1,6 +1,8 @@
-//! Races that are found, their repaired forms, schedules that were counted by hand, and what is left of one.
+//! Races that are found, their repaired forms, schedules that were counted by hand, what is left of one, and what
+//! searches are asked for.
 
 mod find;
+mod options;
 mod shrink;
 mod sources;
 mod told;

@@ -274,8 +274,8 @@ fn bounds_of(case: &Case) -> Bounds {
     }
 }
 
-/// What is told of the search of a case at a board.
-fn search_of(alloc: Global, board: &Board, case: &Case) -> Told {
+/// What is told of the search of a case at a board, of which so many places are remembered.
+fn search_of(alloc: Global, board: &Board, case: &Case, remember: usize) -> Told {
     let Some(wanted) = wanted_of(alloc, case) else {
         return Told::Nothing;
     };
@@ -285,6 +285,7 @@ fn search_of(alloc: Global, board: &Board, case: &Case) -> Told {
         bounds_of(case),
         case.among,
         &wanted,
+        remember,
         &mut Nobody,
     ) {
         Ok(found) => told_of(found.schedule.is_some(), found.tried),
@@ -304,7 +305,7 @@ fn told_of(found: bool, tried: u64) -> Told {
 /// Whether the search of a case comes to what it should.
 fn goes_well(alloc: Global, case: &Case) -> bool {
     match build(alloc, case.source.as_bytes(), case.config.as_bytes()) {
-        Ok(board) => agree(search_of(alloc, &board, case), case.answer),
+        Ok(board) => agree(search_of(alloc, &board, case, 0), case.answer),
         Err(_) => false,
     }
 }
@@ -377,6 +378,7 @@ fn search_of_shard(alloc: Global, board: &Board, case: &Case, shard: Shard) -> T
         case.among,
         shard,
         &wanted,
+        0,
         &mut Nobody,
     ) {
         Ok(found) => told_of(found.schedule.is_some(), found.tried),
@@ -388,7 +390,7 @@ fn search_of_shard(alloc: Global, board: &Board, case: &Case, shard: Shard) -> T
 fn goes_well_in_shards(alloc: Global, case: &Case) -> bool {
     match build(alloc, case.source.as_bytes(), case.config.as_bytes()) {
         Ok(board) => {
-            let whole = search_of(alloc, &board, case);
+            let whole = search_of(alloc, &board, case, 0);
             search_of_shards(alloc, &board, case, 1) == whole
                 && search_of_shards(alloc, &board, case, 3) == whole
         }
@@ -410,4 +412,42 @@ fn first_wrong_in_shards(alloc: Global) -> Option<usize> {
 #[test]
 fn shards_find_the_same(rt: HostRuntime) -> Result<(), Fail> {
     none_wrong(first_wrong_in_shards(rt.alloc()))
+}
+
+/// How many places are remembered.
+const MANY: usize = 10_000;
+
+/// Whether the search of a case comes to the same where places are remembered, and tries no more schedules.
+fn goes_well_with_memory(alloc: Global, case: &Case) -> bool {
+    match build(alloc, case.source.as_bytes(), case.config.as_bytes()) {
+        Ok(board) => {
+            let whole = search_of(alloc, &board, case, 0);
+            is_no_more(search_of(alloc, &board, case, MANY), whole)
+        }
+        Err(_) => false,
+    }
+}
+
+/// Whether what is told is the same, but for fewer schedules.
+fn is_no_more(told: Told, whole: Told) -> bool {
+    match (told, whole) {
+        (Told::NoneOf(tried), Told::NoneOf(all)) => tried <= all,
+        _ => told == whole,
+    }
+}
+
+/// The first case that comes to something else where places are remembered.
+fn first_wrong_with_memory(alloc: Global) -> Option<usize> {
+    for (row, case) in CASES.iter().enumerate() {
+        if !goes_well_with_memory(alloc, case) {
+            return Some(row);
+        }
+    }
+    None
+}
+
+/// Where places are remembered a search finds the same.
+#[test]
+fn what_is_remembered_changes_no_answer(rt: HostRuntime) -> Result<(), Fail> {
+    none_wrong(first_wrong_with_memory(rt.alloc()))
 }

@@ -6,8 +6,7 @@ use brd_board::Board;
 use brd_explore::Nobody;
 use brd_image::{Loaded, build};
 use brd_search::{
-    Looks, Plan, SearchOptions, Searched, Sizes, plan_of, put_failure, put_none, put_schedule,
-    search,
+    Looks, Plan, SearchOptions, Searched, Sizes, plan_of, put_found, put_none, search,
 };
 use std::alloc::Global;
 use std::test::Fail;
@@ -19,6 +18,7 @@ struct Case {
     config: &'static str,
     events: u32,
     preemptions: u32,
+    fair: u32,
     looks: Looks<'static>,
     told: &'static str,
 }
@@ -28,6 +28,7 @@ const LOST: Looks = Looks {
     deadlock: false,
     on: false,
     words: Some("0x80000000=2"),
+    console: None,
 };
 
 const DEAD: Looks = Looks {
@@ -35,6 +36,7 @@ const DEAD: Looks = Looks {
     deadlock: true,
     on: false,
     words: None,
+    console: None,
 };
 
 const CASES: &[Case] = &[
@@ -43,11 +45,22 @@ const CASES: &[Case] = &[
         config: TWO,
         events: 60,
         preemptions: 2,
+        fair: 0,
         looks: LOST,
-        told: "       0  processor 2 goes on at 80000010
+        told: "the word at 80000000 is 1, not 2 after 20 events
+       0  processor 2 goes on at 80000010
        3  processor 2 stops before addiu $t0, $t0, 1 at 8000001c; processor 1 goes on at 80000010
       13  processor 2 goes on at 8000001c
-the word at 80000000 is 1, not 2
+",
+    },
+    Case {
+        source: LOST_UPDATE,
+        config: TWO,
+        events: 60,
+        preemptions: 2,
+        fair: 1,
+        looks: LOST,
+        told: "the word at 80000000 is 1, not 2 after 0 events, at the fair end
 ",
     },
     Case {
@@ -55,8 +68,9 @@ the word at 80000000 is 1, not 2
         config: TWO,
         events: 60,
         preemptions: 1,
+        fair: 0,
         looks: LOST,
-        told: "none of 24 schedules fails: at most 60 events, 1 preemption, 0 ticks and 0 raises
+        told: "24 schedules fails: at most 60 events, 1 preemption, 0 ticks and 0 raises
 ",
     },
     Case {
@@ -64,11 +78,12 @@ the word at 80000000 is 1, not 2
         config: APART,
         events: 60,
         preemptions: 2,
+        fair: 0,
         looks: DEAD,
-        told: "       0  processor 2 goes on at 80000020
+        told: "a deadlock: nobody goes on, and a task waits after 12 events
+       0  processor 2 goes on at 80000020
        3  processor 2 stops before addiu $a0, $zero, 1 at 8000002c; processor 1 goes on at 80000000
        9  processor 2 goes on at 8000002c
-a deadlock: nobody goes on, and a task waits
 ",
     },
 ];
@@ -76,7 +91,7 @@ a deadlock: nobody goes on, and a task waits
 /// What is told of the search of a case.
 fn told_of(alloc: Global, case: &Case) -> Option<Vec<u8>> {
     let board = build(alloc, case.source.as_bytes(), case.config.as_bytes()).ok()?;
-    let plan = plan_of(alloc, &options_of(case), 2, &[], None).ok()?;
+    let plan = plan_of(alloc, &options_of(case), 2, &[]).ok()?;
     let searched = search(alloc, &board, &plan, &mut Nobody).ok()?;
     let mut out = Vec::new(alloc);
     told(alloc, &board, &plan, &searched, &mut out).ok()?;
@@ -91,16 +106,17 @@ fn options_of(case: &Case) -> SearchOptions<'static> {
             preemptions: case.preemptions,
             ticks: 0,
             raises: 0,
-            fair: 0,
+            fair: case.fair,
         },
         lines: None,
         looks: case.looks,
         shortest: true,
         shard: None,
+        remember: 0,
     }
 }
 
-/// Tells of a search: the switches of the schedule that it has found, and what fails there; or that there is none.
+/// Tells of a search: what fails, and the switches of the schedule that it has found; or that there is none.
 fn told(
     alloc: Global,
     board: &Board,
@@ -111,13 +127,7 @@ fn told(
     let Some(events) = &searched.schedule else {
         return put_none(alloc, plan, searched.tried, out);
     };
-    let mut copy = board.try_copy()?;
-    put_schedule(alloc, &[], &mut copy, events, out)?;
-    if let Some(failure) = plan.wanted.shown(&mut copy)? {
-        put_failure(alloc, &[], &copy, failure, out)?;
-    }
-    out.push(b'\n')?;
-    Ok(())
+    put_found(alloc, &[], board, &plan.wanted, events, out)
 }
 
 /// The first case of which something else is told.

@@ -1,0 +1,312 @@
+-- Which search options ask for, and what may be wrong with them.
+use Rattle.std.specs.Prelude.{◌≡◌, ℕ, zero, suc, ◌+◌, ◌-◌, ◌<◌, ◌≤◌, nat_lt, ◌==◌, Bool, true, false, not}
+use Rattle.std.specs.Prelude.{◌||◌, if◌then◌else◌, List, [], ◌∷◌, ◌++◌, length, Option, None, Some, is_some}
+use Rattle.std.specs.Prelude.{option_map, Result, Ok, Err}
+use Rattle.std.specs.Borrow.{Bor}
+use Rattle.std.specs.List.{position_or_len, before_first, after_first}
+use Rattle.brd_text.specs.Bytes.{is_digit}
+use Rattle.brd_text.specs.Faults.{◌>>=◌, or_fault}
+use Rattle.brd_text.specs.Numbers.{number_of, plain_decimal_of}
+use Rattle.brd_text.specs.Pieces.{pieces_of}
+use Rattle.brd_mem.specs.Image.{symbol_value}
+use Rattle.brd_mem.specs.declared.image.Symbol.{Symbol}
+use Rattle.brd_board.specs.declared.event.Event.{Event}
+use Rattle.brd_board.specs.declared.event.Event.TheVariants.{Step, Tick, Raise}
+use Rattle.brd_explore.specs.declared.bounds.Bounds.{Bounds}
+use Rattle.brd_explore.specs.declared.shard.Shard as part
+use Rattle.brd_explore.specs.declared.wanted.Failure.{Failure}
+use Rattle.brd_explore.specs.declared.wanted.Failure.TheVariants as failure
+use Rattle.brd_explore.specs.declared.wanted.Wanted.{Wanted}
+use Rattle.brd_search.specs.Escapes.{bytes_of}
+use Rattle.brd_search.specs.declared.fault.SearchFault.{SearchFault}
+use Rattle.brd_search.specs.declared.fault.SearchFault.TheVariants.{NoMemory, Events, Fair, Remember, Lines, NoLines}
+use Rattle.brd_search.specs.declared.fault.SearchFault.TheVariants.{Word, NoSymbol, Console, Shard}
+use Rattle.brd_search.specs.declared.options.Looks.{Looks}
+use Rattle.brd_search.specs.declared.options.SearchOptions.{SearchOptions}
+use Rattle.brd_search.specs.declared.plan.Plan.{Plan}
+
+-- the text of an option, where it is given
+abbrev pub text_of : Option (Bor (List ℕ)) → Option (List ℕ)
+text_of text = option_map (λ it. it.now) text
+
+-- what f gives of each element, or its first fault
+abbrev pub each_of : {X Y F : Type 0} → (X → Result Y F) → List X → Result (List Y) F
+each_of f [] = Ok []
+each_of f (x ∷ xs) = f x >>= (λ y. each_of f xs >>= (λ ys. Ok (y ∷ ys)))
+
+-- what stands before the first such byte of a text, and what is behind it, where the text has one
+unfoldable pub parts_of : ℕ → List ℕ → Option (List ℕ × List ℕ)
+parts_of mark text =
+    if nat_lt (position_or_len (λ b. b == mark) text) (length text)
+    then Some (before_first (λ b. b == mark) text, after_first (λ b. b == mark) text)
+    else None
+
+-- ---- the events
+
+-- a step of each of the first n processors, which are counted from 1
+abbrev pub steps_of : ℕ → List Event
+steps_of zero = []
+steps_of (suc n) = steps_of n ++ Step (suc n) ∷ []
+
+-- a tick, where any are allowed
+abbrev pub ticks_of : ℕ → List Event
+ticks_of most = if most == 0 then [] else Tick ∷ []
+
+-- a raise of this line, where there is one
+abbrev pub raise_at : Option ℕ → Result Event SearchFault
+raise_at None = Err Lines
+raise_at (Some line) = Ok (Raise line)
+
+-- the raise of the interrupt line that a piece names, a plain decimal up to 31
+unfoldable pub raise_of : List ℕ → Result Event SearchFault
+raise_of piece = raise_at (plain_decimal_of piece 31)
+
+-- the raises of the lines of `--lines`, each a piece of its text
+abbrev pub raises_in : Option (List ℕ) → Result (List Event) SearchFault
+raises_in None = Err NoLines
+raises_in (Some text) = each_of raise_of (pieces_of text)
+
+-- a raise of each line that `--lines` names, where raises are allowed
+abbrev pub raises_of : ℕ → Option (List ℕ) → Result (List Event) SearchFault
+raises_of most lines = if most == 0 then Ok [] else raises_in lines
+
+-- the events that may come: a step of each processor, a tick and raises where they are allowed
+pub record MayCome (options : SearchOptions) (cpus : ℕ) (among : List Event) : Type 0 where
+  pub raises : List Event
+  pub are_raises : raises_of options.sizes.raises (text_of options.lines) ≡ Ok raises
+  pub all : among ≡ steps_of cpus ++ ticks_of options.sizes.ticks ++ raises
+
+-- n times the same events
+unfoldable pub times : ℕ → List Event → List Event
+times zero events = []
+times (suc n) events = times n events ++ events
+
+-- a round of the fair end (own choice): 16 times a step of each processor in turn, and then a tick
+abbrev pub round_of : ℕ → List Event
+round_of cpus = times 16 (steps_of cpus) ++ Tick ∷ []
+
+-- ---- the shard
+
+-- shard K of M; K is counted from 1, the shard's number from 0
+abbrev pub shard_at : Option ℕ → Option ℕ → Option part.Shard
+shard_at None count = None
+shard_at (Some number) None = None
+shard_at (Some number) (Some count) =
+    if number == 0 || nat_lt count number then None else Some (record { number = number - 1; of = count })
+
+-- the two parts of K/M, plain decimals up to 1,000,000
+abbrev pub shard_in : Option (List ℕ × List ℕ) → Option part.Shard
+shard_in None = None
+shard_in (Some parts) = shard_at (plain_decimal_of parts.0 1000000) (plain_decimal_of parts.1 1000000)
+
+-- the shard that `--shard` says by K/M; the whole where it isn't given
+abbrev pub shard_of : Option (List ℕ) → Option part.Shard
+shard_of None = Some (record { number = 0; of = 1 })
+shard_of (Some text) = shard_in (parts_of 47 text)
+
+-- ---- what is looked for
+
+-- a text begins with a digit
+abbrev pub begins_with_digit : List ℕ → Bool
+begins_with_digit [] = false
+begins_with_digit (b ∷ bs) = is_digit b
+
+-- the address of a place: a number where it begins with a digit, else the value of the symbol of that name
+abbrev pub address_of : List Symbol → List ℕ → Result ℕ SearchFault
+address_of symbols place =
+    if begins_with_digit place then or_fault Word (number_of place) else or_fault NoSymbol (symbol_value symbols place)
+
+-- the number behind the second point of LEAST..MOST
+abbrev pub most_of : List ℕ → Option ℕ
+most_of [] = None
+most_of (b ∷ bs) = if b == 46 then number_of bs else None
+
+-- the failure of a word that is to lie in a range, where both of its ends are there
+abbrev pub outside : ℕ → Option ℕ → Option ℕ → Result Failure SearchFault
+outside address None most = Err Word
+outside address (Some least) None = Err Word
+outside address (Some least) (Some most) = Ok (failure.Outside address least most)
+
+-- the failure of a word that is to have a value, where there is one
+abbrev pub value_at : ℕ → Option ℕ → Result Failure SearchFault
+value_at address None = Err Word
+value_at address (Some value) = Ok (failure.Word address value)
+
+-- the failure of a word that is to be VALUE, or LEAST..MOST where the text has a point
+abbrev pub value_by : ℕ → List ℕ → Option (List ℕ × List ℕ) → Result Failure SearchFault
+value_by address value None = value_at address (number_of value)
+value_by address value (Some parts) = outside address (number_of parts.0) (most_of parts.1)
+
+-- the failure that the two parts of a word look for, a place and what it should be
+abbrev pub goal_by : List Symbol → Option (List ℕ × List ℕ) → Result Failure SearchFault
+goal_by symbols None = Err Word
+goal_by symbols (Some parts) =
+    address_of symbols parts.0 >>= (λ address. value_by address parts.1 (parts_of 46 parts.1))
+
+-- the failure that PLACE=VALUE or PLACE=LEAST..MOST looks for
+unfoldable pub goal_of : List Symbol → List ℕ → Result Failure SearchFault
+goal_of symbols word = goal_by symbols (parts_of 61 word)
+
+-- the failures that `--word` looks for, each by a piece of its text
+abbrev pub goals_of : List Symbol → Option (List ℕ) → Result (List Failure) SearchFault
+goals_of symbols None = Ok []
+goals_of symbols (Some text) = each_of (goal_of symbols) (pieces_of text)
+
+-- the failure that `--console` looks for, of the bytes for which its text stands
+abbrev pub consoles_of : Option (List ℕ) → Option (List Failure)
+consoles_of None = Some []
+consoles_of (Some text) = option_map (λ bytes. failure.Console bytes ∷ []) (bytes_of text)
+
+-- the options don't say what is looked for
+abbrev pub says_nothing : Looks → Bool
+says_nothing looks = not (looks.exception || looks.deadlock || looks.on || is_some looks.words || is_some looks.console)
+
+-- a failure, where it is looked for
+abbrev pub where_so : Bool → Failure → List Failure
+where_so true it = it ∷ []
+where_so false it = []
+
+-- the failures without a value that are looked for; exceptions and deadlocks where the options say nothing
+abbrev pub kinds_of : Looks → List Failure
+kinds_of looks =
+    where_so (looks.exception || says_nothing looks) failure.Exception
+    ++ where_so (looks.deadlock || says_nothing looks) failure.Deadlock
+    ++ where_so looks.on failure.On
+
+-- all that is looked for
+pub record AreLooked (looks : Looks) (symbols : List Symbol) (failures : List Failure) : Type 0 where
+  pub words : List Failure
+  pub are_words : goals_of symbols (text_of looks.words) ≡ Ok words
+  pub console : List Failure
+  pub is_console : consoles_of (text_of looks.console) ≡ Some console
+  pub all : failures ≡ kinds_of looks ++ words ++ console
+
+-- what is looked for, and the fair end: so many rounds, and at most 20,000
+pub record IsWanted (looks : Looks) (fair cpus : ℕ) (symbols : List Symbol) (wanted : Wanted) : Type 0 where
+  pub most : fair ≤ 20000
+  pub failures : AreLooked looks symbols wanted.failures
+  pub round : wanted.round ≡ round_of cpus
+  pub rounds : wanted.rounds ≡ fair
+
+-- what is wrong with the options of what is looked for, or that memory ran out
+abbrev pub KeepsFromWanting : Looks → ℕ → List Symbol → SearchFault → Type 0
+KeepsFromWanting looks fair symbols NoMemory = Unit {0}
+KeepsFromWanting looks fair symbols Fair = 20000 < fair
+KeepsFromWanting looks fair symbols Word = goals_of symbols (text_of looks.words) ≡ Err Word
+KeepsFromWanting looks fair symbols NoSymbol = goals_of symbols (text_of looks.words) ≡ Err NoSymbol
+KeepsFromWanting looks fair symbols Console = consoles_of (text_of looks.console) ≡ None
+KeepsFromWanting looks fair symbols _ = ⊥
+
+-- ---- the plan
+
+-- the bounds that options ask for
+abbrev pub bounds_of : SearchOptions → Bounds
+bounds_of options = record {
+  events = options.sizes.events;
+  preemptions = options.sizes.preemptions;
+  ticks = options.sizes.ticks;
+  raises = options.sizes.raises;
+}
+
+-- A plan is what options ask for, on a board of so many processors whose image has these symbols.
+pub record IsPlan (options : SearchOptions) (cpus : ℕ) (symbols : List Symbol) (plan : Plan) : Type 0 where
+  pub most_events : options.sizes.events ≤ 1000000
+  pub most_remembered : options.remember ≤ 4096
+  pub bounds : plan.bounds ≡ bounds_of options
+  pub among : MayCome options cpus plan.among
+  pub wanted : IsWanted options.looks options.sizes.fair cpus symbols plan.wanted
+  pub shard : shard_of (text_of options.shard) ≡ Some plan.shard
+  pub is_one : plan.shard.number < plan.shard.of
+  pub shortest : plan.shortest ≡ options.shortest
+  pub remember : plan.remember ≡ options.remember
+
+-- what is wrong with options, or that memory ran out
+abbrev pub KeepsFromPlanning : SearchOptions → List Symbol → SearchFault → Type 0
+KeepsFromPlanning options symbols Events = 1000000 < options.sizes.events
+KeepsFromPlanning options symbols Remember = 4096 < options.remember
+KeepsFromPlanning options symbols Lines = raises_of options.sizes.raises (text_of options.lines) ≡ Err Lines
+KeepsFromPlanning options symbols NoLines = raises_of options.sizes.raises (text_of options.lines) ≡ Err NoLines
+KeepsFromPlanning options symbols Shard = shard_of (text_of options.shard) ≡ None
+KeepsFromPlanning options symbols fault = KeepsFromWanting options.looks options.sizes.fair symbols fault
+
+-- Only private contracts name the next ones.
+
+-- the bounds that options give, whose numbers are within limits
+pub record IsSized (options : SearchOptions) (bounds : Bounds) : Type 0 where
+  pub most_events : options.sizes.events ≤ 1000000
+  pub most_remembered : options.remember ≤ 4096
+  pub is : bounds ≡ bounds_of options
+
+-- a number is above its limit
+abbrev pub IsOfSizes : SearchOptions → SearchFault → Type 0
+IsOfSizes options Events = 1000000 < options.sizes.events
+IsOfSizes options Remember = 4096 < options.remember
+IsOfSizes options _ = ⊥
+
+-- the shard that a text says
+pub record IsShard (text : Option (List ℕ)) (shard : part.Shard) : Type 0 where
+  pub is : shard_of text ≡ Some shard
+  pub is_one : shard.number < shard.of
+
+-- a text says no shard
+abbrev pub IsNoShard : Option (List ℕ) → SearchFault → Type 0
+IsNoShard text Shard = shard_of text ≡ None
+IsNoShard text _ = ⊥
+
+-- the fault of a text of `--console`
+abbrev pub IsOfConsole : List ℕ → SearchFault → Type 0
+IsOfConsole text NoMemory = Unit {0}
+IsOfConsole text Console = bytes_of text ≡ None
+IsOfConsole text _ = ⊥
+
+-- a fault that a word of `--word` may have
+abbrev pub IsOfGoal : SearchFault → Type 0
+IsOfGoal Word = Unit {0}
+IsOfGoal NoSymbol = Unit {0}
+IsOfGoal _ = ⊥
+
+-- the fault of `--word`
+abbrev pub IsOfGoals : List Symbol → Option (List ℕ) → SearchFault → Type 0
+IsOfGoals symbols words NoMemory = Unit {0}
+IsOfGoals symbols words Word = goals_of symbols words ≡ Err Word
+IsOfGoals symbols words NoSymbol = goals_of symbols words ≡ Err NoSymbol
+IsOfGoals symbols words _ = ⊥
+
+-- the fault of `--lines`
+abbrev pub IsOfRaises : ℕ → Option (List ℕ) → SearchFault → Type 0
+IsOfRaises most lines NoMemory = Unit {0}
+IsOfRaises most lines Lines = raises_of most lines ≡ Err Lines
+IsOfRaises most lines NoLines = raises_of most lines ≡ Err NoLines
+IsOfRaises most lines _ = ⊥
+
+-- the fault of the lines of a text
+abbrev pub IsOfLine : Result (List Event) SearchFault → SearchFault → Type 0
+IsOfLine raises NoMemory = Unit {0}
+IsOfLine raises Lines = raises ≡ Err Lines
+IsOfLine raises _ = ⊥
+
+-- the fault of `--console`
+abbrev pub IsOfConsoles : Option (List ℕ) → SearchFault → Type 0
+IsOfConsoles text NoMemory = Unit {0}
+IsOfConsoles text Console = consoles_of text ≡ None
+IsOfConsoles text _ = ⊥
+
+-- the fault of all that is looked for
+abbrev pub IsOfLooks : Looks → List Symbol → SearchFault → Type 0
+IsOfLooks looks symbols NoMemory = Unit {0}
+IsOfLooks looks symbols Word = goals_of symbols (text_of looks.words) ≡ Err Word
+IsOfLooks looks symbols NoSymbol = goals_of symbols (text_of looks.words) ≡ Err NoSymbol
+IsOfLooks looks symbols Console = consoles_of (text_of looks.console) ≡ None
+IsOfLooks looks symbols _ = ⊥
+
+-- the wanted console stands behind what was there before
+pub record AddsConsole (text : Option (List ℕ)) (old new : List Failure) : Type 0 where
+  pub more : List Failure
+  pub is : consoles_of text ≡ Some more
+  pub all : new ≡ old ++ more
+
+-- what was read stands behind what was there before
+pub record Adds {X : Type 0} (given : Result (List X) SearchFault) (old new : List X) : Type 0 where
+  pub more : List X
+  pub is : given ≡ Ok more
+  pub all : new ≡ old ++ more

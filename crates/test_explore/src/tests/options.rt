@@ -1,0 +1,269 @@
+//! What searches are asked for by their options, and what may be wrong with these.
+
+use super::sources::{LOST_UPDATE, TWO};
+use brd_board::Event;
+use brd_explore::Failure;
+use brd_image::build;
+use brd_search::{Looks, SearchFault, SearchOptions, Sizes, plan_of, shown_events, wanted_of};
+use std::alloc::Global;
+use std::test::Fail;
+use test_help::none_wrong;
+
+const SIZES: Sizes = Sizes {
+    events: 10,
+    preemptions: 1,
+    ticks: 1,
+    raises: 0,
+    fair: 0,
+};
+
+const LOOKS: Looks = Looks {
+    exception: false,
+    deadlock: false,
+    on: false,
+    words: None,
+    console: None,
+};
+
+const OPTIONS: SearchOptions = SearchOptions {
+    sizes: SIZES,
+    lines: None,
+    looks: LOOKS,
+    shortest: false,
+    shard: None,
+    remember: 0,
+};
+
+const RAISES: Sizes = Sizes { raises: 1, ..SIZES };
+
+/// Options, and what is wrong with them.
+const FAULTS: &[(SearchOptions<'static>, SearchFault)] = &[
+    (
+        SearchOptions {
+            sizes: Sizes {
+                events: 1_000_001,
+                ..SIZES
+            },
+            ..OPTIONS
+        },
+        SearchFault::Events,
+    ),
+    (
+        SearchOptions {
+            sizes: Sizes {
+                fair: 20_001,
+                ..SIZES
+            },
+            ..OPTIONS
+        },
+        SearchFault::Fair,
+    ),
+    (
+        SearchOptions {
+            remember: 4_097,
+            ..OPTIONS
+        },
+        SearchFault::Remember,
+    ),
+    (
+        SearchOptions {
+            sizes: RAISES,
+            ..OPTIONS
+        },
+        SearchFault::NoLines,
+    ),
+    (
+        SearchOptions {
+            sizes: RAISES,
+            lines: Some("3,32"),
+            ..OPTIONS
+        },
+        SearchFault::Lines,
+    ),
+    (
+        SearchOptions {
+            sizes: RAISES,
+            lines: Some(""),
+            ..OPTIONS
+        },
+        SearchFault::Lines,
+    ),
+    (
+        SearchOptions {
+            shard: Some("0/4"),
+            ..OPTIONS
+        },
+        SearchFault::Shard,
+    ),
+    (
+        SearchOptions {
+            shard: Some("5/4"),
+            ..OPTIONS
+        },
+        SearchFault::Shard,
+    ),
+    (
+        SearchOptions {
+            shard: Some("1"),
+            ..OPTIONS
+        },
+        SearchFault::Shard,
+    ),
+];
+
+/// Texts of words, and what is wrong with them.
+const WORDS: &[(&str, SearchFault)] = &[
+    ("", SearchFault::Word),
+    ("0x80000000", SearchFault::Word),
+    ("0x80000000=", SearchFault::Word),
+    ("0x80000000=1,", SearchFault::Word),
+    ("0x80000000=1.2", SearchFault::Word),
+    ("0x80000000=1..", SearchFault::Word),
+    ("0x8000000g=1", SearchFault::Word),
+    ("count=1", SearchFault::NoSymbol),
+];
+
+/// Texts of a console, and the bytes for which they stand.
+const CONSOLES: &[(&str, Option<&[u8]>)] = &[
+    ("", Some(b"")),
+    ("done", Some(b"done")),
+    ("a\\n", Some(b"a\n")),
+    ("\\r\\t\\\\n", Some(b"\r\t\\n")),
+    ("\\x00\\xfF\\x2c", Some(b"\x00\xff,")),
+    ("a\\", None),
+    ("\\N", None),
+    ("\\x", None),
+    ("\\x4", None),
+    ("\\x4g", None),
+    ("\\\\\\", None),
+];
+
+/// What is wrong with options, if something is.
+fn fault_of(alloc: Global, options: &SearchOptions<'_>) -> Option<SearchFault> {
+    match plan_of(alloc, options, 2, &[]) {
+        Ok(_) => None,
+        Err(fault) => Some(fault),
+    }
+}
+
+/// The first row of options that have another fault.
+fn first_wrong_fault(alloc: Global) -> Option<usize> {
+    for (row, (options, fault)) in FAULTS.iter().enumerate() {
+        if fault_of(alloc, options) != Some(*fault) {
+            return Some(row);
+        }
+    }
+    None
+}
+
+/// The first row of words that have another fault.
+fn first_wrong_word(alloc: Global) -> Option<usize> {
+    for (row, (words, fault)) in WORDS.iter().enumerate() {
+        let looks = Looks {
+            words: Some(*words),
+            ..LOOKS
+        };
+        let options = SearchOptions { looks, ..OPTIONS };
+        if fault_of(alloc, &options) != Some(*fault) {
+            return Some(row);
+        }
+    }
+    None
+}
+
+/// Whether a text stands for these bytes, or for none.
+fn stands_for(alloc: Global, text: &str, bytes: Option<&[u8]>) -> bool {
+    let looks = Looks {
+        console: Some(text),
+        ..LOOKS
+    };
+    match wanted_of(alloc, &looks, 0, 2, &[]) {
+        Ok(wanted) => {
+            match wanted.failures.as_slice() {
+                [Failure::Console(console)] => Some(console.as_slice()) == bytes,
+                _ => false,
+            }
+        }
+        Err(fault) => fault == SearchFault::Console && bytes.is_none(),
+    }
+}
+
+/// The first row of a console whose text stands for something else.
+fn first_wrong_console(alloc: Global) -> Option<usize> {
+    for (row, (text, bytes)) in CONSOLES.iter().enumerate() {
+        if !stands_for(alloc, *text, *bytes) {
+            return Some(row);
+        }
+    }
+    None
+}
+
+/// How many events a board shows what fails after, of none and a fair end of two rounds of 33 events.
+fn shown_after(alloc: Global, words: &str) -> Option<usize> {
+    let board = build(alloc, LOST_UPDATE.as_bytes(), TWO.as_bytes()).ok()?;
+    let looks = Looks {
+        words: Some(words),
+        ..LOOKS
+    };
+    let wanted = wanted_of(alloc, &looks, 2, 2, &[]).ok()?;
+    let all = shown_events(alloc, &wanted, &board, &[]).ok()?;
+    Some(all.len())
+}
+
+/// The events that may come are a step of each processor, a tick, and a raise of each line.
+fn may_come(alloc: Global) -> bool {
+    let options = SearchOptions {
+        sizes: RAISES,
+        lines: Some("3,31"),
+        shard: Some("2/4"),
+        remember: 1,
+        ..OPTIONS
+    };
+    let Ok(plan) = plan_of(alloc, &options, 2, &[]) else {
+        return false;
+    };
+    let events = [
+        Event::Step(1),
+        Event::Step(2),
+        Event::Tick,
+        Event::Raise(3),
+        Event::Raise(31),
+    ];
+    plan.among.as_slice() == events.as_slice()
+        && plan.shard.number == 1
+        && plan.shard.of == 4
+        && plan.remember == 14
+        && plan.wanted.failures.len() == 2
+}
+
+#[test]
+fn options_have_faults(rt: HostRuntime) -> Result<(), Fail> {
+    none_wrong(first_wrong_fault(rt.alloc()))
+}
+
+#[test]
+fn words_have_faults(rt: HostRuntime) -> Result<(), Fail> {
+    none_wrong(first_wrong_word(rt.alloc()))
+}
+
+#[test]
+fn consoles_are_read(rt: HostRuntime) -> Result<(), Fail> {
+    none_wrong(first_wrong_console(rt.alloc()))
+}
+
+#[test]
+fn events_may_come(rt: HostRuntime) -> Result<(), Fail> {
+    none_wrong(if may_come(rt.alloc()) { None } else { Some(0) })
+}
+
+#[test]
+fn fair_ends_are_shown(rt: HostRuntime) -> Result<(), Fail> {
+    let alloc = rt.alloc();
+    let at_once = shown_after(alloc, "0x80000000=1..2");
+    let later = shown_after(alloc, "0x80000000=3");
+    none_wrong(if at_once == Some(0) && later == Some(66) {
+        None
+    } else {
+        Some((at_once, later))
+    })
+}
