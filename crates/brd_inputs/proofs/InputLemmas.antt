@@ -9,7 +9,7 @@ use Rattle.brd_inputs.specs.Faults.{IsOfRead}
 use Rattle.brd_inputs.specs.Input.{KeepsFromReading, most_bytes}
 use Rattle.brd_inputs.specs.declared.fault.CommandFault.{CommandFault}
 use Rattle.brd_inputs.specs.declared.input_name.InputName.{InputName}
-use Rattle.brd_inputs.specs.declared.fault.CommandFault.TheVariants.{NoMemory, Argument, Words, Source, ImageTooLarge, Open, Read, TooLong, TooManyReads, Build, Journal, OtherOrder, Script, Race, Trace, Schedule, Write}
+use Rattle.brd_inputs.specs.declared.fault.CommandFault.TheVariants.{NoMemory, Read, TooLong}
 
 -- an input of which more bytes were read than it may have
 pub too_long : (old mid new : Option (List ℕ)) (bytes piece : List ℕ) (n : ℕ) (input : InputName) → Consumes old mid bytes → Consumes mid new (take n piece) → n ≤ length piece → most_bytes < length bytes + n → KeepsFromReading input old (TooLong input)
@@ -23,18 +23,4 @@ too_long (Some xs) (Some ys) (Some zs) bytes piece n input taken read all more =
 pub read_failed : (name : InputName) (input : Option (List ℕ)) (error : Error) (fault : CommandFault) → IsOfRead name error fault → KeepsFromReading name input fault
 read_failed name input error NoMemory is = tt
 read_failed name input error (Read from e) is = (is.0, subst (λ (x : Error). error_kind x ≢ OutOfMemory) (sym is.1) is.2)
-read_failed name input error (TooLong from) is = absurd is
-read_failed name input error (TooManyReads from) is = absurd is
-read_failed name input error (Build fault kind) is = absurd is
-read_failed name input error (Journal fault kind) is = absurd is
-read_failed name input error (OtherOrder order) is = absurd is
-read_failed name input error (Script fault kind) is = absurd is
-read_failed name input error (Race fault) is = absurd is
-read_failed name input error (Trace fault) is = absurd is
-read_failed name input error (Schedule fault) is = absurd is
-read_failed name input error (Words fault) is = absurd is
-read_failed name input error Argument is = absurd is
-read_failed name input error (Source fault excerpt kind) is = absurd is
-read_failed name input error (Open file e) is = absurd is
-read_failed name input error (Write e) is = absurd is
-read_failed name input error ImageTooLarge is = absurd is
+read_failed name input error fault is = absurd is

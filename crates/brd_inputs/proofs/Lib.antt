@@ -1,3 +1,4 @@
 pub mod ExcerptLemmas
 pub mod InputLemmas
+pub mod OpeningLemmas
 pub mod StartLemmas

@@ -7,6 +7,8 @@ use Rattle.brd_image.specs.Faults as build
 use Rattle.brd_image.specs.declared.fault.BuildFault.{BuildFault}
 use Rattle.brd_journal.specs.Faults as journal
 use Rattle.brd_journal.specs.declared.fault.JournalFault.{JournalFault}
+use Rattle.brd_search.specs.declared.fault.SearchFault.{SearchFault}
+use Rattle.brd_search.specs.declared.fault.SearchFault.TheVariants as search_fault
 use Rattle.brd_threads.specs.Faults as threads
 use Rattle.brd_threads.specs.declared.fault.RaceFault.{RaceFault}
 use Rattle.brd_threads.specs.declared.fault.RaceFault.TheVariants as race_fault
@@ -17,7 +19,8 @@ use Rattle.brd_inputs.specs.declared.input_name.InputName.{InputName}
 use Rattle.brd_inputs.specs.declared.fault.CommandFault.{CommandFault}
 use Rattle.brd_inputs.specs.declared.fault.CommandFault.TheVariants.{NoMemory, Argument, Words, Source, ImageTooLarge}
 use Rattle.brd_inputs.specs.declared.fault.CommandFault.TheVariants.{Open, Read, TooLong, TooManyReads, Build, Journal}
-use Rattle.brd_inputs.specs.declared.fault.CommandFault.TheVariants.{OtherOrder, Script, Race, Trace, Schedule, Write}
+use Rattle.brd_inputs.specs.declared.fault.CommandFault.TheVariants.{OtherOrder, Script, Race, Trace, Schedule, Search}
+use Rattle.brd_inputs.specs.declared.fault.CommandFault.TheVariants.{Fails, Passes, Write}
 
 -- the status that the program ends with
 abbrev pub status_of : CommandFault → ℕ
@@ -37,6 +40,9 @@ status_of (Script fault kind) = 1
 status_of (Race fault) = 1
 status_of (Trace fault) = 2
 status_of (Schedule fault) = 2
+status_of (Search fault) = 2
+status_of Fails = 1
+status_of Passes = 1
 status_of (Write error) = 4
 
 -- the fault of a read of an input that failed with this error: lack of memory where its kind says so, else the error
@@ -68,6 +74,11 @@ of_script text fault = if threads.is_no_memory fault then NoMemory else Script f
 abbrev pub of_race : RaceFault → CommandFault
 of_race race_fault.NoMemory = NoMemory
 of_race fault = Race fault
+
+-- the fault of the options of a search, likewise
+abbrev pub of_search : SearchFault → CommandFault
+of_search search_fault.NoMemory = NoMemory
+of_search fault = Search fault
 
 -- the fault of a command line that couldn't be taken: lack of memory where the error's kind says so, else an argument
 -- that isn't UTF-8

@@ -5,6 +5,22 @@ use Rattle.std.specs.declared.io.Error.{Error}
 use Rattle.brd_inputs.specs.Faults.{IsOfOpen}
 use Rattle.brd_inputs.specs.declared.fault.CommandFault.{CommandFault}
 use Rattle.brd_inputs.specs.declared.inputs.Inputs.{Inputs}
+use Rattle.brd_inputs.specs.declared.inputs.Pair.{Pair}
+
+-- IMAGE is opened first, then CONFIG, unless IMAGE can't be. The fault has the name of the file that can't be opened,
+-- unless memory ran out.
+pub data OpensPair {F R : Type 0} (opened : F → List ℕ → Result R Error → F → Type 0)
+    (old : F) (image config : List ℕ) (result : Result (Pair R) CommandFault) (new : F) : Type 0 where
+  no_image : {error : Error} → opened old image (Err error) new → IsErrAnd result (IsOfOpen image error) →
+      OpensPair opened old image config result new
+  no_config : {between : F} {reader : R} {error : Error} →
+      opened old image (Ok reader) between → opened between config (Err error) new →
+      IsErrAnd result (IsOfOpen config error) →
+      OpensPair opened old image config result new
+  both : {between : F} {pair : Pair R} →
+      opened old image (Ok pair.image) between → opened between config (Ok pair.config) new →
+      result ≡ Ok pair →
+      OpensPair opened old image config result new
 
 -- IMAGE is opened first, then CONFIG, then a last file, JOURNAL or SCRIPT, up to the first that can't be. Its fault
 -- has that file's name, unless memory ran out.

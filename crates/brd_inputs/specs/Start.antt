@@ -1,5 +1,5 @@
--- What the commands over a board start with: an object file and a configuration, which make a board, and a last input:
--- a journal, or the script of a race. `last` is that input's name.
+-- What the commands over a board start with: an object file and a configuration, which make a board, and mostly a last
+-- input: a journal, or the script of a race. `last` is that input's name.
 use Rattle.std.specs.Prelude.{◌≡◌, ◌≢◌, ◌⊎◌, ℕ, ◌<◌, ◌≤◌, List, length, Ok, Err}
 use Rattle.std.specs.IoError.{error_kind}
 use Rattle.std.specs.declared.io.ErrorKind.TheVariants.{OutOfMemory}
@@ -9,6 +9,7 @@ use Rattle.brd_config.specs.Meaning.{config_of}
 use Rattle.brd_config.specs.View.{view}
 use Rattle.brd_elf.specs.Meaning.{meaning}
 use Rattle.brd_image.specs.Building.{loaded}
+use Rattle.brd_image.specs.declared.building.Loaded.{Loaded}
 use Rattle.brd_image.specs.declared.fault.BuildFault.TheVariants as build_fault
 use Rattle.brd_journal.specs.Journal.{JournalState, most_runs}
 use Rattle.brd_journal.specs.Reading.{journal_of}
@@ -22,9 +23,68 @@ use Rattle.brd_inputs.specs.declared.fault.CommandFault.TheVariants.{NoMemory, R
 use Rattle.brd_inputs.specs.declared.fault.CommandFault.TheVariants.{Journal, OtherOrder, Script}
 use Rattle.brd_inputs.specs.declared.input_name.InputName.{InputName}
 use Rattle.brd_inputs.specs.declared.input_name.InputName.TheVariants as input_name
+use Rattle.brd_inputs.specs.declared.inputs.PairTexts.{PairTexts}
 use Rattle.brd_inputs.specs.declared.inputs.Texts.{Texts}
 use Rattle.brd_inputs.specs.declared.start.Start.{Start}
 use Rattle.brd_inputs.specs.declared.start.RaceStart.{RaceStart}
+
+-- the board of an object file and a configuration, and the image and what the configuration says, of which it was made
+pub record IsMade (image config : List ℕ) (it : Loaded) : Type 0 where
+  pub loads : loaded image config ≡ Ok it.board
+  pub is_image : meaning image ≡ Ok it.image
+  pub is_configuration : config_of config ≡ Ok (view it.config)
+
+-- Why an object file and a configuration make no board: the first fault, with the other kind of which the faulty one
+-- looks.
+abbrev pub KeepsFromBuilding : List ℕ → List ℕ → CommandFault → Type 0
+KeepsFromBuilding image config NoMemory = Unit {0}
+KeepsFromBuilding image config (Build fault kind) =
+    (loaded image config ≡ Err fault) × (fault ≢ build_fault.NoMemory) × (kind ≡ build_looks_like image config fault)
+KeepsFromBuilding image config _ = ⊥
+
+-- the object file and the configuration are no longer than an input may be
+abbrev pub AreBothWithin : List ℕ → List ℕ → Type 0
+AreBothWithin image config = (length image ≤ most_bytes) × (length config ≤ most_bytes)
+
+-- both were read to their ends, and neither is longer than an input may be
+pub record AreBothRead (image config : List ℕ) (texts : PairTexts) : Type 0 where
+  pub within : AreBothWithin image config
+  pub is_image : texts.image.items ≡ image
+  pub is_config : texts.config.items ≡ config
+
+-- What an object file and a configuration that were read give: neither is longer than an input may be, and they make
+-- the board, with what it was made of.
+pub record IsLoaded (image config : List ℕ) (it : Loaded) : Type 0 where
+  pub within : AreBothWithin image config
+  pub loads : loaded image config ≡ Ok it.board
+  pub is_image : meaning image ≡ Ok it.image
+  pub is_configuration : config_of config ≡ Ok (view it.config)
+
+-- the input of this name is one of the two, and the one before it was read
+abbrev pub IsReachedOfBoth : List ℕ → InputName → Type 0
+IsReachedOfBoth image input_name.Image = Unit {0}
+IsReachedOfBoth image input_name.Configuration = length image ≤ most_bytes
+IsReachedOfBoth image _ = ⊥
+
+-- the input of this name is one of the two, the one before it was read, and it is longer than an input may be
+abbrev pub IsTooLongOfBoth : List ℕ → List ℕ → InputName → Type 0
+IsTooLongOfBoth image config input_name.Image = most_bytes < length image
+IsTooLongOfBoth image config input_name.Configuration = (length image ≤ most_bytes) × (most_bytes < length config)
+IsTooLongOfBoth image config _ = ⊥
+
+-- why two inputs aren't read: the first of them that can't be read whole
+abbrev pub KeepsFromReadingBoth : List ℕ → List ℕ → CommandFault → Type 0
+KeepsFromReadingBoth image config NoMemory = Unit {0}
+KeepsFromReadingBoth image config (Read input error) = IsReachedOfBoth image input × (error_kind error ≢ OutOfMemory)
+KeepsFromReadingBoth image config (TooLong input) = IsTooLongOfBoth image config input
+KeepsFromReadingBoth image config (TooManyReads input) = IsReachedOfBoth image input
+KeepsFromReadingBoth image config _ = ⊥
+
+-- Why two inputs give no board: the first of them that can't be read whole; or both were read, and they make none.
+abbrev pub KeepsFromLoading : List ℕ → List ℕ → CommandFault → Type 0
+KeepsFromLoading image config (Build fault kind) =
+    AreBothWithin image config × KeepsFromBuilding image config (Build fault kind)
+KeepsFromLoading image config fault = KeepsFromReadingBoth image config fault
 
 -- The board of an object file and a configuration, and the journal of a text, which has the board's byte order; and the
 -- image and what the configuration says, of which the board was made.

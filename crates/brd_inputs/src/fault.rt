@@ -20,6 +20,7 @@ use brd_elf::ElfFault;
 use brd_hints::journal_hint;
 use brd_image::BuildFault;
 use brd_journal::JournalFault;
+use brd_search::SearchFault;
 use brd_threads::{RaceFault, ScriptFault};
 use brd_word::Order;
 use std::alloc::Global;
@@ -77,6 +78,15 @@ pub enum CommandFault {
     /// No journal is made of the options of `journal`.
     #[error("{0}")]
     Schedule(ScheduleFault),
+    /// Something is wrong with the options of a search.
+    #[error("the search: {0}")]
+    Search(SearchFault),
+    /// A search has found a schedule that fails.
+    #[error("a schedule fails")]
+    Fails,
+    /// Nothing of what is looked for fails after the journal's events.
+    #[error("the journal: nothing of what is looked for fails")]
+    Passes,
     /// Output couldn't be written.
     #[error("can't write the output: {0}")]
     Write(io::Error),
@@ -84,7 +94,7 @@ pub enum CommandFault {
 
 impl CommandFault {
     ghost use Rattle.brd_inputs.specs.Faults.{status_of, IsOfRead, IsOfOpen, IsOfArguments, of_build, of_journal};
-    ghost use Rattle.brd_inputs.specs.Faults.{of_race, of_script};
+    ghost use Rattle.brd_inputs.specs.Faults.{of_race, of_script, of_search};
 
     /// The fault of a read of an input that failed: lack of memory, or the error itself.
     pub fn of_read(input: InputName, error: io::Error) -> Self
@@ -162,8 +172,19 @@ impl CommandFault {
         }
     }
 
-    /// The status that the program ends with: 1 for a fault of the input or of a race, 2 for one of the command line, 3
-    /// for want of memory, 4 where reading or writing failed.
+    /// The fault of the options of a search: lack of memory, or the fault itself.
+    pub fn of_search(fault: SearchFault) -> Self
+        ensures { result ≡ of_search fault }
+    {
+        match fault {
+            SearchFault::NoMemory => CommandFault::NoMemory,
+            _ => CommandFault::Search(fault),
+        }
+    }
+
+    /// The status that the program ends with: 1 for a fault of the input or of a race, for a search that finds what
+    /// fails, and for a journal after which nothing fails; 2 for a fault of the command line, 3 for want of memory, 4
+    /// where reading or writing failed.
     pub fn status(&self) -> u8
         ensures { result ≡ status_of self.now }
     {
@@ -175,8 +196,13 @@ impl CommandFault {
             | CommandFault::Journal(_, _)
             | CommandFault::OtherOrder(_)
             | CommandFault::Script(_, _)
-            | CommandFault::Race(_) => 1,
-            CommandFault::Argument | CommandFault::Trace(_) | CommandFault::Schedule(_) => 2,
+            | CommandFault::Race(_)
+            | CommandFault::Fails
+            | CommandFault::Passes => 1,
+            CommandFault::Argument
+            | CommandFault::Trace(_)
+            | CommandFault::Schedule(_)
+            | CommandFault::Search(_) => 2,
             CommandFault::NoMemory => 3,
             CommandFault::Open(_, _)
             | CommandFault::Read(_, _)

@@ -21,6 +21,7 @@ mod trace_fault;
 mod words_fault;
 
 pub use brd_hints::source_hint;
+pub use brd_image::Loaded;
 pub use clue::Clue;
 pub use excerpt::Excerpt;
 pub use fault::CommandFault;
@@ -29,8 +30,8 @@ pub use files::Files;
 pub use growing::{put, put_all};
 pub use input::{MOST_BYTES, MOST_READS, read_whole};
 pub use input_name::InputName;
-pub use inputs::{Inputs, Texts, open_inputs, read_inputs};
+pub use inputs::{Inputs, Pair, Texts, open_inputs, open_pair, read_inputs};
 pub use schedule_fault::ScheduleFault;
-pub use start::{RaceStart, Start, read_race_start, read_start};
+pub use start::{RaceStart, Start, read_board, read_race_start, read_start};
 pub use trace_fault::TraceFault;
 pub use words_fault::WordsFault;

@@ -2,11 +2,12 @@
 
 ghost use Rattle.std.specs.Prelude.{◌≡◌, IfOk, IfSome, MatchResult};
 ghost use Rattle.brd_inputs.specs.Start.{AreWithin, IsRaceStart, IsStart, KeepsFromMaking, KeepsFromStarting};
+ghost use Rattle.brd_inputs.specs.Start.{IsLoaded, IsMade, KeepsFromBuilding, KeepsFromLoading};
 ghost use Rattle.brd_inputs.specs.declared.input_name.InputName.TheVariants as input_name;
 
 use crate::fault::CommandFault;
 use crate::input_name::InputName;
-use crate::inputs::{Inputs, Texts, read_inputs};
+use crate::inputs::{Inputs, Pair, Texts, read_both, read_inputs};
 use brd_board::Board;
 use brd_config::Config;
 use brd_image::{Loaded, load_with_parts};
@@ -42,6 +43,29 @@ pub struct RaceStart {
     pub script: Vec<Outer>,
 }
 
+/// Reads an object file and a configuration to their ends, in this order, which make a board, to which nothing has
+/// happened yet.
+pub fn read_board<R: Read>(alloc: Global, pair: &mut Pair<R>) -> Result<Loaded, CommandFault>
+    ensures { IfSome (R.remaining pair.old.image) (λ image. IfSome (R.remaining pair.old.config) (λ config.
+        MatchResult result (IsLoaded image config) (KeepsFromLoading image config))) }
+{
+    let texts = match read_both(alloc, &mut pair.image, &mut pair.config) {
+        Ok(texts) => texts,
+        Err(fault) => return Err(fault),
+    };
+    make_board(alloc, &texts.image, &texts.config)
+}
+
+/// The board that an object file and a configuration make, and what it was made of.
+fn make_board(alloc: Global, image: &[u8], config: &[u8]) -> Result<Loaded, CommandFault>
+    ensures { MatchResult result (IsMade image.now config.now) (KeepsFromBuilding image.now config.now) }
+{
+    match load_with_parts(alloc, image, config) {
+        Ok(loaded) => Ok(loaded),
+        Err(fault) => Err(CommandFault::of_build(alloc, fault, image, config)),
+    }
+}
+
 /// Reads an object file, a configuration and a journal to their ends, in this order. The first two make the board, to
 /// which nothing has happened yet, and the journal has its byte order.
 pub fn read_start<R: Read>(alloc: Global, inputs: &mut Inputs<R>) -> Result<Start, CommandFault>
@@ -67,9 +91,9 @@ fn make_start(alloc: Global, texts: &Texts) -> Result<Start, CommandFault>
         board,
         image,
         config,
-    } = match load_with_parts(alloc, &texts.image, &texts.config) {
+    } = match make_board(alloc, &texts.image, &texts.config) {
         Ok(loaded) => loaded,
-        Err(fault) => return Err(CommandFault::of_build(alloc, fault, &texts.image, &texts.config)),
+        Err(fault) => return Err(fault),
     };
     let journal = match read_text(alloc, &texts.last, MOST_RUNS) {
         Ok(journal) => journal,
@@ -113,9 +137,9 @@ fn make_race_start(alloc: Global, texts: &Texts) -> Result<RaceStart, CommandFau
         board,
         image,
         config,
-    } = match load_with_parts(alloc, &texts.image, &texts.config) {
+    } = match make_board(alloc, &texts.image, &texts.config) {
         Ok(loaded) => loaded,
-        Err(fault) => return Err(CommandFault::of_build(alloc, fault, &texts.image, &texts.config)),
+        Err(fault) => return Err(fault),
     };
     let script = match read_script(alloc, &texts.last) {
         Ok(script) => script,

@@ -1,15 +1,17 @@
 use Rattle.std.proofs.Common.{refl}
-use Rattle.brd_inputs.specs.Opening.OpensInputs.{no_image, no_config, no_last, all}
+use Rattle.brd_inputs.specs.Opening.OpensInputs.{no_last, all}
+use Rattle.brd_inputs.proofs.OpeningLemmas.{not_opened, was_opened}
 use Rattle.brd_inputs.proofs.inputs.open_inputs.Goals as goal
 
 pub returns-in-Err : goal.returns-in-Err
-returns-in-Err g c = no_image c.in-Err.ensures c.of_open.ensures
+returns-in-Err g c = not_opened _ _ _ _ _ _ _ c.in-Err.ensures
 
 pub returns-in-Err-open : goal.returns-in-Err-open
-returns-in-Err-open g c = no_config c.in-Ok.ensures c.in-Err-open.ensures c.of_open-in-Err-open.ensures
-
-pub returns-in-Err-open-2 : goal.returns-in-Err-open-2
-returns-in-Err-open-2 g c = no_last c.in-Ok.ensures c.in-Ok-open.ensures c.in-Err-open-2.ensures c.of_open-in-Err-open-2.ensures
+returns-in-Err-open g c =
+    let two = was_opened _ _ _ _ c.in-Ok.pair _ c.in-Ok.ensures in
+    no_last two.1 two.2 c.in-Err-open.ensures c.of_open.ensures
 
 pub returns : goal.returns
-returns g c = all c.in-Ok.ensures c.in-Ok-open.ensures c.in-Ok-open-2.ensures refl
+returns g c =
+    let two = was_opened _ _ _ _ c.in-Ok.pair _ c.in-Ok.ensures in
+    all two.1 two.2 c.in-Ok-open.ensures refl
