@@ -14,7 +14,7 @@ use Rattle.brd_inputs.specs.Start.{AreWithin, IsStart}
 use Rattle.brd_command.specs.declared.debug_line.DebugCommand.{DebugCommand}
 use Rattle.brd_command.specs.declared.debug_line.DebugCommand.TheVariants.{Quit}
 use Rattle.brd_inputs.specs.declared.fault.CommandFault.{CommandFault}
-use Rattle.brd_inputs.specs.declared.fault.CommandFault.TheVariants.{NoMemory, Argument, Words, Source, ImageTooLarge, Open, Read, TooLong, TooManyReads, Build, Journal, OtherOrder, Script, Race, Trace, Schedule, Write}
+use Rattle.brd_inputs.specs.declared.fault.CommandFault.TheVariants.{NoMemory, Argument, Words, Source, ImageTooLarge, Open, Read, TooLong, TooManyReads, Build, Journal, OtherOrder, Script, Race, Trace, Schedule, Search, Fails, Passes, Write}
 use Rattle.brd_command.specs.declared.lines.Taken.{Taken}
 use Rattle.brd_inputs.specs.declared.start.Start.{Start}
 use Rattle.brd_report.proofs.OutputLemmas.{one_more}
@@ -71,6 +71,9 @@ module _ (first d : DebuggerState) (left : Option (List ℕ)) (taken : Taken) (o
   stopped_text text (Race fault) keeps answered = absurd (keeps answered.0 answered.2)
   stopped_text text (Trace fault) keeps answered = absurd (keeps answered.0 answered.2)
   stopped_text text (Schedule fault) keeps answered = absurd (keeps answered.0 answered.2)
+  stopped_text text (Search fault) keeps answered = absurd (keeps answered.0 answered.2)
+  stopped_text text Fails keeps answered = absurd (keeps answered.0 answered.2)
+  stopped_text text Passes keeps answered = absurd (keeps answered.0 answered.2)
   stopped_text text (Write error) keeps answered = absurd (keeps answered.0 answered.2)
 
   pub stopped : (input : Option (List ℕ)) (fault : CommandFault) → ((t : List ℕ) → left ≡ Some t → KeepsFromTaking taken t fault)

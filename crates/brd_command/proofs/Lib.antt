@@ -11,3 +11,5 @@ pub mod ReplayLemmas
 pub mod RefusalLemmas
 pub mod JournalLemmas
 pub mod TurnsLemmas
+pub mod ExploreLemmas
+pub mod ShrinkLemmas

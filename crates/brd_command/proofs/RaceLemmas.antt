@@ -14,7 +14,7 @@ use Rattle.brd_command.specs.RaceCommand.{HasEnded, IsShown, KeepsFromRacing, Ra
 use Rattle.brd_command.specs.RaceCommand.WritesRaceFront.{in_journal, in_report}
 use Rattle.brd_inputs.specs.Start.{AreWithin, IsRaceStart}
 use Rattle.brd_inputs.specs.declared.fault.CommandFault.{CommandFault}
-use Rattle.brd_inputs.specs.declared.fault.CommandFault.TheVariants.{NoMemory, Argument, Words, Source, ImageTooLarge, Open, Read, TooLong, TooManyReads, Build, Journal, OtherOrder, Script, Race, Trace, Schedule, Write}
+use Rattle.brd_inputs.specs.declared.fault.CommandFault.TheVariants.{NoMemory, Argument, Words, Source, ImageTooLarge, Open, Read, TooLong, TooManyReads, Build, Journal, OtherOrder, Script, Race, Trace, Schedule, Search, Fails, Passes, Write}
 use Rattle.brd_inputs.specs.declared.start.RaceStart.{RaceStart}
 
 -- what isn't written on stays as it was
@@ -83,6 +83,9 @@ module _ (quota : ℕ) (start : RaceStart) (out_old out old new : Option (List �
       (record { start = start; within = begins.0; is_start = begins.1; is_own = keeps.0; has_ended = keeps.1 }, out_same, same)
   of_fault i c t (Trace fault) keeps out_same same begins = absurd keeps
   of_fault i c t (Schedule fault) keeps out_same same begins = absurd keeps
+  of_fault i c t (Search fault) keeps out_same same begins = absurd keeps
+  of_fault i c t Fails keeps out_same same begins = absurd keeps
+  of_fault i c t Passes keeps out_same same begins = absurd keeps
   of_fault i c t (Write error) keeps out_same same begins = absurd keeps
 
   pub not_raced : (fault : CommandFault) → KeepsFromRacing quota start fault → Keeps out_old out → Keeps old new

@@ -15,3 +15,6 @@ pub mod TraceCommand
 pub mod Files
 pub mod Request
 pub mod Laws
+pub mod Saving
+pub mod ExploreCommand
+pub mod ShrinkCommand

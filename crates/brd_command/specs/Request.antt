@@ -1,21 +1,24 @@
 -- How a request ends, on files, standard input and standard output, each before and after the command. `opened`,
 -- `created` and `closed` say what calls on files did, `remaining` what a file has left to read, `contents` what a file
 -- holds that is written; `unread` says what standard input has left to read, `written` what standard output has taken.
-use Rattle.std.specs.Prelude.{◌≡◌, ℕ, List, Option, IfSome, Result}
+use Rattle.std.specs.Prelude.{◌≡◌, ℕ, List, Option, option_map, IfSome, Result}
 use Rattle.std.specs.declared.io.Error.{Error}
 use Rattle.brd_command.specs.Files.{AsmFilesEnd, RunFilesEnd, RaceFilesEnd, DebugFilesEnd, TraceFilesEnd}
+use Rattle.brd_command.specs.ExploreCommand.{ExploreFilesEnd}
 use Rattle.brd_command.specs.JournalCommand.{JournalEnds}
+use Rattle.brd_command.specs.ShrinkCommand.{ShrinkFilesEnd}
 use Rattle.brd_command.specs.WordsCommand.{WordsEnds}
 use Rattle.brd_inputs.specs.declared.fault.CommandFault.{CommandFault}
 use Rattle.brd_command.specs.declared.request.Request.{Request}
 use Rattle.brd_command.specs.declared.request.Request.TheVariants.{Words, Asm, Run, Race, Debug, Trace, Journal}
+use Rattle.brd_command.specs.declared.request.Request.TheVariants.{Explore, Shrink}
 
 module _ {F I O R W : Type 0}
     (opened : F → List ℕ → Result I Error → F → Type 0) (created : F → List ℕ → Result O Error → F → Type 0)
     (closed : F → O → F → Type 0) (remaining : I → Option (List ℕ)) (contents : O → Option (List ℕ))
     (unread : R → Option (List ℕ)) (written : W → Option (List ℕ)) where
   -- `words` and `journal` touch no file, `asm` neither reads standard input nor writes standard output, and `run`,
-  -- `race`, `trace` and `journal` don't read standard input.
+  -- `race`, `trace`, `journal`, `explore` and `shrink` don't read standard input.
   abbrev pub RequestEnds : Request → F → F → R → R → W → W → Result Unit CommandFault → Type 0
   RequestEnds (Words steps) files_old files input_old input output_old output result =
       IfSome (unread input_old) (λ text. WordsEnds result text steps (written output_old) (written output))
@@ -41,3 +44,11 @@ module _ {F I O R W : Type 0}
   RequestEnds (Journal cpus events options) files_old files input_old input output_old output result =
       JournalEnds result cpus events options (written output_old) (written output)
       × (files ≡ files_old) × (input ≡ input_old)
+  RequestEnds (Explore image config options out) files_old files input_old input output_old output result =
+      ExploreFilesEnd opened created closed remaining contents files_old image.now config.now options
+      (option_map (λ name. name.now) out) (written output_old) (written output) result files
+      × (input ≡ input_old)
+  RequestEnds (Shrink image config journal options out) files_old files input_old input output_old output result =
+      ShrinkFilesEnd opened created closed remaining contents files_old image.now config.now journal.now options
+      (option_map (λ name. name.now) out) (written output_old) (written output) result files
+      × (input ≡ input_old)

@@ -1,14 +1,16 @@
 //! The commands of the program `board`, over readers, writers and files.
 //!
 //! `specs/WordsCommand.antt`, `specs/AsmCommand.antt`, `specs/RunCommand.antt`, `specs/RaceCommand.antt`,
-//! `specs/TraceCommand.antt`, `specs/JournalCommand.antt` and `specs/Debugging.antt` say what a command writes for what
-//! it reads, and which faults keep it from that; `specs/Files.antt` which files are opened, and in which order.
+//! `specs/TraceCommand.antt`, `specs/JournalCommand.antt`, `specs/Debugging.antt`, `specs/ExploreCommand.antt` and
+//! `specs/ShrinkCommand.antt` say what a command writes for what it reads, and which faults keep it from that;
+//! `specs/Files.antt` (the last two themselves) which files are opened, and in which order.
 #![tactic(auto)]
 
 mod asm_command;
 mod debug_answer;
 mod debug_command;
 mod debug_line;
+mod explore_command;
 mod journal_command;
 mod journal_options;
 pub mod laws;
@@ -18,6 +20,8 @@ mod progress;
 mod race_command;
 mod request;
 mod run_command;
+mod saving;
+mod shrink_command;
 mod trace_command;
 mod trace_options;
 mod turns;
@@ -25,16 +29,19 @@ mod word_text;
 mod words_command;
 
 pub use asm_command::{asm, asm_files};
-pub use brd_inputs::{CommandFault, Files, Inputs};
+pub use brd_inputs::{CommandFault, Files, Inputs, Pair};
 pub use brd_progress::{Progress, Quiet};
+pub use brd_search::{Looks, SearchOptions, Sizes};
 pub use brd_threads::{Blanks, Race};
 pub use brd_word::Order;
 pub use debug_command::{debug, debug_files};
+pub use explore_command::{explore, explore_files};
 pub use journal_command::journal;
 pub use journal_options::JournalOptions;
 pub use race_command::{race, race_files};
 pub use request::{Request, perform};
 pub use run_command::{run, run_files};
+pub use shrink_command::{ShrinkOptions, shrink, shrink_files};
 pub use trace_command::{trace, trace_files};
 pub use trace_options::{TraceFormat, TraceOptions};
 pub use words_command::words;

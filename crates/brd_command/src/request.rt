@@ -4,15 +4,18 @@ ghost use Rattle.brd_command.specs.Request.{RequestEnds};
 
 use crate::asm_command::asm_files;
 use crate::debug_command::debug_files;
+use crate::explore_command::explore_files;
 use crate::journal_command::journal;
 use crate::journal_options::JournalOptions;
 use crate::race_command::race_files;
 use crate::run_command::run_files;
+use crate::shrink_command::{ShrinkOptions, shrink_files};
 use crate::trace_command::trace_files;
 use crate::trace_options::TraceOptions;
 use crate::words_command::words;
 use brd_inputs::{CommandFault, Files};
 use brd_progress::Progress;
+use brd_search::SearchOptions;
 use std::alloc::Global;
 use std::io::{Read, Write};
 use std::sync::Wait;
@@ -66,12 +69,29 @@ pub enum Request<'a> {
         events: u32,
         options: JournalOptions<'a>,
     },
+    /// What a search through the schedules of the board of an object file and a configuration comes to, on standard
+    /// output, and the journal of one that fails, in another file if one is named.
+    Explore {
+        image: &'a str,
+        config: &'a str,
+        options: SearchOptions<'a>,
+        out: Option<&'a str>,
+    },
+    /// What is left of a journal that fails on the board of an object file and a configuration, in words on standard
+    /// output, and as a journal in another file if one is named.
+    Shrink {
+        image: &'a str,
+        config: &'a str,
+        journal: &'a str,
+        options: ShrinkOptions<'a>,
+        out: Option<&'a str>,
+    },
 }
 
 /// Does what was asked for, on files, standard input and standard output. `words` and `journal` touch no file; `asm`
-/// neither reads standard input nor writes standard output; `run`, `race`, `trace` and `journal` don't read standard
-/// input. `debug` reads that only where its files could be opened and make a debugger. Threads of the host are started
-/// only for `race`. How far `run`, `race`, `debug` and `trace` are, is told on the way.
+/// neither reads standard input nor writes standard output; `run`, `race`, `trace`, `journal`, `explore` and `shrink`
+/// don't read standard input. `debug` reads that only where its files could be opened and make a debugger. Threads of the host are started
+/// only for `race`. How far `run`, `race`, `debug`, `trace` and `explore` are, is told on the way.
 pub fn perform<F: Files, R: Read, W: Write, P: Progress + Send, T: Threads + Wait + Sync>(
     rt: &T,
     alloc: Global,
@@ -121,5 +141,18 @@ pub fn perform<F: Files, R: Read, W: Write, P: Progress + Send, T: Threads + Wai
             events,
             options,
         } => journal(alloc, output, cpus, events, options),
+        Request::Explore {
+            image,
+            config,
+            options,
+            out,
+        } => explore_files(alloc, files, image, config, options, out, output, progress),
+        Request::Shrink {
+            image,
+            config,
+            journal,
+            options,
+            out,
+        } => shrink_files(alloc, files, image, config, journal, options, out, output),
     }
 }

@@ -10,6 +10,9 @@ pub trait Progress {
     /// n of m events are done.
     fn show(&mut self, done: u64, all: u64);
 
+    /// So many schedules of a search were tried. What doesn't say otherwise does nothing then.
+    fn tried(&mut self, _schedules: u64) {}
+
     /// Output is written next, which is to stand alone.
     fn hide(&mut self);
 

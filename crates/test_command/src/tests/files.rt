@@ -1,7 +1,9 @@
 //! Which files are opened, and in which order.
 
 use super::is_fault;
-use brd_command::{Files, Quiet, Request, asm_files, perform};
+use brd_command::{
+    Files, Looks, Quiet, Request, SearchOptions, ShrinkOptions, Sizes, asm_files, perform,
+};
 use std::alloc::{AllocError, Global};
 use std::cell::RefCell;
 use std::io::{self, ErrorKind, Read, Write};
@@ -140,6 +142,37 @@ struct Done {
     written: &'static [u8],
 }
 
+/// What is looked for where nothing is said.
+const LOOKS: Looks<'static> = Looks {
+    exception: false,
+    deadlock: false,
+    on: false,
+    words: None,
+    console: None,
+};
+
+/// The options of a search of schedules of one event.
+const SEARCH: SearchOptions<'static> = SearchOptions {
+    sizes: Sizes {
+        events: 1,
+        preemptions: 0,
+        ticks: 0,
+        raises: 0,
+        fair: 0,
+    },
+    lines: None,
+    looks: LOOKS,
+    shortest: false,
+    shard: None,
+    remember: 0,
+};
+
+/// The options of a journal that is made shorter.
+const SHRINK: ShrinkOptions<'static> = ShrinkOptions {
+    looks: LOOKS,
+    fair: 0,
+};
+
 const REQUESTS: &[Done] = &[
     Done {
         request: Request::Words { steps: 1 },
@@ -208,6 +241,31 @@ const REQUESTS: &[Done] = &[
         left: 8,
         written: b"",
     },
+    Done {
+        request: Request::Explore {
+            image: "a",
+            config: "b",
+            options: SEARCH,
+            out: Some("c"),
+        },
+        notes: "open a; open b; read; read; read; read; ",
+        is_ok: false,
+        left: 8,
+        written: b"",
+    },
+    Done {
+        request: Request::Shrink {
+            image: "a",
+            config: "b",
+            journal: "c",
+            options: SHRINK,
+            out: Some("d"),
+        },
+        notes: "open a; open b; open c; read; read; read; read; read; read; ",
+        is_ok: false,
+        left: 8,
+        written: b"",
+    },
 ];
 
 /// Whether these are the notes.
@@ -258,8 +316,9 @@ fn first_wrong_request<T: Threads + Wait + Sync>(rt: &T, alloc: Global) -> Optio
     REQUESTS.iter().position(|row| !is_done(rt, alloc, row))
 }
 
-/// `words` touches no file, `asm` neither standard input nor output, `run` and `race` no standard input. (The files
-/// hold a source, so that `run` and `race` read all of them, and then refuse the object file.)
+/// `words` touches no file, `asm` neither standard input nor output, `run`, `race`, `explore` and `shrink` no standard
+/// input. (The files hold a source, so that these read all of them, and then refuse the object file: a file for a journal
+/// that is found is created only later.)
 #[test]
 fn requests(rt: HostRuntime) -> Result<(), Fail> {
     none_wrong(first_wrong_request(&rt, rt.alloc()))

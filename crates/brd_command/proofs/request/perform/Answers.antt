@@ -21,3 +21,9 @@ returns-in-Trace g c = rw c.in-Trace.is (c.trace_files.ensures, refl)
 
 pub returns-in-Journal : goal.returns-in-Journal
 returns-in-Journal g c = rw c.in-Journal.is (c.journal.ensures, refl, refl)
+
+pub returns-in-Explore : goal.returns-in-Explore
+returns-in-Explore g c = rw c.in-Explore.is (c.explore_files.ensures, refl)
+
+pub returns-in-Shrink : goal.returns-in-Shrink
+returns-in-Shrink g c = rw c.in-Shrink.is (c.shrink_files.ensures, refl)

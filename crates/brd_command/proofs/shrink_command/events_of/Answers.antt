@@ -1,0 +1,12 @@
+use Rattle.std.proofs.Common.{rules}
+use Rattle.brd_command.proofs.ShrinkLemmas.{all_taken, stays_taken}
+use Rattle.brd_command.proofs.shrink_command.events_of.Goals as goal
+
+pub events-preserved : goal.events-preserved
+events-preserved c =
+    stays_taken c.args.journal.now.events c.events.events.items c.push.new.self.items c.len-in-events.result c.in-Some.event
+    c.events.invariant (search rules) c.in-Some.ensures c.in-Ok.ensures.items
+
+pub returns : goal.returns
+returns c =
+    all_taken c.args.journal.now.events c.events.events.items c.len-in-events.result c.events.invariant (search rules) c.in_default.ensures
