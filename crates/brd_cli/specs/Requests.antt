@@ -1,7 +1,7 @@
 -- What a command line asks for: the request of a command's name and of what was given for its arguments, which `clap`
 -- keeps in rows.
 use Rattle.std.specs.Prelude.{◌≡◌, ◌∷◌, ◌⊎◌, ℕ, ⊤, List, [], Bool, true, false, if◌then◌else◌, Option, None, Some}
-use Rattle.std.specs.Prelude.{Result, Ok, Err, codes, bytes_eq, option_map}
+use Rattle.std.specs.Prelude.{Result, Ok, Err, codes, bytes_eq, option_map, unwrap_or}
 use Rattle.std.specs.Bool.{MatchBool}
 use Rattle.std.specs.Str.Parse.{ParsesUnsigned}
 use Rattle.clap.specs.Words.{IsAmong, Row, Text, fault_of, first_of, kind_of, one_of, subcommand_of}
@@ -15,9 +15,13 @@ use Rattle.brd_command.specs.declared.trace_options.TraceFormat.TheVariants as f
 use Rattle.brd_command.specs.declared.trace_options.TraceOptions.{TraceOptions}
 use Rattle.brd_command.specs.declared.request.Request.{Request}
 use Rattle.brd_command.specs.declared.request.Request.TheVariants.{Words, Asm, Run, Race, Debug, Trace, Journal}
+use Rattle.brd_command.specs.declared.request.Request.TheVariants.{Explore, Shrink}
+use Rattle.brd_search.specs.declared.options.Looks.{Looks}
+use Rattle.brd_search.specs.declared.options.SearchOptions.{SearchOptions}
+use Rattle.brd_search.specs.declared.options.Sizes.{Sizes}
 use Rattle.brd_cli.specs.declared.end.EarlyEnd.{EarlyEnd}
 use Rattle.brd_cli.specs.declared.end.EarlyEnd.TheVariants.{Fault, Usage}
-use Rattle.brd_cli.specs.Usage.{board, inputs, race_files, source_and_out}
+use Rattle.brd_cli.specs.Usage.{board, inputs, pair, race_files, source_and_out}
 
 -- ---- what was given
 
@@ -32,13 +36,9 @@ IsNumberOf bits (Some text) None = ParsesUnsigned {E = ⊤} bits 10 text (Err tt
 abbrev pub IsNumber : Option Text → Option ℕ → Type 0
 IsNumber text number = IsNumberOf 32 text number
 
--- the number that an argument is, and 0 where there is none
-abbrev pub or_zero : Option ℕ → ℕ
-or_zero None = 0
-or_zero (Some n) = n
-
-abbrev pub IsNumberOrZero : Option Text → ℕ → Type 0
-IsNumberOrZero text n = (number : Option ℕ) × IsNumber text number × (n ≡ or_zero number)
+-- the number that an argument is, and the usual one where there is none
+abbrev pub IsNumberOr : ℕ → Option Text → ℕ → Type 0
+IsNumberOr usual text n = (number : Option ℕ) × IsNumber text number × (n ≡ unwrap_or number usual)
 
 -- whether an option without a value was given
 abbrev pub IsFlag : Option Text → Bool → Type 0
@@ -98,7 +98,7 @@ AreJournalOptions rows options = (options.order ≡ order_named (first_of (codes
     × IsNumber (one_of (codes "CHANCE") rows) options.switch
     × (option_map (λ text. text.now) options.weights ≡ first_of (codes "WEIGHTS") rows)
     × IsNumber (one_of (codes "CHANGES") rows) options.changes
-    × IsNumberOrZero (one_of (codes "INTERVAL") rows) options.tick_every
+    × IsNumberOr 0 (one_of (codes "INTERVAL") rows) options.tick_every
     × (option_map (λ text. text.now) options.raises ≡ first_of (codes "RAISES") rows)
 
 -- the request of `trace`
@@ -115,6 +115,48 @@ IsJournal rows (Some (Journal cpus events options)) = IsNumber (one_of (codes "C
     × IsNumber (one_of (codes "EVENTS") rows) (Some events) × AreJournalOptions rows options
 IsJournal rows (Some other) = ⊥
 
+-- how large the search of `explore` is: 1,000 events and a preemption where it isn't said, and nothing else
+abbrev pub AreSizes : List Row → Sizes → Type 0
+AreSizes rows sizes = IsNumberOr 1000 (one_of (codes "EVENTS") rows) sizes.events
+    × IsNumberOr 1 (one_of (codes "PREEMPTIONS") rows) sizes.preemptions
+    × IsNumberOr 0 (one_of (codes "TICKS") rows) sizes.ticks
+    × IsNumberOr 0 (one_of (codes "RAISES") rows) sizes.raises
+    × IsNumberOr 0 (one_of (codes "ROUNDS") rows) sizes.fair
+
+-- what `explore` and `shrink` look for
+abbrev pub AreLooks : List Row → Looks → Type 0
+AreLooks rows looks = IsFlag (one_of (codes "exception") rows) looks.exception
+    × IsFlag (one_of (codes "deadlock") rows) looks.deadlock
+    × IsFlag (one_of (codes "ends") rows) looks.on
+    × (option_map (λ text. text.now) looks.words ≡ first_of (codes "WORDS") rows)
+    × (option_map (λ text. text.now) looks.console ≡ first_of (codes "TEXT") rows)
+
+-- the options of `explore`, each as it was given
+abbrev pub AreSearchOptions : List Row → SearchOptions → Type 0
+AreSearchOptions rows options = AreSizes rows options.sizes
+    × (option_map (λ text. text.now) options.lines ≡ first_of (codes "LINES") rows)
+    × AreLooks rows options.looks
+    × IsFlag (one_of (codes "shortest") rows) options.shortest
+    × (option_map (λ text. text.now) options.shard ≡ first_of (codes "SHARD") rows)
+    × IsNumberOr 0 (one_of (codes "MIB") rows) options.remember
+
+-- the request of `explore`
+abbrev pub IsExplore : List Row → Option Request → Type 0
+IsExplore rows None = given pair rows ≡ None
+IsExplore rows (Some (Explore image config options out)) =
+    (given pair rows ≡ Some (image.now ∷ config.now ∷ [])) × AreSearchOptions rows options
+    × (option_map (λ name. name.now) out ≡ first_of (codes "OUT") rows)
+IsExplore rows (Some other) = ⊥
+
+-- the request of `shrink`
+abbrev pub IsShrink : List Row → Option Request → Type 0
+IsShrink rows None = given inputs rows ≡ None
+IsShrink rows (Some (Shrink image config journal options out)) =
+    (given inputs rows ≡ Some (image.now ∷ config.now ∷ journal.now ∷ [])) × AreLooks rows options.looks
+    × IsNumberOr 0 (one_of (codes "ROUNDS") rows) options.fair
+    × (option_map (λ name. name.now) out ≡ first_of (codes "OUT") rows)
+IsShrink rows (Some other) = ⊥
+
 -- a request, as its command and the names of its files
 abbrev pub spoken : Request → Text × List Text
 spoken (Words steps) = (codes "words", [])
@@ -122,6 +164,8 @@ spoken (Asm source out) = (codes "asm", source.now ∷ out.now ∷ [])
 spoken (Run image config journal) = (codes "run", image.now ∷ config.now ∷ journal.now ∷ [])
 spoken (Race image config script quota out) = (codes "race", image.now ∷ config.now ∷ script.now ∷ out.now ∷ [])
 spoken (Journal cpus events options) = (codes "journal", [])
+spoken (Explore image config options out) = (codes "explore", image.now ∷ config.now ∷ [])
+spoken (Shrink image config journal options out) = (codes "shrink", image.now ∷ config.now ∷ journal.now ∷ [])
 spoken (Debug image config journal) = (codes "debug", image.now ∷ config.now ∷ journal.now ∷ [])
 spoken (Trace image config journal options) = (codes "trace", image.now ∷ config.now ∷ journal.now ∷ [])
 
@@ -139,7 +183,9 @@ IsRequestOf name rows request =
     (MatchBool (bytes_eq name (codes "debug")) (IsOfFiles (codes "debug") inputs rows request)
     (MatchBool (bytes_eq name (codes "trace")) (IsTrace rows request)
     (MatchBool (bytes_eq name (codes "journal")) (IsJournal rows request)
-    (request ≡ None)))))))
+    (MatchBool (bytes_eq name (codes "explore")) (IsExplore rows request)
+    (MatchBool (bytes_eq name (codes "shrink")) (IsShrink rows request)
+    (request ≡ None)))))))))
 
 -- the request of a command with its rows; none where there is no command
 abbrev pub IsAsked : Option (Text × List Row) → Option Request → Type 0

@@ -34,12 +34,16 @@ option name flag = record (new_rule name) { long = Some flag; action = Some Set 
 abbrev pub count : Text → Text → Rule
 count name flag = record (option name flag) { parser = Some (Signed (pos 0) (pos 4294967295)) }
 
--- the files that `asm` takes, those that `run`, `debug` and `trace` take, and those that `race` takes beside its quota
+-- the files that `asm` takes, those that `run`, `debug`, `trace` and `shrink` take, those that `explore` takes, and those
+-- that `race` takes beside its quota
 abbrev pub source_and_out : List Text
 source_and_out = codes "SOURCE" ∷ codes "OUT" ∷ []
 
 abbrev pub inputs : List Text
 inputs = codes "IMAGE" ∷ codes "CONFIG" ∷ codes "JOURNAL" ∷ []
+
+abbrev pub pair : List Text
+pair = codes "IMAGE" ∷ codes "CONFIG" ∷ []
 
 abbrev pub race_files : List Text
 race_files = codes "IMAGE" ∷ codes "CONFIG" ∷ codes "SCRIPT" ∷ codes "OUT" ∷ []
@@ -89,9 +93,27 @@ journal = command_with (codes "journal")
     ∷ count (codes "INTERVAL") (codes "tick-every") ∷ option (codes "RAISES") (codes "raise")
     ∷ option (codes "ORDER") (codes "order") ∷ [])
 
+-- `explore` and `shrink` take their options before, between or after their files
+abbrev pub explore : App
+explore = command_with (codes "explore")
+    (needed (codes "IMAGE") ∷ needed (codes "CONFIG") ∷ count (codes "EVENTS") (codes "events")
+    ∷ count (codes "PREEMPTIONS") (codes "preemptions") ∷ count (codes "TICKS") (codes "ticks")
+    ∷ count (codes "RAISES") (codes "raises") ∷ option (codes "LINES") (codes "lines")
+    ∷ flag (codes "exception") ∷ flag (codes "deadlock") ∷ flag (codes "ends")
+    ∷ option (codes "WORDS") (codes "word") ∷ option (codes "TEXT") (codes "console")
+    ∷ count (codes "ROUNDS") (codes "fair") ∷ flag (codes "shortest") ∷ option (codes "SHARD") (codes "shard")
+    ∷ count (codes "MIB") (codes "remember") ∷ option (codes "OUT") (codes "out") ∷ [])
+
+abbrev pub shrink : App
+shrink = command_with (codes "shrink")
+    (needed (codes "IMAGE") ∷ needed (codes "CONFIG") ∷ needed (codes "JOURNAL") ∷ flag (codes "exception")
+    ∷ flag (codes "deadlock") ∷ flag (codes "ends") ∷ option (codes "WORDS") (codes "word")
+    ∷ option (codes "TEXT") (codes "console") ∷ count (codes "ROUNDS") (codes "fair")
+    ∷ option (codes "OUT") (codes "out") ∷ [])
+
 -- the commands in the order in which a newcomer meets them
 abbrev pub board : App
-board = program_with (codes "board") (asm ∷ run ∷ trace ∷ debug ∷ race ∷ journal ∷ words ∷ [])
+board = program_with (codes "board") (asm ∷ run ∷ trace ∷ debug ∷ race ∷ journal ∷ explore ∷ shrink ∷ words ∷ [])
 
 -- where the command is added to another, a command of this form is
 abbrev pub AddsForm : App → Command → Type 0

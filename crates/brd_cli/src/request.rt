@@ -5,14 +5,18 @@ ghost use Rattle.clap.specs.Words.{app_of, first_of, found_of, kind_of, one_of, 
 ghost use Rattle.clap.specs.declared.error.kind.ErrorKind.TheVariants.{MissingSubcommand};
 ghost use Rattle.brd_cli.specs.Requests.{AreJournalOptions, AreTraceOptions, IsAnswer, IsAsked, IsJournal, IsNumber};
 ghost use Rattle.brd_cli.specs.Requests.{IsNumberOf};
+ghost use Rattle.brd_cli.specs.Requests.{AreLooks, AreSearchOptions, AreSizes, IsExplore, IsNumberOr, IsShrink};
 ghost use Rattle.brd_cli.specs.Requests.{IsFlag, IsRace, IsRequestOf, IsTrace, format_named, given, order_named};
 ghost use Rattle.brd_cli.specs.Usage as usage;
-ghost use Rattle.brd_cli.specs.Usage.{inputs, race_files};
+ghost use Rattle.brd_cli.specs.Usage.{inputs, pair, race_files};
 
 use crate::end::EarlyEnd;
 use crate::usage::board_command;
 use brd_base::NoMemory;
-use brd_command::{JournalOptions, Order, Request, TraceFormat, TraceOptions};
+use brd_command::{
+    JournalOptions, Looks, Order, Request, SearchOptions, ShrinkOptions, Sizes, TraceFormat,
+    TraceOptions,
+};
 use clap::error::ErrorKind;
 use clap::{ArgMatches, Command};
 use std::alloc::Global;
@@ -87,6 +91,8 @@ fn request_named<'a>(name: &str, arguments: &ArgMatches<'a>) -> Option<Request<'
         }
         "trace" => trace_of(arguments),
         "journal" => journal_of(arguments),
+        "explore" => explore_of(arguments),
+        "shrink" => shrink_of(arguments),
         _ => None,
     }
 }
@@ -156,7 +162,7 @@ fn options_of<'a>(arguments: &ArgMatches<'a>) -> JournalOptions<'a>
         switch: number_of(arguments, "CHANCE"),
         weights: text_of(arguments, "WEIGHTS"),
         changes: number_of(arguments, "CHANGES"),
-        tick_every: number_of(arguments, "INTERVAL").unwrap_or(0),
+        tick_every: number_or(arguments, "INTERVAL", 0),
         raises: text_of(arguments, "RAISES"),
     }
 }
@@ -170,6 +176,87 @@ fn order_of(name: Option<&str>) -> Option<Order>
         Some("little") => Some(Order::Little),
         Some(_) => None,
     }
+}
+
+/// The request of `explore`.
+fn explore_of<'a>(arguments: &ArgMatches<'a>) -> Option<Request<'a>>
+    ensures { IsExplore (rows_of (found_of arguments.now)) result }
+{
+    let image = text_of(arguments, "IMAGE")?;
+    let config = text_of(arguments, "CONFIG")?;
+    let options = search_options_of(arguments);
+    let out = text_of(arguments, "OUT");
+    Some(Request::Explore {
+        image,
+        config,
+        options,
+        out,
+    })
+}
+
+/// The options of `explore`.
+fn search_options_of<'a>(arguments: &ArgMatches<'a>) -> SearchOptions<'a>
+    ensures { AreSearchOptions (rows_of (found_of arguments.now)) result }
+{
+    SearchOptions {
+        sizes: sizes_of(arguments),
+        lines: text_of(arguments, "LINES"),
+        looks: looks_of(arguments),
+        shortest: flag_of(arguments, "shortest"),
+        shard: text_of(arguments, "SHARD"),
+        remember: number_or(arguments, "MIB", 0),
+    }
+}
+
+/// How many events a schedule has at most, unless it is said (own choice).
+const USUAL_EVENTS: u32 = 1_000;
+
+/// How many preemptions, likewise (own choice).
+const USUAL_PREEMPTIONS: u32 = 1;
+
+/// How large the search of `explore` is.
+fn sizes_of(arguments: &ArgMatches) -> Sizes
+    ensures { AreSizes (rows_of (found_of arguments.now)) result }
+{
+    Sizes {
+        events: number_or(arguments, "EVENTS", USUAL_EVENTS),
+        preemptions: number_or(arguments, "PREEMPTIONS", USUAL_PREEMPTIONS),
+        ticks: number_or(arguments, "TICKS", 0),
+        raises: number_or(arguments, "RAISES", 0),
+        fair: number_or(arguments, "ROUNDS", 0),
+    }
+}
+
+/// What `explore` and `shrink` look for.
+fn looks_of<'a>(arguments: &ArgMatches<'a>) -> Looks<'a>
+    ensures { AreLooks (rows_of (found_of arguments.now)) result }
+{
+    Looks {
+        exception: flag_of(arguments, "exception"),
+        deadlock: flag_of(arguments, "deadlock"),
+        on: flag_of(arguments, "ends"),
+        words: text_of(arguments, "WORDS"),
+        console: text_of(arguments, "TEXT"),
+    }
+}
+
+/// The request of `shrink`.
+fn shrink_of<'a>(arguments: &ArgMatches<'a>) -> Option<Request<'a>>
+    ensures { IsShrink (rows_of (found_of arguments.now)) result }
+{
+    let (image, config, journal) = inputs_of(arguments)?;
+    let options = ShrinkOptions {
+        looks: looks_of(arguments),
+        fair: number_or(arguments, "ROUNDS", 0),
+    };
+    let out = text_of(arguments, "OUT");
+    Some(Request::Shrink {
+        image,
+        config,
+        journal,
+        options,
+        out,
+    })
 }
 
 /// The request of `race`.
@@ -214,6 +301,13 @@ fn number_of(arguments: &ArgMatches, name: &str) -> Option<u32>
     ensures { IsNumber (one_of name.now (rows_of (found_of arguments.now))) result }
 {
     arguments.get_one::<u32>(name)
+}
+
+/// The number that was given for an argument, or another one where none was.
+fn number_or(arguments: &ArgMatches, name: &str, usual: u32) -> u32
+    ensures { IsNumberOr usual (one_of name.now (rows_of (found_of arguments.now))) result }
+{
+    number_of(arguments, name).unwrap_or(usual)
 }
 
 /// The position that was given for an argument.

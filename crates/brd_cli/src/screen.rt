@@ -40,6 +40,19 @@ impl<'a> Screen<'a> {
     fn now(&self) -> Option<Duration> {
         self.start?.elapsed(self.rt).ok()
     }
+
+    /// Whether it is time to write the line anew, which is written then.
+    fn is_due(&mut self) -> bool {
+        let Some(now) = self.now() else {
+            return false;
+        };
+        if now < self.due {
+            return false;
+        }
+        self.due = now.saturating_add(Duration::from_millis(PAUSE));
+        self.is_shown = true;
+        true
+    }
 }
 
 impl<'a> Progress for Screen<'a> {
@@ -52,16 +65,18 @@ impl<'a> Progress for Screen<'a> {
 
     /// Writes the line anew, where it is time for that.
     fn show(&mut self, done: u64, all: u64) {
-        let Some(now) = self.now() else {
-            return;
-        };
-        if now < self.due {
+        if !self.is_due() {
             return;
         }
-        self.due = now.saturating_add(Duration::from_millis(PAUSE));
-        self.is_shown = true;
         let percent = u128::from(done) * 100 / u128::from(all).max(1);
         let _ = eprint!(self.rt; "\r{done} of {all} events ({percent} %)\x1b[K");
+    }
+
+    /// Writes the line anew, where it is time for that.
+    fn tried(&mut self, schedules: u64) {
+        if self.is_due() {
+            let _ = eprint!(self.rt; "\r{schedules} schedules tried, none fails so far\x1b[K");
+        }
     }
 
     /// Empties the line, where it is shown.

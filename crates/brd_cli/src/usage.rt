@@ -91,6 +91,27 @@ Example, from the top of the repository:
   board asm examples/hello/hello.s build/hello.elf
   echo 'goto 10' | board debug build/hello.elf examples/hello/hello.cfg examples/hello/hello.journal";
 
+/// What the help of `explore` says of its options.
+const EXPLORE: &str = "\
+All schedules within the bounds are searched: those without preemptions first, then those with one,
+and so on. A schedule is a list of events. A preemption is a step that leaves another processor that
+could go on. Unless it is said what fails, an exception or a deadlock does. Where a schedule fails,
+it is told, OUT gets its journal, and the status is 1; where none does, that is told, and it is 0.
+
+Example, from the top of the repository:
+  board asm examples/lost_update/racy.s build/racy.elf
+  board explore build/racy.elf examples/lost_update/racy.cfg --word count=9 --out build/found.journal
+  board run build/racy.elf examples/lost_update/racy.cfg build/found.journal";
+
+/// What the help of `shrink` says of its options.
+const SHRINK: &str = "\
+Events of the journal are left out as long as it fails. Unless it is said what fails, an exception
+or a deadlock does. How many events are left and what fails is told, and OUT gets the journal.
+
+Example, from the top of the repository:
+  board asm examples/deadlock/deadlock.s build/deadlock.elf
+  board shrink build/deadlock.elf examples/deadlock/deadlock.cfg examples/deadlock/deadlock.journal";
+
 /// What the help of `trace` says of its options.
 const TRACE: &str = "\
 A line has the event's position, the processor, who executes, where, and what happens. Position n
@@ -117,6 +138,8 @@ pub fn board_command<'a>(alloc: Global) -> Result<Command<'a>, NoMemory>
         .subcommand(debug_command(alloc)?)?
         .subcommand(race_command(alloc)?)?
         .subcommand(journal_command(alloc)?)?
+        .subcommand(explore_command(alloc)?)?
+        .subcommand(shrink_command(alloc)?)?
         .subcommand(words_command(alloc)?)?;
     Ok(board)
 }
@@ -294,6 +317,149 @@ fn journal_command<'a>(alloc: Global) -> Result<Command<'a>, NoMemory>
             "ORDER",
             "order",
             "The byte order of the boards that it is for: big, as if it weren't given, or little",
+        ))?;
+    Ok(command)
+}
+
+/// What `explore` takes.
+fn explore_command<'a>(alloc: Global) -> Result<Command<'a>, NoMemory>
+    ensures { IfOk result (AddsForm usage.explore) }
+{
+    let command = Command::new(alloc, "explore")
+        .about(
+            "Searches all schedules within bounds for one that fails, or finds that there is none",
+        )
+        .after_help(EXPLORE)
+        .arg(needed(alloc, "IMAGE", "The board's object file"))?
+        .arg(needed(alloc, "CONFIG", "Its kernel's configuration"))?
+        .arg(count(
+            alloc,
+            "EVENTS",
+            "events",
+            "How many events a schedule has at most, 0 to 1,000,000; 1,000 if left out",
+        ))?
+        .arg(count(
+            alloc,
+            "PREEMPTIONS",
+            "preemptions",
+            "How many preemptions it has at most; 1 if left out",
+        ))?
+        .arg(count(
+            alloc,
+            "TICKS",
+            "ticks",
+            "How many ticks it has at most; 0 if left out",
+        ))?
+        .arg(count(
+            alloc,
+            "RAISES",
+            "raises",
+            "How many times an interrupt line is raised at most; 0 if left out",
+        ))?
+        .arg(option(alloc, "LINES", "lines", "Which lines may be raised, as 3,4"))?
+        .arg(flag(
+            alloc,
+            "exception",
+            "Fails where an exception ends a task or stops a processor",
+        ))?
+        .arg(flag(
+            alloc,
+            "deadlock",
+            "Fails where nobody goes on, and a task waits",
+        ))?
+        .arg(flag(alloc, "ends", "Fails where the board is on at the end"))?
+        .arg(option(
+            alloc,
+            "WORDS",
+            "word",
+            "Fails where words differ, as count=2 (at the end), inside=0..1 (always)",
+        ))?
+        .arg(option(
+            alloc,
+            "TEXT",
+            "console",
+            "Fails where the console differs from TEXT, in which \\n, \\t, \\\\ and \\xHH stand for bytes",
+        ))?
+        .arg(count(
+            alloc,
+            "ROUNDS",
+            "fair",
+            "How many rounds of equal turns and ticks come at the end, 0 to 20,000; 0 if left out",
+        ))?
+        .arg(flag(
+            alloc,
+            "shortest",
+            "Searches again with fewer events until none fails",
+        ))?
+        .arg(option(
+            alloc,
+            "SHARD",
+            "shard",
+            "Searches one of M parts of the schedules, as K/M",
+        ))?
+        .arg(count(
+            alloc,
+            "MIB",
+            "remember",
+            "How many MiB of states are remembered, 0 to 4,096; 0 if left out",
+        ))?
+        .arg(option(
+            alloc,
+            "OUT",
+            "out",
+            "Where the journal of a schedule that fails goes",
+        ))?;
+    Ok(command)
+}
+
+/// What `shrink` takes.
+fn shrink_command<'a>(alloc: Global) -> Result<Command<'a>, NoMemory>
+    ensures { IfOk result (AddsForm usage.shrink) }
+{
+    let command = Command::new(alloc, "shrink")
+        .about("Leaves out events of a journal as long as it fails")
+        .after_help(SHRINK)
+        .arg(needed(alloc, "IMAGE", "The board's object file"))?
+        .arg(needed(alloc, "CONFIG", "Its kernel's configuration"))?
+        .arg(needed(
+            alloc,
+            "JOURNAL",
+            "A journal that fails, of at most 1,000,000 events",
+        ))?
+        .arg(flag(
+            alloc,
+            "exception",
+            "Fails where an exception ends a task or stops a processor",
+        ))?
+        .arg(flag(
+            alloc,
+            "deadlock",
+            "Fails where nobody goes on, and a task waits",
+        ))?
+        .arg(flag(alloc, "ends", "Fails where the board is on at the end"))?
+        .arg(option(
+            alloc,
+            "WORDS",
+            "word",
+            "Fails where words differ, as count=2 (at the end), inside=0..1 (always)",
+        ))?
+        .arg(option(
+            alloc,
+            "TEXT",
+            "console",
+            "Fails where the console differs from TEXT, in which \\n, \\t, \\\\ and \\xHH stand for bytes",
+        ))?
+        .arg(count(
+            alloc,
+            "ROUNDS",
+            "fair",
+            "How many rounds of equal turns and ticks come at the end, 0 to 20,000; 0 if left out",
+        ))?
+        .arg(option(
+            alloc,
+            "OUT",
+            "out",
+            "Where the journal of what is left goes",
         ))?;
     Ok(command)
 }
