@@ -22,9 +22,11 @@ SUMMARY = re.compile(rb"after event [0-9]+, tick [0-9]+: .*\n")
 ANY_BOARD = b"BOARD(1, 0x1000000);\n"
 
 # What a case's program finds wrong may be told by clap, or in a line of its own.
-HAS_OPTIONS = ("trace", "journal", "line")
+HAS_OPTIONS = ("trace", "journal", "explore", "shrink", "line")
 # These write as they go, so what was written before a fault stands.
 WRITES_IN_PARTS = ("debug", "trace")
+# What a search has found is told, and then it ends so.
+FAILS = b"board: a schedule fails\n"
 # The ways in which streams fail: what becomes of descriptors 0, 1 and 2.
 STREAMS = ("without 0", "without 1", "without 2", "without 012", "a full output", "a pipe that nobody reads",
            "a pipe that ends")
@@ -106,7 +108,8 @@ class Runs:
         if said and status == 0 or status in (1, 3, 4) and not LINE.fullmatch(said) \
                 or status == 2 and not (WRONG_LINE.fullmatch(said) or case.kind != "line" and LINE.fullmatch(said)):
             return f"status {status} with {said[:200]!r} on standard error"
-        if ended.stdout and status and (case.kind not in WRITES_IN_PARTS or status < 3 and case.kind == "trace"):
+        if ended.stdout and status and said != FAILS and (
+                case.kind not in WRITES_IN_PARTS or status < 3 and case.kind == "trace"):
             return f"status {status} with an output"
         if case.kind == "debug" and not ANSWERS.fullmatch(ended.stdout):
             return "an answer that no command has"
@@ -276,6 +279,34 @@ class Runs:
         except (ValueError, xml.etree.ElementTree.ParseError) as error:
             return f"no {form}: {error}"
         return None
+
+    def look_explore(self, case, ended):
+        """A search says that none fails, or what does, and leaves a journal that can be played."""
+        found = ended.files.get("out.journal")
+        if ended.status == 0:
+            none = re.fullmatch(rb"none of [0-9]+ schedules? fails: at most .*\n", ended.stdout)
+            return None if none and found is None else "other words than of a search that finds nothing"
+        if ended.stderr != FAILS:
+            return "a journal after a fault" if found else None
+        if not ended.stdout.startswith(b"fails after ") or not ended.stdout.endswith(b"\n"):
+            return "other words than of a search that finds something"
+        return self.look_found(case, found)
+
+    def look_found(self, case, found):
+        """The journal of a search is one of the board."""
+        if "--out" not in case.arguments:
+            return "a journal that wasn't asked for" if found else None
+        status = self.run(["run", "image.elf", "board.cfg", "out.journal"]).status
+        return None if status in (0, 3) else "a journal that can't be played"
+
+    def look_shrink(self, case, ended):
+        """No more events are left than there were."""
+        if ended.status:
+            return None
+        told = re.match(rb"([0-9]+) of ([0-9]+) events are left\nfails after .*\n", ended.stdout)
+        if not told or int(told[1]) > int(told[2]):
+            return "other words than of events that are left"
+        return self.look_found(case, ended.files.get("out.journal"))
 
     def look_journal(self, case, ended):
         """There are as many events as asked for, all of processors that are there, and ticks and raises where they

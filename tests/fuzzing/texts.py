@@ -181,18 +181,48 @@ class Texts:
             words += self.among(["--pct", "3"], ["--turn", "1"], ["--switch", "1"], ["--format", "svg"], ["x"])
         return words
 
+    # Options of explore and shrink
+
+    def look_options(self):
+        words = []
+        for option in ("--exception", "--deadlock", "--ends"):
+            if self.often(.25):
+                words.append(option)
+        if self.often(.3):
+            words += ["--word", self.among("0x80000000=1", "0x80000040=0..1", "_start=0", "x=1", "=", "0x80000000=1,",
+                                           "0x80000000=2..1", "0x80000000=0..4294967295")]
+        if self.often(.3):
+            words += ["--console", self.among("", "A", "AB\\n", "\\x41", "\\", "\\x4", "\\q")]
+        if self.often(.2):
+            words += ["--fair", self.among("0", "1", "2", "20001", self.number()[:2])]
+        if self.often(.6):
+            words += ["--out", "out.journal"]
+        return words
+
+    def search_options(self):
+        words = ["--events", self.among("0", "1", "7", "20", "60", "1000001", "x")]
+        for option, values in (("--preemptions", ("0", "1", "1", "4294967296")), ("--ticks", ("0", "1", "-1")),
+                               ("--raises", ("0", "1")), ("--lines", ("0", "3,4", "31", "32", "", "3,")),
+                               ("--shard", ("1/1", "2/3", "0/2", "3/2", "1", "/")), ("--remember", ("0", "1", "4097"))):
+            if self.often(.3):
+                words += [option, self.among(*values)]
+        if self.often(.2):
+            words.append("--shortest")
+        return words + self.look_options()
+
     # Command lines
 
     def arguments(self):
         """A command line, mostly a wrong one. No name has a slash in it, so that files are made in one folder alone."""
-        words = ("words", "asm", "run", "debug", "race", "trace", "journal", "help", "-h", "--help", "--version", "-V",
-                 "--", "-", "", "x", "1", "-1", "1000001", "18446744073709551616", "--STEPS", "--steps=1", "\x1b[31m",
+        words = ("words", "asm", "run", "debug", "race", "trace", "journal", "explore", "shrink", "help", "-h",
+                 "--help", "--version", "-V", "--", "-", "", "x", "1", "-1", "1000001", "18446744073709551616", "--STEPS", "--steps=1", "\x1b[31m",
                  "a\nb", "a\tb",
                  "--from", "--format", "--random", "--raise", "--summary", "--instructions", "--cpu=1",
                  "\u00e9\u202e", "x" * 4000, "image.elf", "board.cfg", "board.journal", "source.s", "%s%n", "{}", "'")
         made = [self.random.choice(words).encode() for _ in range(self.random.choice((0, 1, 1, 2, 2, 3, 4, 5, 9)))]
         if made and self.often(.3):
-            made[0] = self.random.choice((b"words", b"asm", b"run", b"debug", b"trace", b"journal", b"help"))
+            made[0] = self.random.choice((b"words", b"asm", b"run", b"debug", b"trace", b"journal", b"explore",
+                                          b"shrink", b"help"))
         if made and self.often(.1):
             made[self.random.randrange(len(made))] = self.random.randbytes(6).replace(b"\0", b"").replace(b"/", b"_")
         return made

@@ -1,0 +1,360 @@
+#!/usr/bin/env python3
+"""All schedules of a board within bounds, by the model: whether one of them fails, and how many there are if none does.
+
+  tests/model/explore.py IMAGE CONFIG [--events N] [--preemptions P] [--ticks T] [--raises R --lines 3,4]
+      [--fair ROUNDS] [--exception] [--deadlock] [--ends] [--word count=2,inside=0..1] [--console TEXT] [--shortest]
+      [--shard K/M] [--out JOURNAL] [--board PROGRAM]
+
+IMAGE is an object file, or a source, which PROGRAM (build/board) assembles; the options are those of `board explore`.
+It ends with status 1 where a schedule fails, and prints how many preemptions and events it has, and what fails.
+
+CHESS (Musuvathi and Qadeer, "Iterative Context Bounding for Systematic Testing of Multithreaded Programs", PLDI 2007)
+has the bound on preemptions: a switch from a thread that could go on counts, one from a thread that can't is free.
+"""
+import argparse
+import collections
+import os
+import pickle
+import re
+import struct
+import subprocess
+import sys
+import tempfile
+
+sys.dont_write_bytecode = True
+sys.path.insert(0, os.path.dirname(os.path.abspath(__file__)))
+from kernel import Board, Setup, TaskSetup  # noqa: E402 (these are the modules beside this file)
+from machine import RAM_START  # noqa: E402
+
+# How many steps each processor takes in a round of the fair end, before a tick passes.
+ROUND = 16
+ATTRIBUTES = {"TA_NULL": 0, "TA_HLNG": 0, "TA_ASM": 1, "TA_ACT": 2, "TA_TFIFO": 0, "TA_TPRI": 1, "TA_WSGL": 0,
+              "TA_WMUL": 2, "TA_CLR": 4}
+Bounds = collections.namedtuple("Bounds", "events preemptions ticks raises")
+# Where a schedule is, beside its board: what is left of the bounds, who has stepped last, and the path there: None, or
+# a pair of the path before and an event.
+Place = collections.namedtuple("Place", "left last path")
+Image = collections.namedtuple("Image", "order segments symbols")
+# What is looked for beside words: the failures' names, the console's text or None, and (address, least, most) of words
+# at the end and of words always.
+Wanted = collections.namedtuple("Wanted", "names console last always rounds")
+
+
+class Uncounted:
+    """In place of the model's counters, which a copied board would drag along."""
+
+    def __getitem__(self, name):
+        return 0
+
+    def __setitem__(self, name, count):
+        pass
+
+
+class Explored(Board):
+    """A board that knows whether an exception was raised, and is copied quickly."""
+
+    def __init__(self, setup):
+        self.has_fault = False
+        super().__init__(setup)
+        self.counts = self.memory.counts = Uncounted()
+
+    def fault(self, processor, code):
+        self.has_fault = True
+        super().fault(processor, code)
+
+    def packed(self):
+        self.memory.changed.clear()
+        return pickle.dumps(self, -1)
+
+    def goes(self, processor):
+        """Whether a step of a processor does anything: an interrupt is accepted, or somebody executes."""
+        if self.off or processor.stopped:
+            return False
+        free = processor.line is None and not processor.locked
+        due = any(self.lines[line][0] == processor.number for line in self.pending)
+        return free and due or processor.context() is not None
+
+    def does(self, event):
+        kind, number = event
+        if kind == "S":
+            return number in self.processors and self.goes(self.processors[number])
+        return not self.off and (kind == "T" or number in self.lines)
+
+    # What is looked for
+
+    def is_still(self):
+        """Nobody goes on, and no tick ends a wait."""
+        return not any(map(self.goes, self.processors.values())) and all(it.due is None for it in self.tasks.values())
+
+    def is_stuck(self):
+        return not self.off and self.is_still() and any(it.waits_in is not None for it in self.tasks.values())
+
+    def word(self, address):
+        at, memory = address - RAM_START, self.memory
+        return int.from_bytes(memory.bytes[at:at + 4], memory.order) if 0 <= at <= len(memory.bytes) - 4 else None
+
+    def fault_of(self, words):
+        """The first of some words that isn't what it should be, or nothing."""
+        found = ((address, self.word(address), least, most) for address, least, most in words)
+        return next((f"the word at {address:08x} is {word}" for address, word, least, most in found
+                     if word is None or not least <= word <= most), None)
+
+    def fault_by_now(self, wanted):
+        """What a board shows at whatever point of a schedule, or nothing."""
+        if "exception" in wanted.names and self.has_fault:
+            return "an exception"
+        if "deadlock" in wanted.names and self.is_stuck():
+            return "a deadlock"
+        if wanted.console is not None and not wanted.console.startswith(self.console):
+            return "another console"
+        return self.fault_of(wanted.always)
+
+    def fault_at_last(self, wanted):
+        """What the last board of a schedule shows, or nothing. Where there is no fair end, a board that would still go
+        on says nothing."""
+        for _ in range(wanted.rounds):
+            for _ in range(ROUND):
+                for number in self.processors:
+                    self.event("S", number)
+            self.event("T")
+        found = self.fault_by_now(wanted)
+        if found or not (wanted.rounds or self.off or self.is_still()):
+            return found
+        if wanted.console is not None and not self.console.startswith(wanted.console):
+            return "another console"
+        if "on" in wanted.names and not self.off:
+            return "the board is on"
+        return self.fault_of(wanted.last)
+
+
+class Search:
+    """A search through schedules. `found` is a schedule that fails, and what fails there; `tried` is how many have come
+    to their end."""
+
+    def __init__(self, setup, bounds, wanted, lines, shard):
+        self.setup, self.bounds, self.wanted, self.shard = setup, bounds, wanted, shard
+        self.among = [("S", number) for number in range(1, setup.processors + 1)]
+        self.among += [("T", 0)] * (bounds.ticks > 0) + [("R", line) for line in lines if bounds.raises]
+        self.tried, self.branches, self.found = 0, 0, None
+
+    def run(self):
+        """Goes along the trunk, the schedule on which always the first event comes that may, and searches the branches
+        that leave it: those that are the shard's."""
+        board, place = Explored(self.setup), Place(self.bounds, 0, None)
+        ways = self.ways(board, place)
+        while ways:
+            for event, after in self.own(ways[1:]):
+                branch = pickle.loads(board.packed())
+                branch.event(*event)
+                self.search(branch, after)
+                if self.found:
+                    return self.found
+            event, place = ways[0]
+            board.event(*event)
+            ways = self.ways(board, place)
+        return self.found
+
+    def search(self, board, place):
+        """Depth first from a place on: goes by the first event that may come, while the others wait."""
+        waiting = []
+        while True:
+            ways = self.ways(board, place)
+            packed = len(ways) > 1 and board.packed()
+            waiting += [(packed, *way) for way in ways[:0:-1]]
+            if ways:
+                event, place = ways[0]
+            elif waiting and not self.found:
+                packed, event, place = waiting.pop()
+                board = pickle.loads(packed)
+            else:
+                return
+            board.event(*event)
+
+    def ways(self, board, place):
+        """The events that may come, with the place after each. There are none where the schedule fails or ends."""
+        fault = board.fault_by_now(self.wanted)
+        ways = [] if fault else [(event, after) for event in self.among if board.does(event)
+                                 for after in [place_after(board, place, event)] if min(after.left) >= 0]
+        if not ways:
+            self.tried += not fault
+            fault = fault or board.fault_at_last(self.wanted)
+            self.found = (listed(place.path), fault) if fault else None
+        return ways
+
+    def own(self, others):
+        """Those of some branches, numbered along the trunk, that are the shard's."""
+        number, of = self.shard
+        own = [way for at, way in enumerate(others, self.branches) if at % of == number - 1]
+        self.branches += len(others)
+        return own
+
+
+def place_after(board, place, event):
+    """The place after an event; something in it is below 0 where the bounds don't have it."""
+    kind, number = event
+    (events, preemptions, ticks, raises), last, path = place
+    is_preempting = kind == "S" and last not in (0, number) and board.processors[last].context() is not None
+    left = Bounds(events - 1, preemptions - is_preempting, ticks - (kind == "T"), raises - (kind == "R"))
+    return Place(left, number if kind == "S" else last, (path, event))
+
+
+def listed(path):
+    events = []
+    while path:
+        path, event = path
+        events.append(event)
+    return events[::-1]
+
+
+def searched(setup, bounds, wanted, lines, shard, shortest):
+    """The last search: with as few preemptions as fail, and then, if asked for, with as few events."""
+    for preemptions in range(bounds.preemptions + 1):
+        search = Search(setup, bounds._replace(preemptions=preemptions), wanted, lines, shard)
+        if search.run():
+            break
+    while shortest and search.found and search.found[0]:
+        fewer = Search(setup, search.bounds._replace(events=len(search.found[0]) - 1), wanted, lines, shard)
+        if not fewer.run():
+            break
+        search = fewer
+    return search
+
+
+def journal(events, order):
+    lines, at = [f"board-journal 2 {order}"], 0
+    while at < len(events):
+        kind, number = events[at]
+        count = next((n for n in range(1, len(events) - at) if events[at + n] != events[at]), len(events) - at)
+        lines.append(f"T {count}" if kind == "T" else f"{kind} {number} {count}")
+        at += count
+    return "".join(f"{line}\n" for line in lines)
+
+
+# Files
+
+def read_image(data):
+    """An object file (System V ABI): byte order, segments, symbols."""
+    order = "big" if data[5] == 2 else "little"
+    sign = ">" if order == "big" else "<"
+    programs, sections = struct.unpack_from(f"{sign}2I", data, 28)
+    headers, _, program_count, _, section_count = struct.unpack_from(f"{sign}5H", data, 40)[0:5]
+    segments, symbols = [], {}
+    for at in range(programs, programs + 32 * program_count, 32):
+        kind, offset, address, _, size = struct.unpack_from(f"{sign}5I", data, at)
+        if kind == 1 and size:
+            segments.append((address, data[offset:offset + size]))
+    tables = [struct.unpack_from(f"{sign}10I", data, sections + 40 * it) for it in range(section_count)]
+    for table in tables:
+        if table[1] == 2:
+            names = tables[table[6]][4]
+            for at in range(table[4], table[4] + table[5], 16):
+                name, value = struct.unpack_from(f"{sign}2I", data, at)
+                text = data[names + name:data.index(0, names + name)].decode()
+                symbols.setdefault(text, value)
+    return Image(order, segments, symbols)
+
+
+def image_of(path, program):
+    with open(path, "rb") as file:
+        data = file.read()
+    if data[:4] == b"\x7fELF":
+        return read_image(data)
+    with tempfile.TemporaryDirectory() as folder:
+        subprocess.run([program, "asm", path, f"{folder}/image"], check=True)
+        with open(f"{folder}/image", "rb") as file:
+            return read_image(file.read())
+
+
+def setup_of(text, image):
+    """What a configuration makes of an image."""
+    text = re.sub(r"//.*|(?s:/\*.*?\*/)", " ", text)
+    values = image.symbols | ATTRIBUTES
+
+    def value(word):
+        return sum({values[it] if it in values else int(it, 0) for it in re.split(r"\s*\|\s*", word.strip())})
+    kinds, tasks, lines, cpu = {"SEM": {}, "FLG": {}, "DTQ": {}, "SPN": {}}, [], {}, 1
+    for name, words, end in re.findall(r"(\w+)\s*\(([^;]*?)\)\s*(?=([;{]))|\}", text):
+        words = [it.strip() for it in words.replace("{", " ").replace("}", " ").split(",")]
+        if name == "BOARD":
+            processors, ram = map(value, words)
+        elif name == "CLASS":
+            cpu = int(words[0][4:])
+        elif name == "":
+            cpu = 1
+        elif name == "DEF_INH":
+            lines[value(words[0])] = cpu, value(words[2])
+        elif name == "CRE_TSK":
+            key, bits, argument, address, priority, size = map(value, words[:6])
+            stack = None if words[6] == "NULL" else value(words[6])
+            tasks.append(TaskSetup(key, cpu, bool(bits & 2), argument, address, priority, size, stack))
+        else:
+            key, bits, *rest = [0 if it == "NULL" else value(it) for it in words]
+            kinds[name[4:]][key] = {"SEM": (bool(bits & 1), *rest), "DTQ": (bool(bits & 1), *rest[:1]), "SPN": None,
+                                    "FLG": (bool(bits & 1), bool(bits & 2), bool(bits & 4), *rest)}[name[4:]]
+    return Setup(processors, ram, image.order, image.segments, tasks, *kinds.values(), lines)
+
+
+def wanted_of(words, symbols):
+    names = [it for it, is_wanted in (("exception", words.exception), ("deadlock", words.deadlock), ("on", words.ends))
+             if is_wanted]
+    last, always = [], []
+    for name, value in re.findall(r"([^=,]+)=([^,]+)", words.word or ""):
+        address = symbols[name] if name in symbols else int(name, 16)
+        least, _, most = value.partition("..")
+        (always if most else last).append((address, int(least, 0), int(most or least, 0)))
+    console = words.console and re.sub(r"\\(n|t|\\|x..)", unescaped, words.console).encode("latin-1")
+    if not (names or last or always or words.console is not None):
+        names = ["exception", "deadlock"]
+    return Wanted(names, b"" if words.console == "" else console, last, always, words.fair)
+
+
+def unescaped(found):
+    return {"n": "\n", "t": "\t", "\\": "\\"}.get(found[1]) or chr(int(found[1][1:], 16))
+
+
+def counted(number, thing):
+    return f"{number} {thing}{'' if number == 1 else 's'}"
+
+
+def words_of_command():
+    parser = argparse.ArgumentParser()
+    parser.add_argument("image")
+    parser.add_argument("config")
+    for name, number in (("events", 1000), ("preemptions", 1), ("ticks", 0), ("raises", 0), ("fair", 0)):
+        parser.add_argument(f"--{name}", type=int, default=number)
+    for name in ("exception", "deadlock", "ends", "shortest"):
+        parser.add_argument(f"--{name}", action="store_true")
+    for name in ("lines", "word", "console", "out"):
+        parser.add_argument(f"--{name}")
+    parser.add_argument("--shard", default="1/1")
+    parser.add_argument("--board", default="build/board")
+    return parser.parse_args()
+
+
+def main():
+    words = words_of_command()
+    image = image_of(words.image, words.board)
+    with open(words.config, encoding="latin-1") as file:
+        setup = setup_of(file.read(), image)
+    bounds = Bounds(words.events, words.preemptions, words.ticks, words.raises)
+    lines = [int(it) for it in (words.lines or "").split(",") if it]
+    shard = tuple(map(int, words.shard.split("/")))
+    search = searched(setup, bounds, wanted_of(words, image.symbols), lines, shard, words.shortest)
+    if search.found:
+        events, fault = search.found
+        print(f"{counted(search.bounds.preemptions, 'preemption')}, {counted(len(events), 'event')}: {fault}")
+        text = journal(events, image.order)
+        if words.out:
+            with open(words.out, "w", encoding="latin-1") as file:
+                file.write(text)
+        else:
+            print(text, end="")
+        return 1
+    print(f"none of {counted(search.tried, 'schedule')} fails: at most {counted(bounds.events, 'event')}, "
+          f"{counted(bounds.preemptions, 'preemption')}, {counted(bounds.ticks, 'tick')} and "
+          f"{counted(bounds.raises, 'raise')}" + (f", shard {shard[0]} of {shard[1]}" if shard[1] > 1 else ""))
+    return 0
+
+
+if __name__ == "__main__":
+    sys.exit(main())
