@@ -12,6 +12,8 @@
 #   make run            shows the report of JOURNAL (firmware.journal)
 #   make debug          debugs JOURNAL with the names of C
 #   make hunt           does the events of JOURNAL in TRIES other orders, and keeps the first that fails
+#   make explore        searches all schedules within bounds for one under which the test of JOURNAL fails
+#   make shrink         leaves events out of the schedule that was found, as long as it fails
 #   make clean
 #
 # STACK_CHECK=1 with any of these: each function looks whether the stack has room for it. ORDER=little: the program is
@@ -35,6 +37,13 @@ SEED ?= 1
 EXPECT ?= console
 MOVE ?= raises
 JOBS ?= $(shell nproc 2> /dev/null || echo 1)
+EVENTS ?= 100000
+PREEMPTIONS ?= 1
+TICKS ?=
+RAISES ?=
+RAISED ?=
+FAIR ?= 0
+LOOK ?=
 BUILD ?= build
 
 BOARD ?= $(SDK)/../build/board
@@ -90,7 +99,7 @@ CONFIGURATION = $(BUILD)/$(PROGRAM).cfg
 # Its tests: of the only program all journals are.
 journals = $(if $(word 2,$(PROGRAMS)),$(wildcard $1.journal $1.*.journal),$(wildcard *.journal))
 
-.PHONY: all test accept run debug hunt clean FORCE
+.PHONY: all test accept run debug hunt explore shrink clean FORCE
 .DELETE_ON_ERROR:
 .SECONDARY:
 
@@ -164,6 +173,15 @@ debug: all
 hunt: all
 	@$(SDK)/hunt $(BOARD) $(IMAGE) $(CONFIGURATION) $(JOURNAL) $(BUILD)/hunt.journal --tries '$(TRIES)' \
 	    --seed '$(SEED)' --expect '$(EXPECT)' --move '$(MOVE)' --jobs '$(JOBS)'
+
+explore: all
+	@$(SDK)/explore $(BOARD) $(IMAGE) $(CONFIGURATION) $(JOURNAL) $(BUILD)/explore.journal --events '$(EVENTS)' \
+	    --preemptions '$(PREEMPTIONS)' --ticks '$(TICKS)' --raises '$(RAISES)' --lines '$(RAISED)' \
+	    --fair '$(FAIR)' --look '$(LOOK)'
+
+shrink: all
+	@$(SDK)/explore --shrink $(BOARD) $(IMAGE) $(CONFIGURATION) $(JOURNAL) $(BUILD)/explore.journal \
+	    $(BUILD)/shrunk.journal --fair '$(FAIR)' --look '$(LOOK)'
 
 clean:
 	rm -rf $(BUILD)

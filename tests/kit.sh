@@ -120,6 +120,17 @@ for level in -O0 -O2; do
     verdict "kit: where a race was found" "$(grep -qE '^[0-9a-f]{8} is adder firmware\.c:[0-9]+$' "$work/said" ||
         cat "$work/said")"
 done
+# All schedules: one under which the test fails, a part of it that fails too, and none of the right program.
+adders=$work/kit/adders
+says "a schedule of a race" 2 "the schedule is kept as $work/build/explore.journal" \
+    project "$adders" explore CFLAGS=-DRACE
+says "a schedule that is made shorter" 0 "the schedule is kept as $work/build/shrunk.journal" \
+    project "$adders" shrink CFLAGS=-DRACE
+says "all schedules" 0 \
+    'none of [0-9]+ schedules fails: at most 100000 events, 2 preemptions, 0 ticks and 0 raises' \
+    project "$adders" explore PREEMPTIONS=2
+says "sdk/explore without a program" 2 \
+    "use: sdk/explore [--shrink] BOARD IMAGE CONFIG NAME.journal [FOUND] OUT [OPTION..]" sdk/explore
 # steps JOURNAL: its other events, and how many steps each processor has before each of them.
 steps() {
     awk '

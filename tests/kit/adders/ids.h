@@ -1,0 +1,2 @@
+#define FIRST 1                         /* tasks */
+#define SECOND 2
