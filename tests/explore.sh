@@ -320,11 +320,12 @@ fi
 
 # ---- Refused memory
 
+# (A search that may remember states remembers fewer where a growth is refused, and says another number of schedules.)
 assembled lost_update_right.s
 : > "$work/in"
-explores "$image" $examples/lost_update.cfg --word count=2 --remember 1
+explores "$image" $examples/lost_update.cfg --word count=2
 cp "$work/out" "$work/wanted"
-refuse_each explore 3 "board: out of memory" "$board" explore "$image" $examples/lost_update.cfg --word count=2 --remember 1
+refuse_each explore 3 "board: out of memory" "$board" explore "$image" $examples/lost_update.cfg --word count=2
 assembled lost_update.s
 "$board" shrink "$image" $examples/lost_update.cfg "$work/found" --word count=2 > "$work/wanted"
 refuse_each shrink 3 "board: out of memory" "$board" shrink "$image" $examples/lost_update.cfg "$work/found" --word count=2
