@@ -232,7 +232,7 @@ fn may_come(alloc: Global) -> bool {
     plan.among.as_slice() == events.as_slice()
         && plan.shard.number == 1
         && plan.shard.of == 4
-        && plan.remember == 14
+        && plan.remember == 1
         && plan.wanted.failures.len() == 2
 }
 

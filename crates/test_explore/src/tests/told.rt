@@ -47,7 +47,7 @@ const CASES: &[Case] = &[
         preemptions: 2,
         fair: 0,
         looks: LOST,
-        told: "the word at 80000000 is 1, not 2 after 20 events
+        told: "after 20 events: the word at 80000000 is 1, not 2
        0  processor 2 goes on at 80000010
        3  processor 2 stops before addiu $t0, $t0, 1 at 8000001c; processor 1 goes on at 80000010
       13  processor 2 goes on at 8000001c
@@ -60,7 +60,7 @@ const CASES: &[Case] = &[
         preemptions: 2,
         fair: 1,
         looks: LOST,
-        told: "the word at 80000000 is 1, not 2 after 0 events, at the fair end
+        told: "after 0 events and the fair end: the word at 80000000 is 1, not 2
 ",
     },
     Case {
@@ -80,7 +80,7 @@ const CASES: &[Case] = &[
         preemptions: 2,
         fair: 0,
         looks: DEAD,
-        told: "a deadlock: nobody goes on, and a task waits after 12 events
+        told: "after 12 events: a deadlock: nobody goes on, and a task waits
        0  processor 2 goes on at 80000020
        3  processor 2 stops before addiu $a0, $zero, 1 at 8000002c; processor 1 goes on at 80000000
        9  processor 2 goes on at 8000002c
