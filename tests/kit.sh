@@ -466,13 +466,42 @@ break firmware.c:0|no code begins at firmware\.c:0; the next line with code is f
 goto 0|at 0: line 3 is raised
 next|at [0-9]+: processor [12] in adder \(firmware\.c:[0-9]+\)
 regs 1|pc 80[0-9a-f]{6} [a-z_0-9]+ \([a-z]+\.[a-zS]+:[0-9]+\)
-watch nothing|unknown
-mem nothing+1|unknown
-mem adder+x|unknown
-mem lock+99999999999|unknown
+watch nothing|the program has no variable 'nothing'
+mem nothing+1|the program has no variable 'nothing\+1'
+mem adder+x|after \+ stands a number, and not 'x'
+mem lock+99999999999|outside
+mem added+0x3|[0-9a-f]{2}
+mem 0x80000000|[0-9a-f]{2}
+mem 80000000|[0-9a-f]{2}
+mem 0x7fffffff|outside
+mem $sp+8|[0-9a-f]{2}
+mem $sp+x|after \+ stands a number, and not 'x'
+watch 0x80000003|ok
+watch $t0|a register can't be watched: break at the instructions that write it
+$t0|[0-9a-f]{8}
+$8 2|[0-9a-f]{8}
+$pc 2|80[0-9a-f]{6} [a-z_0-9]+ \([a-z]+\.[a-zS]+:[0-9]+\)
+$zero|00000000
+$t0 3|processor 3 executes nothing here
+$t10|there is no register \$t10
+$t0 x|unknown \(help lists the commands\)
+break add|ok
+break spin_lock|ok
+break adder+0x8|ok
+break 0x80000000|ok
+break nothing|the program has no function 'nothing'
+break 0x8000000g|the program has no function '0x8000000g'
+break wai_flg|the program calls wai_flg nowhere
+break try_spin|the program has no function 'try_spin'
+break added|added is a variable, and no code; where it changes: watch added
+break added+1|added\+1 is a variable, and no code; where it changes: watch added\+1
+break nothing.c:7|the program has no code of a file nothing\.c: board\.h, entries\.inc, firmware\.c, .*
+break firmware.c:99|no code begins at firmware\.c:99, nor after it; the last line with code is firmware\.c:[0-9]+
+break firmware.c:x|no code begins at firmware\.c:x, nor after it; .*
+break|unknown \(help lists the commands\)
 goto 99999999999|past [0-9]+
-jump|unknown
-|unknown
+jump|unknown \(help lists the commands\)
+|unknown \(help lists the commands\)
 END
     cut -d '|' -f 1 "$work/session" > "$work/in"
     project "$shared" debug CFLAGS=-DRACE JOURNAL="$work/build/hunt.journal" < "$work/in" 2> "$work/err" |
@@ -483,20 +512,41 @@ END
         [[ "$answer" =~ ^$pattern$ ]] || wrong="$wrong; '$command' is answered by '$answer'"
     done 3< "$work/session" 4< "$work/out"
     verdict "kit: sdk/debug" "$wrong"
-    # Service calls are compiled into their callers; a line without code; the source; a step.
+    # Service calls, and other functions, are compiled into their callers; a line without code; the source; a step.
     printf '%s\n' 'break loc_cpu' next list step 'break firmware.c:1' help | project "$shared" debug > "$work/out" 2>&1
     verdict "kit: sdk/debug at a service call" "$(
         grep -qE '^at [0-9]+: processor [12] in adder \(firmware\.c:[0-9]+\)$' "$work/out" &&
             grep -qE '^> +[0-9]+ +loc_cpu\(\);$' "$work/out" && grep -q '^quit                      end$' "$work/out" &&
             grep -qE '^no code begins at firmware\.c:1; the next line with code is firmware\.c:[0-9]+$' "$work/out" ||
             cat "$work/out")"
+    for inlined in 'spin_lock|(interrupt|adder)' 'add|add' 'swap|swap'; do
+        printf 'break %s\nnext\n' "${inlined%%|*}" | project "$shared" debug > "$work/out" 2>&1
+        verdict "kit: sdk/debug at a function without code of its own, ${inlined%%|*}" "$(
+            grep -qE "^at [0-9]+: processor [12] in ${inlined#*|} \(firmware\.c:[0-9]+\)\$" "$work/out" ||
+                cat "$work/out")"
+    done
+    verdict "kit: sdk/debug's help" "$(
+        echo '?' | project "$shared" debug | diff <(echo help | project "$shared" debug) -)"
+    # Registers by their names: those of `regs`, and each alone.
+    printf '%s\n' 'goto 300' 'regs 1' | project "$shared" debug | tail -n +2 > "$work/registers"
+    sed 's/ .*/ 1/; s/^pc/$pc/' "$work/registers" | { echo 'goto 300'; cat; } | project "$shared" debug |
+        tail -n +2 > "$work/out"
+    verdict "kit: sdk/debug's registers" "$(
+        [ "$(wc -l < "$work/out")" -gt 3 ] || echo "few registers"
+        sed 's/^[^ ]* //' "$work/registers" | diff - "$work/out")"
     # An object file of `board asm` has no sizes of symbols and no lines.
     "$board" asm examples/lost_update/racy.s "$work/racy.elf"
-    printf '%s\n' 'watch count' end back 'mem count' list |
+    printf '%s\n' 'watch count' end back 'mem count' list 'break racy.s:3' 'break wai_sem' '$t0' where 'break adder' back |
         sdk/debug "$board" "$work/racy.elf" examples/lost_update/racy.cfg examples/lost_update/racy.journal > "$work/out"
     printf '%s\n' ok 'at 110: the end' 'at 71: processor 1 in again+0x8, count: 00000006 -> 00000007' 00000006 \
-        'there is no source of again+0x8' > "$work/wanted"
+        'there is no source of again+0x8' 'the program has no lines of C, only names: break NAME' \
+        "the program has no function 'wai_sem'" 00000007 'processor 1 in again+0x8' ok \
+        'at 65: processor 1 in again+0x8, count: 00000005 -> 00000006' > "$work/wanted"
     verdict "kit: sdk/debug of a program in assembler" "$(diff "$work/wanted" "$work/out")"
+    verdict "kit: sdk/debug without the tools" "$(
+        CROSS=nosuch- sdk/debug "$board" "$work/racy.elf" examples/lost_update/racy.cfg \
+            examples/lost_update/racy.journal < "$work/nothing" 2>&1 |
+            diff <(echo "there is no nosuch-nm, which reads the names of a program: apt-get install binutils-mips-linux-gnu") -)"
     says "sdk/debug without a program" 2 "there is no object file nosuch" sdk/debug "$board" nosuch config journal
     says "LIBC" 2 "$sdk/board.mk:[0-9]+: \\*\\*\\* LIBC is 1 or nothing, and not 'yes'.  Stop." project "$shared" LIBC=yes
     printf 'quit\nend\n' | project "$shared" debug CFLAGS=-DRACE > "$work/out" 2> "$work/err"

@@ -1,11 +1,14 @@
 """What the kit's scripts share: a program for the board, its names, and runs of it."""
 import os
 import re
+import shutil
 import subprocess
 import sys
 import tempfile
 
 CROSS = os.environ.get("CROSS", "mips-linux-gnu-")
+# A number as it is written after a name: decimal, or hexadecimal with 0x.
+NUMBER = re.compile(r"0x[0-9a-fA-F]+|0|[1-9][0-9]*")
 # Service calls and the like are compiled into their callers, so a place in these is told as the caller's.
 INLINED = re.compile(r"(^|/)(kernel|board)\.h$")
 
@@ -27,7 +30,9 @@ class Names:
     """The symbols of an image, and its lines."""
 
     def __init__(self, image):
-        self.image, self.places, self.at = image, {}, {}
+        if not shutil.which(f"{CROSS}nm"):
+            fail(f"there is no {CROSS}nm, which reads the names of a program: apt-get install binutils-mips-linux-gnu")
+        self.image, self.places, self.at, self.kinds = image, {}, {}, {}
         listed = subprocess.run([f"{CROSS}nm", "-n", "-S", image], stdout=subprocess.PIPE, check=True).stdout.decode()
         found = [line.split() for line in listed.split("\n")]
         found = [(int(it[0], 16) & 0xFFFFFFFF, int(it[1], 16) if len(it) == 4 else None, it[-2], it[-1])
@@ -36,6 +41,7 @@ class Names:
             if kind != "a" and 0x80000000 <= address < 0x81000000:
                 self.places.setdefault(name, (address, size or self.size_of_word(address, found)))
                 self.at.setdefault(address, name)
+                self.kinds.setdefault(name, kind)
         self.addresses = sorted(self.at)
         self.lines = subprocess.Popen([f"{CROSS}addr2line", "-aife", image], stdin=subprocess.PIPE,
                                       stdout=subprocess.PIPE, text=True)
@@ -49,10 +55,18 @@ class Names:
     def place(self, word):
         """Address and size of what a word names, if it names something."""
         name, plus, offset = word.partition("+")
-        if name not in self.places or (plus and not offset.isdigit()):
+        if name not in self.places or (plus and not NUMBER.fullmatch(offset)):
             return None
         address, size = self.places[name]
-        return (address + int(offset), 1) if plus else (address, size)
+        return (address + int(offset, 0), 1) if plus else (address, size)
+
+    def is_variable(self, name):
+        """Whether a symbol is one of data. (Of what `board asm` makes nobody knows.)"""
+        return self.kinds.get(name, "?") in "bBdDgGrRsSC"
+
+    def below(self, address):
+        """The nearest symbol that doesn't lie above an address, or nothing."""
+        return next((it for it in reversed(self.addresses) if it <= address), None)
 
     def frames(self, address):
         """The functions that an address belongs to, the innermost first, each as (function, path, line)."""
@@ -66,9 +80,26 @@ class Names:
                 self.lines.stdout.readline()
                 self.lines.stdout.readline()
                 return found
-            line = self.lines.stdout.readline().strip()
-            path, _, number = re.sub(r" \(discriminator \d+\)", "", line).rpartition(":")
-            found.append((function, path, number))
+            found.append(self.frame_of(function, self.lines.stdout.readline()))
+
+    @staticmethod
+    def frame_of(function, line):
+        """What two lines of addr2line say."""
+        path, _, number = re.sub(r" \(discriminator \d+\)", "", line.strip()).rpartition(":")
+        return function, path, number
+
+    def frames_of(self, addresses):
+        """The same for many addresses at once."""
+        ran = subprocess.run([f"{CROSS}addr2line", "-aife", self.image], text=True, check=True, stdout=subprocess.PIPE,
+                             input="".join(f"{it:08x}\n" for it in addresses))
+        found = []
+        lines = iter(ran.stdout.split("\n")[:-1])
+        for line in lines:
+            if re.fullmatch("0x[0-9a-f]{8}", line):
+                found.append([])
+            else:
+                found[-1].append(self.frame_of(line, next(lines)))
+        return found
 
     def frame(self, address):
         """The function and the line of an address that a reader looks for, or nothing."""
@@ -81,11 +112,10 @@ class Names:
         if found and not found[1].startswith("??"):
             return f"{found[0]} ({os.path.basename(found[1])}:{found[2]})"
         number = int(address, 16)
-        below = [it for it in self.addresses if it <= number]
-        if not below:
+        below = self.below(number)
+        if below is None:
             return "?"
-        offset = number - below[-1]
-        return self.at[below[-1]] + (f"+0x{offset:x}" if offset else "")
+        return self.at[below] + (f"+0x{number - below:x}" if number > below else "")
 
     def told(self, address):
         """The same as a line of a list."""
