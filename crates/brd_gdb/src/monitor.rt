@@ -1,0 +1,60 @@
+//! The texts of the command `monitor`.
+
+ghost use Rattle.std.specs.Prelude.{◌≡◌};
+ghost use Rattle.brd_gdb.specs.Reading as reading;
+
+use crate::request::Monitor;
+use brd_text::plain_decimal;
+
+/// What a text asks for.
+pub fn monitored(text: &[u8]) -> Monitor
+    ensures { result ≡ reading.monitor_of text.now }
+{
+    if let Some(command) = word(text) {
+        return command;
+    }
+    match numbered(text) {
+        Some(command) => command,
+        None => Monitor::Unknown,
+    }
+}
+
+/// The command of a text that is one word.
+fn word(text: &[u8]) -> Option<Monitor>
+    ensures { result ≡ reading.monitor_word text.now }
+{
+    if text == b"where".as_slice() {
+        return Some(Monitor::Where);
+    }
+    if text == b"tasks".as_slice() {
+        return Some(Monitor::Tasks);
+    }
+    if text == b"objects".as_slice() {
+        return Some(Monitor::Objects);
+    }
+    if text == b"console".as_slice() {
+        return Some(Monitor::Console);
+    }
+    if text == b"summary".as_slice() {
+        return Some(Monitor::Summary);
+    }
+    if text == b"help".as_slice() {
+        return Some(Monitor::Help);
+    }
+    None
+}
+
+/// The command of a text that is a word, one space and a number.
+fn numbered(text: &[u8]) -> Option<Monitor>
+    ensures { result ≡ reading.monitor_number text.now }
+{
+    if let Some(digits) = text.strip_prefix(b"goto ") {
+        let position = plain_decimal(digits, u64::MAX)?;
+        return Some(Monitor::Goto(position));
+    }
+    if let Some(digits) = text.strip_prefix(b"trace ") {
+        let lines = plain_decimal(digits, u32::MAX as u64)?;
+        return Some(Monitor::Trace(lines as u32));
+    }
+    None
+}
