@@ -1,0 +1,1 @@
+#define CHECK 1                         /* tasks */
