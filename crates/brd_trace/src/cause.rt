@@ -52,6 +52,7 @@ impl Raised {
         match self.fault.code {
             ExceptionCode::AdEL | ExceptionCode::AdES => self.put_unaligned(names, out)?,
             ExceptionCode::IBE => {
+                self.put_end(out)?;
                 put(out, "fetch outside RAM at ")?;
                 put_word(out, self.context.pc())?;
                 self.put_return(names, out)?;
@@ -120,17 +121,28 @@ impl Raised {
         names.put_place(out, self.context.read(Register::low(31)))
     }
 
-    /// Puts the code of a BREAK at the end.
-    fn put_break(&self, alloc: Global, out: &mut Vec<u8>) -> Result<(), NoMemory> {
-        put(out, "break ")?;
-        put_number(alloc, out, u64::from(self.break_code().unwrap_or(0)))
+    /// Puts at the end that a function has returned which a task or a handler began with, where it has: $ra is 0 when
+    /// they begin.
+    fn put_end(&self, out: &mut Vec<u8>) -> Result<(), NoMemory> {
+        if self.context.pc() == 0 && self.context.read(Register::low(31)) == 0 {
+            return put(out, "returned from its function, ");
+        }
+        Ok(())
     }
 
-    /// The code of a BREAK.
-    fn break_code(&self) -> Option<u32> {
+    /// Puts at the end what a BREAK stands for, and its code.
+    fn put_break(&self, alloc: Global, out: &mut Vec<u8>) -> Result<(), NoMemory> {
+        let code = self.code();
+        put_meaning(out, code)?;
+        put(out, "break ")?;
+        put_number(alloc, out, u64::from(code))
+    }
+
+    /// The code of a BREAK or of a trap that has one, else 0.
+    fn code(&self) -> u32 {
         match self.instruction() {
-            Some(insn) => break_code_of(&insn),
-            None => None,
+            Some(insn) => code_of(&insn),
+            None => 0,
         }
     }
 
@@ -163,8 +175,9 @@ impl Raised {
         }
     }
 
-    /// Puts at the end the trap, and which words it compared.
+    /// Puts at the end what a trap stands for, the trap, and which words it compared.
     fn put_trap(&self, out: &mut Vec<u8>) -> Result<(), NoMemory> {
+        put_meaning(out, self.code())?;
         put_instruction(out, self.context.pc(), self.word)?;
         let Some(words) = self.words() else {
             return Ok(());
@@ -218,11 +231,22 @@ fn is_sc(op: LinkedOp) -> bool {
     }
 }
 
-/// The code of a BREAK.
-fn break_code_of(insn: &Insn) -> Option<u32> {
+/// The code of a BREAK or of a trap that has one, else 0.
+fn code_of(insn: &Insn) -> u32 {
     match *insn {
-        Insn::Break(code) => Some(code.code()),
-        _ => None,
+        Insn::Break(code) => code.code(),
+        Insn::Trap(_, _, _, code) => u32::from(code.code()),
+        _ => 0,
+    }
+}
+
+/// Puts at the end what a code stands for, where compilers have it for something: MIPS Linux, asm/break.h, BRK_OVERFLOW
+/// and BRK_DIVZERO. (GNU as writes the code of a BREAK into the upper half of its bits.)
+fn put_meaning(out: &mut Vec<u8>, code: u32) -> Result<(), NoMemory> {
+    match code {
+        6 | 0x1800 => put(out, "overflow, "),
+        7 | 0x1c00 => put(out, "division by zero, "),
+        _ => Ok(()),
     }
 }
 
