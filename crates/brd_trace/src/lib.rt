@@ -8,6 +8,7 @@ mod answer;
 mod cause;
 mod effect;
 mod line;
+mod losses;
 mod marks;
 mod names;
 mod playback;
@@ -21,6 +22,7 @@ mod teller;
 mod text;
 mod told;
 mod tracer;
+mod units;
 mod waits;
 
 pub use line::HEAD;

@@ -64,6 +64,14 @@ impl AskedCall {
         service(self.number, self.arguments)
     }
 
+    /// The call that it is, where there is one of its number.
+    pub(crate) fn call(&self) -> Option<Call> {
+        match self.service() {
+            Some(service) => Some(service.asked.call),
+            None => None,
+        }
+    }
+
     /// Puts the call at the end, by its name and with its arguments.
     pub(crate) fn put(&self, alloc: Global, out: &mut Vec<u8>) -> Result<(), NoMemory> {
         let Some(service) = self.service() else {

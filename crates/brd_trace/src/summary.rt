@@ -16,8 +16,8 @@ use std::alloc::Global;
 
 impl Tracer {
     /// Puts at the end what stands after the events that were played: what each processor does and its last exception,
-    /// what each task is, whether nothing can release those that wait, and which calls were refused. `put_end` says
-    /// what comes before it.
+    /// what each task is, whether nothing can release those that wait, which wait for each other, which calls were
+    /// refused, and which raises had no effect. `put_end` says what comes before it.
     pub fn put_summary(
         &self,
         alloc: Global,
@@ -34,8 +34,20 @@ impl Tracer {
                 "deadlock: no task is ready, and no tick and no pending interrupt releases one that waits\n",
             )?;
         }
+        if self.teller.off.is_none() {
+            let tasks = self.teller.tasks.as_slice();
+            self.teller.units.put_circle(alloc, out, tasks)?;
+        }
+        self.put_counts(alloc, names, out)
+    }
+
+    /// Puts at the end how many calls were refused, and how many raises had no effect.
+    fn put_counts(&self, alloc: Global, names: Names, out: &mut Vec<u8>) -> Result<(), NoMemory> {
         for refusals in self.teller.refusals.as_slice() {
             refusals.put(alloc, names, out)?;
+        }
+        for lost in self.teller.losses.as_slice() {
+            lost.put(alloc, out)?;
         }
         Ok(())
     }

@@ -1,12 +1,14 @@
 //! What is known of a board, and what is told of each event.
 
 use crate::line::TraceLine;
+use crate::losses::{LostRaises, note_loss};
 use crate::names::Names;
 use crate::quiet::{Quiet, Stretch};
 use crate::recording::Recording;
 use crate::refusals::Refusals;
 use crate::tasks::{Cause, Standings, TaskSeen, put_task_seen, task_seen, tasks_seen};
 use crate::text::put;
+use crate::units::Units;
 use brd_base::NoMemory;
 use brd_board::{Board, Event, Report, Standing, TaskId};
 use brd_exec::Context;
@@ -104,6 +106,8 @@ pub(crate) struct Teller {
     pub(crate) off: Option<u64>,
     pub(crate) faults: Vec<LastFault>,
     pub(crate) refusals: Vec<Refusals>,
+    pub(crate) losses: Vec<LostRaises>,
+    pub(crate) units: Units,
     pub(crate) pending: [bool; 32],
     pub(crate) stretch: Option<Stretch>,
     pub(crate) recording: Option<Recording>,
@@ -119,6 +123,8 @@ impl Teller {
             off: None,
             faults: Vec::new(alloc),
             refusals: Vec::new(alloc),
+            losses: Vec::new(alloc),
+            units: Units::new(alloc),
             pending: [false; 32],
             stretch: None,
             recording: None,
@@ -210,7 +216,11 @@ impl Teller {
         position: u64,
         count: u64,
     ) -> Result<(), NoMemory> {
-        if count == 0 || !self.shows(quiet.processor(), false) {
+        if count == 0 {
+            return Ok(());
+        }
+        self.note_quiet(quiet, position, count)?;
+        if !self.shows(quiet.processor(), false) {
             return Ok(());
         }
         let stretch = Stretch {
@@ -226,6 +236,24 @@ impl Teller {
         self.end_stretch(it.alloc, it.names, out)?;
         self.stretch = Some(stretch);
         Ok(())
+    }
+
+    /// Counts events that did nothing, if they are raises.
+    fn note_quiet(&mut self, quiet: Quiet, position: u64, count: u64) -> Result<(), NoMemory> {
+        let (line, pending) = match quiet {
+            Quiet::Again(line) => (line, true),
+            Quiet::NoLine(line) => (line, false),
+            _ => return Ok(()),
+        };
+        note_loss(
+            &mut self.losses,
+            LostRaises {
+                line,
+                pending,
+                count,
+                position,
+            },
+        )
     }
 
     /// Puts at the end the line of events that did nothing, where there were any.
@@ -289,7 +317,13 @@ impl Teller {
             };
             old.put_change(it.alloc, what, now, cause)?;
             if old.has_answer(&now) && !cause.restarts {
-                self.note(cause.position, old.asked, now.answer, old.place)?;
+                self.note(
+                    cause.position,
+                    Some(old.id),
+                    old.asked,
+                    now.answer,
+                    old.place,
+                )?;
             }
             if old.has_answer(&now) && cause.ticks {
                 self.mark_release(it.alloc, i, cause.position)?;

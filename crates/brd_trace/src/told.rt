@@ -9,9 +9,11 @@ use crate::service::{AskedCall, EXT_KER, EXT_TSK, LOC_SPN, RET_INT, TER_TSK};
 use crate::tasks::{Cause, TaskSeen, task_seen};
 use crate::teller::{Before, LastFault, Scene, Teller};
 use crate::text::{put, put_named};
+use crate::units::Unit;
 use brd_base::NoMemory;
-use brd_board::{Board, Event, Standing};
+use brd_board::{Board, Event, Standing, TaskId};
 use brd_journal::Moved;
+use brd_kernel::Call;
 use brd_timeline::MarkKind;
 
 impl Teller {
@@ -53,7 +55,7 @@ impl Teller {
         asked.put(it.alloc, &mut what)?;
         if let Some(answer) = answer {
             answer.put(it.alloc, &mut what, asked)?;
-            self.note(before.position, asked, answer, address)?;
+            self.note(before.position, before.task(), asked, answer, address)?;
         } else if asked.number == RET_INT {
             put(&mut what, ", the interrupt is ended")?;
         }
@@ -68,16 +70,18 @@ impl Teller {
         self.put_changes(it, out, before, Some(address), &mut what, cause)
     }
 
-    /// Counts a call that was answered with an error.
+    /// Notes a call of a task, or of a handler, with its answer: those with an error are counted, and so are the units
+    /// of semaphores that tasks have.
     pub(crate) fn note(
         &mut self,
         position: u64,
+        task: Option<TaskId>,
         asked: AskedCall,
         answer: Answer,
         place: u32,
     ) -> Result<(), NoMemory> {
         if !answer.is_error() {
-            return Ok(());
+            return self.note_units(position, task, asked, answer);
         }
         note_refusal(
             &mut self.refusals,
@@ -89,6 +93,28 @@ impl Teller {
                 place,
             },
         )
+    }
+
+    /// Notes who has units of semaphores after a call that was no error.
+    fn note_units(
+        &mut self,
+        position: u64,
+        task: Option<TaskId>,
+        asked: AskedCall,
+        answer: Answer,
+    ) -> Result<(), NoMemory> {
+        if answer.code != 0 {
+            return Ok(());
+        }
+        match (asked.call(), task) {
+            (Some(Call::SigSem(semaphore)), _) => self.units.give(semaphore, task),
+            (Some(Call::TwaiSem(semaphore, _)), Some(task)) => self.units.take(Unit {
+                semaphore,
+                task,
+                position,
+            }),
+            _ => Ok(()),
+        }
     }
 
     /// An exception: its cause, and what it ended.
