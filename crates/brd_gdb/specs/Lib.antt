@@ -5,3 +5,5 @@ pub mod Packets
 pub mod Receiving
 pub mod Slices
 pub mod Output
+pub mod Streams
+pub mod Grammar

@@ -8,6 +8,7 @@
 mod actions;
 mod description;
 mod digits;
+pub mod laws;
 mod monitor;
 mod packet;
 mod parts;
