@@ -1,0 +1,2 @@
+mod TurnLemmas
+mod SettledLemmas

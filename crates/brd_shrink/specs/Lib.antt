@@ -1,0 +1,3 @@
+pub mod Turns
+pub mod Settled
+pub use Rattle.brd_explore.specs.Shrinking
