@@ -1,0 +1,5 @@
+pub mod WordLemmas
+pub mod ReleaseLemmas
+pub mod CallLemmas
+pub mod TellingLemmas
+pub mod ToldLemmas

@@ -1,0 +1,32 @@
+//! What is true of every happening.
+
+ghost use Rattle.std.specs.Prelude.{◌≡◌, ℕ, Option, length, true};
+ghost use Rattle.brd_isa.specs.declared.instruction.Insn.{Insn};
+ghost use Rattle.brd_mem.specs.Memory.{Memory};
+ghost use Rattle.brd_link.specs.LinkSet.{LinkSet};
+ghost use Rattle.brd_exec.specs.Step.{meaning};
+ghost use Rattle.brd_board.specs.declared.event.Event.{Event as EventOf};
+ghost use Rattle.brd_board.specs.Board.{BoardState, happens};
+ghost use Rattle.brd_happening.specs.declared.found.Found.{Found as FoundOf};
+ghost use Rattle.brd_happening.specs.Happening.{happening_of, released_between, is_told};
+ghost use Rattle.brd_happening.specs.Telling.{TellsEffect};
+
+/// The tasks that an event releases are looked for among all that wait before it: that this is read of a board only
+/// where the event is a tick, or finds a SYSCALL, leaves none out.
+pub fn who_is_released_is_told()
+    ensures { (board : BoardState) (event : EventOf) →
+        (happening_of board event).released ≡ released_between board (happens board event) }
+{}
+
+/// Of an instruction that is done the registers, HI and LO after it are those before it with what is told of them: no
+/// other has changed.
+pub fn what_is_written_is_told()
+    ensures { (cpu : ℕ) (insn : Insn) (found : FoundOf) (memory : Memory) (links : LinkSet) (held : Option ℕ) →
+        TellsEffect insn found held (meaning cpu insn found.context memory links) }
+{}
+
+/// Of each event something is told, on every board that keeps a last exception for each processor.
+pub fn each_event_is_told()
+    ensures { (board : BoardState) (event : EventOf) → length board.faults ≡ length board.kernel.processors →
+        is_told (happening_of board event).what ≡ true }
+{}
