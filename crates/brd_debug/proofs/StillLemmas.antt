@@ -1,50 +1,102 @@
 -- An event that does nothing where it comes again is no stop then.
-use Rattle.std.proofs.Common.{◌≡◌, ℕ, List, sym, ap, subst, inl, inr}
+use Rattle.std.proofs.Common.{◌≡◌, ℕ, List, refl, sym, ap, subst, ◌∙◌, inl, inr}
 use Rattle.std.proofs.lemmas.Bool.{false≢true}
-use Rattle.std.specs.Prelude.{true}
+use Rattle.std.specs.Prelude.{Bool, true, false, ◌&&◌, Option, Some, None}
 use Rattle.brd_mem.specs.Memory.{byte_at}
 use Rattle.brd_board.specs.declared.event.Event.{Event}
 use Rattle.brd_board.specs.declared.event.Event.TheVariants.{Step, Tick, Raise}
 use Rattle.brd_board.specs.declared.event.Report.{Report}
 use Rattle.brd_board.specs.declared.event.Report.TheVariants as report
-use Rattle.brd_board.specs.Board.{BoardState, happens}
+use Rattle.brd_board.specs.Board.{BoardState, happens, registers_of}
 use Rattle.brd_journal.specs.Still.{did_nothing, does_no_more, Rests}
 use Rattle.brd_journal.proofs.StillLemmas.{rests, happens-leaves, raise-told}
+use Rattle.brd_debug.specs.declared.stops.Stepper.{Stepper}
 use Rattle.brd_debug.specs.declared.stops.Stops.{Stops}
-use Rattle.brd_debug.specs.Stops.{IsBreak, Differs, StopsAt}
+use Rattle.brd_debug.specs.Stops.{IsBreak, executes, is_step_of, is_outside, is_stepped, is_fault, IsTold, Differs, StopsAt}
 
 -- what has done nothing has executed nothing
-quiet : (breaks : List ℕ) (told : Report) → did_nothing told ≡ true → IsBreak breaks told → ⊥
-quiet breaks (report.Ran address) none is = false≢true none
-quiet breaks (report.Called address) none is = false≢true none
-quiet breaks (report.Faulted address) none is = false≢true none
-quiet breaks (report.Accepted line) none is = is
-quiet breaks report.Idle none is = is
-quiet breaks report.Stopped none is = is
-quiet breaks report.NoSuch none is = is
-quiet breaks report.Ticked none is = is
-quiet breaks report.TimeOver none is = is
-quiet breaks report.Raised none is = is
-quiet breaks report.Off none is = is
+
+quiet-break : (breaks : List ℕ) (told : Report) → did_nothing told ≡ true → IsBreak breaks told → ⊥
+quiet-break breaks (report.Ran address) none is = false≢true none
+quiet-break breaks (report.Called address) none is = false≢true none
+quiet-break breaks (report.Faulted address) none is = false≢true none
+quiet-break breaks (report.Accepted line) none is = is
+quiet-break breaks report.Idle none is = is
+quiet-break breaks report.Stopped none is = is
+quiet-break breaks report.NoSuch none is = is
+quiet-break breaks report.Ticked none is = is
+quiet-break breaks report.TimeOver none is = is
+quiet-break breaks report.Raised none is = is
+quiet-break breaks report.Off none is = is
+
+quiet-executes : (told : Report) → did_nothing told ≡ true → executes told ≡ false
+quiet-executes (report.Ran address) none = absurd (false≢true none)
+quiet-executes (report.Called address) none = absurd (false≢true none)
+quiet-executes (report.Faulted address) none = absurd (false≢true none)
+quiet-executes (report.Accepted line) none = refl
+quiet-executes report.Idle none = refl
+quiet-executes report.Stopped none = refl
+quiet-executes report.NoSuch none = refl
+quiet-executes report.Ticked none = refl
+quiet-executes report.TimeOver none = refl
+quiet-executes report.Raised none = refl
+quiet-executes report.Off none = refl
+
+quiet-fault : (faults : Bool) (told : Report) → executes told ≡ false → is_fault faults told ≡ false
+quiet-fault faults (report.Ran address) none = refl
+quiet-fault faults (report.Called address) none = refl
+quiet-fault faults (report.Faulted address) none = absurd (false≢true (sym none))
+quiet-fault faults (report.Accepted line) none = refl
+quiet-fault faults report.Idle none = refl
+quiet-fault faults report.Stopped none = refl
+quiet-fault faults report.NoSuch none = refl
+quiet-fault faults report.Ticked none = refl
+quiet-fault faults report.TimeOver none = refl
+quiet-fault faults report.Raised none = refl
+quiet-fault faults report.Off none = refl
+
+not-stepped : (step runs outside : Bool) → runs ≡ false → (step && runs && outside) ≡ true → ⊥
+not-stepped true false outside none is = false≢true is
+not-stepped false false outside none is = false≢true is
+not-stepped step true outside none is = false≢true (sym none)
+
+quiet-stepped : (stepper : Option Stepper) (event : Event) (told : Report) (after : BoardState) → executes told ≡ false →
+    is_stepped stepper event told after ≡ true → ⊥
+quiet-stepped None event told after none is = false≢true is
+quiet-stepped (Some stepper) event told after none is =
+    not-stepped (is_step_of stepper.cpu event) (executes told) (is_outside stepper (registers_of after stepper.cpu)) none is
+
+quiet : (stops : Stops) (event : Event) (told : Report) (after : BoardState) → (IsBreak stops.breaks told → ⊥) → executes told ≡ false →
+    IsTold stops event told after → ⊥
+quiet stops event told after first none (inl is) = first is
+quiet stops event told after first none (inr (inl is)) = quiet-stepped stops.stepper event told after none is
+quiet stops event told after first none (inr (inr is)) = false≢true (sym (quiet-fault stops.faults told none) ∙ is)
+
+quiet-told : (stops : Stops) (event : Event) (told : Report) (after : BoardState) → did_nothing told ≡ true → IsTold stops event told after → ⊥
+quiet-told stops event told after none = quiet stops event told after (quiet-break stops.breaks told none) (quiet-executes told none)
 
 -- a line that is raised executes nothing
-raise-quiet : (breaks : List ℕ) (b : BoardState) (line : ℕ) → IsBreak breaks (happens b (Raise line)).report → ⊥
-raise-quiet breaks b line = raise-told (λ told. IsBreak breaks told → ⊥) b line (λ wrong. wrong) (λ wrong. wrong) (λ wrong. wrong)
+raise-quiet : (stops : Stops) (b after : BoardState) (line : ℕ) → IsTold stops (Raise line) (happens b (Raise line)).report after → ⊥
+raise-quiet stops b after line = raise-told (λ told. IsTold stops (Raise line) told after → ⊥) b line
+    (quiet stops (Raise line) report.Off after (λ wrong. wrong) refl)
+    (quiet stops (Raise line) report.Raised after (λ wrong. wrong) refl)
+    (quiet stops (Raise line) report.NoSuch after (λ wrong. wrong) refl)
 
-break-none : (breaks : List ℕ) (b : BoardState) (event : Event) → does_no_more event (happens b event).report ≡ true →
-    IsBreak breaks (happens (happens b event).board event).report → ⊥
-break-none breaks b (Step cpu) none is =
-    quiet breaks (happens b (Step cpu)).report none
-    (subst (λ (x : BoardState). IsBreak breaks (happens x (Step cpu)).report) (happens-leaves b (Step cpu) none) is)
-break-none breaks b Tick none is =
-    quiet breaks (happens b Tick).report none (subst (λ (x : BoardState). IsBreak breaks (happens x Tick).report) (happens-leaves b Tick none) is)
-break-none breaks b (Raise line) none is = raise-quiet breaks (happens b (Raise line)).board line is
+told-none : (stops : Stops) (b after : BoardState) (event : Event) → does_no_more event (happens b event).report ≡ true →
+    IsTold stops event (happens (happens b event).board event).report after → ⊥
+told-none stops b after (Step cpu) none is =
+    quiet-told stops (Step cpu) (happens b (Step cpu)).report after none
+    (subst (λ (x : BoardState). IsTold stops (Step cpu) (happens x (Step cpu)).report after) (happens-leaves b (Step cpu) none) is)
+told-none stops b after Tick none is =
+    quiet-told stops Tick (happens b Tick).report after none
+    (subst (λ (x : BoardState). IsTold stops Tick (happens x Tick).report after) (happens-leaves b Tick none) is)
+told-none stops b after (Raise line) none is = raise-quiet stops (happens b (Raise line)).board after line is
 
 differs-none : (watches : List ℕ) (b : BoardState) (event : Event) → Rests b event → Differs watches b.memory (happens b event).board.memory → ⊥
 differs-none watches b event still differs =
     differs.2 (ap (λ (x : BoardState). byte_at x.memory differs.0) (sym still))
 
-stops-by : (stops : Stops) (b : BoardState) (event : Event) → (IsBreak stops.breaks (happens b event).report → ⊥) →
+stops-by : (stops : Stops) (b : BoardState) (event : Event) → (IsTold stops event (happens b event).report (happens b event).board → ⊥) →
     (Differs stops.watches b.memory (happens b event).board.memory → ⊥) → StopsAt stops b event → ⊥
 stops-by stops b event first second (inl is) = first is
 stops-by stops b event first second (inr is) = second is
@@ -52,5 +104,5 @@ stops-by stops b event first second (inr is) = second is
 pub stops-none : (stops : Stops) (b : BoardState) (event : Event) → does_no_more event (happens b event).report ≡ true →
     StopsAt stops (happens b event).board event → ⊥
 stops-none stops b event none =
-    stops-by stops (happens b event).board event (break-none stops.breaks b event none)
+    stops-by stops (happens b event).board event (told-none stops b (happens (happens b event).board event).board event none)
     (differs-none stops.watches (happens b event).board event (rests b event none))

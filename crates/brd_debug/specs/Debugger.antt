@@ -1,11 +1,13 @@
 -- A debugger: a boot, the events of a journal, how many of them have happened to the board that it shows, and where it
 -- stops.
-use Rattle.std.specs.Prelude.{◌≡◌, ◌⊎◌, ℕ, ◌<◌, ◌≤◌, List, length, Option, Some, None, Result, Ok, Err}
+use Rattle.std.specs.Prelude.{◌≡◌, ◌⊎◌, ℕ, ◌<◌, ◌≤◌, List, length, slice_get, Option, Some, None, Result, Ok, Err}
 use Rattle.brd_board.specs.declared.event.Event.{Event}
-use Rattle.brd_board.specs.Board.{BoardState}
+use Rattle.brd_board.specs.Board.{BoardState, happens}
 use Rattle.brd_journal.specs.Playing.{board_at}
 use Rattle.brd_debug.specs.declared.fault.DebugFault.{DebugFault}
 use Rattle.brd_debug.specs.declared.fault.DebugFault.TheVariants.{NoMemory, Past}
+use Rattle.brd_debug.specs.Stops.{is_stepped}
+use Rattle.brd_debug.specs.declared.look.Look.{Look}
 use Rattle.brd_debug.specs.declared.stops.Stops.{Stops}
 
 pub record DebuggerState : Type 0 where
@@ -27,3 +29,11 @@ pub record Goes (d : DebuggerState) (position : ℕ) (result : Result Unit Debug
 abbrev pub went : DebuggerState → Option ℕ → DebuggerState
 went d None = d
 went d (Some position) = record d { position = position }
+
+-- What the event of a debugger's position does, seen ahead; at the last position nothing is.
+abbrev pub SeesAhead : DebuggerState → Option Look → Type 0
+SeesAhead d None = slice_get d.events d.position ≡ None
+SeesAhead d (Some look) =
+    (slice_get d.events d.position ≡ Some look.event)
+    × (record { board = look.board; report = look.report } ≡ happens (shown d) look.event)
+    × (look.stepped ≡ is_stepped d.stops.stepper look.event look.report look.board)

@@ -1,19 +1,22 @@
 //! The debugger.
 
-ghost use Rattle.std.specs.Prelude.{◌≡◌, ◌+◌, ◌<◌, ◌≤◌, ◌^◌, [], length, take, OnOk, OnErr, IfOk, IfSome};
+ghost use Rattle.std.specs.Prelude.{◌≡◌, ◌+◌, ◌<◌, ◌≤◌, ◌^◌, length, take, slice_get, Decides, is_some, OnOk, OnErr};
+ghost use Rattle.std.specs.Prelude.{Some, IfOk, IfSome};
 ghost use Rattle.brd_board.specs.Board.{after};
-ghost use Rattle.brd_debug.specs.Debugger.{shown, Goes, went};
+ghost use Rattle.brd_debug.specs.Debugger.{shown, Goes, went, SeesAhead};
 ghost use Rattle.brd_journal.specs.Playing.{IsPlayed};
 ghost use Rattle.brd_debug.specs.Kept.{AreKept};
-ghost use Rattle.brd_debug.specs.Marks.{is_marked, marked};
-ghost use Rattle.brd_debug.specs.Stops.{IsStop, IsLeast, IsGreatest};
+ghost use Rattle.brd_debug.specs.Marks.{most_addresses, is_marked, marked, marked_within};
+ghost use Rattle.brd_debug.specs.Stops.{no_stops, IsStop, IsLeast, IsGreatest};
 
 use crate::fault::DebugFault;
+use crate::look::Look;
+use crate::marks::{MOST_ADDRESSES, MOST_MARKS};
 use crate::search::{go_back, next_stop, play_near, played_to, stop_before};
 use crate::snapshots::Snapshots;
-use crate::stops::Stops;
+use crate::stops::{Stepper, Stops};
 use brd_base::NoMemory;
-use brd_board::Board;
+use brd_board::{Board, Event};
 use brd_journal::{Journal, Playback};
 use brd_progress::{Progress, Quiet};
 use std::alloc::Global;
@@ -63,7 +66,7 @@ impl Debugger {
               boot = boot;
               events = journal.events;
               position = 0;
-              stops = record { breaks = []; watches = [] };
+              stops = no_stops;
             }) }
     {
         let board = boot.try_copy()?;
@@ -99,7 +102,7 @@ impl Debugger {
             ≡ record self.old { stops = record self.old.stops { breaks = marked self.old.stops.breaks address } } }
         ensures set { result ≡ is_marked self.new.stops.breaks address }
     {
-        self.stops.breaks.add(address)
+        self.stops.breaks.add(address, MOST_MARKS)
     }
 
     /// Stops from now on where the byte at this address changes, unless 64 others are watched. Answers whether it is
@@ -109,7 +112,97 @@ impl Debugger {
             ≡ record self.old { stops = record self.old.stops { watches = marked self.old.stops.watches address } } }
         ensures set { result ≡ is_marked self.new.stops.watches address }
     {
-        self.stops.watches.add(address)
+        self.stops.watches.add(address, MOST_MARKS)
+    }
+
+    /// Stops at no break, at no watch, at no instruction that is stepped, and at no exception.
+    pub fn clear_stops(&mut self)
+        ensures { self.new ≡ record self.old { stops = no_stops } }
+    {
+        self.stops = Stops::new();
+    }
+
+    /// Stops from now on where an instruction at this address is executed, unless 512 others are set. Answers whether
+    /// that is set now.
+    pub fn stop_at(&mut self, address: u32) -> bool
+        ensures is { self.new ≡ record self.old {
+          stops = record self.old.stops { breaks = marked_within most_addresses self.old.stops.breaks address };
+        } }
+        ensures set { result ≡ is_marked self.new.stops.breaks address }
+    {
+        self.stops.breaks.add(address, MOST_ADDRESSES)
+    }
+
+    /// Stops from now on where the byte at this address changes, unless 512 others are watched. Answers whether it is
+    /// watched now.
+    pub fn watch_byte(&mut self, address: u32) -> bool
+        ensures is { self.new ≡ record self.old {
+          stops = record self.old.stops { watches = marked_within most_addresses self.old.stops.watches address };
+        } }
+        ensures set { result ≡ is_marked self.new.stops.watches address }
+    {
+        self.stops.watches.add(address, MOST_ADDRESSES)
+    }
+
+    /// Stops from now on where an instruction of a processor leaves a range, or at none.
+    pub fn set_stepper(&mut self, stepper: Option<Stepper>)
+        ensures { self.new ≡ record self.old { stops = record self.old.stops { stepper = stepper } } }
+    {
+        self.stops.stepper = stepper;
+    }
+
+    /// Stops from now on at exceptions, or not.
+    pub fn set_faults(&mut self, faults: bool)
+        ensures { self.new ≡ record self.old { stops = record self.old.stops { faults = faults } } }
+    {
+        self.stops.faults = faults;
+    }
+
+    /// How many events the journal has, which is the last position.
+    pub fn len(&self) -> u64
+        ensures is { result ≡ length self.now.events }
+        ensures bound { result < 2 ^ 54 }
+    {
+        self.journal.len()
+    }
+
+    /// The event of its position; None at the last position.
+    pub fn event_here(&self) -> Option<Event>
+        ensures { result ≡ slice_get self.now.events self.now.position }
+    {
+        self.journal.event_at(self.shown.at)
+    }
+
+    /// What the event of its position does; None at the last position. It stays where it is.
+    fn look(&self) -> Result<Option<Look>, NoMemory>
+        ensures { IfOk result (SeesAhead self.now) }
+    {
+        let Some(event) = self.journal.event_at(self.shown.at) else {
+            return Ok(None);
+        };
+        let mut board = self.shown.board.try_copy()?;
+        let report = board.event_apart(event);
+        Ok(Some(Look {
+            event,
+            report,
+            stepped: self.stops.is_stepped(event, report, &board),
+            board,
+        }))
+    }
+
+    /// What the event of its position does, where that is a stop; None where it is none. It stays where it is.
+    pub fn stop_here(&self) -> Result<Option<Look>, NoMemory>
+        ensures ahead { IfOk result (λ found. IfSome found (λ look. SeesAhead self.now (Some look))) }
+        ensures stop { IfOk result (λ found.
+            Decides (is_some found) (IsStop self.now.stops self.now.boot self.now.events self.now.position)) }
+    {
+        let Some(look) = self.look()? else {
+            return Ok(None);
+        };
+        if self.stops.meet(&self.shown.board, &look) {
+            return Ok(Some(look));
+        }
+        Ok(None)
     }
 
     /// Goes to a position: shows the board after n events. An `Err` leaves it where it is.

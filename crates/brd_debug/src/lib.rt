@@ -6,6 +6,7 @@
 
 mod debugger;
 mod fault;
+mod look;
 mod marks;
 mod playback;
 mod search;
@@ -14,3 +15,5 @@ mod stops;
 
 pub use debugger::Debugger;
 pub use fault::DebugFault;
+pub use look::Look;
+pub use stops::Stepper;

@@ -1,30 +1,33 @@
 //! Sets of addresses.
 
 ghost use Rattle.std.specs.Prelude.{◌≡◌, ◌≤◌, Decides, Contains, [], length, take};
-ghost use Rattle.brd_debug.specs.Marks.{most_marks, is_marked, marked};
+ghost use Rattle.brd_debug.specs.Marks.{most_addresses, is_marked, marked_within};
 
 use brd_lanes::hits;
 use std::marker::Model;
 
-/// How many addresses a set has at most (own choice).
+/// How many addresses a set has at most that come one by one (own choice).
 pub const MOST_MARKS: usize = 64;
 
-/// At most 64 addresses, to which none is added twice. They take no memory of their own.
+/// How many addresses a set has room for: those of 64 ranges of 8 bytes (own choice).
+pub const MOST_ADDRESSES: usize = 512;
+
+/// At most 512 addresses, to which none is added twice. They take no memory of their own.
 #[derive(Drop)]
 pub struct Marks {
-    addresses: [u32; MOST_MARKS],
+    addresses: [u32; MOST_ADDRESSES],
     count: usize,
 }
 
 impl Model for Marks {
     ghost use Rattle.std.specs.Prelude.{ℕ, ◌≤◌, List, take};
-    ghost use Rattle.brd_debug.specs.Marks.{most_marks};
+    ghost use Rattle.brd_debug.specs.Marks.{most_addresses};
 
     ghost Value = { List ℕ };
 
     ghost view = { λ marks. take marks.count marks.addresses };
 
-    ghost invariant = { λ marks. marks.count ≤ most_marks };
+    ghost invariant = { λ marks. marks.count ≤ most_addresses };
 }
 
 impl Marks {
@@ -33,7 +36,7 @@ impl Marks {
         ensures { result ≡ [] }
     {
         Marks {
-            addresses: [0; MOST_MARKS],
+            addresses: [0; MOST_ADDRESSES],
             count: 0,
         }
     }
@@ -41,7 +44,7 @@ impl Marks {
     /// The addresses, in the order in which they came.
     pub fn as_slice(&self) -> &[u32]
         ensures is { result.now ≡ self.now }
-        ensures few { length result.now ≤ most_marks }
+        ensures few { length result.now ≤ most_addresses }
     {
         &self.addresses[..self.count]
     }
@@ -54,15 +57,16 @@ impl Marks {
         hits(self.as_slice(), address)
     }
 
-    /// Adds an address, unless there are 64 others. Answers whether it is one of them now.
-    pub fn add(&mut self, address: u32) -> bool
-        ensures is { self.new ≡ marked self.old address }
+    /// Adds an address, unless there are this many others. Answers whether it is one of them now.
+    pub fn add(&mut self, address: u32, most: usize) -> bool
+        requires { most ≤ most_addresses }
+        ensures is { self.new ≡ marked_within most self.old address }
         ensures added { result ≡ is_marked self.new address }
     {
         if self.has(address) {
             return true;
         }
-        if self.count == MOST_MARKS {
+        if self.count >= most {
             return false;
         }
         self.addresses[self.count] = address;

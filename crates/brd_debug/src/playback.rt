@@ -140,5 +140,5 @@ fn is_stop(
     };
     let may_change = stops.may_change(&playback.board, rest.event);
     let moved = playback.advance(rest, playback.at + 1, to);
-    stops.are_met(moved.report, &playback.board, bytes, may_change)
+    stops.are_met(rest.event, moved.report, &playback.board, bytes, may_change)
 }

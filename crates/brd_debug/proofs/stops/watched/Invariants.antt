@@ -6,6 +6,6 @@ use Rattle.brd_debug.proofs.stops.watched.Given as goal
 
 abbrev pub invariant-loop-i : goal.invariant-loop-i
 invariant-loop-i l = record {
-  long : length l.bytes ≡ 64;
+  long : length l.bytes ≡ 512;
   are : (k : ℕ) → k < l.i → slice_index_or l.bytes k None ≡ byte_at l.board.memory (slice_index l.watches k);
 }

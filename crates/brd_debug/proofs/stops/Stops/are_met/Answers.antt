@@ -24,18 +24,18 @@ bytes c memory are same =
     (c.renewed-changed.ensures.bytes memory (subst (λ ws. AreBytesAt ws memory c.args.bytes.now.bytes) (sym c.as_slice.ensures.is) are)
     (subst (λ ws. IsSameUnless c.args.may_change ws memory c.args.board.now.memory) (sym c.as_slice.ensures.is) same))
 
-pub returns-then-is_break-clause-stops : goal.returns-then-is_break-clause-stops
-returns-then-is_break-clause-stops c = λ memory are same.
-    decides-or c.is_break.result c.renewed-changed.result true c.is_break.ensures
-    (differ (goal.at.returns-then-is_break-clause-stops c).After-renewed-changed memory are same) (sym (ap (λ b. b || c.renewed-changed.result) c.if-is_break.true))
+pub returns-then-is_told-clause-stops : goal.returns-then-is_told-clause-stops
+returns-then-is_told-clause-stops c = λ memory are same.
+    decides-or c.is_told.result c.renewed-changed.result true c.is_told.ensures
+    (differ (goal.at.returns-then-is_told-clause-stops c).After-renewed-changed memory are same) (sym (ap (λ b. b || c.renewed-changed.result) c.if-is_told.true))
 
-pub returns-then-is_break-clause-bytes : goal.returns-then-is_break-clause-bytes
-returns-then-is_break-clause-bytes c = bytes (goal.at.returns-then-is_break-clause-bytes c).After-renewed-changed
+pub returns-then-is_told-clause-bytes : goal.returns-then-is_told-clause-bytes
+returns-then-is_told-clause-bytes c = bytes (goal.at.returns-then-is_told-clause-bytes c).After-renewed-changed
 
 pub returns-clause-stops : goal.returns-clause-stops
 returns-clause-stops c = λ memory are same.
-    decides-or c.is_break.result c.renewed-changed.result c.renewed-changed.result c.is_break.ensures
-    (differ (goal.at.returns-clause-stops c).After-renewed-changed memory are same) (sym (ap (λ b. b || c.renewed-changed.result) c.if-is_break.false))
+    decides-or c.is_told.result c.renewed-changed.result c.renewed-changed.result c.is_told.ensures
+    (differ (goal.at.returns-clause-stops c).After-renewed-changed memory are same) (sym (ap (λ b. b || c.renewed-changed.result) c.if-is_told.false))
 
 pub returns-clause-bytes : goal.returns-clause-bytes
 returns-clause-bytes c = bytes (goal.at.returns-clause-bytes c).After-renewed-changed
