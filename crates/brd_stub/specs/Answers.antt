@@ -1,0 +1,54 @@
+-- What a session answers, and what becomes of it.
+use Rattle.std.specs.Prelude.{◌≡◌, ◌⊎◌, ℕ, List, [], Option, Some, None, true, codes}
+use Rattle.brd_board.specs.declared.event.Event.{Event}
+use Rattle.brd_board.specs.Board.{BoardState, registers_of}
+use Rattle.brd_debug.specs.declared.stops.Stepper.{Stepper}
+use Rattle.brd_debug.specs.Debugger.{DebuggerState, shown}
+use Rattle.brd_debug.specs.Stops.{no_stops}
+use Rattle.brd_gdb.specs.declared.request.Move.{Move}
+use Rattle.brd_gdb.specs.declared.request.Move.TheVariants as move
+use Rattle.brd_gdb.specs.declared.request.Monitor.TheVariants.{Goto}
+use Rattle.brd_gdb.specs.declared.request.Request.{Request}
+use Rattle.brd_gdb.specs.declared.request.Request.TheVariants as request
+use Rattle.brd_stub.specs.declared.session.Session.{Session}
+use Rattle.brd_stub.specs.Registers.{registers_text, register_text}
+use Rattle.brd_stub.specs.Reading.{IsMemoryText}
+use Rattle.brd_stub.specs.Moving.{IsSameButStops, stepping, GoesOn, GoesBack}
+
+-- What is replied to a request that reads a board: the registers of a processor, or memory. A write is refused.
+abbrev pub Reads : BoardState → ℕ → Request → List ℕ → Type 0
+Reads board thread request.ReadRegisters reply = reply ≡ registers_text board.memory.order (registers_of board thread)
+Reads board thread (request.ReadRegister number) reply =
+    reply ≡ register_text board.memory.order (registers_of board thread) number
+Reads board thread (request.ReadMemory address length) reply = IsMemoryText board.memory address length reply
+Reads board thread request.Write reply = reply ≡ codes "E01"
+Reads board thread other reply = Unit {0}
+
+-- which processor a move steps, if it steps one, and within which range
+abbrev pub IsStepper : Move → Option Stepper → Type 0
+IsStepper move.Continue stepper = stepper ≡ None
+IsStepper (move.Step thread) stepper = (cpu : ℕ) × (stepper ≡ Some (record { cpu = cpu; start = 0; end = 0 }))
+IsStepper (move.Range thread start end) stepper =
+    (cpu : ℕ) × (stepper ≡ Some (record { cpu = cpu; start = start; end = end }))
+
+-- What becomes of a debugger by a request: a move goes on or back, and what isn't one changes at
+-- most its stops.
+abbrev pub Moves : Request → DebuggerState → DebuggerState → Type 0
+Moves (request.Forward how) d next = (stepper : Option Stepper) × IsStepper how stepper × GoesOn (stepping stepper d) next
+Moves request.BackwardContinue d next = GoesBack (stepping None d) next
+Moves request.BackwardStep d next =
+    (cpu : ℕ) × GoesBack (stepping (Some (record { cpu = cpu; start = 0; end = 0 })) d) next
+Moves (request.Monitor (Goto position)) d next = (next ≡ d) ⊎ (next ≡ record d { position = position })
+Moves other d next = IsSameButStops d next
+
+-- What a session answers to a request, and what it is then: it reads the board at its position, and moves as it is asked.
+pub record Answers (s : Session) (request : Request) (console reply : List ℕ) (next : Session) : Type 0 where
+  pub reads : Reads (shown s.debugger) s.reading request reply
+  pub moves : Moves request s.debugger next.debugger
+
+-- A session begins before the first event, with no point, and reads the registers of processor 1.
+pub record Begins (boot : BoardState) (events : List Event) (s : Session) : Type 0 where
+  pub debugger : s.debugger
+      ≡ record { boot = boot; events = events; position = 0; stops = record no_stops { faults = true } }
+  pub points : s.points.items ≡ []
+  pub reading : s.reading ≡ 1

@@ -1,0 +1,4 @@
+pub mod Registers
+pub mod Reading
+pub mod Moving
+pub mod Answers

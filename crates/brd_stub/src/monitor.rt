@@ -1,0 +1,143 @@
+//! What the user asks for with GDB's command `monitor`.
+
+use crate::answer::Answer;
+use crate::session::Session;
+use crate::telling::text;
+use crate::threads::{show_standing, show_task};
+use brd_base::NoMemory;
+use brd_board::{Board, Event, WaitKind, WaitReason};
+use brd_gdb::Monitor;
+use std::alloc::Global;
+
+/// What `help` prints.
+const HELP: &[u8] =
+    b"goto N: goes to position N\nwhere: the position, and whose step comes\ntasks: the tasks and their states\nobjects: who waits for what\nconsole: what was written to the console\nhelp: these commands\n";
+
+impl Session {
+    /// Answers a command that shows something.
+    pub(crate) fn show_monitor(&self, alloc: Global, command: Monitor) -> Result<Answer, NoMemory> {
+        let console = self.monitor_text(alloc, command)?;
+        Ok(Answer {
+            console,
+            reply: text(alloc, b"OK")?,
+        })
+    }
+
+    /// What a command shows.
+    fn monitor_text(&self, alloc: Global, command: Monitor) -> Result<Vec<u8>, NoMemory> {
+        let board = self.debugger.show();
+        match command {
+            Monitor::Where => self.position_text(alloc),
+            Monitor::Tasks => tasks(alloc, board),
+            Monitor::Objects => waits(alloc, board),
+            Monitor::Console => text(alloc, board.console()),
+            Monitor::Help => text(alloc, HELP),
+            _ => text(alloc, b"unknown; try `monitor help`\n"),
+        }
+    }
+
+    /// The position, and whose step comes.
+    fn position_text(&self, alloc: Global) -> Result<Vec<u8>, NoMemory> {
+        let position = self.debugger.position();
+        let len = self.debugger.len();
+        let line = format!(in alloc; "position {position} of {len}: ")?;
+        let mut out = Vec::new(alloc);
+        out.extend_from_slice(line.as_bytes())?;
+        show_event(alloc, &mut out, self.debugger.event_here())?;
+        Ok(out)
+    }
+}
+
+/// Puts at the end which event comes.
+fn show_event(alloc: Global, out: &mut Vec<u8>, event: Option<Event>) -> Result<(), NoMemory> {
+    let line = match event {
+        None => format!(in alloc; "the end\n")?,
+        Some(Event::Step(cpu)) => format!(in alloc; "a step of processor {cpu} comes\n")?,
+        Some(Event::Tick) => format!(in alloc; "a tick comes\n")?,
+        Some(Event::Raise(line)) => format!(in alloc; "interrupt {line} comes\n")?,
+    };
+    out.extend_from_slice(line.as_bytes())?;
+    Ok(())
+}
+
+/// What each processor does, and each task.
+fn tasks(alloc: Global, board: &Board) -> Result<Vec<u8>, NoMemory> {
+    let mut out = Vec::new(alloc);
+    for cpu in 1..9u8 {
+        show_processor(alloc, &mut out, board, cpu)?;
+    }
+    for id in 1..256u16 {
+        if board.task(id).is_some() {
+            show_task(alloc, &mut out, board, id)?;
+            out.push(b'\n')?;
+        }
+    }
+    Ok(out)
+}
+
+/// Puts at the end what a processor does, where there is one of that number.
+fn show_processor(
+    alloc: Global,
+    out: &mut Vec<u8>,
+    board: &Board,
+    cpu: u8,
+) -> Result<(), NoMemory> {
+    let Some(standing) = board.standing(cpu) else {
+        return Ok(());
+    };
+    let front = format!(in alloc; "processor {cpu}: ")?;
+    out.extend_from_slice(front.as_bytes())?;
+    show_standing(alloc, out, standing)?;
+    out.push(b'\n')?;
+    Ok(())
+}
+
+/// Which task waits for what.
+fn waits(alloc: Global, board: &Board) -> Result<Vec<u8>, NoMemory> {
+    let mut out = Vec::new(alloc);
+    for id in 1..256u16 {
+        show_wait(alloc, &mut out, board, id)?;
+    }
+    if out.is_empty() {
+        out.extend_from_slice(b"no task waits\n")?;
+    }
+    Ok(out)
+}
+
+/// Puts at the end what a task waits for, if it does.
+fn show_wait(alloc: Global, out: &mut Vec<u8>, board: &Board, id: u16) -> Result<(), NoMemory> {
+    let Some(task) = board.task(id) else {
+        return Ok(());
+    };
+    let Some(reason) = task.waiting else {
+        return Ok(());
+    };
+    let line = match reason {
+        WaitReason::Sleep => format!(in alloc; "task {id} waits for a wake-up")?,
+        WaitReason::Delay => format!(in alloc; "task {id} waits for the end of a delay")?,
+        WaitReason::On(WaitKind::Semaphore, object) => {
+            format!(in alloc; "task {id} waits for semaphore {object}")?
+        }
+        WaitReason::On(WaitKind::Flag, object) => {
+            format!(in alloc; "task {id} waits for event flag {object}")?
+        }
+        WaitReason::On(WaitKind::Room, object) => {
+            format!(in alloc; "task {id} waits to send to data queue {object}")?
+        }
+        WaitReason::On(WaitKind::Datum, object) => {
+            format!(in alloc; "task {id} waits to receive from data queue {object}")?
+        }
+    };
+    out.extend_from_slice(line.as_bytes())?;
+    show_due(alloc, out, task.due)
+}
+
+/// Puts at the end when a wait ends, and the line's end.
+fn show_due(alloc: Global, out: &mut Vec<u8>, due: Option<u64>) -> Result<(), NoMemory> {
+    if let Some(tick) = due {
+        let text = format!(in alloc; ", until tick {tick}")?;
+        out.extend_from_slice(text.as_bytes())?;
+    }
+    out.push(b'\n')?;
+    Ok(())
+}

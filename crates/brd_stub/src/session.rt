@@ -1,0 +1,219 @@
+//! A session with GDB.
+
+ghost use Rattle.std.specs.Prelude.{◌≡◌, IfOk};
+ghost use Rattle.brd_debug.specs.Debugger.{shown};
+ghost use Rattle.brd_stub.specs.Answers.{Answers, Begins, Reads, Moves, IsStepper};
+ghost use Rattle.brd_stub.specs.Moving.{IsSameButStops};
+
+use crate::answer::Answer;
+use crate::halt::{Halt, Reason, Told};
+use crate::points::{Point, Setting, clear_point, load, set_point};
+use crate::telling::{plain, text};
+use crate::threads::processor_of;
+use brd_base::NoMemory;
+use brd_board::Board;
+use brd_debug::{Debugger, Stepper};
+use brd_gdb::{Monitor, Move, Request, ThreadId};
+use brd_journal::Journal;
+use brd_progress::Progress;
+use std::alloc::Global;
+
+/// A session with GDB: a debugger of a boot and a journal, and what GDB has set.
+pub struct Session {
+    /// The debugger.
+    pub debugger: Debugger,
+    /// The points at which GDB wants to stop.
+    pub points: Vec<Point>,
+    /// What was told last.
+    pub told: Told,
+    /// Why the board stands where it is.
+    pub halt: Halt,
+    /// The processor whose registers are read.
+    pub reading: u8,
+    /// The processor that steps where none is named.
+    pub stepping: u8,
+}
+
+/// Written out, so that a function that lets one go is proved with a call, and not with the end of each part.
+impl Drop for Session {
+    fn drop(self) {
+        let Session {
+            debugger: _,
+            points: _,
+            told: _,
+            halt: _,
+            reading: _,
+            stepping: _,
+        } = self;
+    }
+}
+
+impl Session {
+    /// A session with a debugger of this boot and journal, which have the same byte order, before the first event.
+    pub fn new(alloc: Global, boot: Board, journal: Journal) -> Result<Session, NoMemory>
+        requires orders { boot.memory.order ≡ journal.order }
+        ensures { IfOk result (Begins boot journal.events) }
+    {
+        let mut debugger = Debugger::new(alloc, boot, journal)?;
+        debugger.set_faults(true);
+        Ok(Session {
+            debugger,
+            points: Vec::new(alloc),
+            told: Told::Nothing,
+            halt: Halt {
+                thread: 1,
+                reason: Reason::Done,
+            },
+            reading: 1,
+            stepping: 1,
+        })
+    }
+
+    /// Does what is asked. How far a move is, is told on the way.
+    pub fn answer<P: Progress>(
+        &mut self,
+        alloc: Global,
+        request: Request,
+        progress: &mut P,
+    ) -> Result<Answer, NoMemory>
+        ensures { IfOk result
+            (λ answer. Answers self.old request answer.console.items answer.reply.items self.new) }
+    {
+        self.answered(alloc, request, progress)
+    }
+
+    /// Does what is asked.
+    fn answered<P: Progress>(
+        &mut self,
+        alloc: Global,
+        request: Request,
+        progress: &mut P,
+    ) -> Result<Answer, NoMemory>
+        ensures reads { IfOk result (λ answer.
+            Reads (shown self.old.debugger) self.old.reading request answer.reply.items) }
+        ensures moves { IfOk result (λ _. Moves request self.old.debugger self.new.debugger) }
+    {
+        match request {
+            Request::Forward(how) => self.go_on(alloc, self.stepper_of(how), progress),
+            Request::BackwardContinue => self.go_back(alloc, None, progress),
+            Request::BackwardStep => {
+                let stepper = stepper_of(self.stepping, 0, 0);
+                self.go_back(alloc, Some(stepper), progress)
+            }
+            Request::Monitor(Monitor::Goto(position)) => self.go_to(alloc, position, progress),
+            Request::SetThread { moves, thread } => self.set_thread(alloc, moves, thread),
+            Request::SetPoint {
+                kind,
+                address,
+                length,
+            } => self.set(
+                alloc,
+                Point {
+                    kind,
+                    address,
+                    length,
+                },
+            ),
+            Request::ClearPoint {
+                kind,
+                address,
+                length,
+            } => self.clear(
+                alloc,
+                Point {
+                    kind,
+                    address,
+                    length,
+                },
+            ),
+            Request::Monitor(command) => self.show_monitor(alloc, command),
+            other => {
+                let reply = self.tell(alloc, other)?;
+                Ok(plain(alloc, reply))
+            }
+        }
+    }
+
+    /// The processor that a move steps, and the range in which it is stepped.
+    fn stepper_of(&self, how: Move) -> Option<Stepper>
+        ensures { IsStepper how result }
+    {
+        match how {
+            Move::Continue => None,
+            Move::Step(thread) => Some(stepper_of(self.processor(thread), 0, 0)),
+            Move::Range { thread, start, end } => {
+                Some(stepper_of(self.processor(thread), start, end))
+            }
+        }
+    }
+
+    /// The processor of a thread that steps.
+    fn processor(&self, thread: ThreadId) -> u8 {
+        match processor_of(self.debugger.show(), thread, self.stepping) {
+            Some(cpu) => cpu,
+            None => self.stepping,
+        }
+    }
+
+    /// Makes a thread the one that is read, or that steps.
+    fn set_thread(
+        &mut self,
+        alloc: Global,
+        moves: bool,
+        thread: ThreadId,
+    ) -> Result<Answer, NoMemory>
+        ensures { self.new.debugger ≡ self.old.debugger }
+    {
+        let Some(cpu) = processor_of(self.debugger.show(), thread, self.halt.thread) else {
+            return error(alloc);
+        };
+        if moves {
+            self.stepping = cpu;
+        } else {
+            self.reading = cpu;
+        }
+        okay(alloc)
+    }
+
+    /// Sets a point.
+    fn set(&mut self, alloc: Global, point: Point) -> Result<Answer, NoMemory>
+        ensures { IsSameButStops self.old.debugger self.new.debugger }
+    {
+        match set_point(&mut self.points, point)? {
+            Setting::Set => {
+                load(&mut self.debugger, &self.points);
+                okay(alloc)
+            }
+            Setting::Refused => error(alloc),
+            Setting::Unknown => Ok(plain(alloc, Vec::new(alloc))),
+        }
+    }
+
+    /// Takes a point away.
+    fn clear(&mut self, alloc: Global, point: Point) -> Result<Answer, NoMemory>
+        ensures { IsSameButStops self.old.debugger self.new.debugger }
+    {
+        clear_point(&mut self.points, point);
+        load(&mut self.debugger, &self.points);
+        okay(alloc)
+    }
+}
+
+/// A processor that is stepped.
+fn stepper_of(cpu: u8, start: u32, end: u32) -> Stepper
+    ensures { result ≡ record { cpu = cpu; start = start; end = end } }
+{
+    Stepper { cpu, start, end }
+}
+
+/// The answer that all went well.
+pub fn okay(alloc: Global) -> Result<Answer, NoMemory> {
+    let reply = text(alloc, b"OK")?;
+    Ok(plain(alloc, reply))
+}
+
+/// The answer that a request is refused.
+pub fn error(alloc: Global) -> Result<Answer, NoMemory> {
+    let reply = text(alloc, b"E01")?;
+    Ok(plain(alloc, reply))
+}

@@ -1,0 +1,136 @@
+//! What is told without anything being changed.
+
+ghost use Rattle.std.specs.Prelude.{◌≡◌, IfOk};
+ghost use Rattle.brd_board.specs.Board.{registers_of};
+ghost use Rattle.brd_debug.specs.Debugger.{shown};
+ghost use Rattle.brd_stub.specs.Answers.{Reads};
+ghost use Rattle.brd_stub.specs.Registers.{registers_text, register_text};
+
+use crate::answer::Answer;
+use crate::halt::{Halt, show_halt};
+use crate::memory::show_memory;
+use crate::registers::{show_register, show_registers};
+use crate::session::Session;
+use crate::threads::{processor_of, show_thread, thread_document, thread_list, thread_text};
+use brd_base::NoMemory;
+use brd_board::Board;
+use brd_gdb::{Request, ThreadId, features, put_hex, put_slice};
+use std::alloc::Global;
+
+/// What a session can do, by the names of GDB's protocol.
+const SUPPORTED: &[u8] =
+    b"PacketSize=4000;QStartNoAckMode+;vContSupported+;swbreak+;hwbreak+;ReverseStep+;ReverseContinue+;qXfer:features:read+;qXfer:threads:read+";
+
+impl Session {
+    /// What is replied to a request that changes nothing.
+    pub(crate) fn tell(&self, alloc: Global, request: Request) -> Result<Vec<u8>, NoMemory>
+        ensures { IfOk result (λ reply. Reads (shown self.now.debugger) self.now.reading request reply.items) }
+    {
+        let board = self.debugger.show();
+        match request {
+            Request::Supported => text(alloc, SUPPORTED),
+            Request::StartNoAckMode | Request::Detach | Request::Kill => text(alloc, b"OK"),
+            Request::StopReason => halt_text(alloc, self.halt),
+            Request::ReadRegisters => registers(alloc, board, self.reading),
+            Request::ReadRegister(number) => register(alloc, board, self.reading, number),
+            Request::ReadMemory { address, length } => show_memory(alloc, board, address, length),
+            Request::Write => text(alloc, b"E01"),
+            Request::IsAlive(thread) => alive(alloc, board, thread),
+            Request::CurrentThread => current(alloc, self.halt.thread),
+            Request::FirstThreads => thread_list(alloc, board),
+            Request::OtherThreads => text(alloc, b"l"),
+            Request::ThreadInfo(thread) => info(alloc, board, thread, self.reading),
+            Request::ReadFeatures { offset, length } => part(alloc, features(), offset, length),
+            Request::ReadThreads { offset, length } => threads(alloc, board, offset, length),
+            Request::MoveKinds => text(alloc, b"vCont;c;C;s;S;t;r"),
+            Request::IsAttached => text(alloc, b"0"),
+            _ => text(alloc, b""),
+        }
+    }
+}
+
+/// These bytes.
+pub fn text(alloc: Global, bytes: &[u8]) -> Result<Vec<u8>, NoMemory>
+    ensures { IfOk result (λ reply. reply.items ≡ bytes.now) }
+{
+    let mut reply = Vec::new(alloc);
+    reply.extend_from_slice(bytes)?;
+    Ok(reply)
+}
+
+/// The answer of this reply, with nothing for the console.
+pub fn plain(alloc: Global, reply: Vec<u8>) -> Answer
+    ensures { result.reply ≡ reply }
+{
+    Answer {
+        console: Vec::new(alloc),
+        reply,
+    }
+}
+
+/// All registers of a processor.
+fn registers(alloc: Global, board: &Board, cpu: u8) -> Result<Vec<u8>, NoMemory>
+    ensures { IfOk result
+        (λ reply. reply.items ≡ registers_text board.now.memory.order (registers_of board.now cpu)) }
+{
+    let mut reply = Vec::new(alloc);
+    show_registers(&mut reply, board.order(), board.registers(cpu))?;
+    Ok(reply)
+}
+
+/// One register of a processor.
+fn register(alloc: Global, board: &Board, cpu: u8, number: u32) -> Result<Vec<u8>, NoMemory>
+    ensures { IfOk result
+        (λ reply. reply.items ≡ register_text board.now.memory.order (registers_of board.now cpu) number) }
+{
+    let mut reply = Vec::new(alloc);
+    show_register(&mut reply, board.order(), board.registers(cpu), number)?;
+    Ok(reply)
+}
+
+/// Why the board stands where it is.
+pub fn halt_text(alloc: Global, halt: Halt) -> Result<Vec<u8>, NoMemory> {
+    let mut reply = Vec::new(alloc);
+    show_halt(&mut reply, halt)?;
+    Ok(reply)
+}
+
+/// Whether there is a thread.
+fn alive(alloc: Global, board: &Board, thread: ThreadId) -> Result<Vec<u8>, NoMemory> {
+    match processor_of(board, thread, 1) {
+        Some(_) => text(alloc, b"OK"),
+        None => text(alloc, b"E01"),
+    }
+}
+
+/// The thread of the last stop.
+fn current(alloc: Global, thread: u8) -> Result<Vec<u8>, NoMemory> {
+    let mut reply = Vec::new(alloc);
+    reply.extend_from_slice(b"QC")?;
+    show_thread(&mut reply, thread)?;
+    Ok(reply)
+}
+
+/// What there is to say of a thread.
+fn info(alloc: Global, board: &Board, thread: ThreadId, other: u8) -> Result<Vec<u8>, NoMemory> {
+    let Some(cpu) = processor_of(board, thread, other) else {
+        return text(alloc, b"E01");
+    };
+    let bytes = thread_text(alloc, board, cpu)?;
+    let mut reply = Vec::new(alloc);
+    put_hex(&mut reply, &bytes)?;
+    Ok(reply)
+}
+
+/// A part of the list of threads.
+fn threads(alloc: Global, board: &Board, offset: u32, length: u32) -> Result<Vec<u8>, NoMemory> {
+    let document = thread_document(alloc, board)?;
+    part(alloc, &document, offset, length)
+}
+
+/// A part of a document.
+fn part(alloc: Global, document: &[u8], offset: u32, length: u32) -> Result<Vec<u8>, NoMemory> {
+    let mut reply = Vec::new(alloc);
+    put_slice(&mut reply, document, offset, length)?;
+    Ok(reply)
+}
