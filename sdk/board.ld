@@ -20,6 +20,8 @@ SECTIONS
   .end (NOLOAD) : { board_end = .; . = .; } > ram
   _end = board_end;
   /DISCARD/ : { *(.reginfo) *(.MIPS.abiflags) *(.pdr) *(.comment) *(.eh_frame) *(.note.*) }
+  /* GDB takes the addresses in this for 64 bits without a sign, and its own for such with one; it needs none. */
+  /DISCARD/ : { *(.debug_aranges) }
 }
 
 ASSERT(_end + board_stacks <= ORIGIN(ram) + board_ram, "the program and the stacks of its tasks don't fit into RAM")

@@ -11,6 +11,7 @@
 #   make accept         takes the consoles as they are for right
 #   make run            shows the report of JOURNAL (firmware.journal)
 #   make debug          debugs JOURNAL with the names of C
+#   make gdb            debugs JOURNAL with GDB, forward and backward
 #   make hunt           does the events of JOURNAL in TRIES other orders, and keeps the first that fails
 #   make explore        searches all schedules within bounds for one under which the test of JOURNAL fails
 #   make shrink         leaves events out of the schedule that was found, as long as it fails
@@ -44,6 +45,8 @@ RAISES ?=
 RAISED ?=
 FAIR ?= 0
 LOOK ?=
+GDB ?= gdb-multiarch
+GDBFLAGS ?=
 BUILD ?= build
 
 BOARD ?= $(SDK)/../build/board
@@ -99,7 +102,7 @@ CONFIGURATION = $(BUILD)/$(PROGRAM).cfg
 # Its tests: of the only program all journals are.
 journals = $(if $(word 2,$(PROGRAMS)),$(wildcard $1.journal $1.*.journal),$(wildcard *.journal))
 
-.PHONY: all test accept run debug hunt explore shrink clean FORCE
+.PHONY: all test accept run debug gdb hunt explore shrink clean FORCE
 .DELETE_ON_ERROR:
 .SECONDARY:
 
@@ -169,6 +172,10 @@ run: all
 debug: all
 	@$(SDK)/ordered $(IMAGE) $(JOURNAL) > $(BUILD)/debug.journal
 	@$(SDK)/debug $(BOARD) $(IMAGE) $(CONFIGURATION) $(BUILD)/debug.journal
+
+gdb: all
+	@$(SDK)/ordered $(IMAGE) $(JOURNAL) > $(BUILD)/debug.journal
+	@GDB='$(GDB)' $(SDK)/gdb $(BOARD) $(IMAGE) $(CONFIGURATION) $(BUILD)/debug.journal $(GDBFLAGS)
 
 hunt: all
 	@$(SDK)/hunt $(BOARD) $(IMAGE) $(CONFIGURATION) $(JOURNAL) $(BUILD)/hunt.journal --tries '$(TRIES)' \

@@ -32,6 +32,10 @@ says "sdk/debian without a package" 2 "use: sdk/debian PACKAGE FOLDER" sdk/debia
 says "sdk/test without a program" 2 "use: sdk/test [--accept] BOARD IMAGE CONFIG NAME.journal.." sdk/test
 says "sdk/test without a journal" 1 "FAILED: there is no journal, a file NAME.journal" sdk/test "$board" image config
 says "sdk/ordered without a program" 2 "use: sdk/ordered IMAGE JOURNAL" sdk/ordered
+says "sdk/gdb without a program" 2 "use: sdk/gdb BOARD IMAGE CONFIG JOURNAL [OPTION OF GDB..]" sdk/gdb "$board"
+says "sdk/gdb without GDB" 2 \
+    "there is no nosuch: apt-get install gdb-multiarch, or GDB names another GDB for MIPS; make debug needs none" \
+    env GDB=nosuch sdk/gdb "$board" image config journal
 printf '\177ELF\1\1\1' > "$work/little"
 printf '\177ELF\1\2\1' > "$work/big"
 printf 'board-journal 1\nS 1 2\n' > "$work/journal"

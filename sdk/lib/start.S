@@ -4,8 +4,9 @@
  * at the same time. Above its stack pointer a function finds 16 bytes for its arguments, hence each 16 below.
  *
  * $k0, which no compiler uses, has the lowest address of the stack, for stack.S. Whatever is in $a0 stays there: a
- * task's argument (exinf), a handler's line. */
+ * task's argument (exinf), a handler's line. For debuggers a backtrace ends here: nobody has called these. */
         .set    noreorder
+        .cfi_sections .debug_frame
         .equ    EXT_TSK, 3
         .equ    RET_INT, 58
         .set    stacks, 0
@@ -27,13 +28,18 @@ board_trap:
 /* CRE_TSK: task_ID calls the task's function, and then ext_tsk. */
         .macro  entry_task id, function, size, stack
         .globl  task_\id
+        .type   task_\id, @function
 task_\id:
+        .cfi_startproc
+        .cfi_undefined 31
         li      $k0, \size
         subu    $k0, $sp, $k0
         jal     \function
         addiu   $sp, $sp, -16           /* in the delay slot */
         addiu   $v0, $0, EXT_TSK
         syscall
+        .cfi_endproc
+        .size   task_\id, . - task_\id
         .ifc    \stack, NULL
         .set    stacks, stacks + ((\size + 15) / 16) * 16
         .endif
@@ -42,13 +48,18 @@ task_\id:
 /* DEF_INH: handler_LINE calls the handler's function on the line's stack, and then ret_int. */
         .macro  entry_handler line, function
         .globl  handler_\line
+        .type   handler_\line, @function
 handler_\line:
+        .cfi_startproc
+        .cfi_undefined 31
         lui     $k0, %hi(handler_stack_\line)
         addiu   $k0, $k0, %lo(handler_stack_\line)
         jal     \function
         addiu   $sp, $k0, HANDLER_STACK - 16
         addiu   $v0, $0, RET_INT
         syscall
+        .cfi_endproc
+        .size   handler_\line, . - handler_\line
         .pushsection .bss.stacks, "aw", @nobits
         .balign 16
 handler_stack_\line:
