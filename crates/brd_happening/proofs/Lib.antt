@@ -3,3 +3,4 @@ pub mod ReleaseLemmas
 pub mod CallLemmas
 pub mod TellingLemmas
 pub mod ToldLemmas
+pub mod StoreLemmas

@@ -1,11 +1,14 @@
--- What the happening of an instruction tells of registers is all that the instruction has changed of them.
-use Rattle.std.specs.Prelude.{◌≡◌, ℕ, List, slice_set, Option, None, Some}
+-- What the happening of an instruction tells is all that the instruction has changed.
+use Rattle.std.specs.Prelude.{◌≡◌, ℕ, Bool, true, false, List, slice_set, Option, None, Some}
 use Rattle.brd_isa.specs.declared.instruction.Insn.{Insn}
+use Rattle.brd_mem.specs.Memory.{Memory}
 use Rattle.brd_exec.specs.State.{State}
 use Rattle.brd_exec.specs.Step.{Effect}
 use Rattle.brd_happening.specs.declared.found.Found.{Found}
 use Rattle.brd_happening.specs.declared.instruction.{Change.Change, Written.Written, Instruction.Instruction}
-use Rattle.brd_happening.specs.Instruction.{instruction_of}
+use Rattle.brd_happening.specs.declared.instruction.AccessKind.{AccessKind}
+use Rattle.brd_happening.specs.declared.instruction.AccessKind.TheVariants.{Loads, Stores, StoresIfLinked}
+use Rattle.brd_happening.specs.Instruction.{instruction_of, kind_of}
 
 -- the registers with the one that was written
 abbrev pub with_written : List ℕ → Option Written → List ℕ
@@ -28,3 +31,18 @@ abbrev pub TellsEffect : Insn → Found → Option ℕ → Effect → Type 0
 TellsEffect insn found held (Effect.Goes after memory links) =
     TellsRegisters found.context after (instruction_of insn found after held)
 TellsEffect insn found held (Effect.Stops stop links) = Unit {0}
+
+-- Which instructions are told to store: where none is, memory is as it was.
+
+abbrev pub is_stored : Option AccessKind → Bool
+is_stored None = false
+is_stored (Some Loads) = false
+is_stored (Some Stores) = true
+is_stored (Some (StoresIfLinked stored)) = stored
+
+abbrev pub stores_by : Insn → Bool → Bool
+stores_by insn linked = is_stored (kind_of insn linked)
+
+abbrev pub KeepsMemory : Memory → Effect → Type 0
+KeepsMemory memory (Effect.Goes after stored links) = stored ≡ memory
+KeepsMemory memory (Effect.Stops stop links) = Unit {0}

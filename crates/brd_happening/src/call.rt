@@ -29,7 +29,7 @@ pub enum Answer {
     Given {
         /// $v0, the answer.
         code: u32,
-        /// $v1, which is the second result where the call has one.
+        /// $v1, which is the second result where the call has one and the answer is E_OK.
         second: u32,
     },
     /// Its caller waits.

@@ -83,7 +83,7 @@ pub struct Instruction {
     pub insn: Insn,
     /// Whether it lay in a delay slot.
     pub in_slot: bool,
-    /// The register that it wrote.
+    /// The register that it wrote: also by MOVZ or MOVN where its word stays.
     pub register: Option<Written>,
     /// HI, if it wrote that.
     pub hi: Option<Change>,

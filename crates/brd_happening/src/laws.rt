@@ -1,15 +1,18 @@
 //! What is true of every happening.
 
-ghost use Rattle.std.specs.Prelude.{◌≡◌, ℕ, Option, length, true};
+ghost use Rattle.std.specs.Prelude.{◌≡◌, ℕ, ◌≤◌, Option, length, true, false};
 ghost use Rattle.brd_isa.specs.declared.instruction.Insn.{Insn};
 ghost use Rattle.brd_mem.specs.Memory.{Memory};
-ghost use Rattle.brd_link.specs.LinkSet.{LinkSet};
+ghost use Rattle.brd_link.specs.LinkSet.{LinkSet, IsLinkSet};
+ghost use Rattle.brd_exec.specs.State.{State};
 ghost use Rattle.brd_exec.specs.Step.{meaning};
 ghost use Rattle.brd_board.specs.declared.event.Event.{Event as EventOf};
-ghost use Rattle.brd_board.specs.Board.{BoardState, happens};
+ghost use Rattle.brd_board.specs.Board.{BoardState, happens, linked_word_of};
 ghost use Rattle.brd_happening.specs.declared.found.Found.{Found as FoundOf};
 ghost use Rattle.brd_happening.specs.Happening.{happening_of, released_between, is_told};
-ghost use Rattle.brd_happening.specs.Telling.{TellsEffect};
+ghost use Rattle.brd_happening.specs.Telling.{TellsEffect, stores_by, KeepsMemory};
+ghost use Rattle.brd_happening.specs.Instruction.{address_by};
+ghost use Rattle.brd_happening.specs.Found.{is_link_to};
 
 /// The tasks that an event releases are looked for among all that wait before it: that this is read of a board only
 /// where the event is a tick, or finds a SYSCALL, leaves none out.
@@ -29,4 +32,13 @@ pub fn what_is_written_is_told()
 pub fn each_event_is_told()
     ensures { (board : BoardState) (event : EventOf) → length board.faults ≡ length board.kernel.processors →
         is_told (happening_of board event).what ≡ true }
+{}
+
+/// An instruction that isn't told to store, as an SC isn't whose processor's link is to another word or to none, leaves
+/// memory as it was.
+pub fn what_is_stored_is_told()
+    ensures { (board : BoardState) (cpu : ℕ) (insn : Insn) (s : State) →
+        1 ≤ cpu → cpu ≤ 8 → IsLinkSet board.links →
+        stores_by insn (is_link_to (linked_word_of board cpu) (address_by insn s)) ≡ false →
+        KeepsMemory board.memory (meaning cpu insn s board.memory board.links) }
 {}

@@ -46,7 +46,7 @@ pub struct Release {
     pub asked: AskedCall,
     /// $v0, the answer.
     pub code: u32,
-    /// $v1, which is the second result where the call has one.
+    /// $v1, which is the second result where the call has one and the answer is E_OK.
     pub second: u32,
 }
 
