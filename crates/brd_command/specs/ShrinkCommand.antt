@@ -1,9 +1,9 @@
 -- The command `shrink`: what it writes for what it reads, which journal it saves, and how it ends.
-use Rattle.std.specs.Prelude.{◌≡◌, ◌⊎◌, ℕ, ◌<◌, true, false, List, length, Option, Some, IfSome, Result, Ok, Err}
+use Rattle.std.specs.Prelude.{◌≡◌, ◌⊎◌, ℕ, ◌<◌, ◌≤◌, true, false, List, length, Option, Some, IfSome, Result, Ok, Err}
 use Rattle.std.specs.Io.KnownBytes.{Appends, Keeps}
 use Rattle.std.specs.declared.io.Error.{Error}
 use Rattle.brd_board.specs.declared.event.Event.{Event}
-use Rattle.brd_explore.specs.Shrinking.{is_failing, IsPart, IsLeast}
+use Rattle.brd_explore.specs.Shrinking.{is_failing, IsLeast}
 use Rattle.brd_explore.specs.declared.wanted.Wanted.{Wanted}
 use Rattle.brd_inputs.specs.Opening.{OpensInputs}
 use Rattle.brd_inputs.specs.Start.{IsStart, KeepsFromStarting}
@@ -20,6 +20,8 @@ use Rattle.brd_search.specs.Plans.{IsWanted, KeepsFromWanting}
 use Rattle.brd_search.specs.Shown.{shown}
 use Rattle.brd_search.specs.declared.fault.SearchFault.{SearchFault}
 use Rattle.brd_search.specs.declared.fault.SearchFault.TheVariants as search_fault
+use Rattle.brd_shrink.specs.Settled.{AreSome, IsSettled}
+use Rattle.brd_shrink.specs.Turns.{switches}
 use Rattle.brd_threads.specs.Processors.{processors_of}
 use Rattle.brd_command.specs.Saving.{Saves}
 use Rattle.brd_command.specs.declared.shrink_command.ShrinkOptions.{ShrinkOptions}
@@ -28,15 +30,18 @@ use Rattle.brd_command.specs.declared.shrink_command.ShrinkOptions.{ShrinkOption
 abbrev pub IsLookedFor : ShrinkOptions → Start → Wanted → Type 0
 IsLookedFor options start wanted = IsWanted options.looks options.fair (processors_of start.board) start.image.symbols wanted
 
--- Some of a journal's events, in their order, which fail still, and would no more without any one of them; and the
--- text of the journal of them, and of the fair end's where they fail only there.
+-- Some of a journal's events, with no more switches, which fail still. They would no more without any one of them, nor
+-- with fewer switches where a turn is moved to another cut. And the text of the journal of them, and of the fair end's
+-- events where they fail only there.
 pub record IsShrunk (options : ShrinkOptions) (start : Start) (journal : List ℕ) : Type 0 where
   pub wanted : Wanted
   pub looks : IsLookedFor options start wanted
   pub left : List Event
   pub fails : is_failing wanted start.board left ≡ true
-  pub part : IsPart left start.journal.events
+  pub some : AreSome left start.journal.events
   pub least : IsLeast wanted start.board left
+  pub fewer : switches left ≤ switches start.journal.events
+  pub settled : IsSettled wanted start.board left
   pub is_text : journal ≡ text_of start.board.memory.order (shown wanted start.board left)
 
 -- the events of a journal don't fail

@@ -10,11 +10,12 @@ ghost use Rattle.brd_command.specs.ShrinkCommand.{IsOfLength, Shrinks};
 use crate::saving::{journal_text, save};
 use brd_base::NoMemory;
 use brd_board::Event;
-use brd_explore::{Wanted, fails, shrink as shrunk_events};
+use brd_explore::{Wanted, fails};
 use brd_inputs::{CommandFault, Files, Inputs, Start, open_inputs, read_start};
 use brd_journal::Journal;
 use brd_report::write_whole;
 use brd_search::{Looks, SearchFault, put_found, shown_events, wanted_of};
+use brd_shrink::{shrink as shrunk_events, switches};
 use brd_threads::processors;
 use std::alloc::Global;
 use std::io::{Read, Write};
@@ -34,15 +35,15 @@ pub struct ShrinkOptions<'a> {
 /// What is told of a journal that was made shorter.
 #[derive(Drop)]
 struct Told {
-    /// How many events are left, and what fails, in words.
+    /// How many events and switches are left, and what fails, in words.
     text: Vec<u8>,
     /// The text of the journal that is left.
     journal: Vec<u8>,
 }
 
 /// Reads an object file, a configuration and a journal to their ends, in this order, and leaves out events of the
-/// journal as long as what is left fails. Writes how many are left and what fails, and answers the text of the journal
-/// of what is left. Nothing is written where what was read or the options have a fault, or where the journal doesn't
+/// journal, and moves turns of its processors together, as long as what is left fails. Writes how many events and
+/// switches are left and what fails, and answers the text of the journal of what is left. Nothing is written where what was read or the options have a fault, or where the journal doesn't
 /// fail.
 pub fn shrink<R: Read, W: Write>(
     alloc: Global,
@@ -115,7 +116,7 @@ fn told_of(alloc: Global, start: &Start, options: ShrinkOptions<'_>) -> Result<T
         return Err(CommandFault::Passes);
     }
     let left = shrunk_events(alloc, &start.board, &events, &wanted)?;
-    told_left(alloc, start, &wanted, events.len(), &left)
+    told_left(alloc, start, &wanted, &events, &left)
 }
 
 /// The events of a journal one by one.
@@ -134,12 +135,12 @@ fn events_of(alloc: Global, journal: &Journal) -> Result<Vec<Event>, SearchFault
     Ok(events)
 }
 
-/// What is told of the events that are left of a number of them.
+/// What is told of the events that are left of others.
 fn told_left(
     alloc: Global,
     start: &Start,
     wanted: &Wanted,
-    all: usize,
+    all: &[Event],
     left: &[Event],
 ) -> Result<Told, CommandFault>
     ensures { MatchResult result
@@ -154,16 +155,19 @@ fn told_left(
     }
 }
 
-/// How many events are left of a number of them, and what fails, in words.
+/// How many events and switches are left of others, and what fails, in words.
 fn text_left(
     alloc: Global,
     start: &Start,
     wanted: &Wanted,
-    all: usize,
+    all: &[Event],
     left: &[Event],
 ) -> Result<Vec<u8>, NoMemory> {
-    let count = left.len();
-    let front = format!(in alloc; "{count} of {all} events are left\nfails ")?;
+    let (events, of_events) = (left.len(), all.len());
+    let (turns, of_turns) = (switches(left), switches(all));
+    let front = format!(in alloc;
+        "{events} of {of_events} events are left, with {turns} of {of_turns} switches\nfails "
+    )?;
     let mut text = Vec::from_slice(alloc, front.as_bytes())?;
     let symbols = start.image.symbols.as_slice();
     put_found(alloc, symbols, &start.board, wanted, left, &mut text)?;
