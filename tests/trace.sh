@@ -98,6 +98,20 @@ while read -r to line; do
     has "since when, after $to events" "$work/lines" '^task 1 '
 done < tests/tracing/suspended/since
 
+# From each position on, also while a line is pending: the lines of the whole, but for those that count events.
+counts=' (idle|stopped|no such processor), | (pending already|has no handler): '
+scene handlers
+run_trace "${files[@]}"
+tail -n +3 "$work/out" | grep -vE "$counts" > "$work/rest"
+wrong=
+for from in $(seq 0 66); do
+    awk -v from="$from" '$1 >= from' "$work/rest" > "$work/lines"
+    run_trace --from "$from" "${files[@]}"
+    tail -n +3 "$work/out" | grep -vE "$counts" | cmp -s - "$work/lines" || wrong="$wrong $from"
+done
+[ -s "$work/rest" ] || wrong="; no lines"
+verdict "trace: from each position" "$wrong"
+
 # Parts of a journal: the lines of the parts are those of the whole, but for the one that begins each.
 example data_queue/data_queue
 "$board" trace "${files[@]}" > "$work/whole"

@@ -6,6 +6,7 @@ ghost use Rattle.brd_journal.specs.Playing.{AreStill, IsPlayed};
 ghost use Rattle.brd_trace.specs.Executing.{executing};
 
 use crate::cause::word_at;
+use crate::teller::Teller;
 use brd_board::{Board, Event};
 use brd_exec::Context;
 use brd_journal::{Journal, Moved, Playback};
@@ -42,6 +43,35 @@ pub(crate) fn advance(
     let rest = journal.rest_at(playback.at, near)?;
     *context = registers(&playback.board, rest.event);
     Some(playback.advance(rest, playback.at + 1, to))
+}
+
+/// Does the next events of a run of a journal, up to a position: many, or only one and those after it that do nothing
+/// where that is asked for of the event. `None` at that position. `near` is where the journal looks for the run.
+pub(crate) fn advance_many(
+    playback: &mut Playback,
+    journal: &Journal,
+    to: u64,
+    near: &mut usize,
+    teller: &Teller,
+) -> Option<Moved>
+    requires on { playback.old.at ≤ to }
+    requires within { to ≤ length journal.now.events }
+    ensures goes { IfSome result (λ moved. (1 ≤ moved.count) × (playback.new.at ≡ playback.old.at + moved.count)) }
+    ensures to { playback.new.at ≤ to }
+    ensures ends { result ≡ None → (playback.new ≡ playback.old) × (playback.new.at ≡ to) }
+    ensures played { (boot : BoardOf) → IsPlayed boot journal.now.events playback.old
+        → IsPlayed boot journal.now.events playback.new }
+{
+    if playback.at >= to {
+        return None;
+    }
+    let rest = journal.rest_at(playback.at, near)?;
+    let end = if teller.may_accept(rest.event) {
+        playback.at + 1
+    } else {
+        to
+    };
+    Some(playback.advance(rest, end, to))
 }
 
 /// The word that lies where the next event's processor goes on, if that is a step of one that executes.

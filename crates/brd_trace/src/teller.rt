@@ -192,6 +192,43 @@ impl Teller {
         }
     }
 
+    /// Whether an event may be a step in which a processor accepts an interrupt.
+    pub(crate) fn may_accept(&self, event: Event) -> bool {
+        let Event::Step(cpu) = event else {
+            return false;
+        };
+        for i in 0..32usize {
+            if self.pending[i] && self.options.lines[i] == cpu {
+                return true;
+            }
+        }
+        false
+    }
+
+    /// Notes which line an event raised, or accepted.
+    pub(crate) fn note_line(&mut self, moved: Moved) {
+        match (moved.report, moved.event) {
+            (Report::Raised, Event::Raise(line)) => self.set_pending(line, true),
+            (Report::Accepted(line), _) => self.set_pending(line, false),
+            _ => {}
+        }
+    }
+
+    /// Sees how a board stands at a position, after events of which nothing was told.
+    pub(crate) fn see_board(
+        &mut self,
+        alloc: Global,
+        board: &Board,
+        position: u64,
+    ) -> Result<(), NoMemory> {
+        self.tasks = tasks_seen(alloc, board)?;
+        self.standings = Standings::of(board);
+        if board.is_off() {
+            self.off = Some(position);
+        }
+        Ok(())
+    }
+
     /// Whether no line is pending on a processor that may still accept it: one that is stopped never does.
     pub(crate) fn is_quiet(&self) -> bool {
         for i in 0..32usize {

@@ -5,7 +5,7 @@ ghost use Rattle.brd_board.specs.Board.{BoardState as BoardOf};
 ghost use Rattle.brd_journal.specs.Playing.{IsPlayed};
 
 use crate::names::Names;
-use crate::playback::{advance, next_word};
+use crate::playback::{advance, advance_many, next_word};
 use crate::teller::{Options, Scene, Teller};
 use brd_base::NoMemory;
 use brd_board::Board;
@@ -24,6 +24,8 @@ pub struct Tracer {
     pub(crate) teller: Teller,
     /// Where the journal looks for the next event's run.
     near: usize,
+    /// Whether events are skipped.
+    skips: bool,
 }
 
 impl Tracer {
@@ -36,6 +38,7 @@ impl Tracer {
             playback: Playback { board, at: 0 },
             teller,
             near: 0,
+            skips: false,
         })
     }
 
@@ -101,6 +104,9 @@ impl Tracer {
         ensures played { (boot : BoardOf) → IsPlayed boot journal.now.events self.old.playback
             → IsPlayed boot journal.now.events self.new.playback }
     {
+        if self.skips {
+            return self.skip_far(alloc, journal, to);
+        }
         while self.playback.at < to {
             self.advance(alloc, names, journal, to, out)?;
             if out.len() >= ENOUGH {
@@ -110,10 +116,43 @@ impl Tracer {
         Ok(())
     }
 
+    /// From here on events are skipped until lines are shown or a timeline is made: nothing is told of them, and many
+    /// are done at once. What is told after that is the same, but for a summary: it wants every event.
+    pub fn skip(&mut self)
+        ensures { self.new.playback ≡ self.old.playback }
+    {
+        self.skips = true;
+    }
+
+    /// Does the next events of a journal up to a position, many at once, and tells nothing of them.
+    fn skip_far(&mut self, alloc: Global, journal: &Journal, to: u64) -> Result<(), NoMemory>
+        requires on { self.old.playback.at ≤ to }
+        requires within { to ≤ length journal.now.events }
+        ensures at { self.new.playback.at ≡ to }
+        ensures played { (boot : BoardOf) → IsPlayed boot journal.now.events self.old.playback
+            → IsPlayed boot journal.now.events self.new.playback }
+    {
+        while self.playback.at < to {
+            let Some(moved) = advance_many(
+                &mut self.playback,
+                journal,
+                to,
+                &mut self.near,
+                &self.teller,
+            ) else {
+                break;
+            };
+            self.teller.note_line(moved);
+        }
+        self.teller
+            .see_board(alloc, &self.playback.board, self.playback.at)
+    }
+
     /// From here on lines are shown. Before them it is put at the end what each processor does.
     pub fn show(&mut self, alloc: Global, names: Names, out: &mut Vec<u8>) -> Result<(), NoMemory>
         ensures { self.new.playback ≡ self.old.playback }
     {
+        self.skips = false;
         self.teller.show(alloc, names, self.playback.at, out)
     }
 
@@ -128,6 +167,7 @@ impl Tracer {
     pub fn record(&mut self, alloc: Global) -> Result<(), NoMemory>
         ensures { self.new.playback ≡ self.old.playback }
     {
+        self.skips = false;
         self.teller.record(alloc, self.playback.at)
     }
 
@@ -137,6 +177,7 @@ impl Tracer {
             playback,
             teller,
             near: _,
+            skips: _,
         } = self;
         teller.into_timeline(alloc, playback.at)
     }
