@@ -9,3 +9,4 @@ mod LawLemmas
 mod LessLemmas
 mod ShardLemmas
 mod KnownLemmas
+mod RichLemmas

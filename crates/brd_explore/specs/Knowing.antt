@@ -1,6 +1,10 @@
 -- What a search knows of places. (Contracts of private functions alone name this.)
-use Rattle.std.specs.Prelude.{◌≡◌, ◌⊎◌, ℕ, ◌≤◌, List, [], ◌∷◌, ◌++◌, length, All, IfSome}
+use Rattle.std.specs.Prelude.{◌≡◌, ◌⊎◌, ℕ, ◌≤◌, nat_le, ◌==◌, Bool, true, false, not, ◌&&◌, ◌||◌, List, [], ◌∷◌, ◌++◌}
+use Rattle.std.specs.Prelude.{length, All, IfSome}
+use Rattle.std.specs.List.{list_any}
 use Rattle.brd_board.specs.declared.event.Event.{Event}
+use Rattle.brd_board.specs.declared.event.Event.TheVariants.{Step, Tick, Raise}
+use Rattle.brd_explore.specs.declared.bounds.Bounds.{Bounds}
 use Rattle.brd_explore.specs.declared.wanted.Wanted.{Wanted}
 use Rattle.brd_explore.specs.declared.search.Search.{Search}
 use Rattle.brd_explore.specs.declared.search.Turn.{Turn}
@@ -9,6 +13,26 @@ use Rattle.brd_explore.specs.declared.known.Kept.{Kept}
 use Rattle.brd_explore.specs.declared.known.Known.{Known}
 use Rattle.brd_explore.specs.Schedules.{Place}
 use Rattle.brd_explore.specs.Searching.{HasGoneBack, NoneFails, NoneLeftFrom, place_of}
+
+-- a step of a processor that isn't there
+abbrev pub is_strange : Event → Bool
+is_strange (Step cpu) = nat_le 9 cpu
+is_strange Tick = false
+is_strange (Raise line) = false
+
+-- A place with more left may answer for one with less: no end goes on to a fair end, so that one that is judged is at
+-- rest, where no step does anything, whatever is left for it.
+abbrev pub may_have_more : Wanted → List Event → Bool
+may_have_more wanted among = wanted.rounds == 0 && not (list_any is_strange among)
+
+-- As much is left of one as of another, or more if it may be: of preemptions, and where no tick and no raise is left, of
+-- events.
+unfoldable pub is_enough : Bool → Bounds → Bounds → Bool
+is_enough more one other =
+    one.ticks == other.ticks && one.raises == other.raises
+    && (one.events == other.events && one.preemptions == other.preemptions
+    || more && nat_le other.preemptions one.preemptions
+    && (one.events == other.events || nat_le other.events one.events && one.ticks == 0 && one.raises == 0))
 
 abbrev pub place_of_kept : Kept → Place
 place_of_kept k = record { board = k.board; left = k.left; last = k.last }

@@ -6,11 +6,14 @@ ghost use Rattle.brd_explore.specs.declared.search.Search.{Search as SearchOf};
 ghost use Rattle.brd_explore.specs.declared.wanted.Wanted.{Wanted as WantedOf};
 ghost use Rattle.brd_explore.specs.Searching.{NoneFails, place_of};
 ghost use Rattle.brd_explore.specs.Knowing.{place_of_kept, AreDone, AreOver, ArePending, IsKeptOf, Notes};
+ghost use Rattle.brd_explore.specs.Knowing.{is_enough, is_strange, may_have_more};
+ghost use Rattle.std.specs.List.{list_any};
 
 use crate::bounds::Bounds;
 use crate::search::Search;
+use crate::wanted::Wanted;
 use brd_base::NoMemory;
-use brd_board::Board;
+use brd_board::{Board, Event};
 use std::alloc::Global;
 
 /// A place that a search is to know again.
@@ -20,7 +23,7 @@ pub struct Kept {
     last: u8,
     /// How many places there were to go back to when the search came here.
     height: usize,
-    /// Equal places have the same.
+    /// Places with equal boards have the same, where the same processor has stepped last.
     mark: u64,
 }
 
@@ -70,14 +73,20 @@ impl Kept {
         })
     }
 
-    /// Whether a search, whose place has this mark, is here. Where the marks differ the places do.
-    fn is_place_of(&self, search: &Search, mark: u64) -> bool
-        ensures { result ≡ true → place_of_kept self.now ≡ place_of search.now }
+    /// Whether what was searched from here answers for the place where a search is, which has this mark. Where the marks
+    /// differ the boards do, or who has stepped last.
+    fn is_enough_for(&self, search: &Search, mark: u64, more: bool) -> bool
+        ensures { (wanted : WantedOf) (among : ListOf EventOf) → (more ≡ true → may_have_more wanted among ≡ true) →
+            NoneFails wanted among (place_of_kept self.now) → result ≡ true →
+            NoneFails wanted among (place_of search.now) }
     {
-        self.mark == mark
-            && self.last == search.last
-            && self.left == search.left
-            && self.board.same(&search.board)
+        if self.mark != mark || self.last != search.last {
+            return false;
+        }
+        if !is_enough(more, self.left, search.left) {
+            return false;
+        }
+        self.board.same(&search.board)
     }
 }
 
@@ -107,11 +116,12 @@ impl Known {
         self.pending.clear();
     }
 
-    /// Whether the place where a search is, to which it has just come, equals one from which every schedule was searched.
-    /// If not, it is kept as a pending one, where there is room and memory.
-    pub(crate) fn knows(&mut self, search: &Search) -> bool
-        ensures is { (wanted : WantedOf) (among : ListOf EventOf) → AreDone wanted among self.old → result ≡ true →
-            NoneFails wanted among (place_of search.now) }
+    /// Whether the place where a search is, to which it has just come, equals one from which every schedule was searched,
+    /// or if `more` is allowed differs only in that less is left. If not, it is kept as a pending one, where there is room
+    /// and memory.
+    pub(crate) fn knows(&mut self, search: &Search, more: bool) -> bool
+        ensures is { (wanted : WantedOf) (among : ListOf EventOf) → (more ≡ true → may_have_more wanted among ≡ true) →
+            AreDone wanted among self.old → result ≡ true → NoneFails wanted among (place_of search.now) }
         ensures done { (wanted : WantedOf) (among : ListOf EventOf) → AreDone wanted among self.old →
             AreDone wanted among self.new }
         ensures pending { Notes search.now self.old self.new }
@@ -120,23 +130,23 @@ impl Known {
             return false;
         }
         let mark = mark_of(search);
-        if self.has(search, mark) {
+        if self.has(search, mark, more) {
             return true;
         }
         self.note(search, mark);
         false
     }
 
-    /// Whether the place where a search is, of this mark, equals one from which every schedule was searched.
-    fn has(&self, search: &Search, mark: u64) -> bool
-        ensures { (wanted : WantedOf) (among : ListOf EventOf) → AreDone wanted among self.now → result ≡ true →
-            NoneFails wanted among (place_of search.now) }
+    /// Whether a place from which every schedule was searched answers for the one where a search is, of this mark.
+    fn has(&self, search: &Search, mark: u64, more: bool) -> bool
+        ensures { (wanted : WantedOf) (among : ListOf EventOf) → (more ≡ true → may_have_more wanted among ≡ true) →
+            AreDone wanted among self.now → result ≡ true → NoneFails wanted among (place_of search.now) }
     {
         let Some(slot) = self.slot(mark) else {
             return false;
         };
         match &self.done[slot] {
-            Some(kept) => kept.is_place_of(search, mark),
+            Some(kept) => kept.is_enough_for(search, mark, more),
             None => false,
         }
     }
@@ -228,19 +238,59 @@ impl Known {
     }
 }
 
-/// A number that equal places have in common, and other ones hardly (FNV-1a, by words): from the clock, the console, what
-/// is left, and what executes.
+/// Whether a place with more left may answer for one with less.
+pub(crate) fn may_have_more(wanted: &Wanted, among: &[Event]) -> bool
+    ensures { result ≡ may_have_more wanted.now among.now }
+{
+    wanted.rounds == 0 && !some_are_strange(among)
+}
+
+/// Whether some event is a step of a processor that isn't there.
+fn some_are_strange(among: &[Event]) -> bool
+    ensures { result ≡ list_any is_strange among.now }
+{
+    for event in among {
+        if is_strange(*event) {
+            return true;
+        }
+    }
+    false
+}
+
+/// Whether an event is a step of a processor that isn't there.
+fn is_strange(event: Event) -> bool
+    ensures { result ≡ is_strange event }
+{
+    match event {
+        Event::Step(cpu) => cpu >= 9,
+        Event::Tick | Event::Raise(_) => false,
+    }
+}
+
+/// Whether as much is left of one as of another, or more if it may be.
+#[tactic(auto, unfolding(crate::specs::Knowing::is_enough))]
+fn is_enough(more: bool, one: Bounds, other: Bounds) -> bool
+    ensures { result ≡ is_enough more one other }
+{
+    let same = one.events == other.events;
+    one.ticks == other.ticks
+        && one.raises == other.raises
+        && (same && one.preemptions == other.preemptions
+            || more
+                && other.preemptions <= one.preemptions
+                && (same || other.events <= one.events && one.ticks == 0 && one.raises == 0))
+}
+
+/// A number that places have in common whose boards are equal, and where the same processor has stepped last, and other
+/// ones hardly (FNV-1a, by words): from the clock, the console, and what executes.
 fn mark_of(search: &Search) -> u64 {
     let board = &search.board;
-    let left = search.left;
     let mut mark = 0xcbf2_9ce4_8422_2325;
     for cpu in 1..9u8 {
         if let Some(context) = board.registers(cpu) {
             mark = marked_by_registers(marked(mark, u64::from(context.pc())), context.registers());
         }
     }
-    mark = marked(mark, u64::from(left.events));
-    mark = marked(mark, u64::from(left.preemptions));
     mark = marked(mark, u64::from(search.last));
     mark = marked(mark, board.console().len() as u64);
     mark = marked(mark, board.now());

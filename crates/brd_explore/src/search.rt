@@ -32,7 +32,7 @@ ghost use Rattle.brd_explore.specs.Searching.{
 };
 
 use crate::bounds::{Bounds, did_nothing, stepper};
-use crate::known::Known;
+use crate::known::{Known, may_have_more};
 use crate::wanted::Wanted;
 use brd_base::NoMemory;
 use brd_board::{Board, Event};
@@ -274,7 +274,7 @@ impl Search {
         if wanted.fails_now(&self.board)? {
             return Ok(Turn::Found);
         }
-        if known.knows(self) {
+        if known.knows(self, may_have_more(wanted, among)) {
             return Ok(self.leave(known));
         }
         Ok(Turn::On)

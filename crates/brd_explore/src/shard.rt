@@ -9,7 +9,7 @@ ghost use Rattle.brd_explore.specs.Sharing.{BeginsHere, EndsTrunk, GoesAlong, Is
 ghost use Rattle.brd_explore.specs.Sharing.{SearchesBranches, SearchesFrom, SearchesShard, SearchesWay};
 
 use crate::bounds::{Bounds, did_nothing};
-use crate::known::Known;
+use crate::known::{Known, may_have_more};
 use crate::search::{Found, Search, Turn, Watch};
 use crate::wanted::Wanted;
 use brd_base::NoMemory;
@@ -232,7 +232,7 @@ impl Search {
             return Ok(true);
         }
         known.begin();
-        if known.knows(self) {
+        if known.knows(self, may_have_more(wanted, among)) {
             return Ok(false);
         }
         self.run(among, wanted, known, watch)

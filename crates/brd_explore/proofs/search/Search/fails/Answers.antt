@@ -8,7 +8,7 @@ pub returns-then-branch-clause-is : goal.returns-then-branch-clause-is
 returns-then-branch-clause-is g c = λ from on. found-now c.args.wanted.now c.args.among.now from c.args.self.now on (sym c.in_ok-fails_now.ensures ∙ c.if-branch.true)
 
 pub returns-then-knows-clause-is : goal.returns-then-knows-clause-is
-returns-then-knows-clause-is g c = c.knows.ensures.is c.args.wanted.now c.args.among.now
+returns-then-knows-clause-is g c = c.knows.ensures.is c.args.wanted.now c.args.among.now (λ more. sym c.may_have_more.ensures ∙ more)
     (done-same c.args.wanted.now c.args.among.now c.args.known.now c.begin.new.self c.begin.ensures.done c.requires.known) c.if-knows.true
 
 pub run-requires-clause-known : goal.run-requires-clause-known

@@ -27,7 +27,7 @@ returns-then-knows-clause-out c =
     leaves-out-gone c.args.wanted.now c.args.among.now c.args.self.now c.try_event.new.self c.leave.new.self c.args.at c.leave.result c.requires.within.0 c.requires.within.1 c.requires.left c.requires.before
     (gone-of c.args.among.now c.args.self.now c.try_event.new.self c.args.at c.in_ok-try_event.field-0 c.if-not-branch.false c.in_ok-try_event.ensures.is)
     (sym c.in_ok-fails_now.ensures ∙ c.if-branch.false)
-    (leaves-out c.args.wanted.now c.args.among.now c.try_event.new.self c.leave.new.self c.leave.result (none-known c.args.wanted.now c.args.among.now c.try_event.new.self (c.knows.ensures.is c.args.wanted.now c.args.among.now c.requires.known.done c.if-knows.true)) c.leave.ensures.is)
+    (leaves-out c.args.wanted.now c.args.among.now c.try_event.new.self c.leave.new.self c.leave.result (none-known c.args.wanted.now c.args.among.now c.try_event.new.self (c.knows.ensures.is c.args.wanted.now c.args.among.now (λ more. sym c.may_have_more.ensures ∙ more) c.requires.known.done c.if-knows.true)) c.leave.ensures.is)
 
 pub returns-then-knows-clause-on : goal.returns-then-knows-clause-on
 returns-then-knows-clause-on c = λ from on.
@@ -43,7 +43,7 @@ returns-then-knows-clause-known c =
     c.knows.ensures.pending
     (knows-gone c.args.wanted.now c.args.among.now c.args.self.now c.try_event.new.self c.args.known.now c.args.at c.requires.within.0 c.requires.within.1 c.requires.left c.requires.before gone fine
     c.requires.known) in
-    let here = none-known c.args.wanted.now c.args.among.now c.try_event.new.self (c.knows.ensures.is c.args.wanted.now c.args.among.now c.requires.known.done c.if-knows.true) in
+    let here = none-known c.args.wanted.now c.args.among.now c.try_event.new.self (c.knows.ensures.is c.args.wanted.now c.args.among.now (λ more. sym c.may_have_more.ensures ∙ more) c.requires.known.done c.if-knows.true) in
     knows-left c.args.wanted.now c.args.among.now c.try_event.new.self c.leave.new.self c.leave.new.known c.leave.result here c.leave.ensures.is
     (c.leave.ensures.done c.args.wanted.now c.args.among.now knows.done (over-from c.args.wanted.now c.args.among.now c.try_event.new.self c.knows.new.self here knows.pending))
     (c.leave.ensures.pending c.args.wanted.now c.args.among.now c.try_event.new.self knows.pending)
