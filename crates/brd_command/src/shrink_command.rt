@@ -43,8 +43,8 @@ struct Told {
 
 /// Reads an object file, a configuration and a journal to their ends, in this order, and leaves out events of the
 /// journal, and moves turns of its processors together, as long as what is left fails. Writes how many events and
-/// switches are left and what fails, and answers the text of the journal of what is left. Nothing is written where what was read or the options have a fault, or where the journal doesn't
-/// fail.
+/// switches are left and what fails, and answers the text of the journal of what is left. Nothing is written where what
+/// was read or the options have a fault, or where the journal doesn't fail.
 pub fn shrink<R: Read, W: Write>(
     alloc: Global,
     inputs: &mut Inputs<R>,
@@ -164,9 +164,9 @@ fn text_left(
     left: &[Event],
 ) -> Result<Vec<u8>, NoMemory> {
     let (events, of_events) = (left.len(), all.len());
-    let (turns, of_turns) = (switches(left), switches(all));
+    let (kept, given) = (switches(left), switches(all));
     let front = format!(in alloc;
-        "{events} of {of_events} events are left, with {turns} of {of_turns} switches\nfails "
+        "{events} of {of_events} events are left, with {kept} of {given} switches\nfails "
     )?;
     let mut text = Vec::from_slice(alloc, front.as_bytes())?;
     let symbols = start.image.symbols.as_slice();
