@@ -1,5 +1,5 @@
-/* memcpy, memmove, memset, memcmp and strlen beside loops of bytes: at each alignment, of all small lengths, and some that
- * are large. What lies around has to stay as it is, or isn't to be looked at. */
+/* memcpy, memmove, memset, memcmp and strlen beside loops of bytes: at each alignment, of all small lengths, and some
+ * that are large. What lies around has to stay as it is, or isn't to be looked at. */
 #include "board.h"
 #include "ids.h"
 
