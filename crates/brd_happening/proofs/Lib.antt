@@ -4,3 +4,4 @@ pub mod CallLemmas
 pub mod TellingLemmas
 pub mod ToldLemmas
 pub mod StoreLemmas
+pub mod WaitLemmas

@@ -1,15 +1,18 @@
 //! What is true of every happening.
 
 ghost use Rattle.std.specs.Prelude.{◌≡◌, ℕ, ◌≤◌, Option, length, true, false};
+ghost use Rattle.std.specs.List.{filter_map};
 ghost use Rattle.brd_isa.specs.declared.instruction.Insn.{Insn};
 ghost use Rattle.brd_mem.specs.Memory.{Memory};
 ghost use Rattle.brd_link.specs.LinkSet.{LinkSet, IsLinkSet};
 ghost use Rattle.brd_exec.specs.State.{State};
 ghost use Rattle.brd_exec.specs.Step.{meaning};
+ghost use Rattle.brd_kernel.specs.Running.{IsRunning};
 ghost use Rattle.brd_board.specs.declared.event.Event.{Event as EventOf};
 ghost use Rattle.brd_board.specs.Board.{BoardState, happens, linked_word_of};
 ghost use Rattle.brd_happening.specs.declared.found.Found.{Found as FoundOf};
 ghost use Rattle.brd_happening.specs.Happening.{happening_of, released_between, is_told};
+ghost use Rattle.brd_happening.specs.Release.{waiters_of, release_in};
 ghost use Rattle.brd_happening.specs.Telling.{TellsEffect, stores_by, KeepsMemory};
 ghost use Rattle.brd_happening.specs.Instruction.{address_by};
 ghost use Rattle.brd_happening.specs.Found.{is_link_to};
@@ -19,6 +22,14 @@ ghost use Rattle.brd_happening.specs.Found.{is_link_to};
 pub fn who_is_released_is_told()
     ensures { (board : BoardState) (event : EventOf) →
         (happening_of board event).released ≡ released_between board (happens board event) }
+{}
+
+/// No other event than a service call and a tick releases a task: on every board whose running tasks are ready, as all
+/// are after a boot, these are all tasks that wait before an event and whose call is answered after it.
+pub fn calls_and_ticks_alone_release()
+    ensures { (board : BoardState) (event : EventOf) → IsRunning board.kernel →
+        (happening_of board event).released
+        ≡ filter_map (release_in (happens board event).board) (waiters_of board) }
 {}
 
 /// Of an instruction that is done the registers, HI and LO after it are those before it with what is told of them: no
