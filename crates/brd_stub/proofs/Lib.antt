@@ -1,3 +1,4 @@
 mod ReadingLemmas
 mod AnswerLemmas
 mod MovingLemmas
+mod SizeLemmas

@@ -1,25 +1,26 @@
 -- What a session answers, and what becomes of it.
-use Rattle.std.specs.Prelude.{◌≡◌, ◌⊎◌, ℕ, List, [], Option, Some, None, true, codes}
+use Rattle.std.specs.Prelude.{◌≡◌, ◌⊎◌, ℕ, ◌≤◌, List, [], length, Option, Some, None, true, codes}
 use Rattle.brd_board.specs.declared.event.Event.{Event}
 use Rattle.brd_board.specs.Board.{BoardState, registers_of}
 use Rattle.brd_debug.specs.declared.stops.Stepper.{Stepper}
 use Rattle.brd_debug.specs.Debugger.{DebuggerState, shown}
 use Rattle.brd_debug.specs.Stops.{no_stops}
+use Rattle.brd_gdb.specs.Receiving.{packet_size}
 use Rattle.brd_gdb.specs.declared.request.Move.{Move}
 use Rattle.brd_gdb.specs.declared.request.Move.TheVariants as move
 use Rattle.brd_gdb.specs.declared.request.Monitor.TheVariants.{Goto}
 use Rattle.brd_gdb.specs.declared.request.Request.{Request}
 use Rattle.brd_gdb.specs.declared.request.Request.TheVariants as request
 use Rattle.brd_stub.specs.declared.session.Session.{Session}
-use Rattle.brd_stub.specs.Registers.{registers_text, register_text}
+use Rattle.brd_stub.specs.Registers.{context_or_rest, registers_text, register_text}
 use Rattle.brd_stub.specs.Reading.{IsMemoryText}
 use Rattle.brd_stub.specs.Moving.{IsSameButStops, stepping, GoesOn, GoesBack}
 
 -- What is replied to a request that reads a board: the registers of a processor, or memory. A write is refused.
 abbrev pub Reads : BoardState → ℕ → Request → List ℕ → Type 0
-Reads board thread request.ReadRegisters reply = reply ≡ registers_text board.memory.order (registers_of board thread)
+Reads board thread request.ReadRegisters reply = reply ≡ registers_text board.memory.order (context_or_rest (registers_of board thread))
 Reads board thread (request.ReadRegister number) reply =
-    reply ≡ register_text board.memory.order (registers_of board thread) number
+    reply ≡ register_text board.memory.order (context_or_rest (registers_of board thread)) number
 Reads board thread (request.ReadMemory address length) reply = IsMemoryText board.memory address length reply
 Reads board thread request.Write reply = reply ≡ codes "E01"
 Reads board thread other reply = Unit {0}
@@ -41,10 +42,12 @@ Moves request.BackwardStep d next =
 Moves (request.Monitor (Goto position)) d next = (next ≡ d) ⊎ (next ≡ record d { position = position })
 Moves other d next = IsSameButStops d next
 
--- What a session answers to a request, and what it is then: it reads the board at its position, and moves as it is asked.
+-- What a session answers to a request, and what it is then: it reads the board at its position, moves as it is asked,
+-- and its reply fits a packet.
 pub record Answers (s : Session) (request : Request) (console reply : List ℕ) (next : Session) : Type 0 where
   pub reads : Reads (shown s.debugger) s.reading request reply
   pub moves : Moves request s.debugger next.debugger
+  pub short : length reply ≤ packet_size
 
 -- A session begins before the first event, with no point, and reads the registers of processor 1.
 pub record Begins (boot : BoardState) (events : List Event) (s : Session) : Type 0 where

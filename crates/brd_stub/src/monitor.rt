@@ -1,5 +1,8 @@
 //! What the user asks for with GDB's command `monitor`.
 
+ghost use Rattle.std.specs.Prelude.{◌≤◌, length, IfOk};
+ghost use Rattle.brd_gdb.specs.Receiving.{packet_size};
+
 use crate::answer::Answer;
 use crate::session::Session;
 use crate::telling::text;
@@ -15,7 +18,9 @@ const HELP: &[u8] =
 
 impl Session {
     /// Answers a command that shows something.
-    pub(crate) fn show_monitor(&self, alloc: Global, command: Monitor) -> Result<Answer, NoMemory> {
+    pub(crate) fn show_monitor(&self, alloc: Global, command: Monitor) -> Result<Answer, NoMemory>
+        ensures short { IfOk result (λ answer. length answer.reply.items ≤ packet_size) }
+    {
         let console = self.monitor_text(alloc, command)?;
         Ok(Answer {
             console,
@@ -32,8 +37,18 @@ impl Session {
             Monitor::Objects => waits(alloc, board),
             Monitor::Console => text(alloc, board.console()),
             Monitor::Help => text(alloc, HELP),
-            _ => text(alloc, b"unknown; try `monitor help`\n"),
+            Monitor::Summary | Monitor::Trace(_) => self.elsewhere_text(alloc),
+            _ => text(alloc, b"unknown; `monitor help` says what there is\n"),
         }
+    }
+
+    /// Which command shows what isn't shown here.
+    fn elsewhere_text(&self, alloc: Global) -> Result<Vec<u8>, NoMemory> {
+        let position = self.debugger.position();
+        let line = format!(in alloc;
+            "`board trace --to {position}` and `board trace --summary --to {position}` of the three files show it\n"
+        )?;
+        text(alloc, line.as_bytes())
     }
 
     /// The position, and whose step comes.

@@ -1,13 +1,15 @@
 //! Moves: on to the next stop, back to the last one, and to a position.
 
 ghost use Rattle.std.specs.Prelude.{◌≡◌, ◌⊎◌, ◌+◌, ◌<◌, ◌≤◌, length, OnOk, IfOk, IfSome, IfNone};
+ghost use Rattle.brd_gdb.specs.Receiving.{packet_size};
 ghost use Rattle.brd_stub.specs.Moving.{stepping, moved_to, IsStopOf, IsAt, EndsBehind, GoesOn, GoesBack};
 
 use crate::answer::Answer;
 use crate::halt::{Halt, Reason, Told, reason_ahead, thread_of, told_by};
 use crate::points::changed;
 use crate::session::Session;
-use crate::telling::{halt_text, text};
+use crate::telling::{halt_text, short, text};
+use crate::threads::executing;
 use brd_base::NoMemory;
 use brd_board::{Board, Standing};
 use brd_debug::{DebugFault, Look, Stepper};
@@ -22,7 +24,8 @@ impl Session {
         stepper: Option<Stepper>,
         progress: &mut P,
     ) -> Result<Answer, NoMemory>
-        ensures { IfOk result (λ _. GoesOn (stepping stepper self.old.debugger) self.new.debugger) }
+        ensures goes { IfOk result (λ _. GoesOn (stepping stepper self.old.debugger) self.new.debugger) }
+        ensures short { IfOk result (λ answer. length answer.reply.items ≤ packet_size) }
     {
         self.debugger.set_stepper(stepper);
         self.halt = self.forward(progress)?;
@@ -36,7 +39,8 @@ impl Session {
         stepper: Option<Stepper>,
         progress: &mut P,
     ) -> Result<Answer, NoMemory>
-        ensures { IfOk result (λ _. GoesBack (stepping stepper self.old.debugger) self.new.debugger) }
+        ensures goes { IfOk result (λ _. GoesBack (stepping stepper self.old.debugger) self.new.debugger) }
+        ensures short { IfOk result (λ answer. length answer.reply.items ≤ packet_size) }
     {
         self.debugger.set_stepper(stepper);
         self.halt = self.backward(progress)?;
@@ -50,11 +54,12 @@ impl Session {
         position: u64,
         progress: &mut P,
     ) -> Result<Answer, NoMemory>
-        ensures { IfOk result (λ _. (self.new.debugger ≡ self.old.debugger)
+        ensures goes { IfOk result (λ _. (self.new.debugger ≡ self.old.debugger)
             ⊎ (self.new.debugger ≡ moved_to self.old.debugger position)) }
+        ensures short { IfOk result (λ answer. length answer.reply.items ≤ packet_size) }
     {
         let console = match self.debugger.goto_telling(position, progress) {
-            Ok(()) => format!(in alloc; "at {position}; maint flush register-cache\n")?,
+            Ok(()) => format!(in alloc; "at {position}\n")?,
             Err(DebugFault::Past { len }) => format!(in alloc; "past {len}\n")?,
             Err(DebugFault::NoMemory) => return Err(NoMemory),
         };
@@ -67,7 +72,8 @@ impl Session {
 
     /// What is answered to a move: why the board stands where it is, and at the end of the journal what it does there.
     fn stopped(&mut self, alloc: Global) -> Result<Answer, NoMemory>
-        ensures { self.new.debugger ≡ self.old.debugger }
+        ensures same { self.new.debugger ≡ self.old.debugger }
+        ensures short { IfOk result (λ answer. length answer.reply.items ≤ packet_size) }
     {
         self.reading = self.halt.thread;
         self.stepping = self.halt.thread;
@@ -77,7 +83,10 @@ impl Session {
             Vec::new(alloc)
         };
         let reply = halt_text(alloc, self.halt)?;
-        Ok(Answer { console, reply })
+        Ok(Answer {
+            console,
+            reply: short(reply),
+        })
     }
 
     /// Goes on to the first stop, of those at its position to one that wasn't told yet, else to the end.
@@ -265,10 +274,10 @@ impl Session {
         }
     }
 
-    /// That it stands where it is for a reason, on the processor of the last stop.
+    /// That it stands where it is for a reason, on the processor of the last stop, or on one that executes.
     fn standing(&self, reason: Reason) -> Halt {
         Halt {
-            thread: self.halt.thread,
+            thread: executing(self.debugger.show(), self.halt.thread),
             reason,
         }
     }

@@ -1,40 +1,46 @@
 //! The registers of a processor, as GDB reads them.
 
-ghost use Rattle.std.specs.Prelude.{◌≡◌, ◌≤◌, ◌++◌, OnOk};
+ghost use Rattle.std.specs.Prelude.{◌≡◌, ◌≤◌, ◌+◌, ◌++◌, length, OnOk};
+ghost use Rattle.brd_board.specs.Board.{registers_of};
 ghost use Rattle.brd_stub.specs.Registers.{
+  context_or_rest,
   registers_text,
   register_of,
   register_text,
   words_text,
   word_text,
   unavailable_text,
+  word_or_unavailable,
 };
 
 use brd_base::NoMemory;
+use brd_board::Board;
 use brd_exec::Context;
 use brd_gdb::put_hex;
 use brd_word::{Order, bytes_of};
 
-/// How many registers GDB reads at once: 32 general ones, and six more.
-const REGISTERS: usize = 38;
-
-/// Puts all registers of a processor at the end, where somebody executes on it.
-pub fn show_registers(
-    out: &mut Vec<u8>,
-    order: Order,
-    context: Option<Context>,
-) -> Result<(), NoMemory>
-    ensures { OnOk result (out.new.items ≡ out.old.items ++ registers_text order context) }
+/// The context in which a processor executes, else one in which all is 0.
+pub fn context_of(board: &Board, cpu: u8) -> Context
+    ensures { result ≡ context_or_rest (registers_of board.now cpu) }
 {
-    match context {
-        None => show_unavailable(out, REGISTERS),
-        Some(context) => show_context(out, order, &context),
+    match board.registers(cpu) {
+        Some(context) => context,
+        None => Context::opening(0, 0, 0),
     }
 }
 
-/// Puts the registers of a context at the end, by their numbers in the target description.
+/// Puts all registers of a context at the end, by their numbers in the target description.
+pub fn show_registers(out: &mut Vec<u8>, order: Order, context: &Context) -> Result<(), NoMemory>
+    ensures is { OnOk result (out.new.items ≡ out.old.items ++ registers_text order context.now) }
+    ensures size { OnOk result (length out.new.items ≤ length out.old.items + 304) }
+{
+    let _ = context.registers();
+    show_context(out, order, context)
+}
+
+/// Puts the registers of a context at the end.
 fn show_context(out: &mut Vec<u8>, order: Order, context: &Context) -> Result<(), NoMemory>
-    ensures { OnOk result (out.new.items ≡ out.old.items ++ registers_text order (Some context.now)) }
+    ensures { OnOk result (out.new.items ≡ out.old.items ++ registers_text order context.now) }
 {
     show_words(out, order, context.registers())?;
     show_unavailable(out, 1)?;
@@ -63,34 +69,41 @@ fn show_word(out: &mut Vec<u8>, order: Order, word: u32) -> Result<(), NoMemory>
 
 /// Puts registers at the end that can't be read.
 fn show_unavailable(out: &mut Vec<u8>, count: usize) -> Result<(), NoMemory>
-    requires { count ≤ 38 }
+    requires { count ≤ 2 }
     ensures { OnOk result (out.new.items ≡ out.old.items ++ unavailable_text count) }
 {
-    let digits = [b'x'; 8 * REGISTERS];
+    let digits = [b'x'; 16];
     out.extend_from_slice(&digits[..8 * count])?;
     Ok(())
 }
 
-/// Puts the register of a number at the end, where somebody executes on the processor.
+/// Puts the register of a number at the end.
 pub fn show_register(
     out: &mut Vec<u8>,
     order: Order,
-    context: Option<Context>,
+    context: &Context,
     number: u32,
 ) -> Result<(), NoMemory>
-    ensures { OnOk result (out.new.items ≡ out.old.items ++ register_text order context number) }
+    ensures is { OnOk result (out.new.items ≡ out.old.items ++ register_text order context.now number) }
+    ensures size { OnOk result (length out.new.items ≤ length out.old.items + 8) }
 {
-    match register(context, number) {
+    show_word_or_none(out, order, register(context, number))
+}
+
+/// Puts a register at the end, where it can be read.
+fn show_word_or_none(out: &mut Vec<u8>, order: Order, word: Option<u32>) -> Result<(), NoMemory>
+    ensures { OnOk result (out.new.items ≡ out.old.items ++ word_or_unavailable order word) }
+{
+    match word {
         None => show_unavailable(out, 1),
         Some(word) => show_word(out, order, word),
     }
 }
 
 /// The word of the register of a number; None where it can't be read.
-fn register(context: Option<Context>, number: u32) -> Option<u32>
-    ensures { result ≡ register_of context number }
+fn register(context: &Context, number: u32) -> Option<u32>
+    ensures { result ≡ register_of context.now number }
 {
-    let context = context?;
     match number {
         0..=31 => Some(context.word(number as u8)),
         33 => Some(context.lo()),

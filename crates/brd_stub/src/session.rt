@@ -1,6 +1,7 @@
 //! A session with GDB.
 
-ghost use Rattle.std.specs.Prelude.{◌≡◌, IfOk};
+ghost use Rattle.std.specs.Prelude.{◌≡◌, ◌≤◌, length, IfOk};
+ghost use Rattle.brd_gdb.specs.Receiving.{packet_size};
 ghost use Rattle.brd_debug.specs.Debugger.{shown};
 ghost use Rattle.brd_stub.specs.Answers.{Answers, Begins, Reads, Moves, IsStepper};
 ghost use Rattle.brd_stub.specs.Moving.{IsSameButStops};
@@ -92,6 +93,7 @@ impl Session {
         ensures reads { IfOk result (λ answer.
             Reads (shown self.old.debugger) self.old.reading request answer.reply.items) }
         ensures moves { IfOk result (λ _. Moves request self.old.debugger self.new.debugger) }
+        ensures short { IfOk result (λ answer. length answer.reply.items ≤ packet_size) }
     {
         match request {
             Request::Forward(how) => self.go_on(alloc, self.stepper_of(how), progress),
@@ -162,7 +164,8 @@ impl Session {
         moves: bool,
         thread: ThreadId,
     ) -> Result<Answer, NoMemory>
-        ensures { self.new.debugger ≡ self.old.debugger }
+        ensures same { self.new.debugger ≡ self.old.debugger }
+        ensures short { IfOk result (λ answer. length answer.reply.items ≤ packet_size) }
     {
         let Some(cpu) = processor_of(self.debugger.show(), thread, self.halt.thread) else {
             return error(alloc);
@@ -177,7 +180,8 @@ impl Session {
 
     /// Sets a point.
     fn set(&mut self, alloc: Global, point: Point) -> Result<Answer, NoMemory>
-        ensures { IsSameButStops self.old.debugger self.new.debugger }
+        ensures same { IsSameButStops self.old.debugger self.new.debugger }
+        ensures short { IfOk result (λ answer. length answer.reply.items ≤ packet_size) }
     {
         match set_point(&mut self.points, point)? {
             Setting::Set => {
@@ -191,7 +195,8 @@ impl Session {
 
     /// Takes a point away.
     fn clear(&mut self, alloc: Global, point: Point) -> Result<Answer, NoMemory>
-        ensures { IsSameButStops self.old.debugger self.new.debugger }
+        ensures same { IsSameButStops self.old.debugger self.new.debugger }
+        ensures short { IfOk result (λ answer. length answer.reply.items ≤ packet_size) }
     {
         clear_point(&mut self.points, point);
         load(&mut self.debugger, &self.points);
@@ -207,13 +212,17 @@ fn stepper_of(cpu: u8, start: u32, end: u32) -> Stepper
 }
 
 /// The answer that all went well.
-pub fn okay(alloc: Global) -> Result<Answer, NoMemory> {
+pub fn okay(alloc: Global) -> Result<Answer, NoMemory>
+    ensures short { IfOk result (λ answer. length answer.reply.items ≤ packet_size) }
+{
     let reply = text(alloc, b"OK")?;
     Ok(plain(alloc, reply))
 }
 
 /// The answer that a request is refused.
-pub fn error(alloc: Global) -> Result<Answer, NoMemory> {
+pub fn error(alloc: Global) -> Result<Answer, NoMemory>
+    ensures short { IfOk result (λ answer. length answer.reply.items ≤ packet_size) }
+{
     let reply = text(alloc, b"E01")?;
     Ok(plain(alloc, reply))
 }

@@ -1,20 +1,22 @@
 //! What is told without anything being changed.
 
-ghost use Rattle.std.specs.Prelude.{◌≡◌, IfOk};
+ghost use Rattle.std.specs.Prelude.{◌≡◌, ◌≤◌, length, IfOk};
 ghost use Rattle.brd_board.specs.Board.{registers_of};
 ghost use Rattle.brd_debug.specs.Debugger.{shown};
+ghost use Rattle.brd_gdb.specs.Receiving.{packet_size};
 ghost use Rattle.brd_stub.specs.Answers.{Reads};
-ghost use Rattle.brd_stub.specs.Registers.{registers_text, register_text};
+ghost use Rattle.brd_stub.specs.Reading.{IsMemoryText};
+ghost use Rattle.brd_stub.specs.Registers.{context_or_rest, registers_text, register_text};
 
 use crate::answer::Answer;
 use crate::halt::{Halt, show_halt};
 use crate::memory::show_memory;
-use crate::registers::{show_register, show_registers};
+use crate::registers::{context_of, show_register, show_registers};
 use crate::session::Session;
 use crate::threads::{processor_of, show_thread, thread_document, thread_list, thread_text};
 use brd_base::NoMemory;
 use brd_board::Board;
-use brd_gdb::{Request, ThreadId, features, put_hex, put_slice};
+use brd_gdb::{PACKET_SIZE, Request, ThreadId, features, put_hex, put_slice};
 use std::alloc::Global;
 
 /// What a session can do, by the names of GDB's protocol.
@@ -24,17 +26,30 @@ const SUPPORTED: &[u8] =
 impl Session {
     /// What is replied to a request that changes nothing.
     pub(crate) fn tell(&self, alloc: Global, request: Request) -> Result<Vec<u8>, NoMemory>
-        ensures { IfOk result (λ reply. Reads (shown self.now.debugger) self.now.reading request reply.items) }
+        ensures reads { IfOk result
+            (λ reply. Reads (shown self.now.debugger) self.now.reading request reply.items) }
+        ensures short { IfOk result (λ reply. length reply.items ≤ packet_size) }
     {
+        let board = self.debugger.show();
+        match request {
+            Request::ReadRegisters => registers(alloc, board, self.reading),
+            Request::ReadRegister(number) => register(alloc, board, self.reading, number),
+            Request::ReadMemory { address, length } => memory(alloc, board, address, length),
+            Request::Write => text(alloc, b"E01"),
+            other => {
+                let reply = self.say(alloc, other)?;
+                Ok(short(reply))
+            }
+        }
+    }
+
+    /// The same, of what says nothing of registers and memory.
+    fn say(&self, alloc: Global, request: Request) -> Result<Vec<u8>, NoMemory> {
         let board = self.debugger.show();
         match request {
             Request::Supported => text(alloc, SUPPORTED),
             Request::StartNoAckMode | Request::Detach | Request::Kill => text(alloc, b"OK"),
             Request::StopReason => halt_text(alloc, self.halt),
-            Request::ReadRegisters => registers(alloc, board, self.reading),
-            Request::ReadRegister(number) => register(alloc, board, self.reading, number),
-            Request::ReadMemory { address, length } => show_memory(alloc, board, address, length),
-            Request::Write => text(alloc, b"E01"),
             Request::IsAlive(thread) => alive(alloc, board, thread),
             Request::CurrentThread => current(alloc, self.halt.thread),
             Request::FirstThreads => thread_list(alloc, board),
@@ -58,6 +73,15 @@ pub fn text(alloc: Global, bytes: &[u8]) -> Result<Vec<u8>, NoMemory>
     Ok(reply)
 }
 
+/// The front of a reply that a packet has room for.
+pub fn short(reply: Vec<u8>) -> Vec<u8>
+    ensures { length result.items ≤ packet_size }
+{
+    let mut reply = reply;
+    reply.truncate(PACKET_SIZE);
+    reply
+}
+
 /// The answer of this reply, with nothing for the console.
 pub fn plain(alloc: Global, reply: Vec<u8>) -> Answer
     ensures { result.reply ≡ reply }
@@ -70,22 +94,32 @@ pub fn plain(alloc: Global, reply: Vec<u8>) -> Answer
 
 /// All registers of a processor.
 fn registers(alloc: Global, board: &Board, cpu: u8) -> Result<Vec<u8>, NoMemory>
-    ensures { IfOk result
-        (λ reply. reply.items ≡ registers_text board.now.memory.order (registers_of board.now cpu)) }
+    ensures is { IfOk result
+        (λ reply. reply.items ≡ registers_text board.now.memory.order (context_or_rest (registers_of board.now cpu))) }
+    ensures short { IfOk result (λ reply. length reply.items ≤ packet_size) }
 {
     let mut reply = Vec::new(alloc);
-    show_registers(&mut reply, board.order(), board.registers(cpu))?;
+    show_registers(&mut reply, board.order(), &context_of(board, cpu))?;
     Ok(reply)
 }
 
 /// One register of a processor.
 fn register(alloc: Global, board: &Board, cpu: u8, number: u32) -> Result<Vec<u8>, NoMemory>
-    ensures { IfOk result
-        (λ reply. reply.items ≡ register_text board.now.memory.order (registers_of board.now cpu) number) }
+    ensures is { IfOk result
+        (λ reply. reply.items ≡ register_text board.now.memory.order (context_or_rest (registers_of board.now cpu)) number) }
+    ensures short { IfOk result (λ reply. length reply.items ≤ packet_size) }
 {
     let mut reply = Vec::new(alloc);
-    show_register(&mut reply, board.order(), board.registers(cpu), number)?;
+    show_register(&mut reply, board.order(), &context_of(board, cpu), number)?;
     Ok(reply)
+}
+
+/// Memory from an address on.
+fn memory(alloc: Global, board: &Board, address: u32, most: u32) -> Result<Vec<u8>, NoMemory>
+    ensures is { IfOk result (λ reply. IsMemoryText board.now.memory address most reply.items) }
+    ensures short { IfOk result (λ reply. length reply.items ≤ packet_size) }
+{
+    show_memory(alloc, board, address, most)
 }
 
 /// Why the board stands where it is.

@@ -24,6 +24,19 @@ pub fn processor_of(board: &Board, thread: ThreadId, other: u8) -> Option<u8> {
     }
 }
 
+/// A processor on which somebody executes: this one, else the first; this one where there is none.
+pub fn executing(board: &Board, cpu: u8) -> u8 {
+    if board.registers(cpu).is_some() {
+        return cpu;
+    }
+    for other in 1..9u8 {
+        if board.registers(other).is_some() {
+            return other;
+        }
+    }
+    cpu
+}
+
 /// Puts a thread's number at the end.
 pub fn show_thread(out: &mut Vec<u8>, thread: u8) -> Result<(), NoMemory> {
     out.extend_from_slice(&hex_digits(thread as u32)[6..])?;

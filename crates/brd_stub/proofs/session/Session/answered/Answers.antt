@@ -17,4 +17,4 @@ steps-back request d next stepper cpu asks is goes =
 pub returns-in-BackwardStep-clause-moves : goal.returns-in-BackwardStep-clause-moves
 returns-in-BackwardStep-clause-moves g c =
     if-then _ _ (λ answer goes. steps-back c.args.request c.args.self.now.debugger c.go_back-in-BackwardStep.new.self.debugger c.stepper_of-stepper.result
-    c.args.self.now.stepping c.in-BackwardStep.is c.stepper_of-stepper.ensures goes) c.go_back-in-BackwardStep.result c.go_back-in-BackwardStep.ensures
+    c.args.self.now.stepping c.in-BackwardStep.is c.stepper_of-stepper.ensures goes) c.go_back-in-BackwardStep.result c.go_back-in-BackwardStep.ensures.goes
