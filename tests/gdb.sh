@@ -1,0 +1,475 @@
+#!/bin/bash
+# The tests of `board gdb` with GDB itself, gdb-multiarch in batch mode: tests/gdb.sh PROGRAM. Programs of the kit and
+# of `board asm`, in both byte orders: breaks, locals of C, watches, and above all moves backward. They are skipped,
+# which a line says, where GDB or a compiler is missing.
+. "$(dirname "$0")/check.sh"
+sdk=$PWD/sdk
+have gdb-multiarch "GDB on the board" || { summary; exit; }
+ulimit -c 0
+
+# session NAME: runs GDB on $elf, $cfg and $journal. On standard input are its commands, each after '> ', and between
+# them patterns of whole lines that it has to print, in this order, after the command that they stand under.
+session() {
+    local name=$1 line wanted=() commands=() count=0
+    while IFS= read -r line; do
+        if [[ "$line" == '> '* ]]; then
+            count=$((count + 1))
+            commands+=(-ex "echo \\n@$count\\n" -ex "${line#> }")
+            wanted+=("@$count")
+        else
+            wanted+=("$line")
+        fi
+    done
+    timeout 120 sdk/gdb "$board" "$elf" "$cfg" "$journal" "${commands[@]}" < /dev/null > "$work/said" 2>&1
+    local status=$? wrong='' it=0
+    while IFS= read -r line; do
+        if [ $it -lt ${#wanted[@]} ] && [[ "$line" =~ ^(${wanted[it]})$ ]]; then it=$((it + 1)); fi
+    done < "$work/said"
+    [ $it = ${#wanted[@]} ] || wrong="no line '${wanted[it]}'"
+    [ $status != 124 ] || wrong="$wrong; it hasn't ended"
+    verdict "gdb: $name" "${wrong:+$wrong: $(tail -c 2500 "$work/said")}"
+}
+
+# ordered JOURNAL: the journal for the byte order of $elf.
+ordered() {
+    journal=$work/journal
+    sdk/ordered "$elf" "$1" > "$journal"
+}
+
+# project FOLDER ARGUMENT..: make in the folder of a project of the kit, and its files.
+project() {
+    local folder=$1
+    shift
+    make -s -C "$folder" SDK="$sdk" BOARD="$board" BUILD="$work/build" "$@" > "$work/made" 2>&1 || return
+    elf=$work/build/firmware.elf
+    cfg=$work/build/firmware.cfg
+    ordered "$folder/firmware.journal"
+}
+
+# Programs in assembler: a delay slot, an exception in one, steps of one processor among those of two.
+for order in big little; do
+    elf=$work/slots.$order
+    { echo "        .byteorder $order"; cat tests/gdb/slots.s; } > "$work/slots.s"
+    "$board" asm "$work/slots.s" "$elf"
+    cfg=tests/gdb/slots.cfg
+    ordered tests/gdb/slots.journal
+    session "a delay slot and an exception in one, $order-endian" << 'END'
+> info threads
+\* 1 +Thread 1 .*0x80000000 in .*
+  2 +Thread 2 .*0x80000024 in .*
+> monitor goto 13
+at 13.*
+> thread 1
+.*
+> maintenance flush register-cache
+> printf "%x t0=%d t1=%d\n", $pc, $t0, $t1
+80000004 t0=2 t1=1
+> stepi
+0x80000008 in .*
+> stepi
+0x80000004 in .*
+> printf "%x t0=%d t1=%d\n", $pc, $t0, $t1
+80000004 t0=1 t1=2
+> reverse-stepi
+0x8000000c in .*
+> printf "%x t0=%d t1=%d\n", $pc, $t0, $t1
+8000000c t0=1 t1=1
+> reverse-stepi
+0x80000008 in .*
+> reverse-stepi
+0x80000004 in .*
+> printf "%x t0=%d t1=%d\n", $pc, $t0, $t1
+80000004 t0=2 t1=1
+> continue
+Thread 1( ".*")? received signal SIGBUS, Bus error\.
+0x80000018 in .*
+> printf "%x t0=%d t1=%d t2=%x\n", $pc, $t0, $t1, $t2
+80000018 t0=0 t1=3 t2=80000000
+> reverse-stepi
+0x80000014 in .*
+> reverse-stepi
+0x80000010 in .*
+> stepi
+0x80000014 in .*
+> stepi
+Thread 1( ".*")? received signal SIGBUS, Bus error\.
+0x80000018 in .*
+> thread 2
+.*
+> stepi
+> stepi
+> reverse-stepi
+> break *0x80000008
+Breakpoint 1 at 0x80000008
+> reverse-continue
+Thread 1( ".*")? hit Breakpoint 1, 0x80000008 in .*
+> printf "%x t0=%d t1=%d\n", $pc, $t0, $t1
+80000008 t0=0 t1=2
+> reverse-continue
+Thread 1( ".*")? hit Breakpoint 1, 0x80000008 in .*
+> reverse-continue
+Thread 1( ".*")? hit Breakpoint 1, 0x80000008 in .*
+> printf "%x t0=%d t1=%d\n", $pc, $t0, $t1
+80000008 t0=2 t1=0
+> reverse-continue
+No more reverse-execution history\.
+> info threads
+.* 1 +Thread 1 .*0x80000000 in .*
+.* 2 +Thread 2 .*0x80000024 in .*
+END
+    # A task that an exception has ended, and beyond: its processor has nothing to execute.
+    session "after an exception, $order-endian" << 'END'
+> continue
+Thread 1( ".*")? received signal SIGBUS, Bus error\.
+> continue
+No more reverse-execution history\.
+> reverse-continue
+Thread 1( ".*")? received signal SIGBUS, Bus error\.
+> printf "%x t0=%d t1=%d\n", $pc, $t0, $t1
+80000018 t0=0 t1=3
+> reverse-continue
+No more reverse-execution history\.
+END
+done
+
+# examples/fault: from the exception to the store that spoiled the pointer, on the other processor.
+elf=$work/fault.elf
+cfg=examples/fault/fault.cfg
+journal=examples/fault/fault.journal
+"$board" asm examples/fault/fault.s "$elf"
+session "the cause of examples/fault" << 'END'
+> continue
+Thread 1( ".*")? received signal SIGBUS, Bus error\.
+0x80000008 in .*
+> x/i $pc
+=> 0x80000008:	lw	a0,0\(t0\)
+> print/x $t0
+\$1 = 0xffffffff
+> monitor where
+.*6026.*
+> watch *(int *)&chosen
+Hardware watchpoint 1: .*
+> reverse-continue
+Thread 2( ".*")? hit Hardware watchpoint 1: .*
+Old value = -1
+New value = -2147483552
+0x80000038 in .*
+> x/i $pc
+=> 0x80000038:	sw	t2,0\(t0\)
+> monitor where
+.*56.*
+> printf "%x %x\n", $t0, $t1
+80000080 80000080
+> x/8dw &samples
+0x80000060:	-1	-1	-1	-1
+0x80000070:	-1	-1	-1	-1
+END
+
+# Every byte of the stream is answered, or ends it: D and k by status 0, an end without them by 4.
+# ends NAME STATUS BYTES
+ends() {
+    printf '%b' "$3" | timeout 60 "$board" gdb "$elf" "$cfg" "$journal" > "$work/out" 2> "$work/err"
+    local got=${PIPESTATUS[1]}
+    verdict "gdb: $1" "$([ "$got" = "$2" ] || echo "status $got, wanted $2: $(head -c 600 "$work/err")")"
+}
+ends "a pipe that ends at once" 4 ''
+ends "a pipe that ends after an answer" 4 '+$?#3f+'
+ends "a pipe that ends within a packet" 4 '+$qSupp'
+ends "D" 0 '+$?#3f+$D#44'
+ends "D with a process" 0 '+$?#3f+$D;1#b0'
+ends "k" 0 '$k#6b'
+ends "vKill" 0 '$vKill;1#6e'
+# GDB is killed while it is connected.
+mkfifo "$work/to"
+{ "$board" gdb "$elf" "$cfg" "$journal" < "$work/to" > "$work/out" 2> "$work/err"; echo $? > "$work/status"; } &
+exec 9> "$work/to"
+printf '+$?#3f+' >&9
+exec 9>&-
+wait
+verdict "gdb: a pipe that is unplugged" "$([ "$(cat "$work/status")" = 4 ] || cat "$work/status" "$work/err")"
+
+have make "GDB on programs in C" || { summary; exit; }
+have python3 "GDB on programs in C" || { summary; exit; }
+have mips-linux-gnu-gcc "GDB on programs in C" || { summary; exit; }
+
+for order in big little; do
+    for level in -O0 -O2; do
+        project tests/gdb/pair OPTIMIZE=$level ORDER=$order
+        session "lines and locals of C, $level, $order-endian" << 'END'
+> break weigh
+Breakpoint 1 at 0x80[0-9a-f]{6}: file firmware\.c, line 19\.
+> continue
+Thread 1( ".*")? hit Breakpoint 1, weigh \(number=1, sample=0x8000[0-9a-f]{4}\) at firmware\.c:19
+19	.*
+> print *sample
+\$1 = \{number = 0, weight = 0\}
+> next
+20	.*
+> next
+21	.*
+> next
+22	.*
+> print parts
+\$2 = \{1, 2, 3\}
+> print *sample
+\$3 = \{number = 1, weight = 6\}
+> up
+#1 .* in meter \(count=5\) at firmware\.c:48
+.*
+> print last
+\$4 = \{number = 1, weight = 6\}
+> print i
+\$5 = 1
+> down
+#0 .*
+> finish
+.* in meter \(count=5\) at firmware\.c:48
+Value returned is \$6 = 6
+> delete
+> reverse-next
+48	.*
+> print total
+\$7 = 0
+> next
+.*
+> print total
+\$8 = 6
+> reverse-next
+(0x80[0-9a-f]{6}	)?48	.*
+> reverse-step
+.*
+> info threads
+.* 1 +Thread 1 .* at firmware\.c:.*
+END
+        # The end of the run, and back: the other processor spoiled it.
+        session "back to a store of the other processor, $level, $order-endian" << 'END'
+> break board_stop
+Breakpoint 1 at .*
+> continue
+Thread 1( ".*")? hit Breakpoint 1, .*board_stop \(file=0x.* "firmware.c", line=50, condition=0x.* "total < kept\.limit"\) at .*
+> bt
+#0 .*board_stop .*
+#1 .* in meter \(count=.*\) at firmware\.c:50
+#2 .* in task_1 \(\) at .*entries\.inc:2
+> print total
+\$1 = 90
+> print kept
+\$2 = \{rates = \{9, 10, 11\}, limit = 12\}
+> watch kept.limit
+Hardware watchpoint 2: kept\.limit
+> reverse-continue
+Thread 2( ".*")? hit Hardware watchpoint 2: kept\.limit
+Old value = 12
+New value = 100
+.*set_rate \(place=.*, rate=12\) at firmware\.c:33
+> bt
+#0 .*set_rate \(place=.*, rate=12\) at firmware\.c:33
+#1 .* in clerk \(rate=9\) at firmware\.c:39
+#2 .* in task_2 \(\) at .*entries\.inc:3
+> thread 1
+.*
+> bt
+#0 .*
+> delete
+> thread 2
+.*
+> reverse-finish
+.*clerk \(rate=9\) at firmware\.c:39
+39	.*
+> watch kept.limit
+Hardware watchpoint 3: kept\.limit
+> continue
+Thread 2( ".*")? hit Hardware watchpoint 3: kept\.limit
+Old value = 100
+New value = 12
+> info breakpoints
+.*hw watchpoint .*
+	breakpoint already hit 1 time
+> tbreak pulse
+Temporary breakpoint 4 at .*
+> continue
+Thread 1( ".*")? hit Temporary breakpoint 4, pulse \(line=3\) at firmware\.c:2[89]
+2[89]	.*
+> bt
+#0  pulse \(line=3\) at firmware\.c:2[89]
+#1 .* in handler_3 \(\) at .*
+> reverse-stepi
+.*
+> info threads
+.* 1 +Thread 1 .*
+.* 2 +Thread 2 .*
+END
+    done
+done
+
+# A replay isn't changed.
+session "writes are refused" << 'END'
+> print kept.limit
+\$1 = 100
+> set var kept.limit = 5
+Cannot access memory at address 0x80[0-9a-f]{6}
+> print kept.limit
+\$2 = 100
+> set $t0 = 5
+Could not write register.*
+END
+
+# Eight processors as threads; a million events back to the first.
+for order in big little; do
+    project tests/gdb/eight ORDER=$order
+    session "eight processors, $order-endian" << 'END'
+> info threads
+\* 1 +Thread 1 .* task_1 \(\) at .*
+  2 +Thread 2 .* task_2 \(\) at .*
+  3 +Thread 3 .* task_3 \(\) at .*
+  4 +Thread 4 .* task_4 \(\) at .*
+  5 +Thread 5 .* task_5 \(\) at .*
+  6 +Thread 6 .* task_6 \(\) at .*
+  7 +Thread 7 .* task_7 \(\) at .*
+  8 +Thread 8 .* task_8 \(\) at .*
+> tbreak count thread 7
+Temporary breakpoint 1 at .*
+> continue
+Thread 7( ".*")? hit Temporary breakpoint 1, count \(number=7\) at .*
+> thread apply 8 2 -q print $pc
+.*
+> thread 4
+\[Switching to thread 4 .*
+> stepi
+> continue
+No more reverse-execution history\.
+> thread apply all -q bt 1
+#0 .*count \(number=8\) at firmware\.c:1[01]
+#0 .*count \(number=7\) at firmware\.c:1[01]
+#0 .*count \(number=6\) at firmware\.c:1[01]
+#0 .*count \(number=5\) at firmware\.c:1[01]
+#0 .*count \(number=4\) at firmware\.c:1[01]
+#0 .*count \(number=3\) at firmware\.c:1[01]
+#0 .*count \(number=2\) at firmware\.c:1[01]
+#0 .*count \(number=1\) at firmware\.c:1[01]
+END
+    session "a million events back to the first, $order-endian" << 'END'
+> continue
+No more reverse-execution history\.
+> monitor where
+.*1002400.*
+> watch first
+Hardware watchpoint 1: first
+> reverse-continue
+Thread [1-8]( ".*")? hit Hardware watchpoint 1: first
+Old value = [1-8]
+New value = 0
+> reverse-continue
+No more reverse-execution history\.
+> monitor where
+.*position 0 of.*
+> info threads
+.* 1 +Thread 1 .* task_1 \(\) at .*
+.* 2 +Thread 2 .* task_2 \(\) at .*
+> delete
+> tbreak firmware.c:11
+Temporary breakpoint 2 at .*
+> continue
+Thread [1-8]( ".*")? hit Temporary breakpoint 2, .*
+END
+done
+
+# The kit's planted mistakes, back from what is seen to the cause: a stack that overflows,
+for level in -O0 -O2; do
+    project tests/gdb/overflow OPTIMIZE=$level
+    session "the cause of an overflow, $level" << 'END'
+> continue
+Program received signal SIGBUS, Bus error\.
+.*meter \(.*\) at firmware\.c:3[23]
+3[23]	.*
+> print next
+\$1 = \(struct sample \* volatile\) 0x61616161
+> watch -l next
+Hardware watchpoint 1: -location next
+> reverse-continue
+Old value = \(struct sample \* volatile\) 0x61616161
+> reverse-continue
+> reverse-continue
+> reverse-continue
+New value = \(struct sample \* volatile\) 0x80[0-9a-f]{6} .*
+.*report \(byte=.*\) at firmware\.c:16
+16	.*
+> bt
+#0 .*report \(byte=.*\) at firmware\.c:16
+#1 .* in clerk \(.*\) at firmware\.c:23
+#2 .* in task_1 \(\) at .*
+END
+
+    # and an update that is lost, under an order that `make explore` finds.
+    if ! project tests/kit/adders OPTIMIZE=$level CFLAGS=-DRACE explore && [ -e "$work/build/explore.journal" ]; then
+        ordered "$work/build/explore.journal"
+        session "the cause of a lost update, $level" << 'END'
+> continue
+No more reverse-execution history\.
+> print sum
+\$1 = [34]
+> watch sum
+Hardware watchpoint 1: sum
+> reverse-continue
+Thread [12]( ".*")? hit Hardware watchpoint 1: sum
+Old value = [34]
+New value = [34]
+.*add \(number=.*\) at firmware\.c:11
+> reverse-continue
+Thread [12]( ".*")? hit Hardware watchpoint 1: sum
+Old value = [34]
+New value = 0
+.*add \(number=.*\) at firmware\.c:11
+> thread apply all -q bt
+#[01] .*add \(number=.*\) at firmware\.c:1[1-5]
+#[12] .* in task_[12] \(\) at .*
+#[01] .*add \(number=.*\) at firmware\.c:1[1-5]
+#[12] .* in task_[12] \(\) at .*
+END
+    else
+        fail "gdb: the cause of a lost update, $level" "no order was found: $(tail -c 1000 "$work/made")"
+    fi
+done
+
+# make gdb: commands from a file, those of GDB's command line, and what is missing.
+project tests/gdb/pair
+printf '%s\n' 'break weigh' continue 'print number' > "$work/commands"
+make -s -C tests/gdb/pair SDK="$sdk" BOARD="$board" BUILD="$work/build" gdb < "$work/commands" > "$work/said" 2>&1
+verdict "gdb: make gdb" "$(grep -qx '\$1 = 1' "$work/said" || cat "$work/said")"
+make -s -C tests/gdb/pair SDK="$sdk" BOARD="$board" BUILD="$work/build" gdb GDBFLAGS="-ex 'print 6 * 7'" \
+    < "$work/nothing" > "$work/said" 2>&1
+verdict "gdb: make gdb with options" "$(grep -qx '\$1 = 42' "$work/said" || cat "$work/said")"
+echo 'print nothing' | sdk/gdb "$board" "$elf" "$cfg" "$journal" > "$work/said" 2>&1
+verdict "gdb: a command that fails" "$([ $? = 1 ] && grep -qx 'No symbol "nothing" in current context\.' "$work/said" ||
+    cat "$work/said")"
+
+# The settings of docs/GDB.md for Visual Studio Code, by GDB's machine interface.
+cp -r tests/gdb/pair "$work/code"
+printf 'SDK = %s\ninclude $(SDK)/board.mk\n' "$sdk" > "$work/code/Makefile"
+make -s -C "$work/code" BOARD="$board" gdb < "$work/nothing" > "$work/made" 2>&1
+sed -n '/^```json$/,/^```$/p' docs/GDB.md | sed '1d;$d' > "$work/launch.json"
+python3 - "$work/launch.json" "$work/code" > "$work/commands" << 'END'
+import json, sys
+with open(sys.argv[1], encoding="utf-8") as file:
+    settings = json.load(file)["configurations"][0]
+for it in settings["customLaunchSetupCommands"]:
+    print(it["text"].replace("${workspaceFolder}", sys.argv[2]))
+print("-list-target-features\n-break-insert weigh\n-exec-continue\n-exec-continue --reverse\n-gdb-exit")
+END
+(cd "$work/code" && BOARD=$board timeout 120 gdb-multiarch -q --interpreter=mi < "$work/commands" > "$work/said" 2>&1)
+verdict "gdb: the settings for Visual Studio Code" "$(
+    grep -q '^\^done,features=.*"reverse"' "$work/said" &&
+        grep -q '^\*stopped,reason="breakpoint-hit",.*func="weigh".*{name="number",value="1"}' "$work/said" &&
+        [ "$(grep -c '^\*stopped,.*func="task_1".*thread-id="1"' "$work/said")" = 2 ] ||
+        cat "$work/made" "$work/said")"
+
+# GDB's text interface, in a terminal.
+if have script "GDB's text interface"; then
+    printf '%s\n' 'set confirm off' 'break weigh' continue 'layout regs' quit |
+        timeout 120 script -qec "stty rows 40 cols 120; make -s -C '$work/code' BOARD='$board' gdb GDBFLAGS=-tui" \
+            /dev/null > "$work/said" 2>&1
+    verdict "gdb: the text interface" "$(
+        grep -aq 'Register' "$work/said" && grep -aq 'B+>' "$work/said" &&
+            grep -aqE 'Thread 1( ".*")? hit Breakpoint 1' "$work/said" || tail -c 3000 "$work/said" | cat -v)"
+fi
+summary
