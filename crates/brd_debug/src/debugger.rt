@@ -144,6 +144,13 @@ impl Debugger {
         self.stops.watches.add(address, MOST_ADDRESSES)
     }
 
+    /// Whether it stops where an instruction at this address is executed.
+    pub fn has_break(&self, address: u32) -> bool
+        ensures { result ≡ is_marked self.now.stops.breaks address }
+    {
+        self.stops.breaks.has(address)
+    }
+
     /// Stops from now on where an instruction of a processor leaves a range, or at none.
     pub fn set_stepper(&mut self, stepper: Option<Stepper>)
         ensures { self.new ≡ record self.old { stops = record self.old.stops { stepper = stepper } } }

@@ -14,7 +14,7 @@ use Rattle.brd_gdb.specs.declared.request.Request.TheVariants as request
 use Rattle.brd_stub.specs.declared.session.Session.{Session}
 use Rattle.brd_stub.specs.Registers.{context_or_rest, registers_text, register_text}
 use Rattle.brd_stub.specs.Reading.{IsMemoryText}
-use Rattle.brd_stub.specs.Moving.{IsSameButStops, stepping, GoesOn, GoesBack}
+use Rattle.brd_stub.specs.Moving.{IsSameButStops, stepping, GoesForward, GoesBack}
 
 -- What is replied to a request that reads a board: the registers of a processor, or memory. A write is refused.
 abbrev pub Reads : BoardState → ℕ → Request → List ℕ → Type 0
@@ -35,7 +35,7 @@ IsStepper (move.Range thread start end) stepper =
 -- What becomes of a debugger by a request: a move goes on or back, and what isn't one changes at
 -- most its stops.
 abbrev pub Moves : Request → DebuggerState → DebuggerState → Type 0
-Moves (request.Forward how) d next = (stepper : Option Stepper) × IsStepper how stepper × GoesOn (stepping stepper d) next
+Moves (request.Forward how) d next = (stepper : Option Stepper) × IsStepper how stepper × GoesForward (stepping stepper d) next
 Moves request.BackwardContinue d next = GoesBack (stepping None d) next
 Moves request.BackwardStep d next =
     (cpu : ℕ) × GoesBack (stepping (Some (record { cpu = cpu; start = 0; end = 0 })) d) next

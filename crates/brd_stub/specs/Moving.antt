@@ -1,7 +1,10 @@
 -- Where a move of a session ends.
-use Rattle.std.specs.Prelude.{◌≡◌, ◌⊎◌, ℕ, ◌+◌, length, Option, Some, None}
+use Rattle.std.specs.Prelude.{◌≡◌, ◌⊎◌, ℕ, ◌+◌, true, length, Option, Some, None}
+use Rattle.brd_exec.specs.State.{State}
+use Rattle.brd_board.specs.Board.{registers_of}
 use Rattle.brd_debug.specs.declared.stops.Stepper.{Stepper}
-use Rattle.brd_debug.specs.Debugger.{DebuggerState}
+use Rattle.brd_debug.specs.Debugger.{DebuggerState, shown}
+use Rattle.brd_debug.specs.Marks.{is_marked}
 use Rattle.brd_debug.specs.Stops.{IsStop, IsLeast, IsGreatest}
 
 -- the debugger, while a processor is stepped, or none
@@ -32,8 +35,11 @@ IsLast d found = IsGreatest (IsStopOf d) 0 d.position found
 abbrev pub IsAt : DebuggerState → ℕ → DebuggerState → Type 0
 IsAt d position next = (next ≡ moved_to d position) ⊎ (next ≡ moved_to d (position + 1))
 
--- A move forward ends at its own position, where that is a stop (which is one that hasn't been told), or at the first
--- stop after it; and where there is none, at the journal's end.
+-- a processor's next instruction is at a break
+abbrev pub IsBefore : DebuggerState → ℕ → Type 0
+IsBefore d cpu = (context : State) × (registers_of (shown d) cpu ≡ Some context) × (is_marked d.stops.breaks context.pc ≡ true)
+
+-- It stands at the first stop from its position on; and where there is none, at the journal's end.
 pub data GoesOn (d next : DebuggerState) : Type 0 where
   here : IsStopOf d d.position → IsAt d d.position next → GoesOn d next
   ahead : (found : ℕ) → IsNext d (Some found) → IsAt d found next → GoesOn d next
@@ -48,3 +54,10 @@ pub data EndsBehind (d next : DebuggerState) : Type 0 where
 abbrev pub GoesBack : DebuggerState → DebuggerState → Type 0
 GoesBack d next =
     EndsBehind d next ⊎ ((told : ℕ) × IsLast d (Some told) × EndsBehind (moved_to d told) next)
+
+-- A move forward ends at its position, where that is a stop (which hasn't been told); or goes past the event there, and
+-- ends where that has led a processor to a break, or else at the first stop from there on.
+pub data GoesForward (d next : DebuggerState) : Type 0 where
+  at_once : IsStopOf d d.position → IsAt d d.position next → GoesForward d next
+  arrives : (cpu : ℕ) → IsAt d d.position next → IsBefore next cpu → GoesForward d next
+  on : (mid : DebuggerState) → IsAt d d.position mid → GoesOn mid next → GoesForward d next

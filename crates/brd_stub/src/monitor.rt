@@ -35,7 +35,7 @@ impl Session {
             Monitor::Where => self.position_text(alloc),
             Monitor::Tasks => tasks(alloc, board),
             Monitor::Objects => waits(alloc, board),
-            Monitor::Console => text(alloc, board.console()),
+            Monitor::Console => ended(alloc, board.console()),
             Monitor::Help => text(alloc, HELP),
             Monitor::Summary | Monitor::Trace(_) => self.elsewhere_text(alloc),
             _ => text(alloc, b"unknown; `monitor help` says what there is\n"),
@@ -61,6 +61,17 @@ impl Session {
         show_event(alloc, &mut out, self.debugger.event_here())?;
         Ok(out)
     }
+}
+
+/// These bytes, and a newline where they don't end in one.
+fn ended(alloc: Global, bytes: &[u8]) -> Result<Vec<u8>, NoMemory> {
+    let mut out = text(alloc, bytes)?;
+    if let Some(last) = bytes.last() {
+        if *last != b'\n' {
+            out.push(b'\n')?;
+        }
+    }
+    Ok(out)
 }
 
 /// Puts at the end which event comes.

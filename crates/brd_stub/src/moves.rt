@@ -2,17 +2,18 @@
 
 ghost use Rattle.std.specs.Prelude.{◌≡◌, ◌⊎◌, ◌+◌, ◌<◌, ◌≤◌, length, OnOk, IfOk, IfSome, IfNone};
 ghost use Rattle.brd_gdb.specs.Receiving.{packet_size};
-ghost use Rattle.brd_stub.specs.Moving.{stepping, moved_to, IsStopOf, IsAt, EndsBehind, GoesOn, GoesBack};
+ghost use Rattle.brd_stub.specs.Moving.{stepping, moved_to, IsStopOf, IsAt, IsBefore, EndsBehind, GoesOn, GoesForward, GoesBack};
 
 use crate::answer::Answer;
 use crate::halt::{Halt, Reason, Told, reason_ahead, thread_of, told_by};
-use crate::points::changed;
+use crate::points::{Point, changed, kind_at};
 use crate::session::Session;
 use crate::telling::{halt_text, short, text};
 use crate::threads::executing;
 use brd_base::NoMemory;
-use brd_board::{Board, Standing};
+use brd_board::{Board, Event, Standing};
 use brd_debug::{DebugFault, Look, Stepper};
+use brd_gdb::PointKind;
 use brd_progress::Progress;
 use std::alloc::Global;
 
@@ -24,7 +25,7 @@ impl Session {
         stepper: Option<Stepper>,
         progress: &mut P,
     ) -> Result<Answer, NoMemory>
-        ensures goes { IfOk result (λ _. GoesOn (stepping stepper self.old.debugger) self.new.debugger) }
+        ensures goes { IfOk result (λ _. GoesForward (stepping stepper self.old.debugger) self.new.debugger) }
         ensures short { IfOk result (λ answer. length answer.reply.items ≤ packet_size) }
     {
         self.debugger.set_stepper(stepper);
@@ -91,12 +92,58 @@ impl Session {
 
     /// Goes on to the first stop, of those at its position to one that wasn't told yet, else to the end.
     fn forward<P: Progress>(&mut self, progress: &mut P) -> Result<Halt, NoMemory>
-        ensures { IfOk result (λ _. GoesOn self.old.debugger self.new.debugger) }
+        ensures { IfOk result (λ _. GoesForward self.old.debugger self.new.debugger) }
     {
         match self.halt_ahead(self.told)? {
             Some(halt) => Ok(halt),
+            None => self.go_past(progress),
+        }
+    }
+
+    /// Goes past the event of its position. It stops there where that has led its processor to a break: GDB, which steps
+    /// by breaks, is so told of the step before another event comes.
+    fn go_past<P: Progress>(&mut self, progress: &mut P) -> Result<Halt, NoMemory>
+        ensures { IfOk result (λ _. GoesForward self.old.debugger self.new.debugger) }
+    {
+        let event = self.debugger.event_here();
+        self.show_next()?;
+        match self.arrived(event) {
+            Some(halt) => Ok(halt),
+            None => self.go_from(progress),
+        }
+    }
+
+    /// Goes on to the first stop from its position on, else to the end.
+    fn go_from<P: Progress>(&mut self, progress: &mut P) -> Result<Halt, NoMemory>
+        ensures { IfOk result (λ _. GoesOn self.old.debugger self.new.debugger) }
+    {
+        match self.halt_ahead(Told::Nothing)? {
+            Some(halt) => Ok(halt),
             None => self.search_ahead(progress),
         }
+    }
+
+    /// That the event before its position, if it was a step, has led its processor to a break; None where it hasn't.
+    fn arrived(&mut self, event: Option<Event>) -> Option<Halt>
+        ensures same { self.new.debugger ≡ self.old.debugger }
+        ensures before { IfSome result (λ halt. IsBefore self.old.debugger halt.thread) }
+    {
+        let Some(Event::Step(thread)) = event else {
+            return None;
+        };
+        let context = self.debugger.show().registers(thread)?;
+        if !self.debugger.has_break(context.pc()) {
+            return None;
+        }
+        self.told = if self.debugger.event_here() == event {
+            Told::Break
+        } else {
+            Told::Nothing
+        };
+        Some(Halt {
+            thread,
+            reason: Reason::Break(kind_of(&self.points, context.pc())),
+        })
     }
 
     /// Goes on to the first stop after its position, else to the end.
@@ -280,6 +327,14 @@ impl Session {
             thread: executing(self.debugger.show(), self.halt.thread),
             reason,
         }
+    }
+}
+
+/// The kind of the break at an address.
+fn kind_of(points: &[Point], address: u32) -> PointKind {
+    match kind_at(points, address) {
+        Some(kind) => kind,
+        None => PointKind::SoftwareBreak,
     }
 }
 
