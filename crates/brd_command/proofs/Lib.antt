@@ -1,6 +1,7 @@
 pub mod WordTextLemmas
 pub mod LineLemmas
 pub mod AnswerLemmas
+pub mod ServerLemmas
 pub mod RunLemmas
 pub mod TraceLemmas
 pub mod RaceLemmas

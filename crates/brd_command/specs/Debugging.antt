@@ -5,6 +5,7 @@ use Rattle.std.specs.Io.KnownBytes.{Keeps}
 use Rattle.std.specs.IoError.{error_kind}
 use Rattle.std.specs.declared.io.ErrorKind.TheVariants.{OutOfMemory}
 use Rattle.brd_debug.specs.Debugger.{DebuggerState}
+use Rattle.brd_debug.specs.Stops.{no_stops}
 use Rattle.brd_command.specs.Answers.{Does, HasDone}
 use Rattle.brd_command.specs.DebugLine.{commands_of, line_size}
 use Rattle.brd_inputs.specs.Input.{most_bytes}
@@ -25,7 +26,7 @@ debugger_of start =
       boot = start.board;
       events = start.journal.events;
       position = 0;
-      stops = record { breaks = []; watches = [] };
+      stops = no_stops;
     }
 
 -- what a debugger answers to the first of some commands

@@ -11,6 +11,8 @@ pub mod DebugGrammar
 pub mod Lines
 pub mod Answers
 pub mod Debugging
+pub mod Serving
+pub mod GdbCommand
 pub mod TraceCommand
 pub mod Files
 pub mod Request

@@ -5,13 +5,14 @@ use Rattle.std.specs.Prelude.{◌≡◌, ℕ, List, Option, option_map, IfSome, 
 use Rattle.std.specs.declared.io.Error.{Error}
 use Rattle.brd_command.specs.Files.{AsmFilesEnd, RunFilesEnd, RaceFilesEnd, DebugFilesEnd, TraceFilesEnd}
 use Rattle.brd_command.specs.ExploreCommand.{ExploreFilesEnd}
+use Rattle.brd_command.specs.GdbCommand.{GdbFilesEnd}
 use Rattle.brd_command.specs.JournalCommand.{JournalEnds}
 use Rattle.brd_command.specs.ShrinkCommand.{ShrinkFilesEnd}
 use Rattle.brd_command.specs.WordsCommand.{WordsEnds}
 use Rattle.brd_inputs.specs.declared.fault.CommandFault.{CommandFault}
 use Rattle.brd_command.specs.declared.request.Request.{Request}
 use Rattle.brd_command.specs.declared.request.Request.TheVariants.{Words, Asm, Run, Race, Debug, Trace, Journal}
-use Rattle.brd_command.specs.declared.request.Request.TheVariants.{Explore, Shrink}
+use Rattle.brd_command.specs.declared.request.Request.TheVariants.{Explore, Gdb, Shrink}
 
 module _ {F I O R W : Type 0}
     (opened : F → List ℕ → Result I Error → F → Type 0) (created : F → List ℕ → Result O Error → F → Type 0)
@@ -36,6 +37,9 @@ module _ {F I O R W : Type 0}
       × (input ≡ input_old)
   RequestEnds (Debug image config journal) files_old files input_old input output_old output result =
       DebugFilesEnd opened remaining unread files_old image.now config.now journal.now
+      input_old input (written output_old) (written output) result files
+  RequestEnds (Gdb image config journal) files_old files input_old input output_old output result =
+      GdbFilesEnd opened remaining unread files_old image.now config.now journal.now
       input_old input (written output_old) (written output) result files
   RequestEnds (Trace image config journal options) files_old files input_old input output_old output result =
       TraceFilesEnd opened remaining files_old image.now config.now journal.now options

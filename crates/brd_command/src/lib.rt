@@ -1,8 +1,8 @@
 //! The commands of the program `board`, over readers, writers and files.
 //!
 //! `specs/WordsCommand.antt`, `specs/AsmCommand.antt`, `specs/RunCommand.antt`, `specs/RaceCommand.antt`,
-//! `specs/TraceCommand.antt`, `specs/JournalCommand.antt`, `specs/Debugging.antt`, `specs/ExploreCommand.antt` and
-//! `specs/ShrinkCommand.antt` say what a command writes for what it reads, and which faults keep it from that;
+//! `specs/TraceCommand.antt`, `specs/JournalCommand.antt`, `specs/Debugging.antt`, `specs/GdbCommand.antt`,
+//! `specs/ExploreCommand.antt` and `specs/ShrinkCommand.antt` say what a command writes for what it reads, and which faults keep it from that;
 //! `specs/Files.antt` (the last two themselves) which files are opened, and in which order.
 #![tactic(auto)]
 
@@ -11,6 +11,8 @@ mod debug_answer;
 mod debug_command;
 mod debug_line;
 mod explore_command;
+mod gdb_command;
+mod gdb_server;
 mod journal_command;
 mod journal_options;
 pub mod laws;
@@ -36,6 +38,7 @@ pub use brd_threads::{Blanks, Race};
 pub use brd_word::Order;
 pub use debug_command::{debug, debug_files};
 pub use explore_command::{explore, explore_files};
+pub use gdb_command::{gdb, gdb_files};
 pub use journal_command::journal;
 pub use journal_options::JournalOptions;
 pub use race_command::{race, race_files};

@@ -55,7 +55,10 @@ pub fn next_line<R: Read>(
 }
 
 /// The next byte, `None` at the end. An input that is known to have ended isn't read.
-fn next_byte<R: Read>(reader: &mut R, taken: &mut Taken) -> Result<Option<u8>, CommandFault>
+pub(crate) fn next_byte<R: Read>(
+    reader: &mut R,
+    taken: &mut Taken,
+) -> Result<Option<u8>, CommandFault>
     requires few { taken.old.bytes ≤ most_bytes }
     requires ended { KnowsEnd taken.old (R.remaining reader.old) }
     ensures counts { IfOk result (λ byte. CountsByte taken.old byte taken.new) }

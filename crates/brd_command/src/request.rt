@@ -5,6 +5,7 @@ ghost use Rattle.brd_command.specs.Request.{RequestEnds};
 use crate::asm_command::asm_files;
 use crate::debug_command::debug_files;
 use crate::explore_command::explore_files;
+use crate::gdb_command::gdb_files;
 use crate::journal_command::journal;
 use crate::journal_options::JournalOptions;
 use crate::race_command::race_files;
@@ -55,6 +56,13 @@ pub enum Request<'a> {
         config: &'a str,
         journal: &'a str,
     },
+    /// A server of GDB for the board of an object file and a configuration, and for a journal: the answers to what GDB
+    /// sends on standard input, on standard output.
+    Gdb {
+        image: &'a str,
+        config: &'a str,
+        journal: &'a str,
+    },
     /// What happens on the board of an object file and a configuration under a journal, on standard output.
     Trace {
         image: &'a str,
@@ -90,8 +98,9 @@ pub enum Request<'a> {
 
 /// Does what was asked for, on files, standard input and standard output. `words` and `journal` touch no file; `asm`
 /// neither reads standard input nor writes standard output; `run`, `race`, `trace`, `journal`, `explore` and `shrink`
-/// don't read standard input. `debug` reads that only where its files could be opened and make a debugger. Threads of the host are started
-/// only for `race`. How far `run`, `race`, `debug`, `trace` and `explore` are, is told on the way.
+/// don't read standard input. `debug` and `gdb` read that only where their files could be opened and make a debugger.
+/// Threads of the host are started only for `race`. How far `run`, `race`, `debug`, `gdb`, `trace` and `explore` are, is
+/// told on the way.
 pub fn perform<F: Files, R: Read, W: Write, P: Progress + Send, T: Threads + Wait + Sync>(
     rt: &T,
     alloc: Global,
@@ -126,6 +135,13 @@ pub fn perform<F: Files, R: Read, W: Write, P: Progress + Send, T: Threads + Wai
             config,
             journal,
         } => debug_files(
+            alloc, files, image, config, journal, input, output, progress,
+        ),
+        Request::Gdb {
+            image,
+            config,
+            journal,
+        } => gdb_files(
             alloc, files, image, config, journal, input, output, progress,
         ),
         Request::Trace {

@@ -13,6 +13,9 @@ returns-in-Run g c = rw c.in-Run.is (c.run_files.ensures, refl)
 pub returns-in-Debug : goal.returns-in-Debug
 returns-in-Debug g c = rw c.in-Debug.is c.debug_files.ensures
 
+pub returns-in-Gdb : goal.returns-in-Gdb
+returns-in-Gdb g c = rw c.in-Gdb.is c.gdb_files.ensures
+
 pub returns-in-Race : goal.returns-in-Race
 returns-in-Race g c = rw c.in-Race.is (c.race_files.ensures, refl)
 
