@@ -75,22 +75,35 @@ left_of() {
     sed -n '1s/^\([0-9]*\) of [0-9]* events are left.*/\1/p' "$work/out"
 }
 
-# shrinks NAME CONFIG JOURNAL OPTION..: what `board shrink` leaves of a journal: no more events, which still fail, and of
-# which no more are left then. (Where they fail only at the fair end, the journal that is kept has that, too.)
+# switches_of JOURNAL: how often a step in a journal is of another processor than the last step before it.
+switches_of() {
+    awk '$1 == "S" { if (last != "" && last != $2) count++; last = $2 } END { print count + 0 }' "$1"
+}
+
+# shrinks NAME CONFIG JOURNAL OPTION..: what `board shrink` leaves of a journal: no more events, with no more switches,
+# which still fail, and of which no more are left then. (Where they fail only at the fair end, the journal that is kept
+# has that, too.)
 shrinks() {
-    local name=$1 config=$2 journal=$3 wrong="" before left
+    local name=$1 config=$2 journal=$3 wrong="" before left turns then
     shift 3
     "$board" shrink "$image" "$config" "$journal" "$@" --out "$work/left" > "$work/out" 2> "$work/err" ||
         wrong="$wrong; status $?; $(head -c 300 "$work/err")"
     before=$(events "$journal")
     left=$(left_of)
     [ "${left:-99999}" -le "$before" ] || wrong="$wrong; of $before events it says '$(head -n 1 "$work/out")'"
+    turns=$(sed -n "1s/^.* events are left, with \([0-9]*\) of $(switches_of "$journal") switches\$/\1/p" "$work/out")
+    [ "${turns:-99999}" -le "$(switches_of "$journal")" ] || wrong="$wrong; of the switches it says '$(head -n 1 "$work/out")'"
     grep -q "fails after $left event" "$work/out" || wrong="$wrong; it says '$(head -n 2 "$work/out")'"
-    grep -q ' and the fair end: ' "$work/out" || [ "$(events "$work/left")" = "$left" ] ||
-        wrong="$wrong; $left events are left, and $(events "$work/left") are kept"
+    grep -q ' and the fair end: ' "$work/out" || {
+        [ "$(events "$work/left")" = "$left" ] || wrong="$wrong; $left events are left, and $(events "$work/left") are kept"
+        [ "$(switches_of "$work/left")" = "$turns" ] ||
+            wrong="$wrong; with $turns switches, and $(switches_of "$work/left") are kept"
+    }
     "$board" shrink "$image" "$config" "$work/left" "$@" > "$work/out" 2> "$work/err" ||
         wrong="$wrong; what is left doesn't fail"
     [ "$(left_of)" -le "$left" ] || wrong="$wrong; $left events are left, and then $(left_of)"
+    then=$(sed -n '1s/^.*, with \([0-9]*\) of [0-9]* switches$/\1/p' "$work/out")
+    [ "${then:-99999}" -le "$(switches_of "$work/left")" ] || wrong="$wrong; then $then switches are left"
     verdict "shrink: $name" "$wrong"
 }
 
@@ -301,6 +314,8 @@ assembled deadlock.s
 shrinks "a long journal" $examples/deadlock.cfg "$work/journal" --deadlock
 left=$(events "$work/left")
 verdict "shrink: a deadlock needs 17 steps" "$([ "$left" = 17 ] || echo "$left are left")"
+turns=$(switches_of "$work/left")
+verdict "shrink: a deadlock needs 2 switches" "$([ "$turns" = 2 ] || echo "$turns are left")"
 "$board" shrink "$image" $examples/deadlock.cfg "$work/found" --word nothing=1 > "$work/out" 2> "$work/err"
 check "shrink: a symbol that isn't there" 2 "$work/nothing" \
     "board: the search: --word names a symbol that the object file doesn't have" $?

@@ -300,11 +300,12 @@ class Runs:
         return None if status in (0, 3) else "a journal that can't be played"
 
     def look_shrink(self, case, ended):
-        """No more events are left than there were."""
+        """No more events and switches are left than there were."""
         if ended.status:
             return None
-        told = re.match(rb"([0-9]+) of ([0-9]+) events are left\nfails after .*\n", ended.stdout)
-        if not told or int(told[1]) > int(told[2]):
+        told = re.match(rb"([0-9]+) of ([0-9]+) events are left, with ([0-9]+) of ([0-9]+) switches\nfails after .*\n",
+                        ended.stdout)
+        if not told or int(told[1]) > int(told[2]) or int(told[3]) > int(told[4]):
             return "other words than of events that are left"
         return self.look_found(case, ended.files.get("out.journal"))
 
