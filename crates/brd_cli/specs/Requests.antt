@@ -15,7 +15,7 @@ use Rattle.brd_command.specs.declared.trace_options.TraceFormat.TheVariants as f
 use Rattle.brd_command.specs.declared.trace_options.TraceOptions.{TraceOptions}
 use Rattle.brd_command.specs.declared.request.Request.{Request}
 use Rattle.brd_command.specs.declared.request.Request.TheVariants.{Words, Asm, Run, Race, Debug, Trace, Journal}
-use Rattle.brd_command.specs.declared.request.Request.TheVariants.{Explore, Shrink}
+use Rattle.brd_command.specs.declared.request.Request.TheVariants.{Explore, Gdb, Shrink}
 use Rattle.brd_search.specs.declared.options.Looks.{Looks}
 use Rattle.brd_search.specs.declared.options.SearchOptions.{SearchOptions}
 use Rattle.brd_search.specs.declared.options.Sizes.{Sizes}
@@ -167,6 +167,7 @@ spoken (Journal cpus events options) = (codes "journal", [])
 spoken (Explore image config options out) = (codes "explore", image.now ∷ config.now ∷ [])
 spoken (Shrink image config journal options out) = (codes "shrink", image.now ∷ config.now ∷ journal.now ∷ [])
 spoken (Debug image config journal) = (codes "debug", image.now ∷ config.now ∷ journal.now ∷ [])
+spoken (Gdb image config journal) = (codes "gdb", image.now ∷ config.now ∷ journal.now ∷ [])
 spoken (Trace image config journal options) = (codes "trace", image.now ∷ config.now ∷ journal.now ∷ [])
 
 -- the request of a command of files has what was given for them, in this order
@@ -181,11 +182,12 @@ IsRequestOf name rows request =
     (MatchBool (bytes_eq name (codes "run")) (IsOfFiles (codes "run") inputs rows request)
     (MatchBool (bytes_eq name (codes "race")) (IsRace (one_of (codes "QUOTA") rows) (given race_files rows) request)
     (MatchBool (bytes_eq name (codes "debug")) (IsOfFiles (codes "debug") inputs rows request)
+    (MatchBool (bytes_eq name (codes "gdb")) (IsOfFiles (codes "gdb") inputs rows request)
     (MatchBool (bytes_eq name (codes "trace")) (IsTrace rows request)
     (MatchBool (bytes_eq name (codes "journal")) (IsJournal rows request)
     (MatchBool (bytes_eq name (codes "explore")) (IsExplore rows request)
     (MatchBool (bytes_eq name (codes "shrink")) (IsShrink rows request)
-    (request ≡ None)))))))))
+    (request ≡ None))))))))))
 
 -- the request of a command with its rows; none where there is no command
 abbrev pub IsAsked : Option (Text × List Row) → Option Request → Type 0

@@ -1,8 +1,8 @@
 -- What the program takes: its commands, and the arguments of each in the order in which they are given.
-use Rattle.std.specs.Prelude.{◌≡◌, ◌∷◌, List, [], Some, codes, fold, map, pos, true}
+use Rattle.std.specs.Prelude.{◌≡◌, ◌∷◌, ◌++◌, List, [], Some, codes, false, fold, map, pos, true}
 use Rattle.clap.specs.Words.{AddsSubcommand, App, Rule, Text, app_of, new_app, new_rule, with_rule, with_subcommand}
 use Rattle.clap.specs.declared.builder.action.ArgAction.TheVariants.{Set, SetTrue}
-use Rattle.clap.specs.declared.builder.command.Command.{Command}
+use Rattle.clap.specs.declared.builder.command.Command.{Command, out-Command}
 use Rattle.clap.specs.declared.builder.value_parser.ValueParser.TheVariants.{Signed, Unsigned}
 
 -- an argument that has to be given, with one value
@@ -34,8 +34,8 @@ option name flag = record (new_rule name) { long = Some flag; action = Some Set 
 abbrev pub count : Text → Text → Rule
 count name flag = record (option name flag) { parser = Some (Signed (pos 0) (pos 4294967295)) }
 
--- the files that `asm` takes, those that `run`, `debug`, `trace` and `shrink` take, those that `explore` takes, and those
--- that `race` takes beside its quota
+-- the files that `asm` takes, those that `run`, `debug`, `gdb`, `trace` and `shrink` take, those that `explore` takes, and
+-- those that `race` takes beside its quota
 abbrev pub source_and_out : List Text
 source_and_out = codes "SOURCE" ∷ codes "OUT" ∷ []
 
@@ -78,6 +78,9 @@ race = command_with (codes "race")
 abbrev pub debug : App
 debug = command_with (codes "debug") (map needed inputs)
 
+abbrev pub gdb : App
+gdb = command_with (codes "gdb") (map needed inputs)
+
 -- `trace` takes its options before, between or after its files
 abbrev pub trace : App
 trace = command_with (codes "trace")
@@ -93,29 +96,43 @@ journal = command_with (codes "journal")
     ∷ count (codes "INTERVAL") (codes "tick-every") ∷ option (codes "RAISES") (codes "raise")
     ∷ option (codes "ORDER") (codes "order") ∷ [])
 
+-- the bounds of a search, what fails, and how a search goes and where its journal does
+abbrev pub bounds : List Rule
+bounds =
+    count (codes "EVENTS") (codes "events") ∷ count (codes "PREEMPTIONS") (codes "preemptions")
+    ∷ count (codes "TICKS") (codes "ticks") ∷ count (codes "RAISES") (codes "raises")
+    ∷ option (codes "LINES") (codes "lines") ∷ []
+
+abbrev pub checks : List Rule
+checks =
+    flag (codes "exception") ∷ flag (codes "deadlock") ∷ flag (codes "ends")
+    ∷ option (codes "WORDS") (codes "word") ∷ option (codes "TEXT") (codes "console")
+    ∷ count (codes "ROUNDS") (codes "fair") ∷ []
+
+abbrev pub searching : List Rule
+searching =
+    flag (codes "shortest") ∷ option (codes "SHARD") (codes "shard") ∷ count (codes "MIB") (codes "remember")
+    ∷ option (codes "OUT") (codes "out") ∷ []
+
 -- `explore` and `shrink` take their options before, between or after their files
 abbrev pub explore : App
-explore = command_with (codes "explore")
-    (needed (codes "IMAGE") ∷ needed (codes "CONFIG") ∷ count (codes "EVENTS") (codes "events")
-    ∷ count (codes "PREEMPTIONS") (codes "preemptions") ∷ count (codes "TICKS") (codes "ticks")
-    ∷ count (codes "RAISES") (codes "raises") ∷ option (codes "LINES") (codes "lines")
-    ∷ flag (codes "exception") ∷ flag (codes "deadlock") ∷ flag (codes "ends")
-    ∷ option (codes "WORDS") (codes "word") ∷ option (codes "TEXT") (codes "console")
-    ∷ count (codes "ROUNDS") (codes "fair") ∷ flag (codes "shortest") ∷ option (codes "SHARD") (codes "shard")
-    ∷ count (codes "MIB") (codes "remember") ∷ option (codes "OUT") (codes "out") ∷ [])
+explore = command_with (codes "explore") (map needed pair ++ bounds ++ checks ++ searching)
 
 abbrev pub shrink : App
-shrink = command_with (codes "shrink")
-    (needed (codes "IMAGE") ∷ needed (codes "CONFIG") ∷ needed (codes "JOURNAL") ∷ flag (codes "exception")
-    ∷ flag (codes "deadlock") ∷ flag (codes "ends") ∷ option (codes "WORDS") (codes "word")
-    ∷ option (codes "TEXT") (codes "console") ∷ count (codes "ROUNDS") (codes "fair")
-    ∷ option (codes "OUT") (codes "out") ∷ [])
+shrink = command_with (codes "shrink") (map needed inputs ++ checks ++ option (codes "OUT") (codes "out") ∷ [])
 
 -- the commands in the order in which a newcomer meets them
 abbrev pub board : App
-board = program_with (codes "board") (asm ∷ run ∷ trace ∷ debug ∷ race ∷ journal ∷ explore ∷ shrink ∷ words ∷ [])
+board =
+    program_with (codes "board")
+    (asm ∷ run ∷ trace ∷ debug ∷ gdb ∷ race ∷ journal ∷ explore ∷ shrink ∷ words ∷ [])
 
 -- where the command is added to another, a command of this form is
 abbrev pub AddsForm : App → Command → Type 0
 AddsForm form command = (old new : Command) → AddsSubcommand old command new
     → app_of new ≡ with_subcommand (app_of old) form.top
+
+-- a command has these arguments more, in this order, of which none is for the commands below it too
+pub record AddsArguments (arguments : List Rule) (old new : Command) : Type 0 where
+  pub shape : app_of new ≡ fold with_rule (app_of old) arguments
+  pub globals : (out-Command old).has_globals ≡ false → (out-Command new).has_globals ≡ false

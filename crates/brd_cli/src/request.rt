@@ -89,6 +89,14 @@ fn request_named<'a>(name: &str, arguments: &ArgMatches<'a>) -> Option<Request<'
                 journal,
             })
         }
+        "gdb" => {
+            let (image, config, journal) = inputs_of(arguments)?;
+            Some(Request::Gdb {
+                image,
+                config,
+                journal,
+            })
+        }
         "trace" => trace_of(arguments),
         "journal" => journal_of(arguments),
         "explore" => explore_of(arguments),

@@ -3,7 +3,7 @@
 ghost use Rattle.std.specs.Prelude.{◌≡◌, ◌∷◌, [], IfOk, codes, false, map};
 ghost use Rattle.clap.specs.Words.{app_of, rule_of};
 ghost use Rattle.brd_cli.specs.Usage as usage;
-ghost use Rattle.brd_cli.specs.Usage.{AddsForm, board, command_with, inputs, race_files, source_and_out};
+ghost use Rattle.brd_cli.specs.Usage.{AddsArguments, AddsForm, board, command_with, inputs, race_files, source_and_out};
 
 use brd_base::NoMemory;
 use clap::{Arg, ArgAction, Command};
@@ -91,6 +91,16 @@ Example, from the top of the repository:
   board asm examples/hello/hello.s build/hello.elf
   echo 'goto 10' | board debug build/hello.elf examples/hello/hello.cfg examples/hello/hello.journal";
 
+/// What the help of `gdb` says of its use.
+const GDB: &str = "\
+GDB starts this itself and speaks its remote protocol over the pipe. Its threads are the processors:
+thread 1 is processor 1. It goes through the journal forward and backward, and changes nothing.
+
+Example, from the top of the repository:
+  board asm examples/hello/hello.s build/hello.elf
+  gdb-multiarch build/hello.elf
+  (gdb) target remote | board gdb build/hello.elf examples/hello/hello.cfg examples/hello/hello.journal";
+
 /// What the help of `explore` says of its options.
 const EXPLORE: &str = "\
 All schedules within the bounds are searched: those without preemptions first, then those with one,
@@ -136,6 +146,7 @@ pub fn board_command<'a>(alloc: Global) -> Result<Command<'a>, NoMemory>
         .subcommand(run_command(alloc)?)?
         .subcommand(trace_command(alloc)?)?
         .subcommand(debug_command(alloc)?)?
+        .subcommand(gdb_command(alloc)?)?
         .subcommand(race_command(alloc)?)?
         .subcommand(journal_command(alloc)?)?
         .subcommand(explore_command(alloc)?)?
@@ -226,6 +237,18 @@ fn debug_command<'a>(alloc: Global) -> Result<Command<'a>, NoMemory>
         "debug",
         "Shows a board after any number of a journal's events, by commands from standard input",
         DEBUG,
+    )
+}
+
+/// What `gdb` takes.
+fn gdb_command<'a>(alloc: Global) -> Result<Command<'a>, NoMemory>
+    ensures { IfOk result (AddsForm usage.gdb) }
+{
+    with_inputs(
+        alloc,
+        "gdb",
+        "Serves GDB over standard input and output, forward and backward through a journal",
+        GDB,
     )
 }
 
@@ -331,7 +354,18 @@ fn explore_command<'a>(alloc: Global) -> Result<Command<'a>, NoMemory>
         )
         .after_help(EXPLORE)
         .arg(needed(alloc, "IMAGE", "The board's object file"))?
-        .arg(needed(alloc, "CONFIG", "Its kernel's configuration"))?
+        .arg(needed(alloc, "CONFIG", "Its kernel's configuration"))?;
+    let bounded = with_bounds(alloc, command)?;
+    let checked = with_checks(alloc, bounded)?;
+    let searched = with_search(alloc, checked)?;
+    Ok(searched)
+}
+
+/// Adds the bounds of a search.
+fn with_bounds<'a>(alloc: Global, command: Command<'a>) -> Result<Command<'a>, NoMemory>
+    ensures { IfOk result (AddsArguments usage.bounds command.entry) }
+{
+    let command = command
         .arg(count(
             alloc,
             "EVENTS",
@@ -356,7 +390,15 @@ fn explore_command<'a>(alloc: Global) -> Result<Command<'a>, NoMemory>
             "raises",
             "How many times an interrupt line is raised at most; 0 if left out",
         ))?
-        .arg(option(alloc, "LINES", "lines", "Which lines may be raised, as 3,4"))?
+        .arg(option(alloc, "LINES", "lines", "Which lines may be raised, as 3,4"))?;
+    Ok(command)
+}
+
+/// Adds what fails.
+fn with_checks<'a>(alloc: Global, command: Command<'a>) -> Result<Command<'a>, NoMemory>
+    ensures { IfOk result (AddsArguments usage.checks command.entry) }
+{
+    let command = command
         .arg(flag(
             alloc,
             "exception",
@@ -385,7 +427,15 @@ fn explore_command<'a>(alloc: Global) -> Result<Command<'a>, NoMemory>
             "ROUNDS",
             "fair",
             "How many rounds of equal turns and ticks come at the end, 0 to 20,000; 0 if left out",
-        ))?
+        ))?;
+    Ok(command)
+}
+
+/// Adds how a search goes, and where its journal does.
+fn with_search<'a>(alloc: Global, command: Command<'a>) -> Result<Command<'a>, NoMemory>
+    ensures { IfOk result (AddsArguments usage.searching command.entry) }
+{
+    let command = command
         .arg(flag(
             alloc,
             "shortest",
@@ -425,43 +475,15 @@ fn shrink_command<'a>(alloc: Global) -> Result<Command<'a>, NoMemory>
             alloc,
             "JOURNAL",
             "A journal that fails, of at most 1,000,000 events",
-        ))?
-        .arg(flag(
-            alloc,
-            "exception",
-            "Fails where an exception ends a task or stops a processor",
-        ))?
-        .arg(flag(
-            alloc,
-            "deadlock",
-            "Fails where nobody goes on, and a task waits",
-        ))?
-        .arg(flag(alloc, "ends", "Fails where the board is on at the end"))?
-        .arg(option(
-            alloc,
-            "WORDS",
-            "word",
-            "Fails where words differ, as count=2 (at the end), inside=0..1 (always)",
-        ))?
-        .arg(option(
-            alloc,
-            "TEXT",
-            "console",
-            "Fails where the console differs from TEXT, in which \\n, \\t, \\\\ and \\xHH stand for bytes",
-        ))?
-        .arg(count(
-            alloc,
-            "ROUNDS",
-            "fair",
-            "How many rounds of equal turns and ticks come at the end, 0 to 20,000; 0 if left out",
-        ))?
-        .arg(option(
-            alloc,
-            "OUT",
-            "out",
-            "Where the journal of what is left goes",
         ))?;
-    Ok(command)
+    let checked = with_checks(alloc, command)?;
+    let whole = checked.arg(option(
+        alloc,
+        "OUT",
+        "out",
+        "Where the journal of what is left goes",
+    ))?;
+    Ok(whole)
 }
 
 /// An option whose value is a position.

@@ -1,64 +1,24 @@
 use Rattle.std.proofs.Common.{◌∙◌, ◌≡◌, ap, ap₂, codes, refl}
+use Rattle.std.specs.Prelude.{fold}
 use Rattle.clap.specs.Words.{App, app_of, new_app, with_rule, with_subcommand}
+use Rattle.brd_cli.specs.Usage.{bounds, checks, searching}
 use Rattle.brd_cli.proofs.usage.explore_command.Goals as goal
 
 pub returns : goal.returns
 returns c = λ old new adds.
     let none : app_of c.after_help.result ≡ new_app (codes "explore") = rw c.after_help.ensures (rw c.about.ensures c.new.ensures.app) in
     let with_1 = c.in_ok-arg.ensures.shape c.needed.ensures.own ∙ ap₂ with_rule none c.needed.ensures.rule in
-    let with_2 = c.in_ok-arg-2.ensures.shape c.needed-2.ensures.own ∙ ap₂ with_rule with_1 c.needed-2.ensures.rule in
-    let with_3 = c.in_ok-arg-3.ensures.shape c.count.ensures.own ∙ ap₂ with_rule with_2 c.count.ensures.rule in
-    let with_4 = c.in_ok-arg-4.ensures.shape c.count-2.ensures.own ∙ ap₂ with_rule with_3 c.count-2.ensures.rule in
-    let with_5 = c.in_ok-arg-5.ensures.shape c.count-3.ensures.own ∙ ap₂ with_rule with_4 c.count-3.ensures.rule in
-    let with_6 = c.in_ok-arg-6.ensures.shape c.count-4.ensures.own ∙ ap₂ with_rule with_5 c.count-4.ensures.rule in
-    let with_7 = c.in_ok-arg-7.ensures.shape c.option.ensures.own ∙ ap₂ with_rule with_6 c.option.ensures.rule in
-    let with_8 = c.in_ok-arg-8.ensures.shape c.flag.ensures.own ∙ ap₂ with_rule with_7 c.flag.ensures.rule in
-    let with_9 = c.in_ok-arg-9.ensures.shape c.flag-2.ensures.own ∙ ap₂ with_rule with_8 c.flag-2.ensures.rule in
-    let with_10 = c.in_ok-arg-10.ensures.shape c.flag-3.ensures.own ∙ ap₂ with_rule with_9 c.flag-3.ensures.rule in
-    let with_11 = c.in_ok-arg-11.ensures.shape c.option-2.ensures.own ∙ ap₂ with_rule with_10 c.option-2.ensures.rule in
-    let with_12 = c.in_ok-arg-12.ensures.shape c.option-3.ensures.own ∙ ap₂ with_rule with_11 c.option-3.ensures.rule in
-    let with_13 = c.in_ok-arg-13.ensures.shape c.count-5.ensures.own ∙ ap₂ with_rule with_12 c.count-5.ensures.rule in
-    let with_14 = c.in_ok-arg-14.ensures.shape c.flag-4.ensures.own ∙ ap₂ with_rule with_13 c.flag-4.ensures.rule in
-    let with_15 = c.in_ok-arg-15.ensures.shape c.option-4.ensures.own ∙ ap₂ with_rule with_14 c.option-4.ensures.rule in
-    let with_16 = c.in_ok-arg-16.ensures.shape c.count-6.ensures.own ∙ ap₂ with_rule with_15 c.count-6.ensures.rule in
-    let with_17 = c.in_ok-command.ensures.shape c.option-5.ensures.own ∙ ap₂ with_rule with_16 c.option-5.ensures.rule in
-    adds.shape (rw (
+    let with_2 = c.in_ok-command.ensures.shape c.needed-2.ensures.own ∙ ap₂ with_rule with_1 c.needed-2.ensures.rule in
+    let bounded = c.in_ok-bounded.ensures.shape ∙ ap (λ (form : App). fold with_rule form bounds) with_2 in
+    let checked = c.in_ok-checked.ensures.shape ∙ ap (λ (form : App). fold with_rule form checks) bounded in
+    let searched = c.in_ok-searched.ensures.shape ∙ ap (λ (form : App). fold with_rule form searching) checked in
+    adds.shape (c.in_ok-searched.ensures.globals (c.in_ok-checked.ensures.globals (c.in_ok-bounded.ensures.globals (rw (
       c.in_ok-command.ensures.globals,
-      c.option-5.ensures.own,
-      c.in_ok-arg-16.ensures.globals,
-      c.count-6.ensures.own,
-      c.in_ok-arg-15.ensures.globals,
-      c.option-4.ensures.own,
-      c.in_ok-arg-14.ensures.globals,
-      c.flag-4.ensures.own,
-      c.in_ok-arg-13.ensures.globals,
-      c.count-5.ensures.own,
-      c.in_ok-arg-12.ensures.globals,
-      c.option-3.ensures.own,
-      c.in_ok-arg-11.ensures.globals,
-      c.option-2.ensures.own,
-      c.in_ok-arg-10.ensures.globals,
-      c.flag-3.ensures.own,
-      c.in_ok-arg-9.ensures.globals,
-      c.flag-2.ensures.own,
-      c.in_ok-arg-8.ensures.globals,
-      c.flag.ensures.own,
-      c.in_ok-arg-7.ensures.globals,
-      c.option.ensures.own,
-      c.in_ok-arg-6.ensures.globals,
-      c.count-4.ensures.own,
-      c.in_ok-arg-5.ensures.globals,
-      c.count-3.ensures.own,
-      c.in_ok-arg-4.ensures.globals,
-      c.count-2.ensures.own,
-      c.in_ok-arg-3.ensures.globals,
-      c.count.ensures.own,
-      c.in_ok-arg-2.ensures.globals,
       c.needed-2.ensures.own,
       c.in_ok-arg.ensures.globals,
       c.needed.ensures.own,
       c.after_help.ensures,
       c.about.ensures,
       c.new.ensures.local,
-    ) refl)
-    ∙ ap (λ (form : App). with_subcommand (app_of old) form.top) with_17
+    ) refl))))
+    ∙ ap (λ (form : App). with_subcommand (app_of old) form.top) searched

@@ -1,5 +1,8 @@
-use Rattle.std.proofs.Common.{◌∙◌, ◌≡◌, ap, ap₂, codes, refl}
+use Rattle.std.proofs.Common.{◌∙◌, ◌≡◌, ap, ap₂, codes, false, refl}
+use Rattle.std.specs.Prelude.{fold}
 use Rattle.clap.specs.Words.{App, app_of, new_app, with_rule, with_subcommand}
+use Rattle.clap.specs.declared.builder.command.Command.{out-Command}
+use Rattle.brd_cli.specs.Usage.{checks}
 use Rattle.brd_cli.proofs.usage.shrink_command.Goals as goal
 
 pub returns : goal.returns
@@ -7,30 +10,11 @@ returns c = λ old new adds.
     let none : app_of c.after_help.result ≡ new_app (codes "shrink") = rw c.after_help.ensures (rw c.about.ensures c.new.ensures.app) in
     let with_1 = c.in_ok-arg.ensures.shape c.needed.ensures.own ∙ ap₂ with_rule none c.needed.ensures.rule in
     let with_2 = c.in_ok-arg-2.ensures.shape c.needed-2.ensures.own ∙ ap₂ with_rule with_1 c.needed-2.ensures.rule in
-    let with_3 = c.in_ok-arg-3.ensures.shape c.needed-3.ensures.own ∙ ap₂ with_rule with_2 c.needed-3.ensures.rule in
-    let with_4 = c.in_ok-arg-4.ensures.shape c.flag.ensures.own ∙ ap₂ with_rule with_3 c.flag.ensures.rule in
-    let with_5 = c.in_ok-arg-5.ensures.shape c.flag-2.ensures.own ∙ ap₂ with_rule with_4 c.flag-2.ensures.rule in
-    let with_6 = c.in_ok-arg-6.ensures.shape c.flag-3.ensures.own ∙ ap₂ with_rule with_5 c.flag-3.ensures.rule in
-    let with_7 = c.in_ok-arg-7.ensures.shape c.option.ensures.own ∙ ap₂ with_rule with_6 c.option.ensures.rule in
-    let with_8 = c.in_ok-arg-8.ensures.shape c.option-2.ensures.own ∙ ap₂ with_rule with_7 c.option-2.ensures.rule in
-    let with_9 = c.in_ok-arg-9.ensures.shape c.count.ensures.own ∙ ap₂ with_rule with_8 c.count.ensures.rule in
-    let with_10 = c.in_ok-command.ensures.shape c.option-3.ensures.own ∙ ap₂ with_rule with_9 c.option-3.ensures.rule in
-    adds.shape (rw (
+    let with_3 = c.in_ok-command.ensures.shape c.needed-3.ensures.own ∙ ap₂ with_rule with_2 c.needed-3.ensures.rule in
+    let checked = c.in_ok-checked.ensures.shape ∙ ap (λ (form : App). fold with_rule form checks) with_3 in
+    let whole = c.in_ok-whole.ensures.shape c.option.ensures.own ∙ ap₂ with_rule checked c.option.ensures.rule in
+    let local : (out-Command c.in_ok-command.command).has_globals ≡ false = rw (
       c.in_ok-command.ensures.globals,
-      c.option-3.ensures.own,
-      c.in_ok-arg-9.ensures.globals,
-      c.count.ensures.own,
-      c.in_ok-arg-8.ensures.globals,
-      c.option-2.ensures.own,
-      c.in_ok-arg-7.ensures.globals,
-      c.option.ensures.own,
-      c.in_ok-arg-6.ensures.globals,
-      c.flag-3.ensures.own,
-      c.in_ok-arg-5.ensures.globals,
-      c.flag-2.ensures.own,
-      c.in_ok-arg-4.ensures.globals,
-      c.flag.ensures.own,
-      c.in_ok-arg-3.ensures.globals,
       c.needed-3.ensures.own,
       c.in_ok-arg-2.ensures.globals,
       c.needed-2.ensures.own,
@@ -39,5 +23,10 @@ returns c = λ old new adds.
       c.after_help.ensures,
       c.about.ensures,
       c.new.ensures.local,
+    ) refl in
+    adds.shape (rw (
+      c.in_ok-whole.ensures.globals,
+      c.option.ensures.own,
+      c.in_ok-checked.ensures.globals local,
     ) refl)
-    ∙ ap (λ (form : App). with_subcommand (app_of old) form.top) with_10
+    ∙ ap (λ (form : App). with_subcommand (app_of old) form.top) whole

@@ -1,0 +1,25 @@
+use Rattle.std.proofs.Common.{◌∙◌, ◌≡◌, ap₂, refl}
+use Rattle.clap.specs.Words.{app_of, with_rule}
+use Rattle.brd_cli.proofs.usage.with_search.Goals as goal
+
+pub returns : goal.returns
+returns c =
+    let none : app_of c.args.command ≡ app_of c.args.command = refl in
+    let with_1 = c.in_ok-arg.ensures.shape c.flag.ensures.own ∙ ap₂ with_rule none c.flag.ensures.rule in
+    let with_2 = c.in_ok-arg-2.ensures.shape c.option.ensures.own ∙ ap₂ with_rule with_1 c.option.ensures.rule in
+    let with_3 = c.in_ok-arg-3.ensures.shape c.count.ensures.own ∙ ap₂ with_rule with_2 c.count.ensures.rule in
+    let with_4 = c.in_ok-command.ensures.shape c.option-2.ensures.own ∙ ap₂ with_rule with_3 c.option-2.ensures.rule in
+    record {
+      shape = with_4;
+      globals = λ none_yet. rw (
+        c.in_ok-command.ensures.globals,
+        c.option-2.ensures.own,
+        c.in_ok-arg-3.ensures.globals,
+        c.count.ensures.own,
+        c.in_ok-arg-2.ensures.globals,
+        c.option.ensures.own,
+        c.in_ok-arg.ensures.globals,
+        c.flag.ensures.own,
+        none_yet,
+      ) refl;
+    }
