@@ -17,6 +17,7 @@ UNTOLD = b"board: the command line is wrong, and there is no memory to say how\n
 REGISTERS = rb"pc [0-9a-f]{8}\n(\$[0-9]+ [0-9a-f]{8}\n)*(hi [0-9a-f]{8}\n)?(lo [0-9a-f]{8}\n)?"
 WORDS = re.compile(REGISTERS + rb"(fault [0-9]+ [0-9a-f]{8} [01]\n)?")
 ANSWERS = re.compile(rb"((at|past) [0-9]+\n|none\n|ok\n|full\n|outside\n|unknown\n|[0-9a-f]{2}\n|" + REGISTERS + rb")*")
+PACKETS = re.compile(rb"([+-]|\$([^#$}]|\}[^#$])*#[0-9a-f]{2})*")
 REPORT = re.compile(rb"events [0-9]+\ntick [0-9]+\noff [01]\n(cpu [1-8] .*\n)+(task [0-9]+ .*\n)*console ([0-9]+)\n")
 SUMMARY = re.compile(rb"after event [0-9]+, tick [0-9]+: .*\n")
 ANY_BOARD = b"BOARD(1, 0x1000000);\n"
@@ -24,7 +25,7 @@ ANY_BOARD = b"BOARD(1, 0x1000000);\n"
 # What a case's program finds wrong may be told by clap, or in a line of its own.
 HAS_OPTIONS = ("trace", "journal", "explore", "shrink", "line")
 # These write as they go, so what was written before a fault stands.
-WRITES_IN_PARTS = ("debug", "trace")
+WRITES_IN_PARTS = ("debug", "gdb", "trace")
 # What a search has found is told, and then it ends so.
 FAILS = b"board: a schedule fails\n"
 # The ways in which streams fail: what becomes of descriptors 0, 1 and 2.
@@ -113,6 +114,8 @@ class Runs:
             return f"status {status} with an output"
         if case.kind == "debug" and not ANSWERS.fullmatch(ended.stdout):
             return "an answer that no command has"
+        if case.kind == "gdb" and not PACKETS.fullmatch(ended.stdout):
+            return "an answer that is no packet"
         return None
 
     def look(self, case, ended):
@@ -198,9 +201,10 @@ class Runs:
 
     def wanted(self, case, ample, ended, way):
         """What is wrong with a run whose streams failed in this way, beside the one whose streams didn't."""
-        reads, writes = case.kind in ("words", "debug"), bool(ample.stdout)
+        reads, writes = case.kind in ("words", "debug", "gdb"), bool(ample.stdout)
         statuses, is_whole = {ample.status}, False
-        if way in ("without 0", "without 012") and reads and (case.kind == "words" or ample.status == 0):
+        is_begun = case.kind == "words" or ample.status == 0 or case.kind == "gdb" and ample.status == 4
+        if way in ("without 0", "without 012") and reads and is_begun:
             statuses = {4}
         elif way in ("without 2", "without 0"):
             is_whole = True

@@ -121,6 +121,26 @@ class Texts:
             lines.insert(self.random.randrange(len(lines) + 1), "quit")
         return "\n".join(lines + [""]).encode()
 
+    def packets(self):
+        """Packets as GDB sends them, a few of them damaged, in most of the texts up to the one by which it leaves."""
+        made = [b"$QStartNoAckMode#b0"] if self.often(.5) else []
+        for _ in range(self.random.randrange(40)):
+            address = 0x80000000 + self.random.choice((4, 1, 4096)) * self.random.randrange(64)
+            thread, length = self.among("-1", "0", "1", "2", "8", "9"), self.random.choice((1, 4, 8, 64, 0xffffffff))
+            packet = self.among(
+                "?", "g", "qC", "qfThreadInfo", "qsThreadInfo", "vCont?", "c", "s", "bc", "bs", "bc", "bs", "vCont;c",
+                f"vCont;s:{thread};c", f"vCont;r{address:x},{address + 8:x}:{thread};c", "vCont;C05:1;c", "vCont;t",
+                f"p{self.random.randrange(80):x}", f"m{address:x},{length:x}", f"M{address:x},1:00", "G00",
+                f"Hg{thread}", f"Hc{thread}", f"T{thread}", f"qThreadExtraInfo,{thread}",
+                f"Z{self.random.randrange(6)},{address:x},4", f"z{self.random.randrange(6)},{address:x},4",
+                "qSupported:multiprocess+", "qXfer:features:read:target.xml:0,ffb", "qXfer:threads:read::0,1000",
+                "qRcmd," + self.among("goto 9", "where", "tasks", "objects", "console", "trace 5", "summary", "help",
+                                      "goto 01", "x").encode().hex(), "vMustReplyEmpty", "qAttached", "!", "",
+            ).encode()
+            total = sum(packet) % 256 if self.often(.95) else self.random.randrange(256)
+            made.append(b"$" + packet + f"#{total:02x}".encode() + self.among(b"", b"", b"+", b"-", b"\x03"))
+        return b"".join(made + [self.among(b"$D#44", b"$k#6b", b"$vKill;1#6e", b"")])
+
     def words(self):
         known = (0x24080005, 0x10000002, 0x25080001, 0x25080064, 0x01084821, 0x1000FFFF, 0x0000000C, 0xAC080000)
         made = [self.random.choice(known) if self.often(.7) else self.random.getrandbits(32)
@@ -214,14 +234,14 @@ class Texts:
 
     def arguments(self):
         """A command line, mostly a wrong one. No name has a slash in it, so that files are made in one folder alone."""
-        words = ("words", "asm", "run", "debug", "race", "trace", "journal", "explore", "shrink", "help", "-h",
+        words = ("words", "asm", "run", "debug", "gdb", "race", "trace", "journal", "explore", "shrink", "help", "-h",
                  "--help", "--version", "-V", "--", "-", "", "x", "1", "-1", "1000001", "18446744073709551616", "--STEPS", "--steps=1", "\x1b[31m",
                  "a\nb", "a\tb",
                  "--from", "--format", "--random", "--raise", "--summary", "--instructions", "--cpu=1",
                  "\u00e9\u202e", "x" * 4000, "image.elf", "board.cfg", "board.journal", "source.s", "%s%n", "{}", "'")
         made = [self.random.choice(words).encode() for _ in range(self.random.choice((0, 1, 1, 2, 2, 3, 4, 5, 9)))]
         if made and self.often(.3):
-            made[0] = self.random.choice((b"words", b"asm", b"run", b"debug", b"trace", b"journal", b"explore",
+            made[0] = self.random.choice((b"words", b"asm", b"run", b"debug", b"gdb", b"trace", b"journal", b"explore",
                                           b"shrink", b"help"))
         if made and self.often(.1):
             made[self.random.randrange(len(made))] = self.random.randbytes(6).replace(b"\0", b"").replace(b"/", b"_")
