@@ -4,6 +4,7 @@
 mod debug;
 mod fakes;
 mod files;
+mod gdb;
 mod inputs;
 mod race;
 mod run;

@@ -242,6 +242,17 @@ const REQUESTS: &[Done] = &[
         written: b"",
     },
     Done {
+        request: Request::Gdb {
+            image: "a",
+            config: "b",
+            journal: "c",
+        },
+        notes: "open a; open b; open c; read; read; read; read; read; read; ",
+        is_ok: false,
+        left: 8,
+        written: b"",
+    },
+    Done {
         request: Request::Explore {
             image: "a",
             config: "b",
