@@ -1,6 +1,6 @@
 -- What the turns of a search come to.
 use Rattle.std.proofs.Common.{◌≡◌, ℕ, List, [], ◌∷◌, ◌++◌, take, refl, sym, ap, subst, ◌∙◌, arith}
-use Rattle.std.specs.Prelude.{Bool, true, false, All, ◌&&◌, Option}
+use Rattle.std.specs.Prelude.{Bool, true, false, All, ◌&&◌, Option, None}
 use Rattle.std.proofs.lemmas.Bool.{false≢true}
 use Rattle.std.proofs.lemmas.List.Elements.{All-push}
 use Rattle.brd_board.specs.declared.event.Event.{Event}
@@ -9,7 +9,9 @@ use Rattle.brd_explore.specs.declared.search.Saved.{Saved}
 use Rattle.brd_explore.specs.declared.wanted.Wanted.{Wanted}
 use Rattle.brd_explore.specs.Schedules.{Place}
 use Rattle.brd_explore.specs.Failures.{fails_now}
-use Rattle.brd_explore.specs.Searching.{place_of, place_of_saved, NoneLeft, NoneFails, Leads, AreOnPath, IsOnPath, AreAlike, IsSized, Takes, Tries, HasGone, HasStayed, HasGoneBack, LeavesOut, LeadsOn, Finds, Answers, ended_by}
+use Rattle.brd_explore.specs.Searching.{place_of, place_of_saved, spot_of, NoneLeft, NoneFails, NoneGoes, Leads, AreOnPath, IsOnPath, AreAlike, IsSized, Takes, Tries, HasGone, HasStayed, HasGoneBack, LeavesOut, LeadsOn, Finds, Answers, ended_by}
+use Rattle.brd_explore.specs.Sleeping.{awake}
+use Rattle.brd_explore.proofs.AwakeLemmas.{none-awake}
 use Rattle.brd_explore.proofs.SizeLemmas.{alike-after}
 use Rattle.brd_explore.proofs.SearchLemmas.{none-from}
 
@@ -44,6 +46,7 @@ back-same s t u saved path back = record {
   f = back.f;
   saved = sym saved ∙ back.saved;
   place = back.place;
+  asleep = back.asleep;
   at = back.at;
   fresh = back.fresh;
   path = subst (λ es. u.path.items ≡ take back.f.len es) path back.path;
@@ -56,6 +59,7 @@ pub record Begins (from : Place) (s : Search) : Type 0 where
   pub fresh : s.fresh ≡ true
   pub path : s.path.items ≡ []
   pub saved : s.saved.items ≡ []
+  pub awake : s.asleep ≡ None
 
 begins-on : (among : List Event) (from : Place) (s : Search) → Begins from s → IsOnPath among from s
 begins-on among from s begins = record {
@@ -68,8 +72,8 @@ none-begins : (wanted : Wanted) (among : List Event) (from : Place) (s : Search)
     NoneLeft wanted among s → NoneFails wanted among from
 none-begins wanted among from s begins fine none =
     let fine' : fails_now wanted s.board ≡ false = ap (λ (p : Place). fails_now wanted p.board) begins.place ∙ fine in
-    subst (NoneFails wanted among) begins.place
-    (none-from wanted among s none.here begins.at begins.fresh fine')
+    let same : spot_of s ≡ awake from = λ i. record { place = begins.place i; asleep = begins.awake i } in
+    none-awake wanted among from (subst (NoneGoes wanted among) same (none-from wanted among s none.here begins.at begins.fresh fine'))
 
 pub finds : (wanted : Wanted) (among : List Event) (from : Place) (s t : Search) (found : Bool) (schedule : Option (List Event)) → Begins from s →
     fails_now wanted from.board ≡ false → LeavesOut wanted among s t (ended_by found) →

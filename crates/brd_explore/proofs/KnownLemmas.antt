@@ -1,6 +1,6 @@
 -- What a search knows of places stays so.
-use Rattle.std.proofs.Common.{◌≡◌, ℕ, ◌+◌, ◌<◌, ◌≤◌, List, [], ◌∷◌, ◌++◌, length, sym, ap, subst, ◌∙◌, arith, ◌⊎◌, inl, inr}
-use Rattle.std.specs.Prelude.{true, false, All, IfSome, Option, Some, None}
+use Rattle.std.proofs.Common.{◌≡◌, ℕ, ◌+◌, ◌<◌, ◌≤◌, List, [], ◌∷◌, ◌++◌, length, sym, ap, subst, ◌∙◌, arith, inl, inr}
+use Rattle.std.specs.Prelude.{true, false, All, IfSome, Some}
 use Rattle.std.proofs.lemmas.Bool.{cases_lt}
 use Rattle.std.proofs.lemmas.List.{length-append}
 use Rattle.std.proofs.lemmas.List.Elements.{All-nil, All-push, All-pop, All-weaker}
@@ -8,18 +8,18 @@ use Rattle.brd_board.specs.declared.event.Event.{Event}
 use Rattle.brd_explore.specs.declared.search.Search.{Search}
 use Rattle.brd_explore.specs.declared.search.Turn.{Turn}
 use Rattle.brd_explore.specs.declared.search.Turn.TheVariants as turn
-use Rattle.brd_explore.specs.declared.search.Saved.{Saved}
 use Rattle.brd_explore.specs.declared.known.Kept.{Kept}
 use Rattle.brd_explore.specs.declared.known.Known.{Known}
 use Rattle.brd_explore.specs.declared.wanted.Wanted.{Wanted}
 use Rattle.brd_explore.specs.Schedules.{Place, is_left, event_at}
+use Rattle.brd_explore.specs.Sleeping.{is_left_out}
 use Rattle.brd_explore.specs.Failures.{fails_now}
-use Rattle.brd_explore.specs.Searching.{NoneFails, NoneHere, NoneLeft, NoneLeftFrom, IsTooMuch, HasGone, HasStayed, HasGoneBack, KeepsRest, IsOnPath, LeavesOut, LeadsOn, HasLess, turns_left, place_of}
-use Rattle.brd_explore.specs.Knowing.{place_of_kept, AreDone, AreOver, ArePending, IsKeptOf, IsPending, Knows, KnowsOn, Leaves, Notes}
+use Rattle.brd_explore.specs.Searching.{NoneGoes, NoneHere, IsTooMuch, HasGone, HasStayed, HasPassed, HasGoneBack, KeepsRest, IsOnPath, LeavesOut, LeadsOn, HasLess, turns_left, place_of, spot_of}
+use Rattle.brd_explore.specs.Knowing.{spot_of_kept, AreDone, AreOver, ArePending, IsKeptOf, IsPending, Knows, KnowsOn, Leaves, Notes}
 use Rattle.brd_explore.proofs.FindLemmas.{back-same}
 use Rattle.brd_explore.proofs.LessLemmas.{less-back}
 use Rattle.brd_explore.proofs.PathLemmas.{on-back-gone}
-use Rattle.brd_explore.proofs.SearchLemmas.{leaves-gone, leaves-stayed, leaves-back, leaves-over, none-below, none-from}
+use Rattle.brd_explore.proofs.SearchLemmas.{leaves-gone, leaves-stayed, leaves-passed, leaves-back, leaves-over, none-below, none-from}
 
 -- how many places there are to go back to
 
@@ -49,8 +49,17 @@ pending-stayed wanted among s t at k on much stayed (inr if) = inr (
   λ none. if.1 (leaves-stayed wanted among k.height s t at on much stayed none),
 )
 
+pending-passed : (wanted : Wanted) (among : List Event) (s t : Search) (at : ℕ) (k : Kept) → s.at ≤ at → at < length among →
+    is_left (place_of s) (event_at among at) ≡ true → IsTooMuch among (place_of s) s.at at → is_left_out wanted among (spot_of s) (event_at among at) ≡ true →
+    HasPassed s at t → IsPending wanted among s k → IsPending wanted among t k
+pending-passed wanted among s t at k on below left much out passed (inl none) = inl none
+pending-passed wanted among s t at k on below left much out passed (inr if) = inr (
+  omega (arith, if.0, ap length passed.saved),
+  λ none. if.1 (leaves-passed wanted among k.height s t at on below left much out passed none),
+)
+
 pending-over : (wanted : Wanted) (among : List Event) (s : Search) (k : Kept) → NoneHere wanted among s → length s.saved.items ≤ k.height →
-    IsPending wanted among s k → NoneFails wanted among (place_of_kept k)
+    IsPending wanted among s k → NoneGoes wanted among (spot_of_kept k)
 pending-over wanted among s k here high (inl none) = none
 pending-over wanted among s k here high (inr if) = if.1 (none-below wanted among k.height s here high)
 
@@ -66,7 +75,7 @@ pending-noted : (wanted : Wanted) (among : List Event) (t : Search) (k : Kept) �
     IsKeptOf t k → IsPending wanted among t k
 pending-noted wanted among t k at fresh fine is = inr (
   omega (arith, is.1),
-  λ none. subst (NoneFails wanted among) (sym is.0) (none-from wanted among t none.here at fresh fine),
+  λ none. subst (NoneGoes wanted among) (sym is.0) (none-from wanted among t none.here at fresh fine),
 )
 
 -- all that is known
@@ -88,8 +97,17 @@ knows-stayed wanted among s t known at on much stayed knows = record {
       (λ k. pending-stayed wanted among s t at k on much stayed) known.pending.items knows.pending;
 }
 
+pub knows-passed : (wanted : Wanted) (among : List Event) (s t : Search) (known : Known) (at : ℕ) → s.at ≤ at → at < length among →
+    is_left (place_of s) (event_at among at) ≡ true → IsTooMuch among (place_of s) s.at at → is_left_out wanted among (spot_of s) (event_at among at) ≡ true →
+    HasPassed s at t → Knows wanted among s known → Knows wanted among t known
+knows-passed wanted among s t known at on below left much out passed knows = record {
+  done = knows.done;
+  pending = All-weaker (IsPending wanted among s) (IsPending wanted among t)
+      (λ k. pending-passed wanted among s t at k on below left much out passed) known.pending.items knows.pending;
+}
+
 pub done-same : (wanted : Wanted) (among : List Event) (old new : Known) → new.done.items ≡ old.done.items → AreDone wanted among old → AreDone wanted among new
-done-same wanted among old new same done = subst (All (λ slot. IfSome slot (λ k. NoneFails wanted among (place_of_kept k)))) (sym same) done
+done-same wanted among old new same done = subst (All (λ slot. IfSome slot (λ k. NoneGoes wanted among (spot_of_kept k)))) (sym same) done
 
 -- a place was noted, to which the search has just come
 
@@ -114,7 +132,7 @@ knows-more wanted among t old new at fresh fine done notes knows = record {
 
 pub over-from : (wanted : Wanted) (among : List Event) (s : Search) (known : Known) → NoneHere wanted among s → ArePending wanted among s known →
     AreOver wanted among (length s.saved.items) known
-over-from wanted among s known here pending = All-weaker (IsPending wanted among s) (λ k. length s.saved.items ≤ k.height → NoneFails wanted among (place_of_kept k))
+over-from wanted among s known here pending = All-weaker (IsPending wanted among s) (λ k. length s.saved.items ≤ k.height → NoneGoes wanted among (spot_of_kept k))
     (λ k is high. pending-over wanted among s k here high is) known.pending.items pending
 
 -- it leaves a place from which nothing is left
@@ -170,12 +188,12 @@ leaves-same s t u turn.Over saved path leaves = sym saved ∙ leaves
 
 pub settled-one : (wanted : Wanted) (among : List Event) (height : ℕ) (old middle new : Known) (k : Kept) →
     old.pending.items ≡ middle.pending.items ++ k ∷ [] → height ≤ k.height → middle.done.items ≡ old.done.items → new.pending.items ≡ middle.pending.items →
-    (AreDone wanted among middle → NoneFails wanted among (place_of_kept k) → AreDone wanted among new) →
+    (AreDone wanted among middle → NoneGoes wanted among (spot_of_kept k) → AreDone wanted among new) →
     AreDone wanted among old × AreOver wanted among height old → AreDone wanted among new × AreOver wanted among height new
 settled-one wanted among height old middle new k popped high same rest keeps before =
-    let parts = All-pop (λ (q : Kept). height ≤ q.height → NoneFails wanted among (place_of_kept q)) old.pending.items middle.pending.items (Some k) popped before.1 in (
+    let parts = All-pop (λ (q : Kept). height ≤ q.height → NoneGoes wanted among (spot_of_kept q)) old.pending.items middle.pending.items (Some k) popped before.1 in (
       keeps (done-same wanted among old middle same before.0) (parts.1 high),
-      subst (All (λ (q : Kept). height ≤ q.height → NoneFails wanted among (place_of_kept q))) (sym rest) parts.0,
+      subst (All (λ (q : Kept). height ≤ q.height → NoneGoes wanted among (spot_of_kept q))) (sym rest) parts.0,
     )
 
 pub pending-popped : (wanted : Wanted) (among : List Event) (s : Search) (old middle new : Known) (k : Kept) →

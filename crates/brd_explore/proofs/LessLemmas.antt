@@ -10,7 +10,7 @@ use Rattle.brd_explore.specs.declared.bounds.Bounds.{Bounds}
 use Rattle.brd_explore.specs.declared.search.Search.{Search}
 use Rattle.brd_explore.specs.declared.search.Saved.{Saved}
 use Rattle.brd_explore.specs.Schedules.{Place, affords, affords_one, spent, is_left, event_at}
-use Rattle.brd_explore.specs.Searching.{place_of, most_turns, most_saved, turns_left, KeepsRest, HasGone, HasStayed, HasGoneBack}
+use Rattle.brd_explore.specs.Searching.{place_of, most_turns, most_saved, turns_left, KeepsRest, HasGone, HasStayed, HasPassed, HasGoneBack}
 
 -- something is left for an event, so one event fewer is left after it
 
@@ -88,16 +88,24 @@ less-gone among s t at on below left gone =
     let before : most_turns (length among) s.left.events s.at ≡ most_turns (length among) (suc after) s.at = ap (λ k. most_turns (length among) k s.at) is in
     omega (arith, less, here, before)
 
-pub less-stayed : (among : List Event) (s t : Search) (at : ℕ) → s.at ≤ at → at < length among → is_left (place_of s) (event_at among at) ≡ true →
-    HasStayed among s at t → turns_left among t < turns_left among s
-less-stayed among s t at on below left stayed =
+less-later : (among : List Event) (s t : Search) (at : ℕ) → s.at ≤ at → at < length among → is_left (place_of s) (event_at among at) ≡ true →
+    place_of t ≡ place_of s → t.at ≡ at + 1 → t.saved.items ≡ s.saved.items → turns_left among t < turns_left among s
+less-later among s t at on below left place later kept =
     let after = (spent s.left s.board s.last (event_at among at)).events in
     let is : s.left.events ≡ suc after = left-after (place_of s) (event_at among at) left in
     let here : most_turns (length among) t.left.events t.at ≡ most_turns (length among) (suc after) (at + 1) =
-    ap (λ k. most_turns (length among) k t.at) (ap Events stayed.place ∙ is) ∙ ap (most_turns (length among) (suc after)) stayed.at in
+    ap (λ k. most_turns (length among) k t.at) (ap Events place ∙ is) ∙ ap (most_turns (length among) (suc after)) later in
     let before : most_turns (length among) s.left.events s.at ≡ most_turns (length among) (suc after) s.at = ap (λ k. most_turns (length among) k s.at) is in
-    let saved : most_saved (length among) t.saved.items ≡ most_saved (length among) s.saved.items = ap (most_saved (length among)) stayed.saved in
+    let saved : most_saved (length among) t.saved.items ≡ most_saved (length among) s.saved.items = ap (most_saved (length among)) kept in
     omega (arith, tried-nothing (length among) after s.at at on below, here, before, saved)
+
+pub less-stayed : (among : List Event) (s t : Search) (at : ℕ) → s.at ≤ at → at < length among → is_left (place_of s) (event_at among at) ≡ true →
+    HasStayed among s at t → turns_left among t < turns_left among s
+less-stayed among s t at on below left stayed = less-later among s t at on below left stayed.place stayed.at stayed.saved
+
+pub less-passed : (among : List Event) (s t : Search) (at : ℕ) → s.at ≤ at → at < length among → is_left (place_of s) (event_at among at) ≡ true →
+    HasPassed s at t → turns_left among t < turns_left among s
+less-passed among s t at on below left passed = less-later among s t at on below left passed.place passed.at passed.saved
 
 pub less-back : (among : List Event) (s t : Search) → HasGoneBack s t → turns_left among t < turns_left among s
 less-back among s t back =

@@ -3,10 +3,13 @@ mod FailureLemmas
 mod SearchLemmas
 mod PathLemmas
 mod FindLemmas
+mod CommuteLemmas
+mod RichLemmas
+mod AwakeLemmas
+mod EnoughLemmas
 mod PartLemmas
 mod ShrinkLemmas
 mod LawLemmas
 mod LessLemmas
 mod ShardLemmas
 mod KnownLemmas
-mod RichLemmas

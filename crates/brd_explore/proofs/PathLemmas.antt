@@ -9,7 +9,7 @@ use Rattle.brd_explore.specs.declared.search.Saved.{Saved}
 use Rattle.brd_explore.specs.declared.wanted.Wanted.{Wanted}
 use Rattle.brd_explore.specs.Schedules.{Place, does, is_left, next, place_after, event_at, IsAmong, IsWithin, IsEnd}
 use Rattle.brd_explore.specs.Failures.{fails_now, fails_at_end}
-use Rattle.brd_explore.specs.Searching.{FailsAt, Fails, IsTooMuch, place_of, place_of_saved, Leads, AreOnPath, IsOnPath, HasGone, HasStayed, HasGoneBack, KeepsRest}
+use Rattle.brd_explore.specs.Searching.{FailsAt, Fails, IsTooMuch, place_of, place_of_saved, Leads, AreOnPath, IsOnPath, HasGone, HasStayed, HasPassed, HasGoneBack, KeepsRest}
 
 -- what leads to a place is within the bounds
 
@@ -122,6 +122,13 @@ on-stayed among from s t at before much on stayed = record {
       ap (λ (p : Place). does p.board (event_at among k)) stayed.place
       ∙ tried-stayed among from s t at before much on stayed (sym stayed.fresh ∙ fresh) k (omega (arith, less, stayed.at)) below
       (subst (λ (p : Place). is_left p (event_at among k) ≡ true) stayed.place left);
+}
+
+pub on-passed : (among : List Event) (from : Place) (s t : Search) (at : ℕ) → IsOnPath among from s → HasPassed s at t → IsOnPath among from t
+on-passed among from s t at on passed = record {
+  here = subst (Leads among from t.path.items) (sym passed.place) (subst (λ es. Leads among from es (place_of s)) (sym passed.path) on.here);
+  saved = subst (λ es. AreOnPath among from es 0 t.saved.items) (sym passed.path) (subst (AreOnPath among from s.path.items 0) (sym passed.saved) on.saved);
+  tried = λ fresh k less below left. absurd (false≢true (sym passed.fresh ∙ fresh));
 }
 
 pub on-back-gone : (among : List Event) (from : Place) (s t : Search) → IsOnPath among from s → HasGoneBack s t → IsOnPath among from t

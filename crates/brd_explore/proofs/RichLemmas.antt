@@ -1,6 +1,6 @@
--- A place with more left answers for one with less.
-use Rattle.std.proofs.Common.{◌≡◌, ℕ, zero, suc, ◌+◌, ◌-◌, ◌<◌, ◌≤◌, List, [], ◌∷◌, ◌++◌, length, refl, sym, ap, subst, ◌∙◌, arith, ◌⊎◌, inl, inr}
-use Rattle.std.specs.Prelude.{Bool, true, false, not, ◌&&◌, ◌||◌, nat_lt, nat_le, ◌==◌, if◌then◌else◌, is_some}
+-- Places that differ only in what is left.
+use Rattle.std.proofs.Common.{◌≡◌, ℕ, ◌-◌, ◌<◌, ◌≤◌, List, [], ◌∷◌, length, refl, sym, ap, subst, ◌∙◌, arith, ◌⊎◌, inl, inr}
+use Rattle.std.specs.Prelude.{Bool, true, false, not, ◌&&◌, ◌||◌, nat_lt, nat_le, ◌==◌, if◌then◌else◌}
 use Rattle.std.specs.List.{list_any}
 use Rattle.std.proofs.lemmas.Bool.{cases_Bool, false≢true, and_parts, and_from, not-true, lt-ltb, ltb-true}
 use Rattle.std.proofs.lemmas.Bool.Decides.{nat_tests}
@@ -9,17 +9,15 @@ use Rattle.brd_board.specs.declared.event.Event.TheVariants.{Step, Tick, Raise}
 use Rattle.brd_board.specs.declared.event.Report.TheVariants as report
 use Rattle.brd_board.specs.Board.{BoardState, happens, happens_on, reported}
 use Rattle.brd_journal.specs.Still.{did_nothing}
-use Rattle.brd_explore.specs.declared.bounds.Bounds.{Bounds}
 use Rattle.brd_explore.specs.declared.wanted.Wanted.{Wanted}
-use Rattle.brd_explore.specs.Schedules.{Place, does, preempts, affords, affords_one, one_if, spent, is_left, next, place_after, event_at, IsWithin, IsEnd}
+use Rattle.brd_explore.specs.Schedules.{Place, does, preempts, affords, affords_one, one_if, spent, is_left, next, event_at}
 use Rattle.brd_explore.specs.Failures.{some_below, nobody_goes, some_are_due, is_at_rest, is_judged, fails_now, fails_at_last, rounds, ended, fails_at_end}
-use Rattle.brd_explore.specs.Searching.{FailsAt, NoneFails}
-use Rattle.brd_explore.specs.Knowing.{is_strange, may_have_more, is_enough}
+use Rattle.brd_explore.specs.Sleeping.{Spot, next_spot, asleep_after, sleeps, executes, is_strange, is_left_out}
+use Rattle.brd_explore.specs.Searching.{FailsAt, Leads, LeadsAwake, NoneGoes}
 use Rattle.brd_explore.proofs.FailureLemmas.{some-found, any-found}
-use Rattle.brd_explore.proofs.SearchLemmas.{does-or, after-doing, after-nothing}
 
 -- places that differ in what is left at most
-record IsRicher (rich poor : Place) : Type 0 where
+pub record IsRicher (rich poor : Place) : Type 0 where
   pub board : rich.board ≡ poor.board
   pub last : rich.last ≡ poor.last
   pub events : (rich.left.events ≡ poor.left.events)
@@ -31,7 +29,7 @@ record IsRicher (rich poor : Place) : Type 0 where
 preempts-same : (rich poor : Place) (cpu : ℕ) → IsRicher rich poor → preempts rich.board rich.last cpu ≡ preempts poor.board poor.last cpu
 preempts-same rich poor cpu r = λ i. preempts (r.board i) (r.last i) cpu
 
-or-second : (a b : Bool) → b ≡ true → (a || b) ≡ true
+pub or-second : (a b : Bool) → b ≡ true → (a || b) ≡ true
 or-second true b is = refl
 or-second false b is = is
 
@@ -44,7 +42,7 @@ events-on rich poor r = elim r.events [
 some-more : (m n : ℕ) → m ≤ n → nat_lt 0 m ≡ true → nat_lt 0 n ≡ true
 some-more m n on is = lt-ltb 0 n (omega (arith, on, ltb-true 0 m is))
 
-or-more : (m n : ℕ) (x : Bool) → m ≤ n → (nat_lt 0 m || x) ≡ true → (nat_lt 0 n || x) ≡ true
+pub or-more : (m n : ℕ) (x : Bool) → m ≤ n → (nat_lt 0 m || x) ≡ true → (nat_lt 0 n || x) ≡ true
 or-more m n x on is = elim (cases_Bool (nat_lt 0 m)) [
   | inl some ↦ ap (λ t. t || x) (some-more m n on some)
   | inr none ↦ or-second (nat_lt 0 n) x (sym (ap (λ t. t || x) none) ∙ is)
@@ -58,7 +56,7 @@ rich-one rich poor (Step cpu) r is =
 rich-one rich poor Tick r is = ap (nat_lt 0) r.ticks ∙ is
 rich-one rich poor (Raise line) r is = ap (nat_lt 0) r.raises ∙ is
 
-rich-left : (rich poor : Place) (e : Event) → IsRicher rich poor → is_left poor e ≡ true → is_left rich e ≡ true
+pub rich-left : (rich poor : Place) (e : Event) → IsRicher rich poor → is_left poor e ≡ true → is_left rich e ≡ true
 unfolding affords
 rich-left rich poor e r is =
     let parts = and_parts (nat_lt 0 poor.left.events) (affords_one poor.left poor.board poor.last e) is in
@@ -71,7 +69,7 @@ events-next : (m n ticks raises ticks' raises' : ℕ) → ticks' ≤ ticks → r
 events-next m n ticks raises ticks' raises' one other (inl same) = inl (ap (λ k. k - 1) same)
 events-next m n ticks raises ticks' raises' one other (inr more) = inr (omega (arith, more.0), omega (arith, more.1, one), omega (arith, more.2, other))
 
-rich-next : (rich poor : Place) (e : Event) → IsRicher rich poor → IsRicher (next rich e) (next poor e)
+pub rich-next : (rich poor : Place) (e : Event) → IsRicher rich poor → IsRicher (next rich e) (next poor e)
 unfolding spent
 rich-next rich poor (Step cpu) r = record {
   board = ap (λ b. (happens b (Step cpu)).board) r.board;
@@ -98,29 +96,39 @@ rich-next rich poor (Raise line) r = record {
   preemptions = r.preemptions;
 }
 
-rich-within : (among : List Event) (rich poor : Place) (es : List Event) → IsRicher rich poor → IsWithin among poor es → IsWithin among rich es
-rich-within among rich poor [] r within = tt
-rich-within among rich poor (e ∷ es) r within =
-    let same : does rich.board e ≡ does poor.board e = ap (λ b. does b e) r.board in (
-      λ did. (
-        (within.0 (sym same ∙ did)).0,
-        rich-left rich poor e r (within.0 (sym same ∙ did)).1,
-        rich-within among (next rich e) (next poor e) es (rich-next rich poor e r) (within.0 (sym same ∙ did)).2,
-      ),
-      λ none. rich-within among rich poor es r (within.1 (sym same ∙ none)),
-    )
+-- where a list leads from the place with more
+pub rich-leads : (among : List Event) (rich poor to : Place) (es : List Event) → IsRicher rich poor → Leads among poor es to →
+    (there : Place) × Leads among rich es there × IsRicher there to
+rich-leads among rich poor to [] r leads = (rich, refl, subst (IsRicher rich) leads r)
+rich-leads among rich poor to (e ∷ es) r leads =
+    let rest = rich-leads among (next rich e) (next poor e) to es (rich-next rich poor e r) leads.3 in
+    (rest.0, (leads.0, rich-left rich poor e r leads.1, ap (λ b. does b e) r.board ∙ leads.2, rest.1), rest.2)
 
-rich-after : (rich poor : Place) (es : List Event) → IsRicher rich poor → IsRicher (place_after rich es) (place_after poor es)
-rich-after rich poor [] r = r
-rich-after rich poor (e ∷ es) r =
-    let same : does rich.board e ≡ does poor.board e = ap (λ b. does b e) r.board in
-    elim (does-or poor.board e) [
-      | inl did ↦ subst (IsRicher (place_after rich (e ∷ es))) (sym (after-doing poor e es did))
-          (subst (λ x. IsRicher x (place_after (next poor e) es)) (sym (after-doing rich e es (same ∙ did)))
-          (rich-after (next rich e) (next poor e) es (rich-next rich poor e r)))
-      | inr none ↦ subst (IsRicher (place_after rich (e ∷ es))) (sym (after-nothing poor e es none))
-          (subst (λ x. IsRicher x (place_after poor es)) (sym (after-nothing rich e es (same ∙ none))) (rich-after rich poor es r))
-    ]
+-- what is left out doesn't depend on what is left
+
+out-same : (wanted : Wanted) (among : List Event) (rich poor : Spot) (e : Event) → IsRicher rich.place poor.place → rich.asleep ≡ poor.asleep →
+    is_left_out wanted among rich e ≡ is_left_out wanted among poor e
+unfolding is_left_out
+out-same wanted among rich poor (Step cpu) r asleep = λ i. sleeps (asleep i) cpu && not (r.last i == cpu) && executes (r.board i) cpu && wanted.rounds == 0 && not (list_any is_strange among)
+out-same wanted among rich poor Tick r asleep = refl
+out-same wanted among rich poor (Raise line) r asleep = refl
+
+rich-awake : (wanted : Wanted) (among : List Event) (rich poor : Spot) (to : Place) (es : List Event) → IsRicher rich.place poor.place → rich.asleep ≡ poor.asleep →
+    LeadsAwake wanted among poor es to → (there : Place) × LeadsAwake wanted among rich es there × IsRicher there to
+rich-awake wanted among rich poor to [] r asleep leads = (rich.place, refl, subst (IsRicher rich.place) leads r)
+rich-awake wanted among rich poor to (e ∷ es) r asleep leads =
+    let rest = rich-awake wanted among (next_spot rich e) (next_spot poor e) to es (rich-next rich.place poor.place e r)
+    (λ i. asleep_after (r.board i) (asleep i) e) leads.4 in (
+      rest.0,
+      (
+        leads.0,
+        rich-left rich.place poor.place e r leads.1,
+        ap (λ b. does b e) r.board ∙ leads.2,
+        out-same wanted among rich poor e r asleep ∙ leads.3,
+        rest.1,
+      ),
+      rest.2,
+    )
 
 -- An end that fails without a fair end is at rest, where steps do nothing, however many preemptions are left.
 
@@ -179,7 +187,7 @@ end-rests wanted b none fine bad =
     (ap (nat_lt 0) none)
     (subst (λ x. (fails_now wanted x || (list_any (fails_at_last x) wanted.failures && (nat_lt 0 wanted.rounds || is_at_rest x))) ≡ true) same bad)
 
-rich-fails : (wanted : Wanted) (among : List Event) (rich poor : Place) → wanted.rounds ≡ 0 → list_any is_strange among ≡ false → IsRicher rich poor →
+pub rich-fails : (wanted : Wanted) (among : List Event) (rich poor : Place) → wanted.rounds ≡ 0 → list_any is_strange among ≡ false → IsRicher rich poor →
     FailsAt wanted among poor → FailsAt wanted among rich
 rich-fails wanted among rich poor none known r (inl now) = inl (ap (fails_now wanted) r.board ∙ now)
 rich-fails wanted among rich poor none known r (inr last) = elim (cases_Bool (fails_now wanted poor.board)) [
@@ -193,64 +201,8 @@ rich-fails wanted among rich poor none known r (inr last) = elim (cases_Bool (fa
 ]
 
 -- What was searched from a place answers for another one.
-
-rich-none : (wanted : Wanted) (among : List Event) (rich poor : Place) → wanted.rounds ≡ 0 → list_any is_strange among ≡ false → IsRicher rich poor →
-    NoneFails wanted among rich → NoneFails wanted among poor
-rich-none wanted among rich poor zero' known r none es within fails =
-    none es (rich-within among rich poor es r within) (rich-fails wanted among (place_after rich es) (place_after poor es) zero' known (rich-after rich poor es r) fails)
-
-equal : (m n : ℕ) → (m == n) ≡ true → m ≡ n
-equal m n is = grind (arith, nat_tests, is)
-
-below : (m n : ℕ) → nat_le m n ≡ true → m ≤ n
-below m n is = grind (arith, nat_tests, is)
-
-either : (a b : Bool) → (a || b) ≡ true → (a ≡ true) ⊎ (b ≡ true)
-either true b is = inl refl
-either false b is = inr is
-
-all-three : (a b c : Bool) → (a && b && c) ≡ true → (a ≡ true) × (b ≡ true) × (c ≡ true)
-all-three true true c is = (refl, refl, is)
-all-three true false c is = absurd (false≢true is)
-all-three false b c is = absurd (false≢true is)
-
-events-enough : (m n ticks raises : ℕ) → (m == n || nat_le n m && ticks == 0 && raises == 0) ≡ true → (m ≡ n) ⊎ ((n ≤ m) × (ticks ≡ 0) × (raises ≡ 0))
-events-enough m n ticks raises is = elim (either (m == n) (nat_le n m && ticks == 0 && raises == 0) is) [
-  | inl same ↦ inl (equal m n same)
-  | inr more ↦
-      let all = all-three (nat_le n m) (ticks == 0) (raises == 0) more in
-      inr (below n m all.0, equal ticks 0 all.1, equal raises 0 all.2)
-]
-
--- where as much is left, or more
-pub none-enough : (wanted : Wanted) (among : List Event) (more : Bool) (rich poor : Place) → (more ≡ true → may_have_more wanted among ≡ true) →
-    rich.board ≡ poor.board → rich.last ≡ poor.last → is_enough more rich.left poor.left ≡ true → NoneFails wanted among rich → NoneFails wanted among poor
-unfolding is_enough
-none-enough wanted among more rich poor may board last is none =
-    let all = all-three (rich.left.ticks == poor.left.ticks) (rich.left.raises == poor.left.raises) ((rich.left.events == poor.left.events && rich.left.preemptions == poor.left.preemptions) || (more && nat_le poor.left.preemptions rich.left.preemptions && (rich.left.events == poor.left.events || nat_le poor.left.events rich.left.events && rich.left.ticks == 0 && rich.left.raises == 0))) is in
-    let ticks = equal rich.left.ticks poor.left.ticks all.0 in
-    let raises = equal rich.left.raises poor.left.raises all.1 in
-    elim (either (rich.left.events == poor.left.events && rich.left.preemptions == poor.left.preemptions) (more && nat_le poor.left.preemptions rich.left.preemptions && (rich.left.events == poor.left.events || nat_le poor.left.events rich.left.events && rich.left.ticks == 0 && rich.left.raises == 0)) all.2) [
-      | inl same ↦
-          let both = and_parts (rich.left.events == poor.left.events) (rich.left.preemptions == poor.left.preemptions) same in
-          let events = equal rich.left.events poor.left.events both.0 in
-          let preemptions = equal rich.left.preemptions poor.left.preemptions both.1 in
-          let place : rich ≡ poor = λ i. record {
-            board = board i;
-            left = record { events = events i; preemptions = preemptions i; ticks = ticks i; raises = raises i };
-            last = last i;
-          } in
-          subst (NoneFails wanted among) place none
-      | inr enough ↦
-          let rest = all-three more (nat_le poor.left.preemptions rich.left.preemptions) (rich.left.events == poor.left.events || nat_le poor.left.events rich.left.events && rich.left.ticks == 0 && rich.left.raises == 0) enough in
-          let so = and_parts (wanted.rounds == 0) (not (list_any is_strange among)) (may rest.0) in
-          rich-none wanted among rich poor (equal wanted.rounds 0 so.0) (not-true (list_any is_strange among) so.1)
-          (record {
-            board = board;
-            last = last;
-            events = events-enough rich.left.events poor.left.events rich.left.ticks rich.left.raises rest.2;
-            ticks = ticks;
-            raises = raises;
-            preemptions = below poor.left.preemptions rich.left.preemptions rest.1;
-          }) none
-    ]
+pub rich-none : (wanted : Wanted) (among : List Event) (rich poor : Spot) → wanted.rounds ≡ 0 → list_any is_strange among ≡ false → IsRicher rich.place poor.place →
+    rich.asleep ≡ poor.asleep → NoneGoes wanted among rich → NoneGoes wanted among poor
+rich-none wanted among rich poor zero' known r asleep none es to leads fails =
+    let there = rich-awake wanted among rich poor to es r asleep leads in
+    none es there.0 there.1 (rich-fails wanted among there.0 to zero' known there.2 fails)

@@ -1,17 +1,21 @@
 -- What a search leaves out doesn't fail.
 use Rattle.std.proofs.Common.{◌≡◌, ℕ, ◌+◌, ◌<◌, ◌≤◌, List, [], ◌∷◌, ◌++◌, length, drop, refl, sym, ap, subst, ◌∙◌, arith, ◌⊎◌, inl, inr}
-use Rattle.std.specs.Prelude.{true, false, All, Some, if◌then◌else◌}
-use Rattle.std.proofs.lemmas.Bool.{cases_lt, cases_Bool, false≢true}
+use Rattle.std.specs.List.{list_any}
+use Rattle.std.specs.Prelude.{not, ◌==◌, ◌&&◌, true, false, All, Some, if◌then◌else◌}
+use Rattle.std.proofs.lemmas.Bool.{cases_lt, cases_Bool, and_parts, false≢true}
 use Rattle.std.proofs.lemmas.List.{drop_all, drop-append-le}
 use Rattle.std.proofs.lemmas.List.Elements.{All-nil, All-push, All-pop}
 use Rattle.brd_board.specs.declared.event.Event.{Event}
+use Rattle.brd_board.specs.declared.event.Event.TheVariants.{Step, Tick, Raise}
 use Rattle.brd_board.specs.Board.{BoardState}
 use Rattle.brd_explore.specs.declared.search.Search.{Search}
 use Rattle.brd_explore.specs.declared.search.Saved.{Saved}
 use Rattle.brd_explore.specs.declared.wanted.Wanted.{Wanted}
-use Rattle.brd_explore.specs.Schedules.{Place, does, is_left, next, place_after, event_at, IsWithin, IsEnd}
+use Rattle.brd_explore.specs.Schedules.{Place, does, is_left, next, place_after, event_at, IsEnd}
 use Rattle.brd_explore.specs.Failures.{fails_now, fails_at_end}
-use Rattle.brd_explore.specs.Searching.{FailsAt, NoneFails, NoneBegins, NoneFrom, IsTooMuch, place_of, place_of_saved, NoneHere, NoneLeftFrom, NoneLeft, HasGone, HasStayed, HasGoneBack, KeepsRest}
+use Rattle.brd_explore.specs.Sleeping.{Spot, next_spot, sleeps, executes, is_strange, is_left_out}
+use Rattle.brd_explore.specs.Searching.{FailsAt, NoneGoes, NoneGoesBy, NoneGoesFrom, IsTooMuch, place_of, spot_of, spot_of_saved, NoneHere, NoneLeftFrom, NoneLeft, HasGone, HasStayed, HasPassed, HasGoneBack, KeepsRest}
+use Rattle.brd_explore.proofs.CommuteLemmas.{executes-does}
 
 -- whichever way a test of an event goes
 pub does-or : (b : BoardState) (e : Event) → (does b e ≡ true) ⊎ (does b e ≡ false)
@@ -24,33 +28,38 @@ pub after-nothing : (p : Place) (e : Event) (es : List Event) → does p.board e
 after-nothing p e es none = ap (λ test. if test then place_after (next p e) es else place_after p es) none
 
 -- Where the place doesn't fail, and no schedule that begins with one of the events fails, none does.
-pub none-fails : (wanted : Wanted) (among : List Event) (p : Place) → NoneFrom wanted among p 0 → (FailsAt wanted among p → ⊥) → NoneFails wanted among p
-none-fails wanted among p begins here [] within fails = here fails
-none-fails wanted among p begins here (e ∷ es) within fails = elim (does-or p.board e) [
-  | inl did ↦
-      let w = within.0 did in
-      let same : event_at among w.0.at ≡ e = w.0.is in
-      let none : NoneBegins wanted among p e = subst (NoneBegins wanted among p) same (begins w.0.at (omega arith) w.0.within) in
-      none did w.1 es w.2 (subst (FailsAt wanted among) (after-doing p e es did) fails)
-  | inr not ↦ none-fails wanted among p begins here es (within.1 not) (subst (FailsAt wanted among) (after-nothing p e es not) fails)
-]
+pub none-goes : (wanted : Wanted) (among : List Event) (spot : Spot) → NoneGoesFrom wanted among spot 0 → (FailsAt wanted among spot.place → ⊥) → NoneGoes wanted among spot
+none-goes wanted among spot begins here [] to leads fails = here (subst (FailsAt wanted among) (sym leads) fails)
+none-goes wanted among spot begins here (e ∷ es) to leads fails =
+    let one = leads.0 in
+    let none : NoneGoesBy wanted among spot e = subst (NoneGoesBy wanted among spot) one.is (begins one.at (omega arith) one.within) in
+    none leads.2 leads.1 leads.3 es to leads.4 fails
 
 -- nothing is left for any of them
-pub none-too_much : (wanted : Wanted) (among : List Event) (p : Place) (from : ℕ) → IsTooMuch among p from (length among) → NoneFrom wanted among p from
-none-too_much wanted among p from much k above below did left = absurd (false≢true (sym (much k above below) ∙ left))
+pub none-too_much : (wanted : Wanted) (among : List Event) (spot : Spot) (from : ℕ) → IsTooMuch among spot.place from (length among) → NoneGoesFrom wanted among spot from
+none-too_much wanted among spot from much k above below did left = absurd (false≢true (sym (much k above below) ∙ left))
 
 -- some are too much, one fails not, and then those behind it
-pub none-more : (wanted : Wanted) (among : List Event) (p : Place) (from at : ℕ) → from ≤ at → IsTooMuch among p from at →
-    NoneBegins wanted among p (event_at among at) → NoneFrom wanted among p (at + 1) → NoneFrom wanted among p from
-none-more wanted among p from at on much here rest k above below = elim (cases_lt k at) [
+pub none-more : (wanted : Wanted) (among : List Event) (spot : Spot) (from at : ℕ) → from ≤ at → IsTooMuch among spot.place from at →
+    NoneGoesBy wanted among spot (event_at among at) → NoneGoesFrom wanted among spot (at + 1) → NoneGoesFrom wanted among spot from
+none-more wanted among spot from at on much here rest k above below = elim (cases_lt k at) [
   | inl lt ↦ λ did left. absurd (false≢true (sym (much k above lt) ∙ left))
   | inr ge ↦ elim (cases_lt at k) [
     | inl more ↦ rest k (omega (arith, more)) below
-    | inr less ↦ let same : at ≡ k = omega (arith, ge, less) in subst (λ n. NoneBegins wanted among p (event_at among n)) same here
+    | inr less ↦ let same : at ≡ k = omega (arith, ge, less) in subst (λ n. NoneGoesBy wanted among spot (event_at among n)) same here
   ]
 ]
 
 -- what is left after going on, and before it
+
+pub out-does : (wanted : Wanted) (among : List Event) (spot : Spot) (e : Event) → is_left_out wanted among spot e ≡ true → does spot.place.board e ≡ true
+unfolding is_left_out
+out-does wanted among spot (Step cpu) is =
+    let one = and_parts (sleeps spot.asleep cpu && not (spot.place.last == cpu) && executes spot.place.board cpu && wanted.rounds == 0) (not (list_any is_strange among)) is in
+    let two = and_parts (sleeps spot.asleep cpu && not (spot.place.last == cpu) && executes spot.place.board cpu) (wanted.rounds == 0) one.0 in
+    executes-does spot.place.board cpu (and_parts (sleeps spot.asleep cpu && not (spot.place.last == cpu)) (executes spot.place.board cpu) two.0).1
+out-does wanted among spot Tick is = absurd (false≢true is)
+out-does wanted among spot (Raise line) is = absurd (false≢true is)
 
 end-left : (wanted : Wanted) (among : List Event) (s : Search) (at : ℕ) → s.at ≤ at → at < length among → is_left (place_of s) (event_at among at) ≡ true →
     does s.board (event_at among at) ≡ true → IsEnd among (place_of s) → ⊥
@@ -62,53 +71,75 @@ failing wanted among t none fresh fine (inr last) = none.«end» fresh last.0 la
 
 -- no schedule fails from a place that a search has just come to, and from where it has nothing left
 pub none-from : (wanted : Wanted) (among : List Event) (t : Search) → NoneHere wanted among t → t.at ≡ 0 → t.fresh ≡ true → fails_now wanted t.board ≡ false →
-    NoneFails wanted among (place_of t)
+    NoneGoes wanted among (spot_of t)
 none-from wanted among t none at fresh fine =
-    none-fails wanted among (place_of t) (subst (NoneFrom wanted among (place_of t)) at none.here) (failing wanted among t none fresh fine)
+    none-goes wanted among (spot_of t) (subst (NoneGoesFrom wanted among (spot_of t)) at none.here) (failing wanted among t none fresh fine)
 
 -- a saved place from which nothing fails
 abbrev IsFine : Wanted → List Event → Saved → Type 0
-IsFine wanted among f = NoneFrom wanted among (place_of_saved f) f.at
+IsFine wanted among f = NoneGoesFrom wanted among (spot_of_saved f) f.at
 
 -- the rest of a place, and the places saved before
 abbrev Rest : Wanted → List Event → ℕ → Search → ℕ → Type 0
-Rest wanted among height s at = NoneFrom wanted among (place_of s) (at + 1) × All (IsFine wanted among) (drop height s.saved.items)
+Rest wanted among height s at = NoneGoesFrom wanted among (spot_of s) (at + 1) × All (IsFine wanted among) (drop height s.saved.items)
 
 kept-rest : (wanted : Wanted) (among : List Event) (height : ℕ) (s t : Search) (at : ℕ) → height ≤ length s.saved.items → KeepsRest among s at t →
     All (IsFine wanted among) (drop height t.saved.items) → Rest wanted among height s at
 kept-rest wanted among height s t at low (inl same) all =
-    (none-too_much wanted among (place_of s) (at + 1) same.1, subst (λ fs. All (IsFine wanted among) (drop height fs)) same.0 all)
+    (none-too_much wanted among (spot_of s) (at + 1) same.1, subst (λ fs. All (IsFine wanted among) (drop height fs)) same.0 all)
 kept-rest wanted among height s t at low (inr more) all =
     let split : drop height t.saved.items ≡ drop height s.saved.items ++ more.0 ∷ [] =
     ap (drop height) more.1 ∙ drop-append-le height s.saved.items (more.0 ∷ []) low in
     let parts = All-pop (IsFine wanted among) (drop height t.saved.items) (drop height s.saved.items) (Some more.0) split all in
-    (subst (λ p. NoneFrom wanted among p (at + 1)) more.2 (subst (NoneFrom wanted among (place_of_saved more.0)) more.3 parts.1), parts.0)
+    let same : spot_of_saved more.0 ≡ spot_of s = λ i. record { place = more.2 i; asleep = more.5 i } in
+    (subst (λ spot. NoneGoesFrom wanted among spot (at + 1)) same (subst (NoneGoesFrom wanted among (spot_of_saved more.0)) more.3 parts.1), parts.0)
 
 pub leaves-gone : (wanted : Wanted) (among : List Event) (height : ℕ) (s t : Search) (at : ℕ) → height ≤ length s.saved.items → s.at ≤ at → at < length among →
     is_left (place_of s) (event_at among at) ≡ true → IsTooMuch among (place_of s) s.at at → HasGone among s at t → fails_now wanted t.board ≡ false →
     NoneLeftFrom wanted among height t → NoneLeftFrom wanted among height s
 leaves-gone wanted among height s t at low on below left much gone fine none =
-    let there : NoneFails wanted among (place_of t) = none-from wanted among t none.here gone.at gone.fresh fine in
-    let begins : NoneBegins wanted among (place_of s) (event_at among at) = λ did is. subst (NoneFails wanted among) gone.place there in
+    let there : NoneGoes wanted among (spot_of t) = none-from wanted among t none.here gone.at gone.fresh fine in
+    let same : spot_of t ≡ next_spot (spot_of s) (event_at among at) = λ i. record { place = gone.place i; asleep = gone.asleep i } in
+    let begins : NoneGoesBy wanted among (spot_of s) (event_at among at) = λ did is tried. subst (NoneGoes wanted among) same there in
     let kept = kept-rest wanted among height s t at low gone.saved none.saved in
     record {
       here = record {
-        here = none-more wanted among (place_of s) s.at at on much begins kept.0;
+        here = none-more wanted among (spot_of s) s.at at on much begins kept.0;
         «end» = λ fresh is bad. end-left wanted among s at on below left gone.did is;
       };
       saved = kept.1;
     }
 
+-- what is left to be tried where it has stayed
+from-stayed : (wanted : Wanted) (among : List Event) (s t : Search) (at : ℕ) → place_of t ≡ place_of s → t.asleep ≡ s.asleep → t.at ≡ at + 1 →
+    NoneGoesFrom wanted among (spot_of t) t.at → NoneGoesFrom wanted among (spot_of s) (at + 1)
+from-stayed wanted among s t at place asleep is none =
+    let same : spot_of t ≡ spot_of s = λ i. record { place = place i; asleep = asleep i } in
+    subst (λ spot. NoneGoesFrom wanted among spot (at + 1)) same (subst (NoneGoesFrom wanted among (spot_of t)) is none)
+
 pub leaves-stayed : (wanted : Wanted) (among : List Event) (height : ℕ) (s t : Search) (at : ℕ) → s.at ≤ at → IsTooMuch among (place_of s) s.at at →
     HasStayed among s at t → NoneLeftFrom wanted among height t → NoneLeftFrom wanted among height s
 leaves-stayed wanted among height s t at on much stayed none = record {
   here = record {
-    here = none-more wanted among (place_of s) s.at at on much (λ did left. absurd (false≢true (sym stayed.did ∙ did)))
-        (subst (λ p. NoneFrom wanted among p (at + 1)) stayed.place (subst (NoneFrom wanted among (place_of t)) stayed.at none.here.here));
+    here = none-more wanted among (spot_of s) s.at at on much (λ did left tried. absurd (false≢true (sym stayed.did ∙ did)))
+        (from-stayed wanted among s t at stayed.place stayed.asleep stayed.at none.here.here);
     «end» = λ fresh is bad. none.here.«end» (stayed.fresh ∙ fresh) (subst (IsEnd among) (sym stayed.place) is)
         (ap (λ (p : Place). fails_at_end wanted p.board) stayed.place ∙ bad);
   };
   saved = subst (λ fs. All (IsFine wanted among) (drop height fs)) stayed.saved none.saved;
+}
+
+-- it has left an event out, which would have done something
+pub leaves-passed : (wanted : Wanted) (among : List Event) (height : ℕ) (s t : Search) (at : ℕ) → s.at ≤ at → at < length among →
+    is_left (place_of s) (event_at among at) ≡ true → IsTooMuch among (place_of s) s.at at → is_left_out wanted among (spot_of s) (event_at among at) ≡ true →
+    HasPassed s at t → NoneLeftFrom wanted among height t → NoneLeftFrom wanted among height s
+leaves-passed wanted among height s t at on below left much out passed none = record {
+  here = record {
+    here = none-more wanted among (spot_of s) s.at at on much (λ did is tried. absurd (false≢true (sym tried ∙ out)))
+        (from-stayed wanted among s t at passed.place passed.asleep passed.at none.here.here);
+    «end» = λ fresh is bad. end-left wanted among s at on below left (out-does wanted among (spot_of s) (event_at among at) out) is;
+  };
+  saved = subst (λ fs. All (IsFine wanted among) (drop height fs)) passed.saved none.saved;
 }
 
 -- where nothing is left
@@ -116,22 +147,16 @@ leaves-stayed wanted among height s t at on much stayed none = record {
 pub none-judged : (wanted : Wanted) (among : List Event) (s : Search) → IsTooMuch among (place_of s) s.at (length among) →
     (s.fresh ≡ true → fails_at_end wanted s.board ≡ true → ⊥) → NoneHere wanted among s
 none-judged wanted among s much fine = record {
-  here = none-too_much wanted among (place_of s) s.at much;
+  here = none-too_much wanted among (spot_of s) s.at much;
   «end» = λ fresh is bad. fine fresh bad;
 }
 
--- a schedule that begins with one of the events that may come is within the bounds
-begin-with : (among : List Event) (p : Place) (k : ℕ) (es : List Event) → k < length among → does p.board (event_at among k) ≡ true →
-    is_left p (event_at among k) ≡ true → IsWithin among (next p (event_at among k)) es → IsWithin among p (event_at among k ∷ es)
-begin-with among p k es below did left within =
-    (λ _. (record { at = k; within = below; is = refl }, left, within), λ not. absurd (false≢true (sym not ∙ did)))
-
 -- and so it is where no schedule fails
-pub none-known : (wanted : Wanted) (among : List Event) (s : Search) → NoneFails wanted among (place_of s) → NoneHere wanted among s
+pub none-known : (wanted : Wanted) (among : List Event) (s : Search) → NoneGoes wanted among (spot_of s) → NoneHere wanted among s
 none-known wanted among s none = record {
-  here = λ k above below did left es within fails. none (event_at among k ∷ es) (begin-with among (place_of s) k es below did left within)
-      (subst (FailsAt wanted among) (sym (after-doing (place_of s) (event_at among k) es did)) fails);
-  «end» = λ fresh is bad. none [] tt (inr (is, bad));
+  here = λ k above below did left tried es to leads fails.
+      none (event_at among k ∷ es) to (record { at = k; within = below; is = refl }, left, did, tried, leads) fails;
+  «end» = λ fresh is bad. none [] (place_of s) refl (inr (is, bad));
 }
 
 -- all the saved places are below
@@ -144,12 +169,14 @@ none-below wanted among height s none high = record {
 
 pub leaves-back : (wanted : Wanted) (among : List Event) (height : ℕ) (s t : Search) → height ≤ length t.saved.items → NoneHere wanted among s →
     HasGoneBack s t → NoneLeftFrom wanted among height t → NoneLeftFrom wanted among height s
-leaves-back wanted among height s t low here back none = record {
-  here = here;
-  saved = subst (All (IsFine wanted among)) (sym (ap (drop height) back.saved ∙ drop-append-le height t.saved.items (back.f ∷ []) low))
-      (All-push (IsFine wanted among) (drop height t.saved.items) back.f none.saved
-      (subst (NoneFrom wanted among (place_of_saved back.f)) back.at (subst (λ p. NoneFrom wanted among p t.at) back.place none.here.here)));
-}
+leaves-back wanted among height s t low here back none =
+    let same : spot_of t ≡ spot_of_saved back.f = λ i. record { place = back.place i; asleep = back.asleep i } in
+    record {
+      here = here;
+      saved = subst (All (IsFine wanted among)) (sym (ap (drop height) back.saved ∙ drop-append-le height t.saved.items (back.f ∷ []) low))
+          (All-push (IsFine wanted among) (drop height t.saved.items) back.f none.saved
+          (subst (NoneGoesFrom wanted among (spot_of_saved back.f)) back.at (subst (λ spot. NoneGoesFrom wanted among spot t.at) same none.here.here)));
+    }
 
 pub leaves-over : (wanted : Wanted) (among : List Event) (s : Search) → NoneHere wanted among s → s.saved.items ≡ [] → NoneLeft wanted among s
 leaves-over wanted among s here nothing = none-below wanted among 0 s here (omega (arith, ap length nothing))

@@ -14,9 +14,11 @@ use Rattle.brd_explore.specs.declared.search.Search.{Search}
 use Rattle.brd_explore.specs.declared.wanted.Wanted.{Wanted}
 use Rattle.brd_explore.specs.Schedules.{Place, does, is_left, next, one_if, event_at, IsWithin, IsEnd}
 use Rattle.brd_explore.specs.Failures.{fails_now, fails_at_end}
-use Rattle.brd_explore.specs.Searching.{FailsAt, Fails, NoneFails, NoneBegins, NoneLeft, Leads, AreOnPath, IsOnPath, Takes, IsSame, IsSized, Finds, LeavesOut, LeadsOn, ended_by, place_of}
+use Rattle.brd_explore.specs.Searching.{FailsAt, Fails, NoneFails, NoneGoes, NoneBegins, NoneLeft, Leads, AreOnPath, IsOnPath, Takes, IsSame, IsSized, Finds, LeavesOut, LeadsOn, ended_by, place_of, spot_of}
 use Rattle.brd_explore.specs.Shards.{may_come, ways, branches, IsOnBranch, IsInShard, NoneFailsInShard, AnswersInShard}
 use Rattle.brd_explore.specs.Sharing.{IsFirst, NoneOnBranches, BeginsHere, SearchesFrom, SearchesBranch, SearchesBranches, SearchesShard, SearchesWay, SoFar, IsOnTrunk, EndsTrunk, GoesOn, PathFails, HasComeAlong}
+use Rattle.brd_explore.specs.Sleeping.{awake}
+use Rattle.brd_explore.proofs.AwakeLemmas.{none-awake}
 use Rattle.brd_explore.proofs.SearchLemmas.{does-or, after-doing, after-nothing, none-from}
 use Rattle.brd_explore.proofs.PathLemmas.{leads-on, leads-within, leads-after, found-now}
 use Rattle.brd_explore.proofs.LessLemmas.{left-after}
@@ -193,22 +195,28 @@ branch-place s b e false same comes t takes =
 
 pub branch-on : (among : List Event) (from : Place) (s t : Search) (at : ℕ) → at < length among → may_come (place_of s) (event_at among at) ≡ true →
     IsOnPath among from s → place_of t ≡ next (place_of s) (event_at among at) → t.path.items ≡ s.path.items ++ event_at among at ∷ [] →
-    BeginsHere t → IsOnPath among from t
-branch-on among from s t at below comes on place path begins =
+    t.at ≡ 0 → t.saved.items ≡ [] → IsOnPath among from t
+branch-on among from s t at below comes on place path none nothing =
     let parts = and_parts (is_left (place_of s) (event_at among at)) (does s.board (event_at among at)) comes in
     record {
       here = subst (Leads among from t.path.items) (sym place)
           (subst (λ es. Leads among from es (next (place_of s) (event_at among at))) (sym path)
           (leads-on among from s.path.items (place_of s) (event_at among at) on.here (record { at = at; within = below; is = refl }) parts.0 parts.1));
-      saved = subst (AreOnPath among from t.path.items 0) (sym begins.saved) (omega arith);
-      tried = λ fresh k less below left. absurd (omega (arith, less, begins.at));
+      saved = subst (AreOnPath among from t.path.items 0) (sym nothing) (omega arith);
+      tried = λ fresh k less below left. absurd (omega (arith, less, none));
     }
+
+-- a search that begins here leaves nothing out that fails
+pub none-begun : (wanted : Wanted) (among : List Event) (s : Search) → BeginsHere s → NoneGoes wanted among (spot_of s) → NoneFails wanted among (place_of s)
+none-begun wanted among s begins none =
+    let same : spot_of s ≡ awake (place_of s) = λ i. record { place = place_of s; asleep = begins.awake i } in
+    none-awake wanted among (place_of s) (subst (NoneGoes wanted among) same none)
 
 -- a search that begins here, and has nothing left
 pub none-here : (wanted : Wanted) (among : List Event) (s : Search) → BeginsHere s → fails_now wanted s.board ≡ false → NoneLeft wanted among s →
     NoneFails wanted among (place_of s)
 none-here wanted among s begins fine none =
-    none-from wanted among s none.here begins.at begins.fresh fine
+    none-begun wanted among s begins (none-from wanted among s none.here begins.at begins.fresh fine)
 
 pub searched-from : (wanted : Wanted) (among : List Event) (s t : Search) (found : Bool) → BeginsHere s → fails_now wanted s.board ≡ false →
     LeavesOut wanted among s t (ended_by found) → ((f : Place) → IsOnPath among f s → LeadsOn wanted among f t (ended_by found)) →
@@ -238,7 +246,7 @@ number-on of before w number next some is after =
 pub way-none : (wanted : Wanted) (shard : Shard) (among : List Event) (at : ℕ) (s : Search) (number : ℕ) → may_come (place_of s) (event_at among at) ≡ false →
     SearchesWay wanted shard among at s number s number false
 way-none wanted shard among at s number none = (
-  record { place = refl; at = refl; fresh = refl; path = refl; saved = refl },
+  record { place = refl; asleep = refl; at = refl; fresh = refl; path = refl; saved = refl },
   λ before some is. (
     is ∙ ap (λ w. (before + (w - 1)) % shard.of) (sym (ways-keep among (place_of s) at none)),
     λ on did left. absurd (false≢true (sym none ∙ comes-of (place_of s) (event_at among at) left did)),
@@ -257,7 +265,7 @@ pub way-other : (wanted : Wanted) (shard : Shard) (among : List Event) (at : ℕ
     may_come (place_of s) (event_at among at) ≡ true → (number ≡ shard.number → ⊥) → next ≡ (number + 1) % shard.of →
     SearchesWay wanted shard among at s number s next false
 way-other wanted shard among at s number next comes other after = (
-  record { place = refl; at = refl; fresh = refl; path = refl; saved = refl },
+  record { place = refl; asleep = refl; at = refl; fresh = refl; path = refl; saved = refl },
   λ before some is. (
     way-number shard among (place_of s) at before number next comes some is after,
     λ on. absurd (other (is ∙ on.is)),
@@ -279,6 +287,7 @@ way-searched wanted shard among at s t number next false is searched comes after
 pub same-both : (s t u : Search) → IsSame s t → IsSame t u → IsSame s u
 same-both s t u one two = record {
   place = two.place ∙ one.place;
+  asleep = two.asleep ∙ one.asleep;
   at = two.at ∙ one.at;
   fresh = two.fresh ∙ one.fresh;
   path = two.path ∙ one.path;
@@ -302,7 +311,7 @@ pub so-first : (wanted : Wanted) (shard : Shard) (among : List Event) (s : Searc
 so-first wanted shard among s number first is =
     let one : ways among (place_of s) (first + 1) ≡ 1 = omega (arith, ways-plus among (place_of s) first is.comes, is.first) in
     record {
-      same = record { place = refl; at = refl; fresh = refl; path = refl; saved = refl };
+      same = record { place = refl; asleep = refl; at = refl; fresh = refl; path = refl; saved = refl };
       some = omega (arith, one);
       none = λ before was. (
         was ∙ ap (λ n. n % shard.of) (omega (arith, one)),
@@ -340,16 +349,25 @@ pub searched-run : {E : Type 0} (wanted : Wanted) (among : List Event) (s t : Se
 searched-run wanted among s t (Ok found) begins fine out on = searched-from wanted among s t found begins fine out on
 searched-run wanted among s t (Err error) begins fine out on = tt
 
-pub branch-found : (wanted : Wanted) (among : List Event) (at : ℕ) (s b t u v : Search) (done found : Bool) → found ≡ true → at < length among →
+pub branch-found : (wanted : Wanted) (among : List Event) (at : ℕ) (s b t w u v : Search) (done found : Bool) → found ≡ true → at < length among →
     may_come (place_of s) (event_at among at) ≡ true → place_of b ≡ place_of s → b.path.items ≡ s.path.items → BeginsHere b →
-    Takes b (event_at among at) t done → t.saved.items ≡ b.saved.items → SearchesFrom wanted among t u found → v.path.items ≡ u.path.items →
-    SearchesBranch wanted among at s v found
-branch-found wanted among at s b t u v done true is below comes place path begins takes saved searched same = λ from on.
+    Takes b (event_at among at) t done → t.saved.items ≡ b.saved.items → place_of w ≡ place_of t →
+    (w.at ≡ t.at) × (w.fresh ≡ t.fresh) × (w.path.items ≡ t.path.items) × (w.saved.items ≡ t.saved.items) × (w.spare.items ≡ t.spare.items) →
+    SearchesFrom wanted among w u found → v.path.items ≡ u.path.items → SearchesBranch wanted among at s v found
+branch-found wanted among at s b t w u v done true is below comes place path begins takes saved woken rest searched same = λ from on.
     let there = branch-place s b (event_at among at) done place comes t takes in
-    let here = branch-on among from s t at below comes on there.0 (there.1 ∙ ap (λ es. es ++ event_at among at ∷ []) path)
-    (record { at = there.2; fresh = there.3; saved = saved ∙ begins.saved }) in
+    let here = branch-on among from s w at below comes on (woken ∙ there.0) (rest.2 ∙ there.1 ∙ ap (λ es. es ++ event_at among at ∷ []) path)
+    (rest.0 ∙ there.2) (rest.3 ∙ saved ∙ begins.saved) in
     subst (λ es. IsWithin among from es × Fails wanted among from es) (sym same) (searched from here)
-branch-found wanted among at s b t u v done false is below comes place path begins takes saved searched same = absurd (false≢true is)
+branch-found wanted among at s b t w u v done false is below comes place path begins takes saved woken rest searched same = absurd (false≢true is)
+
+pub branch-none : (wanted : Wanted) (among : List Event) (at : ℕ) (s b t w u v : Search) (done found : Bool) → found ≡ false →
+    may_come (place_of s) (event_at among at) ≡ true → place_of b ≡ place_of s → Takes b (event_at among at) t done → place_of w ≡ place_of t →
+    SearchesFrom wanted among w u found → IsSame s v → SearchesBranch wanted among at s v found
+branch-none wanted among at s b t w u v done true is comes place takes woken searched same = absurd (false≢true (sym is))
+branch-none wanted among at s b t w u v done false is comes place takes woken searched same =
+    let there = branch-place s b (event_at among at) done place comes t takes in
+    (same, λ did left. subst (NoneFails wanted among) (woken ∙ there.0) searched)
 
 pub trunk-judged : {E : Type 0} (wanted : Wanted) (among : List Event) (s t : Search) (r : Result Bool E) → IsOnTrunk wanted s →
     ways among (place_of s) (length among) ≡ 0 → IfOk r (λ fails. fails ≡ (s.fresh && fails_at_end wanted s.board)) → t.path.items ≡ s.path.items →
@@ -363,8 +381,8 @@ trunk-judged wanted among s t (Ok false) trunk over is path = λ shard before.
 
 -- a step along the trunk
 
-trunk-begins : (s b t : Search) → IsSame s b → s.saved.items ≡ [] → t.saved.items ≡ b.saved.items → t.at ≡ 0 → t.fresh ≡ true → BeginsHere t
-trunk-begins s b t same none saved at fresh = record { at = at; fresh = fresh; saved = saved ∙ same.saved ∙ none }
+trunk-saved : (s b t : Search) → IsSame s b → s.saved.items ≡ [] → t.saved.items ≡ b.saved.items → t.saved.items ≡ []
+trunk-saved s b t same none saved = saved ∙ same.saved ∙ none
 
 pub trunk-goes : (wanted : Wanted) (shard : Shard) (among : List Event) (first : ℕ) (s b t : Search) (number number' : ℕ) (found done : Bool) → found ≡ false →
     IsOnTrunk wanted s → IsFirst among (place_of s) first → SearchesBranches wanted shard among s number b number' found →
@@ -373,13 +391,13 @@ pub trunk-goes : (wanted : Wanted) (shard : Shard) (among : List Event) (first :
 trunk-goes wanted shard among first s b t number number' true done is trunk one searched takes saved fine sized = absurd (false≢true (sym is))
 trunk-goes wanted shard among first s b t number number' false done is trunk one searched takes saved fine sized =
     let there = branch-place s b (event_at among first) done searched.0.place one.comes t takes in
-    let begins = trunk-begins s b t searched.0 trunk.saved saved there.2 there.3 in
+    let nothing = trunk-saved s b t searched.0 trunk.saved saved in
     let left = (and_parts (is_left (place_of s) (event_at among first)) (does s.board (event_at among first)) one.comes).0 in
     record {
-      trunk = record { at = there.2; fresh = there.3; saved = begins.saved; fine = fine; sized = sized };
+      trunk = record { at = there.2; fresh = there.3; saved = nothing; fine = fine; sized = sized };
       less = omega (arith, left-after (place_of s) (event_at among first) left, ap (λ (p : Place). p.left.events) there.0);
       on = λ from on. branch-on among from s t first one.within one.comes on there.0
-          (there.1 ∙ ap (λ es. es ++ event_at among first ∷ []) searched.0.path) begins;
+          (there.1 ∙ ap (λ es. es ++ event_at among first ∷ []) searched.0.path) there.2 nothing;
       none = λ before was.
           let here = searched.1 before was in (
             here.0,
@@ -394,9 +412,9 @@ pub trunk-fails : (wanted : Wanted) (shard : Shard) (among : List Event) (first 
 trunk-fails wanted shard among first s b t number number' true done is trunk one searched takes saved bad = absurd (false≢true (sym is))
 trunk-fails wanted shard among first s b t number number' false done is trunk one searched takes saved bad = λ from on.
     let there = branch-place s b (event_at among first) done searched.0.place one.comes t takes in
-    let begins = trunk-begins s b t searched.0 trunk.saved saved there.2 there.3 in
+    let nothing = trunk-saved s b t searched.0 trunk.saved saved in
     found-now wanted among from t (branch-on among from s t first one.within one.comes on there.0
-    (there.1 ∙ ap (λ es. es ++ event_at among first ∷ []) searched.0.path) begins) bad
+    (there.1 ∙ ap (λ es. es ++ event_at among first ∷ []) searched.0.path) there.2 nothing) bad
 
 -- along the whole trunk
 

@@ -1,9 +1,8 @@
 -- What a search knows of places. (Contracts of private functions alone name this.)
-use Rattle.std.specs.Prelude.{◌≡◌, ◌⊎◌, ℕ, ◌≤◌, nat_le, ◌==◌, Bool, true, false, not, ◌&&◌, ◌||◌, List, [], ◌∷◌, ◌++◌}
+use Rattle.std.specs.Prelude.{◌≡◌, ◌⊎◌, ℕ, ◌≤◌, nat_le, ◌==◌, Bool, not, ◌&&◌, ◌||◌, List, [], ◌∷◌, ◌++◌}
 use Rattle.std.specs.Prelude.{length, All, IfSome}
 use Rattle.std.specs.List.{list_any}
 use Rattle.brd_board.specs.declared.event.Event.{Event}
-use Rattle.brd_board.specs.declared.event.Event.TheVariants.{Step, Tick, Raise}
 use Rattle.brd_explore.specs.declared.bounds.Bounds.{Bounds}
 use Rattle.brd_explore.specs.declared.wanted.Wanted.{Wanted}
 use Rattle.brd_explore.specs.declared.search.Search.{Search}
@@ -11,14 +10,8 @@ use Rattle.brd_explore.specs.declared.search.Turn.{Turn}
 use Rattle.brd_explore.specs.declared.search.Turn.TheVariants as turn
 use Rattle.brd_explore.specs.declared.known.Kept.{Kept}
 use Rattle.brd_explore.specs.declared.known.Known.{Known}
-use Rattle.brd_explore.specs.Schedules.{Place}
-use Rattle.brd_explore.specs.Searching.{HasGoneBack, NoneFails, NoneLeftFrom, place_of}
-
--- a step of a processor that isn't there
-abbrev pub is_strange : Event → Bool
-is_strange (Step cpu) = nat_le 9 cpu
-is_strange Tick = false
-is_strange (Raise line) = false
+use Rattle.brd_explore.specs.Sleeping.{Spot, is_strange}
+use Rattle.brd_explore.specs.Searching.{HasGoneBack, NoneGoes, NoneLeftFrom, spot_of}
 
 -- A place with more left may answer for one with less: no end goes on to a fair end, so that one that is judged is at
 -- rest, where no step does anything, whatever is left for it.
@@ -34,29 +27,29 @@ is_enough more one other =
     || more && nat_le other.preemptions one.preemptions
     && (one.events == other.events || nat_le other.events one.events && one.ticks == 0 && one.raises == 0))
 
-abbrev pub place_of_kept : Kept → Place
-place_of_kept k = record { board = k.board; left = k.left; last = k.last }
+abbrev pub spot_of_kept : Kept → Spot
+spot_of_kept k = record { place = record { board = k.board; left = k.left; last = k.last }; asleep = k.asleep }
 
--- it is the place where a search is, at the height of its stack
+-- it is the spot where a search is, at the height of its stack
 abbrev pub IsKeptOf : Search → Kept → Type 0
-IsKeptOf s k = (place_of_kept k ≡ place_of s) × (k.height ≡ length s.saved.items)
+IsKeptOf s k = (spot_of_kept k ≡ spot_of s) × (k.height ≡ length s.saved.items)
 
 -- from none of the places that are done a schedule fails
 abbrev pub AreDone : Wanted → List Event → Known → Type 0
-AreDone wanted among known = All (λ slot. IfSome slot (λ k. NoneFails wanted among (place_of_kept k))) known.done.items
+AreDone wanted among known = All (λ slot. IfSome slot (λ k. NoneGoes wanted among (spot_of_kept k))) known.done.items
 
 -- From a pending place none fails, or none fails if none does of what is left from its height on.
 abbrev pub IsPending : Wanted → List Event → Search → Kept → Type 0
 IsPending wanted among s k =
-    NoneFails wanted among (place_of_kept k)
-    ⊎ ((k.height ≤ length s.saved.items) × (NoneLeftFrom wanted among k.height s → NoneFails wanted among (place_of_kept k)))
+    NoneGoes wanted among (spot_of_kept k)
+    ⊎ ((k.height ≤ length s.saved.items) × (NoneLeftFrom wanted among k.height s → NoneGoes wanted among (spot_of_kept k)))
 
 abbrev pub ArePending : Wanted → List Event → Search → Known → Type 0
 ArePending wanted among s known = All (IsPending wanted among s) known.pending.items
 
 -- from none of the pending places at this height or above a schedule fails
 abbrev pub AreOver : Wanted → List Event → ℕ → Known → Type 0
-AreOver wanted among height known = All (λ k. height ≤ k.height → NoneFails wanted among (place_of_kept k)) known.pending.items
+AreOver wanted among height known = All (λ k. height ≤ k.height → NoneGoes wanted among (spot_of_kept k)) known.pending.items
 
 -- what a search knows of the places that it keeps
 pub record Knows (wanted : Wanted) (among : List Event) (s : Search) (known : Known) : Type 0 where

@@ -1,5 +1,6 @@
 pub mod Schedules
 pub mod Failures
+pub mod Sleeping
 pub mod Searching
 pub mod Knowing
 pub mod Shards

@@ -11,6 +11,7 @@ use Rattle.brd_explore.specs.declared.search.Turn.{Turn}
 use Rattle.brd_explore.specs.declared.search.Turn.TheVariants as turn
 use Rattle.brd_explore.specs.Schedules.{Place, does, is_left, next, place_after, event_at, IsAmong, IsWithin, IsEnd}
 use Rattle.brd_explore.specs.Failures.{fails_now, fails_at_end}
+use Rattle.brd_explore.specs.Sleeping.{Spot, next_spot, asleep_after, is_left_out}
 
 -- At a place a schedule fails: its board shows a failure, or the place is an end, and the end shows one.
 abbrev pub FailsAt : Wanted → List Event → Place → Type 0
@@ -29,9 +30,28 @@ abbrev pub NoneBegins : Wanted → List Event → Place → Event → Type 0
 NoneBegins wanted among p event =
     does p.board event ≡ true → is_left p event ≡ true → NoneFails wanted among (next p event)
 
+-- A list of events leads from a spot to a place, all of them within the bounds, and none left out.
+abbrev pub LeadsAwake : Wanted → List Event → Spot → List Event → Place → Type 0
+LeadsAwake wanted among spot [] to = spot.place ≡ to
+LeadsAwake wanted among spot (event ∷ events) to =
+    IsAmong among event × (is_left spot.place event ≡ true) × (does spot.place.board event ≡ true)
+    × (is_left_out wanted among spot event ≡ false) × LeadsAwake wanted among (next_spot spot event) events to
+
+-- no schedule from a spot fails on which nothing is left out
+abbrev pub NoneGoes : Wanted → List Event → Spot → Type 0
+NoneGoes wanted among spot =
+    (events : List Event) (to : Place) → LeadsAwake wanted among spot events to → FailsAt wanted among to → ⊥
+
+-- none that begins with an event that does something
+abbrev pub NoneGoesBy : Wanted → List Event → Spot → Event → Type 0
+NoneGoesBy wanted among spot event =
+    does spot.place.board event ≡ true → is_left spot.place event ≡ true →
+    is_left_out wanted among spot event ≡ false → NoneGoes wanted among (next_spot spot event)
+
 -- none that begins with one of the events from an index on
-abbrev pub NoneFrom : Wanted → List Event → Place → ℕ → Type 0
-NoneFrom wanted among p from = (k : ℕ) → from ≤ k → k < length among → NoneBegins wanted among p (event_at among k)
+abbrev pub NoneGoesFrom : Wanted → List Event → Spot → ℕ → Type 0
+NoneGoesFrom wanted among spot from =
+    (k : ℕ) → from ≤ k → k < length among → NoneGoesBy wanted among spot (event_at among k)
 
 -- nothing is left for the events of these indices
 abbrev pub IsTooMuch : List Event → Place → ℕ → ℕ → Type 0
@@ -41,19 +61,25 @@ IsTooMuch among p from to = (k : ℕ) → from ≤ k → k < to → is_left p (e
 abbrev pub place_of : Search → Place
 place_of s = record { board = s.board; left = s.left; last = s.last }
 
+abbrev pub spot_of : Search → Spot
+spot_of s = record { place = place_of s; asleep = s.asleep }
+
 abbrev pub place_of_saved : Saved → Place
 place_of_saved s = record { board = s.board; left = s.left; last = s.last }
 
+abbrev pub spot_of_saved : Saved → Spot
+spot_of_saved s = record { place = place_of_saved s; asleep = s.asleep }
+
 -- what a search hasn't looked at yet from where it is doesn't fail
 pub record NoneHere (wanted : Wanted) (among : List Event) (s : Search) : Type 0 where
-  pub here : NoneFrom wanted among (place_of s) s.at
+  pub here : NoneGoesFrom wanted among (spot_of s) s.at
   -- where no event has come here yet, this may be an end
   pub «end» : s.fresh ≡ true → IsEnd among (place_of s) → fails_at_end wanted s.board ≡ true → ⊥
 
 -- nor does it from the saved places, but for the first ones
 pub record NoneLeftFrom (wanted : Wanted) (among : List Event) (height : ℕ) (s : Search) : Type 0 where
   pub here : NoneHere wanted among s
-  pub saved : All (λ f. NoneFrom wanted among (place_of_saved f) f.at) (drop height s.saved.items)
+  pub saved : All (λ f. NoneGoesFrom wanted among (spot_of_saved f) f.at) (drop height s.saved.items)
 
 abbrev pub NoneLeft : Wanted → List Event → Search → Type 0
 NoneLeft wanted among s = NoneLeftFrom wanted among 0 s
@@ -93,12 +119,13 @@ abbrev pub KeepsRest : List Event → Search → ℕ → Search → Type 0
 KeepsRest among s at t =
     ((t.saved.items ≡ s.saved.items) × IsTooMuch among (place_of s) (at + 1) (length among))
     ⊎ ((f : Saved) × (t.saved.items ≡ s.saved.items ++ f ∷ []) × (place_of_saved f ≡ place_of s) × (f.at ≡ at + 1)
-    × (f.len ≡ length s.path.items))
+    × (f.len ≡ length s.path.items) × (f.asleep ≡ s.asleep))
 
 -- it has gone on by an event that did something
 pub record HasGone (among : List Event) (s : Search) (n : ℕ) (t : Search) : Type 0 where
   pub did : does s.board (event_at among n) ≡ true
   pub place : place_of t ≡ next (place_of s) (event_at among n)
+  pub asleep : t.asleep ≡ asleep_after s.board s.asleep (event_at among n)
   pub at : t.at ≡ 0
   pub fresh : t.fresh ≡ true
   pub path : t.path.items ≡ s.path.items ++ event_at among n ∷ []
@@ -108,8 +135,18 @@ pub record HasGone (among : List Event) (s : Search) (n : ℕ) (t : Search) : Ty
 pub record HasStayed (among : List Event) (s : Search) (n : ℕ) (t : Search) : Type 0 where
   pub did : does s.board (event_at among n) ≡ false
   pub place : place_of t ≡ place_of s
+  pub asleep : t.asleep ≡ s.asleep
   pub at : t.at ≡ n + 1
   pub fresh : t.fresh ≡ s.fresh
+  pub path : t.path.items ≡ s.path.items
+  pub saved : t.saved.items ≡ s.saved.items
+
+-- it has stayed, and left the event out
+pub record HasPassed (s : Search) (n : ℕ) (t : Search) : Type 0 where
+  pub place : place_of t ≡ place_of s
+  pub asleep : t.asleep ≡ s.asleep
+  pub at : t.at ≡ n + 1
+  pub fresh : t.fresh ≡ false
   pub path : t.path.items ≡ s.path.items
   pub saved : t.saved.items ≡ s.saved.items
 
@@ -122,6 +159,7 @@ pub record HasGoneBack (s t : Search) : Type 0 where
   pub f : Saved
   pub saved : s.saved.items ≡ t.saved.items ++ f ∷ []
   pub place : place_of t ≡ place_of_saved f
+  pub asleep : t.asleep ≡ f.asleep
   pub at : t.at ≡ f.at
   pub fresh : t.fresh ≡ false
   pub path : t.path.items ≡ take f.len s.path.items
@@ -146,6 +184,7 @@ GoesBack s t false = s.saved.items ≡ []
 -- nothing but spare boards differs
 pub record IsSame (s t : Search) : Type 0 where
   pub place : place_of t ≡ place_of s
+  pub asleep : t.asleep ≡ s.asleep
   pub at : t.at ≡ s.at
   pub fresh : t.fresh ≡ s.fresh
   pub path : t.path.items ≡ s.path.items
@@ -155,10 +194,10 @@ pub record IsSame (s t : Search) : Type 0 where
 abbrev pub Takes : Search → Event → Search → Bool → Type 0
 Takes s event t true =
     (does s.board event ≡ true) × (place_of t ≡ next (place_of s) event) × (t.at ≡ 0) × (t.fresh ≡ true)
-    × (t.path.items ≡ s.path.items ++ event ∷ [])
+    × (t.path.items ≡ s.path.items ++ event ∷ []) × (t.asleep ≡ asleep_after s.board s.asleep event)
 Takes s event t false =
     (does s.board event ≡ false) × (place_of t ≡ place_of s) × (t.at ≡ s.at) × (t.fresh ≡ s.fresh)
-    × (t.path.items ≡ s.path.items)
+    × (t.path.items ≡ s.path.items) × (t.asleep ≡ s.asleep)
 
 -- How many turns a search takes at most from a place for which so many events are left, of n that may come, and of
 -- which the first ones have been tried: one to go back, and for each event one to try it, and those from the place

@@ -1,5 +1,5 @@
 -- What the search of a shard does along the trunk. (Contracts of private functions alone name this.)
-use Rattle.std.specs.Prelude.{◌≡◌, ℕ, ◌+◌, ◌-◌, ◌%◌, ◌<◌, Bool, true, false, List, [], length}
+use Rattle.std.specs.Prelude.{◌≡◌, ℕ, ◌+◌, ◌-◌, ◌%◌, ◌<◌, Bool, true, false, List, [], length, None}
 use Rattle.brd_board.specs.declared.event.Event.{Event}
 use Rattle.brd_explore.specs.declared.search.Search.{Search}
 use Rattle.brd_explore.specs.declared.search.Turn.{Turn}
@@ -93,11 +93,12 @@ pub record HasComeAlong (wanted : Wanted) (shard : Shard) (among : List Event) (
   pub none : NoneFailsInShard wanted shard among (place_of t) before →
       NoneFailsInShard wanted shard among (place_of s) 0
 
--- a search begins where it is: nothing was tried there, and there is no place to go back to
+-- a search begins where it is: nothing was tried there, there is no place to go back to, and nobody sleeps
 pub record BeginsHere (s : Search) : Type 0 where
   pub at : s.at ≡ 0
   pub fresh : s.fresh ≡ true
   pub saved : s.saved.items ≡ []
+  pub awake : s.asleep ≡ None
 
 -- what a search from here came to
 abbrev pub SearchesFrom : Wanted → List Event → Search → Search → Bool → Type 0

@@ -1,14 +1,14 @@
 //! What a search knows: places from which every schedule was searched, and none fails.
 
-ghost use Rattle.std.specs.Prelude.{◌≡◌, ◌∷◌, ◌++◌, ◌≤◌, ◌<◌, [], length, true, List as ListOf, IfOk, IfSome, IfNone};
+ghost use Rattle.std.specs.Prelude.{◌≡◌, ◌⊎◌, ◌∷◌, ◌++◌, ◌≤◌, ◌<◌, [], length, true, List as ListOf, None, IfOk, IfSome, IfNone};
 ghost use Rattle.brd_board.specs.declared.event.Event.{Event as EventOf};
 ghost use Rattle.brd_explore.specs.declared.search.Search.{Search as SearchOf};
 ghost use Rattle.brd_explore.specs.declared.wanted.Wanted.{Wanted as WantedOf};
-ghost use Rattle.brd_explore.specs.Searching.{NoneFails, place_of};
-ghost use Rattle.brd_explore.specs.Knowing.{place_of_kept, AreDone, AreOver, ArePending, IsKeptOf, Notes};
-ghost use Rattle.brd_explore.specs.Knowing.{is_enough, is_strange, may_have_more};
-ghost use Rattle.std.specs.List.{list_any};
+ghost use Rattle.brd_explore.specs.Searching.{NoneGoes, spot_of};
+ghost use Rattle.brd_explore.specs.Knowing.{spot_of_kept, AreDone, AreOver, ArePending, IsKeptOf, Notes};
+ghost use Rattle.brd_explore.specs.Knowing.{is_enough, may_have_more};
 
+use crate::asleep::{Asleep, some_are_strange};
 use crate::bounds::Bounds;
 use crate::search::Search;
 use crate::wanted::Wanted;
@@ -21,6 +21,7 @@ pub struct Kept {
     board: Board,
     left: Bounds,
     last: u8,
+    asleep: Option<Asleep>,
     /// How many places there were to go back to when the search came here.
     height: usize,
     /// Places with equal boards have the same, where the same processor has stepped last.
@@ -43,6 +44,7 @@ impl Drop for Kept {
             board: _,
             left: _,
             last: _,
+            asleep: _,
             height: _,
             mark: _,
         } = self;
@@ -68,6 +70,7 @@ impl Kept {
             board: search.board.try_copy()?,
             left: search.left,
             last: search.last,
+            asleep: search.asleep,
             height: search.saved.len(),
             mark,
         })
@@ -77,10 +80,13 @@ impl Kept {
     /// differ the boards do, or who has stepped last.
     fn is_enough_for(&self, search: &Search, mark: u64, more: bool) -> bool
         ensures { (wanted : WantedOf) (among : ListOf EventOf) → (more ≡ true → may_have_more wanted among ≡ true) →
-            NoneFails wanted among (place_of_kept self.now) → result ≡ true →
-            NoneFails wanted among (place_of search.now) }
+            NoneGoes wanted among (spot_of_kept self.now) → result ≡ true →
+            NoneGoes wanted among (spot_of search.now) }
     {
         if self.mark != mark || self.last != search.last {
+            return false;
+        }
+        if !covers(self.asleep, search.asleep) {
             return false;
         }
         if !is_enough(more, self.left, search.left) {
@@ -117,11 +123,11 @@ impl Known {
     }
 
     /// Whether the place where a search is, to which it has just come, equals one from which every schedule was searched,
-    /// or if `more` is allowed differs only in that less is left. If not, it is kept as a pending one, where there is room
-    /// and memory.
+    /// or if `more` is allowed differs only in that less is left. (Where nobody sleeps at that one, anybody may here.) If
+    /// not, it is kept as a pending one, where there is room and memory.
     pub(crate) fn knows(&mut self, search: &Search, more: bool) -> bool
         ensures is { (wanted : WantedOf) (among : ListOf EventOf) → (more ≡ true → may_have_more wanted among ≡ true) →
-            AreDone wanted among self.old → result ≡ true → NoneFails wanted among (place_of search.now) }
+            AreDone wanted among self.old → result ≡ true → NoneGoes wanted among (spot_of search.now) }
         ensures done { (wanted : WantedOf) (among : ListOf EventOf) → AreDone wanted among self.old →
             AreDone wanted among self.new }
         ensures pending { Notes search.now self.old self.new }
@@ -140,7 +146,7 @@ impl Known {
     /// Whether a place from which every schedule was searched answers for the one where a search is, of this mark.
     fn has(&self, search: &Search, mark: u64, more: bool) -> bool
         ensures { (wanted : WantedOf) (among : ListOf EventOf) → (more ≡ true → may_have_more wanted among ≡ true) →
-            AreDone wanted among self.now → result ≡ true → NoneFails wanted among (place_of search.now) }
+            AreDone wanted among self.now → result ≡ true → NoneGoes wanted among (spot_of search.now) }
     {
         let Some(slot) = self.slot(mark) else {
             return false;
@@ -215,7 +221,7 @@ impl Known {
     /// Keeps a place of which nothing is left to be searched, in place of the one that has its slot.
     fn keep(&mut self, kept: Kept)
         ensures done { (wanted : WantedOf) (among : ListOf EventOf) → AreDone wanted among self.old →
-            NoneFails wanted among (place_of_kept kept) → AreDone wanted among self.new }
+            NoneGoes wanted among (spot_of_kept kept) → AreDone wanted among self.new }
         ensures pending { self.new.pending.items ≡ self.old.pending.items }
     {
         let Some(slot) = self.slot(kept.mark) else {
@@ -245,26 +251,14 @@ pub(crate) fn may_have_more(wanted: &Wanted, among: &[Event]) -> bool
     wanted.rounds == 0 && !some_are_strange(among)
 }
 
-/// Whether some event is a step of a processor that isn't there.
-fn some_are_strange(among: &[Event]) -> bool
-    ensures { result ≡ list_any is_strange among.now }
+/// Whether a place where the one sleeps answers for a place where the other one does: it is the same one, or nobody.
+fn covers(one: Option<Asleep>, other: Option<Asleep>) -> bool
+    ensures { result ≡ true → (one ≡ None) ⊎ (one ≡ other) }
 {
-    for event in among {
-        if is_strange(*event) {
-            return true;
-        }
-    }
-    false
-}
-
-/// Whether an event is a step of a processor that isn't there.
-fn is_strange(event: Event) -> bool
-    ensures { result ≡ is_strange event }
-{
-    match event {
-        Event::Step(cpu) => cpu >= 9,
-        Event::Tick | Event::Raise(_) => false,
-    }
+    let Some(_) = one else {
+        return true;
+    };
+    one == other
 }
 
 /// Whether as much is left of one as of another, or more if it may be.

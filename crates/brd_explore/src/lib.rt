@@ -1,6 +1,7 @@
 //! All schedules of a board within bounds: one that fails, or the answer that there is none.
 #![tactic(auto)]
 
+mod asleep;
 mod bounds;
 mod known;
 pub mod laws;

@@ -6,6 +6,7 @@ ghost use Rattle.brd_board.specs.declared.event.Event.{Event as EventOf};
 ghost use Rattle.brd_board.specs.Board.{happens};
 ghost use Rattle.brd_explore.specs.Schedules.{does, Place, is_left, next, event_at, IsWithin, IsAmong, start};
 ghost use Rattle.brd_explore.specs.Failures.{fails_now, fails_at_end, ended};
+ghost use Rattle.brd_explore.specs.Sleeping.{is_left_out};
 ghost use Rattle.brd_explore.specs.declared.search.Search.{Search as SearchOf};
 ghost use Rattle.brd_explore.specs.declared.wanted.Wanted.{Wanted as WantedOf};
 ghost use Rattle.brd_explore.specs.Knowing.{Knows, KnowsOn, AreDone, AreOver, ArePending, Leaves};
@@ -19,6 +20,7 @@ ghost use Rattle.brd_explore.specs.Searching.{
   NoneLeft,
   Tries,
   GoesBack,
+  HasPassed,
   Takes,
   IsSame,
   LeavesOut,
@@ -29,8 +31,10 @@ ghost use Rattle.brd_explore.specs.Searching.{
   ended_by,
   place_of,
   place_of_saved,
+  spot_of,
 };
 
+use crate::asleep::{Asleep, executes, happen, sleeps, some_are_strange};
 use crate::bounds::{Bounds, did_nothing, stepper};
 use crate::known::{Known, may_have_more};
 use crate::wanted::Wanted;
@@ -44,6 +48,8 @@ pub struct Saved {
     board: Board,
     left: Bounds,
     last: u8,
+    /// Who sleeps there.
+    asleep: Option<Asleep>,
     /// The index of the first event that is still to be tried there.
     at: usize,
     /// How many events lead there.
@@ -55,9 +61,11 @@ pub struct Search {
     pub(crate) board: Board,
     pub(crate) left: Bounds,
     pub(crate) last: u8,
+    /// Who sleeps here: whose next step is left out.
+    pub(crate) asleep: Option<Asleep>,
     /// The index of the first event that is still to be tried here.
     pub(crate) at: usize,
-    /// Whether no event that was tried here has done anything.
+    /// Whether no event that was tried here has done anything, and none was left out.
     pub(crate) fresh: bool,
     /// The events that lead here.
     pub(crate) path: Vec<Event>,
@@ -86,6 +94,7 @@ impl Drop for Saved {
             board: _,
             left: _,
             last: _,
+            asleep: _,
             at: _,
             len: _,
         } = self;
@@ -98,6 +107,7 @@ impl Drop for Search {
             board: _,
             left: _,
             last: _,
+            asleep: _,
             at: _,
             fresh: _,
             path: _,
@@ -117,6 +127,7 @@ impl Saved {
             board,
             left: _,
             last: _,
+            asleep: _,
             at: _,
             len: _,
         } = self;
@@ -158,7 +169,8 @@ impl Search {
     fn saved(&mut self, at: usize) -> Result<Saved, NoMemory>
         requires { IsSized self.old }
         ensures saved { IfOk result
-            (λ f. (place_of_saved f ≡ place_of self.old) × (f.at ≡ at) × (f.len ≡ length self.old.path.items)) }
+            (λ f. (place_of_saved f ≡ place_of self.old) × (f.at ≡ at) × (f.len ≡ length self.old.path.items)
+            × (f.asleep ≡ self.old.asleep)) }
         ensures rest { IsSame self.old self.new }
         ensures sized { IsSized self.new }
     {
@@ -167,6 +179,7 @@ impl Search {
             board,
             left: self.left,
             last: self.last,
+            asleep: self.asleep,
             at,
             len: self.path.len(),
         })
@@ -180,11 +193,13 @@ impl Search {
         ensures sized { IsSized self.new }
     {
         let left = self.left.spent(&self.board, self.last, event);
-        if did_nothing(self.board.event_apart(event)) {
+        let (report, asleep) = happen(&mut self.board, self.asleep, event);
+        if did_nothing(report) {
             return Ok(false);
         }
         self.path.push(event)?;
         self.left = left;
+        self.asleep = asleep;
         self.last = stepper(self.last, event);
         self.at = 0;
         self.fresh = true;
@@ -222,7 +237,7 @@ impl Search {
         requires sized { IsSized self.old }
         requires within { at < length among.now }
         requires saved { (place_of_saved saved ≡ place_of self.old) × (saved.at ≡ at + 1)
-            × (saved.len ≡ length self.old.path.items) }
+            × (saved.len ≡ length self.old.path.items) × (saved.asleep ≡ self.old.asleep) }
         ensures is { IfOk result (λ done. Tries among.now self.old at self.new done) }
         ensures sized { IsSized self.new }
     {
@@ -268,6 +283,10 @@ impl Search {
         ensures falls { IfOk result (HasLess among.now self.old self.new) }
         ensures sized { IsSized self.new }
     {
+        if self.is_left_out(among, at, wanted) {
+            self.pass(among, at);
+            return Ok(Turn::On);
+        }
         if !self.try_event(among, at)? {
             return Ok(Turn::On);
         }
@@ -278,6 +297,35 @@ impl Search {
             return Ok(self.leave(known));
         }
         Ok(Turn::On)
+    }
+
+    /// Whether an event is left out here.
+    #[tactic(auto, unfolding(crate::specs::Sleeping::is_left_out))]
+    fn is_left_out(&self, among: &[Event], at: usize, wanted: &Wanted) -> bool
+        requires { at < length among.now }
+        ensures { result ≡ is_left_out wanted.now among.now (spot_of self.now) (event_at among.now at) }
+    {
+        match among[at] {
+            Event::Step(cpu) => {
+                sleeps(self.asleep, cpu)
+                    && self.last != cpu
+                    && executes(&self.board, cpu)
+                    && wanted.rounds == 0
+                    && !some_are_strange(among)
+            }
+            Event::Tick | Event::Raise(_) => false,
+        }
+    }
+
+    /// Leaves an event out. This is no end then.
+    fn pass(&mut self, among: &[Event], at: usize)
+        requires { at < length among.now }
+        ensures passed { HasPassed self.old at self.new }
+        ensures spare { self.new.spare.items ≡ self.old.spare.items }
+    {
+        let _ = among.len();
+        self.at = at + 1;
+        self.fresh = false;
     }
 
     /// Goes back from a place of which nothing is left to be searched. Answers what that came to.
@@ -312,13 +360,14 @@ impl Search {
         requires sized { IsSized self.old }
         requires alike { AreAlike saved.board self.old.board }
         ensures place { (place_of self.new ≡ place_of_saved saved) × (self.new.at ≡ saved.at)
-            × (self.new.fresh ≡ false) }
+            × (self.new.fresh ≡ false) × (self.new.asleep ≡ saved.asleep) }
         ensures path { self.new.path.items ≡ take saved.len self.old.path.items }
         ensures saved { self.new.saved.items ≡ self.old.saved.items }
         ensures sized { IsSized self.new }
     {
         self.left = saved.left;
         self.last = saved.last;
+        self.asleep = saved.asleep;
         self.at = saved.at;
         self.fresh = false;
         self.path.truncate(saved.len);
@@ -415,7 +464,8 @@ impl Search {
     /// A search that begins at a board.
     pub(crate) fn new(alloc: Global, board: &Board, bounds: Bounds) -> Result<Search, NoMemory>
         ensures place { IfOk result (λ s. place_of s ≡ start board.now bounds) }
-        ensures begins { IfOk result (λ s. (s.at ≡ 0) × (s.fresh ≡ true) × (s.path.items ≡ []) × (s.saved.items ≡ [])) }
+        ensures begins { IfOk result (λ s. (s.at ≡ 0) × (s.fresh ≡ true) × (s.path.items ≡ []) × (s.saved.items ≡ [])
+            × (s.asleep ≡ None)) }
         ensures sized { IfOk result IsSized }
     {
         let board = board.try_copy()?;
@@ -423,6 +473,7 @@ impl Search {
             board,
             left: bounds,
             last: 0,
+            asleep: None,
             at: 0,
             fresh: true,
             path: Vec::new(alloc),
@@ -440,6 +491,7 @@ impl Search {
             board: _,
             left: _,
             last: _,
+            asleep: _,
             at: _,
             fresh: _,
             path,
@@ -479,8 +531,8 @@ impl Watch for Nobody {
 pub struct Found {
     /// A schedule within the bounds that fails. `None`: no schedule that was to be searched fails.
     pub schedule: Option<Vec<Event>>,
-    /// How many schedules have come to their end: all, or with places that are remembered fewer. A schedule isn't counted
-    /// that was left at a place from which every schedule was searched before.
+    /// How many schedules have come to their end. A schedule isn't counted on which a step is left out, since another one
+    /// comes to the same, nor one that was left at a place from which every schedule was searched before.
     pub tried: u64,
 }
 

@@ -1,6 +1,6 @@
 //! A search that several machines share, by the branches that leave its first schedule.
 
-ghost use Rattle.std.specs.Prelude.{option_map, ◌≡◌, ◌+◌, ◌%◌, ◌<◌, [], ℕ, true, false, length, IfOk, IfSome, IfNone};
+ghost use Rattle.std.specs.Prelude.{option_map, ◌≡◌, ◌+◌, ◌%◌, ◌<◌, [], ℕ, true, false, length, None, IfOk, IfSome, IfNone};
 ghost use Rattle.brd_explore.specs.Schedules.{event_at, start};
 ghost use Rattle.brd_explore.specs.Knowing.{AreDone, KnowsAlong};
 ghost use Rattle.brd_explore.specs.Searching.{IsSized, place_of};
@@ -206,6 +206,7 @@ impl Search {
     {
         let mut branch = self.branch()?;
         branch.take(among[at])?;
+        branch.wake();
         let found = branch.fails(among, wanted, known, watch)?;
         self.tried = branch.tried;
         if found {
@@ -238,6 +239,17 @@ impl Search {
         self.run(among, wanted, known, watch)
     }
 
+    /// Lets nobody sleep here.
+    fn wake(&mut self)
+        ensures place { place_of self.new ≡ place_of self.old }
+        ensures rest { (self.new.at ≡ self.old.at) × (self.new.fresh ≡ self.old.fresh)
+            × (self.new.path.items ≡ self.old.path.items) × (self.new.saved.items ≡ self.old.saved.items)
+            × (self.new.spare.items ≡ self.old.spare.items) }
+        ensures awake { self.new.asleep ≡ None }
+    {
+        self.asleep = None;
+    }
+
     /// A search that begins here.
     fn branch(&self) -> Result<Search, NoMemory>
         ensures place { IfOk result (λ s. place_of s ≡ place_of self.now) }
@@ -252,6 +264,7 @@ impl Search {
             board,
             left: self.left,
             last: self.last,
+            asleep: None,
             at: 0,
             fresh: true,
             path,

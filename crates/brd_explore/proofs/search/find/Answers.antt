@@ -22,5 +22,6 @@ returns g c =
       fresh = c.in_ok-search.ensures.begins.1;
       path = c.in_ok-search.ensures.begins.2;
       saved = c.in_ok-search.ensures.begins.3;
+      awake = c.in_ok-search.ensures.begins.4;
     })
     (sym c.in_ok-fails_now.ensures ∙ c.if-branch.false) c.in_ok-found.ensures.out c.in_ok-found.ensures.on c.into_found.ensures

@@ -5,16 +5,16 @@ use Rattle.std.proofs.Common.{set}
 use Rattle.brd_board.specs.declared.event.Event.{Event}
 use Rattle.brd_explore.specs.declared.known.Kept.{Kept}
 use Rattle.brd_explore.specs.declared.wanted.Wanted.{Wanted}
-use Rattle.brd_explore.specs.Searching.{NoneFails}
-use Rattle.brd_explore.specs.Knowing.{place_of_kept}
+use Rattle.brd_explore.specs.Searching.{NoneGoes}
+use Rattle.brd_explore.specs.Knowing.{spot_of_kept}
 use Rattle.brd_explore.proofs.known.Known.keep.Goals as goal
 
 abbrev IsDone : Wanted → List Event → Option Kept → Type 0
-IsDone wanted among slot = IfSome slot (λ k. NoneFails wanted among (place_of_kept k))
+IsDone wanted among slot = IfSome slot (λ k. NoneGoes wanted among (spot_of_kept k))
 
 -- one slot more has a place that is done
 one_done : (wanted : Wanted) (among : List Event) (slots : List (Option Kept)) (at : ℕ) (slot : Option Kept) (kept : Kept) → slot ≡ Some kept
-    → All (IsDone wanted among) slots → NoneFails wanted among (place_of_kept kept) → All (IsDone wanted among) (set slots at slot)
+    → All (IsDone wanted among) slots → NoneGoes wanted among (spot_of_kept kept) → All (IsDone wanted among) (set slots at slot)
 one_done wanted among slots at slot kept is done none =
     All-set (IsDone wanted among) slots at slot (subst (IsDone wanted among) (sym is) none) done
 

@@ -1,10 +1,24 @@
 use Rattle.std.proofs.Common.{sym, ◌∙◌, arith}
-use Rattle.brd_explore.proofs.SearchLemmas.{leaves-gone, none-known}
-use Rattle.brd_explore.proofs.PathLemmas.{on-gone, found-now}
-use Rattle.brd_explore.proofs.LessLemmas.{less-gone, less-stayed}
+use Rattle.brd_explore.proofs.SearchLemmas.{leaves-gone, leaves-passed, none-known}
+use Rattle.brd_explore.proofs.PathLemmas.{on-gone, on-passed, found-now}
+use Rattle.brd_explore.proofs.LessLemmas.{less-gone, less-stayed, less-passed}
 use Rattle.brd_explore.proofs.FindLemmas.{gone-of, stayed-of}
-use Rattle.brd_explore.proofs.KnownLemmas.{knows-gone, knows-stayed, knows-left, knows-more, over-from, leaves-out, leaves-out-gone, leads-left, less-left, less-both}
+use Rattle.brd_explore.proofs.KnownLemmas.{knows-gone, knows-stayed, knows-passed, knows-left, knows-more, over-from, leaves-out, leaves-out-gone, leads-left, less-left, less-both}
 use Rattle.brd_explore.proofs.search.Search.go_on.Goals as goal
+
+pub returns-then-is_left_out-clause-out : goal.returns-then-is_left_out-clause-out
+returns-then-is_left_out-clause-out c = leaves-passed c.args.wanted.now c.args.among.now 0 c.args.self.now c.pass.new.self c.args.at c.requires.within.0 c.requires.within.1 c.requires.left
+    c.requires.before (sym c.is_left_out.ensures ∙ c.if-is_left_out.true) c.pass.ensures.passed
+
+pub returns-then-is_left_out-clause-on : goal.returns-then-is_left_out-clause-on
+returns-then-is_left_out-clause-on c = λ from on. on-passed c.args.among.now from c.args.self.now c.pass.new.self c.args.at on c.pass.ensures.passed
+
+pub returns-then-is_left_out-clause-known : goal.returns-then-is_left_out-clause-known
+returns-then-is_left_out-clause-known c = knows-passed c.args.wanted.now c.args.among.now c.args.self.now c.pass.new.self c.args.known.now c.args.at c.requires.within.0 c.requires.within.1 c.requires.left
+    c.requires.before (sym c.is_left_out.ensures ∙ c.if-is_left_out.true) c.pass.ensures.passed c.requires.known
+
+pub returns-then-is_left_out-clause-falls : goal.returns-then-is_left_out-clause-falls
+returns-then-is_left_out-clause-falls c = less-passed c.args.among.now c.args.self.now c.pass.new.self c.args.at c.requires.within.0 c.requires.within.1 c.requires.left c.pass.ensures.passed
 
 pub returns-then-not-branch-clause-known : goal.returns-then-not-branch-clause-known
 returns-then-not-branch-clause-known c = knows-stayed c.args.wanted.now c.args.among.now c.args.self.now c.try_event.new.self c.args.known.now c.args.at c.requires.within.0 c.requires.before
