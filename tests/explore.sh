@@ -171,7 +171,7 @@ for source in peterson.s peterson_right.s; do
         wrong=$(is_found $got)
         grep -qx 'board-journal 2 little' "$work/found" || wrong="$wrong; its journal is $(head -n 1 "$work/found")"
     else
-        wrong=$(is_none 1112 "at most 50 events, 2 preemptions, 0 ticks and 0 raises" $got)
+        wrong=$(is_none 836 "at most 50 events, 2 preemptions, 0 ticks and 0 raises" $got)
     fi
     verdict "explore: $source, little-endian" "$wrong"
 done
@@ -231,7 +231,7 @@ remembers() {
     explores "$image" $examples/peterson.cfg --word inside=0..1 --events 50 --preemptions 2 --remember "$1" ||
         echo -n "; status $?"
     told=$(sed -n 's/^none of \([0-9]*\) schedules\{0,1\} fails: .*/\1/p' "$work/out")
-    [ "${told:-9999}" -le 1112 ] || echo -n "; it says $(head -c 300 "$work/out")"
+    [ "${told:-9999}" -le 836 ] || echo -n "; it says $(head -c 300 "$work/out")"
     assembled peterson.s
     explores "$image" $examples/peterson.cfg --word inside=0..1 --events 50 --preemptions 2 --remember "$1" --shortest \
         --out "$work/found"
@@ -259,7 +259,7 @@ for of in 1 2 5; do
         explores "$image" $examples/peterson.cfg --word inside=0..1 --events 50 --preemptions 2 --shard "$number/$of"
         [ $? = 0 ] || found=$((found + 1))
     done
-    [ $total = 1112 ] || wrong="$wrong; $total schedules"
+    [ $total = 836 ] || wrong="$wrong; $total schedules"
     [ $found -gt 0 ] || wrong="$wrong; no shard finds what the whole search finds"
     verdict "explore: $of shards" "$wrong"
 done

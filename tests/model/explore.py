@@ -10,6 +10,14 @@ It ends with status 1 where a schedule fails, and prints how many preemptions an
 
 CHESS (Musuvathi and Qadeer, "Iterative Context Bounding for Systematic Testing of Multithreaded Programs", PLDI 2007)
 has the bound on preemptions: a switch from a thread that could go on counts, one from a thread that can't is free.
+
+Some steps are left out: where a schedule with one of them fails, one without it does. A processor falls asleep by a
+local instruction: one that touches nothing but registers, HI, LO and the program counter, and can raise nothing,
+whatever they hold (docs/MACHINE.md), in a delay slot or not. It sleeps while other processors execute instructions,
+none of which calls the kernel, raises an exception or changes the word of that instruction; whatever else happens wakes
+it. All that was done while it sleeps could have been done just before its instruction. So a step of it is left out
+where another processor has stepped last: that switch could have come one instruction earlier. One sleeper is kept in
+mind, the first. Nobody sleeps on the trunk or where a branch leaves it, and with a fair end nothing is left out.
 """
 import argparse
 import collections
@@ -24,16 +32,21 @@ import tempfile
 sys.dont_write_bytecode = True
 sys.path.insert(0, os.path.dirname(os.path.abspath(__file__)))
 from kernel import Board, Setup, TaskSetup  # noqa: E402 (these are the modules beside this file)
-from machine import RAM_START  # noqa: E402
+from machine import RAM_START, decode  # noqa: E402
 
 # How many steps each processor takes in a round of the fair end, before a tick passes.
 ROUND = 16
 ATTRIBUTES = {"TA_NULL": 0, "TA_HLNG": 0, "TA_ASM": 1, "TA_ACT": 2, "TA_TFIFO": 0, "TA_TPRI": 1, "TA_WSGL": 0,
               "TA_WMUL": 2, "TA_CLR": 4}
 Bounds = collections.namedtuple("Bounds", "events preemptions ticks raises")
-# Where a schedule is, beside its board: what is left of the bounds, who has stepped last, and the path there: None, or
-# a pair of the path before and an event.
-Place = collections.namedtuple("Place", "left last path")
+# Where a schedule is, beside its board: what is left of the bounds, who has stepped last, the path there (None, or a
+# pair of the path before and an event), and who sleeps, if somebody does.
+Place = collections.namedtuple("Place", "left last path asleep")
+# A processor that sleeps, and the local instruction by which it fell asleep.
+Asleep = collections.namedtuple("Asleep", "processor address word")
+# The instructions that aren't local: they may raise an exception, call the kernel, or touch memory.
+NOT_LOCAL = set("""ADD SUB ADDI SYSCALL BREAK TGE TGEU TLT TLTU TEQ TNE TGEI TGEIU TLTI TLTIU TEQI TNEI
+    LB LH LWL LW LBU LHU LWR LL SB SH SWL SW SWR SC""".split())
 Image = collections.namedtuple("Image", "order segments symbols")
 # What is looked for beside words: the failures' names, the console's text or None, and (address, least, most) of words
 # at the end and of words always.
@@ -79,6 +92,18 @@ class Explored(Board):
         if kind == "S":
             return number in self.processors and self.goes(self.processors[number])
         return not self.off and (kind == "T" or number in self.lines)
+
+    def goes_by(self, event, asleep):
+        """Does an event where somebody may sleep. Answers who sleeps then."""
+        kind, number = event
+        context = self.processors[number].context() if kind == "S" else None
+        address = context and context.pc
+        word = context and self.word(address)
+        if self.event(*event)[0] != "Ran":
+            return None
+        if asleep and asleep.processor != number and self.word(asleep.address) == asleep.word:
+            return asleep
+        return None if decode(word).mnemonic in NOT_LOCAL else Asleep(number, address, word)
 
     # What is looked for
 
@@ -140,7 +165,7 @@ class Search:
     def run(self):
         """Goes along the trunk, the schedule on which always the first event comes that may, and searches the branches
         that leave it: those that are the shard's."""
-        board, place = Explored(self.setup), Place(self.bounds, 0, None)
+        board, place = Explored(self.setup), Place(self.bounds, 0, None, None)
         ways = self.ways(board, place)
         while ways:
             for event, after in self.own(ways[1:]):
@@ -168,10 +193,11 @@ class Search:
                 board = pickle.loads(packed)
             else:
                 return
-            board.event(*event)
+            place = place._replace(asleep=board.goes_by(event, place.asleep))
 
     def ways(self, board, place):
-        """The events that may come, with the place after each. There are none where the schedule fails or ends."""
+        """The events that may come and aren't left out, with the place after each, but for who falls asleep or wakes by
+        it. There are none where the schedule fails or ends."""
         fault = board.fault_by_now(self.wanted)
         ways = [] if fault else [(event, after) for event in self.among if board.does(event)
                                  for after in [place_after(board, place, event)] if min(after.left) >= 0]
@@ -179,7 +205,11 @@ class Search:
             self.tried += not fault
             fault = fault or board.fault_at_last(self.wanted)
             self.found = (listed(place.path), fault) if fault else None
-        return ways
+        return [way for way in ways if not self.is_left_out(place, way[0])]
+
+    def is_left_out(self, place, event):
+        number = place.asleep and place.asleep.processor
+        return event == ("S", number) and place.last != number and not self.wanted.rounds
 
     def own(self, others):
         """Those of some branches, numbered along the trunk, that are the shard's."""
@@ -192,10 +222,10 @@ class Search:
 def place_after(board, place, event):
     """The place after an event; something in it is below 0 where the bounds don't have it."""
     kind, number = event
-    (events, preemptions, ticks, raises), last, path = place
+    (events, preemptions, ticks, raises), last, path, asleep = place
     is_preempting = kind == "S" and last not in (0, number) and board.processors[last].context() is not None
     left = Bounds(events - 1, preemptions - is_preempting, ticks - (kind == "T"), raises - (kind == "R"))
-    return Place(left, number if kind == "S" else last, (path, event))
+    return Place(left, number if kind == "S" else last, (path, event), asleep)
 
 
 def listed(path):
