@@ -143,10 +143,9 @@ fi
 
 # ---- --version
 
-# The kit that it names is the one that builds it, where there is one.
-kit=$(rt version 2> /dev/null | head -n 1)
-kit=${kit%% *}
-printf 'board 1.0 (%s)\n' "${kit:-rattle-kit-13f}" > "$work/wanted"
+# The kit that it names is the one that built the program of dist/.
+read -r kit _ < dist/kit
+printf 'board 1.0 (%s)\n' "$kit" > "$work/wanted"
 "$board" --version > "$work/out" 2> "$work/err"
 check "--version" 0 "$work/wanted" "" $?
 "$board" -V > "$work/out" 2> "$work/err"
