@@ -94,11 +94,6 @@ Thread 1( ".*")? received signal SIGBUS, Bus error\.
 > stepi
 Thread 1( ".*")? received signal SIGBUS, Bus error\.
 0x80000018 in .*
-> thread 2
-.*
-> stepi
-> stepi
-> reverse-stepi
 > break *0x80000008
 Breakpoint 1 at 0x80000008
 > reverse-continue
@@ -176,7 +171,6 @@ ends "a pipe that ends at once" 4 ''
 ends "a pipe that ends after an answer" 4 '+$?#3f+'
 ends "a pipe that ends within a packet" 4 '+$qSupp'
 ends "D" 0 '+$?#3f+$D#44'
-ends "D with a process" 0 '+$?#3f+$D;1#b0'
 ends "k" 0 '$k#6b'
 ends "vKill" 0 '$vKill;1#6e'
 # GDB is killed while it is connected.
@@ -333,9 +327,6 @@ Temporary breakpoint 1 at .*
 Thread 7( ".*")? hit Temporary breakpoint 1, count \(number=7\) at .*
 > thread apply 8 2 -q print $pc
 .*
-> thread 4
-\[Switching to thread 4 .*
-> stepi
 > continue
 No more reverse-execution history\.
 > thread apply all -q bt 1
