@@ -118,10 +118,11 @@ $(BUILD)/$1/start.o: $(SDK)/lib/start.S $(BUILD)/$1.cfg $(BUILD)/flags
 	$$(ASSEMBLE) -I$(BUILD)/$1 -c -o $$@ $$<
 
 # The configuration's IDs by their names, tasks and handlers by their functions in C, and expressions by their values.
-# It makes entries.inc for start.S, too.
-$(BUILD)/$1.cfg: $1.cfg $(SDK)/lib/configure.awk $(BUILD)/flags
+# It makes entries.inc for start.S, too, and the list of the names.
+$(BUILD)/$1.cfg: $1.cfg $(SDK)/lib/configure.awk $(SDK)/lib/names.h $(BUILD)/flags
 	@mkdir -p $(BUILD)/$1
 	$$(CONFIGURE) -MMD -MP -MT $$@ -MF $(BUILD)/$1/configuration.d $$< > $(BUILD)/$1/lines.cfg
+	@$$(CONFIGURE) -P -include $(SDK)/lib/names.h $$< > $(BUILD)/$1/names
 	@awk -v main=$$< -v expressions=$(BUILD)/$1/values.c -f $(SDK)/lib/configure.awk $(BUILD)/$1/lines.cfg
 	@$$(COMPILE) -w -S -o $(BUILD)/$1/values $(BUILD)/$1/values.c
 	@awk '{ gsub("\t", ""); if (/^@@/) print }' $(BUILD)/$1/values > $(BUILD)/$1/values.found

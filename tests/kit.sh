@@ -185,10 +185,49 @@ says "orders by refused calls" 2 \
 sed 's/printf/if (pulses != 33) slp_tsk();&/' "$interrupted/firmware.c" > "$work/deadlock.c"
 says "orders by deadlocks" 2 "seed [0-9]+: a deadlock, which firmware.journal hasn't; the order is kept as .*" \
     project "$interrupted" hunt CFLAGS="-DRACE -w" EXPECT=deadlock SOURCES="$work/deadlock.c"
+# Two tasks that take two semaphores, each the other's first, while a third one runs on.
+cp -r "$interrupted" "$work/circle"
+cat > "$work/circle/firmware.c" << 'END'
+#include "board.h"
+#include "ids.h"
+
+void pulse(INHNO line)
+{
+    (void)line;
+}
+
+void watch(VP_INT unused)
+{
+    for (volatile UINT turns = 0;; turns++)
+        (void)unused;
+}
+
+void take(VP_INT first)
+{
+    wai_sem(first);
+    wai_sem(LEFT + RIGHT - first);
+    sig_sem(LEFT + RIGHT - first);
+    sig_sem(first);
+}
+END
+printf '%s\n' '#include "ids.h"' 'BOARD(2, 0x10000);' 'CRE_SEM(LEFT, {TA_TFIFO, 1, 1}); CRE_SEM(RIGHT, {TA_TFIFO, 1, 1});' \
+    'CRE_TSK(FIRST, {TA_ACT, LEFT, take, 1, 512, NULL});' 'CRE_TSK(WATCHER, {TA_ACT, 0, watch, 9, 512, NULL});' \
+    'CLASS(TCL_2) { CRE_TSK(SECOND, {TA_ACT, RIGHT, take, 1, 512, NULL}); }' 'DEF_INH(3, {TA_NULL, pulse});' \
+    > "$work/circle/firmware.cfg"
+printf '#define FIRST 1\n#define SECOND 2\n#define WATCHER (0x3)\n#define LEFT 1\n#define RIGHT (LEFT + 1)\n' \
+    > "$work/circle/ids.h"
+printf 'board-journal 1\nS 1 300\nS 2 300\n' > "$work/circle/firmware.journal"
+says "orders by a deadlock of some tasks" 2 \
+    "seed [0-9]+: a circular wait, which firmware.journal hasn't; the order is kept as .*" \
+    project "$work/circle" hunt EXPECT=deadlock
+verdict "kit: the names in a deadlock of some tasks" "$(
+    second='task 2 (SECOND) waits for semaphore 1 (LEFT), which task 1 (FIRST) took at event [0-9]*'
+    grep -q "^circular wait: task 1 (FIRST) waits for semaphore 2 (RIGHT), which task 2 (SECOND) took .*; $second\$" "$work/said" &&
+        grep -q '^cpu 1 runs task 3 (WATCHER)$' "$work/said" || cat "$work/said")"
 says "orders by the end" 2 "seed [0-9]+: the board isn't off in the end; the order is kept as .*" \
     project "$interrupted" hunt CFLAGS="-DRACE -w" EXPECT=off SOURCES="$work/deadlock.c"
 sed 's/printf/if (pulses != 33) *(volatile INT *)1 = 1;&/' "$interrupted/firmware.c" > "$work/exception.c"
-says "orders by exceptions" 2 "seed [0-9]+: task 1 at count\+0x[0-9a-f]+ : DBE: store to 00000001, .*" \
+says "orders by exceptions" 2 "seed [0-9]+: task 1 \\(COUNT\\) at count\+0x[0-9a-f]+ : DBE: store to 00000001, .*" \
     project "$interrupted" hunt CFLAGS="-DRACE -w" EXPECT=exception SOURCES="$work/exception.c"
 sed 's/printf/while (pulses != 33) ;&/' "$interrupted/firmware.c" > "$work/endless.c"
 says "orders whose steps run out" 0 \
@@ -280,11 +319,11 @@ verdict "kit: the stack that overflowed" "$(
 # The summary of the trace names the function, its line and the cause.
 mistake "a store outside RAM" 2 '*' firmware.c 's/ER answer = wai_sem/*(volatile INT *)16 = i; &/' test OPTIMIZE=-O0
 verdict "kit: the store outside RAM" "$(
-    cause='last exception at event [0-9]+, of task 1 at greet\+0x[0-9a-f]+ \(80[0-9a-f]{6}\): DBE: store to 00000010, outside RAM'
+    cause='last exception at event [0-9]+, of task 1 \(GREETER\) at greet\+0x[0-9a-f]+ \(80[0-9a-f]{6}\): DBE: store to 00000010, outside RAM'
     grep -qE "^  $cause\$" "$work/said" &&
         grep -qE '^80[0-9a-f]{6} is greet firmware.c:1[0-9]$' "$work/said" || cat "$work/said")"
 mistake "a handler's stack that overflows" 2 \
-    "the stack has no room for the function at 80[0-9a-f]{6} \\(handler of line 3, processor 1\\)" \
+    "the stack has no room for the function at 80[0-9a-f]{6} \\(handler of line 3 \\(BUTTON\\), processor 1\\)" \
     ids.h '' test STACK_CHECK=1 HANDLER_STACK=16
 verdict "kit: the handler that has no room" "$(grep -q '^80[0-9a-f]* is press firmware.c:6$' "$work/said" ||
     cat "$work/said")"
@@ -295,21 +334,21 @@ mistake "an assertion of a CPU-locked task" 2 \
     "+firmware.c:16: this doesn't hold: loc_cpu() != E_OK (task 1, processor 1)" \
     firmware.c 's/answer == E_OK/loc_cpu() != E_OK/' test CFLAGS=-w
 mistake "an assertion in a handler" 2 \
-    "firmware.c:7: this doesn't hold: line != BUTTON (handler of line 3, processor 1)" \
+    "firmware.c:7: this doesn't hold: line != BUTTON (handler of line 3 (BUTTON), processor 1)" \
     firmware.c 's/line == BUTTON/line != BUTTON/' test
 verdict "kit: the board at an assertion in a handler" "$(
     [ "$(grep -c '^refused: ' "$work/said")" = 0 ] && grep -q '^cpu 1 stopped$' "$work/said" &&
         ! grep -q '^after event 104103' "$work/said" || cat "$work/said")"
 mistake "a report of an assertion in a handler" 0 \
-    "firmware.c:7: this doesn't hold: line != BUTTON (handler of line 3, processor 1)" \
+    "firmware.c:7: this doesn't hold: line != BUTTON (handler of line 3 (BUTTON), processor 1)" \
     firmware.c 's/line == BUTTON/line != BUTTON/' run
 mistake "an assertion in a handler, after all that is shown" 2 \
-    "firmware.c:7: this doesn't hold: ++calls < 3 (handler of line 3, processor 1)" \
+    "firmware.c:7: this doesn't hold: ++calls < 3 (handler of line 3 (BUTTON), processor 1)" \
     firmware.c 's/assert(line == BUTTON)/static INT calls; isig_sem(PRESSED); assert(++calls < 3); return/' test
 cp "$sdk"/project/* "$new"
 sed -i 's/answer == E_OK/i < 2/; s/printf("Hello/for (INT j = 0; j < 65536; j++) put_chr(65);&/' "$new/firmware.c"
 echo "S 1 2000000" >> "$new/firmware.journal"
-says "an assertion with a full console" 2 "firmware.c:16: this doesn't hold: i < 2 (task 1, processor 1)" \
+says "an assertion with a full console" 2 "firmware.c:16: this doesn't hold: i < 2 (task 1 (GREETER), processor 1)" \
     project "$new" test CFLAGS=-w
 mistake "printf in a handler" 2 \
     "printf can't write from a handler, nor under loc_cpu: 3 times, first in press (firmware.c:7)" \
@@ -323,6 +362,16 @@ echo 'CRE_SPN(3, {TA_NULL});' >> "$new/firmware.cfg"
 says "an assertion under a spin lock" 2 \
     "+firmware.c:16: this doesn't hold: loc_spn(3) != E_OK (task 1, processor 1)" project "$new" test CFLAGS=-w
 mistake "another console" 2 "+Hullo, number 2 of 3" firmware.c 's/Hello/Hullo/' test
+verdict "kit: names of the configuration, and a task that has returned" "$(
+    where='at returned_from_greet\.1\+0x4 \((80[0-9a-f]{6})\)$'
+    [[ "$(grep '^task 1 ' "$work/said")" =~ ^'task 1 (GREETER) dormant since event '[0-9]+,\ $where ]] &&
+        grep -qxF "${BASH_REMATCH[1]} is where task 1 (GREETER) ends: greet has returned" "$work/said" || cat "$work/said")"
+mistake "a wait, with its names" 2 \
+    "task 1 \\(GREETER\\) waiting .*, wai_sem\\(PRESSED\\) waits for semaphore 1 \\(PRESSED\\)[0-9]*" \
+    firmware.journal '/R 3 1/d' test
+mistake "a name that isn't one of an ID" 2 \
+    "task 1 waiting since event .*, wai_sem\\(PRESSED\\) waits for semaphore 1 \\(PRESSED\\)[0-9]*" \
+    firmware.cfg 's/GREETER/0 + 1/; s/, 3, greet/, 4, greet/' test
 mistake "a function that isn't there" 2 "(.text.start+0x8): undefined reference to \`greeet'" \
     firmware.cfg 's/greet/greeet/' all
 mistake "a wrong line of the configuration" 2 \
@@ -433,7 +482,7 @@ verdict "kit: floating point isn't linked" \
     "$(grep -q "undefined reference to \`__muldf3'" "$work/said" || cat "$work/said")"
 mistake "another console" 2 "+Hullo, number 2 of 3" firmware.c 's/Hello/Hullo/' test
 mistake "a journal with too few steps" 2 \
-    "the steps of the journal have run out: the board is on, and processor 1 runs task 1" \
+    "the steps of the journal have run out: the board is on, and processor 1 runs task 1 (GREETER)" \
     firmware.journal 's/S 1 100000/S 1 100/' test
 cp "$sdk"/project/* "$new"
 cp "$new/firmware.journal" "$new/other.journal"
@@ -449,12 +498,12 @@ cat > "$work/tracing" << END
 #!/bin/sh
 case \$1 in
     --help) echo "  trace  Show what happened" ;;
-    trace) echo "task 1 waits: \$#, \$5" ;;
+    trace) echo "task 2 waits: \$#, \$5" ;;
     *) exec "$board" "\$@" ;;
 esac
 END
 chmod +x "$work/tracing"
-board=$work/tracing mistake "a summary of board trace" 2 "task 1 waits: 5, --summary" firmware.c 's/Hello/Hullo/' test
+board=$work/tracing mistake "a summary of board trace" 2 "task 2 waits: 5, --summary" firmware.c 's/Hello/Hullo/' test
 
 # The debugger with the names of C, on a word to which two processors add: which lines it writes, as patterns.
 if have python3 "sdk/debug"; then

@@ -9,6 +9,15 @@ import tempfile
 CROSS = os.environ.get("CROSS", "mips-linux-gnu-")
 # A number as it is written after a name: decimal, or hexadecimal with 0x.
 NUMBER = re.compile(r"0x[0-9a-fA-F]+|0|[1-9][0-9]*")
+# How `trace` calls the objects of each kind of name, and which calls begin with an ID of that kind.
+WORDS = {"task": "task", "semaphore": "semaphore", "event flag": "flag", "data queue": "queue", "lock": "lock",
+         "line": "line", "handler": "line"}
+CALLS = {"sem": "semaphore", "flg": "flag", "dtq": "queue", "spn": "lock", "tsk": "task", "wup": "task", "wai": "task",
+         "act": "task", "pri": "task"}
+NO_ID = ("dly_tsk", "slp_tsk", "tslp_tsk", "ext_tsk")
+NAMED = re.compile(rf"\b({'|'.join(WORDS)}) (\d+)\b|\b(\w+_({'|'.join(CALLS)}))\((\d+)\b")
+# The label in start.S where a task's function returns to.
+RETURNED = re.compile(r"returned_from_(\w+)\.(\d+)")
 # Service calls and the like are compiled into their callers, so a place in these is told as the caller's.
 INLINED = re.compile(r"(^|/)(kernel|board)\.h$")
 
@@ -123,6 +132,38 @@ class Names:
         return f"{found[0]} {os.path.basename(found[1])}:{found[2]}" if found else self.name(address)
 
 
+class Objects:
+    """The names that a configuration gives to its tasks, other objects and lines."""
+
+    def __init__(self, config):
+        self.names = {}
+        path = os.path.join(config.removesuffix(".cfg"), "names")
+        if os.path.exists(path) and os.path.exists(config):
+            # Both are made of the same text, so they have the same statements in the same order.
+            names = re.findall(r'@@(\w+) "((?:[^"\\]|\\.)*)"', self.read(path))
+            numbers = re.findall(r"\b(?:CRE_(?:TSK|SEM|FLG|DTQ|SPN)|DEF_INH)\s*\(\s*(\w+)", self.read(config))
+            for (kind, name), number in zip(names, numbers):
+                if len(names) == len(numbers) and name.isidentifier() and NUMBER.fullmatch(number):
+                    self.names[kind, int(number, 0)] = name
+
+    @staticmethod
+    def read(path):
+        with open(path, encoding="latin-1") as file:
+            return file.read()
+
+    def named(self, text):
+        """A text of `board`, with the names beside the numbers: `task 1 (GREETER)`, `wai_sem(PRESSED)`."""
+        return NAMED.sub(self.one_named, text)
+
+    def one_named(self, found):
+        word, number, call, ending, argument = found.groups()
+        if word:
+            name = self.names.get((WORDS[word], int(number)))
+            return f"{found[0]} ({name})" if name else found[0]
+        name = self.names.get((CALLS[ending], int(argument))) if call not in NO_ID else None
+        return f"{call}({name}" if name else found[0]
+
+
 class Debugger:
     """The debugger of the board."""
 
@@ -189,6 +230,7 @@ class Program:
 
     def __init__(self, board, image, config):
         self.board, self.image, self.config = board, image, config
+        self.objects = Objects(config)
         look_for(board, image)
         with open(image, "rb") as file:
             self.is_little = file.read(6)[5:] == b"\1"
@@ -276,7 +318,17 @@ class Program:
             found.append(report.text.rstrip("\n"))
         text = "\n".join(found)
         shown = re.findall(r"\b80[0-9a-f]{6}\b", console.decode(errors="replace") + text)
-        return text + "".join(f"\n{it} is {self.names().told(it)}" for it in sorted(set(shown))[:20])
+        return self.objects.named(text) + \
+            "".join(f"\n{it} is {self.place_told(it)}" for it in sorted(set(shown))[:20])
+
+    def place_told(self, address):
+        """What is at an address: where a task's function has returned to, or a function in C with its line."""
+        below = self.names().below(int(address, 16))
+        returned = RETURNED.fullmatch(self.names().at.get(below, ""))
+        if not returned:
+            return self.names().told(address)
+        task = self.objects.named(f"task {returned[2]}")
+        return f"where {task} ends: {returned[1]} has returned"
 
 
 def difference(wanted, got):

@@ -25,7 +25,7 @@ board_trap:
         .equ    board_ram, \ram
         .endm
 
-/* CRE_TSK: task_ID calls the task's function, and then ext_tsk. */
+/* CRE_TSK: task_ID calls the task's function, and then ext_tsk. The label shows of a task that is dormant why it is. */
         .macro  entry_task id, function, size, stack
         .globl  task_\id
         .type   task_\id, @function
@@ -36,6 +36,7 @@ task_\id:
         subu    $k0, $sp, $k0
         jal     \function
         addiu   $sp, $sp, -16           /* in the delay slot */
+returned_from_\function\().\id:
         addiu   $v0, $0, EXT_TSK
         syscall
         .cfi_endproc
