@@ -7,7 +7,8 @@
 # NAME.journal, NAME.console. docs/C.md goes through all of it.
 #
 #   make                builds build/firmware.elf and build/firmware.cfg
-#   make test           runs each journal, and compares the console
+#   make test           runs each journal, and compares the console. STRICT=1: an exception, a refused call whose answer
+#                       nobody looks at and a board that is on in the end are failures; REPORT=junit.xml: writes that too
 #   make accept         takes the consoles as they are for right
 #   make run            shows the report of JOURNAL (firmware.journal)
 #   make debug          debugs JOURNAL with the names of C
@@ -38,6 +39,8 @@ SEED ?= 1
 EXPECT ?= console
 MOVE ?= raises
 JOBS ?= $(shell nproc 2> /dev/null || echo 1)
+STRICT ?=
+REPORT ?=
 EVENTS ?= 100000
 PREEMPTIONS ?= 1
 TICKS ?=
@@ -58,6 +61,7 @@ ENDIAN_big = -EB
 ENDIAN_little = -EL
 ENDIAN := $(or $(ENDIAN_$(ORDER)),$(error ORDER is big or little, and not '$(ORDER)'))
 $(if $(filter-out 1,$(LIBC)),$(error LIBC is 1 or nothing, and not '$(LIBC)'))
+$(if $(filter-out 1,$(STRICT)),$(error STRICT is 1 or nothing, and not '$(STRICT)'))
 ifneq ($(words $(PROGRAM)) $(filter $(PROGRAM),$(PROGRAMS)),1 $(PROGRAM))
 $(error PROGRAM is one of '$(PROGRAMS)', and not '$(PROGRAM)')
 endif
@@ -162,10 +166,11 @@ tests = status=0; $(foreach it,$(PROGRAMS),$(SDK)/test $1 $(BOARD) $(BUILD)/$(it
     $(call journals,$(it)) || status=1;) exit $$status
 
 test: all
-	@$(call tests,)
+	@$(if $(REPORT),rm -f '$(REPORT)')
+	@$(call tests,$(if $(STRICT),--strict) $(if $(REPORT),--junit '$(REPORT)') --jobs '$(JOBS)')
 
 accept: all
-	@$(call tests,--accept)
+	@$(call tests,--accept --jobs '$(JOBS)')
 
 run: all
 	@$(SDK)/test --report $(BOARD) $(IMAGE) $(CONFIGURATION) $(JOURNAL)

@@ -29,13 +29,32 @@ says "sdk/new with an option" 2 "use: sdk/new FOLDER" sdk/new --help
 says "sdk/new where something is" 1 "sdk/new: $work is there already" sdk/new "$work"
 says "sdk/libc with a wrong word" 2 "use: sdk/libc [big|little]" sdk/libc middle
 says "sdk/debian without a package" 2 "use: sdk/debian PACKAGE FOLDER" sdk/debian
-says "sdk/test without a program" 2 "use: sdk/test [--accept] BOARD IMAGE CONFIG NAME.journal.." sdk/test
+says "sdk/test without a program" 2 \
+    "use: sdk/test [--accept] [--strict] [--junit FILE] [--jobs N] BOARD IMAGE CONFIG NAME.journal.." sdk/test
+says "sdk/test with no jobs" 2 "JOBS is a number from 1 to 1024, and not '0'" sdk/test --jobs 0 "$board" image config
 says "sdk/test without a journal" 1 "FAILED: there is no journal, a file NAME.journal" sdk/test "$board" image config
 says "sdk/ordered without a program" 2 "use: sdk/ordered IMAGE JOURNAL" sdk/ordered
 says "sdk/gdb without a program" 2 "use: sdk/gdb BOARD IMAGE CONFIG JOURNAL [OPTION OF GDB..]" sdk/gdb "$board"
 says "sdk/gdb without GDB" 2 \
     "there is no nosuch: apt-get install gdb-multiarch, or GDB names another GDB for MIPS; make debug needs none" \
     env GDB=nosuch sdk/gdb "$board" image config journal
+# What an instruction does with an answer in $v0: it reads it, writes over it, or neither.
+verdict "kit: who looks at an answer" "$(PYTHONPATH=sdk/lib python3 -B - 2>&1 << 'END'
+import strict
+READ = ("addu $a0, $v0, $zero; $a0 = 00000001", "beq $v0, $zero, 0x80000014", "bltz $v0, 0x80000014", "sw $v0, 4($sp)",
+        "sw $t0, 0($v0)", "addu $v0, $v0, $t0", "lw $v0, 0($v0); $v0 = 00000000; 80000000: 00000000", "teq $v0, $zero, 7",
+        "movz $v0, $t0, $t1", "mult $t0, $v0", "mthi $v0", "jr $v0", "slti $v0, $v0, 0", "sc $v0, 0($t0)",
+        "div $v0, $t0", "jalr $ra, $v0", "lwl $v0, 0($t0)")
+WRITTEN = ("addiu $v0, $zero, 3; $v0 = 00000003", "lui $v0, 0x8000", "lw $v0, 0($t0)", "mflo $v0", "sig_sem(1) = E_OK",
+           "ext_tsk(), task 1 dormant", "ret_int()", "clz $v0, $t0", "service 99 = E_RSFN", "ll $v0, 0($t0)")
+NEITHER = ("nop", "addiu $v1, $zero, 3", "jr $ra", "beq $t0, $t1, 0x80000014", "sw $v1, 0($a0)", "j 0x80000000", "mfhi $t0",
+           "jal 0x80000000; $ra = 80000008", "sync")
+for texts, wanted in ((READ, True), (WRITTEN, False), (NEITHER, None)):
+    for it in texts:
+        if strict.looks(it) is not wanted:
+            print(f"{it}: {strict.looks(it)}")
+END
+)"
 printf '\177ELF\1\1\1' > "$work/little"
 printf '\177ELF\1\2\1' > "$work/big"
 printf 'board-journal 1\nS 1 2\n' > "$work/journal"
@@ -112,6 +131,30 @@ for folder in "${projects[@]}"; do
 done
 
 says "another byte order" 2 "*" project examples/c_program ORDER=middle
+
+# The benchmark: its kept object file is what GCC 12 makes of its source, and its checksums are those of this machine.
+says "the benchmark" 0 "ok: bench.journal" project tests/bench test
+if [ "$(mips-linux-gnu-gcc -dumpversion)" = 12 ]; then
+    mips-linux-gnu-strip -g -o "$work/bench.elf" "$work/build/bench.elf"
+    verdict "kit: the benchmark that is kept" "$(cmp "$work/bench.elf" tests/bench/bench.elf ||
+        echo "make -C tests/bench keep")"
+else
+    skip "kit: the benchmark that is kept" "GCC 12 for MIPS"
+fi
+tests/bench/program.py 1 3 > "$work/one.cfg"
+printf 'board-journal 1\nS 1 200000\n' > "$work/one.journal"
+"$board" run tests/bench/bench.elf "$work/one.cfg" "$work/one.journal" 2>&1 | grep '^3 rounds' > "$work/wanted"
+if have cc "kit: the benchmark on this machine"; then
+    {
+        echo '#include <stdio.h>'
+        echo '#include <string.h>'
+        sed -n '/^typedef/p' sdk/include/itron.h
+        sed -n '/^#define BYTES/,/^void bench/p' tests/bench/bench.c | sed '$d'
+        echo 'int main(void) { printf("3 rounds: %08x\n", rounds_of(works, 3)); }'
+    } > "$work/bench.c"
+    cc -w -o "$work/bench" "$work/bench.c" && "$work/bench" > "$work/out"
+    verdict "kit: the benchmark on this machine" "$(diff "$work/wanted" "$work/out")"
+fi
 
 # Other orders: a right program shows the same, and one with a race doesn't.
 shared=$work/kit/shared
@@ -484,6 +527,10 @@ mistake "another console" 2 "+Hullo, number 2 of 3" firmware.c 's/Hello/Hullo/' 
 mistake "a journal with too few steps" 2 \
     "the steps of the journal have run out: the board is on, and processor 1 runs task 1 (GREETER)" \
     firmware.journal 's/S 1 100000/S 1 100/' test
+mistake "a handler that doesn't end" 2 \
+    "the steps of .* the board is on, and processor 1 runs handler 3 \\(BUTTON\\) at 80[0-9a-f]{6}" \
+    firmware.c 's/assert(line == BUTTON)/while (*(volatile INHNO *)\&line != 0)/' test
+verdict "kit: where the handler is" "$(grep -q '^80[0-9a-f]* is press firmware.c:7$' "$work/said" || cat "$work/said")"
 cp "$sdk"/project/* "$new"
 cp "$new/firmware.journal" "$new/other.journal"
 says "a journal without a console" 2 "If that is right: make accept" project "$new" test
@@ -492,6 +539,68 @@ says "a console that was accepted" 0 "ok: other.journal" project "$new" test
 echo 'S 1 0' >> "$new/other.journal"
 says "a journal that has a fault" 2 "FAILED: other.journal" project "$new" test
 rm "$new"/other.*
+
+# Strict tests: an exception, a refused call whose answer nobody looks at, a board that is on.
+ends='s/^    }$/    }\n    ext_ker();/'
+mistake "a strict test" 0 "ok: firmware.journal" firmware.c "$ends" test STRICT=1
+mistake "a strict test of a board that is on" 2 "  the board is on in the end" firmware.c '' test STRICT=1
+verdict "kit: a strict test says that the console is right" "$(
+    grep -qx 'FAILED: firmware.journal: the console is firmware.console, but' "$work/said" || cat "$work/said")"
+mistake "a strict test of an exception" 2 \
+    "  last exception at event [0-9]+, of task 1 \\(GREETER\\) at greet.*: DBE: store to 00000010, outside RAM" \
+    firmware.c 's/^    }$/    }\n    *(volatile INT *)16 = 1;/' test STRICT=1
+mistake "a strict test of a refused call" 2 \
+    "  chg_pri\\(99, 1\\) = E_NOEXS at event [0-9]+, at greet firmware.c:19: nobody looks at the answer" \
+    firmware.c 's/^    }$/    }\n    chg_pri(99, 1);\n    ext_ker();/' test STRICT=1
+mistake "a strict test of a refused call whose answer is looked at" 0 "ok: firmware.journal" firmware.c \
+    's/^    }$/    }\n    if (chg_pri(99, 1) == E_OK)\n        put_chr(65);\n    ext_ker();/' test STRICT=1
+mistake "a strict test of a refused call in a handler" 2 \
+    "  iact_tsk\\(GREETER\\) = E_QOVR at event [0-9]+, at press firmware.c:9: nobody looks at the answer" firmware.c \
+    "s/^    isig_sem(PRESSED);/&\n    iact_tsk(GREETER), iact_tsk(GREETER);/; $ends" test STRICT=1
+cp "$sdk"/project/* "$new"
+sed -i 's/^    }$/    }\n    twai_sem(PRESSED, 2);\n    ext_ker();/' "$new/firmware.c"
+printf 'T 4\nS 1 1000\n' >> "$new/firmware.journal"
+says "a strict test of a wait that is refused" 2 \
+    "  twai_sem\\(PRESSED, 2\\) = E_TMOUT at event [0-9]+, for task 1 \\(GREETER\\): nobody looks at the answer" \
+    project "$new" test STRICT=1
+says "STRICT" 2 "$sdk/board.mk:[0-9]+: \\*\\*\\* STRICT is 1 or nothing, and not 'yes'.  Stop." project "$new" STRICT=yes
+
+# Reports for build servers, of several programs and of names that XML has no way to say; tests at the same time.
+says "a report of several programs" 2 "ok: two.late.journal" project "$work/several" test REPORT="$work/report.xml" JOBS=3
+cp "$work/said" "$work/three"
+cp "$work/report.xml" "$work/three.xml"
+says "the same tests one by one" 2 "ok: two.late.journal" project "$work/several" test REPORT="$work/report.xml" JOBS=1
+verdict "kit: tests at the same time" "$(diff "$work/said" "$work/three";
+    diff <(sed 's/ time="[0-9.]*"//' "$work/report.xml") <(sed 's/ time="[0-9.]*"//' "$work/three.xml"))"
+cp "$sdk"/project/* "$new"
+sed -i "$ends" "$new/firmware.c"
+project "$new" all
+hostile=('a<b>&"c'\''.journal' $'\x01 \xc3\xa9 ]]>.journal' $'\xff.journal')
+for it in "${hostile[@]}"; do
+    cp "$new/firmware.journal" "$work/$it"
+done
+cp "$new/firmware.console" "$work/${hostile[0]%.journal}.console"
+printf 'Hello\1\377<]]>\n' > "$work/${hostile[1]%.journal}.console"
+rm "$work/report.xml"
+(cd "$work" && "$sdk/test" --junit report.xml --jobs 2 "$board" build/firmware.elf build/firmware.cfg "${hostile[@]}") \
+    > "$work/said" 2>&1
+verdict "kit: a report of hostile names" "$(cd "$work" && python3 - 2>&1 << 'END'
+from xml.etree import ElementTree
+suite, = ElementTree.parse("report.xml").getroot()
+cases = [(it.get("name"), [len(failure.text) > 20 for failure in it]) for it in suite]
+wanted = [("a<b>&\"c'", []), ("\\x01 \u00e9 ]]>", [True]), ("\\xff", [True])]
+if cases != wanted or suite.get("failures") != "2" or suite.get("tests") != "3":
+    print(ascii(cases), suite.attrib)
+END
+)"
+verdict "kit: reports of two programs" "$(python3 - "$work/three.xml" 2>&1 << 'END'
+import sys
+from xml.etree import ElementTree
+suites = [(it.get("name"), it.get("tests"), it.get("failures")) for it in ElementTree.parse(sys.argv[1]).getroot()]
+if suites != [("one", "2", "1"), ("two", "2", "0")]:
+    print(suites)
+END
+)"
 
 # Where the program has a command `trace`, its summary stands in the place of the report.
 cat > "$work/tracing" << END

@@ -221,8 +221,10 @@ class Report:
 
     def running(self):
         """What executes still, on a board that is on: the steps ran out there."""
-        found = [re.match(r"cpu (\d+) (task|handler) (\d+)", it) for it in self.processors]
-        return [] if self.is_off else [f"processor {it[1]} runs {it[2]} {it[3]}" for it in found if it]
+        found = [re.match(r"cpu (\d+) (?:(task \d+)|(handler \d+) pc (\w+))", it) for it in self.processors]
+        # (Where a task is `trace --summary` says.)
+        return [] if self.is_off else \
+            [f"processor {it[1]} runs {it[2] or f'{it[3]} at {it[4]}'}" for it in found if it]
 
 
 class Program:
