@@ -199,17 +199,17 @@ impl Board {
         ensures { self.new ≡ after self.old events.now }
     {
         for event in events {
-            let _ = self.event(*event);
+            let _ = self.event_apart(*event);
         }
     }
 
-    /// Does one event, as `event` does, but not in line: a program whose loops all use this and `repeat` has one copy
-    /// of what a step does, which the compiler then lays into its loop.
+    /// Does one event, as `event` does, but not in line: a program whose loops all use this, `play` and `repeat` has
+    /// one copy of what a step does, into which the compiler then lays all that belongs to it.
     pub fn event_apart(&mut self, event: Event) -> Report
         ensures { record { board = self.new; report = result } ≡ happens self.old event }
     {
         match event {
-            Event::Step(cpu) => self.steps(cpu, 1),
+            Event::Step(cpu) => self.step_apart(cpu),
             Event::Tick => self.event(Event::Tick),
             Event::Raise(line) => self.event(Event::Raise(line)),
         }
@@ -221,35 +221,37 @@ impl Board {
     {
         match event {
             Event::Step(cpu) => self.many_steps(cpu, count),
-            Event::Tick => {
-                let _ = self.repeat_in_line(Event::Tick, count);
-            }
-            Event::Raise(line) => {
-                let _ = self.repeat_in_line(Event::Raise(line), count);
-            }
+            Event::Tick => self.repeat_in_line(Event::Tick, count),
+            Event::Raise(line) => self.repeat_in_line(Event::Raise(line), count),
         }
     }
 
-    /// Lets a processor do `count` steps, one by one. Answers what the only one reports.
+    /// Lets a processor do one step, where the board is on. It is out of line, and no loop: a loop that is gone through
+    /// once costs half as much again.
     #[inline(never)]
-    fn steps(&mut self, cpu: u8, count: u32) -> Report
-        ensures done { self.new ≡ after self.old (replicate count (Step cpu)) }
-        ensures one { count ≡ 1 → result ≡ (happens self.old (Step cpu)).report }
+    fn step_apart(&mut self, cpu: u8) -> Report
+        ensures { record { board = self.new; report = result } ≡ happens self.old (Step cpu) }
     {
-        self.repeat_in_line(Event::Step(cpu), count)
+        self.event(Event::Step(cpu))
     }
 
-    /// Does one event n times. Answers what the only one reports.
-    #[inline(always)]
-    fn repeat_in_line(&mut self, event: Event, count: u32) -> Report
-        ensures done { self.new ≡ after self.old (replicate count event) }
-        ensures one { count ≡ 1 → result ≡ (happens self.old event).report }
+    /// Lets a processor do `count` steps, one by one.
+    fn steps(&mut self, cpu: u8, count: u32)
+        ensures { self.new ≡ after self.old (replicate count (Step cpu)) }
     {
-        let mut last = Report::NoSuch;
         for _ in 0..count {
-            last = self.event(event);
+            let _ = self.step_apart(cpu);
         }
-        last
+    }
+
+    /// Does one event n times.
+    #[inline(always)]
+    fn repeat_in_line(&mut self, event: Event, count: u32)
+        ensures { self.new ≡ after self.old (replicate count event) }
+    {
+        for _ in 0..count {
+            let _ = self.event(event);
+        }
     }
 
     /// A processor does its next step: it accepts an interrupt, or whoever executes on it does one instruction.

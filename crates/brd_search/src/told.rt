@@ -173,7 +173,7 @@ pub fn put_schedule(
     let mut last = 0;
     for (at, event) in events.iter().enumerate() {
         put_event(alloc, symbols, board, last, at as u64, *event, out)?;
-        board.event(*event);
+        let _ = board.event_apart(*event);
         if let Event::Step(cpu) = *event {
             last = cpu;
         }

@@ -37,7 +37,7 @@ impl Board {
         ensures { self.new ≡ after self.old (replicate count (Step cpu)) }
     {
         if count < FEW {
-            let _ = self.steps(cpu, count);
+            self.steps(cpu, count);
             return;
         }
         self.read_and_step(cpu, count);
@@ -50,7 +50,7 @@ impl Board {
         ensures { self.new ≡ after self.old (replicate count (Step cpu)) }
     {
         if !self.has_read(count) {
-            let _ = self.steps(cpu, count);
+            self.steps(cpu, count);
             return;
         }
         self.batches(cpu, count);
@@ -66,7 +66,7 @@ impl Board {
             let done = self.batch(cpu, left);
             left -= done;
             let apart = left.min(if done < FEW { STRETCH } else { 1 });
-            let _ = self.steps(cpu, apart);
+            self.steps(cpu, apart);
             left -= apart;
         }
     }

@@ -13,6 +13,6 @@ loop-left-preserved c =
     let left = c.loop-left.left - done - apart in
     let all : done + (apart + left) ≡ c.loop-left.left = omega (arith, c.batch-done.ensures.few, c.min-apart.ensures) in
     ap (λ (s : BoardState). after s (replicate left event))
-    (c.steps.ensures.done ∙ ap (λ (s : BoardState). after s (replicate apart event)) c.batch-done.ensures.done)
+    (c.steps.ensures ∙ ap (λ (s : BoardState). after s (replicate apart event)) c.batch-done.ensures.done)
     ∙ after-both apart left (after b (replicate done event)) event ∙ after-both done (apart + left) b event
     ∙ ap (λ n. after b (replicate n event)) all ∙ c.loop-left.invariant
