@@ -1,6 +1,7 @@
 -- Steps of a processor that go on change the context in which they are executed, memory and links, and nothing else.
-use Rattle.std.proofs.Common.{◌≡◌, ℕ, zero, suc, ◌+◌, ◌<◌, Bool, true, false, if◌then◌else◌, List, replicate, refl, sym, ap, subst, ◌∙◌, length-set, arith}
+use Rattle.std.proofs.Common.{◌≡◌, ℕ, zero, suc, ◌+◌, ◌<◌, Bool, true, false, if◌then◌else◌, List, replicate, refl, sym, ap, subst, ◌∙◌, length-set, inl, inr, arith}
 use Rattle.std.specs.Prelude.{Option, None, Some, IfSome, is_some}
+use Rattle.std.proofs.lemmas.Bool.{cases_lt}
 use Rattle.std.proofs.lemmas.List.{get_or-set_same, set-set, set-get_or}
 use Rattle.brd_mem.specs.Memory.{Memory}
 use Rattle.brd_mem.specs.Window.{window_start, window_at}
@@ -22,7 +23,7 @@ use Rattle.brd_board.specs.declared.event.Event.{Event}
 use Rattle.brd_board.specs.declared.event.Event.TheVariants.{Step}
 use Rattle.brd_board.specs.declared.event.Report.TheVariants as report
 use Rattle.brd_board.specs.Board.{BoardState, Happened, reported, with_executed, instruction_done, executes_in, accepts_or_executes, stepped_in, stepped, happens, after}
-use Rattle.brd_board.specs.Batch.{GoesOn, GoesBatch, machine_of, with_machine}
+use Rattle.brd_board.specs.Batch.{GoesOn, GoesBatch, Runs, AllRun, machine_of, with_machine}
 
 -- One step.
 
@@ -155,3 +156,40 @@ batch-goes b cpu count (Some who) new stored linked on uninterrupted executes pl
     let m : Machine = record { state = batch.0; memory = stored; links = linked } in
     let goes : GoesOn b cpu who = record { on = on; executes = executes; uninterrupted = uninterrupted; place = place } in
     ap (λ k. record b { kernel = k; memory = stored; links = linked }) batch.1 ∙ sym (steps-go b cpu count who m goes batch.2)
+
+-- Each of them executes an instruction.
+
+some-before : (cpu : ℕ) (before : Option Machine) (m : Machine) → went_on cpu before ≡ Some m → (x : Machine) × (before ≡ Some x)
+some-before cpu None m is = let wrong : ⊥ = cc in absurd wrong
+some-before cpu (Some x) m is = (x, refl)
+
+-- steps that go on do so from the first one on
+goes-so-far : (count n cpu : ℕ) (x m : Machine) → n < count → went cpu count x ≡ Some m → (y : Machine) × (went cpu (suc n) x ≡ Some y)
+goes-so-far zero n cpu x m less is = absurd (omega (arith, less))
+goes-so-far (suc count) n cpu x m less is =
+    elim (cases_lt n count) [
+      | inl sooner ↦ let there = some-before cpu (went cpu count x) m is in goes-so-far count n cpu x there.0 sooner there.1
+      | inr last ↦ let same : n ≡ count = omega (arith, less, last) in (m, ap (λ k. went cpu (suc k) x) same ∙ is)
+    ]
+
+runs-after : (before : Option Machine) (b : BoardState) (cpu : ℕ) (who : Executor) (there : BoardState) (m : Machine) → GoesOn b cpu who →
+    ((x : Machine) → before ≡ Some x → there ≡ with_machine b cpu who x) →
+    went_on cpu before ≡ Some m → Runs there cpu
+runs-after None b cpu who there m goes led is = let wrong : ⊥ = cc in absurd wrong
+runs-after (Some x) b cpu who there m goes led is =
+    let here = with_machine b cpu who x in
+    let found : context_of here.kernel cpu who ≡ x.state = put-found b.kernel cpu who x.state goes.place in (
+      (context_of here.kernel cpu who).pc,
+      ap (λ (board : BoardState). (happens board (Step cpu)).report) (led x refl)
+          ∙ ap (λ (done : Happened). done.report)
+          (step-goes here cpu who m (still-goes b cpu who x goes) (ap (λ s. went_by (effect cpu s x.memory x.links)) found ∙ is)),
+    )
+
+pub batch-runs : (b : BoardState) (cpu count : ℕ) (found : Option Executor) (new : KernelState) (stored : Memory) (linked : LinkSet) →
+    b.kernel.off ≡ false → deliverable b.kernel cpu ≡ None → executor_on b.kernel cpu ≡ found → IfSome found (HasPlace b.kernel cpu) →
+    GoesBatch found cpu count b.kernel b.memory b.links new stored linked → AllRun b cpu count
+batch-runs b cpu count None new stored linked on uninterrupted executes place batch = λ n less. absurd (omega (arith, less, batch.0))
+batch-runs b cpu count (Some who) new stored linked on uninterrupted executes place batch = λ n less.
+    let goes : GoesOn b cpu who = record { on = on; executes = executes; uninterrupted = uninterrupted; place = place } in
+    let far = goes-so-far count n cpu (machine_of b cpu who) (record { state = batch.0; memory = stored; links = linked }) less batch.2 in
+    runs-after (went cpu n (machine_of b cpu who)) b cpu who (after b (replicate n (Step cpu))) far.0 goes (λ x so. steps-go b cpu n who x goes so) far.1

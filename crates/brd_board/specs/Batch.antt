@@ -1,5 +1,5 @@
 -- Many steps of one processor, one after the other, while nothing comes between them.
-use Rattle.std.specs.Prelude.{◌≡◌, ℕ, false, Option, None, Some}
+use Rattle.std.specs.Prelude.{◌≡◌, ◌<◌, ℕ, false, Option, None, Some, replicate}
 use Rattle.brd_mem.specs.Memory.{Memory}
 use Rattle.brd_link.specs.LinkSet.{LinkSet}
 use Rattle.brd_exec.specs.State.{State}
@@ -7,7 +7,9 @@ use Rattle.brd_exec.specs.Went.{Machine, went}
 use Rattle.brd_kernel.specs.declared.processor.Executor.{Executor}
 use Rattle.brd_kernel.specs.Kernel.{KernelState, executor_on, context_of, with_context_of, deliverable}
 use Rattle.brd_kernel.specs.Always.{HasPlace}
-use Rattle.brd_board.specs.Board.{BoardState}
+use Rattle.brd_board.specs.declared.event.Event.TheVariants.{Step}
+use Rattle.brd_board.specs.declared.event.Report.TheVariants as report
+use Rattle.brd_board.specs.Board.{BoardState, happens, after}
 
 -- Somebody executes on a processor of a board that is on, no interrupt is deliverable to it, and the context of who
 -- executes lies in the kernel (of a real board it always does). So its next step executes an instruction, and so does
@@ -37,3 +39,11 @@ GoesBatch (Some who) cpu count k memory links new stored linked =
     (left : State) × (new ≡ with_context_of k cpu who left)
     × (went cpu count (record { state = context_of k cpu who; memory = memory; links = links })
     ≡ Some (record { state = left; memory = stored; links = linked }))
+
+-- a processor's next step executes an instruction, and no more: no call, exception or interrupt comes
+abbrev pub Runs : BoardState → ℕ → Type 0
+Runs b cpu = (address : ℕ) × ((happens b (Step cpu)).report ≡ report.Ran address)
+
+-- so does each of its next n steps
+abbrev pub AllRun : BoardState → ℕ → ℕ → Type 0
+AllRun b cpu count = (n : ℕ) → n < count → Runs (after b (replicate n (Step cpu))) cpu

@@ -1,5 +1,5 @@
 -- Which events may change memory: steps that execute a store, also an SC.
-use Rattle.std.specs.Prelude.{ℕ, Bool, false, Option, None, Some}
+use Rattle.std.specs.Prelude.{Bool, false, Option, None, Some}
 use Rattle.brd_mem.specs.Memory.{Memory}
 use Rattle.brd_exec.specs.State.{State}
 use Rattle.brd_exec.specs.Storing as exec

@@ -5,7 +5,7 @@ ghost use Rattle.brd_kernel.specs.Kernel.{executor_on};
 ghost use Rattle.brd_kernel.specs.Always.{HasPlace};
 ghost use Rattle.brd_board.specs.Board.{after};
 ghost use Rattle.brd_board.specs.declared.event.Event.TheVariants.{Step};
-ghost use Rattle.brd_board.specs.Batch.{GoesBatch};
+ghost use Rattle.brd_board.specs.Batch.{GoesBatch, AllRun};
 
 use super::Board;
 use brd_fast::{Table, go};
@@ -71,10 +71,25 @@ impl Board {
         }
     }
 
+    /// Lets a processor go on: does some of its next steps, up to `limit` of them, each of which executes an instruction
+    /// and no more. Answers how many it did: as many as a batch of decoded instructions had, and none where the board
+    /// has no table of these.
+    pub fn go_on(&mut self, cpu: u8, limit: u32) -> u32
+        ensures few { result ≤ limit }
+        ensures done { self.new ≡ after self.old (replicate result (Step cpu)) }
+        ensures ran { AllRun self.old cpu result }
+    {
+        if limit < FEW || !self.has_read(limit) {
+            return 0;
+        }
+        self.batch(cpu, limit)
+    }
+
     /// Lets a processor do steps in a row, up to `limit` of them. Answers how many it did.
     fn batch(&mut self, cpu: u8, limit: u32) -> u32
         ensures few { result ≤ limit }
         ensures done { self.new ≡ after self.old (replicate result (Step cpu)) }
+        ensures ran { AllRun self.old cpu result }
     {
         if self.is_off() || self.kernel.deliverable(cpu).is_some() {
             return 0;
