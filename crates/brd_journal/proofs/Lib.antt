@@ -14,4 +14,5 @@ pub mod WriteLemmas
 pub mod NumberLemmas
 pub mod FieldLemmas
 pub mod GrammarLemmas
+pub mod FrontLemmas
 pub mod FaultyLemmas

@@ -35,6 +35,28 @@ rest_there runs others i start run cut within is from begun left =
       ends = omega (arith, here, begun, left);
     }
 
+some_of : (runs : List Run) (i : ℕ) (d : Run) → AreCut runs → i < length runs → 1 ≤ (get_or runs i d).count
+some_of [] i d cut within = absurd (omega (arith, within))
+some_of (r ∷ rs) zero d cut within = cut.0
+some_of (r ∷ rs) (suc i) d cut within = some_of rs i d cut.3 (omega (arith, within))
+
+-- a run that begins there
+pub rest_from : (runs : List Run) (others i : ℕ) (run : Run) → AreCut runs → i < length runs → run ≡ get_or runs i run → others ≡ get_or (starts_of runs) i others → IsRest (events_of runs) others (Some run)
+rest_from runs others i run cut within is from =
+    let here : others ≡ length (events_of (take i runs)) = omega (arith, from, start_at 0 runs i others within) in
+    let count : run.count ≡ (get_or runs i run).count = ap (λ (r : Run). r.count) is in
+    record {
+      before = take i runs;
+      run = run;
+      behind = drop (i + 1) runs;
+      among = sym (runs_are runs cut) ∙ sym (take-append-drop i runs)
+          ∙ ap (λ (rs : List Run). take i runs ++ rs) (drop_more runs i run within ∙ ap (λ (r : Run). r ∷ drop (i + 1) runs) (sym is));
+      begun = omega (arith, here);
+      unended = omega (arith, here, count, some_of runs i run cut within);
+      event = refl;
+      ends = omega (arith, here);
+    }
+
 -- no run begins at the first event or before
 pub none_begun : (runs : List Run) (others : ℕ) → ((k d : ℕ) → 0 ≤ k → k < length (starts_of runs) → others < get_or (starts_of runs) k d) → length (events_of runs) ≤ others
 none_begun [] others later = omega arith

@@ -4,6 +4,7 @@ pub mod Faults
 pub mod Journal
 pub mod Text
 pub mod Reading
+pub mod Front
 pub mod Meaning
 pub mod Still
 pub mod Playing

@@ -78,6 +78,7 @@ impl Journal {
 
     /// Appends an event n times. It is `Full` exactly where the events would need more runs than the limit,
     /// unless memory runs out. An `Err` changes nothing, and neither does a count of 0.
+    #[inline(always)]
     pub fn push_run(&mut self, event: Event, count: u32) -> Result<(), JournalFault>
         ensures appended { Gives (λ _. self.new) result (appended self.old (copies event count)) }
         ensures err { OnErr result (self.new ≡ self.old) }

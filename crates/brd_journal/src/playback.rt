@@ -91,8 +91,7 @@ impl Playback {
         let event = rest.event;
         let report = self.board.event_apart(event);
         let over = does_no_more(event, report);
-        let most = most_of(over, end - self.at, to - self.at);
-        let count = most.min(u64::from(rest.count));
+        let count = count_of(rest.count, over, end - self.at, to - self.at);
         repeat(&mut self.board, event, (count - 1) as u32, over);
         self.at += count;
         Moved {
@@ -103,15 +102,22 @@ impl Playback {
     }
 }
 
-/// How many events are done at most: all where they do nothing.
+/// How many events of a run are done: all where they do nothing.
 #[inline(always)]
-fn most_of(over: bool, few: u64, all: u64) -> u64
-    requires { few ≤ all }
+fn count_of(count: u32, over: bool, few: u64, all: u64) -> u64
+    requires some { 1 ≤ count }
+    requires one { 1 ≤ few }
+    requires past { few ≤ all }
     ensures all { result ≤ all }
     ensures few { over ≡ false → result ≤ few }
-    ensures some { 1 ≤ few → 1 ≤ result }
+    ensures some { 1 ≤ result }
+    ensures run { result ≤ count }
 {
-    if over { all } else { few.min(STRETCH) }
+    if count == 1 {
+        return 1;
+    }
+    let most = if over { all } else { few.min(STRETCH) };
+    most.min(u64::from(count))
 }
 
 /// Lets a board do an event n times more, which is mostly not at all; nor where that does nothing.

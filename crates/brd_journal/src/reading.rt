@@ -1,16 +1,30 @@
 //! Reading a text.
 
-ghost use Rattle.std.specs.Prelude.{◌≡◌, ◌≤◌, ◌<◌, ◌+◌, ◌^◌, length};
+ghost use Rattle.std.specs.Prelude.{◌≡◌, ◌≤◌, ◌<◌, ◌+◌, ◌^◌, ◌∷◌, length, IfSome};
 ghost use Rattle.brd_text.specs.Lines.{lines_of};
 ghost use Rattle.brd_journal.specs.Faults.{Gives};
+ghost use Rattle.brd_journal.specs.Front.{IsFront, IsShorter};
+ghost use Rattle.brd_journal.specs.declared.reading.Front.TheVariants.{Line};
 ghost use Rattle.brd_journal.specs.Journal.{most_runs};
 ghost use Rattle.brd_journal.specs.Reading.{journal_of, lines_read};
 
 use crate::fault::JournalFault;
 use crate::journal::Journal;
 use crate::line::{order_of_line, run_of_line};
-use brd_text::split_line;
+use crate::run::Run;
+use brd_board::Event;
+use brd_text::{behind, split_line};
 use std::alloc::Global;
+
+/// What stands at the front of a text.
+pub(crate) enum Front<'a> {
+    /// A line that spells a run, and the text after it.
+    Line(Run, &'a [u8]),
+    /// Nothing: the text's end.
+    End,
+    /// A line that spells no run, or that no newline ends.
+    Wrong,
+}
 
 /// The journal of this limit that a text says, or the fault of the first line that has one.
 #[tactic(auto, unfolding(crate::specs::Reading::journal_of))]
@@ -38,18 +52,84 @@ fn read_lines(journal: &mut Journal, text: &[u8]) -> Result<(), JournalFault>
     let mut rest = text;
     let mut number = 2;
     'lines: loop {
-        let (line, behind) = split_line(rest);
-        let Some(after) = behind else {
-            if line.is_empty() {
-                return Ok(());
+        match front_of(rest) {
+            Front::Line(run, after) => {
+                journal.push_run(run.event, run.count)?;
+                rest = after;
+                number += 1;
             }
-            return Err(JournalFault::Syntax { line: number });
+            Front::End => return Ok(()),
+            Front::Wrong => return Err(JournalFault::Syntax { line: number }),
+        }
+    }
+}
+
+/// What stands at the front of a text. Most lines of most journals are of steps with numbers below 10: these are read
+/// in line, straight from their bytes.
+#[inline(always)]
+fn front_of(text: &[u8]) -> Front<'_>
+    ensures reads { IsFront text.now result }
+    ensures shorter { IsShorter text.now result }
+{
+    if let Some((run, after)) = short_line(text) {
+        return Front::Line(run, after);
+    }
+    line_front(text)
+}
+
+/// The run of the first line, where that is of steps with two digits for its numbers, and the text after it.
+#[inline(always)]
+fn short_line(text: &[u8]) -> Option<(Run, &[u8])>
+    ensures reads { IfSome result (λ found. IsFront text.now (Line found.0 found.1)) }
+    ensures shorter { IfSome result (λ found. length found.1.now < length text.now) }
+{
+    // One test of the length, which the others follow from.
+    if text.len() < 6 {
+        return None;
+    }
+    let blank = behind(b'S', text)?;
+    let fields = behind(b' ', blank)?;
+    let (cpu, second) = digit_at(b'0', fields)?;
+    let counted = behind(b' ', second)?;
+    let (count, end) = digit_at(b'1', counted)?;
+    let after = behind(b'\n', end)?;
+    let run = Run {
+        event: Event::Step(cpu),
+        count: count as u32,
+    };
+    Some((run, after))
+}
+
+/// The value of the decimal digit at the front, where that is this one or a later one, and what follows it.
+#[inline(always)]
+fn digit_at(least: u8, text: &[u8]) -> Option<(u8, &[u8])>
+    requires { 48 ≤ least }
+    ensures found { IfSome result (λ found. text.now ≡ (48 + found.0) ∷ found.1.now) }
+    ensures least { IfSome result (λ found. least ≤ 48 + found.0) }
+    ensures most { IfSome result (λ found. found.0 ≤ 9) }
+{
+    match text.split_first() {
+        Some((byte, after)) if *byte >= least && *byte <= b'9' => Some((*byte - b'0', after)),
+        _ => None,
+    }
+}
+
+/// What stands at the front of a text, whatever its first line is.
+#[inline(never)]
+fn line_front(text: &[u8]) -> Front<'_>
+    ensures reads { IsFront text.now result }
+    ensures shorter { IsShorter text.now result }
+{
+    let (line, behind) = split_line(text);
+    let Some(after) = behind else {
+        return if line.is_empty() {
+            Front::End
+        } else {
+            Front::Wrong
         };
-        let Some(run) = run_of_line(line) else {
-            return Err(JournalFault::Syntax { line: number });
-        };
-        journal.push_run(run.event, run.count)?;
-        rest = after;
-        number += 1;
+    };
+    match run_of_line(line) {
+        Some(run) => Front::Line(run, after),
+        None => Front::Wrong,
     }
 }

@@ -14,6 +14,7 @@ use std::alloc::Global;
 use std::marker::Model;
 
 /// Whether two events are the same.
+#[inline(always)]
 fn is_same(event: Event, other: Event) -> bool
     ensures { result ≡ same_event event other }
 {
@@ -21,6 +22,7 @@ fn is_same(event: Event, other: Event) -> bool
 }
 
 /// How many more of an event the last run can count.
+#[inline(always)]
 fn room_for(runs: &[Run], event: Event) -> u32
     ensures { result ≡ room_in runs.now event }
 {
@@ -35,6 +37,7 @@ fn room_for(runs: &[Run], event: Event) -> u32
 }
 
 /// Puts a run at the end of the runs, and where it starts at the end of the starts. A refusal changes nothing.
+#[inline(always)]
 fn put_run(runs: &mut Vec<Run>, starts: &mut Vec<u64>, run: Run, start: u64) -> Result<(), NoMemory>
     ensures runs { OnOk result (runs.new.items ≡ runs.old.items ++ run ∷ []) }
     ensures starts { OnOk result (starts.new.items ≡ starts.old.items ++ start ∷ []) }
@@ -86,6 +89,7 @@ impl RunTable {
 
     /// Adds an event n times at the end, after m others, unless that makes more runs than the limit. An
     /// `Err` changes nothing.
+    #[inline(always)]
     pub(crate) fn add(
         &mut self,
         limit: usize,
@@ -118,16 +122,38 @@ impl RunTable {
     }
 
     /// What is left of a run after n events: its event, and how often that still comes. `near` is a run that is looked
-    /// at first, with the next one, and becomes the one that is found; else a binary search finds it.
+    /// at first, after the next one, and becomes the one that is found; else a binary search finds it.
     #[inline(always)]
     pub(crate) fn rest_after(&self, others: u64, near: &mut usize) -> Option<Run>
         requires { AreCut self.now }
         ensures { IsRest (events_of self.now) others result }
     {
-        if let Some(rest) = self.rest_in(*near, others) {
-            return Some(rest);
+        // Who plays run after run comes to where the next one begins.
+        let next = near.wrapping_add(1);
+        if let Some(run) = self.run_from(next, others) {
+            *near = next;
+            return Some(run);
         }
-        *near = near.wrapping_add(1);
+        self.rest_sought(others, near)
+    }
+
+    /// The whole run, if it begins after n events.
+    #[inline(always)]
+    fn run_from(&self, index: usize, others: u64) -> Option<Run>
+        requires { AreCut self.now }
+        ensures { IfSome result (λ run. IsRest (events_of self.now) others (Some run)) }
+    {
+        if index < self.starts.len() && self.starts[index] == others {
+            return Some(self.runs[index]);
+        }
+        None
+    }
+
+    /// What is left of a run after n events: of the one at `near`, or of one that a binary search finds.
+    fn rest_sought(&self, others: u64, near: &mut usize) -> Option<Run>
+        requires { AreCut self.now }
+        ensures { IsRest (events_of self.now) others result }
+    {
         if let Some(rest) = self.rest_in(*near, others) {
             return Some(rest);
         }

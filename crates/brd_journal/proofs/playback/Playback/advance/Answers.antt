@@ -8,15 +8,15 @@ use Rattle.brd_journal.proofs.playback.Playback.advance.Goals as goal
 use Rattle.brd_journal.proofs.playback.Playback.advance.Goals.{After-repeat}
 
 -- past the first position it goes only where the event does nothing
-over : (c : After-repeat) → c.args.end < c.args.self.now.at + c.min-count.result → does_no_more c.args.rest.event c.event_apart-report.result ≡ true
+over : (c : After-repeat) → c.args.end < c.args.self.now.at + c.count_of-count.result → does_no_more c.args.rest.event c.event_apart-report.result ≡ true
 over c far =
     sym c.does_no_more-over.ensures
-    ∙ true-by c.does_no_more-over.result (λ on. omega (arith, far, c.min-count.ensures, c.most_of-most.ensures.few on, c.requires.on))
+    ∙ true-by c.does_no_more-over.result (λ on. omega (arith, far, c.count_of-count.ensures.few on, c.requires.on))
 
-board : (c : After-repeat) → c.repeat.new.board ≡ after c.args.self.now.board (copies c.args.rest.event c.min-count.result)
+board : (c : After-repeat) → c.repeat.new.board ≡ after c.args.self.now.board (copies c.args.rest.event c.count_of-count.result)
 board c =
-    more-board c.args.self.now.board c.event_apart-report.new.self c.repeat.new.board c.args.rest.event c.event_apart-report.result c.min-count.result
-    c.event_apart-report.ensures (omega (arith, c.min-count.ensures, c.most_of-most.ensures.some, c.requires.on, c.requires.some))
+    more-board c.args.self.now.board c.event_apart-report.new.self c.repeat.new.board c.args.rest.event c.event_apart-report.result c.count_of-count.result
+    c.event_apart-report.ensures (c.count_of-count.ensures.some)
     (λ still. c.repeat.ensures (λ is. still (sym c.does_no_more-over.ensures ∙ is)))
 
 pub returns-clause-report : goal.returns-clause-report
@@ -30,12 +30,12 @@ returns-clause-over c = over (goal.at.returns-clause-over c).After-repeat
 
 pub returns-clause-played : goal.returns-clause-played
 returns-clause-played c = λ boot events within comes is.
-    run-played boot events c.args.self.now _ c.min-count.result c.args.rest is comes (omega (arith, c.min-count.ensures))
-    (board (goal.at.returns-clause-played c).After-repeat) refl (omega (arith, within, c.min-count.ensures, c.most_of-most.ensures.all, c.requires))
+    run-played boot events c.args.self.now _ c.count_of-count.result c.args.rest is comes c.count_of-count.ensures.run
+    (board (goal.at.returns-clause-played c).After-repeat) refl (omega (arith, within, c.count_of-count.ensures.all, c.requires))
 
 pub returns-clause-still : goal.returns-clause-still
 returns-clause-still c = λ boot events comes is p above below.
-    rest-still boot c.args.self.now.board events c.args.self.now.at c.min-count.result c.args.rest is.board comes
+    rest-still boot c.args.self.now.board events c.args.self.now.at c.count_of-count.result c.args.rest is.board comes
     (sym (ap (λ (done : Happened). does_no_more c.args.rest.event done.report) c.event_apart-report.ensures)
     ∙ over (goal.at.returns-clause-still c).After-repeat (omega (arith, above, below)))
-    (omega (arith, c.min-count.ensures)) p (omega (arith, above, c.requires.on)) below
+    c.count_of-count.ensures.run p (omega (arith, above, c.requires.on)) below
