@@ -1,4 +1,4 @@
-use Rattle.std.proofs.Common.{◌≡◌, ℕ, ◌<◌, List, length, get_or, ap, subst, sym, ◌∙◌, arith}
+use Rattle.std.proofs.Common.{◌≡◌, ℕ, ◌<◌, List, length, get_or, ap, subst, ◌∙◌, arith}
 use Rattle.brd_journal.specs.declared.run.Run.{Run}
 use Rattle.brd_journal.specs.Runs.{starts_of}
 use Rattle.brd_journal.proofs.StartLemmas.{length-starts}
