@@ -3,7 +3,7 @@
 ghost use Rattle.std.specs.Prelude.{◌≡◌, ◌+◌, ◌≤◌, ◌<◌, List as ListOf, length, IfOk, true, false};
 ghost use Rattle.brd_board.specs.declared.event.Event.{Event as EventOf};
 ghost use Rattle.brd_board.specs.Board.{BoardState as BoardOf, after, happens};
-ghost use Rattle.brd_journal.specs.Playing.{IsPlayed, AreStill};
+ghost use Rattle.brd_journal.specs.Playing.{IsPlayed, AreStill, AllGoOn};
 ghost use Rattle.brd_journal.specs.Runs.{ComesBehind, copies};
 ghost use Rattle.brd_journal.specs.Still.{does_no_more, Rests};
 
@@ -64,6 +64,28 @@ impl Playback {
             };
             self.advance(rest, end, to);
         }
+    }
+
+    /// Goes on with steps of a run, up to a position, each of which executes an instruction and no more. It is given
+    /// what is left of that run. Answers how many it did: mostly all up to the next one that does more, but none of a
+    /// short run, and none where the board has no decoded instructions.
+    pub fn go_on(&mut self, rest: Run, to: u64) -> u64
+        requires on { self.old.at ≤ to }
+        ensures few { result ≤ rest.count }
+        ensures at { self.new.at ≡ self.old.at + result }
+        ensures to { self.new.at ≤ to }
+        ensures board { self.new.board ≡ after self.old.board (copies rest.event result) }
+        ensures ran { AllGoOn self.old.board rest.event result }
+        ensures played { (boot : BoardOf) (events : ListOf EventOf) → to ≤ length events
+            → ComesBehind events self.old.at rest → IsPlayed boot events self.old → IsPlayed boot events self.new }
+    {
+        let Event::Step(cpu) = rest.event else {
+            return 0;
+        };
+        let most = (to - self.at).min(rest.count as u64);
+        let went = self.board.go_on(cpu, most as u32) as u64;
+        self.at += went;
+        went
     }
 
     /// Does the next event, and events of its run after it: some up to a position, or, where they do nothing, all up to
