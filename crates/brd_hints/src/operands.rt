@@ -5,8 +5,8 @@ use crate::scan::{
     before_comma, behind, behind_commas, count, first, place_of, run, skip_blanks, token, trim_end,
 };
 use crate::statements::Parts;
-use brd_isa::{Mnemonic, ProductOp};
-use brd_source::{Kind, Operation, register_behind, register_of};
+use brd_isa::{Mnemonic, ProductOp, RegisterOp};
+use brd_source::{Kind, Operation, Shorthand, register_behind, register_of};
 use brd_text::{is_digit, is_letter, is_name, is_run_byte, number};
 
 /// Whether an operand of a kind has to be written.
@@ -44,6 +44,9 @@ pub(crate) fn operand_fault<'a>(
     for place in 0..have {
         let name = before_comma(behind_commas(told, place)?);
         let rest = behind_commas(operands, place)?;
+        if let Some(found) = number_fault(parts, kind_at(kinds, place), name, rest) {
+            return Some(found);
+        }
         if let Some(found) = kind_fault(kind_at(kinds, place), name, rest) {
             return Some(found);
         }
@@ -121,6 +124,62 @@ fn joined<'a>(rest: &'a [u8], piece: &'a [u8]) -> Option<Finding<'a>> {
     ))
 }
 
+/// What is said of a number that stands where a register is wanted, by what takes a number in its place.
+fn number_fault<'a>(
+    parts: &Parts<'a>,
+    kind: Kind,
+    name: &'a [u8],
+    rest: &'a [u8],
+) -> Option<Finding<'a>> {
+    let operand = before_comma(rest);
+    if !matches!(kind, Kind::Register) || !is_digit(first(without_minus(operand))) {
+        return None;
+    }
+    let template = number_advice(parts.operation?)?;
+    Some(Finding::at(rest, template, operand).with_other(name))
+}
+
+/// What to write for a number that stands where an operation wants a register.
+fn number_advice(operation: Operation) -> Option<&'static [u8]> {
+    let mnemonic = match operation {
+        Operation::Shorthand(Shorthand::Move) => {
+            return Some(
+                b"found ~ where the register ^ is wanted: for a number write addiu rt, $0, number",
+            );
+        }
+        Operation::Mnemonic(mnemonic) => mnemonic,
+        _ => return None,
+    };
+    let advice = match mnemonic {
+        Mnemonic::ThreeRegisters(RegisterOp::Add | RegisterOp::Addu) => {
+            b"found ~ where the register ^ is wanted: for a number write addiu".as_slice()
+        }
+        Mnemonic::ThreeRegisters(RegisterOp::Sub | RegisterOp::Subu) => {
+            b"found ~ where the register ^ is wanted: for a number write addiu and the negative number"
+        }
+        Mnemonic::ThreeRegisters(RegisterOp::And) => {
+            b"found ~ where the register ^ is wanted: for a number write andi"
+        }
+        Mnemonic::ThreeRegisters(RegisterOp::Or) => {
+            b"found ~ where the register ^ is wanted: for a number write ori"
+        }
+        Mnemonic::ThreeRegisters(RegisterOp::Xor) => {
+            b"found ~ where the register ^ is wanted: for a number write xori"
+        }
+        Mnemonic::ThreeRegisters(RegisterOp::Slt) => {
+            b"found ~ where the register ^ is wanted: for a number write slti"
+        }
+        Mnemonic::ThreeRegisters(RegisterOp::Sltu) => {
+            b"found ~ where the register ^ is wanted: for a number write sltiu"
+        }
+        Mnemonic::Branch(_) => {
+            b"found ~ where the register ^ is wanted: put the number into a register by addiu before it"
+        }
+        _ => return None,
+    };
+    Some(advice)
+}
+
 /// What is wrong with an operand of this kind and name, which stands at the front.
 fn kind_fault<'a>(kind: Kind, name: &'a [u8], rest: &'a [u8]) -> Option<Finding<'a>> {
     let operand = before_comma(rest);
@@ -163,8 +222,37 @@ fn register_fault(operand: &[u8]) -> Option<&'static [u8]> {
     Some(b"found ~ where the register ^ is wanted, as $t0")
 }
 
+/// What is said of `hi` and `lo` without a `%`.
+const PERCENT: &[u8] = b"the halves of an address are %hi(name) and %lo(name), with a % in front";
+
+/// What is said of a number behind the parentheses of `%hi` or `%lo`.
+const INSIDE: &[u8] = b"~ adds behind the parentheses: write the sum inside, as %lo(name+4)";
+
+/// Whether `hi` or `lo` stands at the front, and then a parenthesis.
+fn lacks_percent(operand: &[u8]) -> bool {
+    let (name, after) = run(operand);
+    (name == b"hi".as_slice() || name == b"lo".as_slice()) && first(skip_blanks(after)) == b'('
+}
+
+/// Whether a sum stands behind the first closing parenthesis.
+fn adds_behind(operand: &[u8]) -> bool {
+    match place_of(operand, b')') {
+        Some(close) => {
+            let next = first(skip_blanks(behind(operand, close.saturating_add(1))));
+            next == b'+' || next == b'-'
+        }
+        None => false,
+    }
+}
+
 /// What is wrong with an operand that should be an offset and a base.
 fn base_fault(operand: &[u8]) -> Option<&'static [u8]> {
+    if lacks_percent(operand) {
+        return Some(PERCENT);
+    }
+    if first(operand) == b'%' && adds_behind(operand) {
+        return Some(INSIDE);
+    }
     let Some(open) = place_of(operand, b'(') else {
         return Some(b"found ~ without a base: write offset(base), as 0($t0)");
     };
@@ -193,6 +281,15 @@ fn value_fault(operand: &[u8]) -> Option<&'static [u8]> {
     let value = skip_blanks(without_minus(operand));
     let (name, after) = run(value);
     let next = first(skip_blanks(after));
+    if first(operand) == b'%' && adds_behind(operand) {
+        return Some(INSIDE);
+    }
+    if lacks_percent(operand) {
+        return Some(PERCENT);
+    }
+    if next == b':' {
+        return Some(b"no repeated values: write each out, or .space and a count for zeros");
+    }
     if first(operand) == b'%' {
         let known = operand.starts_with(b"%hi".as_slice())
             || operand.starts_with(b"%lo".as_slice());

@@ -1,10 +1,12 @@
 //! What is said of mnemonics, shorthands and directives, and of those that are often written in their place.
 
 use crate::names::{name_near, near_name};
+use crate::scan::{first, token};
 use brd_isa::{ImmediateOp, MNEMONIC_NAMES, Mnemonic};
 use brd_source::{
     Directive, Kind, OTHER_NAMES, Operation, Shorthand, Width, form_of, short_form_of,
 };
+use brd_text::{is_name, number};
 
 /// What stands after an operation.
 #[derive(Clone, Copy)]
@@ -133,6 +135,39 @@ pub(crate) fn range_of(operation: Operation) -> Option<&'static [u8]> {
             let (_, _, range) = told_of(directive);
             range
         }
+    }
+}
+
+/// What is said of a value of an instruction that is out of range, where it is a name, or a number of which another form
+/// is the cure.
+pub(crate) fn half_of(operation: Operation, value: &[u8]) -> Option<&'static [u8]> {
+    let Operation::Mnemonic(mnemonic) = operation else {
+        return None;
+    };
+    let is_named = is_name(token(value));
+    let is_high = number(value).is_some_and(|word| word % 0x1_0000 == 0);
+    match mnemonic {
+        Mnemonic::LoadUpper if is_named => {
+            Some(
+                b"the immediate of ~ is 0 to 65535, found ^: the high half of an address is %hi(^)",
+            )
+        }
+        Mnemonic::LoadUpper if is_high => {
+            Some(b"the immediate of ~ is the word's high half: for ^ write @")
+        }
+        Mnemonic::WithImmediate(ImmediateOp::Andi | ImmediateOp::Ori | ImmediateOp::Xori)
+            if first(value) == b'-' => {
+            Some(
+                b"the immediate of ~ is 0 to 65535, found ^: put a negative number into a register by addiu",
+            )
+        }
+        Mnemonic::WithImmediate(_) if is_named => Some(
+            b"the immediate of ~ is one half, found ^: the low half of an address is %lo(^), for addiu",
+        ),
+        Mnemonic::Load(_) | Mnemonic::Store(_) | Mnemonic::Linked(_) if is_named => Some(
+            b"the offset of ~ is -32768 to 32767, found ^: write %lo(^), with %hi(^) in the base by lui",
+        ),
+        _ => None,
     }
 }
 

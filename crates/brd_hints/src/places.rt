@@ -1,13 +1,13 @@
 //! Names and places of a source: what is twice, what has no value, and where lines stand, as the assembler lays it out.
 
 use crate::finding::Finding;
-use crate::operations::range_of;
+use crate::operations::{half_of, range_of};
 use crate::scan::{before_comma, behind, behind_commas, count, first, run, skip_blanks, token};
 use crate::statements::{Parts, behind_label};
 use brd_asm::{Content, Effect, Layout, effect_of, greatest_of, least_of, own_name};
 use brd_base::{BASE, TOP};
 use brd_source::{Statement, parse_line, register_of};
-use brd_text::{is_name, is_run_byte, split_line};
+use brd_text::{is_name, is_run_byte, number, split_line};
 use std::alloc::Global;
 
 /// How many names of a line are looked at.
@@ -193,9 +193,14 @@ pub(crate) fn ranged<'a>(site: &Site<'a>) -> Option<Finding<'a>> {
             ));
         }
     }
-    let template = range_of(parts.operation?)?;
     let rest = value_in(site)?;
-    Some(Finding::at(rest, template, parts.word).with_other(without_base(before_comma(rest))))
+    let value = without_base(before_comma(rest));
+    let template = half_of(parts.operation?, value).or(range_of(parts.operation?))?;
+    let found = Finding::at(rest, template, parts.word).with_other(value);
+    Some(match number(value) {
+        Some(word) => found.with_address(word as u64 / 0x1_0000),
+        None => found,
+    })
 }
 
 /// The operand of a statement whose value is out of range: the first number that its width can't hold, else the last

@@ -12,21 +12,16 @@ use crate::scan::{behind, cut, first, run, skip_blanks, token};
 use crate::statements::{Parts, parts_of};
 use brd_asm::AsmFault;
 use brd_source::{
-    SourceToken, after_blanks, byte_for, escapes, first_token, operation_named, order_named,
+    Directive, Operation, SourceToken, after_blanks, byte_for, escapes, first_token,
+    operation_named, order_named,
 };
 use brd_text::{is_name, line_at};
 use std::alloc::Global;
 
 /// The diagnosis of a source's fault.
 pub fn source_hint(alloc: Global, text: &[u8], fault: AsmFault) -> FaultHint {
-    let number = match fault {
-        AsmFault::NoMemory => return FaultHint::none(),
-        AsmFault::Syntax { line }
-        | AsmFault::UnknownName { line }
-        | AsmFault::Twice { line }
-        | AsmFault::Range { line }
-        | AsmFault::Misaligned { line }
-        | AsmFault::Overlap { line } => line,
+    let Some(number) = line_in(fault) else {
+        return FaultHint::none();
     };
     let line = line_at(text, number);
     let site = Site {
@@ -52,8 +47,31 @@ pub fn source_hint(alloc: Global, text: &[u8], fault: AsmFault) -> FaultHint {
     )
 }
 
+/// The line in which a fault is, counted from 1.
+pub(crate) fn line_in(fault: AsmFault) -> Option<usize> {
+    match fault {
+        AsmFault::NoMemory => None,
+        AsmFault::Syntax { line }
+        | AsmFault::UnknownName { line }
+        | AsmFault::Twice { line }
+        | AsmFault::Range { line }
+        | AsmFault::Misaligned { line }
+        | AsmFault::Overlap { line } => Some(line),
+    }
+}
+
+/// Whether nothing is wrong with the labels of a line.
+pub(crate) fn has_right_labels<'a>(line: &'a [u8], parts: &Parts<'a>) -> bool {
+    let (labels, _) = cut(line, parts.code.len().saturating_sub(parts.statement.len()));
+    byte_fault(labels).is_none() && label_fault(line, parts).is_none()
+}
+
 /// What keeps a line from having a form.
 fn form_fault<'a>(line: &'a [u8], parts: &Parts<'a>) -> Option<Finding<'a>> {
+    if is_string(parts.operation) && first(parts.operands) == b'\'' {
+        let template = b"a string stands between double quotes, as \"text\"";
+        return Some(Finding::at(parts.operands, template, &[]));
+    }
     if let Some(found) = byte_fault(parts.code) {
         return Some(found);
     }
@@ -81,9 +99,11 @@ fn byte_fault(code: &[u8]) -> Option<Finding<'_>> {
         let (token, after) = first_token(rest)?;
         let from = after_blanks(rest);
         let found = match token {
-            SourceToken::Mark(byte) => mark_advice(byte).map(|template| {
-                Finding::at(from, template, &[]).with_number(byte as u64)
-            }),
+            SourceToken::Mark(byte) => {
+                mark_advice(byte, first(behind(from, 1))).map(|template| {
+                    Finding::at(from, template, &[]).with_number(byte as u64)
+                })
+            }
             SourceToken::Quoted(text) => string_fault(text, behind(from, 1)),
             SourceToken::Wrong => Some(Finding::at(
                 from,
@@ -121,8 +141,16 @@ fn string_fault<'a>(string: &[u8], text: &[u8]) -> Option<Finding<'a>> {
     None
 }
 
-/// What is said of a byte that has no place in a line outside of strings.
-fn mark_advice(byte: u8) -> Option<&'static [u8]> {
+/// Whether a string is wanted behind an operation.
+fn is_string(operation: Option<Operation>) -> bool {
+    matches!(
+        operation,
+        Some(Operation::Directive(Directive::Ascii | Directive::Asciiz))
+    )
+}
+
+/// What is said of a byte that has no place in a line outside of strings, and of the next one.
+fn mark_advice(byte: u8, next: u8) -> Option<&'static [u8]> {
     let advice = match byte {
         128.. => b"the byte ? isn't printable ASCII: it can stand in comments only".as_slice(),
         127 | 0..=31 => {
@@ -133,6 +161,9 @@ fn mark_advice(byte: u8) -> Option<&'static [u8]> {
         }
         b'\'' => b"no character constants: write the number, as 65 for an A".as_slice(),
         b'*' => b"no products, and no comments of this kind: they begin with # or //".as_slice(),
+        b'/' if next == b'*' => {
+            b"no comments over lines: each begins with # or //, and ends with its line".as_slice()
+        }
         b'/' => b"no quotients: comments begin with # or //".as_slice(),
         b'=' => b"a name gets a value by .equ name, value".as_slice(),
         b'[' => b"no brackets: an address is written offset(base), as 0($t0)".as_slice(),
