@@ -1,0 +1,3 @@
+pub mod TurningLemmas
+pub mod TryLemmas
+pub mod ToldLemmas

@@ -1,0 +1,96 @@
+//! What stands at the end, in words.
+
+use crate::turning::Turned;
+use brd_base::NoMemory;
+use brd_board::{Board, TaskState, TaskView};
+use brd_journal::Journal;
+use brd_mem::{Image, Segment};
+use brd_text::hex_digits;
+use brd_trace::{Names, Options, Tracer};
+use std::alloc::Global;
+
+/// What stands at the end of a journal, as a summary of its trace tells it, and which tasks have run off the end of
+/// the program.
+pub(crate) fn summary(
+    alloc: Global,
+    image: &Image,
+    boot: Board,
+    turned: &Turned,
+    tasks: u8,
+) -> Result<Vec<u8>, NoMemory> {
+    let mut out = Vec::new(alloc);
+    put_summary(alloc, image, boot, &turned.journal, &mut out)?;
+    for before in 0..tasks {
+        put_runaway(alloc, image, &turned.board, before as u16 + 1, &mut out)?;
+    }
+    Ok(out)
+}
+
+/// Puts at the end what a trace tells of a board after a journal.
+fn put_summary(
+    alloc: Global,
+    image: &Image,
+    boot: Board,
+    journal: &Journal,
+    out: &mut Vec<u8>,
+) -> Result<(), NoMemory> {
+    let names = Names::new(image.symbols.as_slice());
+    let options = Options {
+        cpu: None,
+        instructions: false,
+        shown: false,
+        lines: [0; 32],
+    };
+    let mut tracer = Tracer::new(alloc, boot, options)?;
+    let len = journal.len();
+    while tracer.playback.at < len {
+        let mut lines = Vec::new(alloc);
+        tracer.advance_far(alloc, names, journal, len, &mut lines)?;
+    }
+    tracer.put_summary(alloc, names, out)
+}
+
+/// Puts a line at the end where a task goes on, or has stopped by an exception, at an address at which nothing of the
+/// program lies, nor before it.
+fn put_runaway(
+    alloc: Global,
+    image: &Image,
+    board: &Board,
+    id: u16,
+    out: &mut Vec<u8>,
+) -> Result<(), NoMemory> {
+    let Some(place) = place_of(board.task(id)) else {
+        return Ok(());
+    };
+    let segments = image.segments.as_slice();
+    if lies_in(segments, place) || lies_in(segments, place.wrapping_sub(4)) {
+        return Ok(());
+    }
+    let front = format!(in alloc;
+        "task {id} has run off the end of the program: nothing of it lies at "
+    )?;
+    out.extend_from_slice(front.as_bytes())?;
+    out.extend_from_slice(&hex_digits(place))?;
+    out.push(b'\n')?;
+    Ok(())
+}
+
+/// Where a task goes on, or has ended.
+fn place_of(task: Option<TaskView>) -> Option<u32> {
+    let task = task?;
+    match task.state {
+        TaskState::Ready | TaskState::Dormant => Some(task.context.pc()),
+        _ => None,
+    }
+}
+
+/// Whether an address lies in one of some segments.
+fn lies_in(segments: &[Segment], address: u32) -> bool {
+    for segment in segments {
+        let is_behind = segment.address <= address;
+        if is_behind && ((address - segment.address) as usize) < segment.bytes.len() {
+            return true;
+        }
+    }
+    false
+}
