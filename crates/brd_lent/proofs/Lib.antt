@@ -1,0 +1,4 @@
+pub mod KnownLemmas
+pub mod LentLemmas
+pub mod PlanLemmas
+pub mod WindowLemmas

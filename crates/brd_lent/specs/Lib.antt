@@ -1,0 +1,4 @@
+pub mod Known
+pub mod Plans
+pub mod Most
+pub mod Window
