@@ -13,7 +13,8 @@ use Rattle.brd_board.specs.declared.event.Event.TheVariants.{Step}
 use Rattle.brd_board.specs.declared.lease.Block.{Block}
 use Rattle.brd_board.specs.Board.{BoardState, after}
 use Rattle.brd_board.specs.Batch.{GoesOn}
-use Rattle.brd_board.specs.Lease.{most_lent, LeaseState, IsLease, block_in, IsFresh, lent_more, lent_next, Steps, DoesMost}
+use Rattle.brd_board.specs.Lease.{most_lent, LeaseState, IsLease, block_in, IsFresh, lent_more, DoesMost}
+use Rattle.brd_lent.specs.Most as words
 use Rattle.brd_board.proofs.BatchLemmas.{local-steps-go}
 
 -- past a step that isn't lent there is none
@@ -37,26 +38,40 @@ greatest count done s window start none there = elim (cases_lt done count) [
   | inr within ↦ omega (arith, within)
 ]
 
--- a lease that can do no more stays as it is
-stays : (next : Option State) (old new : LeaseState) (result : Bool) → result ≡ false → Steps next old result new → (next ≡ None) × (new ≡ old)
-stays None old new result is steps = (refl, steps.1)
-stays (Some after) old new result is steps = let wrong : ⊥ = cc (steps.0, is) in absurd wrong
+-- steps and then steps
+lent-sum : (n count total : ℕ) (s middle : State) (window : List ℕ) (start : ℕ) → total ≡ n + count → lent n s window start ≡ Some middle →
+    lent total s window start ≡ lent count middle window start
+lent-sum n zero total s middle window start sum before =
+    let same : total ≡ n = omega (arith, sum) in ap (λ k. lent k s window start) same ∙ before
+lent-sum n (suc count) total s middle window start sum before =
+    let next : total ≡ suc (n + count) = omega (arith, sum) in
+    ap (λ k. lent k s window start) next ∙ ap (λ s. lent_on s window start) (lent-sum n count (n + count) s middle window start refl before)
 
-pub done-most : (limit done : ℕ) (old now new : LeaseState) (result : Bool) → lent_more old done ≡ Some now.context →
-    now ≡ record old { len = old.len + done; context = now.context } → done ≤ limit → old.len + done ≤ most_lent →
-    result ≡ false → Steps (lent_next now) now result new → DoesMost limit old new done
-done-most limit done old now new result led rest limited most stopped steps =
-    let end = stays (lent_next now) now new result stopped steps in
-    let none : lent_more old (suc done) ≡ None =
-    ap (λ before. lent_on before old.window (window_start old.block.context.pc)) led
-    ∙ ap (λ (l : LeaseState). lent_step now.context l.window (window_start l.block.context.pc)) (sym rest) ∙ end.0 in
-    record {
-      led = led ∙ ap (λ (l : LeaseState). Some l.context) (sym end.1);
-      rest = end.1 ∙ rest ∙ ap (λ (l : LeaseState). record old { len = old.len + done; context = l.context }) (sym end.1);
-      limited = limited;
-      most = most;
-      greatest = λ count within fits there. greatest count done old.context old.window (window_start old.block.context.pc) none there;
-    }
+-- a lease stays one when more is done under it
+pub more-led : (lease : LeaseState) (count : ℕ) (after : State) → IsLease lease → lent_more lease count ≡ Some after →
+    lease.len + count ≤ most_lent → IsLease (record lease { len = lease.len + count; context = after })
+more-led lease count after is_lease led few = record {
+  most = few;
+  led = lent-sum lease.len count (lease.len + count) lease.block.context lease.context lease.window (window_start lease.block.context.pc) refl is_lease.led ∙ led;
+}
+
+pub done-most : (limit most done : ℕ) (old : LeaseState) (after : State) → most ≤ limit → old.len + most ≤ most_lent →
+    ((count : ℕ) → count ≤ limit → old.len + count ≤ most_lent → count ≤ most) →
+    words.DoesMost old.window (window_start old.block.context.pc) most old.context after done →
+    DoesMost limit old (record old { len = old.len + done; context = after }) done
+done-most limit most done old after within fits all does = record {
+  led = does.led;
+  rest = refl;
+  limited = omega (arith, within, does.few);
+  most = omega (arith, fits, does.few);
+  greatest = λ count few room there. elim (cases_lt done most) [
+    | inl less ↦
+        let none : lent_more old (suc done) ≡ None =
+        ap (λ s. lent_on s old.window (window_start old.block.context.pc)) does.led ∙ does.end less in
+        greatest count done old.context old.window (window_start old.block.context.pc) none there
+    | inr enough ↦ omega (arith, enough, all count few room)
+  ];
+}
 
 -- A lease that is committed.
 

@@ -1,11 +1,11 @@
 -- Leases: what is needed to do a processor's local instructions apart from the board, and what a lease comes to.
-use Rattle.std.specs.Prelude.{◌≡◌, ℕ, ◌+◌, ◌≤◌, ◌%◌, ◌==◌, Bool, true, false, ◌||◌, if◌then◌else◌, List, replicate}
+use Rattle.std.specs.Prelude.{◌≡◌, ℕ, ◌+◌, ◌≤◌, ◌%◌, ◌==◌, true, false, ◌||◌, if◌then◌else◌, List, replicate}
 use Rattle.std.specs.Prelude.{Option, None, Some, is_some, Result, Ok, Err}
 use Rattle.brd_mem.specs.Memory.{Memory}
 use Rattle.brd_mem.specs.Window.{window_start, window_at}
 use Rattle.brd_exec.specs.State.{State}
-use Rattle.brd_exec.specs.Lent.{lent_step, lent}
-use Rattle.brd_kernel.specs.declared.processor.Processor.{Processor}
+use Rattle.brd_exec.specs.Lent.{lent}
+use Rattle.brd_kernel.specs.declared.processor.{Processor.Processor, Standing.Standing, Marks.Marks}
 use Rattle.brd_kernel.specs.Kernel.{processor_at, context_on, standing_in, marks_of, deliverable}
 use Rattle.brd_board.specs.declared.event.Event.TheVariants.{Step}
 use Rattle.brd_board.specs.declared.lease.Block.{Block}
@@ -30,13 +30,16 @@ pub record IsLease (lease : LeaseState) : Type 0 where
   pub most : lease.len ≤ most_lent
   pub led : lent lease.len lease.block.context lease.window (window_start lease.block.context.pc) ≡ Some lease.context
 
+abbrev pub block_by : Standing → Marks → State → Block
+block_by standing marks context = record { standing = standing; marks = marks; context = context }
+
 -- a processor's block: what it is doing, its marks and the context in which it executes; none where it isn't there, is
 -- idle or is stopped, since nobody executes there
 
 abbrev pub block_in : Option Processor → Option State → Option Block
 block_in None context = None
 block_in (Some p) None = None
-block_in (Some p) (Some context) = Some (record { standing = standing_in p; marks = marks_of p; context = context })
+block_in (Some p) (Some context) = Some (block_by (standing_in p) (marks_of p) context)
 
 abbrev pub block_of : BoardState → ℕ → Option Block
 block_of b cpu = block_in (processor_at b.kernel cpu) (context_on b.kernel cpu)
@@ -73,14 +76,6 @@ pub record IsFresh (b : BoardState) (lease : LeaseState) : Type 0 where
 -- the context after n more lent steps of a lease, if there are n
 abbrev pub lent_more : LeaseState → ℕ → Option State
 lent_more lease count = lent count lease.context lease.window (window_start lease.block.context.pc)
-
-abbrev pub lent_next : LeaseState → Option State
-lent_next lease = lent_step lease.context lease.window (window_start lease.block.context.pc)
-
--- what one more lent step, if there is one, makes of a lease, and whether it does
-abbrev pub Steps : Option State → LeaseState → Bool → LeaseState → Type 0
-Steps None old result new = (result ≡ false) × (new ≡ old)
-Steps (Some after) old result new = (result ≡ true) × (new ≡ record old { len = old.len + 1; context = after })
 
 -- Under a lease as many lent steps were done as there are, up to the limit, and up to 64 in all.
 pub record DoesMost (limit : ℕ) (old new : LeaseState) (done : ℕ) : Type 0 where

@@ -1,11 +1,13 @@
 //! Leases: what one processor needs, to do local instructions apart from the board.
 
-ghost use Rattle.std.specs.Prelude.{◌≡◌, ◌<◌, ◌≤◌, length};
-ghost use Rattle.brd_board.specs.Lease.{most_lent, IsLease, lent_next, Steps, DoesMost};
+ghost use Rattle.std.specs.Prelude.{◌≡◌, ◌≤◌, true, false, Decides, None, Some};
+ghost use Rattle.brd_board.specs.Lease.{most_lent, block_by, code_window, lease_by, IsLease, DoesMost};
 
 use brd_base::Same;
-use brd_exec::{Context, run_local};
+use brd_exec::Context;
 use brd_kernel::{Marks, Standing};
+use brd_lent::{Decoded, Window};
+use brd_mem::Ram;
 use std::marker::Model;
 
 /// How many instructions a lease is good for (own choice).
@@ -27,23 +29,26 @@ pub struct Block {
     pub context: Context,
 }
 
-impl Same for Block {
-    fn same(&self, other: &Self) -> bool {
-        self.standing == other.standing
-            && self.marks == other.marks
-            && self.context.same(&other.context)
+impl Block {
+    /// Whether a processor with this standing, these marks and this context has the same block.
+    #[inline(always)]
+    pub(crate) fn is_of(&self, standing: Standing, marks: Marks, context: &Context) -> bool
+        ensures { Decides result (block_by standing marks context.now ≡ self.now) }
+    {
+        standing == self.standing && marks == self.marks && context.same(&self.context)
     }
 }
 
 /// A copy of a processor's block and of its window of code, the 64 words round its next instruction. By it the next
 /// instructions are done apart from the board, as long as they lie in the window, are local (`brd_isa::is_local`), and
 /// are no branch or jump in a delay slot; 64 of them at most. `Board::lend` makes one, and `Board::commit` carries over
-/// to the board what was done.
+/// to the board what was done. A thread that leases over and over has one lease, into which `Board::lend_into` lends
+/// anew: so none is moved.
 #[derive(Drop)]
 pub struct Lease {
     cpu: u8,
     block: Block,
-    window: [u32; 64],
+    window: Window,
     /// The address of the window's first word.
     start: u32,
     /// How many instructions were done.
@@ -67,19 +72,61 @@ impl Model for Lease {
 }
 
 impl Lease {
-    /// A lease of which nothing was done yet.
-    pub(crate) fn new(cpu: u8, block: Block, window: [u32; 64]) -> Lease
-        ensures { result ≡ record { cpu = cpu; block = block; window = window; len = 0; context = block.context } }
+    /// A place to lend into: a lease of an idle processor's, under which nothing was done.
+    pub fn blank(cpu: u8) -> Lease
+        ensures cpu { result.cpu ≡ cpu }
+        ensures none { result.len ≡ 0 }
     {
-        let pc = block.context.pc();
+        let context = Context::opening(0, 0, 0);
+        let marks = Marks {
+            locked: false,
+            disabled: false,
+            spin: None,
+        };
         Lease {
             cpu,
-            block,
-            window,
-            start: pc - pc % 256,
+            block: Block {
+                standing: Standing::Idle,
+                marks,
+                context,
+            },
+            window: Window::zeros(),
+            start: 0,
             len: 0,
-            context: block.context,
+            context,
         }
+    }
+
+    /// Becomes a lease of which nothing was done yet, of a processor with this block, where RAM has the window of code
+    /// round its next instruction and that is aligned. Answers whether; else it stays as it was.
+    pub(crate) fn renew(
+        &mut self,
+        cpu: u8,
+        standing: Standing,
+        marks: Marks,
+        context: &Context,
+        ram: &Ram,
+    ) -> bool
+        ensures lent { result ≡ true →
+            lease_by cpu (block_by standing marks context.now)
+            (code_window ram.now context.now.pc) ≡ Some self.new }
+        ensures none { result ≡ false → (code_window ram.now context.now.pc ≡ None) × (self.new ≡ self.old) }
+    {
+        let pc = context.pc();
+        if pc % 4 != 0 {
+            return false;
+        }
+        if !self.window.read(ram, pc) {
+            return false;
+        }
+        self.cpu = cpu;
+        self.block.standing = standing;
+        self.block.marks = marks;
+        self.block.context = *context;
+        self.start = pc - pc % 256;
+        self.len = 0;
+        self.context = *context;
+        true
     }
 
     /// Whose lease it is: the processor's number, from 1 on.
@@ -102,24 +149,16 @@ impl Lease {
     pub fn run(&mut self, limit: u32) -> u32
         ensures { DoesMost limit self.old self.new result }
     {
-        let most = limit.min(MOST_LENT - self.len);
-        for done in 0..most {
-            if !self.step() {
-                return done;
-            }
-        }
-        most
+        self.run_by(&mut Decoded::new(), limit)
     }
 
-    /// Does the next instruction, if it can be done under the lease. Answers whether it did.
-    fn step(&mut self) -> bool
-        requires { self.old.len < most_lent }
-        ensures { Steps (lent_next self.old) self.old result self.new }
+    /// Does the same with words that are decoded already.
+    pub fn run_by(&mut self, decoded: &mut Decoded, limit: u32) -> u32
+        ensures { DoesMost limit self.old self.new result }
     {
-        let done = run_local(&mut self.context, &self.window, self.start);
-        if done {
-            self.len += 1;
-        }
+        let most = limit.min(MOST_LENT - self.len);
+        let done = decoded.run(&mut self.context, &self.window, self.start, most);
+        self.len += done;
         done
     }
 
@@ -131,9 +170,8 @@ impl Lease {
     }
 
     /// The window of code as it was lent.
-    pub(crate) fn window(&self) -> &[u32]
-        ensures is { result.now ≡ self.now.window }
-        ensures count { length result.now ≡ 64 }
+    pub(crate) fn window(&self) -> &Window
+        ensures { result.now ≡ self.now.window }
     {
         &self.window
     }

@@ -1,12 +1,14 @@
 //! Leases of a board: lent, and committed.
 
-ghost use Rattle.std.specs.Prelude.{◌≡◌, Decides, not, Some};
-ghost use Rattle.brd_board.specs.Lease.{block_of, code_window, lease_of, IsFresh, Commits};
+ghost use Rattle.std.specs.Prelude.{◌≡◌, true, false, Decides, not, replicate, option_map, None, Some};
+ghost use Rattle.brd_board.specs.declared.event.Event.TheVariants.{Step};
+ghost use Rattle.brd_board.specs.Board.{after};
+ghost use Rattle.brd_board.specs.Lease.{block_by, block_of, code_window, lease_of, lease_in, IsFresh, Commits};
 
 use super::Board;
-use crate::lease::{Block, Lease, Stale};
-use brd_base::Same;
-use brd_lanes::same_words;
+use crate::lease::{Lease, Stale};
+use brd_exec::Context;
+use brd_kernel::{Marks, Standing};
 
 impl Board {
     /// A lease of a processor, by which its next instructions can be done apart from the board. None exactly where the
@@ -15,12 +17,45 @@ impl Board {
     pub fn lend(&self, cpu: u8) -> Option<Lease>
         ensures { result ≡ lease_of self.now cpu }
     {
-        if self.is_off() || self.kernel.deliverable(cpu).is_some() {
-            return None;
+        let mut lease = Lease::blank(cpu);
+        if self.lend_into(cpu, &mut lease) {
+            Some(lease)
+        } else {
+            None
         }
-        let block = self.block(cpu)?;
-        let window = self.code_window(block.context.pc())?;
-        Some(Lease::new(cpu, block, window))
+    }
+
+    /// Makes a lease the one that `lend` would answer. False, and it stays as it was, where that would be none.
+    pub fn lend_into(&self, cpu: u8, lease: &mut Lease) -> bool
+        ensures lent { result ≡ true → lease_of self.now cpu ≡ Some lease.new }
+        ensures none { result ≡ false → (lease_of self.now cpu ≡ None) × (lease.new ≡ lease.old) }
+    {
+        if self.is_off() || self.kernel.deliverable(cpu).is_some() {
+            return false;
+        }
+        self.lend_block(cpu, lease)
+    }
+
+    /// The same where the board is on and no interrupt is deliverable to the processor.
+    #[inline(always)]
+    fn lend_block(&self, cpu: u8, lease: &mut Lease) -> bool
+        ensures lent { result ≡ true → lease_in cpu self.now.memory (block_of self.now cpu) ≡ Some lease.new }
+        ensures none { result ≡ false →
+            (lease_in cpu self.now.memory (block_of self.now cpu) ≡ None) × (lease.new ≡ lease.old) }
+    {
+        let Some((standing, marks, context)) = self.block(cpu) else {
+            return false;
+        };
+        lease.renew(cpu, standing, marks, context, &self.ram)
+    }
+
+    /// A processor's block, where somebody executes on it: its standing, its marks and its context, where that lies.
+    #[inline(always)]
+    fn block(&self, cpu: u8) -> Option<(Standing, Marks, &Context)>
+        ensures { option_map (λ b. block_by b.0 b.1 b.2.now) result ≡ block_of self.now cpu }
+    {
+        let context = self.kernel.context(cpu)?;
+        Some((self.kernel.standing(cpu)?, self.kernel.marks(cpu)?, context))
     }
 
     /// Whether `commit` would answer `Stale`.
@@ -42,49 +77,35 @@ impl Board {
         if self.is_stale(&lease) {
             return Err(Stale);
         }
-        self.kernel.put_context(lease.cpu(), *lease.context());
+        self.carry_over(&lease);
         Ok(lease.len())
     }
 
-    /// A processor's block, where somebody executes on it.
-    fn block(&self, cpu: u8) -> Option<Block>
-        ensures { result ≡ block_of self.now cpu }
+    /// Carries over what was done under a lease that isn't stale: as many steps of its processor happen.
+    pub fn carry_over(&mut self, lease: &Lease)
+        requires { IsFresh self.old lease.now }
+        ensures { self.new ≡ after self.old (replicate lease.now.len (Step lease.now.cpu)) }
     {
-        let context = *self.kernel.context(cpu)?;
-        Some(Block {
-            standing: self.kernel.standing(cpu)?,
-            marks: self.kernel.marks(cpu)?,
-            context,
-        })
-    }
-
-    /// The window of code round an address, where that is aligned and in RAM.
-    fn code_window(&self, pc: u32) -> Option<[u32; 64]>
-        ensures { result ≡ code_window self.now.memory pc }
-    {
-        if pc % 4 != 0 {
-            return None;
-        }
-        self.ram.window(pc)
+        self.kernel.put_context(lease.cpu(), *lease.context());
     }
 
     /// Whether the lease's processor still has the block that was lent.
+    #[inline(always)]
     fn has_block(&self, lease: &Lease) -> bool
         ensures { Decides result (block_of self.now lease.now.cpu ≡ Some lease.now.block) }
     {
         match self.block(lease.cpu()) {
-            Some(block) => block.same(lease.block()),
+            Some((standing, marks, context)) => lease.block().is_of(standing, marks, context),
             None => false,
         }
     }
 
     /// Whether RAM still has the window of code that was lent.
+    #[inline(always)]
     fn has_window(&self, lease: &Lease) -> bool
         ensures { Decides result (code_window self.now.memory lease.now.block.context.pc ≡ Some lease.now.window) }
     {
-        match self.code_window(lease.block().context.pc()) {
-            Some(window) => same_words(&window, lease.window()),
-            None => false,
-        }
+        let pc = lease.block().context.pc();
+        pc % 4 == 0 && lease.window().is_at(&self.ram, pc)
     }
 }

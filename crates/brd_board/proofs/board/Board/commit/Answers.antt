@@ -1,27 +1,5 @@
-use Rattle.std.proofs.Common.{◌≡◌, replicate, not, subst, sym, ap, ◌∙◌}
-use Rattle.std.specs.Prelude.{IfSome}
-use Rattle.brd_kernel.specs.Kernel.{executor_on, with_context_of}
-use Rattle.brd_kernel.specs.Always.{HasPlace}
-use Rattle.brd_board.specs.declared.event.Event.TheVariants.{Step}
-use Rattle.brd_board.specs.Board.{BoardState, after}
-use Rattle.brd_board.specs.Lease.{IsFresh}
-use Rattle.brd_board.proofs.LeaseLemmas.{steps-committed}
+use Rattle.std.proofs.Common.{not, ap}
 use Rattle.brd_board.proofs.board.Board.commit.Goals as goal
 
-pub returns : goal.returns
-returns c =
-    let lease = c.args.lease in
-    let k = c.self.inside.kernel in
-    let new = c.put_context.new.self in
-    let fresh : IsFresh c.args.self.now lease = c.is_stale.ensures.0 (ap not c.if-is_stale.false) in
-    let put : IfSome (executor_on k lease.cpu) (λ who. new ≡ with_context_of k lease.cpu who lease.context) =
-    subst (λ s. IfSome (executor_on k lease.cpu) (λ who. new ≡ with_context_of k lease.cpu who s)) c.context.ensures.is
-    (subst (λ n. IfSome (executor_on k n) (λ who. new ≡ with_context_of k n who c.context.result.now)) c.cpu.ensures
-    c.put_context.ensures.is) in
-    let place : IfSome (executor_on k lease.cpu) (HasPlace k lease.cpu) =
-    subst (λ n. IfSome (executor_on k n) (HasPlace k n)) c.cpu.ensures c.put_context.ensures.place in
-    let steps = steps-committed _ lease new (subst (λ b. IsFresh b lease) (sym c.self.view_is) fresh) c.context.ensures.kept put place in (
-      fresh,
-      c.len.ensures.is,
-      steps ∙ ap (λ (b : BoardState). after b (replicate lease.len (Step lease.cpu))) c.self.view_is,
-    )
+pub carry_over-requires : goal.carry_over-requires
+carry_over-requires c = c.is_stale.ensures.0 (ap not c.if-is_stale.false)
