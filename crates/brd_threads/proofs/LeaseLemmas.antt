@@ -1,12 +1,9 @@
 -- Leases: new when they are lent, and done when they are committed fresh.
-use Rattle.std.proofs.Common.{◌≡◌, ℕ, List, replicate, sym}
-use Rattle.std.specs.Prelude.{Bool, true, false, ◌||◌, if◌then◌else◌, Option, None, Some, is_some, IfSome, Result, Ok, Err}
-use Rattle.brd_board.specs.declared.event.Event.TheVariants.{Step}
+use Rattle.std.proofs.Common.{◌≡◌, ℕ, List, sym}
+use Rattle.std.specs.Prelude.{Bool, true, false, ◌||◌, if◌then◌else◌, Option, None, Some, is_some, IfSome}
 use Rattle.brd_board.specs.declared.lease.Block.{Block}
-use Rattle.brd_board.specs.declared.lease.Stale.{Stale}
-use Rattle.brd_board.specs.Board.{BoardState, after}
-use Rattle.brd_board.specs.Lease as lease
-use Rattle.brd_board.specs.Lease.{LeaseState, IsFresh, block_of, code_window, lease_by, lease_in, lease_of}
+use Rattle.brd_board.specs.Board.{BoardState}
+use Rattle.brd_board.specs.Lease.{LeaseState, block_of, code_window, lease_by, lease_in, lease_of}
 use Rattle.brd_board.specs.Kernel.{deliverable}
 use Rattle.brd_board.specs.Memory.{Memory}
 use Rattle.brd_threads.specs.Leases.{IsNewFor}
@@ -23,14 +20,9 @@ unless : (stopped : Bool) (cpu : ℕ) (o : Option LeaseState) (l : LeaseState) �
 unless true cpu o l new is = cc
 unless false cpu o l new is = new is
 
-lent_new : (b : BoardState) (cpu : ℕ) (l : LeaseState) → lease_of b cpu ≡ Some l → IsNewFor cpu l
+pub lent_new : (b : BoardState) (cpu : ℕ) (l : LeaseState) → lease_of b cpu ≡ Some l → IsNewFor cpu l
 lent_new b cpu l is = unless (b.kernel.off || is_some (deliverable b.kernel cpu)) cpu (lease_in cpu b.memory (block_of b cpu)) l (in_new cpu b.memory (block_of b cpu) l) is
 
 pub lent_is_new : (b : BoardState) (cpu : ℕ) (lent : Option LeaseState) → lent ≡ lease_of b cpu → IfSome lent (IsNewFor cpu)
 lent_is_new b cpu None is = tt
 lent_is_new b cpu (Some l) is = lent_new b cpu l (sym is)
-
--- a lease that isn't stale is committed
-pub fresh_commits : (b new : BoardState) (l : LeaseState) (answer : Result ℕ Stale) → IsFresh b l → lease.Commits b l answer new → new ≡ after b (replicate l.len (Step l.cpu))
-fresh_commits b new l (Ok count) fresh commits = commits.2
-fresh_commits b new l (Err stale) fresh commits = absurd (commits.0 fresh)

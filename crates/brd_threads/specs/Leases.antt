@@ -2,9 +2,10 @@
 use Rattle.std.specs.Prelude.{◌≡◌, ◌⊎◌, ◌<◌, ℕ, true, false, List, replicate, Option, None, Some, Result, Ok, Err}
 use Rattle.brd_board.specs.declared.event.Event.{Event}
 use Rattle.brd_board.specs.declared.event.Event.TheVariants.{Step}
-use Rattle.brd_board.specs.Lease.{LeaseState, IsFresh}
+use Rattle.brd_board.specs.Lease.{LeaseState, IsFresh, lease_of}
 use Rattle.brd_threads.specs.declared.fault.CommitFault.{CommitFault}
 use Rattle.brd_threads.specs.declared.fault.CommitFault.TheVariants.{NoMemory, JournalFull, Stale}
+use Rattle.brd_threads.specs.declared.workers.Turn.{Turn}
 use Rattle.brd_threads.specs.Station.{StationState, board_of, has_room, with_events}
 
 -- what was done under a lease, as events
@@ -31,3 +32,17 @@ pub record IsNewFor (cpu : ℕ) (lease : LeaseState) : Type 0 where
 abbrev pub CountsTurn : Option LeaseState → ℕ → Type 0
 CountsTurn None steps = steps ≡ 1
 CountsTurn (Some lease) steps = (steps ≡ 1) ⊎ ((steps ≡ lease.len) × (0 < lease.len))
+
+-- what a worker is lent for its next turn: a lease, or no lease; and no turn where the board is off
+abbrev pub IsLent : StationState → ℕ → LeaseState → Turn → LeaseState → Type 0
+IsLent station cpu old Turn.Leased new =
+    ((board_of station).kernel.off ≡ false) × (lease_of (board_of station) cpu ≡ Some new)
+IsLent station cpu old Turn.Unleased new =
+    ((board_of station).kernel.off ≡ false) × (lease_of (board_of station) cpu ≡ None) × (new ≡ old)
+IsLent station cpu old Turn.Off new = ((board_of station).kernel.off ≡ true) × (new ≡ old)
+
+-- what was run in a turn: the lease, where it had one
+abbrev pub run_in : Turn → LeaseState → Option LeaseState
+run_in Turn.Leased lease = Some lease
+run_in Turn.Unleased lease = None
+run_in Turn.Off lease = None

@@ -3,7 +3,6 @@ use Rattle.std.specs.Prelude.{◌≡◌, ◌⊎◌, ℕ, ◌+◌, ◌<◌, ◌�
 use Rattle.std.specs.Prelude.{slice_index_or}
 use Rattle.std.specs.Prelude.{Option, None, Some, Result, Ok, Err}
 use Rattle.brd_board.specs.Board.{BoardState}
-use Rattle.brd_board.specs.Lease.{LeaseState, lease_of}
 use Rattle.brd_journal.specs.Runs.{runs_of}
 use Rattle.brd_ledgers.specs.Shares.{Counted}
 use Rattle.brd_threads.specs.declared.fault.RaceFault.{RaceFault}
@@ -121,8 +120,3 @@ Drives false (Some entry) old None new = new ≡ with_entry old entry
 Drives false (Some entry) old (Some (Ok done)) new = ⊥
 Drives false (Some entry) old (Some (Err fault)) new =
     (new ≡ old) × IsFaultFor (has_room old.journal (event_of entry ∷ [])) fault
-
--- what a worker is lent: nothing, also no turn, where the board is off; else the lease that there is, if any
-abbrev pub IsLent : StationState → ℕ → Option (Option LeaseState) → Type 0
-IsLent station cpu None = (board_of station).kernel.off ≡ true
-IsLent station cpu (Some lent) = ((board_of station).kernel.off ≡ false) × (lent ≡ lease_of (board_of station) cpu)

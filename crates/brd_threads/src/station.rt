@@ -1,7 +1,7 @@
 //! The station, what threads share under one lock: a board, its journal, and the script of what comes from outside.
 
 ghost use Rattle.std.specs.Prelude.{◌≡◌, ℕ, ◌+◌, ◌<◌, ◌≤◌, ◌==◌, ◌^◌, ◌∷◌, [], length, take, replicate, vec_len};
-ghost use Rattle.std.specs.Prelude.{Decides, Some, IfOk, IfSome, OnOk, OnErr, IfErr};
+ghost use Rattle.std.specs.Prelude.{true, false, Decides, None, Some, IfOk, IfSome, OnOk, OnErr, IfErr};
 ghost use Rattle.brd_board.specs.declared.event.Event.TheVariants.{Step};
 ghost use Rattle.brd_board.specs.Lease.{lease_of};
 ghost use Rattle.brd_journal.specs.Journal.{most_runs};
@@ -187,6 +187,15 @@ impl<K: Race> Station<K> {
         self.board.lend(cpu)
     }
 
+    /// Makes a lease the one that `lend` would answer. False, and it stays as it was, where that would be none.
+    pub fn lend_into(&self, cpu: u8, lease: &mut Lease) -> bool
+        ensures lent { result ≡ true → lease_of (board_of self.now) cpu ≡ Some lease.new }
+        ensures none { result ≡ false → (lease_of (board_of self.now) cpu ≡ None) × (lease.new ≡ lease.old) }
+        ensures new { result ≡ true → IsNewFor cpu lease.new }
+    {
+        self.board.lend_into(cpu, lease)
+    }
+
     /// Carries over what was done under a lease: it is as many steps of its processor, which its share counts. Answers
     /// how many. It is `Stale` exactly where `Board::is_stale` says so, and else `JournalFull` exactly where the
     /// journal has no room for the steps, unless memory runs out. An `Err` changes nothing.
@@ -196,15 +205,24 @@ impl<K: Race> Station<K> {
         ensures count { OnOk result (share.new ≡ record share.old { count = share.old.count + lease.len }) }
         ensures err { OnErr result (share.new ≡ share.old) }
     {
-        if self.board.is_stale(&lease) {
+        self.carry_over(&lease, share)
+    }
+
+    /// The same with a lease that is kept, to be lent into again.
+    pub fn carry_over(&mut self, lease: &Lease, share: &mut Share<K>) -> Result<u32, CommitFault>
+        requires mine { lease.now.cpu ≡ share.old.cpu }
+        ensures commits { Commits self.old lease.now result self.new }
+        ensures count { OnOk result (share.new ≡ record share.old { count = share.old.count + lease.now.len }) }
+        ensures err { OnErr result (share.new ≡ share.old) }
+    {
+        if self.board.is_stale(lease) {
             return Err(CommitFault::Stale);
         }
-        let (cpu, len) = (lease.cpu(), lease.len());
+        let len = lease.len();
         // Its contract says how few events there can be, so that the count has room.
         let _ = self.journal.len();
-        record(&mut self.journal, Event::Step(cpu), len)?;
-        // It isn't stale, so this is done.
-        let _ = self.board.commit(lease);
+        record(&mut self.journal, Event::Step(lease.cpu()), len)?;
+        self.board.carry_over(lease);
         self.books.add(share, len);
         Ok(len)
     }
