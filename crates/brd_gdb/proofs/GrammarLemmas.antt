@@ -13,7 +13,7 @@ use Rattle.brd_text.proofs.Numerals.{value_behind-none}
 use Rattle.brd_gdb.specs.Grammar.{AllLack, HasActions, HasCommand, HasFront, HasNumber, HasPair, HasThread, IsNumber, Lacks, Makes, Names, digit_of_kind}
 use Rattle.brd_gdb.specs.Hexes.{pair_by, pair_of, unhexed}
 use Rattle.brd_gdb.specs.Parts.{two_of}
-use Rattle.brd_gdb.specs.Reading.{if_begins, if_is, kind_of, monitor_of, monitor_packet_of, move_of, moving_of, or_else, order_of, pair_in, point_packet_of, point_parts_of, question_of, reading_of, request_of, request_or, thread_numbered, thread_of, thread_packet_of, whatever_of, writing_of}
+use Rattle.brd_gdb.specs.Reading.{if_begins, if_is, kind_of, monitor_of, monitor_packet_of, move_in, moving_of, or_else, order_of, pair_in, point_packet_of, point_parts_of, question_of, reading_of, request_of, request_or, thread_numbered, thread_of, thread_packet_of, whatever_of, writing_of}
 use Rattle.brd_gdb.specs.declared.request.ThreadId.{ThreadId}
 use Rattle.brd_gdb.specs.declared.request.ThreadId.TheVariants.{All, Any, One}
 use Rattle.brd_gdb.specs.declared.request.Move.{Move}
@@ -302,7 +302,7 @@ point_read false AccessWatch rest a b read = rw read refl
 forward_read : (text : List ℕ) (how : Move) → HasActions text how → request_of text ≡ request.Forward how
 forward_read text how actions =
     let split = split_joined 59 actions.first actions.others actions.apart in
-    let moves : move_of (slice_split (λ b. eqb b 59) (join_with_byte 59 (actions.first ∷ actions.others))) ≡ Some how = rw split actions.moves in
+    let moves : move_in (slice_split (λ b. eqb b 59) (join_with_byte 59 (actions.first ∷ actions.others))) ≡ Some how = rw split actions.moves in
     rw (actions.is, moves) refl
 
 pub again : (text : List ℕ) (r : Request) → Makes text r → request_of text ≡ r
@@ -339,8 +339,8 @@ again text (request.ClearPoint kind a b) makes =
     let pair = pair_again makes.one makes.two a b makes.first_is makes.second_is in
     ap request_of makes.is ∙ point_read false kind (makes.one ++ 44 ∷ makes.two) a b pair
 again text request.Detach is = rw is refl
-again text request.Kill (inl is) = rw is refl
-again text request.Kill (inr (rest, is)) = rw is refl
+again text request.Kill is = rw is refl
+again text request.KillProcess (rest, is) = rw is refl
 again text request.IsAttached (rest, is) = rw is refl
 again text request.Unknown makes = absurd makes
 
@@ -418,7 +418,7 @@ order_is text r =
     (is_then (codes "bc") text request.BackwardContinue _ r (λ is. is)
     (is_then (codes "bs") text request.BackwardStep _ r (λ is. is)
     (is_then (codes "D") text request.Detach _ r (λ is. is)
-    (is_then (codes "k") text request.Kill _ r (λ is. inl is)
+    (is_then (codes "k") text request.Kill _ r (λ is. is)
     (is_then (codes "QStartNoAckMode") text request.StartNoAckMode _ r (λ is. is)
     (none_left text r)))))))
 
@@ -428,8 +428,8 @@ whatever_is text r =
     (λ is read. at text r request.Supported (the_same request.Supported r read) (drop 10 text, is))
     (begins_then (codes "qAttached") text (λ rest. Some request.IsAttached) _ r
     (λ is read. at text r request.IsAttached (the_same request.IsAttached r read) (drop 9 text, is))
-    (begins_then (codes "vKill;") text (λ rest. Some request.Kill) _ r
-    (λ is read. at text r request.Kill (the_same request.Kill r read) (inr (drop 6 text, is)))
+    (begins_then (codes "vKill;") text (λ rest. Some request.KillProcess) _ r
+    (λ is read. at text r request.KillProcess (the_same request.KillProcess r read) (drop 6 text, is))
     (none_left text r)))
 
 writing_is : (text : List ℕ) (r : Request) → writing_of text ≡ Some r → Makes text r
@@ -494,7 +494,7 @@ point_packet_is text r =
     (none_left text r))
 
 actions_are : (text : List ℕ) (how : Move) → text ≡ codes "vCont;" ++ drop 6 text
-    → move_of (slice_split (λ b. eqb b 59) (drop 6 text)) ≡ Some how → HasActions text how
+    → move_in (slice_split (λ b. eqb b 59) (drop 6 text)) ≡ Some how → HasActions text how
 actions_are text how begins read =
     let parts = some_part 59 (drop 6 text) in
     let P : List (List ℕ) → Type 0 = λ all. AllLack 59 all in
@@ -503,13 +503,13 @@ actions_are text how begins read =
       others = parts.1;
       is = begins ∙ ap (λ (xs : List ℕ). codes "vCont;" ++ xs) (sym (join_with_byte-slice_split 59 (drop 6 text)) ∙ ap (join_with_byte 59) parts.2);
       apart = subst P parts.2 (parts_lack 59 (drop 6 text));
-      moves = ap move_of (sym parts.2) ∙ read;
+      moves = ap move_in (sym parts.2) ∙ read;
     }
 
 moving_is : (text : List ℕ) (r : Request) → moving_of text ≡ Some r → Makes text r
 moving_is text r =
-    begins_then (codes "vCont;") text (λ rest. option_map request.Forward (move_of (slice_split (λ byte. eqb byte 59) rest))) None r
-    (λ is read. let found = map_is request.Forward (move_of (slice_split (λ b. eqb b 59) (drop 6 text))) r read in
+    begins_then (codes "vCont;") text (λ rest. option_map request.Forward (move_in (slice_split (λ byte. eqb byte 59) rest))) None r
+    (λ is read. let found = map_is request.Forward (move_in (slice_split (λ b. eqb b 59) (drop 6 text))) r read in
     at text r (request.Forward found.0) found.2 (inr (inr (actions_are text found.0 is found.1))))
     (none_left text r)
 

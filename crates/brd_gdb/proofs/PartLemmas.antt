@@ -5,7 +5,7 @@ use Rattle.std.proofs.lemmas.Bool.{cases_Bool}
 use Rattle.std.proofs.lemmas.List.Splits.{slice_split_first, slice_split-cons_no, length-slice_split}
 use Rattle.brd_text.specs.Pieces.{AreParts}
 use Rattle.brd_gdb.specs.Parts.{parts_behind, two_of}
-use Rattle.brd_gdb.specs.Reading.{action_in, action_of}
+use Rattle.brd_gdb.specs.Reading.{action_in, action_of, move_in, move_of}
 
 one_part : (p : ℕ → Bool) (text : List ℕ) → position_or_len p text ≡ length text → slice_split p text ≡ text ∷ []
 one_part p [] h = refl
@@ -52,3 +52,14 @@ pub no_action : (text first behind second more : List ℕ) (after again : Option
     → slice_split (λ b. eqb b 58) behind ≡ second ∷ parts_behind 58 again → again ≡ Some more
     → None ≡ action_of text
 no_action text first behind second more after again e is f one = rw (e, is, f, one, three_are_none first second more) refl
+
+-- where a part has more behind it, there are at least two actions
+first_of_more : (a : List ℕ) (parts : List (List ℕ)) → 0 < length parts → move_in (a ∷ parts) ≡ move_of (a ∷ parts)
+first_of_more a [] h = absurd (omega arith)
+first_of_more a (b ∷ parts) h = refl
+
+pub several_actions : (text first behind : List ℕ) (after : Option (List ℕ))
+    → slice_split (λ b. eqb b 59) text ≡ first ∷ parts_behind 59 after → after ≡ Some behind
+    → move_of (slice_split (λ b. eqb b 59) text) ≡ move_in (slice_split (λ b. eqb b 59) text)
+several_actions text first behind after e is =
+    rw (e, is, first_of_more first (slice_split (λ b. eqb b 59) behind) (omega (arith, length-slice_split (λ b. eqb b 59) behind))) refl

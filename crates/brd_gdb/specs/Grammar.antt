@@ -5,7 +5,7 @@ use Rattle.std.specs.Prelude.{◌≡◌, ◌⊎◌, ℕ, ◌<◌, ◌==◌, Bool
 use Rattle.std.specs.List.{join_with_byte}
 use Rattle.brd_text.specs.Numbers.{most_word, value_of}
 use Rattle.brd_gdb.specs.Hexes.{unhexed}
-use Rattle.brd_gdb.specs.Reading.{monitor_of, move_of}
+use Rattle.brd_gdb.specs.Reading.{monitor_of, move_in}
 use Rattle.brd_gdb.specs.declared.request.ThreadId.{ThreadId}
 use Rattle.brd_gdb.specs.declared.request.ThreadId.TheVariants.{All, Any, One}
 use Rattle.brd_gdb.specs.declared.request.Move.{Move}
@@ -74,7 +74,7 @@ pub record HasActions (text : List ℕ) (how : Move) : Type 0 where
   pub others : List (List ℕ)
   pub is : text ≡ codes "vCont;" ++ join_with_byte 59 (first ∷ others)
   pub apart : AllLack 59 (first ∷ others)
-  pub moves : move_of (first ∷ others) ≡ Some how
+  pub moves : move_in (first ∷ others) ≡ Some how
 
 -- `qRcmd`, and a text in hexadecimal digits, two for each byte
 pub record HasCommand (text : List ℕ) (command : Monitor) : Type 0 where
@@ -112,6 +112,7 @@ Makes text request.BackwardStep = text ≡ codes "bs"
 Makes text (request.SetPoint kind address len) = HasPair (90 ∷ digit_of_kind kind ∷ 44 ∷ []) text address len
 Makes text (request.ClearPoint kind address len) = HasPair (122 ∷ digit_of_kind kind ∷ 44 ∷ []) text address len
 Makes text request.Detach = text ≡ codes "D"
-Makes text request.Kill = (text ≡ codes "k") ⊎ HasFront (codes "vKill;") text
+Makes text request.Kill = text ≡ codes "k"
+Makes text request.KillProcess = HasFront (codes "vKill;") text
 Makes text request.IsAttached = HasFront (codes "qAttached") text
 Makes text request.Unknown = ⊥

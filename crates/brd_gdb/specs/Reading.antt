@@ -4,7 +4,7 @@ use Rattle.std.specs.Prelude.{codes, Option, Some, None, option_map, option_and_
 use Rattle.std.specs.List.{slice_split}
 use Rattle.std.specs.Str.{bytes_eq}
 use Rattle.brd_text.specs.Numbers.{most_word, plain_decimal_of, value_of}
-use Rattle.brd_gdb.specs.Hexes.{pair_by, pair_of, unhexed}
+use Rattle.brd_gdb.specs.Hexes.{pair_of, range_of, unhexed}
 use Rattle.brd_gdb.specs.Parts.{two_of}
 use Rattle.brd_gdb.specs.declared.request.ThreadId.{ThreadId}
 use Rattle.brd_gdb.specs.declared.request.ThreadId.TheVariants.{All, Any, One}
@@ -68,7 +68,7 @@ abbrev pub whatever_of : List ℕ → Option Request
 whatever_of text =
     if_begins (codes "qSupported") (λ rest. Some request.Supported) text
     (if_begins (codes "qAttached") (λ rest. Some request.IsAttached) text
-    (if_begins (codes "vKill;") (λ rest. Some request.Kill) text
+    (if_begins (codes "vKill;") (λ rest. Some request.KillProcess) text
     None))
 
 -- what would change the program
@@ -129,6 +129,10 @@ point_packet_of text =
     (if_begins (codes "z") (λ rest. option_map (λ p. request.ClearPoint p.0 p.1 p.2) (point_parts_of rest)) text
     None)
 
+-- two addresses with a comma between them
+abbrev pub range_in : List ℕ → Option (ℕ × ℕ)
+range_in text = range_of (slice_split (λ byte. byte == 44) text)
+
 -- what an action of `vCont` does with its threads
 abbrev pub action_by : List ℕ → ThreadId → Option Move
 action_by text thread =
@@ -136,7 +140,7 @@ action_by text thread =
     (if_is (codes "s") (move.Step thread) text
     (if_begins (codes "C") (λ rest. option_map (λ signal. move.Continue) (value_of 16 most_word rest)) text
     (if_begins (codes "S") (λ rest. option_map (λ signal. move.Step thread) (value_of 16 most_word rest)) text
-    (if_begins (codes "r") (λ rest. option_map (λ pair. move.Range thread pair.0 pair.1) (pair_in rest)) text
+    (if_begins (codes "r") (λ rest. option_map (λ pair. move.Range thread pair.0 pair.1) (range_in rest)) text
     None))))
 
 -- an action of its parts: what it does, and after a colon with which threads
@@ -154,6 +158,7 @@ action_of text = action_in (slice_split (λ byte. byte == 58) text)
 abbrev pub first_step : Move → Move → Move
 first_step move.Continue later = later
 first_step (move.Step thread) later = move.Step thread
+first_step (move.Alone number) later = move.Alone number
 first_step (move.Range thread start end) later = move.Range thread start end
 
 -- the move of some actions: that of the first that steps, else to continue
@@ -162,9 +167,24 @@ move_of [] = Some move.Continue
 move_of (action ∷ actions) =
     option_and_then (λ one. option_map (first_step one) (move_of actions)) (action_of action)
 
+-- the move of the only action: where it steps a thread by its number, that one alone
+abbrev pub alone : Move → Move
+alone (move.Step (One number)) = move.Alone number
+alone (move.Step All) = move.Step All
+alone (move.Step Any) = move.Step Any
+alone move.Continue = move.Continue
+alone (move.Alone number) = move.Alone number
+alone (move.Range thread start end) = move.Range thread start end
+
+-- the move of a `vCont` with these actions
+abbrev pub move_in : List (List ℕ) → Option Move
+move_in [] = None
+move_in (action ∷ []) = option_map alone (action_of action)
+move_in (action ∷ next ∷ actions) = move_of (action ∷ next ∷ actions)
+
 abbrev pub moving_of : List ℕ → Option Request
 moving_of text =
-    if_begins (codes "vCont;") (λ rest. option_map request.Forward (move_of (slice_split (λ byte. byte == 59) rest)))
+    if_begins (codes "vCont;") (λ rest. option_map request.Forward (move_in (slice_split (λ byte. byte == 59) rest)))
     text None
 
 -- the text of a command of the user

@@ -4,7 +4,7 @@ ghost use Rattle.std.specs.Prelude.{◌≡◌, ◌==◌};
 ghost use Rattle.std.specs.List.{slice_split};
 ghost use Rattle.brd_gdb.specs.Reading as reading;
 
-use crate::digits::{pair, word};
+use crate::digits::{range_pair, word};
 use crate::parts::part;
 use crate::request::{Move, ThreadId};
 
@@ -23,8 +23,32 @@ pub fn thread(text: &[u8]) -> Option<ThreadId>
     }
 }
 
-/// The move of the actions of a `vCont`: that of the first that steps, else to continue.
+/// The move of the actions of a `vCont`, between semicolons.
 pub fn moving(text: &[u8]) -> Option<Move>
+    ensures { result ≡ reading.move_in (slice_split (λ byte. byte == 59) text.now) }
+{
+    let (one, behind) = part(text, b';');
+    match behind {
+        None => {
+            let found = action(one)?;
+            Some(alone(found))
+        }
+        Some(_) => first_move(text),
+    }
+}
+
+/// The move of the only action: where it steps a thread by its number, that one alone.
+fn alone(found: Move) -> Move
+    ensures { result ≡ reading.alone found }
+{
+    match found {
+        Move::Step(ThreadId::One(number)) => Move::Alone(number),
+        other => other,
+    }
+}
+
+/// The move of actions: that of the first that steps, else to continue.
+fn first_move(text: &[u8]) -> Option<Move>
     ensures { result ≡ reading.move_of (slice_split (λ byte. byte == 59) text.now) }
 {
     let mut found = Move::Continue;
@@ -49,6 +73,7 @@ fn first_step(one: Move, later: Move) -> Move
     match one {
         Move::Continue => later,
         Move::Step(thread) => Move::Step(thread),
+        Move::Alone(number) => Move::Alone(number),
         Move::Range { thread, start, end } => Move::Range { thread, start, end },
     }
 }
@@ -90,7 +115,7 @@ fn action_by(text: &[u8], thread: ThreadId) -> Option<Move>
         return Some(Move::Step(thread));
     }
     if let Some(range) = text.strip_prefix(b"r") {
-        let (start, end) = pair(range)?;
+        let (start, end) = range_pair(range)?;
         return Some(Move::Range { thread, start, end });
     }
     None

@@ -8,13 +8,15 @@ use brd_base::NoMemory;
 /// How many bytes a part has at most: with its letter it fits a packet.
 const MOST_PART: usize = 16_383;
 
-/// The registers by number: 32 general ones, the status, lo, hi, the bad address, the cause, the program counter, and
-/// those of floating point, without which GDB takes no description of this processor.
+/// No operating system: so GDB asks for single steps, and doesn't set breaks of its own for them, which no processor
+/// comes to from a delay slot. The registers by number: 32 general ones, the status, lo, hi, the bad address, the cause,
+/// the program counter, and those of floating point, without which GDB takes no description of this processor.
 const FEATURES: &[u8] = b"\
     <?xml version='1.0'?>\n\
     <!DOCTYPE target SYSTEM 'gdb-target.dtd'>\n\
     <target>\n\
     <architecture>mips</architecture>\n\
+    <osabi>none</osabi>\n\
     <feature name='org.gnu.gdb.mips.cpu'>\n\
     <reg name='r0' bitsize='32' regnum='0'/>\n\
     <reg name='r1' bitsize='32'/>\n\

@@ -4,7 +4,7 @@ ghost use Rattle.std.specs.Prelude.{◌≡◌, ◌<◌, ◌++◌, ◌==◌, IfSo
 ghost use Rattle.std.specs.List.{slice_split};
 ghost use Rattle.brd_text.specs.Hex as hex;
 ghost use Rattle.brd_text.specs.Numbers.{digit_of, most_word, value_of};
-ghost use Rattle.brd_gdb.specs.Hexes.{hexed, hexed_byte, pair_of, unhexed};
+ghost use Rattle.brd_gdb.specs.Hexes.{hexed, hexed_byte, own_digits, pair_of, range_of, unhexed};
 
 use crate::parts::two;
 use brd_base::NoMemory;
@@ -52,6 +52,28 @@ pub fn pair(text: &[u8]) -> Option<(u32, u32)>
     let first = word(first)?;
     let second = word(second)?;
     Some((first, second))
+}
+
+/// The values of two addresses with a comma between them.
+pub fn range_pair(text: &[u8]) -> Option<(u32, u32)>
+    ensures { result ≡ range_of (slice_split (λ byte. byte == 44) text.now) }
+{
+    let (first, second) = two(text, b',')?;
+    let first = word(own_digits(first))?;
+    let second = word(own_digits(second))?;
+    Some((first, second))
+}
+
+/// The digits of an address's own 32 bits: GDB writes some in 64 bits, with the sign extended.
+fn own_digits(text: &[u8]) -> &[u8]
+    ensures { result.now ≡ own_digits text.now }
+{
+    if text.len() == 16 {
+        if let Some(rest) = text.strip_prefix(b"ffffffff") {
+            return rest;
+        }
+    }
+    text
 }
 
 /// The bytes that hexadecimal digits spell, two each. `None` where a byte is no digit, or a digit is left over.

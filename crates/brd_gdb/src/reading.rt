@@ -110,7 +110,7 @@ fn whatever(text: &[u8]) -> Option<Request>
         return Some(Request::IsAttached);
     }
     if let Some(_) = text.strip_prefix(b"vKill;") {
-        return Some(Request::Kill);
+        return Some(Request::KillProcess);
     }
     None
 }

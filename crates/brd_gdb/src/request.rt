@@ -18,6 +18,9 @@ pub enum Move {
     Continue,
     /// One instruction of a thread.
     Step(ThreadId),
+    /// One instruction of the thread of this number, while no other thread has an action: what others come to is told
+    /// later.
+    Alone(u32),
     /// Instructions of a thread as long as it is within addresses, of which the first is within, and the last isn't.
     Range {
         /// Whose instructions.
@@ -150,8 +153,10 @@ pub enum Request {
     },
     /// To let the program go: `D`.
     Detach,
-    /// To end it: `k`, `vKill`.
+    /// To end it, without a reply: `k`.
     Kill,
+    /// To end it, with a reply: `vKill`.
+    KillProcess,
     /// Whether the program was there before: `qAttached`.
     IsAttached,
     /// All else.

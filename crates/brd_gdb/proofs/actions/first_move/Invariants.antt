@@ -2,7 +2,7 @@ use Rattle.std.proofs.Common.{◌≡◌, ◌==◌, length}
 use Rattle.std.specs.Prelude.{option_map}
 use Rattle.std.specs.List.{slice_split}
 use Rattle.brd_gdb.specs.Reading.{first_step, move_of}
-use Rattle.brd_gdb.proofs.actions.moving.Given as goal
+use Rattle.brd_gdb.proofs.actions.first_move.Given as goal
 
 -- the move so far, or that of the actions that are left
 abbrev pub invariant-loop-next : goal.invariant-loop-next
