@@ -1,5 +1,6 @@
 mod MarkLemmas
 mod StopLemmas
+mod TouchingLemmas
 mod SearchLemmas
 mod StillLemmas
 mod PlayingLemmas

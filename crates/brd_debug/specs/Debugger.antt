@@ -1,12 +1,13 @@
 -- A debugger: a boot, the events of a journal, how many of them have happened to the board that it shows, and where it
 -- stops.
-use Rattle.std.specs.Prelude.{◌≡◌, ◌⊎◌, ℕ, ◌<◌, ◌≤◌, List, length, slice_get, Option, Some, None, Result, Ok, Err}
+use Rattle.std.specs.Prelude.{◌≡◌, ◌⊎◌, ℕ, ◌<◌, ◌≤◌, List, length, slice_get, Option, Some, None, Result, Ok, Err, true, Decides}
 use Rattle.brd_board.specs.declared.event.Event.{Event}
 use Rattle.brd_board.specs.Board.{BoardState, happens}
 use Rattle.brd_journal.specs.Playing.{board_at}
 use Rattle.brd_debug.specs.declared.fault.DebugFault.{DebugFault}
 use Rattle.brd_debug.specs.declared.fault.DebugFault.TheVariants.{NoMemory, Past}
-use Rattle.brd_debug.specs.Stops.{is_stepped}
+use Rattle.brd_debug.specs.Stops.{IsBreak, is_stepped, is_fault, is_done, Differs}
+use Rattle.brd_debug.specs.Touching.{touches}
 use Rattle.brd_debug.specs.declared.look.Look.{Look}
 use Rattle.brd_debug.specs.declared.stops.Stops.{Stops}
 
@@ -37,3 +38,7 @@ SeesAhead d (Some look) =
     (slice_get d.events d.position ≡ Some look.event)
     × (record { board = look.board; report = look.report } ≡ happens (shown d) look.event)
     × (look.stepped ≡ is_stepped d.stops.stepper look.event look.report look.board)
+    × Decides look.breaks (IsBreak d.stops.breaks look.report)
+    × (look.faults ≡ is_fault d.stops.faults look.report)
+    × Decides look.touches (Differs d.stops.watches (shown d).memory look.board.memory
+    ⊎ (is_done (touches d.stops.reads d.stops.accesses (shown d) look.event) look.report ≡ true))

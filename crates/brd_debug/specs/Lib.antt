@@ -1,4 +1,5 @@
 pub mod Marks
+pub mod Touching
 pub mod Stops
 pub mod Watching
 pub mod Kept

@@ -1,6 +1,6 @@
--- Where a debugger stops: at breaks, where watched bytes change, where a processor that is stepped leaves a range, and at
--- exceptions (own choice).
-use Rattle.std.specs.Prelude.{◌≡◌, ◌≢◌, ◌⊎◌, ℕ, ◌<◌, ◌≤◌, ◌==◌, nat_lt, nat_le, Bool, true, false, ◌&&◌, ◌||◌, List}
+-- Where a debugger stops: at breaks, where watched bytes change, where instructions read or write bytes, where a
+-- processor that is stepped comes out of a range, and at exceptions (own choice).
+use Rattle.std.specs.Prelude.{◌≡◌, ◌≢◌, ◌⊎◌, ℕ, ◌<◌, ◌≤◌, ◌==◌, nat_lt, nat_le, Bool, true, false, not, ◌&&◌, ◌||◌, List}
 use Rattle.std.specs.Prelude.{[], slice_get, Option}
 use Rattle.std.specs.Prelude.{Some, None, Contains}
 use Rattle.brd_mem.specs.Memory.{Memory, byte_at}
@@ -9,10 +9,13 @@ use Rattle.brd_board.specs.declared.event.Event.TheVariants.{Step, Tick, Raise}
 use Rattle.brd_board.specs.declared.event.Report.{Report}
 use Rattle.brd_board.specs.declared.event.Report.TheVariants as report
 use Rattle.brd_exec.specs.State.{State}
-use Rattle.brd_board.specs.Board.{BoardState, happens, registers_of}
+use Rattle.brd_kernel.specs.declared.processor.Standing.{Standing}
+use Rattle.brd_board.specs.Board.{BoardState, happens, registers_of, standing_of}
+use Rattle.brd_journal.specs.Still.{does_no_more}
 use Rattle.brd_journal.specs.Playing.{board_at}
 use Rattle.brd_debug.specs.declared.stops.Stepper.{Stepper}
 use Rattle.brd_debug.specs.declared.stops.Stops.{Stops}
+use Rattle.brd_debug.specs.Touching.{touches}
 
 -- An event's report names a break: the instruction there was executed, was a SYSCALL, or raised an exception, also by
 -- its fetch.
@@ -35,16 +38,33 @@ is_step_of cpu (Step other) = other == cpu
 is_step_of cpu Tick = false
 is_step_of cpu (Raise line) = false
 
--- a processor's next instruction lies outside a range, or it has none
-abbrev pub is_outside : Stepper → Option State → Bool
-is_outside stepper None = true
-is_outside stepper (Some context) = nat_lt context.pc stepper.start || nat_le stepper.end context.pc
+-- the next instruction of a context lies outside a range, or there is none
+abbrev pub is_outside : ℕ → ℕ → Option State → Bool
+is_outside start end None = true
+is_outside start end (Some context) = nat_lt context.pc start || nat_le end context.pc
 
--- An event executes an instruction of the processor that is stepped, and leaves the range in which it is stepped.
+-- a processor executes just this task, or this handler
+abbrev pub is_who : Standing → Option Standing → Bool
+is_who (Standing.Task id) (Some (Standing.Task other)) = id == other
+is_who (Standing.Handler line) (Some (Standing.Handler other)) = line == other
+is_who who standing = false
+
+-- who was executed on a processor is to go on there outside a range
+abbrev pub has_come_out : ℕ → Standing → ℕ → ℕ → BoardState → Bool
+has_come_out cpu who start end after =
+    is_who who (standing_of after cpu) && is_outside start end (registers_of after cpu)
+
+-- an event may have changed who executes, or where
+abbrev pub moves_on : Event → Report → Bool
+moves_on event told = not (does_no_more event told)
+
+-- An event is a stop of the processor that is stepped: it executes an instruction there; or it leads whom the processor
+-- executes out of the range, others who are executed in the meantime apart.
 abbrev pub is_stepped : Option Stepper → Event → Report → BoardState → Bool
 is_stepped None event told after = false
-is_stepped (Some stepper) event told after =
-    is_step_of stepper.cpu event && executes told && is_outside stepper (registers_of after stepper.cpu)
+is_stepped (Some (Stepper.Each cpu)) event told after = is_step_of cpu event && executes told
+is_stepped (Some (Stepper.Until cpu who start end)) event told after =
+    moves_on event told && has_come_out cpu who start end after
 
 -- an event raises an exception, where a debugger stops at these
 abbrev pub is_fault : Bool → Report → Bool
@@ -61,15 +81,41 @@ IsTold stops event told after =
 abbrev pub Differs : List ℕ → Memory → Memory → Type 0
 Differs watches old new = (address : ℕ) × Contains watches address × (byte_at old address ≢ byte_at new address)
 
+-- an instruction that touches bytes was done: there was one, and it raised no exception
+abbrev pub is_done : Bool → Report → Bool
+is_done touched (report.Ran address) = touched
+is_done touched _ = false
+
+-- the events that are stops are those of every processor, or an event is a step of the only one
+abbrev pub concerns : Option ℕ → Event → Bool
+concerns None event = true
+concerns (Some cpu) event = is_step_of cpu event
+
+-- an event with this report, which found this memory, touches bytes by its instruction or not, and has left this board,
+-- is one at which a debugger stops
+abbrev pub Meets : Stops → Event → Report → Memory → Bool → BoardState → Type 0
+Meets stops event told memory touched after =
+    (concerns stops.only event ≡ true)
+    × (IsTold stops event told after
+    ⊎ (Differs stops.watches memory after.memory ⊎ (is_done touched told ≡ true)))
+
 -- an event, as it happens to a board, is one at which a debugger stops
 abbrev pub StopsAt : Stops → BoardState → Event → Type 0
 StopsAt stops board event =
-    IsTold stops event (happens board event).report (happens board event).board
-    ⊎ Differs stops.watches board.memory (happens board event).board.memory
+    Meets stops event (happens board event).report board.memory (touches stops.reads stops.accesses board event)
+    (happens board event).board
 
--- no breaks, no watches, no processor that is stepped, and on at exceptions
+-- no breaks, no watches, no processor that is stepped, on at exceptions, and of every processor
 abbrev pub no_stops : Stops
-no_stops = record { breaks = []; watches = []; stepper = None; faults = false }
+no_stops = record {
+  breaks = [];
+  watches = [];
+  reads = [];
+  accesses = [];
+  stepper = None;
+  faults = false;
+  only = None;
+}
 
 -- A position is a stop where the event after it is one.
 pub record IsStop (stops : Stops) (boot : BoardState) (events : List Event) (position : ℕ) : Type 0 where

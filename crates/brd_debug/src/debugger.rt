@@ -115,7 +115,7 @@ impl Debugger {
         self.stops.watches.add(address, MOST_MARKS)
     }
 
-    /// Stops at no break, at no watch, at no instruction that is stepped, and at no exception.
+    /// Stops at no break, at no watch, at no instruction that is stepped, and at no exception; of every processor.
     pub fn clear_stops(&mut self)
         ensures { self.new ≡ record self.old { stops = no_stops } }
     {
@@ -144,6 +144,28 @@ impl Debugger {
         self.stops.watches.add(address, MOST_ADDRESSES)
     }
 
+    /// Stops from now on where an instruction reads the byte at this address, unless 512 others are set. Answers whether
+    /// that is set now.
+    pub fn stop_at_read(&mut self, address: u32) -> bool
+        ensures is { self.new ≡ record self.old {
+          stops = record self.old.stops { reads = marked_within most_addresses self.old.stops.reads address };
+        } }
+        ensures set { result ≡ is_marked self.new.stops.reads address }
+    {
+        self.stops.reads.add(address, MOST_ADDRESSES)
+    }
+
+    /// Stops from now on where an instruction reads or writes the byte at this address, unless 512 others are set.
+    /// Answers whether that is set now.
+    pub fn stop_at_access(&mut self, address: u32) -> bool
+        ensures is { self.new ≡ record self.old {
+          stops = record self.old.stops { accesses = marked_within most_addresses self.old.stops.accesses address };
+        } }
+        ensures set { result ≡ is_marked self.new.stops.accesses address }
+    {
+        self.stops.accesses.add(address, MOST_ADDRESSES)
+    }
+
     /// Whether it stops where an instruction at this address is executed.
     pub fn has_break(&self, address: u32) -> bool
         ensures { result ≡ is_marked self.now.stops.breaks address }
@@ -151,7 +173,14 @@ impl Debugger {
         self.stops.breaks.has(address)
     }
 
-    /// Stops from now on where an instruction of a processor leaves a range, or at none.
+    /// Stops from now on at the steps of this processor alone, or of every processor.
+    pub fn set_only(&mut self, only: Option<u8>)
+        ensures { self.new ≡ record self.old { stops = record self.old.stops { only = only } } }
+    {
+        self.stops.only = only;
+    }
+
+    /// Stops from now on where a processor is stepped, or at no such place.
     pub fn set_stepper(&mut self, stepper: Option<Stepper>)
         ensures { self.new ≡ record self.old { stops = record self.old.stops { stepper = stepper } } }
     {
@@ -181,7 +210,7 @@ impl Debugger {
     }
 
     /// What the event of its position does; None at the last position. It stays where it is.
-    fn look(&self) -> Result<Option<Look>, NoMemory>
+    pub fn look(&self) -> Result<Option<Look>, NoMemory>
         ensures { IfOk result (SeesAhead self.now) }
     {
         let Some(event) = self.journal.event_at(self.shown.at) else {
@@ -193,6 +222,11 @@ impl Debugger {
             event,
             report,
             stepped: self.stops.is_stepped(event, report, &board),
+            breaks: self.stops.is_break(report),
+            faults: self.stops.is_fault(report),
+            touches: self
+                .stops
+                .are_touched(&self.shown.board, event, report, &board),
             board,
         }))
     }

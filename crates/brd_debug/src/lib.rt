@@ -12,8 +12,10 @@ mod playback;
 mod search;
 mod snapshots;
 mod stops;
+mod touching;
 
 pub use debugger::Debugger;
 pub use fault::DebugFault;
 pub use look::Look;
 pub use stops::Stepper;
+pub use touching::{Span, read_on, written_on};

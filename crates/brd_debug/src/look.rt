@@ -8,8 +8,14 @@ pub struct Look {
     pub event: Event,
     /// What it reports.
     pub report: Report,
-    /// Whether it is an instruction of the processor that is stepped, and leaves the range in which it is.
+    /// Whether it is a stop of the processor that is stepped.
     pub stepped: bool,
+    /// Whether it executes an instruction at a break.
+    pub breaks: bool,
+    /// Whether it raises an exception, where these are stops.
+    pub faults: bool,
+    /// Whether it changes a watched byte, or reads or writes one where that is a stop.
+    pub touches: bool,
     /// The board after it.
     pub board: Board,
 }
@@ -21,6 +27,9 @@ impl Drop for Look {
             event: _,
             report: _,
             stepped: _,
+            breaks: _,
+            faults: _,
+            touches: _,
             board: _,
         } = self;
     }

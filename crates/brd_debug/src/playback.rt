@@ -139,6 +139,14 @@ fn is_stop(
         return false;
     };
     let may_change = stops.may_change(&playback.board, rest.event);
+    let touches = stops.touches(&playback.board, rest.event);
     let moved = playback.advance(rest, playback.at + 1, to);
-    stops.are_met(rest.event, moved.report, &playback.board, bytes, may_change)
+    stops.are_met(
+        rest.event,
+        moved.report,
+        &playback.board,
+        bytes,
+        may_change,
+        touches,
+    )
 }

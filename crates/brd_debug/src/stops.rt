@@ -1,6 +1,6 @@
 //! Where a debugger stops.
 
-ghost use Rattle.std.specs.Prelude.{◌≡◌, ◌⊎◌, ◌≤◌, Decides, false, length};
+ghost use Rattle.std.specs.Prelude.{◌≡◌, ◌⊎◌, ◌≤◌, Decides, true, false, length};
 ghost use Rattle.brd_debug.specs.Watching.{AreBytesAt, IsSameUnless};
 ghost use Rattle.brd_board.specs.Board.{happens, registers_of};
 ghost use Rattle.brd_mem.specs.Memory.{Memory as MemoryOf};
@@ -15,21 +15,36 @@ ghost use Rattle.brd_debug.specs.Stops.{
   is_fault,
   IsTold,
   Differs,
+  Meets,
+  concerns,
+  is_done,
+  moves_on,
+  has_come_out,
+  is_who,
 };
+ghost use Rattle.brd_debug.specs.Touching.{touches};
 
 use crate::look::Look;
 use crate::marks::{MOST_ADDRESSES, Marks};
-use brd_board::{Board, Event, Report};
+use crate::touching::touches;
+use brd_board::{Board, Event, Report, Standing};
 
 /// A processor that is stepped.
 #[derive(Clone, Copy, PartialEq, Eq)]
-pub struct Stepper {
-    /// Which one.
-    pub cpu: u8,
-    /// The first address of the range in which it is stepped on.
-    pub start: u32,
-    /// The address after the range; where the range is empty, each instruction is a stop.
-    pub end: u32,
+pub enum Stepper {
+    /// Each instruction of this processor is a stop.
+    Each(u8),
+    /// A stop is where whom the processor executes is to go on outside a range.
+    Until {
+        /// The processor.
+        cpu: u8,
+        /// Whom it executes. Others whom it executes in the meantime are passed over.
+        who: Standing,
+        /// The first address of the range.
+        start: u32,
+        /// The address after the range.
+        end: u32,
+    },
 }
 
 /// Addresses of instructions, addresses of bytes, and what else is a stop.
@@ -39,10 +54,16 @@ pub struct Stops {
     pub breaks: Marks,
     /// Where a byte that changes is a stop.
     pub watches: Marks,
-    /// The processor of which each instruction is a stop that leaves a range.
+    /// Where an instruction that reads a byte is a stop.
+    pub reads: Marks,
+    /// Where an instruction that reads or writes a byte is a stop.
+    pub accesses: Marks,
+    /// The processor that is stepped.
     pub stepper: Option<Stepper>,
     /// Whether each exception is a stop.
     pub faults: bool,
+    /// The processor whose steps alone are stops.
+    pub only: Option<u8>,
 }
 
 /// The bytes at watched addresses, in the order of these; None where RAM has none.
@@ -60,8 +81,11 @@ impl Stops {
         Stops {
             breaks: Marks::new(),
             watches: Marks::new(),
+            reads: Marks::new(),
+            accesses: Marks::new(),
             stepper: None,
             faults: false,
+            only: None,
         }
     }
 
@@ -73,7 +97,7 @@ impl Stops {
     }
 
     /// Whether an event that left a board, with this report, is a stop. It may have changed watched bytes, or not; they
-    /// are brought up to date.
+    /// are brought up to date. Whether its instruction touches bytes was seen before it.
     #[inline(always)]
     pub fn are_met(
         &self,
@@ -82,24 +106,75 @@ impl Stops {
         board: &Board,
         bytes: &mut WatchedBytes,
         may_change: bool,
+        touches: bool,
     ) -> bool
         ensures stops { (memory : MemoryOf) → AreBytesAt self.now.watches memory bytes.old.bytes
             → IsSameUnless may_change self.now.watches memory board.now.memory
-            → Decides result
-            (IsTold self.now event report board.now ⊎ Differs self.now.watches memory board.now.memory) }
+            → Decides result (Meets self.now event report memory touches board.now) }
         ensures bytes { (memory : MemoryOf) → AreBytesAt self.now.watches memory bytes.old.bytes
             → IsSameUnless may_change self.now.watches memory board.now.memory
             → AreBytesAt self.now.watches board.now.memory bytes.new.bytes }
     {
         let changed = renewed(self.watches.as_slice(), bytes, board, may_change);
+        self.are_met_or(event, report, board, changed, touches)
+    }
+
+    /// Whether an event that left a board, with this report, is a stop: by what it is, or since it has changed or
+    /// touched bytes.
+    #[inline(always)]
+    fn are_met_or(
+        &self,
+        event: Event,
+        report: Report,
+        board: &Board,
+        changed: bool,
+        touches: bool,
+    ) -> bool
+        ensures { Decides result ((concerns self.now.only event ≡ true)
+            × (IsTold self.now event report board.now
+            ⊎ ((changed ≡ true) ⊎ (is_done touches report ≡ true)))) }
+    {
+        if concerns(self.only, event) {
+            return self.are_seen(event, report, board, changed, touches);
+        }
+        false
+    }
+
+    /// The same of an event of a processor that is looked at.
+    #[inline(always)]
+    fn are_seen(
+        &self,
+        event: Event,
+        report: Report,
+        board: &Board,
+        changed: bool,
+        touches: bool,
+    ) -> bool
+        ensures { Decides result (IsTold self.now event report board.now
+            ⊎ ((changed ≡ true) ⊎ (is_done touches report ≡ true))) }
+    {
         if self.is_told(event, report, board) {
             return true;
         }
-        changed
+        if changed {
+            return true;
+        }
+        is_done(touches, report)
     }
 
-    /// Whether an event with this report, which left a board, executed an instruction of the processor that is stepped,
-    /// and left the range in which it is.
+    /// Whether an event, seen from the board before it, is a step whose instruction reads or writes a byte where that is
+    /// a stop.
+    #[inline(always)]
+    pub fn touches(&self, board: &Board, event: Event) -> bool
+        ensures { result ≡ touches self.now.reads self.now.accesses board.now event }
+    {
+        if self.reads.as_slice().is_empty() && self.accesses.as_slice().is_empty() {
+            return false;
+        }
+        touches(&self.reads, &self.accesses, board, event)
+    }
+
+    /// Whether an event with this report, which left a board, is a stop of the processor that is stepped.
     pub fn is_stepped(&self, event: Event, report: Report, board: &Board) -> bool
         ensures { result ≡ is_stepped self.now.stepper event report board.now }
     {
@@ -109,11 +184,19 @@ impl Stops {
     /// Whether an event is a stop that is seen from the board before it.
     pub fn meet(&self, before: &Board, look: &Look) -> bool
         ensures { Decides result
-            (IsTold self.now look.now.event look.now.report look.now.board
-            ⊎ Differs self.now.watches before.now.memory look.now.board.memory) }
+            (Meets self.now look.now.event look.now.report before.now.memory
+            (touches self.now.reads self.now.accesses before.now look.now.event) look.now.board) }
     {
+        let touches = self.touches(before, look.event);
         let mut bytes = self.watched(before);
-        self.are_met(look.event, look.report, &look.board, &mut bytes, true)
+        self.are_met(
+            look.event,
+            look.report,
+            &look.board,
+            &mut bytes,
+            true,
+            touches,
+        )
     }
 
     /// Whether an event may change a watched byte: there is one, and the event may change memory.
@@ -141,9 +224,29 @@ impl Stops {
         is_fault(self.faults, report)
     }
 
+    /// Whether an event with this report raised an exception, where these are stops.
+    pub fn is_fault(&self, report: Report) -> bool
+        ensures { result ≡ is_fault self.now.faults report }
+    {
+        is_fault(self.faults, report)
+    }
+
+    /// Whether an event with this report, between two boards, changed a watched byte, or read or wrote one where that is
+    /// a stop.
+    pub fn are_touched(&self, before: &Board, event: Event, report: Report, after: &Board) -> bool
+        ensures { Decides result (Differs self.now.watches before.now.memory after.now.memory
+            ⊎ (is_done (touches self.now.reads self.now.accesses before.now event) report ≡ true)) }
+    {
+        let bytes = self.watched(before);
+        if differ(self.watches.as_slice(), &bytes, after) {
+            return true;
+        }
+        is_done(self.touches(before, event), report)
+    }
+
     /// Whether an event with this report executed an instruction at a break.
     #[inline(always)]
-    fn is_break(&self, report: Report) -> bool
+    pub fn is_break(&self, report: Report) -> bool
         ensures { Decides result (IsBreak self.now.breaks report) }
     {
         match report {
@@ -155,17 +258,75 @@ impl Stops {
     }
 }
 
-/// Whether an event with this report, which left a board, executed an instruction of the processor that is stepped, and
-/// left the range in which it is.
+/// Whether an event with this report, which left a board, is a stop of the processor that is stepped.
 #[inline(always)]
 fn is_stepped(stepper: Option<Stepper>, event: Event, report: Report, board: &Board) -> bool
     ensures { result ≡ is_stepped stepper event report board.now }
 {
     match stepper {
         None => false,
-        Some(stepper) => {
-            is_step_of(stepper.cpu, event) && executes(report) && is_outside(stepper, board)
-        }
+        Some(Stepper::Each(cpu)) => is_step_of(cpu, event) && executes(report),
+        Some(
+            Stepper::Until {
+                cpu,
+                who,
+                start,
+                end,
+            },
+        ) => moves_on(event, report) && has_come_out(cpu, who, start, end, board),
+    }
+}
+
+/// Whether the events that are stops are those of every processor, or an event is a step of the only one.
+#[inline(always)]
+fn concerns(only: Option<u8>, event: Event) -> bool
+    ensures { result ≡ concerns only event }
+{
+    match only {
+        None => true,
+        Some(cpu) => is_step_of(cpu, event),
+    }
+}
+
+/// Whether an instruction that touches bytes was done: there was one, and it raised no exception.
+#[inline(always)]
+fn is_done(touches: bool, report: Report) -> bool
+    ensures { result ≡ is_done touches report }
+{
+    match report {
+        Report::Ran(_) => touches,
+        _ => false,
+    }
+}
+
+/// Whether an event may have changed who executes, or where: it isn't one that raises a line, and it did something.
+fn moves_on(event: Event, report: Report) -> bool
+    ensures { result ≡ moves_on event report }
+{
+    if let Event::Raise(_) = event {
+        return false;
+    }
+    !matches!(
+        report,
+        Report::Off | Report::NoSuch | Report::Stopped | Report::Idle | Report::TimeOver
+    )
+}
+
+/// Whether somebody is to go on outside a range, on a processor.
+fn has_come_out(cpu: u8, who: Standing, start: u32, end: u32, board: &Board) -> bool
+    ensures { result ≡ has_come_out cpu who start end board.now }
+{
+    is_who(who, board.standing(cpu)) && is_outside(cpu, start, end, board)
+}
+
+/// Whether a processor executes somebody.
+fn is_who(who: Standing, standing: Option<Standing>) -> bool
+    ensures { result ≡ is_who who standing }
+{
+    match (who, standing) {
+        (Standing::Task(id), Some(Standing::Task(other))) => id == other,
+        (Standing::Handler(line), Some(Standing::Handler(other))) => line == other,
+        _ => false,
     }
 }
 
@@ -180,13 +341,13 @@ fn is_step_of(cpu: u8, event: Event) -> bool
     }
 }
 
-/// Whether the next instruction of a processor that is stepped lies outside the range, or it has none.
-fn is_outside(stepper: Stepper, board: &Board) -> bool
-    ensures { result ≡ is_outside stepper (registers_of board.now stepper.cpu) }
+/// Whether the next instruction of a processor lies outside a range, or it has none.
+fn is_outside(cpu: u8, start: u32, end: u32, board: &Board) -> bool
+    ensures { result ≡ is_outside start end (registers_of board.now cpu) }
 {
-    match board.registers(stepper.cpu) {
+    match board.registers(cpu) {
         None => true,
-        Some(context) => context.pc() < stepper.start || stepper.end <= context.pc(),
+        Some(context) => context.pc() < start || end <= context.pc(),
     }
 }
 

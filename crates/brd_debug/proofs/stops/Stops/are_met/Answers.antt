@@ -1,9 +1,9 @@
-use Rattle.std.proofs.Common.{sym, ap, subst, ◌∙◌}
-use Rattle.std.specs.Prelude.{◌||◌, true, Decides}
+use Rattle.std.proofs.Common.{sym, subst}
+use Rattle.std.specs.Prelude.{Decides}
 use Rattle.brd_mem.specs.Memory.{Memory}
-use Rattle.brd_debug.specs.Stops.{Differs}
+use Rattle.brd_debug.specs.Stops.{Differs, concerns, is_done}
 use Rattle.brd_debug.specs.Watching.{AreBytesAt, IsSameUnless}
-use Rattle.brd_debug.proofs.StopLemmas.{decides-or}
+use Rattle.brd_debug.proofs.StopLemmas.{decides-met}
 use Rattle.brd_debug.proofs.stops.Stops.are_met.Goals as goal
 use Rattle.brd_debug.proofs.stops.Stops.are_met.Goals.{After-renewed-changed}
 
@@ -24,18 +24,10 @@ bytes c memory are same =
     (c.renewed-changed.ensures.bytes memory (subst (λ ws. AreBytesAt ws memory c.args.bytes.now.bytes) (sym c.as_slice.ensures.is) are)
     (subst (λ ws. IsSameUnless c.args.may_change ws memory c.args.board.now.memory) (sym c.as_slice.ensures.is) same))
 
-pub returns-then-is_told-clause-stops : goal.returns-then-is_told-clause-stops
-returns-then-is_told-clause-stops c = λ memory are same.
-    decides-or c.is_told.result c.renewed-changed.result true c.is_told.ensures
-    (differ (goal.at.returns-then-is_told-clause-stops c).After-renewed-changed memory are same) (sym (ap (λ b. b || c.renewed-changed.result) c.if-is_told.true))
-
-pub returns-then-is_told-clause-bytes : goal.returns-then-is_told-clause-bytes
-returns-then-is_told-clause-bytes c = bytes (goal.at.returns-then-is_told-clause-bytes c).After-renewed-changed
-
 pub returns-clause-stops : goal.returns-clause-stops
 returns-clause-stops c = λ memory are same.
-    decides-or c.is_told.result c.renewed-changed.result c.renewed-changed.result c.is_told.ensures
-    (differ (goal.at.returns-clause-stops c).After-renewed-changed memory are same) (sym (ap (λ b. b || c.renewed-changed.result) c.if-is_told.false))
+    decides-met (concerns c.args.self.now.only c.args.event) c.renewed-changed.result (is_done c.args.touches c.args.report) c.are_met_or.result
+    (differ (goal.at.returns-clause-stops c).After-renewed-changed memory are same) c.are_met_or.ensures
 
 pub returns-clause-bytes : goal.returns-clause-bytes
 returns-clause-bytes c = bytes (goal.at.returns-clause-bytes c).After-renewed-changed

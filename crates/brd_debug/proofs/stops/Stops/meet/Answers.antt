@@ -1,6 +1,12 @@
-use Rattle.std.proofs.Common.{sym}
+use Rattle.std.proofs.Common.{sym, subst}
+use Rattle.std.specs.Prelude.{Decides}
 use Rattle.std.proofs.lemmas.Bool.{false≢true}
+use Rattle.brd_debug.specs.Stops.{Meets}
 use Rattle.brd_debug.proofs.stops.Stops.meet.Goals as goal
 
 pub returns : goal.returns
-returns c = c.are_met.ensures.stops c.args.before.now.memory c.watched-bytes.ensures (λ none. absurd (false≢true (sym none)))
+returns c =
+    subst (λ touched. Decides c.are_met.result
+    (Meets c.args.self.now c.args.look.now.event c.args.look.now.report c.args.before.now.memory touched c.args.look.now.board))
+    c.touches-touches.ensures
+    (c.are_met.ensures.stops c.args.before.now.memory c.watched-bytes.ensures (λ none. absurd (false≢true (sym none))))
