@@ -20,7 +20,8 @@ pub if-all : {A E : Type 0} (P : Type 0) → P → (r : Result A E) → IfOk r (
 if-all P is (Ok a) = is
 if-all P is (Err e) = tt
 
--- three things that are said of an answer
-pub if-three : {A E : Type 0} (P Q S R : A → Type 0) → ((a : A) → P a → Q a → S a → R a) → (r : Result A E) → IfOk r P → IfOk r Q → IfOk r S → IfOk r R
-if-three P Q S R all (Ok a) first second third = all a first second third
-if-three P Q S R all (Err e) first second third = first
+-- five things that are said of an answer
+pub if-five : {A E : Type 0} (P Q S T U R : A → Type 0) → ((a : A) → P a → Q a → S a → T a → U a → R a) → (r : Result A E) → IfOk r P → IfOk r Q →
+    IfOk r S → IfOk r T → IfOk r U → IfOk r R
+if-five P Q S T U R all (Ok a) first second third fourth fifth = all a first second third fourth fifth
+if-five P Q S T U R all (Err e) first second third fourth fifth = first

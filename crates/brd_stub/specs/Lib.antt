@@ -1,4 +1,6 @@
 pub mod Registers
 pub mod Reading
+pub mod Halting
+pub mod Stepping
 pub mod Moving
 pub mod Answers

@@ -1,9 +1,31 @@
 //! Why the board stands where it is.
 
-use crate::points::{Point, changed, kind_at};
+ghost use Rattle.std.specs.Prelude.{◌≡◌, ◌++◌, codes, Some, OnOk};
+ghost use Rattle.brd_text.specs.Hex.{hex_of};
+ghost use Rattle.brd_stub.specs.Halting.{
+  signal_of_code,
+  signal_of,
+  break_name,
+  watch_name,
+  reason_text,
+  signal_text,
+  processor_text,
+  halt_text,
+};
+ghost use Rattle.brd_stub.specs.Moving.{
+  hides_break,
+  hides_exception,
+  hides_watch,
+  shows,
+  stops,
+  passes,
+  is_told_behind,
+};
+
+use crate::points::{Point, changed, kind_at, touched};
 use brd_base::NoMemory;
 use brd_board::{Board, Event, Report};
-use brd_debug::Look;
+use brd_debug::{Look, read_on, written_on};
 use brd_exec::ExceptionCode;
 use brd_gdb::{PointKind, put_hex};
 use brd_text::hex_digits;
@@ -17,8 +39,9 @@ pub enum Reason {
     Break(PointKind),
     /// The next instruction raises an exception.
     Exception(ExceptionCode),
-    /// A watched byte changes: forward by the next event, backward by the last one. The point's address.
-    Watch(u32),
+    /// A watched byte changes, or is read or written, as the point's kind says: forward by the next event, backward by
+    /// the last one. The point's address.
+    Watch(PointKind, u32),
     /// The journal begins here.
     Begin,
     /// The journal ends here.
@@ -34,9 +57,9 @@ pub enum Told {
     Break,
     /// That the next event raises an exception.
     Exception,
-    /// That the next event changes a watched byte.
+    /// That the next event changes, reads or writes a watched byte.
     Watch,
-    /// That the last event has changed a watched byte.
+    /// That the last event has done so.
     WatchBehind,
 }
 
@@ -49,14 +72,78 @@ pub struct Halt {
     pub reason: Reason,
 }
 
-/// What is told with a reason.
-pub fn told_by(reason: Reason) -> Told {
-    match reason {
-        Reason::Break(_) => Told::Break,
-        Reason::Exception(_) => Told::Exception,
-        Reason::Watch(_) => Told::Watch,
-        Reason::Done | Reason::Begin | Reason::End => Told::Nothing,
+/// Whether a break of the next event was told.
+fn hides_break(told: Told) -> bool
+    ensures { result ≡ hides_break told }
+{
+    match told {
+        Told::Nothing | Told::WatchBehind => false,
+        Told::Break | Told::Exception | Told::Watch => true,
     }
+}
+
+/// Whether an exception of the next event was told.
+fn hides_exception(told: Told) -> bool
+    ensures { result ≡ hides_exception told }
+{
+    match told {
+        Told::Nothing | Told::WatchBehind | Told::Break => false,
+        Told::Exception | Told::Watch => true,
+    }
+}
+
+/// Whether a watch of the next event was told.
+fn hides_watch(told: Told) -> bool
+    ensures { result ≡ hides_watch told }
+{
+    match told {
+        Told::Nothing | Told::WatchBehind | Told::Break | Told::Exception => false,
+        Told::Watch => true,
+    }
+}
+
+/// Whether a move stops before the next event, of which this was told.
+pub fn shows(told: Told, look: &Look) -> bool
+    ensures { result ≡ shows told look.now }
+{
+    !hides_break(told) && look.breaks
+        || !hides_exception(told) && look.faults
+        || !hides_watch(told) && look.touches
+}
+
+/// Whether a move stops before the next event, of which this was told, or after it.
+pub fn stops(told: Told, look: &Look) -> bool
+    ensures { result ≡ stops told look.now }
+{
+    shows(told, look) || look.stepped
+}
+
+/// Whether a move back passes over an event, the watch of which was told or not.
+pub fn passes(is_told: bool, look: &Look) -> bool
+    ensures { result ≡ passes is_told (Some look.now) }
+{
+    is_told && !look.breaks && !look.faults && !look.stepped
+}
+
+/// Whether the watch of the event before a position was told, from which a move has gone back by so many events.
+pub fn is_told_behind(told: Told, back: u64) -> bool
+    ensures { result ≡ is_told_behind told back }
+{
+    match told {
+        Told::WatchBehind => back == 1,
+        Told::Nothing | Told::Break | Told::Exception | Told::Watch => false,
+    }
+}
+
+/// What is told of the next event, of which this was told.
+pub fn told_ahead(told: Told, look: &Look) -> Told {
+    if look.breaks && !hides_break(told) {
+        return Told::Break;
+    }
+    if look.faults && !hides_exception(told) {
+        return Told::Exception;
+    }
+    Told::Watch
 }
 
 /// The processor whose step an event is; of another event a processor that is given.
@@ -67,88 +154,144 @@ pub fn thread_of(event: Event, other: u8) -> u8 {
     }
 }
 
-/// Why the board is to stop before an event, but for what has been told.
-pub fn reason_ahead(points: &[Point], board: &Board, look: &Look, told: Told) -> Option<Reason> {
-    let hides_watch = told == Told::Watch;
-    let hides_exception = hides_watch || told == Told::Exception;
-    let hides_break = hides_exception || told == Told::Break;
-    if !hides_break && let Some(kind) = break_of(points, look.report) {
-        return Some(Reason::Break(kind));
+/// Why a move stops before the next event, of which this was told.
+pub fn reason_ahead(points: &[Point], board: &Board, look: &Look, told: Told) -> Reason {
+    match told_ahead(told, look) {
+        Told::Break => Reason::Break(break_of(points, look.report)),
+        Told::Exception => exception_of(look),
+        Told::Nothing | Told::Watch | Told::WatchBehind => watched(points, board, look),
     }
-    if !hides_exception && let Some(code) = exception_of(look) {
-        return Some(Reason::Exception(code));
-    }
-    if hides_watch {
-        return None;
-    }
-    let address = changed(points, board, &look.board)?;
-    Some(Reason::Watch(address))
 }
 
-/// The kind of the break at the instruction that an event executes, if there is one.
-fn break_of(points: &[Point], report: Report) -> Option<PointKind> {
-    match report {
+/// Which watched byte an event changes, reads or writes, by the board before it.
+pub fn watched(points: &[Point], board: &Board, look: &Look) -> Reason {
+    if let Some(address) = changed(points, board, &look.board) {
+        return Reason::Watch(PointKind::WriteWatch, address);
+    }
+    let Event::Step(cpu) = look.event else {
+        return Reason::Done;
+    };
+    match touched(points, read_on(board, cpu), written_on(board, cpu)) {
+        Some(point) => Reason::Watch(point.kind, point.address),
+        None => Reason::Done,
+    }
+}
+
+/// The kind of the break at the instruction that an event executes.
+fn break_of(points: &[Point], report: Report) -> PointKind {
+    let found = match report {
         Report::Ran(address) | Report::Called(address) | Report::Faulted(address) => {
             kind_at(points, address)
         }
         _ => None,
+    };
+    match found {
+        Some(kind) => kind,
+        None => PointKind::SoftwareBreak,
     }
 }
 
-/// Which exception an event raises, if it raises one.
-fn exception_of(look: &Look) -> Option<ExceptionCode> {
+/// Which exception an event raises.
+fn exception_of(look: &Look) -> Reason {
     let Event::Step(cpu) = look.event else {
-        return None;
+        return Reason::Done;
     };
-    let Report::Faulted(_) = look.report else {
-        return None;
-    };
-    let fault = look.board.last_fault(cpu)?;
-    Some(fault.code)
+    match look.board.last_fault(cpu) {
+        Some(fault) => Reason::Exception(fault.code),
+        None => Reason::Done,
+    }
 }
 
 /// Puts the reply at the end that tells a stop.
-pub fn show_halt(out: &mut Vec<u8>, halt: Halt) -> Result<(), NoMemory> {
-    out.push(b'T')?;
-    put_hex(out, &[signal_of(halt.reason)])?;
-    out.extend_from_slice(b"thread:")?;
-    put_hex(out, &[halt.thread])?;
-    out.push(b';')?;
+pub fn show_halt(out: &mut Vec<u8>, halt: Halt) -> Result<(), NoMemory>
+    ensures { OnOk result (out.new.items ≡ out.old.items ++ halt_text halt) }
+{
+    show_signal(out, halt.reason)?;
+    show_processor(out, halt.thread)?;
     show_reason(out, halt.reason)
 }
 
-/// Puts at the end what a reason adds to a reply.
-fn show_reason(out: &mut Vec<u8>, reason: Reason) -> Result<(), NoMemory> {
-    match reason {
-        Reason::Done | Reason::Exception(_) => {}
-        Reason::Break(PointKind::HardwareBreak) => out.extend_from_slice(b"hwbreak:;")?,
-        Reason::Break(_) => out.extend_from_slice(b"swbreak:;")?,
-        Reason::Begin => out.extend_from_slice(b"replaylog:begin;")?,
-        Reason::End => out.extend_from_slice(b"replaylog:end;")?,
-        Reason::Watch(address) => return show_watch(out, address),
-    }
+/// Puts the signal of a reason at the end.
+fn show_signal(out: &mut Vec<u8>, reason: Reason) -> Result<(), NoMemory>
+    ensures { OnOk result (out.new.items ≡ out.old.items ++ signal_text reason) }
+{
+    out.extend_from_slice(b"T")?;
+    put_hex(out, &[signal_of(reason)])
+}
+
+/// Puts a processor at the end.
+fn show_processor(out: &mut Vec<u8>, cpu: u8) -> Result<(), NoMemory>
+    ensures { OnOk result (out.new.items ≡ out.old.items ++ processor_text cpu) }
+{
+    out.extend_from_slice(b"thread:")?;
+    put_hex(out, &[cpu])?;
+    out.extend_from_slice(b";")?;
     Ok(())
 }
 
-/// Puts at the end which point a byte of changes.
-fn show_watch(out: &mut Vec<u8>, address: u32) -> Result<(), NoMemory> {
-    out.extend_from_slice(b"watch:")?;
-    out.extend_from_slice(&hex_digits(address))?;
-    out.push(b';')?;
+/// Puts at the end what a reason adds to a reply.
+fn show_reason(out: &mut Vec<u8>, reason: Reason) -> Result<(), NoMemory>
+    ensures { OnOk result (out.new.items ≡ out.old.items ++ reason_text reason) }
+{
+    let text: &[u8] = match reason {
+        Reason::Done | Reason::Exception(_) => b"",
+        Reason::Break(kind) => break_name(kind),
+        Reason::Begin => b"replaylog:begin;",
+        Reason::End => b"replaylog:end;",
+        Reason::Watch(kind, address) => return show_watch(out, kind, address),
+    };
+    out.extend_from_slice(text)?;
     Ok(())
+}
+
+/// Puts at the end which watch it is.
+fn show_watch(out: &mut Vec<u8>, kind: PointKind, address: u32) -> Result<(), NoMemory>
+    ensures { OnOk result (out.new.items ≡ out.old.items ++ watch_name kind ++ hex_of address ++ codes ";") }
+{
+    out.extend_from_slice(watch_name(kind))?;
+    out.extend_from_slice(&hex_digits(address))?;
+    out.extend_from_slice(b";")?;
+    Ok(())
+}
+
+/// The name of a break.
+fn break_name(kind: PointKind) -> &'static [u8]
+    ensures { result.now ≡ break_name kind }
+{
+    match kind {
+        PointKind::HardwareBreak => b"hwbreak:;",
+        PointKind::SoftwareBreak
+        | PointKind::WriteWatch
+        | PointKind::ReadWatch
+        | PointKind::AccessWatch => b"swbreak:;",
+    }
+}
+
+/// The name of a watch.
+fn watch_name(kind: PointKind) -> &'static [u8]
+    ensures { result.now ≡ watch_name kind }
+{
+    match kind {
+        PointKind::ReadWatch => b"rwatch:",
+        PointKind::AccessWatch => b"awatch:",
+        PointKind::WriteWatch | PointKind::SoftwareBreak | PointKind::HardwareBreak => b"watch:",
+    }
 }
 
 /// The signal of a reason, by its number in GDB's protocol.
-fn signal_of(reason: Reason) -> u8 {
+fn signal_of(reason: Reason) -> u8
+    ensures { result ≡ signal_of reason }
+{
     match reason {
         Reason::Exception(code) => signal_of_code(code),
-        _ => 5,
+        Reason::Done | Reason::Break(_) | Reason::Watch(_, _) | Reason::Begin | Reason::End => 5,
     }
 }
 
-/// The signal of an exception: address errors SIGBUS, bus errors SIGSEGV, a reserved instruction SIGILL, an overflow
-/// SIGFPE, a breakpoint and a trap SIGTRAP (own choice).
-fn signal_of_code(code: ExceptionCode) -> u8 {
+/// The signal of an exception.
+fn signal_of_code(code: ExceptionCode) -> u8
+    ensures { result ≡ signal_of_code code }
+{
     match code {
         ExceptionCode::AdEL | ExceptionCode::AdES => 10,
         ExceptionCode::IBE | ExceptionCode::DBE => 11,

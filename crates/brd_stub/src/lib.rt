@@ -11,6 +11,7 @@ mod moves;
 mod points;
 mod registers;
 mod session;
+mod stepping;
 mod telling;
 mod threads;
 

@@ -1,19 +1,38 @@
 //! Moves: on to the next stop, back to the last one, and to a position.
 
-ghost use Rattle.std.specs.Prelude.{◌≡◌, ◌⊎◌, ◌+◌, ◌<◌, ◌≤◌, length, OnOk, IfOk, IfSome, IfNone};
+ghost use Rattle.std.specs.Prelude.{◌≡◌, ◌⊎◌, ◌≤◌, length, Some, OnOk, IfOk, IfSome, IfNone};
 ghost use Rattle.brd_gdb.specs.Receiving.{packet_size};
-ghost use Rattle.brd_stub.specs.Moving.{stepping, moved_to, IsStopOf, IsAt, IsBefore, EndsBehind, GoesOn, GoesForward, GoesBack};
+ghost use Rattle.brd_stub.specs.Halting.{halt_text, fitting};
+ghost use Rattle.brd_stub.specs.Moving.{
+  stepping,
+  stepping_back,
+  moved_to,
+  after_next,
+  stand,
+  stand_behind,
+  StopsHere,
+  PassesOn,
+  StandsAhead,
+  GoesOn,
+  GoesForward,
+  StandsBehind,
+  EndsBehind,
+  StopsBehind,
+  GoesBack,
+};
 
 use crate::answer::Answer;
-use crate::halt::{Halt, Reason, Told, reason_ahead, thread_of, told_by};
-use crate::points::{Point, changed, kind_at};
+use crate::halt::{
+    Halt, Reason, Told, is_told_behind, passes, reason_ahead, shows, stops, thread_of, told_ahead,
+    watched,
+};
 use crate::session::Session;
+use crate::stepping::{Stepped, cpu_of};
 use crate::telling::{halt_text, short, text};
 use crate::threads::executing;
 use brd_base::NoMemory;
-use brd_board::{Board, Event, Standing};
+use brd_board::{Board, Standing};
 use brd_debug::{DebugFault, Look, Stepper};
-use brd_gdb::PointKind;
 use brd_progress::Progress;
 use std::alloc::Global;
 
@@ -22,13 +41,17 @@ impl Session {
     pub(crate) fn go_on<P: Progress>(
         &mut self,
         alloc: Global,
-        stepper: Option<Stepper>,
+        stepped: Stepped,
         progress: &mut P,
     ) -> Result<Answer, NoMemory>
-        ensures goes { IfOk result (λ _. GoesForward (stepping stepper self.old.debugger) self.new.debugger) }
+        ensures goes { IfOk result
+            (λ _. GoesForward self.old.told (stepping stepped self.old.debugger) self.new.debugger) }
+        ensures tells { IfOk result (λ answer. answer.reply.items ≡ fitting (halt_text self.new.halt)) }
         ensures short { IfOk result (λ answer. length answer.reply.items ≤ packet_size) }
     {
-        self.debugger.set_stepper(stepper);
+        self.debugger.set_stepper(stepped.stepper);
+        self.debugger.set_only(stepped.only);
+        self.stepping = cpu_of(stepped.stepper, self.stepping);
         self.halt = self.forward(progress)?;
         self.stopped(alloc)
     }
@@ -40,10 +63,13 @@ impl Session {
         stepper: Option<Stepper>,
         progress: &mut P,
     ) -> Result<Answer, NoMemory>
-        ensures goes { IfOk result (λ _. GoesBack (stepping stepper self.old.debugger) self.new.debugger) }
+        ensures goes { IfOk result
+            (λ _. GoesBack self.old.told (stepping_back stepper self.old.debugger) self.new.debugger) }
+        ensures tells { IfOk result (λ answer. answer.reply.items ≡ fitting (halt_text self.new.halt)) }
         ensures short { IfOk result (λ answer. length answer.reply.items ≤ packet_size) }
     {
         self.debugger.set_stepper(stepper);
+        self.debugger.set_only(None);
         self.halt = self.backward(progress)?;
         self.stopped(alloc)
     }
@@ -74,6 +100,7 @@ impl Session {
     /// What is answered to a move: why the board stands where it is, and at the end of the journal what it does there.
     fn stopped(&mut self, alloc: Global) -> Result<Answer, NoMemory>
         ensures same { self.new.debugger ≡ self.old.debugger }
+        ensures tells { IfOk result (λ answer. answer.reply.items ≡ fitting (halt_text self.new.halt)) }
         ensures short { IfOk result (λ answer. length answer.reply.items ≤ packet_size) }
     {
         self.reading = self.halt.thread;
@@ -90,60 +117,31 @@ impl Session {
         })
     }
 
-    /// Goes on to the first stop, of those at its position to one that wasn't told yet, else to the end.
+    /// Goes on to the first stop: at its position, of what wasn't told yet; else after it; else to the end.
     fn forward<P: Progress>(&mut self, progress: &mut P) -> Result<Halt, NoMemory>
-        ensures { IfOk result (λ _. GoesForward self.old.debugger self.new.debugger) }
+        ensures { IfOk result (λ _. GoesForward self.old.told self.old.debugger self.new.debugger) }
     {
-        match self.halt_ahead(self.told)? {
-            Some(halt) => Ok(halt),
-            None => self.go_past(progress),
-        }
-    }
-
-    /// Goes past the event of its position. It stops there where that has led its processor to a break: GDB, which steps
-    /// by breaks, is so told of the step before another event comes.
-    fn go_past<P: Progress>(&mut self, progress: &mut P) -> Result<Halt, NoMemory>
-        ensures { IfOk result (λ _. GoesForward self.old.debugger self.new.debugger) }
-    {
-        let event = self.debugger.event_here();
-        self.show_next()?;
-        match self.arrived(event) {
-            Some(halt) => Ok(halt),
-            None => self.go_from(progress),
-        }
-    }
-
-    /// Goes on to the first stop from its position on, else to the end.
-    fn go_from<P: Progress>(&mut self, progress: &mut P) -> Result<Halt, NoMemory>
-        ensures { IfOk result (λ _. GoesOn self.old.debugger self.new.debugger) }
-    {
-        match self.halt_ahead(Told::Nothing)? {
+        match self.halt_here()? {
             Some(halt) => Ok(halt),
             None => self.search_ahead(progress),
         }
     }
 
-    /// That the event before its position, if it was a step, has led its processor to a break; None where it hasn't.
-    fn arrived(&mut self, event: Option<Event>) -> Option<Halt>
-        ensures same { self.new.debugger ≡ self.old.debugger }
-        ensures before { IfSome result (λ halt. IsBefore self.old.debugger halt.thread) }
+    /// Stops at its position, where that is a stop of which something wasn't told yet; None where it isn't.
+    fn halt_here(&mut self) -> Result<Option<Halt>, NoMemory>
+        ensures some { IfOk result (λ found. IfSome found
+            (λ _. StopsHere self.old.told self.old.debugger self.new.debugger)) }
+        ensures none { IfOk result (λ found. IfNone found
+            (PassesOn self.old.told self.old.debugger × (self.new.debugger ≡ self.old.debugger))) }
     {
-        let Some(Event::Step(thread)) = event else {
-            return None;
+        let Some(look) = self.debugger.stop_here()? else {
+            return Ok(None);
         };
-        let context = self.debugger.show().registers(thread)?;
-        if !self.debugger.has_break(context.pc()) {
-            return None;
+        if !stops(self.told, &look) {
+            return Ok(None);
         }
-        self.told = if self.debugger.event_here() == event {
-            Told::Break
-        } else {
-            Told::Nothing
-        };
-        Some(Halt {
-            thread,
-            reason: Reason::Break(kind_of(&self.points, context.pc())),
-        })
+        let halt = self.stand(self.told, &look)?;
+        Ok(Some(halt))
     }
 
     /// Goes on to the first stop after its position, else to the end.
@@ -166,82 +164,89 @@ impl Session {
         Ok(self.standing(Reason::End))
     }
 
-    /// Why it is to stop at its position, of which nothing was told.
+    /// Stops at its position, to which it has come, so that nothing was told of it.
     fn halt_there(&mut self) -> Result<Halt, NoMemory>
-        ensures { IfOk result (λ _. IsAt self.old.debugger self.old.debugger.position self.new.debugger) }
+        ensures { IfOk result (λ _. StandsAhead self.old.debugger self.new.debugger) }
     {
-        match self.halt_ahead(Told::Nothing)? {
-            Some(halt) => Ok(halt),
+        match self.debugger.look()? {
+            Some(look) => self.stand(Told::Nothing, &look),
             None => Ok(self.standing(Reason::Done)),
         }
     }
 
-    /// Why it is to stop at its position, or by the event there; None where it isn't.
-    fn halt_ahead(&mut self, told: Told) -> Result<Option<Halt>, NoMemory>
-        ensures at { IfOk result (λ found. IfSome found
-            (λ _. IsAt self.old.debugger self.old.debugger.position self.new.debugger)) }
-        ensures stop { IfOk result (λ found. IfSome found
-            (λ _. IsStopOf self.old.debugger self.old.debugger.position)) }
-        ensures none { IfOk result (λ found. IfNone found (self.new.debugger ≡ self.old.debugger)) }
+    /// Stops before the event of its position, or after it where that is a stop of the processor that is stepped alone.
+    fn stand(&mut self, told: Told, look: &Look) -> Result<Halt, NoMemory>
+        ensures { IfOk result (λ _. self.new.debugger ≡ stand told (Some look.now) self.old.debugger) }
     {
-        let Some(look) = self.debugger.stop_here()? else {
-            return Ok(None);
-        };
-        let thread = thread_of(look.event, self.halt.thread);
-        if let Some(reason) = reason_ahead(&self.points, self.debugger.show(), &look, told) {
-            self.told = told_by(reason);
-            return Ok(Some(Halt { thread, reason }));
+        if !shows(told, look) {
+            self.told = Told::Nothing;
+            self.show_next()?;
+            return Ok(self.step_done());
         }
-        if !look.stepped {
-            return Ok(None);
-        }
-        self.show_next()?;
-        self.told = Told::Nothing;
-        Ok(Some(Halt {
-            thread,
+        self.told = told_ahead(told, look);
+        Ok(Halt {
+            thread: thread_of(look.event, self.halt.thread),
+            reason: reason_ahead(&self.points, self.debugger.show(), look, told),
+        })
+    }
+
+    /// That a step is done.
+    fn step_done(&self) -> Halt {
+        Halt {
+            thread: self.stepping,
             reason: Reason::Done,
-        }))
+        }
     }
 
     /// Goes back to the last stop, but for what was told of the last event, else to the beginning.
     fn backward<P: Progress>(&mut self, progress: &mut P) -> Result<Halt, NoMemory>
-        ensures { IfOk result (λ _. GoesBack self.old.debugger self.new.debugger) }
+        ensures { IfOk result (λ _. GoesBack self.old.told self.old.debugger self.new.debugger) }
     {
+        let told = self.told;
         let from = self.debugger.position();
         match self.debugger.last_stop_telling(progress)? {
             None => self.begin(progress),
-            Some(_) => self.halt_or_back(from, progress),
+            Some(found) => self.halt_or_back(is_told_behind(told, from - found), progress),
         }
     }
 
-    /// Why it is to stop at its position, when it comes from behind, from another position; else it goes back further.
-    fn halt_or_back<P: Progress>(&mut self, from: u64, progress: &mut P) -> Result<Halt, NoMemory>
-        ensures { IfOk result (λ _. IsAt self.old.debugger self.old.debugger.position self.new.debugger
-            ⊎ EndsBehind self.old.debugger self.new.debugger) }
+    /// Stops at its position, to which it has come from behind; but where the watch there was told already, and it is no
+    /// other stop, it goes back further.
+    fn halt_or_back<P: Progress>(
+        &mut self,
+        is_told: bool,
+        progress: &mut P,
+    ) -> Result<Halt, NoMemory>
+        ensures { IfOk result (λ _. StopsBehind is_told self.old.debugger self.new.debugger) }
     {
-        match self.halt_behind(from)? {
-            Some(halt) => Ok(halt),
-            None => self.search_behind(from, progress),
+        match self.debugger.look()? {
+            None => Ok(self.standing(Reason::Done)),
+            Some(look) => {
+                if passes(is_told, &look) {
+                    return self.search_behind(progress);
+                }
+                self.stand_behind(is_told, &look)
+            }
         }
     }
 
-    /// Goes back to the last stop, from another position, else to the beginning.
-    fn search_behind<P: Progress>(&mut self, from: u64, progress: &mut P) -> Result<Halt, NoMemory>
+    /// Goes back to the last stop, of which nothing was told, else to the beginning.
+    fn search_behind<P: Progress>(&mut self, progress: &mut P) -> Result<Halt, NoMemory>
         ensures { IfOk result (λ _. EndsBehind self.old.debugger self.new.debugger) }
     {
         match self.debugger.last_stop_telling(progress)? {
             None => self.begin(progress),
-            Some(_) => self.halt_back(from),
+            Some(_) => self.halt_back(),
         }
     }
 
-    /// Why it is to stop at its position, when it comes from behind, from another position.
-    fn halt_back(&mut self, from: u64) -> Result<Halt, NoMemory>
-        ensures { IfOk result (λ _. IsAt self.old.debugger self.old.debugger.position self.new.debugger) }
+    /// Stops at its position, to which it has come from behind, and of which nothing was told.
+    fn halt_back(&mut self) -> Result<Halt, NoMemory>
+        ensures { IfOk result (λ _. StandsBehind self.old.debugger self.new.debugger) }
     {
-        match self.halt_behind(from)? {
-            Some(halt) => Ok(halt),
+        match self.debugger.look()? {
             None => Ok(self.standing(Reason::Done)),
+            Some(look) => self.stand_behind(false, &look),
         }
     }
 
@@ -253,57 +258,35 @@ impl Session {
         Ok(self.standing(Reason::Begin))
     }
 
-    /// Why it is to stop at its position, or after the event there, when it comes from behind, from another position;
-    /// None where it isn't.
-    fn halt_behind(&mut self, from: u64) -> Result<Option<Halt>, NoMemory>
-        ensures at { IfOk result (λ found. IfSome found
-            (λ _. IsAt self.old.debugger self.old.debugger.position self.new.debugger)) }
-        ensures none { IfOk result (λ found. IfNone found (self.new.debugger ≡ self.old.debugger)) }
+    /// Stops before the event of its position, or after it where a watch is told.
+    fn stand_behind(&mut self, is_told: bool, look: &Look) -> Result<Halt, NoMemory>
+        ensures { IfOk result (λ _. self.new.debugger ≡ stand_behind is_told (Some look.now) self.old.debugger) }
     {
-        let Some(look) = self.debugger.stop_here()? else {
-            return Ok(None);
-        };
         let thread = thread_of(look.event, self.halt.thread);
-        if let Some(address) = changed(&self.points, self.debugger.show(), &look.board) {
-            if self.told != Told::WatchBehind
-                || from.saturating_sub(self.debugger.position()) != 1
-            {
-                self.show_next()?;
-                self.told = Told::WatchBehind;
-                return Ok(Some(Halt {
-                    thread,
-                    reason: Reason::Watch(address),
-                }));
-            }
+        if look.touches && !is_told {
+            self.told = Told::WatchBehind;
+            let reason = watched(&self.points, self.debugger.show(), look);
+            self.show_next()?;
+            return Ok(Halt { thread, reason });
         }
-        let reason = reason_ahead(&self.points, self.debugger.show(), &look, Told::Nothing);
-        Ok(self.settled(thread, &look, reason))
+        if !look.breaks && !look.faults {
+            self.told = Told::Nothing;
+            return Ok(self.step_done());
+        }
+        self.told = told_ahead(Told::Nothing, look);
+        Ok(Halt {
+            thread,
+            reason: reason_ahead(&self.points, self.debugger.show(), look, Told::Nothing),
+        })
     }
 
-    /// Why it is to stop at its position, when it comes from behind.
-    fn settled(&mut self, thread: u8, look: &Look, reason: Option<Reason>) -> Option<Halt>
-        ensures { self.new.debugger ≡ self.old.debugger }
-    {
-        self.told = Told::Nothing;
-        let reason = match reason {
-            Some(Reason::Break(kind)) => Reason::Break(kind),
-            Some(Reason::Exception(code)) => Reason::Exception(code),
-            _ if look.stepped => Reason::Done,
-            _ => return None,
-        };
-        self.told = told_by(reason);
-        Some(Halt { thread, reason })
-    }
-
-    /// Goes to the position after its own.
+    /// Goes to the position after its own, if there is one.
     fn show_next(&mut self) -> Result<(), NoMemory>
-        ensures { OnOk result (IsAt self.old.debugger self.old.debugger.position self.new.debugger) }
+        ensures { OnOk result (self.new.debugger ≡ after_next self.old.debugger) }
     {
         let position = self.debugger.position();
-        if position >= self.debugger.len() {
-            return Ok(());
-        }
-        match self.debugger.goto(position + 1) {
+        let len = self.debugger.len();
+        match self.debugger.goto((position + 1).min(len)) {
             Ok(()) => Ok(()),
             Err(_) => Err(NoMemory),
         }
@@ -327,14 +310,6 @@ impl Session {
             thread: executing(self.debugger.show(), self.halt.thread),
             reason,
         }
-    }
-}
-
-/// The kind of the break at an address.
-fn kind_of(points: &[Point], address: u32) -> PointKind {
-    match kind_at(points, address) {
-        Some(kind) => kind,
-        None => PointKind::SoftwareBreak,
     }
 }
 

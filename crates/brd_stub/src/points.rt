@@ -4,7 +4,7 @@ ghost use Rattle.brd_stub.specs.Moving.{IsSameButStops};
 
 use brd_base::NoMemory;
 use brd_board::Board;
-use brd_debug::Debugger;
+use brd_debug::{Debugger, Span};
 use brd_gdb::PointKind;
 
 /// How many points of a kind there are at most (own choice).
@@ -31,15 +31,12 @@ pub enum Setting {
     Set,
     /// It is refused: there are too many, or its length isn't one of a watch.
     Refused,
-    /// There are no points of this kind.
-    Unknown,
 }
 
 /// Sets a point, unless there are 64 others of its kind.
 pub fn set_point(points: &mut Vec<Point>, point: Point) -> Result<Setting, NoMemory> {
     match point.kind {
-        PointKind::ReadWatch | PointKind::AccessWatch => return Ok(Setting::Unknown),
-        PointKind::WriteWatch => {
+        PointKind::WriteWatch | PointKind::ReadWatch | PointKind::AccessWatch => {
             if point.length == 0 || point.length > MOST_WATCHED {
                 return Ok(Setting::Refused);
             }
@@ -87,17 +84,24 @@ pub fn load(debugger: &mut Debugger, points: &[Point])
 fn add(debugger: &mut Debugger, point: Point)
     ensures { IsSameButStops debugger.old debugger.new }
 {
-    match point.kind {
-        PointKind::SoftwareBreak | PointKind::HardwareBreak => {
-            let _ = debugger.stop_at(point.address);
-        }
-        PointKind::WriteWatch => {
-            for i in 0..point.length {
-                let _ = debugger.watch_byte(point.address.wrapping_add(i));
-            }
-        }
-        PointKind::ReadWatch | PointKind::AccessWatch => {}
+    if is_break(point.kind) {
+        let _ = debugger.stop_at(point.address);
+        return;
     }
+    for i in 0..point.length {
+        watch(debugger, point.kind, point.address.wrapping_add(i));
+    }
+}
+
+/// Lets a debugger stop where a byte changes, or is read or written, as a watch's kind says.
+fn watch(debugger: &mut Debugger, kind: PointKind, address: u32)
+    ensures { IsSameButStops debugger.old debugger.new }
+{
+    let _ = match kind {
+        PointKind::ReadWatch => debugger.stop_at_read(address),
+        PointKind::AccessWatch => debugger.stop_at_access(address),
+        _ => debugger.watch_byte(address),
+    };
 }
 
 /// The kind of the break at an address, if there is one.
@@ -134,4 +138,34 @@ fn differ(point: Point, before: &Board, after: &Board) -> bool {
         }
     }
     false
+}
+
+/// The first watch of reads, or of reads and writes, of which a byte is so touched.
+pub fn touched(points: &[Point], read: Option<Span>, written: Option<Span>) -> Option<Point> {
+    for point in points {
+        if touches(*point, read, written) {
+            return Some(*point);
+        }
+    }
+    None
+}
+
+/// Whether a byte of a watch is read, or written, as its kind says.
+fn touches(point: Point, read: Option<Span>, written: Option<Span>) -> bool {
+    match point.kind {
+        PointKind::ReadWatch => meets(point, read),
+        PointKind::AccessWatch => meets(point, read) || meets(point, written),
+        _ => false,
+    }
+}
+
+/// Whether a point has one of these bytes.
+fn meets(point: Point, span: Option<Span>) -> bool {
+    match span {
+        Some(span) => {
+            point.address.wrapping_sub(span.first) < span.count
+                || span.first.wrapping_sub(point.address) < point.length
+        }
+        None => false,
+    }
 }

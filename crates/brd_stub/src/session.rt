@@ -3,12 +3,14 @@
 ghost use Rattle.std.specs.Prelude.{◌≡◌, ◌≤◌, length, IfOk};
 ghost use Rattle.brd_gdb.specs.Receiving.{packet_size};
 ghost use Rattle.brd_debug.specs.Debugger.{shown};
-ghost use Rattle.brd_stub.specs.Answers.{Answers, Begins, Reads, Moves, IsStepper};
+ghost use Rattle.brd_stub.specs.Answers.{Answers, Begins, Reads, Moves, Tells, Says};
+ghost use Rattle.brd_stub.specs.Stepping.{processor_for, stepper_on, stepped_by};
 ghost use Rattle.brd_stub.specs.Moving.{IsSameButStops};
 
 use crate::answer::Answer;
 use crate::halt::{Halt, Reason, Told};
 use crate::points::{Point, Setting, clear_point, load, set_point};
+use crate::stepping::{Stepped, stepper_on};
 use crate::telling::{plain, text};
 use crate::threads::processor_of;
 use brd_base::NoMemory;
@@ -92,14 +94,19 @@ impl Session {
     ) -> Result<Answer, NoMemory>
         ensures reads { IfOk result (λ answer.
             Reads (shown self.old.debugger) self.old.reading request answer.reply.items) }
-        ensures moves { IfOk result (λ _. Moves request self.old.debugger self.new.debugger) }
+        ensures moves { IfOk result (λ _. Moves self.old.stepping self.old.told request self.old.debugger self.new.debugger) }
+        ensures tells { IfOk result (λ answer. Tells request self.new answer.reply.items) }
+        ensures says { IfOk result (λ answer. Says self.old request answer.reply.items) }
         ensures short { IfOk result (λ answer. length answer.reply.items ≤ packet_size) }
     {
         match request {
-            Request::Forward(how) => self.go_on(alloc, self.stepper_of(how), progress),
+            Request::Forward(how) => {
+                let stepped = self.stepped_by(how);
+                self.go_on(alloc, stepped, progress)
+            }
             Request::BackwardContinue => self.go_back(alloc, None, progress),
             Request::BackwardStep => {
-                let stepper = stepper_of(self.stepping, 0, 0);
+                let stepper = Stepper::Each(self.stepping);
                 self.go_back(alloc, Some(stepper), progress)
             }
             Request::Monitor(Monitor::Goto(position)) => self.go_to(alloc, position, progress),
@@ -136,21 +143,45 @@ impl Session {
         }
     }
 
-    /// The processor that a move steps, and the range in which it is stepped.
-    fn stepper_of(&self, how: Move) -> Option<Stepper>
-        ensures { IsStepper how result }
+    /// The processor that a move steps, if it steps one, and whether it moves alone.
+    fn stepped_by(&self, how: Move) -> Stepped
+        ensures { result ≡ stepped_by (shown self.now.debugger) self.now.stepping how }
     {
         match how {
-            Move::Continue => None,
-            Move::Step(thread) => Some(stepper_of(self.processor(thread), 0, 0)),
-            Move::Range { thread, start, end } => {
-                Some(stepper_of(self.processor(thread), start, end))
+            Move::Continue => Stepped {
+                stepper: None,
+                only: None,
+            },
+            Move::Step(thread) => Stepped {
+                stepper: Some(self.stepper(thread, 0, 0)),
+                only: None,
+            },
+            Move::Range { thread, start, end } => Stepped {
+                stepper: Some(self.stepper(thread, start, end)),
+                only: None,
+            },
+            Move::Alone(number) => {
+                let cpu = self.processor(ThreadId::One(number));
+                Stepped {
+                    stepper: Some(Stepper::Each(cpu)),
+                    only: Some(cpu),
+                }
             }
         }
     }
 
+    /// How a thread is stepped within a range.
+    fn stepper(&self, thread: ThreadId, start: u32, end: u32) -> Stepper
+        ensures { result ≡ stepper_on (shown self.now.debugger)
+            (processor_for (shown self.now.debugger) thread self.now.stepping) start end }
+    {
+        stepper_on(self.debugger.show(), self.processor(thread), start, end)
+    }
+
     /// The processor of a thread that steps.
-    fn processor(&self, thread: ThreadId) -> u8 {
+    fn processor(&self, thread: ThreadId) -> u8
+        ensures { result ≡ processor_for (shown self.now.debugger) thread self.now.stepping }
+    {
         match processor_of(self.debugger.show(), thread, self.stepping) {
             Some(cpu) => cpu,
             None => self.stepping,
@@ -189,7 +220,6 @@ impl Session {
                 okay(alloc)
             }
             Setting::Refused => error(alloc),
-            Setting::Unknown => Ok(plain(alloc, Vec::new(alloc))),
         }
     }
 
@@ -202,13 +232,6 @@ impl Session {
         load(&mut self.debugger, &self.points);
         okay(alloc)
     }
-}
-
-/// A processor that is stepped.
-fn stepper_of(cpu: u8, start: u32, end: u32) -> Stepper
-    ensures { result ≡ record { cpu = cpu; start = start; end = end } }
-{
-    Stepper { cpu, start, end }
 }
 
 /// The answer that all went well.

@@ -4,7 +4,8 @@ ghost use Rattle.std.specs.Prelude.{◌≡◌, ◌≤◌, length, IfOk};
 ghost use Rattle.brd_board.specs.Board.{registers_of};
 ghost use Rattle.brd_debug.specs.Debugger.{shown};
 ghost use Rattle.brd_gdb.specs.Receiving.{packet_size};
-ghost use Rattle.brd_stub.specs.Answers.{Reads};
+ghost use Rattle.brd_stub.specs.Answers.{Reads, Says};
+ghost use Rattle.brd_stub.specs.Halting.{halt_text, fitting};
 ghost use Rattle.brd_stub.specs.Reading.{IsMemoryText};
 ghost use Rattle.brd_stub.specs.Registers.{context_or_rest, registers_text, register_text};
 
@@ -28,6 +29,7 @@ impl Session {
     pub(crate) fn tell(&self, alloc: Global, request: Request) -> Result<Vec<u8>, NoMemory>
         ensures reads { IfOk result
             (λ reply. Reads (shown self.now.debugger) self.now.reading request reply.items) }
+        ensures says { IfOk result (λ reply. Says self.now request reply.items) }
         ensures short { IfOk result (λ reply. length reply.items ≤ packet_size) }
     {
         let board = self.debugger.show();
@@ -36,6 +38,10 @@ impl Session {
             Request::ReadRegister(number) => register(alloc, board, self.reading, number),
             Request::ReadMemory { address, length } => memory(alloc, board, address, length),
             Request::Write => text(alloc, b"E01"),
+            Request::StopReason => {
+                let reply = halt_text(alloc, self.halt)?;
+                Ok(short(reply))
+            }
             other => {
                 let reply = self.say(alloc, other)?;
                 Ok(short(reply))
@@ -48,8 +54,8 @@ impl Session {
         let board = self.debugger.show();
         match request {
             Request::Supported => text(alloc, SUPPORTED),
-            Request::StartNoAckMode | Request::Detach | Request::Kill => text(alloc, b"OK"),
-            Request::StopReason => halt_text(alloc, self.halt),
+            Request::StartNoAckMode | Request::Detach | Request::Kill | Request::KillProcess =>
+                text(alloc, b"OK"),
             Request::IsAlive(thread) => alive(alloc, board, thread),
             Request::CurrentThread => current(alloc, self.halt.thread),
             Request::FirstThreads => thread_list(alloc, board),
@@ -75,7 +81,8 @@ pub fn text(alloc: Global, bytes: &[u8]) -> Result<Vec<u8>, NoMemory>
 
 /// The front of a reply that a packet has room for.
 pub fn short(reply: Vec<u8>) -> Vec<u8>
-    ensures { length result.items ≤ packet_size }
+    ensures fitting { result.items ≡ fitting reply.items }
+    ensures short { length result.items ≤ packet_size }
 {
     let mut reply = reply;
     reply.truncate(PACKET_SIZE);
@@ -123,7 +130,9 @@ fn memory(alloc: Global, board: &Board, address: u32, most: u32) -> Result<Vec<u
 }
 
 /// Why the board stands where it is.
-pub fn halt_text(alloc: Global, halt: Halt) -> Result<Vec<u8>, NoMemory> {
+pub fn halt_text(alloc: Global, halt: Halt) -> Result<Vec<u8>, NoMemory>
+    ensures { IfOk result (λ reply. reply.items ≡ halt_text halt) }
+{
     let mut reply = Vec::new(alloc);
     show_halt(&mut reply, halt)?;
     Ok(reply)

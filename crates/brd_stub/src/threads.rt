@@ -1,5 +1,9 @@
 //! Threads, which are the board's processors.
 
+ghost use Rattle.std.specs.Prelude.{◌≡◌, is_some};
+ghost use Rattle.brd_board.specs.Board.{standing_of};
+ghost use Rattle.brd_stub.specs.Stepping.{processor_of};
+
 use brd_base::NoMemory;
 use brd_board::{Board, Standing, TaskState};
 use brd_gdb::ThreadId;
@@ -7,12 +11,16 @@ use brd_text::hex_digits;
 use std::alloc::Global;
 
 /// Whether there is a processor of this number.
-pub fn is_thread(board: &Board, thread: u8) -> bool {
+pub fn is_thread(board: &Board, thread: u8) -> bool
+    ensures { result ≡ is_some (standing_of board.now thread) }
+{
     board.standing(thread).is_some()
 }
 
 /// The processor of a thread, where there is one; another one where any is meant.
-pub fn processor_of(board: &Board, thread: ThreadId, other: u8) -> Option<u8> {
+pub fn processor_of(board: &Board, thread: ThreadId, other: u8) -> Option<u8>
+    ensures { result ≡ processor_of board.now thread other }
+{
     match thread {
         ThreadId::All | ThreadId::Any => Some(other),
         ThreadId::One(number) => {

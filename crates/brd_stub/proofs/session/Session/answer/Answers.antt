@@ -1,7 +1,7 @@
-use Rattle.brd_stub.proofs.AnswerLemmas.{if-three}
+use Rattle.brd_stub.proofs.AnswerLemmas.{if-five}
 use Rattle.brd_stub.proofs.session.Session.answer.Goals as goal
 
 pub returns : goal.returns
 returns g c =
-    if-three _ _ _ _ (λ a first second third. record { reads = first; moves = second; short = third }) c.answered.result c.answered.ensures.reads
-    c.answered.ensures.moves c.answered.ensures.short
+    if-five _ _ _ _ _ _ (λ a reads moves tells says short. record { reads = reads; moves = moves; tells = tells; says = says; short = short })
+    c.answered.result c.answered.ensures.reads c.answered.ensures.moves c.answered.ensures.tells c.answered.ensures.says c.answered.ensures.short

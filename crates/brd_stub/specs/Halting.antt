@@ -1,0 +1,63 @@
+-- How GDB is told why the board stands where it is (GDB manual, "Stop Reply Packets").
+use Rattle.std.specs.Prelude.{ℕ, List, [], ◌∷◌, ◌++◌, take, codes}
+use Rattle.brd_exec.specs.declared.outcome.ExceptionCode.{ExceptionCode}
+use Rattle.brd_text.specs.Hex.{hex_of}
+use Rattle.brd_gdb.specs.Hexes.{hexed}
+use Rattle.brd_gdb.specs.Receiving.{packet_size}
+use Rattle.brd_gdb.specs.declared.request.PointKind.{PointKind}
+use Rattle.brd_stub.specs.declared.halt.Reason.{Reason}
+use Rattle.brd_stub.specs.declared.halt.Halt.{Halt}
+
+-- The signal of an exception, by its number in GDB's protocol: of address errors SIGBUS, of bus errors SIGSEGV, of a
+-- reserved instruction SIGILL, of an overflow SIGFPE, of a breakpoint and a trap SIGTRAP (own choice).
+abbrev pub signal_of_code : ExceptionCode → ℕ
+signal_of_code ExceptionCode.AdEL = 10
+signal_of_code ExceptionCode.AdES = 10
+signal_of_code ExceptionCode.IBE = 11
+signal_of_code ExceptionCode.DBE = 11
+signal_of_code ExceptionCode.Bp = 5
+signal_of_code ExceptionCode.RI = 4
+signal_of_code ExceptionCode.Ov = 8
+signal_of_code ExceptionCode.Tr = 5
+
+-- that of a reason: SIGTRAP where it is no exception
+abbrev pub signal_of : Reason → ℕ
+signal_of (Reason.Exception code) = signal_of_code code
+signal_of Reason.Done = 5
+signal_of (Reason.Break kind) = 5
+signal_of (Reason.Watch kind address) = 5
+signal_of Reason.Begin = 5
+signal_of Reason.End = 5
+
+-- the name of a break, and of a watch
+abbrev pub break_name : PointKind → List ℕ
+break_name PointKind.HardwareBreak = codes "hwbreak:;"
+break_name other = codes "swbreak:;"
+
+abbrev pub watch_name : PointKind → List ℕ
+watch_name PointKind.ReadWatch = codes "rwatch:"
+watch_name PointKind.AccessWatch = codes "awatch:"
+watch_name other = codes "watch:"
+
+-- what a reason adds
+abbrev pub reason_text : Reason → List ℕ
+reason_text Reason.Done = []
+reason_text (Reason.Break kind) = break_name kind
+reason_text (Reason.Exception code) = []
+reason_text (Reason.Watch kind address) = watch_name kind ++ hex_of address ++ codes ";"
+reason_text Reason.Begin = codes "replaylog:begin;"
+reason_text Reason.End = codes "replaylog:end;"
+
+-- the signal, the processor, and what the reason adds
+abbrev pub signal_text : Reason → List ℕ
+signal_text reason = codes "T" ++ hexed (signal_of reason ∷ [])
+
+abbrev pub processor_text : ℕ → List ℕ
+processor_text cpu = codes "thread:" ++ hexed (cpu ∷ []) ++ codes ";"
+
+abbrev pub halt_text : Halt → List ℕ
+halt_text it = signal_text it.reason ++ processor_text it.thread ++ reason_text it.reason
+
+-- the front of a reply that a packet has room for
+abbrev pub fitting : List ℕ → List ℕ
+fitting reply = take packet_size reply
