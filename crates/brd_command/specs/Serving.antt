@@ -10,7 +10,7 @@ use Rattle.brd_gdb.specs.declared.receiver.Arrival.{Arrival}
 use Rattle.brd_gdb.specs.declared.receiver.Arrival.TheVariants.{Packet, TooLong, Damaged}
 use Rattle.brd_gdb.specs.declared.receiver.Part.TheVariants.{Outside}
 use Rattle.brd_gdb.specs.declared.request.Request.{Request}
-use Rattle.brd_gdb.specs.declared.request.Request.TheVariants.{StartNoAckMode, Detach, Kill}
+use Rattle.brd_gdb.specs.declared.request.Request.TheVariants.{StartNoAckMode, Detach, Kill, KillProcess}
 use Rattle.brd_stub.specs.Answers.{Answers, Begins}
 use Rattle.brd_command.specs.declared.gdb_server.Server.{Server}
 
@@ -39,11 +39,13 @@ pub record AddsAnswer (request : Request) (s after : Server) (old new : List ℕ
   pub acknowledges : after.acknowledges ≡ s.acknowledges
 
 -- What is answered to a packet of a request, whether that is all, and the server after it. `QStartNoAckMode` is the last
--- packet that is acknowledged. After `D` and `k` nothing is read; `k` has no reply.
+-- packet that is acknowledged. After `D`, `vKill` and `k` nothing is read; `k` has no reply.
 abbrev pub AnswersPacket : Request → Server → List ℕ → Bool → Server → Type 0
 AnswersPacket StartNoAckMode s bytes over after =
     (bytes ≡ accepted s ++ framed (codes "OK")) × (over ≡ false) × (after ≡ record s { acknowledges = false })
 AnswersPacket Detach s bytes over after =
+    (bytes ≡ accepted s ++ framed (codes "OK")) × (over ≡ true) × (after ≡ s)
+AnswersPacket KillProcess s bytes over after =
     (bytes ≡ accepted s ++ framed (codes "OK")) × (over ≡ true) × (after ≡ s)
 AnswersPacket Kill s bytes over after = (bytes ≡ accepted s) × (over ≡ true) × (after ≡ s)
 AnswersPacket request s bytes over after = AddsAnswer request s after (accepted s) bytes × (over ≡ false)

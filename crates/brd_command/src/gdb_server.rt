@@ -94,7 +94,7 @@ impl Server {
                     is_over: false,
                 })
             }
-            Request::Detach => {
+            Request::Detach | Request::KillProcess => {
                 put_packet(&mut bytes, b"OK")?;
                 Ok(Served {
                     bytes,
