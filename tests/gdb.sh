@@ -67,6 +67,8 @@ at 13.*
 > stepi
 0x80000008 in .*
 > stepi
+0x8000000c in .*
+> stepi
 0x80000004 in .*
 > printf "%x t0=%d t1=%d\n", $pc, $t0, $t1
 80000004 t0=1 t1=2
@@ -92,6 +94,8 @@ Thread 1( ".*")? received signal SIGBUS, Bus error\.
 > stepi
 0x80000014 in .*
 > stepi
+0x80000018 in .*
+> stepi
 Thread 1( ".*")? received signal SIGBUS, Bus error\.
 0x80000018 in .*
 > break *0x80000008
@@ -111,6 +115,29 @@ No more reverse-execution history\.
 > info threads
 .* 1 +Thread 1 .*0x80000000 in .*
 .* 2 +Thread 2 .*0x80000024 in .*
+> thread 2
+.*
+> stepi
+0x80000028 in .*
+> stepi
+0x80000024 in .*
+> monitor goto 3
+at 3
+> maintenance flush register-cache
+> stepi
+0x80000024 in .*
+> thread 1
+.*
+> printf "%x t0=%d t1=%d\n", $pc, $t0, $t1
+80000008 t0=2 t1=0
+> thread 2
+.*
+> break *0x80000024
+Breakpoint 2 at 0x80000024
+> continue
+Thread 2( ".*")? hit Breakpoint 2, 0x80000024 in .*
+> reverse-stepi
+0x80000028 in .*
 END
     # A task that an exception has ended, and beyond: its processor has nothing to execute.
     session "after an exception, $order-endian" << 'END'
@@ -126,6 +153,128 @@ Thread 1( ".*")? received signal SIGBUS, Bus error\.
 No more reverse-execution history\.
 END
 done
+
+# Watches of stores, in a delay slot too, and of loads and accesses by the bytes that an instruction names.
+for order in big little; do
+    elf=$work/parts.$order
+    { echo "        .byteorder $order"; cat tests/gdb/parts.s; } > "$work/parts.s"
+    "$board" asm "$work/parts.s" "$elf"
+    cfg=tests/gdb/parts.cfg
+    ordered tests/gdb/parts.journal
+    session "a watch of a store in a delay slot, $order-endian" << 'END'
+> watch *(int *)0x80000058
+Hardware watchpoint 1: .*
+> continue
+Old value = 9
+New value = 2
+0x8000002c in .*
+> continue
+Old value = 2
+New value = 1
+0x8000002c in .*
+> continue
+Old value = 1
+New value = 0
+0x80000038 in .*
+> continue
+No more reverse-execution history\.
+> reverse-continue
+Old value = 0
+New value = 1
+0x80000034 in .*
+> stepi
+Old value = 1
+New value = 0
+0x80000038 in .*
+> reverse-continue
+New value = 1
+> reverse-continue
+New value = 2
+> reverse-continue
+New value = 9
+0x80000034 in .*
+> delete
+> stepi
+0x8000002c in .*
+END
+    session "a watch of reads, $order-endian" << 'END'
+> rwatch *(char *)0x80000044
+Hardware read watchpoint 1: .*
+> continue
+Hardware read watchpoint 1: .*
+Value = 5 .*
+0x80000010 in .*
+> rwatch *(int *)0x80000050
+Hardware read watchpoint 2: .*
+> continue
+Hardware read watchpoint 2: .*
+Value = 1
+0x80000024 in .*
+> continue
+No more reverse-execution history\.
+> reverse-continue
+Hardware read watchpoint 2: .*
+Value = 1
+0x80000020 in .*
+> reverse-continue
+Hardware read watchpoint 1: .*
+Value = 5 .*
+0x8000000c in .*
+> reverse-continue
+No more reverse-execution history\.
+END
+    session "a watch of reads and writes, $order-endian" << 'END'
+> awatch *(short *)0x8000004e
+Hardware access \(read/write\) watchpoint 1: .*
+> awatch *(int *)0x80000054
+Hardware access \(read/write\) watchpoint 2: .*
+> continue
+Hardware access \(read/write\) watchpoint 1: .*
+0x800000(1c|20) in .*
+> tbreak *0x80000020
+Temporary breakpoint 3 at 0x80000020
+> continue
+> continue
+Hardware access \(read/write\) watchpoint 2: .*
+0x80000028 in .*
+> delete
+> continue
+No more reverse-execution history\.
+END
+done
+elf=$work/parts.big
+"$board" asm tests/gdb/parts.s "$elf"
+journal=tests/gdb/parts.journal
+session "the bytes of unaligned loads, big-endian" << 'END'
+> rwatch *(char *)0x80000043
+Hardware read watchpoint 1: .*
+> continue
+Value = 4 .*
+0x8000000c in .*
+> continue
+Value = 4 .*
+0x80000014 in .*
+> awatch *(char *)0x8000004a
+Hardware access \(read/write\) watchpoint 2: .*
+> continue
+Hardware access \(read/write\) watchpoint 2: .*
+0x80000018 in .*
+> continue
+No more reverse-execution history\.
+END
+elf=$work/parts.little
+ordered tests/gdb/parts.journal
+session "the bytes of unaligned loads, little-endian" << 'END'
+> rwatch *(char *)0x80000043
+Hardware read watchpoint 1: .*
+> continue
+Value = 1 .*
+0x80000014 in .*
+> awatch *(char *)0x8000004a
+Hardware access \(read/write\) watchpoint 2: .*
+> continue
+No more reverse-execution history\.
+END
 
 # examples/fault: from the exception to the store that spoiled the pointer, on the other processor.
 elf=$work/fault.elf
@@ -325,6 +474,14 @@ for order in big little; do
 Temporary breakpoint 1 at .*
 > continue
 Thread 7( ".*")? hit Temporary breakpoint 1, count \(number=7\) at .*
+> thread 4
+.*
+> stepi
+.*
+> stepi
+.*
+> info threads
+\* 4 +Thread 4 .*
 > thread apply 8 2 -q print $pc
 .*
 > continue

@@ -129,7 +129,8 @@ class Texts:
             thread, length = self.among("-1", "0", "1", "2", "8", "9"), self.random.choice((1, 4, 8, 64, 0xffffffff))
             packet = self.among(
                 "?", "g", "qC", "qfThreadInfo", "qsThreadInfo", "vCont?", "c", "s", "bc", "bs", "bc", "bs", "vCont;c",
-                f"vCont;s:{thread};c", f"vCont;r{address:x},{address + 8:x}:{thread};c", "vCont;C05:1;c", "vCont;t",
+                f"vCont;s:{thread};c", f"vCont;s:{thread}", f"vCont;r{address:x},{address + 8:x}:{thread};c",
+                f"vCont;rffffffff{address:x},ffffffff{address + 8:x}:{thread};c", "vCont;C05:1;c", "vCont;t",
                 f"p{self.random.randrange(80):x}", f"m{address:x},{length:x}", f"M{address:x},1:00", "G00",
                 f"Hg{thread}", f"Hc{thread}", f"T{thread}", f"qThreadExtraInfo,{thread}",
                 f"Z{self.random.randrange(6)},{address:x},4", f"z{self.random.randrange(6)},{address:x},4",
