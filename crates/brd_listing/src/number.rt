@@ -3,6 +3,7 @@
 ghost use Rattle.std.specs.Prelude.{◌≡◌, ◌++◌, OnOk};
 ghost use Rattle.std.specs.Fmt.{decimal};
 ghost use Rattle.brd_listing.specs.Places as places;
+ghost use Rattle.brd_listing.specs.Listing.{signed_text};
 
 use brd_base::NoMemory;
 use brd_text::hex_digits;
@@ -18,7 +19,9 @@ pub(crate) fn put_decimal(to: &mut Vec<u8>, number: u32) -> Result<(), NoMemory>
 }
 
 /// Puts at the end the number that sixteen bits are as a signed one.
-pub(crate) fn put_signed(to: &mut Vec<u8>, bits: u16) -> Result<(), NoMemory> {
+pub(crate) fn put_signed(to: &mut Vec<u8>, bits: u16) -> Result<(), NoMemory>
+    ensures { OnOk result (to.new.items ≡ to.old.items ++ signed_text bits) }
+{
     if bits < 0x8000 {
         return put_decimal(to, bits as u32);
     }

@@ -1,8 +1,10 @@
 //! What the operands of an instruction are, in the order in which they are written.
 
-ghost use Rattle.std.specs.Prelude.{◌<◌, ◌^◌};
+ghost use Rattle.std.specs.Prelude.{◌≡◌, ◌<◌, ◌^◌};
+ghost use Rattle.brd_listing.specs.Listing as listing;
 
 use brd_isa::{ImmediateOp, Insn, Mnemonic, Register};
+use brd_word::sign16;
 
 /// An operand as it is written.
 #[derive(Clone, Copy)]
@@ -24,7 +26,9 @@ pub(crate) enum ListedOperand {
 }
 
 /// Which instruction it is, without its operands.
-pub fn mnemonic_of(insn: &Insn) -> Mnemonic {
+pub fn mnemonic_of(insn: &Insn) -> Mnemonic
+    ensures { result ≡ listing.mnemonic_of insn.now }
+{
     match *insn {
         Insn::Shift(op, _, _, _) => Mnemonic::Shift(op),
         Insn::ShiftVariable(op, _, _, _) => Mnemonic::ShiftVariable(op),
@@ -56,7 +60,9 @@ pub fn mnemonic_of(insn: &Insn) -> Mnemonic {
 }
 
 /// The operands of an instruction at an address; those that are absent stand after the others.
-pub(crate) fn operands_of(insn: &Insn, address: u32) -> [ListedOperand; 3] {
+pub(crate) fn operands_of(insn: &Insn, address: u32) -> [ListedOperand; 3]
+    ensures { result ≡ listing.operands_of insn.now address }
+{
     use ListedOperand::{Address, Nothing, Number, Register, Signed, Target};
     match *insn {
         Insn::Shift(_, rd, rt, sa) => [Register(rd), Register(rt), Number(sa.bits() as u32)],
@@ -115,7 +121,9 @@ pub(crate) fn operands_of(insn: &Insn, address: u32) -> [ListedOperand; 3] {
 }
 
 /// A code, which is left out where it is 0.
-fn code_of(code: u32) -> ListedOperand {
+fn code_of(code: u32) -> ListedOperand
+    ensures { result ≡ listing.code_of code }
+{
     if code == 0 {
         return ListedOperand::Nothing;
     }
@@ -123,7 +131,9 @@ fn code_of(code: u32) -> ListedOperand {
 }
 
 /// The immediate of an operation: the logical ones read it as unsigned.
-fn immediate_of(op: ImmediateOp, immediate: u16) -> ListedOperand {
+fn immediate_of(op: ImmediateOp, immediate: u16) -> ListedOperand
+    ensures { result ≡ listing.immediate_of op immediate }
+{
     match op {
         ImmediateOp::Andi | ImmediateOp::Ori | ImmediateOp::Xori => ListedOperand::Bits(immediate),
         _ => ListedOperand::Signed(immediate),
@@ -131,17 +141,18 @@ fn immediate_of(op: ImmediateOp, immediate: u16) -> ListedOperand {
 }
 
 /// Where a branch at an address leads: its offset counts words from the delay slot, and is signed.
-pub(crate) fn branch_target(address: u32, offset: u16) -> u32 {
-    let forward = address.wrapping_add(4).wrapping_add(4 * offset as u32);
-    if offset < 0x8000 {
-        return forward;
-    }
-    forward.wrapping_sub(0x4_0000)
+fn branch_target(address: u32, offset: u16) -> u32
+    ensures { result ≡ listing.branch_target address offset }
+{
+    address
+        .wrapping_add(4)
+        .wrapping_add(sign16(offset).wrapping_mul(4))
 }
 
 /// Where a jump at an address leads: in the region of 2 to the 28th bytes in which its delay slot lies.
-pub(crate) fn jump_target(address: u32, words: u32) -> u32
+fn jump_target(address: u32, words: u32) -> u32
     requires { words < 2 ^ 26 }
+    ensures { result ≡ listing.jump_target address words }
 {
     let slot = address.wrapping_add(4);
     (slot / 0x1000_0000) * 0x1000_0000 + 4 * words
