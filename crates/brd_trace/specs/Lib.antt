@@ -1,1 +1,4 @@
-pub mod Executing
+pub mod Lines
+pub mod Effects
+pub mod Quiets
+pub mod Telling

@@ -1,10 +1,9 @@
 //! The answers of service calls.
 
-use crate::service::{AskedCall, Shown, put_value};
+use crate::service::{SaidCall, Shown, put_value};
 use crate::text::{put, put_signed};
 use brd_base::NoMemory;
-use brd_exec::Context;
-use brd_isa::Register;
+use brd_happening::Release;
 use std::alloc::Global;
 
 /// The name of an answer that is no count (uITRON 4.0 specification, "Main Error Codes").
@@ -25,21 +24,26 @@ pub(crate) fn error_name(code: u32) -> Option<&'static str> {
     }
 }
 
-/// What a call found in its caller's registers when it was answered.
+/// A call that was answered.
 #[derive(Clone, Copy)]
-pub(crate) struct Answer {
+pub(crate) struct Answered {
+    /// The call.
+    pub call: SaidCall,
     /// $v0.
     pub code: u32,
     /// $v1.
     pub second: u32,
 }
 
-impl Answer {
-    /// The answer in a context.
-    pub(crate) fn of(context: &Context) -> Answer {
-        Answer {
-            code: context.read(Register::low(2)),
-            second: context.read(Register::low(3)),
+impl Answered {
+    /// The call of a task whose wait has ended.
+    pub(crate) fn of(release: &Release) -> Answered {
+        Answered {
+            call: SaidCall {
+                asked: release.asked,
+            },
+            code: release.code,
+            second: release.second,
         }
     }
 
@@ -48,22 +52,17 @@ impl Answer {
         self.code >= 0x8000_0000
     }
 
-    /// Puts at the end what a call was answered.
-    pub(crate) fn put(
-        self,
-        alloc: Global,
-        out: &mut Vec<u8>,
-        asked: AskedCall,
-    ) -> Result<(), NoMemory> {
+    /// Puts the answer at the end.
+    pub(crate) fn put_answer(self, alloc: Global, out: &mut Vec<u8>) -> Result<(), NoMemory> {
         put(out, " = ")?;
-        if asked.counts() && !self.is_error() {
+        if self.call.counts() && !self.is_error() {
             return put_signed(alloc, out, self.code);
         }
         match error_name(self.code) {
             Some(name) => put(out, name)?,
             None => put_signed(alloc, out, self.code)?,
         }
-        let second = asked.second();
+        let second = self.call.second();
         if self.code != 0 || second == Shown::Nothing {
             return Ok(());
         }

@@ -1,151 +1,250 @@
-//! What an ordinary instruction was, and what it changed.
+//! What an instruction was, and what it did.
 
-use crate::cause::word_at;
+ghost use Rattle.std.specs.Prelude.{◌≡◌, ◌++◌, ◌+◌, ◌≤◌, OnOk, IfOk};
+ghost use Rattle.brd_listing.specs.Listing.{IsBehind};
+ghost use Rattle.brd_trace.specs.Effects as effects;
+
+use crate::names::Names;
 use crate::text::{put, put_word};
 use brd_base::NoMemory;
-use brd_board::Board;
-use brd_exec::Context;
-use brd_isa::{Insn, LoadOp, Register, decode};
+use brd_happening::{Access, AccessKind, Change, Instruction, Jump, Written};
+use brd_isa::{Insn, LoadOp};
 use brd_listing::{write_instruction, write_register};
 use brd_text::hex_digits;
-use brd_word::half_of;
+use brd_word::Order;
 
-/// Puts an instruction at the end, or its word, where that stands for none.
-pub(crate) fn put_instruction(
-    out: &mut Vec<u8>,
+/// Puts at the end an instruction that was done, and what it did.
+pub(crate) fn put_done(
+    names: Names,
+    order: Order,
     address: u32,
-    word: Option<u32>,
-) -> Result<(), NoMemory> {
-    let Some(word) = word else {
-        return put(out, "outside RAM");
-    };
-    match decode(word) {
-        Some(insn) => write_instruction(&insn, address, out),
-        None => put_word(out, word),
-    }
-}
-
-/// Puts at the end which registers differ after an instruction, and what of RAM a load or a store has to do with.
-pub(crate) fn put_effect(
+    it: &Instruction,
     out: &mut Vec<u8>,
-    before: &Context,
-    after: &Context,
-    board: &Board,
-    word: Option<u32>,
-) -> Result<(), NoMemory> {
-    for i in 0..32usize {
-        let new = after.registers()[i];
-        if before.registers()[i] != new {
-            put_register(out, Register::low(i as u32), new)?;
-        }
-    }
-    if before.hi() != after.hi() {
-        put_value(out, "hi", after.hi())?;
-    }
-    if before.lo() != after.lo() {
-        put_value(out, "lo", after.lo())?;
-    }
-    match cell_at(before, word) {
-        Some(cell) => cell.put(out, board),
-        None => Ok(()),
-    }
+) -> Result<(), NoMemory>
+    ensures { IfOk result
+        (λ _. IsBehind (effects.IsToldOf names.entry order address it.now) out.old.items out.new.items) }
+{
+    write_instruction(&it.insn, address, out)?;
+    put_effect(names, order, it, out)
 }
 
-/// Puts at the end a register and its value.
-fn put_register(out: &mut Vec<u8>, register: Register, word: u32) -> Result<(), NoMemory> {
-    put(out, "; ")?;
-    write_register(register, out)?;
-    put(out, " = ")?;
-    put_word(out, word)
+/// Puts at the end what an instruction did.
+fn put_effect(
+    names: Names,
+    order: Order,
+    it: &Instruction,
+    out: &mut Vec<u8>,
+) -> Result<(), NoMemory>
+    ensures { OnOk result (out.new.items ≡ out.old.items ++ effects.effect_text names.entry order it.now) }
+{
+    put_register(out, it.register)?;
+    put_word_written(out, "hi", it.hi)?;
+    put_word_written(out, "lo", it.lo)?;
+    put_access(names, order, part_of(&it.insn), it.access, out)?;
+    put_jump(names, is_branch(&it.insn), it.jump, out)?;
+    put_slot(it.in_slot, out)
 }
 
-/// Puts at the end a name and its value.
-fn put_value(out: &mut Vec<u8>, name: &str, word: u32) -> Result<(), NoMemory> {
-    put(out, "; ")?;
-    put(out, name)?;
-    put(out, " = ")?;
-    put_word(out, word)
-}
-
-/// What is shown of RAM beside a load or a store, by its address.
-#[derive(Clone, Copy)]
-enum Cell {
-    /// The byte that is loaded.
-    Byte(u32),
-    /// The halfword that is loaded.
-    Halfword(u32),
-    /// The aligned word that is loaded or stored, or of which a part is.
-    Word(u32),
-}
-
-impl Cell {
-    /// The aligned word in which an address lies.
-    fn word_around(address: u32) -> Cell {
-        Cell::Word(address - address % 4)
+/// Puts at the end that an instruction stands in a delay slot, where it does.
+fn put_slot(in_slot: bool, out: &mut Vec<u8>) -> Result<(), NoMemory>
+    ensures { OnOk result (out.new.items ≡ out.old.items ++ effects.slot_text in_slot) }
+{
+    if in_slot {
+        return put(out, "; in the delay slot");
     }
-
-    /// Puts at the end its address and what is there, with as many digits as it has.
-    fn put(self, out: &mut Vec<u8>, board: &Board) -> Result<(), NoMemory> {
-        let (address, value, len) = match self {
-            Cell::Byte(address) => (address, byte_at(board, address), 2),
-            Cell::Halfword(address) => (address, halfword_at(board, address), 4),
-            Cell::Word(address) => (address, word_at(board, address), 8),
-        };
-        let Some(value) = value else {
-            return Ok(());
-        };
-        put(out, "; ")?;
-        put_word(out, address)?;
-        put(out, ": ")?;
-        put_low(out, value, len)
-    }
-}
-
-/// Puts at the end the last of a word's hexadecimal digits, at most so many.
-fn put_low(out: &mut Vec<u8>, value: u32, len: usize) -> Result<(), NoMemory> {
-    let digits = hex_digits(value);
-    out.extend_from_slice(&digits[8 - len.min(8)..])?;
     Ok(())
 }
 
-/// The byte at an address, where RAM has it.
-fn byte_at(board: &Board, address: u32) -> Option<u32> {
-    let byte = board.memory(address)?;
-    Some(u32::from(byte))
+/// Puts at the end a register that was written, where its word is another one than before.
+fn put_register(out: &mut Vec<u8>, register: Option<Written>) -> Result<(), NoMemory>
+    ensures { OnOk result (out.new.items ≡ out.old.items ++ effects.register_written register) }
+{
+    let Some(it) = register else {
+        return Ok(());
+    };
+    if it.word.old == it.word.new {
+        return Ok(());
+    }
+    put(out, "; ")?;
+    write_register(it.register, out)?;
+    put(out, " = ")?;
+    put_word(out, it.word.new)
 }
 
-/// The halfword at an address, where RAM has its two bytes.
-fn halfword_at(board: &Board, address: u32) -> Option<u32> {
-    let first = board.memory(address)?;
-    let last = board.memory(address.wrapping_add(1))?;
-    Some(u32::from(half_of([first, last], board.order())))
+/// Puts at the end a word that was written, after its name, where it is another one than before.
+fn put_word_written(out: &mut Vec<u8>, name: &str, word: Option<Change>) -> Result<(), NoMemory>
+    ensures { OnOk result (out.new.items ≡ out.old.items ++ effects.word_written name.now word) }
+{
+    let Some(it) = word else {
+        return Ok(());
+    };
+    if it.old == it.new {
+        return Ok(());
+    }
+    put(out, "; ")?;
+    put(out, name)?;
+    put(out, " = ")?;
+    put_word(out, it.new)
 }
 
-/// What is shown of RAM beside an instruction, if it is a load or a store.
-fn cell_at(before: &Context, word: Option<u32>) -> Option<Cell> {
-    let word = word?;
-    match decode(word) {
-        Some(insn) => cell_of(before, &insn),
-        None => None,
+/// What is shown of memory beside a load or a store.
+#[derive(Clone, Copy)]
+pub(crate) enum Part {
+    /// The byte.
+    Byte,
+    /// The halfword.
+    Halfword,
+    /// The aligned word.
+    Word,
+}
+
+/// Puts at the end what of memory an instruction loaded or stored, and whether an SC has stored.
+fn put_access(
+    names: Names,
+    order: Order,
+    part: Part,
+    access: Option<Access>,
+    out: &mut Vec<u8>,
+) -> Result<(), NoMemory>
+    ensures { OnOk result (out.new.items ≡ out.old.items ++ effects.access_text names.entry order part access) }
+{
+    let Some(it) = access else {
+        return Ok(());
+    };
+    put_cell(names, order, part, it.address, it.word, out)?;
+    put_outcome(it.kind, out)
+}
+
+/// Puts at the end the part of memory in which an address lies, as it is after the event: its address, and its digits.
+fn put_cell(
+    names: Names,
+    order: Order,
+    part: Part,
+    address: u32,
+    word: Option<Change>,
+    out: &mut Vec<u8>,
+) -> Result<(), NoMemory>
+    ensures { OnOk result
+        (out.new.items ≡ out.old.items ++ effects.cell_text names.entry order part address word) }
+{
+    let Some(word) = word else {
+        return Ok(());
+    };
+    put(out, "; ")?;
+    names.put_datum(out, start_of(part, address))?;
+    put(out, ": ")?;
+    put_digits(order, part, address, word.new, out)
+}
+
+/// Puts at the end the digits of the part in which an address lies, of the aligned word around it.
+fn put_digits(
+    order: Order,
+    part: Part,
+    address: u32,
+    word: u32,
+    out: &mut Vec<u8>,
+) -> Result<(), NoMemory>
+    ensures { OnOk result (out.new.items ≡ out.old.items ++ effects.part_digits order part address word) }
+{
+    let digits = hex_digits(word);
+    let first = first_digit(order, part, address);
+    let len = digits_of(part);
+    out.extend_from_slice(&digits[first..first + len])?;
+    Ok(())
+}
+
+/// Puts at the end whether an SC has stored.
+fn put_outcome(kind: AccessKind, out: &mut Vec<u8>) -> Result<(), NoMemory>
+    ensures { OnOk result (out.new.items ≡ out.old.items ++ effects.outcome_text kind) }
+{
+    match kind {
+        AccessKind::StoresIfLinked(true) => put(out, "; stored"),
+        AccessKind::StoresIfLinked(false) => put(out, "; not stored"),
+        AccessKind::Loads | AccessKind::Stores => Ok(()),
     }
 }
 
-/// What is shown of RAM beside an instruction, if it is a load or a store.
-fn cell_of(before: &Context, insn: &Insn) -> Option<Cell> {
+/// Which part is shown beside a load or a store.
+fn part_of(insn: &Insn) -> Part
+    ensures { result ≡ effects.part_of insn.now }
+{
     match *insn {
-        Insn::Load(op, _, base, offset) => Some(loaded_by(op, before.address(base, offset))),
-        Insn::Store(_, _, base, offset) | Insn::Linked(_, _, base, offset) => {
-            Some(Cell::word_around(before.address(base, offset)))
-        }
-        _ => None,
+        Insn::Load(LoadOp::Lb | LoadOp::Lbu, _, _, _) => Part::Byte,
+        Insn::Load(LoadOp::Lh | LoadOp::Lhu, _, _, _) => Part::Halfword,
+        _ => Part::Word,
     }
 }
 
-/// What a load reads at an address: LWL and LWR a part of the word.
-fn loaded_by(op: LoadOp, address: u32) -> Cell {
-    match op {
-        LoadOp::Lb | LoadOp::Lbu => Cell::Byte(address),
-        LoadOp::Lh | LoadOp::Lhu => Cell::Halfword(address),
-        LoadOp::Lwl | LoadOp::Lw | LoadOp::Lwr => Cell::word_around(address),
+/// Where a part begins that an address lies in.
+fn start_of(part: Part, address: u32) -> u32
+    ensures { result ≡ effects.start_of part address }
+{
+    match part {
+        Part::Byte => address,
+        Part::Halfword => address - address % 2,
+        Part::Word => address - address % 4,
     }
+}
+
+/// The first digit of a part among those of the aligned word.
+fn first_digit(order: Order, part: Part, address: u32) -> usize
+    ensures is { result ≡ effects.first_digit order part address }
+    ensures room { result + effects.digits_of part ≤ 8 }
+{
+    let place = (address % 4) as usize;
+    match (order, part) {
+        (Order::Big, Part::Byte) => 2 * place,
+        (Order::Big, Part::Halfword) => 4 * (place / 2),
+        (Order::Little, Part::Byte) => 2 * (3 - place),
+        (Order::Little, Part::Halfword) => 4 * (1 - place / 2),
+        (_, Part::Word) => 0,
+    }
+}
+
+/// How many digits a part has.
+fn digits_of(part: Part) -> usize
+    ensures { result ≡ effects.digits_of part }
+{
+    match part {
+        Part::Byte => 2,
+        Part::Halfword => 4,
+        Part::Word => 8,
+    }
+}
+
+/// Whether an instruction is a branch, which is taken or not.
+fn is_branch(insn: &Insn) -> bool
+    ensures { result ≡ effects.is_branch insn.now }
+{
+    matches!(
+        *insn,
+        Insn::Branch(_, _, _, _) | Insn::BranchZero(_, _, _) | Insn::BranchRegimm(_, _, _)
+    )
+}
+
+/// Puts at the end where a branch or a jump leads, or that a branch isn't taken.
+fn put_jump(
+    names: Names,
+    branches: bool,
+    jump: Option<Jump>,
+    out: &mut Vec<u8>,
+) -> Result<(), NoMemory>
+    ensures { OnOk result
+        (out.new.items ≡ out.old.items ++ effects.jump_text names.entry.symbols.now branches jump) }
+{
+    let Some(it) = jump else {
+        return Ok(());
+    };
+    if !it.taken {
+        return put(out, "; not taken");
+    }
+    put(out, jump_start(branches))?;
+    names.put_place(out, it.target)
+}
+
+/// What stands before the target of a jump.
+fn jump_start(branches: bool) -> &'static str
+    ensures { result.now ≡ effects.jump_start branches }
+{
+    if branches { "; taken, to " } else { "; to " }
 }

@@ -1,12 +1,12 @@
 //! The timeline of what is told.
 
+use crate::notes::Notes;
 use crate::recording::{Known, Recording};
-use crate::teller::{Before, Teller};
 use brd_base::NoMemory;
 use brd_timeline::{MarkKind, Timeline};
 use std::alloc::Global;
 
-impl Teller {
+impl Notes {
     /// From a position on a timeline is made.
     pub(crate) fn record(&mut self, alloc: Global, from: u64) -> Result<(), NoMemory> {
         let known = Known {
@@ -24,7 +24,7 @@ impl Teller {
         alloc: Global,
         to: u64,
     ) -> Result<Option<Timeline>, NoMemory> {
-        let Teller { recording, .. } = self;
+        let Notes { recording, .. } = self;
         match recording {
             Some(recording) => Ok(Some(recording.end(alloc, to)?)),
             None => Ok(None),
@@ -48,12 +48,13 @@ impl Teller {
     pub(crate) fn mark(
         &mut self,
         alloc: Global,
-        before: &Before,
+        cpu: Option<u8>,
+        position: u64,
         kind: MarkKind,
         label: &[u8],
     ) -> Result<(), NoMemory> {
         match &mut self.recording {
-            Some(recording) => recording.mark(alloc, before.cpu, before.position, kind, label),
+            Some(recording) => recording.mark(alloc, cpu.unwrap_or(0), position, kind, label),
             None => Ok(()),
         }
     }
@@ -66,10 +67,10 @@ impl Teller {
         line: u8,
         label: &[u8],
     ) -> Result<(), NoMemory> {
-        if line as usize >= self.options.lines.len() {
+        if line as usize >= self.handlers.len() {
             return Ok(());
         }
-        let cpu = self.options.lines[line as usize];
+        let cpu = self.handlers[line as usize];
         match &mut self.recording {
             Some(recording) => { recording.mark(alloc, cpu, position, MarkKind::Interrupt, label) }
             None => Ok(()),

@@ -1,14 +1,19 @@
 //! Events that change nothing, of which many in a row are one line.
 
-use crate::service::{AskedCall, LOC_SPN};
-use crate::text::{put, put_count, put_named, put_number};
+ghost use Rattle.std.specs.Prelude.{◌≡◌, ◌++◌, OnOk};
+ghost use Rattle.brd_trace.specs.Lines.{count_text};
+ghost use Rattle.brd_trace.specs.Quiets as quiets;
+
+use crate::line::Heading;
+use crate::text::{put, put_count, put_named, put_number, put_signed};
 use brd_base::NoMemory;
 use brd_board::{Standing, TaskId};
+use brd_happening::{Answer, CallMade, Happening, What, Why};
 use std::alloc::Global;
 
 /// A task that asks for a spin lock that is held, so that the call comes again.
 #[derive(Clone, Copy, PartialEq, Eq)]
-pub(crate) struct SpinningTask {
+pub struct SpinningTask {
     /// Its processor.
     pub cpu: u8,
     /// The task.
@@ -21,7 +26,7 @@ pub(crate) struct SpinningTask {
 
 /// Which events.
 #[derive(Clone, Copy, PartialEq, Eq)]
-pub(crate) enum Quiet {
+pub enum Quiet {
     /// Steps of a processor that has nothing to run.
     Idle(u8),
     /// Steps of a processor that is stopped.
@@ -44,7 +49,7 @@ pub(crate) enum Quiet {
 
 /// Some of them in a row.
 #[derive(Clone, Copy)]
-pub(crate) struct Stretch {
+pub struct Stretch {
     /// Which.
     pub quiet: Quiet,
     /// The position of the first one.
@@ -57,7 +62,9 @@ pub(crate) struct Stretch {
 
 impl Quiet {
     /// The processor whose steps they are.
-    pub(crate) fn processor(self) -> Option<u8> {
+    pub(crate) fn processor(self) -> Option<u8>
+        ensures { result ≡ quiets.processor_of self }
+    {
         match self {
             Quiet::Idle(cpu) | Quiet::Stopped(cpu) | Quiet::NoProcessor(cpu) => Some(cpu),
             Quiet::Spins(spin) => Some(spin.cpu),
@@ -66,7 +73,9 @@ impl Quiet {
     }
 
     /// Who does them.
-    pub(crate) fn who(self) -> Option<Standing> {
+    fn who(self) -> Option<Standing>
+        ensures { result ≡ quiets.who_of self }
+    {
         match self {
             Quiet::Spins(spin) => Some(Standing::Task(spin.task)),
             _ => None,
@@ -74,7 +83,9 @@ impl Quiet {
     }
 
     /// Where.
-    pub(crate) fn place(self) -> Option<u32> {
+    fn place(self) -> Option<u32>
+        ensures { result ≡ quiets.place_of self }
+    {
         match self {
             Quiet::Spins(spin) => Some(spin.place),
             _ => None,
@@ -82,30 +93,99 @@ impl Quiet {
     }
 }
 
+/// The events that a happening is one of, if it changes nothing.
+pub(crate) fn quiet_of(it: &Happening) -> Option<Quiet>
+    ensures { result ≡ quiets.quiet_of it.now }
+{
+    match it.what {
+        What::Nothing(why) => Some(quiet_by(why, it.cpu.unwrap_or(0))),
+        What::Lost(line) => Some(Quiet::Again(line)),
+        What::Tick(_) if it.released.as_slice().is_empty() => Some(Quiet::Tick),
+        What::Call(call) => spin_of(it, &call),
+        _ => None,
+    }
+}
+
+/// The events in which nothing happens for this reason, of this processor.
+fn quiet_by(why: Why, cpu: u8) -> Quiet
+    ensures { result ≡ quiets.quiet_by why cpu }
+{
+    match why {
+        Why::Off => Quiet::Off,
+        Why::NoProcessor => Quiet::NoProcessor(cpu),
+        Why::NoHandler(line) => Quiet::NoLine(line),
+        Why::Stopped => Quiet::Stopped(cpu),
+        Why::Idle => Quiet::Idle(cpu),
+        Why::TimeOver => Quiet::TimeOver,
+    }
+}
+
+/// The calls that come again, if a task's call is one of them.
+fn spin_of(it: &Happening, call: &CallMade) -> Option<Quiet>
+    ensures { result ≡ quiets.spin_of it.now call.now }
+{
+    let (Answer::Again, Some(Standing::Task(task))) = (call.answer, it.who) else {
+        return None;
+    };
+    Some(Quiet::Spins(SpinningTask {
+        cpu: it.cpu.unwrap_or(0),
+        task,
+        place: it.place.unwrap_or(0),
+        lock: call.asked.arguments[0],
+    }))
+}
+
+/// The number of a tick; 0 of what is none.
+pub(crate) fn tick_of(what: What) -> u64
+    ensures { result ≡ quiets.tick_of what }
+{
+    match what {
+        What::Tick(number) => number,
+        _ => 0,
+    }
+}
+
 impl Stretch {
+    /// What stands before the line of the events.
+    pub(crate) fn heading(&self) -> Heading
+        ensures { result ≡ quiets.heading_of self.now }
+    {
+        Heading {
+            position: self.position,
+            cpu: self.quiet.processor(),
+            who: self.quiet.who(),
+            place: self.quiet.place(),
+        }
+    }
+
+    /// These events with those that come after them, where they are of the same kind.
+    pub(crate) fn joined(&self, more: Stretch) -> Option<Stretch>
+        ensures { result ≡ quiets.joined self.now more }
+    {
+        if self.quiet != more.quiet {
+            return None;
+        }
+        Some(Stretch {
+            quiet: self.quiet,
+            position: self.position,
+            count: self.count.saturating_add(more.count),
+            tick: more.tick,
+        })
+    }
+
     /// Puts at the end what the events are, and how many.
-    pub(crate) fn put(&self, alloc: Global, out: &mut Vec<u8>) -> Result<(), NoMemory> {
+    pub(crate) fn put(&self, alloc: Global, out: &mut Vec<u8>) -> Result<(), NoMemory>
+        ensures { OnOk result (out.new.items ≡ out.old.items ++ quiets.stretch_text self.now self.now.quiet) }
+    {
         match self.quiet {
-            Quiet::Idle(_) => self.put_steps(alloc, out, "idle"),
-            Quiet::Stopped(_) => self.put_steps(alloc, out, "stopped"),
-            Quiet::NoProcessor(_) => self.put_steps(alloc, out, "no such processor"),
+            Quiet::Idle(_) => self.put_steps(alloc, out, "idle, "),
+            Quiet::Stopped(_) => self.put_steps(alloc, out, "stopped, "),
+            Quiet::NoProcessor(_) => self.put_steps(alloc, out, "no such processor, "),
             Quiet::Spins(spin) => self.put_spins(alloc, out, spin.lock),
             Quiet::Tick => self.put_ticks(alloc, out),
-            Quiet::TimeOver => {
-                put(out, "time is over: ")?;
-                put_count(alloc, out, self.count, "tick")?;
-                put(out, " not counted")
-            }
-            Quiet::NoLine(line) => {
-                put_named(alloc, out, "line", u64::from(line))?;
-                put(out, " has no handler: ")?;
-                self.put_raises(alloc, out)
-            }
-            Quiet::Again(line) => {
-                put_named(alloc, out, "line", u64::from(line))?;
-                put(out, " is pending already: ")?;
-                self.put_raises(alloc, out)
-            }
+            Quiet::TimeOver => self.put_late(alloc, out),
+            Quiet::NoLine(line) => self.put_raises(alloc, out, line, " has no handler: "),
+            Quiet::Again(line) => self.put_raises(alloc, out, line, " is pending already: "),
             Quiet::Off => {
                 put(out, "off: ")?;
                 put_count(alloc, out, self.count, "event")?;
@@ -115,40 +195,57 @@ impl Stretch {
     }
 
     /// Puts at the end what a processor is, and how many steps.
-    fn put_steps(&self, alloc: Global, out: &mut Vec<u8>, what: &str) -> Result<(), NoMemory> {
+    fn put_steps(&self, alloc: Global, out: &mut Vec<u8>, what: &str) -> Result<(), NoMemory>
+        ensures { OnOk result (out.new.items ≡ out.old.items ++ (what.now ++ quiets.steps_text self.now)) }
+    {
         put(out, what)?;
-        put(out, ", ")?;
         put_count(alloc, out, self.count, "step")
     }
 
     /// Puts at the end the call that comes again, the lock, and how many steps.
-    fn put_spins(&self, alloc: Global, out: &mut Vec<u8>, lock: u32) -> Result<(), NoMemory> {
-        let asked = AskedCall {
-            number: LOC_SPN,
-            arguments: [lock, 0, 0, 0],
-        };
-        asked.put(alloc, out)?;
-        put_named(alloc, out, ", spins for lock", u64::from(lock))?;
+    fn put_spins(&self, alloc: Global, out: &mut Vec<u8>, lock: u32) -> Result<(), NoMemory>
+        ensures { OnOk result (out.new.items ≡ out.old.items ++ quiets.spins_text self.now lock) }
+    {
+        put(out, "loc_spn(")?;
+        put_signed(alloc, out, lock)?;
+        put_named(alloc, out, "), spins for lock", u64::from(lock))?;
         put(out, ", ")?;
         put_count(alloc, out, self.count, "step")
     }
 
-    /// Puts at the end how many raises.
-    fn put_raises(&self, alloc: Global, out: &mut Vec<u8>) -> Result<(), NoMemory> {
+    /// Puts at the end a line, what it is, and how many raises.
+    fn put_raises(
+        &self,
+        alloc: Global,
+        out: &mut Vec<u8>,
+        line: u8,
+        what: &str,
+    ) -> Result<(), NoMemory>
+        ensures { OnOk result (out.new.items ≡ out.old.items ++ quiets.raises_text self.now line what.now) }
+    {
+        put_named(alloc, out, "line", u64::from(line))?;
+        put(out, what)?;
         put_count(alloc, out, self.count, "raise")
     }
 
+    /// Puts at the end how many ticks were not counted.
+    fn put_late(&self, alloc: Global, out: &mut Vec<u8>) -> Result<(), NoMemory>
+        ensures { OnOk result (out.new.items ≡ out.old.items ++ quiets.late_text self.now) }
+    {
+        put(out, "time is over: ")?;
+        put_count(alloc, out, self.count, "tick")?;
+        put(out, " not counted")
+    }
+
     /// Puts at the end which ticks.
-    fn put_ticks(&self, alloc: Global, out: &mut Vec<u8>) -> Result<(), NoMemory> {
+    fn put_ticks(&self, alloc: Global, out: &mut Vec<u8>) -> Result<(), NoMemory>
+        ensures { OnOk result (out.new.items ≡ out.old.items ++ quiets.ticks_text self.now) }
+    {
         if self.count == 1 {
             return put_named(alloc, out, "tick", self.tick);
         }
-        put_named(
-            alloc,
-            out,
-            "ticks",
-            self.tick.saturating_sub(self.count.saturating_sub(1)),
-        )?;
+        let first = self.tick.saturating_sub(self.count.saturating_sub(1));
+        put_named(alloc, out, "ticks", first)?;
         put(out, " to ")?;
         put_number(alloc, out, self.tick)
     }

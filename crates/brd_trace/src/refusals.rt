@@ -2,7 +2,7 @@
 
 use crate::answer::error_name;
 use crate::names::Names;
-use crate::service::AskedCall;
+use crate::service::SaidCall;
 use crate::text::{put, put_count, put_named, put_number, put_signed};
 use brd_base::NoMemory;
 use std::alloc::Global;
@@ -11,7 +11,7 @@ use std::alloc::Global;
 #[derive(Clone, Copy)]
 pub(crate) struct Refusals {
     /// The first of them.
-    pub asked: AskedCall,
+    pub call: SaidCall,
     /// The answer.
     pub code: u32,
     /// How many there were.
@@ -24,10 +24,10 @@ pub(crate) struct Refusals {
 
 impl Refusals {
     /// Whether a call with this answer is of this kind.
-    fn has(&self, asked: AskedCall, code: u32) -> bool {
+    fn has(&self, call: SaidCall, code: u32) -> bool {
         self.code == code
-            && (self.asked.number == asked.number
-                || (self.asked.service().is_none() && asked.service().is_none()))
+            && (self.call.number() == call.number()
+                || (self.call.service().is_none() && call.service().is_none()))
     }
 
     /// Puts a line at the end: the call, its answer, how often it came, and where the first time.
@@ -38,7 +38,7 @@ impl Refusals {
         out: &mut Vec<u8>,
     ) -> Result<(), NoMemory> {
         put(out, "refused: ")?;
-        self.asked.put(alloc, out)?;
+        self.call.put(alloc, out)?;
         put(out, " = ")?;
         match error_name(self.code) {
             Some(name) => put(out, name)?,
@@ -60,7 +60,7 @@ impl Refusals {
 /// Counts a call with its answer.
 pub(crate) fn note_refusal(refusals: &mut Vec<Refusals>, new: Refusals) -> Result<(), NoMemory> {
     for i in 0..refusals.len() {
-        if refusals[i].has(new.asked, new.code) {
+        if refusals[i].has(new.call, new.code) {
             refusals[i].count = refusals[i].count.saturating_add(1);
             return Ok(());
         }

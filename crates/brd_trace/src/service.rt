@@ -2,8 +2,7 @@
 
 use crate::text::{put, put_number, put_signed, put_word};
 use brd_base::NoMemory;
-use brd_exec::Context;
-use brd_isa::Register;
+use brd_happening::AskedCall;
 use brd_kernel::Call;
 use brd_sysgate::{Service, service};
 use std::alloc::Global;
@@ -33,35 +32,22 @@ pub(crate) const EXT_KER: u32 = 41;
 /// The number of `ret_int`.
 pub(crate) const RET_INT: u32 = 58;
 
-/// The number of `loc_spn`.
-pub(crate) const LOC_SPN: u32 = 60;
-
-/// A service call as the registers ask for it.
+/// A service call as it is said.
 #[derive(Clone, Copy)]
-pub(crate) struct AskedCall {
-    /// Its number, in $v0.
-    pub number: u32,
-    /// Its arguments, in $a0 to $a3.
-    pub arguments: [u32; 4],
+pub(crate) struct SaidCall {
+    /// What was asked for.
+    pub asked: AskedCall,
 }
 
-impl AskedCall {
-    /// What a context asks for that executes a SYSCALL.
-    pub(crate) fn of(context: &Context) -> AskedCall {
-        AskedCall {
-            number: context.read(Register::low(2)),
-            arguments: [
-                context.read(Register::low(4)),
-                context.read(Register::low(5)),
-                context.read(Register::low(6)),
-                context.read(Register::low(7)),
-            ],
-        }
+impl SaidCall {
+    /// The number of the call.
+    pub(crate) fn number(&self) -> u32 {
+        self.asked.number
     }
 
     /// The service that it asks for, where there is one of its number.
     pub(crate) fn service(&self) -> Option<Service> {
-        service(self.number, self.arguments)
+        service(self.asked.number, self.asked.arguments)
     }
 
     /// The call that it is, where there is one of its number.
@@ -76,7 +62,7 @@ impl AskedCall {
     pub(crate) fn put(&self, alloc: Global, out: &mut Vec<u8>) -> Result<(), NoMemory> {
         let Some(service) = self.service() else {
             put(out, "service ")?;
-            return put_signed(alloc, out, self.number);
+            return put_signed(alloc, out, self.asked.number);
         };
         out.extend_from_slice(service.name)?;
         put(out, "(")?;
@@ -99,7 +85,7 @@ impl AskedCall {
             if i > 0 {
                 put(out, ", ")?;
             }
-            put_value(alloc, out, shown[i], self.arguments[i])?;
+            put_value(alloc, out, shown[i], self.asked.arguments[i])?;
         }
         Ok(())
     }

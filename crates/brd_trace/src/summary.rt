@@ -5,8 +5,8 @@ ghost use Rattle.brd_timeline.specs.Ends.{EndsWith};
 
 use crate::line::put_who;
 use crate::names::Names;
+use crate::notes::LastFault;
 use crate::tasks::{TaskSeen, put_standing};
-use crate::teller::LastFault;
 use crate::text::{put, put_named, put_number};
 use crate::tracer::Tracer;
 use crate::waits::{put_wait, state_name};
@@ -25,7 +25,7 @@ impl Tracer {
         out: &mut Vec<u8>,
     ) -> Result<(), NoMemory> {
         self.put_processors(alloc, names, out)?;
-        for task in self.teller.tasks.as_slice() {
+        for task in self.notes.tasks.as_slice() {
             self.put_task(alloc, names, out, *task)?;
         }
         if self.is_stuck() {
@@ -34,19 +34,19 @@ impl Tracer {
                 "deadlock: no task is ready, and no tick and no pending interrupt releases one that waits\n",
             )?;
         }
-        if self.teller.off.is_none() {
-            let tasks = self.teller.tasks.as_slice();
-            self.teller.units.put_circle(alloc, out, tasks)?;
+        if self.notes.off.is_none() {
+            let tasks = self.notes.tasks.as_slice();
+            self.notes.units.put_circle(alloc, out, tasks)?;
         }
         self.put_counts(alloc, names, out)
     }
 
     /// Puts at the end how many calls were refused, and how many raises had no effect.
     fn put_counts(&self, alloc: Global, names: Names, out: &mut Vec<u8>) -> Result<(), NoMemory> {
-        for refusals in self.teller.refusals.as_slice() {
+        for refusals in self.notes.refusals.as_slice() {
             refusals.put(alloc, names, out)?;
         }
-        for lost in self.teller.losses.as_slice() {
+        for lost in self.notes.losses.as_slice() {
             lost.put(alloc, out)?;
         }
         Ok(())
@@ -59,7 +59,7 @@ impl Tracer {
         put_named(alloc, out, "after event", self.playback.at)?;
         put(out, ", ")?;
         put_named(alloc, out, "tick", self.playback.board.now())?;
-        match self.teller.off {
+        match self.notes.off {
             Some(position) => put_named(alloc, out, ": off since event", position)?,
             None => put(out, ": on")?,
         }
@@ -74,7 +74,7 @@ impl Tracer {
         out: &mut Vec<u8>,
     ) -> Result<(), NoMemory> {
         for cpu in 1..9u8 {
-            let standing = self.teller.standings.at(cpu);
+            let standing = self.notes.standings.at(cpu);
             if standing.is_some() {
                 put_standing(alloc, out, cpu, standing)?;
                 put(out, "\n")?;
@@ -92,7 +92,7 @@ impl Tracer {
         out: &mut Vec<u8>,
         cpu: u8,
     ) -> Result<(), NoMemory> {
-        for fault in self.teller.faults.as_slice() {
+        for fault in self.notes.faults.as_slice() {
             if fault.cpu == cpu {
                 put_fault(alloc, names, out, fault)?;
             }
@@ -119,7 +119,7 @@ impl Tracer {
         names.put_both(out, self.place_of(task))?;
         if let Some(reason) = task.waiting {
             put(out, ", ")?;
-            task.asked.put(alloc, out)?;
+            task.call.put(alloc, out)?;
             put(out, " ")?;
             put_wait(alloc, out, reason, task.due)?;
         }
@@ -141,19 +141,19 @@ impl Tracer {
     /// wait.
     fn is_stuck(&self) -> bool {
         let mut waits = false;
-        for task in self.teller.tasks.as_slice() {
+        for task in self.notes.tasks.as_slice() {
             if task.state == TaskState::Ready || task.due.is_some() {
                 return false;
             }
             waits = waits || task.waiting.is_some();
         }
-        waits && self.teller.off.is_none() && self.teller.is_quiet() && !self.handles()
+        waits && self.notes.off.is_none() && self.notes.is_quiet() && !self.handles()
     }
 
     /// Whether a processor runs a handler.
     fn handles(&self) -> bool {
         for cpu in 1..9u8 {
-            if matches!(self.teller.standings.at(cpu), Some(Standing::Handler(_))) {
+            if matches!(self.notes.standings.at(cpu), Some(Standing::Handler(_))) {
                 return true;
             }
         }

@@ -1,11 +1,12 @@
 //! What is known of tasks, and what an event changed of them, in words.
 
-use crate::answer::Answer;
-use crate::service::AskedCall;
+use crate::answer::Answered;
+use crate::service::SaidCall;
 use crate::text::{put, put_comma, put_named, put_number};
 use crate::waits::{put_wait, state_name};
 use brd_base::NoMemory;
 use brd_board::{Board, Standing, TaskId, TaskState, WaitReason};
+use brd_happening::{AskedCall, Release};
 use std::alloc::Global;
 
 /// A task as it stood after an event.
@@ -28,9 +29,7 @@ pub(crate) struct TaskSeen {
     /// How many wake-ups are queued.
     pub wakeups: u8,
     /// What its registers ask for: the call, while it waits.
-    pub asked: AskedCall,
-    /// What its registers have as an answer.
-    pub answer: Answer,
+    pub call: SaidCall,
     /// Where it goes on.
     pub pc: u32,
     /// The position whose event brought it into its state; `None` where it is in it from the boot on.
@@ -51,8 +50,9 @@ pub(crate) fn task_seen(board: &Board, id: TaskId) -> Option<TaskSeen> {
         cpu: view.cpu,
         activations: view.activations,
         wakeups: view.wakeups,
-        asked: AskedCall::of(&view.context),
-        answer: Answer::of(&view.context),
+        call: SaidCall {
+            asked: AskedCall::of(&view.context),
+        },
         pc: view.context.pc(),
         since: None,
         place: view.context.pc(),
@@ -117,18 +117,19 @@ impl TaskSeen {
         }
     }
 
-    /// Puts at the end what an event changed of the task.
+    /// Puts at the end what an event changed of the task, which it has released or not.
     pub(crate) fn put_change(
         self,
         alloc: Global,
         out: &mut Vec<u8>,
         now: TaskSeen,
         cause: Cause,
+        release: Option<Release>,
     ) -> Result<(), NoMemory> {
         if cause.restarts && now.activations < self.activations {
             self.put_fact(alloc, out, " starts again")?;
         } else if self.state != now.state {
-            self.put_state(alloc, out, now, cause)?;
+            self.put_state(alloc, out, now, cause, release)?;
         }
         if self.priority != now.priority {
             self.put_fact(alloc, out, " has priority ")?;
@@ -154,11 +155,13 @@ impl TaskSeen {
         out: &mut Vec<u8>,
         now: TaskSeen,
         cause: Cause,
+        release: Option<Release>,
     ) -> Result<(), NoMemory> {
-        if self.has_answer(&now) {
+        if let Some(release) = release {
             self.put_fact(alloc, out, ": ")?;
-            self.asked.put(alloc, out)?;
-            now.answer.put(alloc, out, self.asked)?;
+            let answered = Answered::of(&release);
+            answered.call.put(alloc, out)?;
+            answered.put_answer(alloc, out)?;
         }
         match now.waiting {
             Some(reason) if cause.caller == Some(self.id) => {
@@ -170,11 +173,6 @@ impl TaskSeen {
                 put(out, state_name(now.state))
             }
         }
-    }
-
-    /// Whether the task has an answer to the call in which it waited.
-    pub(crate) fn has_answer(&self, now: &TaskSeen) -> bool {
-        self.waiting.is_some() && now.waiting.is_none() && now.state != TaskState::Dormant
     }
 
     /// Puts at the end a fact about the task.

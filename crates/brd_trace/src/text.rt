@@ -1,37 +1,51 @@
 //! Pieces of text.
 
-ghost use Rattle.std.specs.Prelude.{IfOk};
+ghost use Rattle.std.specs.Prelude.{◌≡◌, ◌++◌, ◌≤◌, IfOk, OnOk};
+ghost use Rattle.std.specs.Fmt.{decimal};
+ghost use Rattle.brd_text.specs.Hex.{hex_of};
 ghost use Rattle.brd_timeline.specs.Ends.{EndsWith};
+ghost use Rattle.brd_trace.specs.Lines.{blanks, named_text, count_text, signed_text};
 
 use brd_base::NoMemory;
 use brd_text::hex_digits;
 use std::alloc::Global;
 
+/// Blanks, as many as the widest column has.
+const BLANKS: &[u8] = b"                    ";
+
 /// Puts a text at the end.
 pub(crate) fn put(out: &mut Vec<u8>, text: &str) -> Result<(), NoMemory>
-    ensures { IfOk result (λ _. EndsWith text.now out.new.items) }
+    ensures is { OnOk result (out.new.items ≡ out.old.items ++ text.now) }
+    ensures ends { IfOk result (λ _. EndsWith text.now out.new.items) }
 {
     out.extend_from_slice(text.as_bytes())?;
     Ok(())
 }
 
 /// Puts a number at the end, in decimal.
-pub(crate) fn put_number(alloc: Global, out: &mut Vec<u8>, number: u64) -> Result<(), NoMemory> {
+pub(crate) fn put_number(alloc: Global, out: &mut Vec<u8>, number: u64) -> Result<(), NoMemory>
+    ensures { OnOk result (out.new.items ≡ out.old.items ++ decimal number) }
+{
     let text = format!(in alloc; "{number}")?;
-    put(out, &text)
+    out.extend_from_slice(text.as_bytes())?;
+    Ok(())
 }
 
 /// Puts a word at the end, as a signed number.
-pub(crate) fn put_signed(alloc: Global, out: &mut Vec<u8>, word: u32) -> Result<(), NoMemory> {
+pub(crate) fn put_signed(alloc: Global, out: &mut Vec<u8>, word: u32) -> Result<(), NoMemory>
+    ensures { OnOk result (out.new.items ≡ out.old.items ++ signed_text word) }
+{
     if word < 0x8000_0000 {
         return put_number(alloc, out, u64::from(word));
     }
-    put(out, "-")?;
+    out.push(b'-')?;
     put_number(alloc, out, 0x1_0000_0000 - u64::from(word))
 }
 
 /// Puts a word at the end, as eight hexadecimal digits.
-pub(crate) fn put_word(out: &mut Vec<u8>, word: u32) -> Result<(), NoMemory> {
+pub(crate) fn put_word(out: &mut Vec<u8>, word: u32) -> Result<(), NoMemory>
+    ensures { OnOk result (out.new.items ≡ out.old.items ++ hex_of word) }
+{
     out.extend_from_slice(&hex_digits(word))?;
     Ok(())
 }
@@ -42,9 +56,11 @@ pub(crate) fn put_named(
     out: &mut Vec<u8>,
     name: &str,
     number: u64,
-) -> Result<(), NoMemory> {
+) -> Result<(), NoMemory>
+    ensures { OnOk result (out.new.items ≡ out.old.items ++ named_text name.now number) }
+{
     put(out, name)?;
-    put(out, " ")?;
+    out.push(b' ')?;
     put_number(alloc, out, number)
 }
 
@@ -62,32 +78,23 @@ pub(crate) fn put_count(
     out: &mut Vec<u8>,
     count: u64,
     name: &str,
-) -> Result<(), NoMemory> {
+) -> Result<(), NoMemory>
+    ensures { OnOk result (out.new.items ≡ out.old.items ++ count_text count name.now) }
+{
     put_number(alloc, out, count)?;
-    put(out, " ")?;
-    put(out, name)?;
-    if count != 1 {
-        put(out, "s")?;
-    }
-    Ok(())
-}
-
-/// Puts blanks at the end until a column is so wide that began there, at least one.
-pub(crate) fn put_blanks(out: &mut Vec<u8>, start: usize, width: usize) -> Result<(), NoMemory> {
     out.push(b' ')?;
-    let wanted = start.saturating_add(width);
-    let there = out.len();
-    for _ in there..wanted {
-        out.push(b' ')?;
+    put(out, name)?;
+    if count == 1 {
+        return Ok(());
     }
-    Ok(())
+    put(out, "s")
 }
 
-/// Puts a text at the end, with blanks before it up to a width.
-pub(crate) fn put_right(out: &mut Vec<u8>, text: &[u8], width: usize) -> Result<(), NoMemory> {
-    for _ in text.len()..width {
-        out.push(b' ')?;
-    }
-    out.extend_from_slice(text)?;
+/// Puts blanks at the end, at most twenty.
+pub(crate) fn put_blanks(out: &mut Vec<u8>, count: usize) -> Result<(), NoMemory>
+    requires { count ≤ 20 }
+    ensures { OnOk result (out.new.items ≡ out.old.items ++ blanks count) }
+{
+    out.extend_from_slice(&BLANKS[..count])?;
     Ok(())
 }

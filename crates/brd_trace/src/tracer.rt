@@ -1,15 +1,58 @@
 //! Going through a journal.
 
-ghost use Rattle.std.specs.Prelude.{◌≡◌, ◌≤◌, ◌<◌, length, IfOk};
+ghost use Rattle.std.specs.Prelude.{
+  ◌≡◌,
+  ◌≤◌,
+  ◌<◌,
+  ◌++◌,
+  ◌+◌,
+  ◌^◌,
+  ◌&&◌,
+  not,
+  List as ListOf,
+  length,
+  IfOk,
+  OnOk,
+  None,
+  true,
+  false,
+};
+ghost use Rattle.brd_board.specs.declared.event.Event.{Event as EventOf};
 ghost use Rattle.brd_board.specs.Board.{BoardState as BoardOf};
 ghost use Rattle.brd_journal.specs.Playing.{IsPlayed};
+ghost use Rattle.brd_journal.specs.Runs.{ComesBehind};
+ghost use Rattle.brd_listing.specs.Listing.{IsBehind};
+ghost use Rattle.brd_trace.specs.Quiets.{quiet_of};
+ghost use Rattle.brd_trace.specs.Telling.{
+  held_text,
+  with_held,
+  held_quiet,
+  text_quiet,
+  held_more,
+  text_more,
+  more_of,
+  instruction_in,
+  is_untold,
+  is_ran,
+  shown,
+  shown_by,
+  IsFirstLine,
+  IsTrace,
+  Tells,
+  TellsLine,
+  TellsOther,
+};
 
+use crate::line::Heading;
 use crate::names::Names;
-use crate::playback::{advance, advance_many, next_word};
-use crate::teller::{Options, Scene, Teller};
+use crate::notes::{Notes, Scene};
+use crate::playback::{advance_many, next_of};
+use crate::printer::{Manner, Options, Printer};
+use crate::quiet::{Quiet, Stretch, quiet_of, tick_of};
 use brd_base::NoMemory;
-use brd_board::Board;
-use brd_journal::{Journal, Playback};
+use brd_board::{Board, Report};
+use brd_happening::{Before, Happening, Instruction, What};
+use brd_journal::{Journal, Moved, Playback, Run};
 use brd_timeline::Timeline;
 use std::alloc::Global;
 
@@ -21,24 +64,25 @@ const ENOUGH: usize = 65_536;
 pub struct Tracer {
     /// The board, and how many events it has played.
     pub playback: Playback,
-    pub(crate) teller: Teller,
+    /// What is shown, and what is held back.
+    pub printer: Printer,
+    pub(crate) notes: Notes,
     /// Where the journal looks for the next event's run.
     near: usize,
-    /// Whether events are skipped.
-    skips: bool,
 }
 
 impl Tracer {
     /// A board to which nothing has happened.
     pub fn new(alloc: Global, board: Board, options: Options) -> Result<Tracer, NoMemory>
-        ensures { IfOk result (λ tracer. tracer.playback ≡ record { board = board; at = 0 }) }
+        ensures start { IfOk result (λ tracer. tracer.playback ≡ record { board = board; at = 0 }) }
+        ensures printer { IfOk result (λ tracer. tracer.printer ≡ record { options = options; held = None }) }
     {
-        let teller = Teller::new(alloc, &board, options)?;
+        let notes = Notes::new(alloc, &board, options.lines, options.cpu)?;
         Ok(Tracer {
             playback: Playback { board, at: 0 },
-            teller,
+            printer: Printer::new(options),
+            notes,
             near: 0,
-            skips: false,
         })
     }
 
@@ -47,7 +91,7 @@ impl Tracer {
     pub fn advance(
         &mut self,
         alloc: Global,
-        names: Names,
+        manner: Manner,
         journal: &Journal,
         to: u64,
         out: &mut Vec<u8>,
@@ -58,41 +102,199 @@ impl Tracer {
         ensures goes { self.old.playback.at < to → self.old.playback.at < self.new.playback.at }
         ensures played { (boot : BoardOf) → IsPlayed boot journal.now.events self.old.playback
             → IsPlayed boot journal.now.events self.new.playback }
+        ensures told { (boot : BoardOf) → IsPlayed boot journal.now.events self.old.playback
+            → IfOk result (λ _. IsBehind
+            (IsTrace manner.entry boot journal.now.events self.old.playback.at self.new.playback.at self.old.printer
+            self.new.printer) out.old.items out.new.items) }
+    {
+        let Some(rest) = next_of(&self.playback, journal, to, &mut self.near) else {
+            return Ok(());
+        };
+        self.advance_in(alloc, manner, rest, to, out)
+    }
+
+    /// Does the next event of what is left of a run, and those after it that do nothing, up to a position, and puts
+    /// their lines at the end.
+    fn advance_in(
+        &mut self,
+        alloc: Global,
+        manner: Manner,
+        rest: Run,
+        to: u64,
+        out: &mut Vec<u8>,
+    ) -> Result<(), NoMemory>
+        requires on { self.old.playback.at < to }
+        requires some { 1 ≤ rest.count }
+        ensures at { self.new.playback.at ≤ to }
+        ensures goes { self.old.playback.at < self.new.playback.at }
+        ensures played { (boot : BoardOf) (events : ListOf EventOf) → to ≤ length events
+            → ComesBehind events self.old.playback.at rest → IsPlayed boot events self.old.playback
+            → IsPlayed boot events self.new.playback }
+        ensures told { (boot : BoardOf) (events : ListOf EventOf) → to ≤ length events
+            → ComesBehind events self.old.playback.at rest → IsPlayed boot events self.old.playback
+            → IfOk result (λ _. IsBehind (IsTrace manner.entry boot events self.old.playback.at self.new.playback.at
+            self.old.printer self.new.printer) out.old.items out.new.items) }
     {
         let position = self.playback.at;
-        // (an instruction may write over itself, so the word is read before it)
-        let word = if self.teller.options.instructions {
-            next_word(&self.playback, journal, &mut self.near)
-        } else {
-            None
+        let pending = self.notes.raises_again(rest.event);
+        let before = match Before::of(alloc, &self.playback.board, rest.event, pending) {
+            Ok(before) => before,
+            Err(NoMemory) => {
+                self.playback.advance(rest, position + 1, to);
+                return Err(NoMemory);
+            }
         };
-        let mut context = None;
-        let Some(moved) = advance(
-            &mut self.playback,
-            journal,
-            to,
-            &mut self.near,
-            &mut context,
-        ) else {
-            return Ok(());
-        };
-        if self.teller.passes(moved.report) {
+        let moved = self.playback.advance(rest, position + 1, to);
+        if self.passes(moved.report) {
             return Ok(());
         }
-        let before = self.teller.before(position, moved.event, context, word);
+        let told = before.happening(alloc, moved.report, &self.playback.board)?;
+        self.tell(alloc, manner, position, moved.count, &told, out)?;
+        Ok(())
+    }
+
+    /// Whether nothing is told of an event that reports this: it is an ordinary instruction, and those aren't shown.
+    fn passes(&self, report: Report) -> bool
+        ensures { result ≡ not self.now.printer.options.instructions && is_ran report }
+    {
+        !self.printer.options.instructions && is_ran(report)
+    }
+
+    /// Puts at the end what is told of an event, and of those after it that do nothing.
+    fn tell(
+        &mut self,
+        alloc: Global,
+        manner: Manner,
+        position: u64,
+        count: u64,
+        told: &Happening,
+        out: &mut Vec<u8>,
+    ) -> Result<(), NoMemory>
+        requires { position + 1 < 2 ^ 64 }
+        ensures same { self.new.playback ≡ self.old.playback }
+        ensures told { IfOk result (λ _. IsBehind
+            (Tells manner.entry position count told.now self.old.printer self.new.printer) out.old.items out.new.items) }
+    {
+        if let Some(instruction) = instruction_in(told.what) {
+            self.printer
+                .put_instruction(alloc, manner, position, told, &instruction, out)?;
+            return Ok(());
+        }
+        if is_untold(told.what) {
+            return Ok(());
+        }
+        self.tell_other(alloc, manner, position, count, told, out)?;
+        Ok(())
+    }
+
+    /// Puts at the end what is told of an event that is no instruction.
+    fn tell_other(
+        &mut self,
+        alloc: Global,
+        manner: Manner,
+        position: u64,
+        count: u64,
+        told: &Happening,
+        out: &mut Vec<u8>,
+    ) -> Result<(), NoMemory>
+        requires { position + 1 < 2 ^ 64 }
+        ensures same { self.new.playback ≡ self.old.playback }
+        ensures told { IfOk result (λ _. IsBehind
+            (TellsOther (quiet_of told.now) manner.entry.names.symbols.now position count told.now self.old.printer
+            self.new.printer) out.old.items out.new.items) }
+    {
+        let Some(quiet) = quiet_of(told) else {
+            self.tell_line(alloc, manner, position, count, told, out)?;
+            return Ok(());
+        };
+        let stretch = Stretch {
+            quiet,
+            position,
+            count,
+            tick: tick_of(told.what),
+        };
+        self.tell_quiet(alloc, manner.names, stretch, out)?;
+        Ok(())
+    }
+
+    /// Puts at the end what is told of events that change nothing.
+    fn tell_quiet(
+        &mut self,
+        alloc: Global,
+        names: Names,
+        stretch: Stretch,
+        out: &mut Vec<u8>,
+    ) -> Result<(), NoMemory>
+        ensures same { self.new.playback ≡ self.old.playback }
+        ensures printer { IfOk result
+            (λ _. self.new.printer ≡ with_held self.old.printer (held_quiet self.old.printer stretch)) }
+        ensures line { OnOk result
+            (out.new.items ≡ out.old.items ++ text_quiet names.entry.symbols.now self.old.printer stretch) }
+    {
+        self.notes.note_quiet(stretch)?;
+        self.printer.put_quiet(alloc, names, stretch, out)
+    }
+
+    /// Puts at the end the line of an event, and what is told of raises of the same line after it.
+    fn tell_line(
+        &mut self,
+        alloc: Global,
+        manner: Manner,
+        position: u64,
+        count: u64,
+        told: &Happening,
+        out: &mut Vec<u8>,
+    ) -> Result<(), NoMemory>
+        requires { position + 1 < 2 ^ 64 }
+        ensures same { self.new.playback ≡ self.old.playback }
+        ensures told { IfOk result (λ _. IsBehind
+            (TellsLine manner.entry.names.symbols.now position count told.now self.old.printer self.new.printer)
+            out.old.items out.new.items) }
+    {
         let scene = Scene {
             alloc,
-            names,
+            names: manner.names,
             board: &self.playback.board,
+            position,
+            told,
         };
-        self.teller.tell(scene, out, &before, moved)
+        let said = self.notes.say(scene)?;
+        self.printer
+            .put_said(alloc, manner, position, told, &said, out)?;
+        self.tell_more(
+            alloc,
+            manner.names,
+            more_of(told.what, position, count),
+            out,
+        )?;
+        Ok(())
+    }
+
+    /// Puts at the end what is told of events that change nothing, where there are any.
+    fn tell_more(
+        &mut self,
+        alloc: Global,
+        names: Names,
+        more: Option<Stretch>,
+        out: &mut Vec<u8>,
+    ) -> Result<(), NoMemory>
+        ensures same { self.new.playback ≡ self.old.playback }
+        ensures printer { IfOk result
+            (λ _. self.new.printer ≡ with_held self.old.printer (held_more self.old.printer more)) }
+        ensures line { OnOk result
+            (out.new.items ≡ out.old.items ++ text_more names.entry.symbols.now self.old.printer more) }
+    {
+        match more {
+            Some(more) => self.tell_quiet(alloc, names, more, out),
+            None => Ok(()),
+        }
     }
 
     /// Does the next events of a journal, up to a position, or until there are many bytes of lines.
     pub fn advance_far(
         &mut self,
         alloc: Global,
-        names: Names,
+        manner: Manner,
         journal: &Journal,
         to: u64,
         out: &mut Vec<u8>,
@@ -103,12 +305,13 @@ impl Tracer {
         ensures goes { self.old.playback.at < to → self.old.playback.at < self.new.playback.at }
         ensures played { (boot : BoardOf) → IsPlayed boot journal.now.events self.old.playback
             → IsPlayed boot journal.now.events self.new.playback }
+        ensures told { (boot : BoardOf) → IsPlayed boot journal.now.events self.old.playback
+            → IfOk result (λ _. IsBehind
+            (IsTrace manner.entry boot journal.now.events self.old.playback.at self.new.playback.at self.old.printer
+            self.new.printer) out.old.items out.new.items) }
     {
-        if self.skips {
-            return self.skip_far(alloc, journal, to);
-        }
         while self.playback.at < to {
-            self.advance(alloc, names, journal, to, out)?;
+            self.advance(alloc, manner, journal, to, out)?;
             if out.len() >= ENOUGH {
                 break;
             }
@@ -116,19 +319,13 @@ impl Tracer {
         Ok(())
     }
 
-    /// From here on events are skipped until lines are shown or a timeline is made: nothing is told of them, and many
-    /// are done at once. What is told after that is the same, but for a summary: it wants every event.
-    pub fn skip(&mut self)
-        ensures { self.new.playback ≡ self.old.playback }
-    {
-        self.skips = true;
-    }
-
-    /// Does the next events of a journal up to a position, many at once, and tells nothing of them.
-    fn skip_far(&mut self, alloc: Global, journal: &Journal, to: u64) -> Result<(), NoMemory>
+    /// Does the next events of a journal up to a position, many at once, and tells nothing of them. What is told after
+    /// that is the same, but for a summary: it wants every event.
+    pub fn skip_far(&mut self, alloc: Global, journal: &Journal, to: u64) -> Result<(), NoMemory>
         requires on { self.old.playback.at ≤ to }
         requires within { to ≤ length journal.now.events }
         ensures at { self.new.playback.at ≡ to }
+        ensures printer { self.new.printer ≡ self.old.printer }
         ensures played { (boot : BoardOf) → IsPlayed boot journal.now.events self.old.playback
             → IsPlayed boot journal.now.events self.new.playback }
     {
@@ -138,47 +335,118 @@ impl Tracer {
                 journal,
                 to,
                 &mut self.near,
-                &self.teller,
+                &self.notes,
             ) else {
                 break;
             };
-            self.teller.note_line(moved);
+            self.notes.note_line(moved);
         }
-        self.teller
+        self.notes
             .see_board(alloc, &self.playback.board, self.playback.at)
     }
 
     /// From here on lines are shown. Before them it is put at the end what each processor does.
-    pub fn show(&mut self, alloc: Global, names: Names, out: &mut Vec<u8>) -> Result<(), NoMemory>
-        ensures { self.new.playback ≡ self.old.playback }
+    pub fn show(&mut self, alloc: Global, manner: Manner, out: &mut Vec<u8>) -> Result<(), NoMemory>
+        ensures same { self.new.playback ≡ self.old.playback }
+        ensures printer { self.new.printer ≡ shown_by self.old.printer.options }
+        ensures line { IfOk result (λ _. IsBehind
+            (IsFirstLine manner.entry.names.symbols.now self.old.playback.at) out.old.items out.new.items) }
     {
-        self.skips = false;
-        self.teller.show(alloc, names, self.playback.at, out)
+        self.printer = Printer::new(shown(self.printer.options));
+        let mut what = Vec::new(alloc);
+        self.notes.standings.put_all(alloc, &mut what)?;
+        let heading = Heading {
+            position: self.playback.at,
+            cpu: None,
+            who: None,
+            place: None,
+        };
+        heading.put_line(alloc, manner.names, what.as_slice(), out)?;
+        Ok(())
     }
 
     /// Ends the lines: what was held back is put at the end.
-    pub fn finish(&mut self, alloc: Global, names: Names, out: &mut Vec<u8>) -> Result<(), NoMemory>
-        ensures { self.new.playback ≡ self.old.playback }
+    pub fn finish(
+        &mut self,
+        alloc: Global,
+        manner: Manner,
+        out: &mut Vec<u8>,
+    ) -> Result<(), NoMemory>
+        ensures same { self.new.playback ≡ self.old.playback }
+        ensures line { OnOk result
+            (out.new.items ≡ out.old.items ++ held_text manner.entry.names.symbols.now self.old.printer.held) }
     {
-        self.teller.end_stretch(alloc, names, out)
+        self.printer.end(alloc, manner.names, out)
     }
 
     /// From here on a timeline is made.
     pub fn record(&mut self, alloc: Global) -> Result<(), NoMemory>
         ensures { self.new.playback ≡ self.old.playback }
     {
-        self.skips = false;
-        self.teller.record(alloc, self.playback.at)
+        self.notes.record(alloc, self.playback.at)
     }
 
     /// The timeline that was made up to here, where one was.
     pub fn into_timeline(self, alloc: Global) -> Result<Option<Timeline>, NoMemory> {
         let Tracer {
             playback,
-            teller,
+            printer: _,
+            notes,
             near: _,
-            skips: _,
         } = self;
-        teller.into_timeline(alloc, playback.at)
+        notes.into_timeline(alloc, playback.at)
+    }
+}
+
+/// The instruction that was done.
+fn instruction_in(what: What) -> Option<Instruction>
+    ensures { result ≡ instruction_in what }
+{
+    match what {
+        What::Instruction(instruction) => Some(instruction),
+        _ => None,
+    }
+}
+
+/// Whether nothing is told.
+fn is_untold(what: What) -> bool
+    ensures { result ≡ is_untold what }
+{
+    matches!(what, What::Untold)
+}
+
+/// Whether an event that reports this was an ordinary instruction.
+fn is_ran(report: Report) -> bool
+    ensures { result ≡ is_ran report }
+{
+    matches!(report, Report::Ran(_))
+}
+
+/// These options, but that lines are shown.
+fn shown(options: Options) -> Options
+    ensures { result ≡ shown options }
+{
+    let lines = options.lines;
+    Options {
+        cpu: options.cpu,
+        instructions: options.instructions,
+        shown: true,
+        lines,
+    }
+}
+
+/// Raises of the same line after an event that raises one, which change nothing.
+fn more_of(what: What, position: u64, count: u64) -> Option<Stretch>
+    requires { position + 1 < 2 ^ 64 }
+    ensures { result ≡ more_of what position count }
+{
+    match what {
+        What::Raised(line) => Some(Stretch {
+            quiet: Quiet::Again(line),
+            position: position + 1,
+            count: count.saturating_sub(1),
+            tick: 0,
+        }),
+        _ => None,
     }
 }

@@ -1,8 +1,10 @@
--- It has gone on, unless it is at the first turn, and not past the end; and it has played the first events, as many as
--- it says.
+-- It has gone on, unless it is at the first turn, and not past the end; it has played the first events, as many as it
+-- says; and what is told of them is behind what was there.
 use Rattle.std.proofs.Common.{◌≤◌, ◌-◌}
 use Rattle.brd_board.specs.Board.{BoardState}
 use Rattle.brd_journal.specs.Playing.{IsPlayed}
+use Rattle.brd_trace.specs.Telling.{IsTrace}
+use Rattle.brd_listing.specs.Listing.{IsBehind}
 use Rattle.brd_trace.proofs.tracer.Tracer.advance_far.Given as goal
 
 abbrev pub invariant-loop-self : goal.invariant-loop-self
@@ -10,6 +12,9 @@ invariant-loop-self l = record {
   on : l.self.playback.at ≤ l.to;
   above : l.fn.self.playback.at ≤ l.self.playback.at;
   played : (boot : BoardState) → IsPlayed boot l.journal.events l.fn.self.playback → IsPlayed boot l.journal.events l.self.playback;
+  told : (boot : BoardState) → IsPlayed boot l.journal.events l.fn.self.playback
+      → IsBehind (IsTrace l.manner boot l.journal.events l.fn.self.playback.at l.self.playback.at l.fn.self.printer l.self.printer)
+      l.fn.out.items l.out.items;
 }
 
 abbrev pub decreases-loop-self : goal.decreases-loop-self

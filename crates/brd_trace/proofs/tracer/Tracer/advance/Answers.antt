@@ -1,0 +1,12 @@
+use Rattle.brd_trace.proofs.TraceLemmas.{puts_nothing}
+use Rattle.brd_trace.proofs.tracer.Tracer.advance.Goals as goal
+
+pub returns-clause-played : goal.returns-clause-played
+returns-clause-played c = λ boot is. c.advance_in.ensures.played boot c.args.journal.now.events c.requires.within c.in-Some.ensures.comes is
+
+pub returns-clause-told : goal.returns-clause-told
+returns-clause-told c = λ boot is. c.advance_in.ensures.told boot c.args.journal.now.events c.requires.within c.in-Some.ensures.comes is
+
+pub returns-in_default-clause-told : goal.returns-in_default-clause-told
+returns-in_default-clause-told c = λ boot is.
+    puts_nothing c.args.manner boot c.args.journal.now.events c.args.self.now.playback.at c.args.self.now.printer c.args.out.now.items

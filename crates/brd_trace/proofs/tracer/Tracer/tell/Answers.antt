@@ -1,0 +1,25 @@
+use Rattle.std.proofs.Common.{rules, ◌≡◌, true, false, sym, ◌∙◌, arith}
+use Rattle.std.specs.Prelude.{Some, None}
+use Rattle.std.proofs.lemmas.Grind.{common_steps}
+use Rattle.brd_trace.specs.Telling.{instruction_in, is_untold}
+use Rattle.brd_trace.proofs.PutLemmas.{an_instruction, another, untold}
+use Rattle.brd_trace.proofs.tracer.Tracer.tell.Goals as goal
+
+pub returns-in-Some-clause-told : goal.returns-in-Some-clause-told
+returns-in-Some-clause-told c =
+    let is : instruction_in c.args.told.now.what ≡ Some c.in-Some.instruction = sym c.instruction_in.ensures ∙ c.in-Some.is in
+    an_instruction c.args.manner c.args.position c.args.count c.args.told.now c.args.self.now.printer c.put_instruction.new.self
+    c.args.out.now.items c.put_instruction.new.out.items c.in-Some.instruction is c.in_ok-put_instruction.ensures
+
+pub returns-then-is_untold-clause-told : goal.returns-then-is_untold-clause-told
+returns-then-is_untold-clause-told c =
+    let is_none : instruction_in c.args.told.now.what ≡ None = search rules in
+    let is_untold_ : is_untold c.args.told.now.what ≡ true = sym c.is_untold.ensures ∙ c.if-is_untold.true in
+    untold c.args.manner c.args.position c.args.count c.args.told.now c.args.self.now.printer c.args.out.now.items is_none is_untold_
+
+pub returns-clause-told : goal.returns-clause-told
+returns-clause-told c =
+    let is_none : instruction_in c.args.told.now.what ≡ None = search rules in
+    let is_told : is_untold c.args.told.now.what ≡ false = sym c.is_untold.ensures ∙ c.if-is_untold.false in
+    another c.args.manner c.args.position c.args.count c.args.told.now c.args.self.now.printer c.tell_other.new.self.printer
+    c.args.out.now.items c.tell_other.new.out.items is_none is_told c.in_ok-tell_other.ensures.told
