@@ -1,9 +1,23 @@
 -- A trace of what was read.
-use Rattle.std.proofs.Common.{ℕ, List, [], ◌++◌, length, inl}
-use Rattle.std.specs.Prelude.{Option, Some, None, IfSome, Result, Ok, Err, MatchResult}
+use Rattle.std.proofs.Common.{rules, ◌≡◌, ℕ, ◌≤◌, Bool, false, List, [], ◌++◌, length, inl, refl, sym, ap, ◌∙◌, subst, arith}
+use Rattle.std.specs.Bool.{MatchBool}
+use Rattle.std.specs.Prelude.{Option, Some, None, IfSome, Result, Ok, Err, MatchResult, codes}
 use Rattle.std.specs.Io.KnownBytes.{Appends}
 use Rattle.brd_inputs.specs.Start.{AreWithin, IsStart}
-use Rattle.brd_command.specs.TraceCommand.{AppendsSome, EndsTracing, IsOfWriting, TraceEnds, WritesFirst}
+use Rattle.brd_board.specs.declared.event.Event.{Event}
+use Rattle.brd_board.specs.Board.{BoardState}
+use Rattle.brd_trace.specs.declared.printer.{Manner.Manner, Printer.Printer}
+use Rattle.brd_trace.specs.Telling.{IsFirstLine, IsTrace, held_text}
+use Rattle.brd_trace.proofs.TraceLemmas.{trace_nothing, trace_on}
+use Rattle.brd_timeline.specs.Ends.{EndsWith}
+use Rattle.brd_journal.specs.declared.playback.Playback.{Playback}
+use Rattle.brd_journal.specs.Playing.{IsPlayed, board_at}
+use Rattle.brd_inputs.specs.declared.fault.CommandFault.TheVariants as fault
+use Rattle.brd_command.specs.declared.trace_command.Part.{Part}
+use Rattle.brd_command.specs.declared.trace_options.TraceFormat.{TraceFormat}
+use Rattle.brd_command.specs.declared.trace_options.TraceFormat.TheVariants.{Text}
+use Rattle.brd_command.specs.TraceCommand.{EndsTracing, IsOfWriting, TraceEnds, WritesFirst, WritesLines, WritesTold, WritesTrace}
+use Rattle.brd_command.specs.TraceCommand.{IsPart, IsMannerOf, IsShown, WritesForm, first_of, end_of, head}
 use Rattle.brd_inputs.specs.declared.fault.CommandFault.{CommandFault}
 use Rattle.brd_inputs.specs.declared.start.Start.{Start}
 use Rattle.brd_command.specs.declared.trace_options.TraceOptions.{TraceOptions}
@@ -11,7 +25,7 @@ use Rattle.brd_report.proofs.OutputLemmas.{nothing_yet, one_more}
 
 pub traced : (it : Start) (result : Result Unit CommandFault) (options : TraceOptions) (old new : Option (List ℕ)) (image config text : Option (List ℕ))
     → IfSome image (λ i. IfSome config (λ c. IfSome text (λ j. AreWithin i c j × IsStart i c j it)))
-    → EndsTracing result options (length it.journal.events) old new
+    → EndsTracing result options it old new
     → IfSome image (λ i. IfSome config (λ c. IfSome text (λ j. TraceEnds result options i c j old new)))
 traced it result options old new None config text begins ends = tt
 traced it result options old new (Some i) None text begins ends = tt
@@ -21,35 +35,107 @@ traced it result options old new (Some i) (Some c) (Some j) begins ends =
 
 -- What was written, piece by piece.
 
-pub some-first : (known : Option (List ℕ)) → AppendsSome known known
-some-first known = record { bytes = []; written = nothing_yet known }
+-- What was written of the events so far, and the bytes of those after them.
 
-pub some-more : (old mid new : Option (List ℕ)) (bytes : List ℕ) → AppendsSome old mid → Appends mid new bytes → AppendsSome old new
-some-more old mid new bytes so_far more = record { bytes = so_far.bytes ++ bytes; written = one_more old mid new so_far.bytes bytes so_far.written more }
+pub told-first : (manner : Manner) (boot : BoardState) (events : List Event) (at : ℕ) (p : Printer) (known : Option (List ℕ))
+    → WritesTold manner boot events at at p p known known
+told-first manner boot events at p known = record { text = []; is_told = trace_nothing manner boot events at p; written = nothing_yet known }
 
-pub some-some : (old mid new : Option (List ℕ)) → AppendsSome old mid → AppendsSome mid new → AppendsSome old new
-some-some old mid new so_far more =
-    record { bytes = so_far.bytes ++ more.bytes; written = one_more old mid new so_far.bytes more.bytes so_far.written more.written }
+pub told-more : (manner : Manner) (boot : BoardState) (events : List Event) (from mid to : ℕ) (p q r : Printer) (old half new : Option (List ℕ))
+    (bytes : List ℕ) → WritesTold manner boot events from mid p q old half → IsTrace manner boot events mid to q r bytes → Appends half new bytes
+    → WritesTold manner boot events from to p r old new
+told-more manner boot events from mid to p q r old half new bytes so_far is written = record {
+  text = so_far.text ++ bytes;
+  is_told = trace_on manner boot events from mid to p q r so_far.text bytes so_far.is_told is;
+  written = one_more old half new so_far.text bytes so_far.written written;
+}
 
-pub first-some : (IsFirst : List ℕ → Type 0) (old mid new : Option (List ℕ)) (first : List ℕ) → IsFirst first → Appends old mid first → AppendsSome mid new
-    → WritesFirst IsFirst old new
-first-some IsFirst old mid new first is written more =
-    record { first = first; rest = more.bytes; is_first = is; written = one_more old mid new first more.bytes written more.written }
+-- The line before them, what is told of them, and the line of what was held back.
+
+pub lines-of : (manner : Manner) (boot : BoardState) (events : List Event) (from to : ℕ) (p q : Printer) (old half most new : Option (List ℕ))
+    (before held : List ℕ) → IsFirstLine manner.names.symbols.now from before → Appends old half before
+    → WritesTold manner boot events from to p q half most → held ≡ held_text manner.names.symbols.now q.held → Appends most new held
+    → WritesLines [] manner boot events from to p old new
+lines-of manner boot events from to p q old half most new before held is_before first told is_held last = record {
+  last = q;
+  text = before ++ (told.text ++ held_text manner.names.symbols.now q.held);
+  lines = record { before = before; told = told.text; is_before = is_before; is_told = told.is_told; is_text = refl };
+  written = subst (λ (them : List ℕ). Appends old new (before ++ (told.text ++ them))) is_held
+      (one_more old half new before (told.text ++ held) first (one_more half most new told.text held told.written last));
+}
+
+-- after bytes that are there
+pub lines-behind : (front : List ℕ) (manner : Manner) (boot : BoardState) (events : List Event) (from to : ℕ) (p : Printer)
+    (old half new : Option (List ℕ)) → Appends old half front → WritesLines [] manner boot events from to p half new
+    → WritesLines front manner boot events from to p old new
+lines-behind front manner boot events from to p old half new first lines = record {
+  last = lines.last;
+  text = lines.text;
+  lines = lines.lines;
+  written = one_more old half new front lines.text first lines.written;
+}
 
 -- How writing ended, by how its last part did.
 
-pub last-some : (old mid new : Option (List ℕ)) (bytes : List ℕ) (result : Result Unit CommandFault) → AppendsSome old mid
-    → MatchResult result (λ _. Appends mid new bytes) IsOfWriting → MatchResult result (λ _. AppendsSome old new) IsOfWriting
-last-some old mid new bytes (Ok done) so_far more = some-more old mid new bytes so_far more
-last-some old mid new bytes (Err fault) so_far of = of
+pub last-of : {P Q : Type 0} (result : Result Unit CommandFault) → MatchResult result (λ _. P) IsOfWriting → (P → Q)
+    → MatchResult result (λ _. Q) IsOfWriting
+last-of (Ok done) is then = then is
+last-of (Err fault) of then = of
+
+of_writing : (fault : CommandFault) (options : TraceOptions) (start : Start) (old new : Option (List ℕ)) → IsOfWriting fault
+    → EndsTracing (Err fault) options start old new
+of_writing fault.NoMemory options start old new of = tt
+of_writing fault.Argument options start old new of = absurd of
+of_writing (fault.Words a) options start old new of = absurd of
+of_writing (fault.Source a b c) options start old new of = absurd of
+of_writing fault.ImageTooLarge options start old new of = absurd of
+of_writing (fault.Open a b) options start old new of = absurd of
+of_writing (fault.Read a b) options start old new of = absurd of
+of_writing (fault.TooLong a) options start old new of = absurd of
+of_writing (fault.TooManyReads a) options start old new of = absurd of
+of_writing (fault.Build a b) options start old new of = absurd of
+of_writing (fault.Journal a b) options start old new of = absurd of
+of_writing (fault.OtherOrder a) options start old new of = absurd of
+of_writing (fault.Script a b) options start old new of = absurd of
+of_writing (fault.Race a) options start old new of = absurd of
+of_writing (fault.Trace a) options start old new of = absurd of
+of_writing (fault.Schedule a) options start old new of = absurd of
+of_writing (fault.Search a) options start old new of = absurd of
+of_writing fault.Fails options start old new of = absurd of
+of_writing fault.Passes options start old new of = absurd of
+of_writing (fault.Write a) options start old new of = tt
+
+-- lines were written, which the options ask for
+pub text-ends : (start : Start) (options : TraceOptions) (part : Part) (manner : Manner) (first : Printer) (old new : Option (List ℕ))
+    (result : Result Unit CommandFault) → IsPart options (length start.journal.events) part → part.format ≡ Text → options.summary ≡ false
+    → IsMannerOf start.image manner → IsShown options first
+    → MatchResult result
+    (λ _. WritesLines head manner start.board start.journal.events part.from part.to first old new) IsOfWriting
+    → EndsTracing result options start old new
+text-ends start options part manner first old new (Err fault) is text lines made shown of = of_writing fault options start old new of
+text-ends start options part manner first old new (Ok done) is text lines made shown written =
+    let len = length start.journal.events in
+    let from_there = subst (λ (n : ℕ). WritesLines head manner start.board start.journal.events n part.to first old new) is.from written in
+    let both = subst (λ (n : ℕ). WritesLines head manner start.board start.journal.events (first_of options) n first old new) is.to from_there in
+    let trace : WritesTrace start options old new =
+    record { manner = manner; first = first; is_manner = made; is_first = shown; lines = both } in
+    let ordered : first_of options ≤ end_of options len = subst (λ (n : ℕ). n ≤ end_of options len) is.from
+    (subst (λ (n : ℕ). part.from ≤ n) is.to is.ordered) in
+    (
+      ordered,
+      subst (λ (b : Bool). MatchBool b (WritesFirst (EndsWith (codes "\n")) old new) (WritesForm options.format start options old new)) (sym lines)
+      (subst (λ (f : Option TraceFormat). WritesForm f start options old new) (sym (is.format ∙ ap Some text)) trace),
+    )
+
+-- a board to which nothing has happened has played no events
+pub begins : (events : List Event) (p : Playback) → p.at ≡ 0 → IsPlayed p.board events p
+begins events p start =
+    let none : p.board ≡ board_at p.board events 0 = search rules in
+    record { board = subst (λ (n : ℕ). p.board ≡ board_at p.board events n) (sym start) none; within = omega (arith, start) }
 
 module _ (IsFirst : List ℕ → Type 0) (old mid new : Option (List ℕ)) (first : List ℕ) (is : IsFirst first) (written : Appends old mid first) where
-  pub first-rest : (result : Result Unit CommandFault) → MatchResult result (λ _. AppendsSome mid new) IsOfWriting
-      → MatchResult result (λ _. WritesFirst IsFirst old new) IsOfWriting
-  first-rest (Ok done) more = first-some IsFirst old mid new first is written more
-  first-rest (Err fault) of = of
-
   pub first-last : (bytes : List ℕ) (result : Result Unit CommandFault) → MatchResult result (λ _. Appends mid new bytes) IsOfWriting
       → MatchResult result (λ _. WritesFirst IsFirst old new) IsOfWriting
-  first-last bytes (Ok done) more = first-some IsFirst old mid new first is written (record { bytes = bytes; written = more })
+  first-last bytes (Ok done) more =
+      record { first = first; rest = bytes; is_first = is; written = one_more old mid new first bytes written more }
   first-last bytes (Err fault) of = of

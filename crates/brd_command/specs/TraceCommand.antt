@@ -1,9 +1,14 @@
 -- The command `trace`: from what it starts, what it writes then, and how it ends where it doesn't.
-use Rattle.std.specs.Prelude.{◌≡◌, ◌≢◌, ◌⊎◌, ℕ, ◌<◌, ◌≤◌, min, false, List, length, ◌++◌, codes, Option, Some, None}
+use Rattle.std.specs.Prelude.{◌≡◌, ◌≢◌, ◌⊎◌, ℕ, ◌<◌, ◌≤◌, min, true, false, List, length, ◌++◌, codes, Option, Some, None}
 use Rattle.std.specs.Prelude.{unwrap_or, Result, Ok, Err}
 use Rattle.std.specs.Bool.{MatchBool}
 use Rattle.std.specs.Io.KnownBytes.{Appends, Keeps}
+use Rattle.brd_mem.specs.declared.image.Image.{Image}
+use Rattle.brd_board.specs.declared.event.Event.{Event}
+use Rattle.brd_board.specs.Board.{BoardState}
 use Rattle.brd_timeline.specs.Ends.{EndsWith}
+use Rattle.brd_trace.specs.declared.printer.{Manner.Manner, Printer.Printer}
+use Rattle.brd_trace.specs.Telling.{IsFirstLine, IsTrace, held_text}
 use Rattle.brd_report.specs.Output.{Writes}
 use Rattle.brd_inputs.specs.Start.{AreWithin, IsStart, KeepsFromStarting}
 use Rattle.brd_inputs.specs.declared.fault.CommandFault.{CommandFault}
@@ -40,11 +45,6 @@ KeepsFromTracing options len (NoEvents from to all) =
     (from ≡ first_of options) × (to ≡ end_of options len) × (all ≡ len) × (to < from) × (options.format ≢ None)
 KeepsFromTracing options len TooMuch = (options.format ≡ Some Svg) × (options.summary ≡ false)
 
--- some bytes were written
-pub record AppendsSome (old new : Option (List ℕ)) : Type 0 where
-  pub bytes : List ℕ
-  pub written : Appends old new bytes
-
 -- bytes that are meant to come first were written, and some after them
 pub record WritesFirst (IsFirst : List ℕ → Type 0) (old new : Option (List ℕ)) : Type 0 where
   pub first : List ℕ
@@ -56,18 +56,66 @@ pub record WritesFirst (IsFirst : List ℕ → Type 0) (old new : Option (List �
 abbrev pub head : List ℕ
 head = codes "     event cpu who        where               what\n"
 
--- What is written in each form. Of lines the names of the columns come first; a timeline ends as an object of JSON, and
--- a picture as one of SVG. What stands between is text, of which nothing is said here.
-abbrev pub WritesForm : Option TraceFormat → Option (List ℕ) → Option (List ℕ) → Type 0
-WritesForm None old new = ⊥
-WritesForm (Some Text) old new = WritesFirst (λ first. first ≡ head) old new
-WritesForm (Some Json) old new = Writes (EndsWith (codes "\n]}\n")) old new
-WritesForm (Some Svg) old new = Writes (EndsWith (codes "</svg>\n")) old new
+-- Lines that tell of the events of a journal from a position on up to another one: one that says in some words what is
+-- there before them, what is told of them, each once and in their order, and the line of those that were held back then.
+pub record AreLines (manner : Manner) (boot : BoardState) (events : List Event) (from to : ℕ) (first last : Printer)
+    (text : List ℕ) : Type 0 where
+  pub before : List ℕ
+  pub told : List ℕ
+  pub is_before : IsFirstLine manner.names.symbols.now from before
+  pub is_told : IsTrace manner boot events from to first last told
+  pub is_text : text ≡ before ++ (told ++ held_text manner.names.symbols.now last.held)
 
--- a trace is written: a summary, which has a first line, or the form that was asked for
-abbrev pub WritesTrace : TraceOptions → Option (List ℕ) → Option (List ℕ) → Type 0
-WritesTrace options old new =
-    MatchBool options.summary (WritesFirst (EndsWith (codes "\n")) old new) (WritesForm options.format old new)
+-- such lines were written, after these bytes
+pub record WritesLines (front : List ℕ) (manner : Manner) (boot : BoardState) (events : List Event) (from to : ℕ)
+    (first : Printer) (old new : Option (List ℕ)) : Type 0 where
+  pub last : Printer
+  pub text : List ℕ
+  pub lines : AreLines manner boot events from to first last text
+  pub written : Appends old new (front ++ text)
+
+-- what is told of the events was written
+pub record WritesTold (manner : Manner) (boot : BoardState) (events : List Event) (from to : ℕ) (first last : Printer)
+    (old new : Option (List ℕ)) : Type 0 where
+  pub text : List ℕ
+  pub is_told : IsTrace manner boot events from to first last text
+  pub written : Appends old new text
+
+-- the names of an image, and its byte order
+pub record IsMannerOf (image : Image) (manner : Manner) : Type 0 where
+  pub symbols : manner.names.symbols.now ≡ image.symbols
+  pub segments : manner.names.segments.now ≡ image.segments
+  pub order : manner.order ≡ image.order
+
+-- the lines that the options ask for are shown, and nothing is held back
+pub record IsShown (options : TraceOptions) (first : Printer) : Type 0 where
+  pub cpu : first.options.cpu ≡ options.cpu
+  pub instructions : first.options.instructions ≡ options.instructions
+  pub shown : first.options.shown ≡ true
+  pub held : first.held ≡ None
+
+-- After the names of the columns come the lines of the part of the journal that the options ask for, on the board.
+pub record WritesTrace (start : Start) (options : TraceOptions) (old new : Option (List ℕ)) : Type 0 where
+  pub manner : Manner
+  pub first : Printer
+  pub is_manner : IsMannerOf start.image manner
+  pub is_first : IsShown options first
+  pub lines : WritesLines head manner start.board start.journal.events (first_of options)
+      (end_of options (length start.journal.events)) first old new
+
+-- What is written in each form. A timeline ends as an object of JSON, and a picture as one of SVG; of what stands before
+-- it nothing is said here.
+abbrev pub WritesForm : Option TraceFormat → Start → TraceOptions → Option (List ℕ) → Option (List ℕ) → Type 0
+WritesForm None start options old new = ⊥
+WritesForm (Some Text) start options old new = WritesTrace start options old new
+WritesForm (Some Json) start options old new = Writes (EndsWith (codes "\n]}\n")) old new
+WritesForm (Some Svg) start options old new = Writes (EndsWith (codes "</svg>\n")) old new
+
+-- a summary is written, which has a first line, or the form that was asked for
+abbrev pub WritesAsked : Start → TraceOptions → Option (List ℕ) → Option (List ℕ) → Type 0
+WritesAsked start options old new =
+    MatchBool options.summary (WritesFirst (EndsWith (codes "\n")) old new)
+    (WritesForm options.format start options old new)
 
 -- what may keep a trace from being written that has begun: want of memory, or that writing fails
 abbrev pub IsOfWriting : CommandFault → Type 0
@@ -81,11 +129,13 @@ EndsDrawing (Ok done) old new = Writes (EndsWith (codes "</svg>\n")) old new
 EndsDrawing (Err (Trace fault)) old new = (fault ≡ TooMuch) × Keeps old new
 EndsDrawing (Err fault) old new = IsOfWriting fault
 
--- How a trace ends of a board and a journal with n events. Where the options give none, nothing is written.
-abbrev pub EndsTracing : Result Unit CommandFault → TraceOptions → ℕ → Option (List ℕ) → Option (List ℕ) → Type 0
-EndsTracing (Ok done) options len old new = (first_of options ≤ end_of options len) × WritesTrace options old new
-EndsTracing (Err (Trace fault)) options len old new = KeepsFromTracing options len fault × Keeps old new
-EndsTracing (Err fault) options len old new = IsOfWriting fault
+-- How a trace ends of a board and a journal. Where the options give none, nothing is written.
+abbrev pub EndsTracing : Result Unit CommandFault → TraceOptions → Start → Option (List ℕ) → Option (List ℕ) → Type 0
+EndsTracing (Ok done) options start old new =
+    (first_of options ≤ end_of options (length start.journal.events)) × WritesAsked start options old new
+EndsTracing (Err (Trace fault)) options start old new =
+    KeepsFromTracing options (length start.journal.events) fault × Keeps old new
+EndsTracing (Err fault) options start old new = IsOfWriting fault
 
 -- Three inputs give a board and a journal, of which there is a trace.
 pub record GivesTrace (result : Result Unit CommandFault) (options : TraceOptions) (image config journal : List ℕ)
@@ -93,7 +143,7 @@ pub record GivesTrace (result : Result Unit CommandFault) (options : TraceOption
   pub start : Start
   pub within : AreWithin image config journal
   pub is_start : IsStart image config journal start
-  pub ends : EndsTracing result options (length start.journal.events) old new
+  pub ends : EndsTracing result options start old new
 
 -- Because of the three inputs, or for lack of memory, there is no trace, and nothing was written.
 pub record GivesNoTrace (result : Result Unit CommandFault) (image config journal : List ℕ)

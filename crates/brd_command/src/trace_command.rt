@@ -1,12 +1,11 @@
 //! The command `trace`.
 
-ghost use Rattle.std.specs.Prelude.{◌≡◌, ◌<◌, ◌≤◌, length, IfOk, IfSome, MatchResult, codes};
+ghost use Rattle.std.specs.Prelude.{◌≡◌, ◌<◌, ◌≤◌, length, [], IfOk, IfSome, MatchResult, codes};
 ghost use Rattle.std.specs.Io.KnownBytes.{Appends};
 ghost use Rattle.brd_timeline.specs.Ends.{EndsWith};
 ghost use Rattle.brd_report.specs.Output.{Writes};
 ghost use Rattle.brd_command.specs.Files.{TraceFilesEnd};
 ghost use Rattle.brd_command.specs.TraceCommand.{
-  AppendsSome,
   EndsDrawing,
   EndsTracing,
   IsOfWriting,
@@ -14,8 +13,13 @@ ghost use Rattle.brd_command.specs.TraceCommand.{
   KeepsFromTracing,
   TraceEnds,
   WritesFirst,
+  WritesLines,
+  WritesTold,
   head,
 };
+ghost use Rattle.brd_board.specs.Board.{BoardState as BoardOf};
+ghost use Rattle.brd_journal.specs.Playing.{IsPlayed};
+ghost use Rattle.brd_trace.specs.Telling.{IsTrace, shown_by};
 
 use crate::progress::PIECE;
 use crate::trace_options::{TraceFormat, TraceOptions};
@@ -26,7 +30,7 @@ use brd_journal::Journal;
 use brd_progress::Progress;
 use brd_report::write_whole;
 use brd_timeline::{PictureFault, Timeline, json, svg};
-use brd_trace::{HEAD, Names, Options, Tracer};
+use brd_trace::{HEAD, Manner, Names, Options, Tracer};
 use std::alloc::Global;
 use std::io::{Read, Write};
 
@@ -118,8 +122,7 @@ fn write_trace<W: Write, P: Progress>(
     writer: &mut W,
     progress: &mut P,
 ) -> Result<(), CommandFault>
-    ensures { EndsTracing result options (length start.journal.events)
-        (W.contents writer.old) (W.contents writer.new) }
+    ensures { EndsTracing result options start (W.contents writer.old) (W.contents writer.new) }
 {
     let Start {
         board,
@@ -140,7 +143,10 @@ fn write_trace<W: Write, P: Progress>(
     let tracer = Tracer::new(alloc, board, shown)?;
     let traced = Traced {
         alloc,
-        names: Names::new(image.symbols.as_slice()),
+        manner: Manner {
+            names: Names::new(image.symbols.as_slice(), image.segments.as_slice()),
+            order: image.order,
+        },
         journal: &journal,
         part,
     };
@@ -158,7 +164,7 @@ fn write_trace<W: Write, P: Progress>(
 #[derive(Clone, Copy)]
 struct Traced<'a> {
     alloc: Global,
-    names: Names<'a>,
+    manner: Manner<'a>,
     journal: &'a Journal,
     part: Part,
 }
@@ -171,10 +177,16 @@ impl<'a> Traced<'a> {
         requires within { to ≤ length self.now.journal.now.events }
         ensures at { tracer.new.playback.at ≤ to }
         ensures goes { tracer.old.playback.at < to → tracer.old.playback.at < tracer.new.playback.at }
+        ensures played { (boot : BoardOf) → IsPlayed boot self.now.journal.now.events tracer.old.playback
+            → IsPlayed boot self.now.journal.now.events tracer.new.playback }
+        ensures told { IfOk result (λ lines. (boot : BoardOf)
+            → IsPlayed boot self.now.journal.now.events tracer.old.playback
+            → IsTrace self.now.manner boot self.now.journal.now.events tracer.old.playback.at tracer.new.playback.at
+            tracer.old.printer tracer.new.printer lines.items) }
     {
         let mut lines = Vec::new(self.alloc);
         let piece = tracer.playback.at.saturating_add(PIECE).min(to);
-        tracer.advance_far(self.alloc, self.names, self.journal, piece, &mut lines)?;
+        tracer.advance_far(self.alloc, self.manner, self.journal, piece, &mut lines)?;
         Ok(lines)
     }
 
@@ -197,6 +209,29 @@ impl<'a> Traced<'a> {
         Ok(())
     }
 
+    /// Lets a tracer do the events up to a position. Nothing is told of them.
+    fn skip<P: Progress>(
+        &self,
+        tracer: &mut Tracer,
+        to: u64,
+        progress: &mut P,
+    ) -> Result<(), NoMemory>
+        requires on { tracer.old.playback.at ≤ to }
+        requires within { to ≤ length self.now.journal.now.events }
+        ensures at { IfOk result (λ _. tracer.new.playback.at ≡ to) }
+        ensures printer { tracer.new.printer ≡ tracer.old.printer }
+        ensures played { (boot : BoardOf) → IsPlayed boot self.now.journal.now.events tracer.old.playback
+            → IsPlayed boot self.now.journal.now.events tracer.new.playback }
+    {
+        while tracer.playback.at < to {
+            let piece = tracer.playback.at.saturating_add(PIECE).min(to);
+            tracer.skip_far(self.alloc, self.journal, piece)?;
+            progress.show(tracer.playback.at, to);
+        }
+        progress.hide();
+        Ok(())
+    }
+
     /// Lets a tracer do the events up to the end of the part, and writes their lines.
     fn write_events<W: Write, P: Progress>(
         &self,
@@ -206,7 +241,10 @@ impl<'a> Traced<'a> {
     ) -> Result<(), CommandFault>
         requires on { tracer.old.playback.at ≤ self.now.part.to }
         requires within { self.now.part.to ≤ length self.now.journal.now.events }
-        ensures { MatchResult result (λ _. AppendsSome (W.contents writer.old) (W.contents writer.new)) IsOfWriting }
+        ensures { MatchResult result (λ _. (boot : BoardOf)
+            → IsPlayed boot self.now.journal.now.events tracer.old.playback
+            → WritesTold self.now.manner boot self.now.journal.now.events tracer.old.playback.at self.now.part.to
+            tracer.old.printer tracer.new.printer (W.contents writer.old) (W.contents writer.new)) IsOfWriting }
     {
         while tracer.playback.at < self.part.to {
             let lines = self.advance(tracer, self.part.to)?;
@@ -231,11 +269,12 @@ impl<'a> Traced<'a> {
         requires start { tracer.playback.at ≡ 0 }
         requires from { self.now.part.from ≤ self.now.part.to }
         requires within { self.now.part.to ≤ length self.now.journal.now.events }
-        ensures { MatchResult result
-            (λ _. WritesFirst (λ first. first ≡ head) (W.contents writer.old) (W.contents writer.new)) IsOfWriting }
+        ensures { MatchResult result (λ _. WritesLines head self.now.manner tracer.playback.board
+            self.now.journal.now.events self.now.part.from self.now.part.to (shown_by tracer.printer.options)
+            (W.contents writer.old) (W.contents writer.new)) IsOfWriting }
     {
         let mut tracer = tracer;
-        self.play(&mut tracer, self.part.from, progress)?;
+        self.skip(&mut tracer, self.part.from, progress)?;
         match written(writer, HEAD.as_bytes()) {
             Ok(()) => {}
             Err(fault) => return Err(fault),
@@ -252,10 +291,13 @@ impl<'a> Traced<'a> {
     ) -> Result<(), CommandFault>
         requires on { tracer.old.playback.at ≤ self.now.part.to }
         requires within { self.now.part.to ≤ length self.now.journal.now.events }
-        ensures { MatchResult result (λ _. AppendsSome (W.contents writer.old) (W.contents writer.new)) IsOfWriting }
+        ensures { MatchResult result (λ _. (boot : BoardOf)
+            → IsPlayed boot self.now.journal.now.events tracer.old.playback
+            → WritesLines [] self.now.manner boot self.now.journal.now.events tracer.old.playback.at self.now.part.to
+            (shown_by tracer.old.printer.options) (W.contents writer.old) (W.contents writer.new)) IsOfWriting }
     {
         let mut first = Vec::new(self.alloc);
-        tracer.show(self.alloc, self.names, &mut first)?;
+        tracer.show(self.alloc, self.manner, &mut first)?;
         match written(writer, &first) {
             Ok(()) => {}
             Err(fault) => return Err(fault),
@@ -265,7 +307,7 @@ impl<'a> Traced<'a> {
             Err(fault) => return Err(fault),
         }
         let mut last = Vec::new(self.alloc);
-        tracer.finish(self.alloc, self.names, &mut last)?;
+        tracer.finish(self.alloc, self.manner, &mut last)?;
         written(writer, &last)
     }
 
@@ -286,7 +328,7 @@ impl<'a> Traced<'a> {
         let mut first = Vec::new(self.alloc);
         tracer.put_end(self.alloc, &mut first)?;
         let mut rest = Vec::new(self.alloc);
-        tracer.put_summary(self.alloc, self.names, &mut rest)?;
+        tracer.put_summary(self.alloc, self.manner.names, &mut rest)?;
         match written(writer, &first) {
             Ok(()) => {}
             Err(fault) => return Err(fault),
@@ -301,7 +343,7 @@ impl<'a> Traced<'a> {
         requires within { self.now.part.to ≤ length self.now.journal.now.events }
     {
         let mut tracer = tracer;
-        self.play(&mut tracer, self.part.from, progress)?;
+        self.skip(&mut tracer, self.part.from, progress)?;
         tracer.record(self.alloc)?;
         self.play(&mut tracer, self.part.to, progress)?;
         match tracer.into_timeline(self.alloc)? {

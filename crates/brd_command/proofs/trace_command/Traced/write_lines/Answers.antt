@@ -1,10 +1,25 @@
-use Rattle.std.proofs.Common.{◌≡◌}
-use Rattle.brd_command.specs.TraceCommand.{head}
-use Rattle.brd_command.proofs.TraceLemmas.{first-rest}
+use Rattle.std.proofs.Common.{◌≡◌, ℕ, List, [], ◌∙◌, subst, sym}
+use Rattle.std.specs.Io.KnownBytes.{Appends}
+use Rattle.brd_trace.specs.declared.printer.Printer.{Printer}
+use Rattle.brd_trace.specs.Telling.{shown_by}
+use Rattle.brd_command.specs.TraceCommand.{head, WritesLines}
+use Rattle.brd_command.proofs.TraceLemmas.{begins, last-of, lines-behind}
 use Rattle.brd_command.proofs.trace_command.Traced.write_lines.Goals as goal
 
 pub returns : goal.returns
 returns g c =
-    first-rest (λ first. first ≡ head) (g.W.Write.contents c.args.writer.now) (g.W.Write.contents c.written.new.writer)
-    (g.W.Write.contents c.write_stretch.new.writer) c.as_bytes.result.now c.as_bytes.ensures.value c.in-Ok.ensures
-    c.write_stretch.result c.write_stretch.ensures
+    last-of c.write_stretch.result c.write_stretch.ensures (λ stretch.
+    let manner = c.args.self.now.manner in
+    let events = c.args.self.now.journal.now.events in
+    let board = c.args.tracer.playback.board in
+    let to = c.args.self.now.part.to in
+    let half = g.W.Write.contents c.written.new.writer in
+    let new = g.W.Write.contents c.write_stretch.new.writer in
+    let there = c.skip.ensures.played board (begins events c.args.tracer.playback c.requires.start) in
+    let at = subst (λ (n : ℕ). WritesLines [] manner board events n to (shown_by c.skip.new.tracer.printer.options) half new)
+    c.in_ok-skip.ensures.at (stretch board there) in
+    let shown = subst (λ (p : Printer). WritesLines [] manner board events c.args.self.now.part.from to (shown_by p.options) half new)
+    c.skip.ensures.printer at in
+    lines-behind head manner board events c.args.self.now.part.from to (shown_by c.args.tracer.printer.options)
+    (g.W.Write.contents c.args.writer.now) half new
+    (subst (λ (them : List ℕ). Appends (g.W.Write.contents c.args.writer.now) half them) c.as_bytes.ensures.value c.in-Ok.ensures) shown)

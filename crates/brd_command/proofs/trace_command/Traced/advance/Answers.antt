@@ -1,0 +1,10 @@
+use Rattle.std.proofs.Common.{◌≡◌, List, ℕ, ◌++◌, sym, ap, ◌∙◌, subst}
+use Rattle.brd_trace.specs.Telling.{IsTrace}
+use Rattle.brd_command.proofs.trace_command.Traced.advance.Goals as goal
+
+pub returns-clause-told : goal.returns-clause-told
+returns-clause-told c = λ boot is.
+    let t = c.in_ok-advance_far.ensures.told boot is in
+    let e : c.advance_far.new.out.items ≡ t.text = t.behind ∙ ap (λ (them : List ℕ). them ++ t.text) c.new-lines.ensures.items in
+    subst (λ (them : List ℕ). IsTrace c.args.self.now.manner boot c.args.self.now.journal.now.events c.args.tracer.now.playback.at
+    c.advance_far.new.self.playback.at c.args.tracer.now.printer c.advance_far.new.self.printer them) (sym e) t.is_it

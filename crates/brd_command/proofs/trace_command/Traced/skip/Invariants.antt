@@ -1,0 +1,16 @@
+-- It hasn't gone past the end, has played the events so far, and shows the same.
+use Rattle.std.proofs.Common.{◌≡◌, ◌≤◌, ◌-◌}
+use Rattle.brd_board.specs.Board.{BoardState}
+use Rattle.brd_journal.specs.Playing.{IsPlayed}
+use Rattle.brd_command.proofs.trace_command.Traced.skip.Given as goal
+
+abbrev pub invariant-loop-tracer : goal.invariant-loop-tracer
+invariant-loop-tracer g l = record {
+  on : l.tracer.playback.at ≤ l.to;
+  printer : l.tracer.printer ≡ l.fn.tracer.printer;
+  played : (boot : BoardState) → IsPlayed boot l.self.journal.now.events l.fn.tracer.playback
+      → IsPlayed boot l.self.journal.now.events l.tracer.playback;
+}
+
+abbrev pub decreases-loop-tracer : goal.decreases-loop-tracer
+decreases-loop-tracer g l = l.to - l.tracer.playback.at
