@@ -487,7 +487,7 @@ fn run_turn(board: &mut Board, lease: &mut Lease, decoded: &mut Decoded) -> u32 
         board.carry_over(lease);
         return lease.len();
     }
-    let _ = board.event(Event::Step(1));
+    let _ = board.event_apart(Event::Step(1));
     1
 }
 
