@@ -190,8 +190,8 @@ enum Setting {
 enum Deed {
     /// n processors do their steps in turn.
     Steps(u8),
-    /// Processor 1 does its steps in turns, each by a lease that is lent, run and committed, or as one step.
-    Turns,
+    /// Processor 1 does its steps 64 at a time, each time by a lease that is lent, run and committed.
+    Leases,
     /// A tick passes, after n steps of processor 1.
     Ticks(u64),
 }
@@ -205,7 +205,7 @@ struct Work {
     deed: Deed,
 }
 
-const WORKS: [Work; 15] = [
+const WORKS: [Work; 14] = [
     Work {
         name: "plain loop",
         words: &PLAIN,
@@ -240,13 +240,7 @@ const WORKS: [Work; 15] = [
         name: "local loop, on one processor of two, by leases",
         words: &LOCAL,
         setting: Setting::Text(TASKS),
-        deed: Deed::Turns,
-    },
-    Work {
-        name: "plain loop, on one processor of two, by leases",
-        words: &PLAIN,
-        setting: Setting::Text(TASKS),
-        deed: Deed::Turns,
+        deed: Deed::Leases,
     },
     Work {
         name: "act_tsk and ext_tsk",
@@ -445,7 +439,7 @@ fn prepare(board: &mut Board, deed: Deed) {
 fn run(board: &mut Board, deed: Deed, events: u64) -> u64 {
     match deed {
         Deed::Steps(processors) => run_steps(board, processors, events),
-        Deed::Turns => run_turns(board, events),
+        Deed::Leases => run_leases(board, events / 64),
         Deed::Ticks(_) => run_ticks(board, events),
     }
 }
@@ -465,30 +459,30 @@ fn run_steps(board: &mut Board, processors: u8, events: u64) -> u64 {
     ran
 }
 
-/// Does n steps of processor 1, or a few more, in turns as a thread of a race does them, and counts them.
+/// Does the steps of n leases of processor 1, and counts them.
 #[inline(never)]
-fn run_turns(board: &mut Board, events: u64) -> u64 {
+fn run_leases(board: &mut Board, leases: u64) -> u64 {
     let mut decoded = Decoded::new();
     let mut lease = Lease::blank(1);
     let mut ran = 0u64;
-    for _ in 0..events {
-        if ran >= events {
-            break;
-        }
-        ran = ran.wrapping_add(u64::from(run_turn(board, &mut lease, &mut decoded)));
+    for _ in 0..leases {
+        ran = ran.wrapping_add(u64::from(run_lease(board, &mut lease, &mut decoded)));
     }
     ran
 }
 
-/// Lends processor 1, does as many instructions as can be done by the lease, and carries them over; or does one step,
-/// where it can't have one or does none by it. Answers how many were done.
-fn run_turn(board: &mut Board, lease: &mut Lease, decoded: &mut Decoded) -> u32 {
-    if board.lend_into(1, lease) && lease.run_by(decoded, 64) > 0 && !board.is_stale(lease) {
-        board.carry_over(lease);
-        return lease.len();
+/// Lends processor 1, does 64 instructions by the lease, if there are as many, and carries them over. Answers how many
+/// were done.
+fn run_lease(board: &mut Board, lease: &mut Lease, decoded: &mut Decoded) -> u32 {
+    if !board.lend_into(1, lease) {
+        return 0;
     }
-    let _ = board.event_apart(Event::Step(1));
-    1
+    lease.run_by(decoded, 64);
+    if board.is_stale(lease) {
+        return 0;
+    }
+    board.carry_over(lease);
+    lease.len()
 }
 
 /// Does n ticks. None of them runs an instruction.
