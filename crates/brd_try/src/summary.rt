@@ -6,7 +6,7 @@ use brd_board::{Board, TaskState, TaskView};
 use brd_journal::Journal;
 use brd_mem::{Image, Segment};
 use brd_text::hex_digits;
-use brd_trace::{Names, Options, Tracer};
+use brd_trace::{Manner, Names, Options, Tracer};
 use std::alloc::Global;
 
 /// What stands at the end of a journal, as a summary of its trace tells it, and which tasks have run off the end of
@@ -34,7 +34,10 @@ fn put_summary(
     journal: &Journal,
     out: &mut Vec<u8>,
 ) -> Result<(), NoMemory> {
-    let names = Names::new(image.symbols.as_slice());
+    let manner = Manner {
+        names: Names::new(image.symbols.as_slice(), image.segments.as_slice()),
+        order: image.order,
+    };
     let options = Options {
         cpu: None,
         instructions: false,
@@ -45,9 +48,9 @@ fn put_summary(
     let len = journal.len();
     while tracer.playback.at < len {
         let mut lines = Vec::new(alloc);
-        tracer.advance_far(alloc, names, journal, len, &mut lines)?;
+        tracer.advance_far(alloc, manner, journal, len, &mut lines)?;
     }
-    tracer.put_summary(alloc, names, out)
+    tracer.put_summary(alloc, manner.names, out)
 }
 
 /// Puts a line at the end where a task goes on, or has stopped by an exception, at an address at which nothing of the
