@@ -10,7 +10,7 @@ use Rattle.std.proofs.lemmas.Bool.{cases_Bool}
 use Rattle.brd_board.specs.Board.{BoardState}
 use Rattle.brd_board.specs.declared.event.Event.{Event}
 use Rattle.brd_gdb.specs.declared.request.Request.{Request}
-use Rattle.brd_gdb.specs.declared.request.Request.TheVariants.{StartNoAckMode, Detach, Kill}
+use Rattle.brd_gdb.specs.declared.request.Request.TheVariants.{StartNoAckMode, Detach, Kill, KillProcess}
 use Rattle.brd_command.specs.DebugLine.{line_size}
 use Rattle.brd_command.specs.GdbCommand.{EndsServing, IsCutOff, ServesCutShort, ServesFirst, ServesGdb, ServesToEnd, StopsServing}
 use Rattle.brd_command.specs.Serving.{AddsAnswer, AnswersPacket, HasServed, IsReady, Serves, accepted}
@@ -26,12 +26,13 @@ use Rattle.brd_inputs.specs.declared.start.Start.{Start}
 use Rattle.brd_report.specs.Output.{AppendsFront, Writes}
 use Rattle.brd_report.proofs.OutputLemmas.{one_more}
 
-by_session : (request : Request) (s after : Server) (bytes : List ℕ) → request ≢ StartNoAckMode → request ≢ Detach → request ≢ Kill
-    → AddsAnswer request s after (accepted s) bytes → AnswersPacket request s bytes false after
-by_session StartNoAckMode s after bytes no_mode no_detach no_kill adds = absurd (no_mode refl)
-by_session Detach s after bytes no_mode no_detach no_kill adds = absurd (no_detach refl)
-by_session Kill s after bytes no_mode no_detach no_kill adds = absurd (no_kill refl)
-by_session other s after bytes no_mode no_detach no_kill adds = (adds, refl)
+by_session : (request : Request) (s after : Server) (bytes : List ℕ) → request ≢ StartNoAckMode → request ≢ Detach → request ≢ KillProcess
+    → request ≢ Kill → AddsAnswer request s after (accepted s) bytes → AnswersPacket request s bytes false after
+by_session StartNoAckMode s after bytes no_mode no_detach no_process no_kill adds = absurd (no_mode refl)
+by_session Detach s after bytes no_mode no_detach no_process no_kill adds = absurd (no_detach refl)
+by_session Kill s after bytes no_mode no_detach no_process no_kill adds = absurd (no_kill refl)
+by_session KillProcess s after bytes no_mode no_detach no_process no_kill adds = absurd (no_process refl)
+by_session other s after bytes no_mode no_detach no_process no_kill adds = (adds, refl)
 
 -- The answers to the bytes of a text, but for those of what is left of it, were written.
 abbrev pub IsServed : Server → List ℕ → Option (List ℕ) → ℕ → Server → Option (List ℕ) → Option (List ℕ) → Type 0
@@ -123,12 +124,13 @@ module _ (first s : Server) (left : Option (List ℕ)) (taken : Taken) (old now 
 
 -- a request with which GDB neither leaves nor ends acknowledgments is the session's
 pub answered : (meant request : Request) (s after : Server) (old bytes : List ℕ) → request ≡ meant
-    → old ≡ accepted s → request ≢ StartNoAckMode → request ≢ Detach → request ≢ Kill → AddsAnswer request s after old bytes
+    → old ≡ accepted s → request ≢ StartNoAckMode → request ≢ Detach → request ≢ KillProcess → request ≢ Kill
+    → AddsAnswer request s after old bytes
     → AnswersPacket meant s bytes false after
-answered meant request s after old bytes is front no_mode no_detach no_kill adds =
+answered meant request s after old bytes is front no_mode no_detach no_process no_kill adds =
     let P : Request → Type 0 = λ r. AnswersPacket r s bytes false after in
     let A : List ℕ → Type 0 = λ xs. AddsAnswer request s after xs bytes in
-    subst P is (by_session request s after bytes no_mode no_detach no_kill (subst A front adds))
+    subst P is (by_session request s after bytes no_mode no_detach no_process no_kill (subst A front adds))
 
 -- A byte was taken.
 module _ (first s : Server) (left after : Option (List ℕ)) (taken next : Taken) (found : Option ℕ) (old now : Option (List ℕ))

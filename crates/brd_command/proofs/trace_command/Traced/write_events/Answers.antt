@@ -19,12 +19,12 @@ loop-tracer-preserved g c = record {
   played = λ boot is. c.in_ok-lines.ensures.played boot (c.loop-tracer.invariant.played boot is);
   told = λ boot is.
       told-more c.args.self.now.manner boot c.args.self.now.journal.now.events c.args.tracer.now.playback.at c.loop-tracer.tracer.playback.at
-      c.advance-lines.new.tracer.playback.at c.args.tracer.now.printer c.loop-tracer.tracer.printer c.advance-lines.new.tracer.printer
+      c.advance.new.tracer.playback.at c.args.tracer.now.printer c.loop-tracer.tracer.printer c.advance.new.tracer.printer
       (g.W.Write.contents c.args.writer.now) (g.W.Write.contents c.loop-tracer.writer) (g.W.Write.contents c.written.new.writer)
       c.deref.result.now (c.loop-tracer.invariant.told boot is)
       (subst
       (λ (them : List ℕ). IsTrace c.args.self.now.manner boot c.args.self.now.journal.now.events c.loop-tracer.tracer.playback.at
-      c.advance-lines.new.tracer.playback.at c.loop-tracer.tracer.printer c.advance-lines.new.tracer.printer them)
+      c.advance.new.tracer.playback.at c.loop-tracer.tracer.printer c.advance.new.tracer.printer them)
       (sym c.deref.ensures.value) (c.in_ok-lines.ensures.told boot (c.loop-tracer.invariant.played boot is)))
       c.in-Ok.ensures;
 }
