@@ -202,7 +202,7 @@ END
 Hardware read watchpoint 1: .*
 > continue
 Hardware read watchpoint 1: .*
-Value = 5 .*
+Value = [58] .*
 0x80000010 in .*
 > rwatch *(int *)0x80000050
 Hardware read watchpoint 2: .*
@@ -218,7 +218,7 @@ Value = 1
 0x80000020 in .*
 > reverse-continue
 Hardware read watchpoint 1: .*
-Value = 5 .*
+Value = [58] .*
 0x8000000c in .*
 > reverse-continue
 No more reverse-execution history\.
