@@ -4,7 +4,7 @@ use crate::changes::{put_processor, put_task};
 use crate::data::Json;
 use crate::event::{is_answered, is_quiet, put_call, put_head, put_instruction, word_of};
 use crate::listing::{text_of, word_at};
-use crate::run_page::Part;
+use crate::run_page::{Part, manner_of};
 use crate::seen::{ProcessorSeen, TaskSeen, processors_seen, tasks_seen};
 use crate::words::words_of;
 use brd_base::NoMemory;
@@ -13,7 +13,7 @@ use brd_exec::Context;
 use brd_happening::{Before, Happening, Instruction, What};
 use brd_journal::Playback;
 use brd_listing::write_instruction;
-use brd_trace::{Names, Tracer};
+use brd_trace::{Manner, Tracer};
 use std::alloc::Global;
 
 /// A board that plays a journal, and the data of what it has done.
@@ -39,11 +39,11 @@ pub(crate) struct Recorder {
 
 impl Recorder {
     /// A board that goes on where a tracer's has come to, and the data of how it stands there.
-    pub(crate) fn new(alloc: Global, tracer: Tracer, symbols: Names) -> Result<Recorder, NoMemory> {
+    pub(crate) fn new(alloc: Global, tracer: Tracer, manner: Manner) -> Result<Recorder, NoMemory> {
         let mut tracer = tracer;
         tracer.record(alloc)?;
         let mut first = Vec::new(alloc);
-        tracer.show(alloc, symbols, &mut first)?;
+        tracer.show(alloc, manner, &mut first)?;
         let playback = tracer.playback.try_copy()?;
         let processors = processors_seen(alloc, &playback.board)?;
         let tasks = tasks_seen(alloc, &playback.board)?;
@@ -102,10 +102,10 @@ impl Recorder {
         let moved = self.playback.advance(rest, at + 1, at + 1);
         let happening = before.happening(alloc, moved.report, &self.playback.board)?;
         let mut line = Vec::new(alloc);
-        let names = Names::new(part.image.symbols.as_slice());
+        let manner = manner_of(part.image);
         self.tracer
-            .advance(alloc, names, part.journal, at + 1, &mut line)?;
-        self.tracer.finish(alloc, names, &mut line)?;
+            .advance(alloc, manner, part.journal, at + 1, &mut line)?;
+        self.tracer.finish(alloc, manner, &mut line)?;
         self.json.begin_line()?;
         self.json.begin_object()?;
         put_head(&mut self.json, &happening)?;

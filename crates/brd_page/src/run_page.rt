@@ -13,7 +13,7 @@ use brd_base::NoMemory;
 use brd_journal::Journal;
 use brd_mem::Image;
 use brd_timeline::{PictureFault, svg};
-use brd_trace::{Names, Tracer};
+use brd_trace::{Manner, Names, Tracer};
 use std::alloc::Global;
 
 /// How many events a page shows at most.
@@ -53,13 +53,20 @@ pub fn page(alloc: Global, tracer: Tracer, part: Part) -> Result<Vec<u8>, PageFa
     if part.to.saturating_sub(tracer.playback.at) > MOST_EVENTS {
         return Err(PageFault::TooMuch);
     }
-    let names = Names::new(part.image.symbols.as_slice());
-    let mut recorder = Recorder::new(alloc, tracer, names)?;
+    let mut recorder = Recorder::new(alloc, tracer, manner_of(part.image))?;
     put_events(alloc, &mut recorder, part)?;
     put_places(alloc, &mut recorder, part)?;
     let Recorder { tracer, json, .. } = recorder;
     let picture = picture_of(alloc, tracer)?;
     whole(alloc, &picture, &json)
+}
+
+/// How the lines of an image's board are made.
+pub(crate) fn manner_of<'a>(image: &'a Image) -> Manner<'a> {
+    Manner {
+        names: Names::new(image.symbols.as_slice(), image.segments.as_slice()),
+        order: image.order,
+    }
 }
 
 /// Puts at the end how the board stands, and the events up to the end of the part.
