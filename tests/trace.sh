@@ -143,7 +143,7 @@ refused "from above to" 2 "board: the trace: there are no events from 5 to 3: th
     --from 5 --to 3 "${files[@]}"
 refused "from above the length" 2 "board: the trace: there are no events from 126 to 125: the journal has 125" \
     --from 126 "${files[@]}"
-refused "no such format" 2 "board: the trace: its formats are text, json and svg" --format png "${files[@]}"
+refused "no such format" 2 "board: the trace: its formats are text, json, svg and html" --format png "${files[@]}"
 refused "no journal" 4 "board: can't open missing: $is_missing" "$work/image" examples/data_queue/data_queue.cfg missing
 refused "no object file" 1 \
     "board: the object file: no ELF file: it doesn't begin with the bytes 7F 45 4C 46; it looks like a journal" \

@@ -73,7 +73,8 @@ abbrev pub format_named : Option Text → Option TraceFormat
 format_named None = Some form.Text
 format_named (Some name) = if bytes_eq name (codes "text") then Some form.Text
     else (if bytes_eq name (codes "json") then Some form.Json
-    else (if bytes_eq name (codes "svg") then Some form.Svg else None))
+    else (if bytes_eq name (codes "svg") then Some form.Svg
+    else (if bytes_eq name (codes "html") then Some form.Html else None)))
 
 -- the byte order that is named: big-endian where none is
 abbrev pub order_named : Option Text → Option Order

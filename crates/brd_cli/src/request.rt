@@ -141,6 +141,7 @@ fn format_of(name: Option<&str>) -> Option<TraceFormat>
         None | Some("text") => Some(TraceFormat::Text),
         Some("json") => Some(TraceFormat::Json),
         Some("svg") => Some(TraceFormat::Svg),
+        Some("html") => Some(TraceFormat::Html),
         Some(_) => None,
     }
 }

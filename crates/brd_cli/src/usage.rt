@@ -279,7 +279,7 @@ fn trace_command<'a>(alloc: Global) -> Result<Command<'a>, NoMemory>
             alloc,
             "format",
             "FORMAT",
-            "text, as if it weren't given; json, a timeline for Perfetto; svg, a picture of it",
+            "text, as if it weren't given; json, for Perfetto; svg, a picture; html, a page for a browser",
         ))?;
     Ok(command)
 }

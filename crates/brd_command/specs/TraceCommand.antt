@@ -7,6 +7,7 @@ use Rattle.brd_mem.specs.declared.image.Image.{Image}
 use Rattle.brd_board.specs.declared.event.Event.{Event}
 use Rattle.brd_board.specs.Board.{BoardState}
 use Rattle.brd_timeline.specs.Ends.{EndsWith}
+use Rattle.brd_page.specs.Page.{IsRunPage}
 use Rattle.brd_trace.specs.declared.printer.{Manner.Manner, Printer.Printer}
 use Rattle.brd_trace.specs.Telling.{IsFirstLine, IsTrace, held_text}
 use Rattle.brd_report.specs.Output.{Writes}
@@ -17,9 +18,9 @@ use Rattle.brd_inputs.specs.declared.input_name.InputName.TheVariants as input_n
 use Rattle.brd_inputs.specs.declared.start.Start.{Start}
 use Rattle.brd_command.specs.declared.trace_command.Part.{Part}
 use Rattle.brd_inputs.specs.declared.trace_fault.TraceFault.{TraceFault}
-use Rattle.brd_inputs.specs.declared.trace_fault.TraceFault.TheVariants.{NoEvents, NoSuchFormat, TooMuch}
+use Rattle.brd_inputs.specs.declared.trace_fault.TraceFault.TheVariants.{NoEvents, NoSuchFormat, TooLong, TooMuch}
 use Rattle.brd_command.specs.declared.trace_options.TraceFormat.{TraceFormat}
-use Rattle.brd_command.specs.declared.trace_options.TraceFormat.TheVariants.{Text, Json, Svg}
+use Rattle.brd_command.specs.declared.trace_options.TraceFormat.TheVariants.{Text, Json, Svg, Html}
 use Rattle.brd_command.specs.declared.trace_options.TraceOptions.{TraceOptions}
 
 -- the positions that the options ask for in a journal with n events: of the first one, and the one after the last
@@ -38,12 +39,13 @@ pub record IsPart (options : TraceOptions) (len : ℕ) (part : Part) : Type 0 wh
   pub within : part.to ≤ len
 
 -- Why the options give no trace of a journal with n events: they name no form, or their first event comes after
--- their last; or they ask for a picture, which has too much to draw.
+-- their last; or they ask for a picture, which has too much to draw, or for a page, which has too much to show.
 abbrev pub KeepsFromTracing : TraceOptions → ℕ → TraceFault → Type 0
 KeepsFromTracing options len NoSuchFormat = options.format ≡ None
 KeepsFromTracing options len (NoEvents from to all) =
     (from ≡ first_of options) × (to ≡ end_of options len) × (all ≡ len) × (to < from) × (options.format ≢ None)
 KeepsFromTracing options len TooMuch = (options.format ≡ Some Svg) × (options.summary ≡ false)
+KeepsFromTracing options len TooLong = (options.format ≡ Some Html) × (options.summary ≡ false)
 
 -- bytes that are meant to come first were written, and some after them
 pub record WritesFirst (IsFirst : List ℕ → Type 0) (old new : Option (List ℕ)) : Type 0 where
@@ -104,12 +106,13 @@ pub record WritesTrace (start : Start) (options : TraceOptions) (old new : Optio
       (end_of options (length start.journal.events)) first old new
 
 -- What is written in each form. A timeline ends as an object of JSON, and a picture as one of SVG; of what stands before
--- it nothing is said here.
+-- it nothing is said here. A page is one of brd_page.
 abbrev pub WritesForm : Option TraceFormat → Start → TraceOptions → Option (List ℕ) → Option (List ℕ) → Type 0
 WritesForm None start options old new = ⊥
 WritesForm (Some Text) start options old new = WritesTrace start options old new
 WritesForm (Some Json) start options old new = Writes (EndsWith (codes "\n]}\n")) old new
 WritesForm (Some Svg) start options old new = Writes (EndsWith (codes "</svg>\n")) old new
+WritesForm (Some Html) start options old new = Writes IsRunPage old new
 
 -- a summary is written, which has a first line, or the form that was asked for
 abbrev pub WritesAsked : Start → TraceOptions → Option (List ℕ) → Option (List ℕ) → Type 0
@@ -128,6 +131,12 @@ abbrev pub EndsDrawing : Result Unit CommandFault → Option (List ℕ) → Opti
 EndsDrawing (Ok done) old new = Writes (EndsWith (codes "</svg>\n")) old new
 EndsDrawing (Err (Trace fault)) old new = (fault ≡ TooMuch) × Keeps old new
 EndsDrawing (Err fault) old new = IsOfWriting fault
+
+-- how a page ends that has begun: it is written, or has too much to show, and then nothing is; or as above
+abbrev pub EndsPaging : Result Unit CommandFault → Option (List ℕ) → Option (List ℕ) → Type 0
+EndsPaging (Ok done) old new = Writes IsRunPage old new
+EndsPaging (Err (Trace fault)) old new = (fault ≡ TooLong) × Keeps old new
+EndsPaging (Err fault) old new = IsOfWriting fault
 
 -- How a trace ends of a board and a journal. Where the options give none, nothing is written.
 abbrev pub EndsTracing : Result Unit CommandFault → TraceOptions → Start → Option (List ℕ) → Option (List ℕ) → Type 0

@@ -7,6 +7,7 @@ ghost use Rattle.brd_report.specs.Output.{Writes};
 ghost use Rattle.brd_command.specs.Files.{TraceFilesEnd};
 ghost use Rattle.brd_command.specs.TraceCommand.{
   EndsDrawing,
+  EndsPaging,
   EndsTracing,
   IsOfWriting,
   IsPart,
@@ -27,6 +28,8 @@ use brd_base::NoMemory;
 use brd_config::Config;
 use brd_inputs::{CommandFault, Files, Inputs, Start, TraceFault, open_inputs, read_start};
 use brd_journal::Journal;
+use brd_mem::Image;
+use brd_page::{PageFault, page};
 use brd_progress::Progress;
 use brd_report::write_whole;
 use brd_timeline::{PictureFault, Timeline, json, svg};
@@ -147,6 +150,7 @@ fn write_trace<W: Write, P: Progress>(
             names: Names::new(image.symbols.as_slice(), image.segments.as_slice()),
             order: image.order,
         },
+        image: &image,
         journal: &journal,
         part,
     };
@@ -157,6 +161,7 @@ fn write_trace<W: Write, P: Progress>(
         TraceFormat::Text => traced.write_lines(tracer, writer, progress),
         TraceFormat::Json => traced.write_json(tracer, writer, progress),
         TraceFormat::Svg => traced.write_svg(tracer, writer, progress),
+        TraceFormat::Html => traced.write_html(tracer, writer, progress),
     }
 }
 
@@ -165,6 +170,7 @@ fn write_trace<W: Write, P: Progress>(
 struct Traced<'a> {
     alloc: Global,
     manner: Manner<'a>,
+    image: &'a Image,
     journal: &'a Journal,
     part: Part,
 }
@@ -389,6 +395,34 @@ impl<'a> Traced<'a> {
             Ok(()) => written(writer, &out),
             Err(PictureFault::NoMemory) => Err(CommandFault::NoMemory),
             Err(PictureFault::TooMuch) => Err(CommandFault::Trace(TraceFault::TooMuch)),
+        }
+    }
+
+    /// Writes the page of the part.
+    fn write_html<W: Write, P: Progress>(
+        &self,
+        tracer: Tracer,
+        writer: &mut W,
+        progress: &mut P,
+    ) -> Result<(), CommandFault>
+        requires start { tracer.playback.at ≡ 0 }
+        requires from { self.now.part.from ≤ self.now.part.to }
+        requires within { self.now.part.to ≤ length self.now.journal.now.events }
+        ensures { EndsPaging result (W.contents writer.old) (W.contents writer.new) }
+    {
+        let mut tracer = tracer;
+        tracer.printer.options.cpu = None;
+        self.skip(&mut tracer, self.part.from, progress)?;
+        let shown = brd_page::Part {
+            image: self.image,
+            journal: self.journal,
+            sources: &[],
+            to: self.part.to,
+        };
+        match page(self.alloc, tracer, shown) {
+            Ok(page) => written(writer, &page),
+            Err(PageFault::NoMemory) => Err(CommandFault::NoMemory),
+            Err(PageFault::TooMuch) => Err(CommandFault::Trace(TraceFault::TooLong)),
         }
     }
 }

@@ -9,6 +9,8 @@ pub enum TraceFormat {
     Json,
     /// A picture of the timeline.
     Svg,
+    /// A page that shows the board at each position.
+    Html,
 }
 
 /// What a trace is to show.

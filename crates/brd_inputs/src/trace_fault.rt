@@ -9,9 +9,12 @@ pub enum TraceFault {
     #[error("there are no events from {0} to {1}: the journal has {2}")]
     NoEvents(u64, u64, u64),
     /// There is no such form.
-    #[error("its formats are text, json and svg")]
+    #[error("its formats are text, json, svg and html")]
     NoSuchFormat,
     /// A picture has no room for so much.
     #[error("it has more to draw than a picture can show: choose fewer events by --from and --to")]
     TooMuch,
+    /// A page has no room for so many events.
+    #[error("it is more than a page can show: choose fewer events by --from and --to")]
+    TooLong,
 }
