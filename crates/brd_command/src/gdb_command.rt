@@ -31,7 +31,7 @@ pub fn gdb<R: Read, C: Read, W: Write, P: Progress>(
         Ok(start) => start,
         Err(fault) => return Err(fault),
     };
-    let mut server = Server::new(alloc, start.board, start.journal)?;
+    let mut server = Server::new(alloc, start)?;
     serve_all(alloc, &mut server, input, writer, progress)
 }
 

@@ -5,20 +5,22 @@ ghost use Rattle.brd_command.specs.Serving as serving;
 ghost use Rattle.brd_gdb.specs.Packets.{framed};
 ghost use Rattle.brd_gdb.specs.Reading.{request_of as request_of_packet};
 
+use crate::gdb_history::History;
 use brd_base::NoMemory;
-use brd_board::Board;
 use brd_gdb::{Arrival, Receiver, Request, put_output, put_packet, request_of};
-use brd_journal::Journal;
+use brd_inputs::Start;
 use brd_progress::Progress;
 use brd_stub::Session;
 use std::alloc::Global;
 
-/// A server of GDB: what it has received, a session, and whether it still acknowledges packets.
+/// A server of GDB: what it has received, a session, what has happened before, and whether it still acknowledges packets.
 pub struct Server {
     /// What it has received.
     pub receiver: Receiver,
     /// The session.
     pub session: Session,
+    /// What has happened up to a position.
+    pub history: History,
     /// Whether it acknowledges packets.
     pub acknowledges: bool,
 }
@@ -29,6 +31,7 @@ impl Drop for Server {
         let Server {
             receiver: _,
             session: _,
+            history: _,
             acknowledges: _,
         } = self;
     }
@@ -44,16 +47,24 @@ pub struct Served {
 }
 
 impl Server {
-    /// A server with a session of this boot and journal, which have the same byte order, before the first byte.
-    pub fn new(alloc: Global, boot: Board, journal: Journal) -> Result<Server, NoMemory>
-        requires orders { boot.memory.order ≡ journal.order }
-        ensures { IfOk result (serving.IsReady boot journal.events) }
+    /// A server with a session of a board and journal, which have the same byte order, before the first byte.
+    pub fn new(alloc: Global, start: Start) -> Result<Server, NoMemory>
+        requires orders { start.board.memory.order ≡ start.journal.order }
+        ensures { IfOk result (serving.IsReady start.board start.journal.events) }
     {
+        let Start {
+            board,
+            image,
+            config,
+            journal,
+        } = start;
+        let history = History::new(alloc, &board, &journal, image, &config)?;
         let receiver = Receiver::new(alloc)?;
-        let session = Session::new(alloc, boot, journal)?;
+        let session = Session::new(alloc, board, journal)?;
         Ok(Server {
             receiver,
             session,
+            history,
             acknowledges: true,
         })
     }
@@ -115,7 +126,8 @@ impl Server {
         }
     }
 
-    /// Puts the session's answer to a request at the end: what is shown on the console, and the reply.
+    /// Puts the session's answer to a request at the end: what is shown on the console, and the reply. A trace and a
+    /// summary are shown in the place of what the session says to them.
     fn request<P: Progress>(
         &mut self,
         alloc: Global,
@@ -127,8 +139,12 @@ impl Server {
     {
         progress.begin();
         let answer = self.session.answer(alloc, request, progress)?;
+        let position = self.session.debugger.position();
+        let shown = self
+            .history
+            .console(alloc, request, position, &answer.console, progress)?;
         progress.hide();
-        put_output(bytes, &answer.console)?;
+        put_output(bytes, &shown)?;
         put_packet(bytes, &answer.reply)
     }
 

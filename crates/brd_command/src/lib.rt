@@ -12,6 +12,7 @@ mod debug_command;
 mod debug_line;
 mod explore_command;
 mod gdb_command;
+mod gdb_history;
 mod gdb_server;
 mod journal_command;
 mod journal_options;

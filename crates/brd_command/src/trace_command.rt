@@ -80,7 +80,7 @@ pub fn trace_files<F: Files, W: Write, P: Progress>(
 }
 
 /// The processor that handles each interrupt line of a configuration, 0 where none does.
-fn lines_of(config: &Config) -> [u8; 32] {
+pub(crate) fn lines_of(config: &Config) -> [u8; 32] {
     let mut lines = [0; 32];
     for handler in config.handlers.as_slice() {
         let line = handler.line as usize;
@@ -93,13 +93,13 @@ fn lines_of(config: &Config) -> [u8; 32] {
 
 /// Which events are shown, and in which form.
 #[derive(Clone, Copy)]
-struct Part {
+pub(crate) struct Part {
     /// The form.
-    format: TraceFormat,
+    pub(crate) format: TraceFormat,
     /// The position of the first event.
-    from: u64,
+    pub(crate) from: u64,
     /// The position after the last one.
-    to: u64,
+    pub(crate) to: u64,
 }
 
 /// The part of a journal with n events that the options ask for.
@@ -167,18 +167,18 @@ fn write_trace<W: Write, P: Progress>(
 
 /// What a trace is made of.
 #[derive(Clone, Copy)]
-struct Traced<'a> {
-    alloc: Global,
-    manner: Manner<'a>,
-    image: &'a Image,
-    journal: &'a Journal,
-    part: Part,
+pub(crate) struct Traced<'a> {
+    pub(crate) alloc: Global,
+    pub(crate) manner: Manner<'a>,
+    pub(crate) image: &'a Image,
+    pub(crate) journal: &'a Journal,
+    pub(crate) part: Part,
 }
 
 impl<'a> Traced<'a> {
     /// Lets a tracer do the next events up to a position, at most a piece of them. Answers their lines, where it shows
     /// some.
-    fn advance(&self, tracer: &mut Tracer, to: u64) -> Result<Vec<u8>, NoMemory>
+    pub(crate) fn advance(&self, tracer: &mut Tracer, to: u64) -> Result<Vec<u8>, NoMemory>
         requires on { tracer.old.playback.at ≤ to }
         requires within { to ≤ length self.now.journal.now.events }
         ensures at { tracer.new.playback.at ≤ to }
@@ -197,7 +197,7 @@ impl<'a> Traced<'a> {
     }
 
     /// Lets a tracer do the events up to a position. What it tells of them isn't written.
-    fn play<P: Progress>(
+    pub(crate) fn play<P: Progress>(
         &self,
         tracer: &mut Tracer,
         to: u64,
@@ -216,7 +216,7 @@ impl<'a> Traced<'a> {
     }
 
     /// Lets a tracer do the events up to a position. Nothing is told of them.
-    fn skip<P: Progress>(
+    pub(crate) fn skip<P: Progress>(
         &self,
         tracer: &mut Tracer,
         to: u64,
