@@ -309,6 +309,20 @@ New value = -2147483552
 0x80000070:	-1	-1	-1	-1
 END
 
+# What `board trace` shows up to a position: its last lines, all of them, and the summary, at both ends of a stretch of
+# ticks too.
+for position in 0 1 19 2019 2020 4000 6022 6026; do
+    sdk/gdb "$board" "$elf" "$cfg" "$journal" -ex "monitor goto $position" -ex 'echo @\n' -ex 'monitor trace 3' \
+        -ex 'echo @\n' -ex 'monitor trace 5000' -ex 'echo @\n' -ex 'monitor summary' -ex 'echo @\n' \
+        < /dev/null > "$work/said" 2>&1
+    "$board" trace --to $position "$elf" "$cfg" "$journal" > "$work/whole"
+    { echo @; tail -n 3 "$work/whole"; echo @; cat "$work/whole"; echo @
+        "$board" trace --summary --to $position "$elf" "$cfg" "$journal"; } > "$work/wanted"
+    awk '/^@$/ { marks++ } marks >= 1 && marks < 4' "$work/said" > "$work/shown"
+    verdict "gdb: the trace and the summary up to $position" \
+        "$([ $(grep -c . "$work/wanted") -ge 7 ] && diff "$work/wanted" "$work/shown" 2>&1 || tail -n 20 "$work/said")"
+done
+
 # Every byte of the stream is answered, or ends it: D and k by status 0, an end without them by 4.
 # ends NAME STATUS BYTES
 ends() {
