@@ -120,11 +120,10 @@ text-ends start options part manner first old new (Ok done) is text lines made s
     let trace : WritesTrace start options old new =
     record { manner = manner; first = first; is_manner = made; is_first = shown; lines = both } in
     let ordered : first_of options ≤ end_of options len = subst (λ (n : ℕ). n ≤ end_of options len) is.from
-    (subst (λ (n : ℕ). part.from ≤ n) is.to is.ordered) in
-    (
+    (subst (λ (n : ℕ). part.from ≤ n) is.to is.ordered) in (
       ordered,
       subst (λ (b : Bool). MatchBool b (WritesFirst (EndsWith (codes "\n")) old new) (WritesForm options.format start options old new)) (sym lines)
-      (subst (λ (f : Option TraceFormat). WritesForm f start options old new) (sym (is.format ∙ ap Some text)) trace),
+          (subst (λ (f : Option TraceFormat). WritesForm f start options old new) (sym (is.format ∙ ap Some text)) trace),
     )
 
 -- a board to which nothing has happened has played no events
