@@ -132,6 +132,7 @@ at 3
 80000008 t0=2 t1=0
 > thread 2
 .*
+> delete 1
 > break *0x80000024
 Breakpoint 2 at 0x80000024
 > continue
@@ -231,9 +232,7 @@ Hardware access \(read/write\) watchpoint 2: .*
 > continue
 Hardware access \(read/write\) watchpoint 1: .*
 0x800000(1c|20) in .*
-> tbreak *0x80000020
-Temporary breakpoint 3 at 0x80000020
-> continue
+> delete 1
 > continue
 Hardware access \(read/write\) watchpoint 2: .*
 0x80000028 in .*
