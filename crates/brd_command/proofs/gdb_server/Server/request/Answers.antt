@@ -1,4 +1,4 @@
-use Rattle.std.proofs.Common.{◌≡◌, List, ℕ, ◌++◌, ◌∙◌, refl, ap, subst, append_assoc}
+use Rattle.std.proofs.Common.{◌≡◌, List, ℕ, ◌++◌, ◌∙◌, refl, ap, subst}
 use Rattle.std.proofs.lemmas.Result.{on_ok_weaker}
 use Rattle.brd_gdb.specs.Output.{Outputs}
 use Rattle.brd_gdb.specs.Packets.{framed}
@@ -19,7 +19,7 @@ returns g c =
           c.in_ok-answer.answer.reply.items c.answer.new.self c.in_ok-answer.ensures;
       shows = subst (λ (text : List ℕ). Outputs text shown) c.deref-2.ensures.value c.in_ok-put_output.ensures.show;
       added = subst (λ (payload : List ℕ). c.put_packet.new.out.items ≡ c.put_output.new.out.items ++ framed payload) c.deref-3.ensures.value added
-          ∙ ap (λ (bytes : List ℕ). bytes ++ reply) c.in_ok-put_output.ensures.added ∙ append_assoc c.args.bytes.now.items shown reply;
+          ∙ ap (λ (bytes : List ℕ). bytes ++ reply) c.in_ok-put_output.ensures.added;
       receives = refl;
       acknowledges = refl;
     }) c.put_packet.ensures
