@@ -1,0 +1,4 @@
+mod OrderLemmas
+mod RaceLemmas
+mod TableLemmas
+mod AfterLemmas

@@ -1,0 +1,26 @@
+-- What is known after a list of deeds.
+use Rattle.std.specs.Prelude.{◌≡◌, ◌⊎◌, ◌++◌, ◌∷◌, ℕ, List, [], length, Option, None, Some}
+use Rattle.brd_order.specs.declared.deed.{Deed.Deed, Mark.Mark, Race.Race}
+use Rattle.brd_order.specs.declared.order.Order.{Order}
+use Rattle.brd_order.specs.Clocks.{Knows, Did, Released}
+use Rattle.brd_order.specs.Races.{IsIn, AreRaces}
+use Rattle.brd_order.specs.Marks.{AreMarks}
+use Rattle.brd_order.specs.Tables.{counts_at, counts_given, marks_at}
+
+pub record IsAfter (deeds : List Deed) (o : Order) : Type 0 where
+  pub count : o.count ≡ length deeds
+  pub strands : (strand : ℕ) → Knows deeds (Did strand) (counts_at o.strands.clocks.items strand)
+  pub things : (thing : ℕ) → Knows deeds (Released thing) (counts_given o.things.given.items thing)
+  pub marks : AreMarks deeds (marks_at o.marks.shares.items)
+  pub races : AreRaces deeds o.races.items
+
+-- a race of a word is told
+abbrev pub HasRace : List Race → ℕ → Type 0
+HasRace races word = (race : Race) × IsIn race races × (race.later.touch.word ≡ word)
+
+-- the race of a new mark with the one that was found is told, if there is one and none of its word is told
+abbrev pub TellsRace : Option Mark → Mark → List Race → List Race → Type 0
+TellsRace None new old races = races ≡ old
+TellsRace (Some earlier) new old races =
+    (HasRace old new.touch.word × (races ≡ old))
+    ⊎ ((HasRace old new.touch.word → ⊥) × (races ≡ old ++ (record { earlier = earlier; later = new }) ∷ []))

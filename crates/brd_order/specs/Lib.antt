@@ -1,0 +1,6 @@
+pub mod Order
+pub mod Races
+pub mod Clocks
+pub mod Marks
+pub mod Tables
+pub mod After

@@ -1,0 +1,34 @@
+//! Why the order isn't followed further.
+
+use brd_base::NoMemory;
+use std::alloc::AllocFailed;
+use thiserror::Error;
+
+/// Why the order isn't followed further.
+#[derive(Clone, Copy, Debug, PartialEq, Eq, Error)]
+pub enum OrderFault {
+    /// There is no memory left.
+    #[error("out of memory")]
+    NoMemory,
+    /// More words are touched than are kept.
+    #[error("more than 2097152 touches of words that differ by word, processor or task, and kind")]
+    TooManyTouches,
+    /// More things order strands than are kept.
+    #[error("more than 16384 things that order tasks and handlers")]
+    TooManyThings,
+    /// More deeds are done than can be counted.
+    #[error("more deeds than can be counted")]
+    TooManyDeeds,
+}
+
+impl From<NoMemory> for OrderFault {
+    fn from(_e: NoMemory) -> Self {
+        OrderFault::NoMemory
+    }
+}
+
+impl<T: Drop> From<AllocFailed<T>> for OrderFault {
+    fn from(_e: AllocFailed<T>) -> Self {
+        OrderFault::NoMemory
+    }
+}

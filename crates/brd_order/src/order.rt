@@ -1,0 +1,140 @@
+//! The order of deeds, as they are done.
+
+ghost use Rattle.std.specs.Prelude.{◌≡◌, ◌⊎◌, ◌++◌, ◌∷◌, ◌+◌, ◌^◌, ◌<◌, ℕ, [], List as ListOf, length, Option as OptionOf, Decides, IfOk, OnOk};
+ghost use Rattle.brd_order.specs.declared.deed.Deed.{Deed as DeedOf};
+ghost use Rattle.brd_order.specs.declared.deed.Act.TheVariants.{Acquires as AcquiresOf, Releases as ReleasesOf};
+ghost use Rattle.brd_order.specs.Races.{AreRaces, deed_of};
+ghost use Rattle.brd_order.specs.After.{HasRace, IsAfter, TellsRace};
+
+use crate::deed::{Act, Deed, Mark, Race};
+use crate::fault::OrderFault;
+use crate::marks::Marks;
+use crate::strands::{Strands, Things};
+use brd_base::NoMemory;
+use std::alloc::Global;
+
+/// The order of the deeds that were done so far, and the first race of each word.
+#[derive(Drop)]
+pub struct Order {
+    pub(crate) strands: Strands,
+    pub(crate) things: Things,
+    pub(crate) marks: Marks,
+    pub(crate) races: Vec<Race>,
+    pub(crate) count: u64,
+    alloc: Global,
+}
+
+impl Order {
+    /// Nothing was done.
+    pub fn new(alloc: Global) -> Result<Order, NoMemory>
+        ensures { IfOk result (IsAfter []) }
+    {
+        Ok(Order {
+            strands: Strands::new(alloc),
+            things: Things::new(alloc),
+            marks: Marks::new(alloc)?,
+            races: Vec::new(alloc),
+            count: 0,
+            alloc,
+        })
+    }
+
+    /// Takes the next deed. After a fault nothing is known any more.
+    pub fn take(&mut self, deed: Deed) -> Result<(), OrderFault>
+        ensures { (deeds : ListOf DeedOf) → IsAfter deeds self.old →
+            OnOk result (IsAfter (deeds ++ deed ∷ []) self.new) }
+    {
+        if self.count == u64::MAX {
+            return Err(OrderFault::TooManyDeeds);
+        }
+        match deed.act {
+            Act::Touches(touch) => self.touch(Mark {
+                at: self.count,
+                strand: deed.strand,
+                touch,
+                event: deed.event,
+                place: deed.place,
+            }),
+            Act::Acquires(thing) => self.acquire(deed, thing),
+            Act::Releases(thing) => self.release(deed, thing),
+        }
+    }
+
+    /// The first race of each word that has one, in the order of the later touches.
+    pub fn races(&self) -> &[Race]
+        ensures { (deeds : ListOf DeedOf) → IsAfter deeds self.now → AreRaces deeds result.now }
+    {
+        self.races.as_slice()
+    }
+
+    /// Takes a deed that acquires.
+    fn acquire(&mut self, deed: Deed, thing: u64) -> Result<(), OrderFault>
+        requires act { deed.act ≡ AcquiresOf thing }
+        requires count { self.old.count + 1 < 2 ^ 64 }
+        ensures { (deeds : ListOf DeedOf) → IsAfter deeds self.old →
+            OnOk result (IsAfter (deeds ++ deed ∷ []) self.new) }
+    {
+        self.strands.extend(self.alloc, deed.strand)?;
+        self.strands.acquire(deed.strand, &self.things, thing)?;
+        self.count += 1;
+        self.strands.put(deed.strand, self.count)?;
+        Ok(())
+    }
+
+    /// Takes a deed that releases.
+    fn release(&mut self, deed: Deed, thing: u64) -> Result<(), OrderFault>
+        requires act { deed.act ≡ ReleasesOf thing }
+        requires count { self.old.count + 1 < 2 ^ 64 }
+        ensures { (deeds : ListOf DeedOf) → IsAfter deeds self.old →
+            OnOk result (IsAfter (deeds ++ deed ∷ []) self.new) }
+    {
+        self.strands.extend(self.alloc, deed.strand)?;
+        self.count += 1;
+        self.strands.put(deed.strand, self.count)?;
+        self.things.give(thing, self.strands.clock(deed.strand))
+    }
+
+    /// Takes a deed that touches a word.
+    fn touch(&mut self, new: Mark) -> Result<(), OrderFault>
+        requires at { new.at ≡ self.old.count }
+        requires count { self.old.count + 1 < 2 ^ 64 }
+        ensures { (deeds : ListOf DeedOf) → IsAfter deeds self.old →
+            OnOk result (IsAfter (deeds ++ deed_of new ∷ []) self.new) }
+    {
+        self.strands.extend(self.alloc, new.strand)?;
+        self.count += 1;
+        self.strands.put(new.strand, self.count)?;
+        let found = self.marks.last_unknown(self.strands.clock(new.strand), new);
+        tell(&mut self.races, found, new)?;
+        self.marks.put(new)
+    }
+}
+
+/// Tells the race of a new mark with the one that was found, if none of its word is told.
+fn tell(races: &mut Vec<Race>, found: Option<Mark>, new: Mark) -> Result<(), NoMemory>
+    ensures { OnOk result (TellsRace found new races.old.items races.new.items) }
+{
+    let Some(earlier) = found else {
+        return Ok(());
+    };
+    if has_race(races.as_slice(), new.touch.word) {
+        return Ok(());
+    }
+    races.push(Race {
+        earlier,
+        later: new,
+    })?;
+    Ok(())
+}
+
+/// Whether a race of a word is told.
+fn has_race(races: &[Race], word: u32) -> bool
+    ensures { Decides result (HasRace races.now word) }
+{
+    for i in 0..races.len() {
+        if races[i].later.touch.word == word {
+            return true;
+        }
+    }
+    false
+}
