@@ -1,0 +1,2 @@
+mod RacingLemmas
+mod DeedLemmas

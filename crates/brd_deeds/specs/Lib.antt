@@ -1,0 +1,5 @@
+pub mod Things
+pub mod Touches
+pub mod Acts
+pub mod Deeds
+pub mod Racing

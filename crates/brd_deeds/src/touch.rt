@@ -1,0 +1,44 @@
+//! The touches of instructions.
+
+ghost use Rattle.std.specs.Prelude.{◌≡◌, ◌≤◌};
+ghost use Rattle.brd_deeds.specs.Touches.{is_linked, size_by, touch_at};
+
+use brd_isa::{Insn, LinkedOp, LoadOp, StoreOp};
+use brd_order::Touch;
+
+/// How many bytes an instruction touches: all of the word, where it is a part of it that depends on the byte order.
+pub(crate) fn size_by(insn: &Insn) -> u8
+    ensures is { result ≡ size_by insn.now }
+    ensures few { result ≤ 4 }
+{
+    match *insn {
+        Insn::Load(LoadOp::Lb | LoadOp::Lbu, _, _, _) => 1,
+        Insn::Load(LoadOp::Lh | LoadOp::Lhu, _, _, _) => 2,
+        Insn::Store(StoreOp::Sb, _, _, _) => 1,
+        Insn::Store(StoreOp::Sh, _, _, _) => 2,
+        _ => 4,
+    }
+}
+
+/// Whether an instruction is LL or SC.
+pub(crate) fn is_linked(insn: &Insn) -> bool
+    ensures { result ≡ is_linked insn.now }
+{
+    matches!(*insn, Insn::Linked(LinkedOp::Ll | LinkedOp::Sc, _, _, _))
+}
+
+/// The touch of so many bytes at an address, or of the whole word.
+pub(crate) fn touch_at(address: u32, size: u8, stores: bool, linked: bool) -> Touch
+    requires { size ≤ 4 }
+    ensures { result ≡ touch_at address size stores linked }
+{
+    let within = (address % 4) as u8;
+    let from = if size == 4 { 0 } else { within };
+    Touch {
+        word: address - address % 4,
+        from,
+        to: from + size,
+        stores,
+        linked,
+    }
+}
