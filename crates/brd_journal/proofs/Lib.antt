@@ -7,6 +7,7 @@ pub mod Cutting
 pub mod AddLemmas
 pub mod KeptLemmas
 pub mod StartLemmas
+pub mod ApartLemmas
 pub mod RestLemmas
 pub mod LineLemmas
 pub mod DecimalLemmas

@@ -1,6 +1,7 @@
 //! Journals.
 
 ghost use Rattle.std.specs.Prelude.{◌≡◌, ℕ, ◌≤◌, ◌<◌, ◌==◌, ◌^◌, ◌∷◌, [], length, slice_get, OnErr, IfOk, IfSome, Ok};
+ghost use Rattle.std.specs.Prelude.{true, false};
 ghost use Rattle.brd_journal.specs.Faults.{Gives};
 ghost use Rattle.brd_journal.specs.Journal.{most_runs, appended};
 ghost use Rattle.brd_journal.specs.Reading.{journal_of};
@@ -86,6 +87,30 @@ impl Journal {
         self.runs.add(self.limit as usize, event, count, self.len)?;
         self.len += count as u64;
         Ok(())
+    }
+
+    /// Appends an event n times, where a run at the end is all that this takes. Answers whether it did; else nothing has
+    /// changed.
+    #[inline(always)]
+    pub(crate) fn puts(&mut self, event: Event, count: u32) -> bool
+        requires { 1 ≤ count }
+        ensures appended { result ≡ true → appended self.old (copies event count) ≡ Ok self.new }
+        ensures stays { result ≡ false → self.new ≡ self.old }
+    {
+        if !self.runs.puts(self.limit as usize, event, count, self.len) {
+            return false;
+        }
+        self.len += count as u64;
+        true
+    }
+
+    /// Appends a run, as `push_run` does, but not in line.
+    #[inline(never)]
+    pub(crate) fn push_run_apart(&mut self, run: Run) -> Result<(), JournalFault>
+        ensures appended { Gives (λ _. self.new) result (appended self.old (copies run.event run.count)) }
+        ensures err { OnErr result (self.new ≡ self.old) }
+    {
+        self.push_run(run.event, run.count)
     }
 
     /// The byte order of the boards that it is for.

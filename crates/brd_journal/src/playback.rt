@@ -110,6 +110,36 @@ impl Playback {
             → IsPlayed boot events self.old
             → AreStill boot events end self.new.at }
     {
+        if is_one_step(rest) {
+            let report = self.board.event_apart(rest.event);
+            self.at += 1;
+            return Moved {
+                event: rest.event,
+                report,
+                count: 1,
+            };
+        }
+        self.advance_run(rest, end, to)
+    }
+
+    /// Does the next event of a run, as `advance` does, and maybe more.
+    #[inline(always)]
+    fn advance_run(&mut self, rest: Run, end: u64, to: u64) -> Moved
+        requires some { 1 ≤ rest.count }
+        requires on { self.old.at < end }
+        requires past { end ≤ to }
+        ensures goes { (1 ≤ result.count) × (result.count ≤ rest.count) × (self.new.at ≡ self.old.at + result.count) }
+        ensures to { self.new.at ≤ to }
+        ensures event { result.event ≡ rest.event }
+        ensures report { result.report ≡ (happens self.old.board rest.event).report }
+        ensures board { self.new.board ≡ after self.old.board (copies rest.event result.count) }
+        ensures over { end < self.new.at → does_no_more rest.event result.report ≡ true }
+        ensures played { (boot : BoardOf) (events : ListOf EventOf) → to ≤ length events
+            → ComesBehind events self.old.at rest → IsPlayed boot events self.old → IsPlayed boot events self.new }
+        ensures still { (boot : BoardOf) (events : ListOf EventOf) → ComesBehind events self.old.at rest
+            → IsPlayed boot events self.old
+            → AreStill boot events end self.new.at }
+    {
         let event = rest.event;
         let report = self.board.event_apart(event);
         let over = does_no_more(event, report);
@@ -124,6 +154,12 @@ impl Playback {
     }
 }
 
+/// Whether a run is of one step, as most runs of most journals with turns are.
+#[inline(always)]
+fn is_one_step(run: Run) -> bool {
+    matches!(run.event, Event::Step(_)) && run.count == 1
+}
+
 /// How many events of a run are done: all where they do nothing.
 #[inline(always)]
 fn count_of(count: u32, over: bool, few: u64, all: u64) -> u64
@@ -135,9 +171,6 @@ fn count_of(count: u32, over: bool, few: u64, all: u64) -> u64
     ensures some { 1 ≤ result }
     ensures run { result ≤ count }
 {
-    if count == 1 {
-        return 1;
-    }
     let most = if over { all } else { few.min(STRETCH) };
     most.min(u64::from(count))
 }

@@ -1,6 +1,6 @@
 //! Reading a text.
 
-ghost use Rattle.std.specs.Prelude.{◌≡◌, ◌≤◌, ◌<◌, ◌+◌, ◌^◌, ◌∷◌, length, IfSome};
+ghost use Rattle.std.specs.Prelude.{◌≡◌, ◌≤◌, ◌<◌, ◌+◌, ◌^◌, ◌∷◌, ℕ, length, IfSome, None};
 ghost use Rattle.brd_text.specs.Lines.{lines_of};
 ghost use Rattle.brd_journal.specs.Faults.{Gives};
 ghost use Rattle.brd_journal.specs.Front.{IsFront, IsShorter};
@@ -45,6 +45,7 @@ pub fn read_text(alloc: Global, text: &[u8], limit: u32) -> Result<Journal, Jour
 }
 
 /// Appends the runs of the lines after the first.
+#[inline(never)]
 fn read_lines(journal: &mut Journal, text: &[u8]) -> Result<(), JournalFault>
     requires { length text.now + 2 < 2 ^ 64 }
     ensures { Gives (λ _. journal.new) result (lines_read journal.old 2 (lines_of text.now)) }
@@ -52,9 +53,14 @@ fn read_lines(journal: &mut Journal, text: &[u8]) -> Result<(), JournalFault>
     let mut rest = text;
     let mut number = 2;
     'lines: loop {
-        match front_of(rest) {
+        if let Some(after) = puts_line(journal, rest) {
+            rest = after;
+            number += 1;
+            continue 'lines;
+        }
+        match line_front(rest) {
             Front::Line(run, after) => {
-                journal.push_run(run.event, run.count)?;
+                journal.push_run_apart(run)?;
                 rest = after;
                 number += 1;
             }
@@ -64,17 +70,20 @@ fn read_lines(journal: &mut Journal, text: &[u8]) -> Result<(), JournalFault>
     }
 }
 
-/// What stands at the front of a text. Most lines of most journals are of steps with numbers below 10: these are read
-/// in line, straight from their bytes.
+/// Appends the run of the first line, where that is of steps with numbers below 10, as most lines of most journals are,
+/// and a run at the end is all that this takes. Answers the text after it; else nothing has changed.
 #[inline(always)]
-fn front_of(text: &[u8]) -> Front<'_>
-    ensures reads { IsFront text.now result }
-    ensures shorter { IsShorter text.now result }
+fn puts_line<'a>(journal: &mut Journal, text: &'a [u8]) -> Option<&'a [u8]>
+    ensures reads { IfSome result (λ after. (number : ℕ) → lines_read journal.old number (lines_of text.now)
+        ≡ lines_read journal.new (number + 1) (lines_of after.now)) }
+    ensures shorter { IfSome result (λ after. length after.now < length text.now) }
+    ensures stays { result ≡ None → journal.new ≡ journal.old }
 {
-    if let Some((run, after)) = short_line(text) {
-        return Front::Line(run, after);
+    let (run, after) = short_line(text)?;
+    if journal.puts(run.event, run.count) {
+        return Some(after);
     }
-    line_front(text)
+    None
 }
 
 /// The run of the first line, where that is of steps with two digits for its numbers, and the text after it.
@@ -82,6 +91,7 @@ fn front_of(text: &[u8]) -> Front<'_>
 fn short_line(text: &[u8]) -> Option<(Run, &[u8])>
     ensures reads { IfSome result (λ found. IsFront text.now (Line found.0 found.1)) }
     ensures shorter { IfSome result (λ found. length found.1.now < length text.now) }
+    ensures some { IfSome result (λ found. 1 ≤ found.0.count) }
 {
     // One test of the length, which the others follow from.
     if text.len() < 6 {
@@ -94,22 +104,25 @@ fn short_line(text: &[u8]) -> Option<(Run, &[u8])>
     let (count, end) = digit_at(b'1', counted)?;
     let after = behind(b'\n', end)?;
     let run = Run {
-        event: Event::Step(cpu),
-        count: count as u32,
+        event: Event::Step(cpu as u8),
+        count,
     };
     Some((run, after))
 }
 
 /// The value of the decimal digit at the front, where that is this one or a later one, and what follows it.
 #[inline(always)]
-fn digit_at(least: u8, text: &[u8]) -> Option<(u8, &[u8])>
+fn digit_at(least: u8, text: &[u8]) -> Option<(u32, &[u8])>
     requires { 48 ≤ least }
     ensures found { IfSome result (λ found. text.now ≡ (48 + found.0) ∷ found.1.now) }
     ensures least { IfSome result (λ found. least ≤ 48 + found.0) }
     ensures most { IfSome result (λ found. found.0 ≤ 9) }
 {
     match text.split_first() {
-        Some((byte, after)) if *byte >= least && *byte <= b'9' => Some((*byte - b'0', after)),
+        Some((byte, after)) if *byte >= least && *byte <= b'9' => Some((
+            u32::from(*byte) - 48,
+            after,
+        )),
         _ => None,
     }
 }

@@ -1,7 +1,7 @@
 //! Lists of runs.
 
 ghost use Rattle.std.specs.Prelude.{◌≡◌, ◌+◌, ◌≤◌, ◌<◌, ◌^◌, ◌++◌, ◌∷◌, [], length, take, OnOk, OnErr, IfSome, None};
-ghost use Rattle.std.specs.Prelude.{Some};
+ghost use Rattle.std.specs.Prelude.{Some, Ok, true, false};
 ghost use Rattle.brd_journal.specs.Adding.{room_in, added_within};
 ghost use Rattle.brd_journal.specs.Faults.{Gives};
 ghost use Rattle.brd_journal.specs.Runs.{AreCut, IsRest, events_of, same_event};
@@ -43,11 +43,14 @@ fn put_run(runs: &mut Vec<Run>, starts: &mut Vec<u64>, run: Run, start: u64) -> 
     ensures starts { OnOk result (starts.new.items ≡ starts.old.items ++ start ∷ []) }
     ensures err { OnErr result ((runs.new.items ≡ runs.old.items) × (starts.new.items ≡ starts.old.items)) }
 {
-    // Room for its start comes first, so that a run that is refused changes nothing.
-    starts.reserve(1)?;
     runs.push(run)?;
-    starts.push(start)?;
-    Ok(())
+    match starts.push(start) {
+        Ok(()) => Ok(()),
+        Err(fault) => {
+            let _ = runs.pop();
+            Err(fault.into())
+        }
+    }
 }
 
 /// Runs, and beside each the position of its first event.
@@ -85,6 +88,28 @@ impl RunTable {
         ensures { result.now ≡ self.now }
     {
         self.runs.as_slice()
+    }
+
+    /// Puts a run at the end, after n events, where the last one takes none of it, and where there is room for it.
+    /// Answers whether it did; else nothing has changed.
+    #[inline(always)]
+    pub(crate) fn puts(&mut self, limit: usize, event: Event, count: u32, others: u64) -> bool
+        requires some { 1 ≤ count }
+        requires behind { others ≡ length (events_of self.old) }
+        ensures added { result ≡ true → added_within limit self.old event count ≡ Ok self.new }
+        ensures stays { result ≡ false → self.new ≡ self.old }
+    {
+        if room_for(&self.runs, event) > 0 {
+            return false;
+        }
+        if self.runs.len() >= limit {
+            return false;
+        }
+        let run = Run { event, count };
+        let Ok(()) = put_run(&mut self.runs, &mut self.starts, run, others) else {
+            return false;
+        };
+        true
     }
 
     /// Adds an event n times at the end, after m others, unless that makes more runs than the limit. An
