@@ -347,7 +347,8 @@ impl Debugger {
         Ok(found)
     }
 
-    /// Shows the board after n events. It goes on or back in place where no snapshot may be due on the way.
+    /// Shows the board after n events. It goes on in place where no snapshot lies between or may be due on the way, and
+    /// else begins at the last snapshot, in place where none may be due from there on.
     fn show_at<P: Progress>(&mut self, position: u64, progress: &mut P) -> Result<(), NoMemory>
         requires { position ≤ length self.old.events }
         ensures ok { OnOk result (self.new ≡ record self.old { position = position }) }
@@ -357,7 +358,9 @@ impl Debugger {
         if position == self.shown.at {
             return Ok(());
         }
-        if position > self.shown.at && position <= self.snapshots.next(self.shown.at) {
+        let goes_on = position > self.shown.at
+            && self.snapshots.last_before(position) <= self.shown.at;
+        if goes_on && position <= self.snapshots.next(self.shown.at) {
             return play_near(
                 &self.boot,
                 &self.journal,
@@ -366,7 +369,7 @@ impl Debugger {
                 position,
             );
         }
-        if position < self.shown.at && self.is_near_snapshot(position) {
+        if !goes_on && self.is_near_snapshot(position) {
             return go_back(
                 &self.boot,
                 &self.journal,
