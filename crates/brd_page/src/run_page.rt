@@ -66,6 +66,7 @@ pub(crate) fn manner_of<'a>(image: &'a Image) -> Manner<'a> {
     Manner {
         names: Names::new(image.symbols.as_slice(), image.segments.as_slice()),
         order: image.order,
+        words: &[],
     }
 }
 
