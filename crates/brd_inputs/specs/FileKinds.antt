@@ -35,12 +35,16 @@ are_text bytes = list_all is_text_byte bytes
 abbrev pub begins_with_entry : List ℕ → Bool
 begins_with_entry bytes = starts_with nat_eq bytes (codes "T ") || starts_with nat_eq bytes (codes "R ")
 
+-- it begins as an object file does
+abbrev pub is_object_file : List ℕ → Bool
+is_object_file bytes = starts_with nat_eq bytes magic
+
 -- The kind of which a file looks: an object file, a journal and a script by their first bytes, a configuration by its
 -- first word. Any other text, by its first 1,024 bytes, is source.
 unfoldable pub looks_like : List ℕ → Option FileKind
 looks_like bytes =
     if length bytes == 0 then Some Empty
-    else (if starts_with nat_eq bytes magic then Some ObjectFile
+    else (if is_object_file bytes then Some ObjectFile
     else (if starts_with nat_eq bytes (codes "board-journal") then Some Journal
     else (if begins_with_entry bytes then Some Script
     else (if begins_with_board bytes then Some Configuration

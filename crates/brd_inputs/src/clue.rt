@@ -9,11 +9,12 @@ use std::fmt::{self, Display};
 use std::marker::Model;
 
 /// What is said beside a fault: the other kind of file of which the input looks, or else the diagnosis of the place of
-/// the fault. Contracts see the kind alone.
+/// the fault; and the input's other faults, where they are told too. Contracts see the kind alone.
 #[derive(Debug, Drop)]
 pub struct Clue {
     kind: Option<FileKind>,
     hint: FaultHint,
+    others: Option<Vec<String>>,
 }
 
 impl Model for Clue {
@@ -30,7 +31,30 @@ impl Clue {
     pub fn new(kind: Option<FileKind>, hint: FaultHint) -> Self
         ensures { result ≡ kind }
     {
-        Clue { kind, hint }
+        Clue {
+            kind,
+            hint,
+            others: None,
+        }
+    }
+
+    /// The same, and the messages of the input's other faults.
+    pub fn with_others(self, others: Vec<String>) -> Self
+        ensures { result ≡ self }
+    {
+        Clue {
+            kind: self.kind,
+            hint: self.hint,
+            others: Some(others),
+        }
+    }
+
+    /// The messages of the input's other faults.
+    pub(crate) fn others(&self) -> &[String] {
+        match &self.others {
+            Some(others) => others.as_slice(),
+            None => &[],
+        }
     }
 
     /// Whether the diagnosis is all that is told.

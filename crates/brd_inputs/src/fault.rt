@@ -182,6 +182,14 @@ impl CommandFault {
         }
     }
 
+    /// The messages of the other faults of a source, which come behind this one's.
+    pub fn others(&self) -> &[String] {
+        match self {
+            CommandFault::Source(_, _, clue) => clue.others(),
+            _ => &[],
+        }
+    }
+
     /// The status that the program ends with: 1 for a fault of the input or of a race, for a search that finds what
     /// fails, and for a journal after which nothing fails; 2 for a fault of the command line, 3 for want of memory, 4
     /// where reading or writing failed.

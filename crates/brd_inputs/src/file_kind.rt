@@ -53,6 +53,13 @@ pub fn other_kind(wanted: FileKind, bytes: &[u8]) -> Option<FileKind>
     }
 }
 
+/// Whether a file looks like an object file.
+pub fn is_object_file(bytes: &[u8]) -> bool
+    ensures { result ≡ kinds.is_object_file bytes.now }
+{
+    bytes.starts_with(OBJECT_FILE)
+}
+
 /// The kind of which a file looks by its front.
 #[tactic(auto, unfolding(crate::specs::FileKinds::looks_like))]
 fn looks_like(bytes: &[u8]) -> Option<FileKind>
@@ -61,7 +68,7 @@ fn looks_like(bytes: &[u8]) -> Option<FileKind>
     if bytes.is_empty() {
         return Some(FileKind::Empty);
     }
-    if bytes.starts_with(OBJECT_FILE) {
+    if is_object_file(bytes) {
         return Some(FileKind::ObjectFile);
     }
     if bytes.starts_with(JOURNAL) {

@@ -20,18 +20,20 @@ mod start;
 mod trace_fault;
 mod words_fault;
 
-pub use brd_hints::source_hint;
+pub use brd_hints::{mended_source, source_hint};
 pub use brd_image::Loaded;
 pub use clue::Clue;
 pub use excerpt::Excerpt;
 pub use fault::CommandFault;
-pub use file_kind::{FileKind, other_kind};
+pub use file_kind::{FileKind, is_object_file, other_kind};
 pub use files::Files;
 pub use growing::{put, put_all};
 pub use input::{MOST_BYTES, MOST_READS, read_whole};
 pub use input_name::InputName;
 pub use inputs::{Inputs, Pair, Texts, open_inputs, open_pair, read_inputs};
 pub use schedule_fault::ScheduleFault;
-pub use start::{RaceStart, Start, read_board, read_race_start, read_start};
+pub use start::{
+    RaceStart, Start, make_start, read_board, read_race_start, read_sourced_start, read_start,
+};
 pub use trace_fault::TraceFault;
 pub use words_fault::WordsFault;

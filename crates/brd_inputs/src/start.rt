@@ -8,10 +8,12 @@ ghost use Rattle.brd_inputs.specs.declared.input_name.InputName.TheVariants as i
 use crate::fault::CommandFault;
 use crate::input_name::InputName;
 use crate::inputs::{Inputs, Pair, Texts, read_both, read_inputs};
+use brd_base::NoMemory;
 use brd_board::Board;
 use brd_config::Config;
 use brd_image::{Loaded, load_with_parts};
 use brd_journal::{Journal, MOST_RUNS, read_text};
+use brd_lines::Source;
 use brd_mem::Image;
 use brd_threads::{Outer, read_script};
 use std::alloc::Global;
@@ -82,8 +84,31 @@ pub fn read_start<R: Read>(alloc: Global, inputs: &mut Inputs<R>) -> Result<Star
     make_start(alloc, &texts)
 }
 
+/// As `read_start`, and in `source` is then what the object file says of its source.
+pub fn read_sourced_start<R: Read>(
+    alloc: Global,
+    inputs: &mut Inputs<R>,
+    source: &mut Source,
+) -> Result<Start, CommandFault>
+    ensures starts { IfSome (R.remaining inputs.old.image) (λ image. IfSome (R.remaining inputs.old.config) (λ config.
+        IfSome (R.remaining inputs.old.last) (λ events.
+        MatchResult result (λ start. AreWithin image config events × IsStart image config events start)
+        (KeepsFromStarting input_name.Journal image config events)))) }
+    ensures orders { IfOk result (λ start. start.journal.order ≡ start.board.memory.order) }
+{
+    let texts = match read_inputs(alloc, InputName::Journal, inputs) {
+        Ok(texts) => texts,
+        Err(fault) => return Err(fault),
+    };
+    match Source::read(alloc, &texts.image) {
+        Ok(read) => *source = read,
+        Err(NoMemory) => return Err(CommandFault::NoMemory),
+    }
+    make_start(alloc, &texts)
+}
+
 /// The board that an object file and a configuration make, and a journal, which has its byte order.
-fn make_start(alloc: Global, texts: &Texts) -> Result<Start, CommandFault>
+pub fn make_start(alloc: Global, texts: &Texts) -> Result<Start, CommandFault>
     ensures { MatchResult result (IsStart texts.now.image.items texts.now.config.items texts.now.last.items)
         (KeepsFromMaking input_name.Journal texts.now.image.items texts.now.config.items texts.now.last.items) }
 {

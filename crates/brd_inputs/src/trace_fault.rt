@@ -11,10 +11,22 @@ pub enum TraceFault {
     /// There is no such form.
     #[error("its formats are text, json, svg and html")]
     NoSuchFormat,
+    /// A name of a word is that of no symbol.
+    #[error("--word names a symbol that the object file doesn't have")]
+    NoSymbol,
+    /// No word lies at an address.
+    #[error("--word has symbols, or 0x and hexadecimal addresses, of aligned words of RAM, with commas between them")]
+    NoWord,
     /// A picture has no room for so much.
     #[error("it has more to draw than a picture can show: choose fewer events by --from and --to")]
     TooMuch,
     /// A page has no room for so many events.
     #[error("it is more than a page can show: choose fewer events by --from and --to")]
     TooLong,
+    /// A page has no room for what was tried.
+    #[error("it is more than a page can show: choose fewer events by --steps")]
+    TooManySteps,
+    /// Races aren't looked for among so many touches.
+    #[error("it touches more words, or has more that orders tasks and handlers, than is kept: choose fewer events by --to")]
+    TooManyTouches,
 }
