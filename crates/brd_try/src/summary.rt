@@ -37,10 +37,12 @@ fn put_summary(
     let manner = Manner {
         names: Names::new(image.symbols.as_slice(), image.segments.as_slice()),
         order: image.order,
+        words: &[],
     };
     let options = Options {
         cpu: None,
         instructions: false,
+        touching: false,
         shown: false,
         lines: [0; 32],
     };

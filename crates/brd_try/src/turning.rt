@@ -72,7 +72,7 @@ impl Turned {
             self.steps += 1;
             self.place = place_on(&self.board, cpu);
         }
-        self.board.event(event);
+        self.board.event_apart(event);
         Ok(())
     }
 }
