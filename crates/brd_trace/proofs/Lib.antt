@@ -1,3 +1,4 @@
 pub mod TraceLemmas
 pub mod RanLemmas
 pub mod PutLemmas
+pub mod WordsLemmas

@@ -12,7 +12,7 @@ use Rattle.brd_listing.specs.Listing.{IsBehind}
 use Rattle.brd_trace.specs.Effects.{IsToldOf}
 use Rattle.brd_trace.specs.Quiets.{quiet_of, tick_of}
 use Rattle.brd_trace.specs.Telling.{Tells, TellsBy, TellsInstruction, TellsLine, TellsOther, TellsNothing}
-use Rattle.brd_trace.specs.Telling.{instruction_in, is_untold, shows, shows_instruction, with_held, held_text, told_text}
+use Rattle.brd_trace.specs.Telling.{form_of, instruction_in, is_untold, shows, shows_instruction, with_held, held_text, told_text}
 use Rattle.brd_trace.specs.Telling.{held_behind, text_behind, held_quiet, text_quiet, held_more, text_more, more_of, stretch_of}
 
 nothing : (p : Printer) → TellsNothing p p []
@@ -21,7 +21,7 @@ nothing p = record { same = refl; none = refl }
 -- ---- an instruction
 
 pub instruction_hidden : (manner : Manner) (position : ℕ) (told : Happening) (it : Instruction) (p : Printer) (a : List ℕ)
-    → shows_instruction p.options told ≡ false → IsBehind (TellsInstruction manner position told it p p) a a
+    → shows_instruction p.options manner.words.now told.cpu it ≡ false → IsBehind (TellsInstruction manner position told it p p) a a
 instruction_hidden manner position told it p a off = record {
   text = [];
   is_it = record { shown = λ is. absurd (false≢true (sym off ∙ is)); hidden = λ is. nothing p };
@@ -29,7 +29,8 @@ instruction_hidden manner position told it p a off = record {
 }
 
 pub instruction_line : (manner : Manner) (position : ℕ) (told : Happening) (it : Instruction) (old new : Printer) (what a b : List ℕ)
-    → shows_instruction old.options told ≡ true → IsToldOf manner.names manner.order (unwrap_or told.place 0) it what
+    → shows_instruction old.options manner.words.now told.cpu it ≡ true
+    → IsToldOf (form_of manner old.options) (unwrap_or told.place 0) it what
     → new ≡ with_held old None
     → b ≡ a ++ held_text manner.names.symbols.now old.held ++ told_text manner.names.symbols.now position told what
     → IsBehind (TellsInstruction manner position told it old new) a b

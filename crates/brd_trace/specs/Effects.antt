@@ -1,6 +1,6 @@
 -- What is told of an instruction that was done: the instruction as it was found, what it wrote, what of memory it loaded
 -- or stored, and where it led.
-use Rattle.std.specs.Prelude.{◌≡◌, ℕ, ◌+◌, ◌-◌, ◌*◌, ◌/◌, ◌%◌, ◌==◌, Bool, true, false, nat_le, nat_lt, ◌&&◌}
+use Rattle.std.specs.Prelude.{◌≡◌, ℕ, ◌-◌, ◌*◌, ◌/◌, ◌%◌, ◌==◌, Bool, true, false, nat_le, nat_lt, ◌&&◌}
 use Rattle.std.specs.Prelude.{if◌then◌else◌, List, [], ◌++◌, length, take, drop, codes, Option, Some, None}
 use Rattle.std.specs.List.{list_any}
 use Rattle.brd_word.specs.declared.order.Order.{Order}
@@ -11,8 +11,8 @@ use Rattle.brd_listing.specs.Places.{nearest_of, place_text}
 use Rattle.brd_listing.specs.Listing.{register_text, IsListed}
 use Rattle.brd_happening.specs.declared.instruction.{Change.Change, Written.Written, Access.Access, Jump.Jump}
 use Rattle.brd_happening.specs.declared.instruction.{AccessKind.AccessKind, Instruction.Instruction}
-use Rattle.brd_happening.specs.declared.instruction.AccessKind.TheVariants.{StoresIfLinked}
-use Rattle.brd_trace.specs.declared.effect.Part.{Part}
+use Rattle.brd_happening.specs.declared.instruction.AccessKind.TheVariants.{Loads, Stores, StoresIfLinked}
+use Rattle.brd_trace.specs.declared.effect.{Form.Form, Part.Part}
 use Rattle.brd_trace.specs.declared.effect.Part.TheVariants.{Byte, Halfword, Word}
 use Rattle.brd_trace.specs.declared.names.Names.{Names}
 
@@ -99,10 +99,22 @@ abbrev pub outcome_text : AccessKind → List ℕ
 outcome_text (StoresIfLinked stored) = if stored then codes "; stored" else codes "; not stored"
 outcome_text _ = []
 
-abbrev pub access_text : Names → Order → Part → Option Access → List ℕ
-access_text names order part None = []
-access_text names order part (Some it) =
-    cell_text names order part it.address it.word ++ outcome_text it.kind
+-- an instruction has stored
+abbrev pub stores : AccessKind → Bool
+stores Loads = false
+stores Stores = true
+stores (StoresIfLinked stored) = stored
+
+-- what a store has written over
+abbrev pub old_text : Order → Part → ℕ → Option Change → List ℕ
+old_text order part address None = []
+old_text order part address (Some word) = codes ", was " ++ part_digits order part address word.old
+
+abbrev pub access_text : Form → Part → Option Access → List ℕ
+access_text form part None = []
+access_text form part (Some it) =
+    cell_text form.names form.order part it.address it.word
+    ++ (if form.old && stores it.kind then old_text form.order part it.address it.word else []) ++ outcome_text it.kind
 
 -- ---- where it leads
 
@@ -126,14 +138,14 @@ slot_text in_slot = if in_slot then codes "; in the delay slot" else []
 
 -- ---- all of it
 
-abbrev pub effect_text : Names → Order → Instruction → List ℕ
-effect_text names order it =
+abbrev pub effect_text : Form → Instruction → List ℕ
+effect_text form it =
     register_written it.register ++ word_written (codes "hi") it.hi ++ word_written (codes "lo") it.lo
-    ++ access_text names order (part_of it.insn) it.access
-    ++ jump_text names.symbols.now (is_branch it.insn) it.jump ++ slot_text it.in_slot
+    ++ access_text form (part_of it.insn) it.access
+    ++ jump_text form.names.symbols.now (is_branch it.insn) it.jump ++ slot_text it.in_slot
 
 -- A text is what is told of an instruction at an address: the instruction, and what it did.
-pub record IsToldOf (names : Names) (order : Order) (address : ℕ) (it : Instruction) (text : List ℕ) : Type 0 where
+pub record IsToldOf (form : Form) (address : ℕ) (it : Instruction) (text : List ℕ) : Type 0 where
   pub insn : List ℕ
   pub listed : IsListed it.insn address insn
-  pub is : text ≡ insn ++ effect_text names order it
+  pub is : text ≡ insn ++ effect_text form it

@@ -1,5 +1,5 @@
 -- Events that change nothing, of which those of one kind are one line, with how many they are.
-use Rattle.std.specs.Prelude.{◌≡◌, ℕ, ◌+◌, ◌-◌, ◌^◌, ◌==◌, min, Bool, true, false, if◌then◌else◌, List, [], ◌∷◌, ◌++◌}
+use Rattle.std.specs.Prelude.{ℕ, ◌+◌, ◌-◌, ◌^◌, ◌==◌, min, if◌then◌else◌, List, [], ◌∷◌, ◌++◌}
 use Rattle.std.specs.Prelude.{codes, slice_index_or, Option, Some, None, unwrap_or}
 use Rattle.std.specs.Fmt.{decimal}
 use Rattle.brd_kernel.specs.declared.processor.Standing.{Standing}
@@ -9,7 +9,7 @@ use Rattle.brd_happening.specs.declared.happening.What.TheVariants as what
 use Rattle.brd_happening.specs.declared.happening.Why.TheVariants as why
 use Rattle.brd_happening.specs.declared.release.Release.{Release}
 use Rattle.brd_trace.specs.declared.line.Heading.{Heading}
-use Rattle.brd_trace.specs.declared.quiet.{Quiet.Quiet, SpinningTask.SpinningTask, Stretch.Stretch}
+use Rattle.brd_trace.specs.declared.quiet.{Quiet.Quiet, Stretch.Stretch}
 use Rattle.brd_trace.specs.declared.quiet.Quiet.TheVariants.{Idle, Stopped, NoProcessor, Spins, Tick, TimeOver, NoLine}
 use Rattle.brd_trace.specs.declared.quiet.Quiet.TheVariants.{Again, Off}
 use Rattle.brd_trace.specs.contracts.quiet.QuietPartialEq.TheImpl as quiets

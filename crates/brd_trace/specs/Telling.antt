@@ -1,18 +1,20 @@
 -- What a trace prints of the events of a journal: their lines, each once and in their order.
-use Rattle.std.specs.Prelude.{◌≡◌, ℕ, suc, ◌+◌, ◌-◌, ◌≤◌, ◌==◌, Bool, true, false, not, ◌&&◌, ◌||◌, if◌then◌else◌}
+use Rattle.std.specs.Prelude.{◌≡◌, ℕ, ◌+◌, ◌-◌, ◌≤◌, ◌==◌, Bool, true, false, not, ◌&&◌, ◌||◌, if◌then◌else◌}
 use Rattle.std.specs.Prelude.{List, [], ◌∷◌, ◌++◌, slice_get, Option, Some, None, unwrap_or}
-use Rattle.brd_word.specs.declared.order.Order.{Order}
+use Rattle.std.specs.List.{list_any}
 use Rattle.brd_mem.specs.declared.image.Symbol.{Symbol}
 use Rattle.brd_board.specs.declared.event.Event.{Event}
 use Rattle.brd_board.specs.declared.event.Report.{Report}
 use Rattle.brd_board.specs.declared.event.Report.TheVariants as report
 use Rattle.brd_board.specs.Board.{BoardState, happens}
 use Rattle.brd_journal.specs.Playing.{board_at, AreStill}
-use Rattle.brd_happening.specs.declared.instruction.Instruction.{Instruction}
+use Rattle.brd_exec.specs.Unaligned.{aligned}
+use Rattle.brd_happening.specs.declared.instruction.{Access.Access, Instruction.Instruction}
 use Rattle.brd_happening.specs.declared.happening.{What.What, Happening.Happening}
 use Rattle.brd_happening.specs.declared.happening.What.TheVariants as what
 use Rattle.brd_happening.specs.Before.{before_of}
 use Rattle.brd_happening.specs.Happening.{happening_from}
+use Rattle.brd_trace.specs.declared.effect.Form.{Form}
 use Rattle.brd_trace.specs.declared.line.Heading.{Heading}
 use Rattle.brd_trace.specs.declared.quiet.{Quiet.Quiet, Stretch.Stretch}
 use Rattle.brd_trace.specs.declared.quiet.Quiet.TheVariants as quiet
@@ -30,9 +32,27 @@ is_chosen None cpu = true
 is_chosen (Some chosen) (Some cpu) = chosen == cpu
 is_chosen (Some chosen) None = false
 
--- whether a line is shown of a processor's step, or one that concerns the chosen processor
+-- whether a line is shown of a processor's step, or one that concerns the chosen processor: none where only loads and
+-- stores are
 abbrev pub shows : Options → Option ℕ → Bool → Bool
-shows options cpu concerned = options.shown && (is_chosen options.cpu cpu || concerned)
+shows options cpu concerned = options.shown && not options.touching && (is_chosen options.cpu cpu || concerned)
+
+-- A load or a store is of one of these words, or of a part of one. (An SC that doesn't store is one, too.)
+abbrev pub touches : List ℕ → Option Access → Bool
+touches words None = false
+touches words (Some access) = list_any (λ word. word == aligned access.address) words
+
+-- whether a line is wanted of an instruction: of each; or just of each that loads or stores one of these words
+abbrev pub wants : Options → List ℕ → Instruction → Bool
+wants options words it = if options.touching then touches words it.access else options.instructions
+
+-- whether the line of an instruction of a processor is shown
+abbrev pub shows_instruction : Options → List ℕ → Option ℕ → Instruction → Bool
+shows_instruction options words cpu it = options.shown && is_chosen options.cpu cpu && wants options words it
+
+-- whether lines of instructions may be shown
+abbrev pub may_list : Options → Bool
+may_list options = options.shown && (options.instructions || options.touching)
 
 -- ---- lines
 
@@ -104,23 +124,27 @@ pub record TellsNothing (old new : Printer) (text : List ℕ) : Type 0 where
   pub same : new ≡ old
   pub none : text ≡ []
 
+-- how an instruction is told of: where only loads and stores are shown, with what a store has written over
+abbrev pub form_of : Manner → Options → Form
+form_of manner options = record { names = manner.names; order = manner.order; old = options.touching }
+
 -- the line of an instruction that was done is put at the end
 pub record PutsInstruction (manner : Manner) (position : ℕ) (told : Happening) (it : Instruction) (old new : Printer)
     (text : List ℕ) : Type 0 where
   pub what : List ℕ
-  pub is_told : IsToldOf manner.names manner.order (unwrap_or told.place 0) it what
+  pub is_told : IsToldOf (form_of manner old.options) (unwrap_or told.place 0) it what
   pub printer : new ≡ with_held old None
   pub line :
       text ≡ held_text manner.names.symbols.now old.held ++ told_text manner.names.symbols.now position told what
 
-abbrev pub shows_instruction : Options → Happening → Bool
-shows_instruction options told = shows options told.cpu false && options.instructions
-
 -- of an instruction the line is told that says all that it did, if it is shown
 pub record TellsInstruction (manner : Manner) (position : ℕ) (told : Happening) (it : Instruction) (old new : Printer)
     (text : List ℕ) : Type 0 where
-  pub shown : shows_instruction old.options told ≡ true → PutsInstruction manner position told it old new text
-  pub hidden : shows_instruction old.options told ≡ false → TellsNothing old new text
+  pub shown :
+      shows_instruction old.options manner.words.now told.cpu it ≡ true
+      → PutsInstruction manner position told it old new text
+  pub hidden :
+      shows_instruction old.options manner.words.now told.cpu it ≡ false → TellsNothing old new text
 
 -- of events that change nothing one line is told, when another line comes
 pub record TellsQuiet (symbols : List Symbol) (more : Stretch) (old new : Printer) (text : List ℕ) : Type 0 where
@@ -173,7 +197,7 @@ is_ran _ = false
 -- ---- the first line
 
 abbrev pub shown : Options → Options
-shown options = record { cpu = options.cpu; instructions = options.instructions; shown = true; lines = options.lines }
+shown options = record options { shown = true }
 
 -- from here on lines are shown, and nothing is held back
 abbrev pub shown_by : Options → Printer

@@ -13,35 +13,40 @@ use brd_listing::{write_instruction, write_register};
 use brd_text::hex_digits;
 use brd_word::Order;
 
+/// How an instruction is told of.
+#[derive(Clone, Copy)]
+pub(crate) struct Form<'a> {
+    /// What names addresses.
+    pub names: Names<'a>,
+    /// In which order the bytes of words lie.
+    pub order: Order,
+    /// Whether it is told what a store has written over.
+    pub old: bool,
+}
+
 /// Puts at the end an instruction that was done, and what it did.
 pub(crate) fn put_done(
-    names: Names,
-    order: Order,
+    form: Form,
     address: u32,
     it: &Instruction,
     out: &mut Vec<u8>,
 ) -> Result<(), NoMemory>
     ensures { IfOk result
-        (λ _. IsBehind (effects.IsToldOf names.entry order address it.now) out.old.items out.new.items) }
+        (λ _. IsBehind (effects.IsToldOf form.entry address it.now) out.old.items out.new.items) }
 {
     write_instruction(&it.insn, address, out)?;
-    put_effect(names, order, it, out)
+    put_effect(form, it, out)
 }
 
 /// Puts at the end what an instruction did.
-fn put_effect(
-    names: Names,
-    order: Order,
-    it: &Instruction,
-    out: &mut Vec<u8>,
-) -> Result<(), NoMemory>
-    ensures { OnOk result (out.new.items ≡ out.old.items ++ effects.effect_text names.entry order it.now) }
+fn put_effect(form: Form, it: &Instruction, out: &mut Vec<u8>) -> Result<(), NoMemory>
+    ensures { OnOk result (out.new.items ≡ out.old.items ++ effects.effect_text form.entry it.now) }
 {
     put_register(out, it.register)?;
     put_word_written(out, "hi", it.hi)?;
     put_word_written(out, "lo", it.lo)?;
-    put_access(names, order, part_of(&it.insn), it.access, out)?;
-    put_jump(names, is_branch(&it.insn), it.jump, out)?;
+    put_access(form, part_of(&it.insn), it.access, out)?;
+    put_jump(form.names, is_branch(&it.insn), it.jump, out)?;
     put_slot(it.in_slot, out)
 }
 
@@ -100,19 +105,49 @@ pub(crate) enum Part {
 
 /// Puts at the end what of memory an instruction loaded or stored, and whether an SC has stored.
 fn put_access(
-    names: Names,
-    order: Order,
+    form: Form,
     part: Part,
     access: Option<Access>,
     out: &mut Vec<u8>,
 ) -> Result<(), NoMemory>
-    ensures { OnOk result (out.new.items ≡ out.old.items ++ effects.access_text names.entry order part access) }
+    ensures { OnOk result (out.new.items ≡ out.old.items ++ effects.access_text form.entry part access) }
 {
     let Some(it) = access else {
         return Ok(());
     };
-    put_cell(names, order, part, it.address, it.word, out)?;
+    put_cell(form.names, form.order, part, it.address, it.word, out)?;
+    if form.old && stores(it.kind) {
+        put_old(form.order, part, it.address, it.word, out)?;
+    }
     put_outcome(it.kind, out)
+}
+
+/// Whether an instruction has stored.
+fn stores(kind: AccessKind) -> bool
+    ensures { result ≡ effects.stores kind }
+{
+    match kind {
+        AccessKind::Loads => false,
+        AccessKind::Stores => true,
+        AccessKind::StoresIfLinked(stored) => stored,
+    }
+}
+
+/// Puts at the end the part of memory in which an address lies, as it was before the event.
+fn put_old(
+    order: Order,
+    part: Part,
+    address: u32,
+    word: Option<Change>,
+    out: &mut Vec<u8>,
+) -> Result<(), NoMemory>
+    ensures { OnOk result (out.new.items ≡ out.old.items ++ effects.old_text order part address word) }
+{
+    let Some(word) = word else {
+        return Ok(());
+    };
+    put(out, ", was ")?;
+    put_digits(order, part, address, word.old, out)
 }
 
 /// Puts at the end the part of memory in which an address lies, as it is after the event: its address, and its digits.

@@ -4,12 +4,12 @@ ghost use Rattle.std.specs.Prelude.{◌≡◌, ◌++◌, None, OnOk, IfOk};
 ghost use Rattle.brd_listing.specs.Listing.{IsBehind};
 ghost use Rattle.brd_trace.specs.Telling as telling;
 
-use crate::effect::put_done;
+use crate::effect::{Form, put_done};
 use crate::line::Heading;
 use crate::names::Names;
 use crate::quiet::{Quiet, Stretch};
 use brd_base::NoMemory;
-use brd_happening::{Happening, Instruction};
+use brd_happening::{Access, Happening, Instruction};
 use brd_word::Order;
 use std::alloc::Global;
 
@@ -20,6 +20,8 @@ pub struct Options {
     pub cpu: Option<u8>,
     /// A line for each instruction, too.
     pub instructions: bool,
+    /// Only lines of instructions that load or store one of the words that the manner has, and of each of these.
+    pub touching: bool,
     /// Whether lines are shown yet.
     pub shown: bool,
     /// The processor that handles each interrupt line; 0 where none does.
@@ -33,6 +35,8 @@ pub struct Manner<'a> {
     pub names: Names<'a>,
     /// In which order the bytes of words lie.
     pub order: Order,
+    /// The words of which loads and stores are shown where only these are, by their aligned addresses.
+    pub words: &'a [u32],
 }
 
 /// What is shown, and the events of which the line isn't made yet, since more may come of the same kind.
@@ -68,12 +72,16 @@ impl Printer {
         ensures { IfOk result (λ _. IsBehind (telling.TellsInstruction manner.entry position told.now instruction.now
             self.old self.new) out.old.items out.new.items) }
     {
-        if !self.shows_instruction(told) {
+        if !self.shows_instruction(manner.words, told.cpu, instruction) {
             return Ok(());
         }
         let mut what = Vec::new(alloc);
-        let place = told.place.unwrap_or(0);
-        put_done(manner.names, manner.order, place, instruction, &mut what)?;
+        let form = Form {
+            names: manner.names,
+            order: manner.order,
+            old: self.options.touching,
+        };
+        put_done(form, told.place.unwrap_or(0), instruction, &mut what)?;
         self.put_line(alloc, manner, position, told, what.as_slice(), out)?;
         Ok(())
     }
@@ -166,18 +174,37 @@ impl Printer {
         heading.put_line(alloc, names, what.as_slice(), out)
     }
 
-    /// Whether the trace shows the line of an instruction.
-    fn shows_instruction(&self, told: &Happening) -> bool
-        ensures { result ≡ telling.shows_instruction self.now.options told.now }
+    /// Whether the trace shows the line of an instruction of a processor.
+    fn shows_instruction(&self, words: &[u32], cpu: Option<u8>, it: &Instruction) -> bool
+        ensures { result ≡ telling.shows_instruction self.now.options words.now cpu it.now }
     {
-        self.shows(told.cpu, false) && self.options.instructions
+        self.options.shown && is_chosen(self.options.cpu, cpu) && self.wants(words, it)
+    }
+
+    /// Whether a line is wanted of an instruction.
+    fn wants(&self, words: &[u32], it: &Instruction) -> bool
+        ensures { result ≡ telling.wants self.now.options words.now it.now }
+    {
+        if self.options.touching {
+            return touches(words, it.access);
+        }
+        self.options.instructions
+    }
+
+    /// Whether lines of instructions may be shown.
+    pub(crate) fn may_list(&self) -> bool
+        ensures { result ≡ telling.may_list self.now.options }
+    {
+        self.options.shown && (self.options.instructions || self.options.touching)
     }
 
     /// Whether the trace shows a line of a processor's step, or one that concerns the chosen processor.
     fn shows(&self, cpu: Option<u8>, concerned: bool) -> bool
         ensures { result ≡ telling.shows self.now.options cpu concerned }
     {
-        self.options.shown && (is_chosen(self.options.cpu, cpu) || concerned)
+        self.options.shown
+            && !self.options.touching
+            && (is_chosen(self.options.cpu, cpu) || concerned)
     }
 }
 
@@ -188,6 +215,16 @@ pub(crate) struct Said {
     pub what: Vec<u8>,
     /// Whether the chosen processor runs somebody else from then on.
     pub concerned: bool,
+}
+
+/// Whether a load or a store is of one of these words, or of a part of one.
+fn touches(words: &[u32], access: Option<Access>) -> bool
+    ensures { result ≡ telling.touches words.now access }
+{
+    match access {
+        Some(access) => words.contains(&(access.address - access.address % 4)),
+        None => false,
+    }
 }
 
 /// Whether a processor is chosen, or all are.

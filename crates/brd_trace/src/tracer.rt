@@ -9,6 +9,7 @@ ghost use Rattle.std.specs.Prelude.{
   ◌^◌,
   ◌&&◌,
   not,
+  [],
   List as ListOf,
   length,
   IfOk,
@@ -22,6 +23,7 @@ ghost use Rattle.brd_board.specs.Board.{BoardState as BoardOf};
 ghost use Rattle.brd_journal.specs.Playing.{IsPlayed};
 ghost use Rattle.brd_journal.specs.Runs.{ComesBehind};
 ghost use Rattle.brd_listing.specs.Listing.{IsBehind};
+ghost use Rattle.brd_trace.specs.declared.printer.Manner.{Manner as MannerOf};
 ghost use Rattle.brd_trace.specs.Quiets.{quiet_of};
 ghost use Rattle.brd_trace.specs.Telling.{
   held_text,
@@ -34,6 +36,7 @@ ghost use Rattle.brd_trace.specs.Telling.{
   instruction_in,
   is_untold,
   is_ran,
+  may_list,
   shown,
   shown_by,
   IsFirstLine,
@@ -113,6 +116,60 @@ impl Tracer {
         self.advance_in(alloc, manner, rest, to, out)
     }
 
+    /// Does the next events of a journal, up to a position, and puts their lines at the end: many of which nothing is
+    /// told, or one, with those of its run after it that do nothing.
+    fn advance_some(
+        &mut self,
+        alloc: Global,
+        manner: Manner,
+        journal: &Journal,
+        to: u64,
+        out: &mut Vec<u8>,
+    ) -> Result<(), NoMemory>
+        requires on { self.old.playback.at ≤ to }
+        requires within { to ≤ length journal.now.events }
+        ensures at { self.new.playback.at ≤ to }
+        ensures goes { self.old.playback.at < to → self.old.playback.at < self.new.playback.at }
+        ensures played { (boot : BoardOf) → IsPlayed boot journal.now.events self.old.playback
+            → IsPlayed boot journal.now.events self.new.playback }
+        ensures told { (boot : BoardOf) → IsPlayed boot journal.now.events self.old.playback
+            → IfOk result (λ _. IsBehind
+            (IsTrace manner.entry boot journal.now.events self.old.playback.at self.new.playback.at self.old.printer
+            self.new.printer) out.old.items out.new.items) }
+    {
+        let Some(rest) = next_of(&self.playback, journal, to, &mut self.near) else {
+            return Ok(());
+        };
+        if self.pass(rest, to) > 0 {
+            return Ok(());
+        }
+        self.advance_in(alloc, manner, rest, to, out)
+    }
+
+    /// Does the next events of what is left of a run, up to a position, of which nothing is told: where instructions
+    /// aren't shown, many that are ordinary ones. Answers how many it did.
+    fn pass(&mut self, rest: Run, to: u64) -> u64
+        requires on { self.old.playback.at ≤ to }
+        ensures at { self.new.playback.at ≡ self.old.playback.at + result }
+        ensures to { self.new.playback.at ≤ to }
+        ensures none { result ≡ 0 → self.new.playback ≡ self.old.playback }
+        ensures notes { self.new.notes ≡ self.old.notes }
+        ensures printer { self.new.printer ≡ self.old.printer }
+        ensures played { (boot : BoardOf) (events : ListOf EventOf) → to ≤ length events
+            → ComesBehind events self.old.playback.at rest → IsPlayed boot events self.old.playback
+            → IsPlayed boot events self.new.playback }
+        // What is told of each of them is nothing.
+        ensures told { (manner : MannerOf) (boot : BoardOf) (events : ListOf EventOf)
+            → ComesBehind events self.old.playback.at rest → IsPlayed boot events self.old.playback
+            → IsTrace manner boot events self.old.playback.at self.new.playback.at self.old.printer
+            self.new.printer [] }
+    {
+        if self.printer.may_list() {
+            return 0;
+        }
+        self.playback.go_on(rest, to)
+    }
+
     /// Does the next event of what is left of a run, and those after it that do nothing, up to a position, and puts
     /// their lines at the end.
     fn advance_in(
@@ -155,9 +212,9 @@ impl Tracer {
 
     /// Whether nothing is told of an event that reports this: it is an ordinary instruction, and those aren't shown.
     fn passes(&self, report: Report) -> bool
-        ensures { result ≡ not self.now.printer.options.instructions && is_ran report }
+        ensures { result ≡ not (may_list self.now.printer.options) && is_ran report }
     {
-        !self.printer.options.instructions && is_ran(report)
+        !self.printer.may_list() && is_ran(report)
     }
 
     /// Puts at the end what is told of an event, and of those after it that do nothing.
@@ -311,7 +368,7 @@ impl Tracer {
             self.new.printer) out.old.items out.new.items) }
     {
         while self.playback.at < to {
-            self.advance(alloc, manner, journal, to, out)?;
+            self.advance_some(alloc, manner, journal, to, out)?;
             if out.len() >= ENOUGH {
                 break;
             }
@@ -430,6 +487,7 @@ fn shown(options: Options) -> Options
     Options {
         cpu: options.cpu,
         instructions: options.instructions,
+        touching: options.touching,
         shown: true,
         lines,
     }

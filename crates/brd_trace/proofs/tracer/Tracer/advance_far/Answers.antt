@@ -1,4 +1,4 @@
-use Rattle.std.proofs.Common.{rules, le_refl, arith}
+use Rattle.std.proofs.Common.{le_refl, arith}
 use Rattle.brd_trace.proofs.TraceLemmas.{puts_nothing, puts_on}
 use Rattle.brd_trace.proofs.tracer.Tracer.advance_far.Goals as goal
 
@@ -13,17 +13,17 @@ loop-self-init c = record {
 
 pub loop-self-preserved : goal.loop-self-preserved
 loop-self-preserved c = record {
-  on = c.advance.ensures.at;
-  above = omega (arith, c.loop-self.invariant.above, c.advance.ensures.goes c.loop-self-test.true);
-  played = λ boot is. c.advance.ensures.played boot (c.loop-self.invariant.played boot is);
+  on = c.advance_some.ensures.at;
+  above = omega (arith, c.loop-self.invariant.above, c.advance_some.ensures.goes c.loop-self-test.true);
+  played = λ boot is. c.advance_some.ensures.played boot (c.loop-self.invariant.played boot is);
   told = λ boot is.
-      puts_on c.args.manner boot c.args.journal.now.events c.args.self.now.playback.at c.loop-self.self.playback.at c.advance.new.self.playback.at
-      c.args.self.now.printer c.loop-self.self.printer c.advance.new.self.printer c.args.out.now.items c.loop-self.out.items c.advance.new.out.items
-      (c.loop-self.invariant.told boot is) (c.in_ok-advance.ensures.told boot (c.loop-self.invariant.played boot is));
+      puts_on c.args.manner boot c.args.journal.now.events c.args.self.now.playback.at c.loop-self.self.playback.at c.advance_some.new.self.playback.at
+      c.args.self.now.printer c.loop-self.self.printer c.advance_some.new.self.printer c.args.out.now.items c.loop-self.out.items c.advance_some.new.out.items
+      (c.loop-self.invariant.told boot is) (c.in_ok-advance_some.ensures.told boot (c.loop-self.invariant.played boot is));
 }
 
 pub returns-then-len-ge-ENOUGH-clause-told : goal.returns-then-len-ge-ENOUGH-clause-told
 returns-then-len-ge-ENOUGH-clause-told c = λ boot is.
-    puts_on c.args.manner boot c.args.journal.now.events c.args.self.now.playback.at c.loop-self.self.playback.at c.advance.new.self.playback.at
-    c.args.self.now.printer c.loop-self.self.printer c.advance.new.self.printer c.args.out.now.items c.loop-self.out.items c.advance.new.out.items
-    (c.loop-self.invariant.told boot is) (c.in_ok-advance.ensures.told boot (c.loop-self.invariant.played boot is))
+    puts_on c.args.manner boot c.args.journal.now.events c.args.self.now.playback.at c.loop-self.self.playback.at c.advance_some.new.self.playback.at
+    c.args.self.now.printer c.loop-self.self.printer c.advance_some.new.self.printer c.args.out.now.items c.loop-self.out.items c.advance_some.new.out.items
+    (c.loop-self.invariant.told boot is) (c.in_ok-advance_some.ensures.told boot (c.loop-self.invariant.played boot is))

@@ -1,6 +1,4 @@
-use Rattle.std.proofs.Common.{rules, ◌≡◌, ◌+◌, ◌<◌, ◌≤◌, true, false, sym, ap, ◌∙◌, subst, arith}
-use Rattle.std.specs.Prelude.{Some, slice_get}
-use Rattle.std.proofs.lemmas.Grind.{common_steps}
+use Rattle.std.proofs.Common.{◌≡◌, ◌+◌, ◌<◌, true, false, sym, ap, ◌∙◌, subst, arith}
 use Rattle.brd_board.specs.Board.{happens}
 use Rattle.brd_happening.specs.declared.happening.Happening.{Happening}
 use Rattle.brd_journal.specs.declared.playback.Playback.{Playback}
@@ -8,8 +6,8 @@ use Rattle.brd_journal.specs.Playing.{AreStill, board_at, IsPlayed}
 use Rattle.brd_journal.specs.Still.{does_no_more}
 use Rattle.brd_journal.proofs.PlayingLemmas.{first-board}
 use Rattle.brd_journal.proofs.RestLemmas.{rest_some}
-use Rattle.brd_trace.specs.Telling.{is_ran, happening_with, Tells}
-use Rattle.brd_trace.proofs.RanLemmas.{ran_hidden, told_is}
+use Rattle.brd_trace.specs.Telling.{is_ran, may_list, happening_with, Tells}
+use Rattle.brd_trace.proofs.RanLemmas.{passes_both, ran_hidden, told_is}
 use Rattle.brd_trace.proofs.TraceLemmas.{puts_one, puts_hidden}
 use Rattle.brd_trace.proofs.tracer.Tracer.advance_in.Goals as goal
 
@@ -19,8 +17,9 @@ returns-then-passes-clause-told c = λ boot events within comes is.
     let event = c.args.rest.event in
     let printer = c.args.self.now.printer in
     let goes = c.advance-moved.ensures.goes in
-    let ran : is_ran c.advance-moved.result.report ≡ true = grind (arith, common_steps) in
-    let off : printer.options.instructions ≡ false = grind (arith, common_steps) in
+    let both = passes_both (may_list printer.options) (is_ran c.advance-moved.result.report) (sym c.passes.ensures ∙ c.if-passes.true) in
+    let ran : is_ran c.advance-moved.result.report ≡ true = both.1 in
+    let off : may_list printer.options ≡ false = both.0 in
     let told_ran : is_ran (happens c.args.self.now.playback.board event).report ≡ true = ap is_ran (sym c.advance-moved.ensures.report) ∙ ran in
     let same : c.args.self.now.playback.board ≡ board_at boot events position = is.board in
     puts_hidden c.args.manner boot events position c.advance-moved.result.count _ printer c.args.out.now.items goes.2

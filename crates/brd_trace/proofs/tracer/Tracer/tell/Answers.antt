@@ -1,6 +1,5 @@
-use Rattle.std.proofs.Common.{rules, ◌≡◌, true, false, sym, ◌∙◌, arith}
+use Rattle.std.proofs.Common.{rules, ◌≡◌, true, false, sym, ◌∙◌}
 use Rattle.std.specs.Prelude.{Some, None}
-use Rattle.std.proofs.lemmas.Grind.{common_steps}
 use Rattle.brd_trace.specs.Telling.{instruction_in, is_untold}
 use Rattle.brd_trace.proofs.PutLemmas.{an_instruction, another, untold}
 use Rattle.brd_trace.proofs.tracer.Tracer.tell.Goals as goal

@@ -1,4 +1,4 @@
-use Rattle.std.proofs.Common.{rules, ◌≡◌, true, false, sym, ◌∙◌, arith}
+use Rattle.std.proofs.Common.{rules, ◌≡◌, sym, ◌∙◌}
 use Rattle.std.specs.Prelude.{Some, None}
 use Rattle.brd_trace.specs.Quiets.{quiet_of}
 use Rattle.brd_trace.proofs.PutLemmas.{quiet_events, other_line}

@@ -1,0 +1,18 @@
+use Rattle.std.proofs.Common.{ℕ, ◌≡◌, [], false, sym, subst, arith}
+use Rattle.std.proofs.lemmas.Grind.{common_steps}
+use Rattle.brd_trace.specs.Telling.{IsTrace, may_list}
+use Rattle.brd_trace.proofs.RanLemmas.{all_hidden, none_done}
+use Rattle.brd_trace.proofs.tracer.Tracer.pass.Goals as goal
+
+pub returns-clause-none : goal.returns-clause-none
+returns-clause-none c =
+    none_done c.args.self.now.playback c.go_on.new.self c.args.rest.event c.go_on.result c.go_on.ensures.board c.go_on.ensures.at
+
+pub returns-clause-told : goal.returns-clause-told
+returns-clause-told c = λ manner boot events comes is.
+    let playback = c.args.self.now.playback in
+    let printer = c.args.self.now.printer in
+    let off : may_list printer.options ≡ false = grind (arith, common_steps) in
+    subst (λ (to : ℕ). IsTrace manner boot events playback.at to printer printer []) (sym c.go_on.ensures.at)
+    (all_hidden manner boot playback.board events playback.at c.args.rest c.go_on.result printer comes is.board c.go_on.ensures.ran
+    c.go_on.ensures.few off)

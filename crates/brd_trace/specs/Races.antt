@@ -1,0 +1,34 @@
+-- Data races in words: a line for each, with the word and both touches, and one that says how many words have one.
+use Rattle.std.specs.Prelude.{◌-◌, ℕ, nat_lt, if◌then◌else◌, List, ◌++◌, length, codes}
+use Rattle.std.specs.List.{flat_map}
+use Rattle.brd_order.specs.declared.deed.{Touch.Touch, Mark.Mark, Race.Race}
+use Rattle.brd_trace.specs.declared.names.Names.{Names}
+use Rattle.brd_trace.specs.Lines.{named_text, count_text}
+use Rattle.brd_trace.specs.Effects.{both_text, datum_text}
+
+-- a task's strand is its ID, a handler's 256 and its line
+abbrev pub strand_text : ℕ → List ℕ
+strand_text strand =
+    if nat_lt strand 256 then named_text (codes "task") strand else named_text (codes "handler") (strand - 256)
+
+abbrev pub touch_text : Touch → List ℕ
+touch_text touch =
+    if touch.stores then (if touch.linked then codes ", stores by SC" else codes ", stores")
+    else (if touch.linked then codes ", loads by LL" else codes ", loads")
+
+abbrev pub mark_text : Names → Mark → List ℕ
+mark_text names mark =
+    named_text (codes "event") mark.event ++ codes ", " ++ strand_text mark.strand ++ codes " at "
+    ++ both_text names.symbols.now mark.place ++ touch_text mark.touch
+
+abbrev pub marks_text : Names → Race → List ℕ
+marks_text names race =
+    codes ": " ++ mark_text names race.earlier ++ codes "; " ++ mark_text names race.later ++ codes "\n"
+
+abbrev pub race_text : Names → Race → List ℕ
+race_text names race =
+    codes "race at " ++ datum_text names.symbols.now names.segments.now race.later.touch.word ++ marks_text names race
+
+abbrev pub races_text : Names → List Race → List ℕ
+races_text names races =
+    flat_map (race_text names) races ++ codes "races: " ++ count_text (length races) (codes "word") ++ codes "\n"
