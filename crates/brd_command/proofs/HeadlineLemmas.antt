@@ -52,7 +52,7 @@ starts source elf config board object h =
     subst (λ (bytes : List ℕ). Starts source bytes config board) (sym object.is_file)
     (fitting.starts source elf config object.image (Ok board) again boots)
 
-headline : (source elf config : List ℕ) (events : List Event) (start : BoardState) → IsObjectFile source elf
+pub headline : (source elf config : List ℕ) (events : List Event) (start : BoardState) → IsObjectFile source elf
     → loaded elf config ≡ Ok start → Headline source elf config events (after start events)
 headline source elf config events start object h =
     record { start = start; starts = starts source elf config start object h; is_after = refl }

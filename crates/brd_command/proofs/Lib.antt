@@ -14,3 +14,4 @@ pub mod JournalLemmas
 pub mod TurnsLemmas
 pub mod ExploreLemmas
 pub mod ShrinkLemmas
+pub mod TryLemmas

@@ -1,5 +1,5 @@
 -- A trace of what was read.
-use Rattle.std.proofs.Common.{rules, ◌≡◌, ℕ, ◌≤◌, Bool, false, List, [], ◌++◌, length, inl, refl, sym, ap, ◌∙◌, subst, arith}
+use Rattle.std.proofs.Common.{rules, ◌≡◌, ℕ, ◌≤◌, Bool, true, false, List, [], ◌++◌, length, inl, refl, sym, ap, ◌∙◌, subst, arith}
 use Rattle.std.specs.Bool.{MatchBool}
 use Rattle.std.specs.Prelude.{Option, Some, None, IfSome, Result, Ok, Err, MatchResult, codes}
 use Rattle.std.specs.Io.KnownBytes.{Appends}
@@ -17,11 +17,24 @@ use Rattle.brd_command.specs.declared.trace_command.Part.{Part}
 use Rattle.brd_command.specs.declared.trace_options.TraceFormat.{TraceFormat}
 use Rattle.brd_command.specs.declared.trace_options.TraceFormat.TheVariants.{Text}
 use Rattle.brd_command.specs.TraceCommand.{EndsTracing, IsOfWriting, TraceEnds, WritesFirst, WritesLines, WritesTold, WritesTrace}
-use Rattle.brd_command.specs.TraceCommand.{IsPart, IsMannerOf, IsShown, WritesForm, first_of, end_of, head}
+use Rattle.brd_command.specs.TraceCommand.{IsPart, IsMannerOf, IsShown, WritesForm, first_of, end_of, head, words_asked}
+use Rattle.brd_command.specs.TraceCommand.{EndsRacing, KeepsFromTracing, WritesAllRaces, WritesShown}
+use Rattle.brd_command.specs.RacesCommand.{WritesRaces}
+use Rattle.brd_trace.specs.declared.names.Names.{Names}
+use Rattle.brd_inputs.specs.declared.trace_fault.TraceFault.{TraceFault}
 use Rattle.brd_inputs.specs.declared.fault.CommandFault.{CommandFault}
 use Rattle.brd_inputs.specs.declared.start.Start.{Start}
 use Rattle.brd_command.specs.declared.trace_options.TraceOptions.{TraceOptions}
 use Rattle.brd_report.proofs.OutputLemmas.{nothing_yet, one_more}
+use Rattle.brd_mem.specs.declared.image.Symbol.{Symbol}
+use Rattle.brd_inputs.specs.declared.trace_fault.TraceFault.{TraceFault}
+use Rattle.brd_inputs.specs.declared.trace_fault.TraceFault.TheVariants as trace
+use Rattle.brd_trace.specs.Words as words
+use Rattle.brd_trace.specs.Words.{words_of}
+use Rattle.brd_trace.specs.declared.words.WordsFault.{WordsFault}
+use Rattle.brd_trace.specs.declared.words.WordsFault.TheVariants as no
+use Rattle.brd_command.specs.TraceCommand.{IsOfWords, KeepsFromAsking, of_words}
+use Rattle.brd_command.proofs.RaceLemmas.{keeps}
 
 pub traced : (it : Start) (result : Result Unit CommandFault) (options : TraceOptions) (old new : Option (List ℕ)) (image config text : Option (List ℕ))
     → IfSome image (λ i. IfSome config (λ c. IfSome text (λ j. AreWithin i c j × IsStart i c j it)))
@@ -107,13 +120,13 @@ of_writing (fault.Write a) options start old new of = tt
 
 -- lines were written, which the options ask for
 pub text-ends : (start : Start) (options : TraceOptions) (part : Part) (manner : Manner) (first : Printer) (old new : Option (List ℕ))
-    (result : Result Unit CommandFault) → IsPart options (length start.journal.events) part → part.format ≡ Text → options.summary ≡ false
-    → IsMannerOf start.image manner → IsShown options first
+    (result : Result Unit CommandFault) → IsPart options (length start.journal.events) part → part.format ≡ Text → options.races ≡ false → options.summary ≡ false
+    → IsMannerOf start.image (words_asked options start) manner → IsShown options first
     → MatchResult result
     (λ _. WritesLines head manner start.board start.journal.events part.from part.to first old new) IsOfWriting
     → EndsTracing result options start old new
-text-ends start options part manner first old new (Err fault) is text lines made shown of = of_writing fault options start old new of
-text-ends start options part manner first old new (Ok done) is text lines made shown written =
+text-ends start options part manner first old new (Err fault) is text races lines made shown of = of_writing fault options start old new of
+text-ends start options part manner first old new (Ok done) is text races lines made shown written =
     let len = length start.journal.events in
     let from_there = subst (λ (n : ℕ). WritesLines head manner start.board start.journal.events n part.to first old new) is.from written in
     let both = subst (λ (n : ℕ). WritesLines head manner start.board start.journal.events (first_of options) n first old new) is.to from_there in
@@ -122,9 +135,52 @@ text-ends start options part manner first old new (Ok done) is text lines made s
     let ordered : first_of options ≤ end_of options len = subst (λ (n : ℕ). n ≤ end_of options len) is.from
     (subst (λ (n : ℕ). part.from ≤ n) is.to is.ordered) in (
       ordered,
-      subst (λ (b : Bool). MatchBool b (WritesFirst (EndsWith (codes "\n")) old new) (WritesForm options.format start options old new)) (sym lines)
-          (subst (λ (f : Option TraceFormat). WritesForm f start options old new) (sym (is.format ∙ ap Some text)) trace),
+      subst (λ (b : Bool). MatchBool b (WritesAllRaces start options old new) (WritesShown start options old new)) (sym races)
+          (subst (λ (b : Bool). MatchBool b (WritesFirst (EndsWith (codes "\n")) old new) (WritesForm options.format start options old new)) (sym lines)
+          (subst (λ (f : Option TraceFormat). WritesForm f start options old new) (sym (is.format ∙ ap Some text)) trace)),
     )
+
+-- races were looked for, as the options ask
+
+of_racing : (fault : CommandFault) (options : TraceOptions) (start : Start) (names : Names) (to : ℕ) (old new : Option (List ℕ)) → options.races ≡ true
+    → EndsRacing (Err fault) names start.board start.journal.events to old new → EndsTracing (Err fault) options start old new
+of_racing fault.NoMemory options start names to old new races of = tt
+of_racing fault.Argument options start names to old new races of = absurd of
+of_racing (fault.Words a) options start names to old new races of = absurd of
+of_racing (fault.Source a b c) options start names to old new races of = absurd of
+of_racing fault.ImageTooLarge options start names to old new races of = absurd of
+of_racing (fault.Open a b) options start names to old new races of = absurd of
+of_racing (fault.Read a b) options start names to old new races of = absurd of
+of_racing (fault.TooLong a) options start names to old new races of = absurd of
+of_racing (fault.TooManyReads a) options start names to old new races of = absurd of
+of_racing (fault.Build a b) options start names to old new races of = absurd of
+of_racing (fault.Journal a b) options start names to old new races of = absurd of
+of_racing (fault.OtherOrder a) options start names to old new races of = absurd of
+of_racing (fault.Script a b) options start names to old new races of = absurd of
+of_racing (fault.Race a) options start names to old new races of = absurd of
+of_racing (fault.Trace a) options start names to old new races of =
+    (subst (λ (f : TraceFault). KeepsFromTracing options start f) (sym of.0) races, of.1)
+of_racing (fault.Schedule a) options start names to old new races of = absurd of
+of_racing (fault.Search a) options start names to old new races of = absurd of
+of_racing fault.Fails options start names to old new races of = absurd of
+of_racing fault.Passes options start names to old new races of = absurd of
+of_racing (fault.Write a) options start names to old new races of = tt
+
+pub races-end : (start : Start) (options : TraceOptions) (part : Part) (names : Names) (old new : Option (List ℕ)) (result : Result Unit CommandFault) →
+    IsPart options (length start.journal.events) part → options.races ≡ true → names.symbols.now ≡ start.image.symbols → names.segments.now ≡ start.image.segments →
+    EndsRacing result names start.board start.journal.events part.to old new → EndsTracing result options start old new
+races-end start options part names old new (Err fault) is races symbols segments ends = of_racing fault options start names part.to old new races ends
+races-end start options part names old new (Ok done) is races symbols segments ends =
+    let len = length start.journal.events in
+    let ordered : first_of options ≤ end_of options len = subst (λ (n : ℕ). n ≤ end_of options len) is.from
+    (subst (λ (n : ℕ). part.from ≤ n) is.to is.ordered) in
+    let all : WritesAllRaces start options old new = record {
+      names = names;
+      symbols = symbols;
+      segments = segments;
+      races = subst (λ (n : ℕ). WritesRaces names start.board start.journal.events n old new) is.to ends;
+    } in
+    (ordered, subst (λ (b : Bool). MatchBool b (WritesAllRaces start options old new) (WritesShown start options old new)) (sym races) all)
 
 -- a board to which nothing has happened has played no events
 pub begins : (events : List Event) (p : Playback) → p.at ≡ 0 → IsPlayed p.board events p
@@ -138,3 +194,55 @@ module _ (IsFirst : List ℕ → Type 0) (old mid new : Option (List ℕ)) (firs
   first-last bytes (Ok done) more =
       record { first = first; rest = bytes; is_first = is; written = one_more old mid new first bytes written more }
   first-last bytes (Err fault) of = of
+
+-- ---- words
+
+-- the fault of words is told as theirs
+pub words_fault : (symbols : List Symbol) (board : BoardState) (text : List ℕ) (fault : WordsFault)
+    → words.IsOfWords symbols board text fault → IsOfWords (words_of symbols board text) (of_words fault)
+words_fault symbols board text no.NoMemory of = tt
+words_fault symbols board text no.NoSymbol of = of
+words_fault symbols board text no.NoWord of = of
+
+-- Where the options give no trace, or name no words, nothing is written.
+
+pub not_asked : (cause : TraceFault) (options : TraceOptions) (start : Start) (known : Option (List ℕ))
+    → KeepsFromAsking options (length start.journal.events) cause → EndsTracing (Err (fault.Trace cause)) options start known known
+not_asked trace.NoSuchFormat options start known is = (is, keeps known)
+not_asked (trace.NoEvents from to all) options start known is = (is, keeps known)
+not_asked trace.NoSymbol options start known is = absurd is
+not_asked trace.NoWord options start known is = absurd is
+not_asked trace.TooMuch options start known is = absurd is
+not_asked trace.TooLong options start known is = absurd is
+not_asked trace.TooManySteps options start known is = absurd is
+not_asked trace.TooManyTouches options start known is = absurd is
+
+pub not_chosen : (fault : CommandFault) (options : TraceOptions) (start : Start) (known : Option (List ℕ))
+    → IsOfWords (words_asked options start) fault → EndsTracing (Err fault) options start known known
+not_chosen fault.NoMemory options start known of = tt
+not_chosen fault.Argument options start known of = absurd of
+not_chosen (fault.Words a) options start known of = absurd of
+not_chosen (fault.Source a b c) options start known of = absurd of
+not_chosen fault.ImageTooLarge options start known of = absurd of
+not_chosen (fault.Open a b) options start known of = absurd of
+not_chosen (fault.Read a b) options start known of = absurd of
+not_chosen (fault.TooLong a) options start known of = absurd of
+not_chosen (fault.TooManyReads a) options start known of = absurd of
+not_chosen (fault.Build a b) options start known of = absurd of
+not_chosen (fault.Journal a b) options start known of = absurd of
+not_chosen (fault.OtherOrder a) options start known of = absurd of
+not_chosen (fault.Script a b) options start known of = absurd of
+not_chosen (fault.Race a) options start known of = absurd of
+not_chosen (fault.Trace (trace.NoEvents a b c)) options start known of = absurd of
+not_chosen (fault.Trace trace.NoSuchFormat) options start known of = absurd of
+not_chosen (fault.Trace trace.NoSymbol) options start known of = (of, keeps known)
+not_chosen (fault.Trace trace.NoWord) options start known of = (of, keeps known)
+not_chosen (fault.Trace trace.TooMuch) options start known of = absurd of
+not_chosen (fault.Trace trace.TooLong) options start known of = absurd of
+not_chosen (fault.Trace trace.TooManySteps) options start known of = absurd of
+not_chosen (fault.Trace trace.TooManyTouches) options start known of = absurd of
+not_chosen (fault.Schedule a) options start known of = absurd of
+not_chosen (fault.Search a) options start known of = absurd of
+not_chosen fault.Fails options start known of = absurd of
+not_chosen fault.Passes options start known of = absurd of
+not_chosen (fault.Write a) options start known of = absurd of

@@ -13,6 +13,7 @@ pub mod Answers
 pub mod Debugging
 pub mod Serving
 pub mod GdbCommand
+pub mod RacesCommand
 pub mod TraceCommand
 pub mod Files
 pub mod Request
@@ -20,3 +21,4 @@ pub mod Laws
 pub mod Saving
 pub mod ExploreCommand
 pub mod ShrinkCommand
+pub mod TryCommand

@@ -8,18 +8,19 @@ use Rattle.brd_command.specs.ExploreCommand.{ExploreFilesEnd}
 use Rattle.brd_command.specs.GdbCommand.{GdbFilesEnd}
 use Rattle.brd_command.specs.JournalCommand.{JournalEnds}
 use Rattle.brd_command.specs.ShrinkCommand.{ShrinkFilesEnd}
+use Rattle.brd_command.specs.TryCommand.{TryFilesEnd}
 use Rattle.brd_command.specs.WordsCommand.{WordsEnds}
 use Rattle.brd_inputs.specs.declared.fault.CommandFault.{CommandFault}
 use Rattle.brd_command.specs.declared.request.Request.{Request}
 use Rattle.brd_command.specs.declared.request.Request.TheVariants.{Words, Asm, Run, Race, Debug, Trace, Journal}
-use Rattle.brd_command.specs.declared.request.Request.TheVariants.{Explore, Gdb, Shrink}
+use Rattle.brd_command.specs.declared.request.Request.TheVariants.{Explore, Gdb, Shrink, Try}
 
 module _ {F I O R W : Type 0}
     (opened : F → List ℕ → Result I Error → F → Type 0) (created : F → List ℕ → Result O Error → F → Type 0)
     (closed : F → O → F → Type 0) (remaining : I → Option (List ℕ)) (contents : O → Option (List ℕ))
     (unread : R → Option (List ℕ)) (written : W → Option (List ℕ)) where
   -- `words` and `journal` touch no file, `asm` neither reads standard input nor writes standard output, and `run`,
-  -- `race`, `trace`, `journal`, `explore` and `shrink` don't read standard input.
+  -- `race`, `trace`, `journal`, `explore`, `shrink` and `try` don't read standard input.
   abbrev pub RequestEnds : Request → F → F → R → R → W → W → Result Unit CommandFault → Type 0
   RequestEnds (Words steps) files_old files input_old input output_old output result =
       IfSome (unread input_old) (λ text. WordsEnds result text steps (written output_old) (written output))
@@ -55,4 +56,9 @@ module _ {F I O R W : Type 0}
   RequestEnds (Shrink image config journal options out) files_old files input_old input output_old output result =
       ShrinkFilesEnd opened created closed remaining contents files_old image.now config.now journal.now options
       (option_map (λ name. name.now) out) (written output_old) (written output) result files
+      × (input ≡ input_old)
+  RequestEnds (Try source options keep page) files_old files input_old input output_old output result =
+      TryFilesEnd opened created closed remaining contents files_old source.now options
+      (option_map (λ name. name.now) keep) (option_map (λ name. name.now) page)
+      (written output_old) (written output) result files
       × (input ≡ input_old)

@@ -1,26 +1,32 @@
 -- The command `trace`: from what it starts, what it writes then, and how it ends where it doesn't.
 use Rattle.std.specs.Prelude.{◌≡◌, ◌≢◌, ◌⊎◌, ℕ, ◌<◌, ◌≤◌, min, true, false, List, length, ◌++◌, codes, Option, Some, None}
-use Rattle.std.specs.Prelude.{unwrap_or, Result, Ok, Err}
+use Rattle.std.specs.Prelude.{[], is_some, option_map, unwrap_or, Result, Ok, Err}
 use Rattle.std.specs.Bool.{MatchBool}
 use Rattle.std.specs.Io.KnownBytes.{Appends, Keeps}
-use Rattle.brd_mem.specs.declared.image.Image.{Image}
+use Rattle.brd_mem.specs.declared.image.{Image.Image, Symbol.Symbol}
 use Rattle.brd_board.specs.declared.event.Event.{Event}
 use Rattle.brd_board.specs.Board.{BoardState}
 use Rattle.brd_timeline.specs.Ends.{EndsWith}
 use Rattle.brd_page.specs.Page.{IsRunPage}
+use Rattle.brd_trace.specs.declared.names.Names.{Names}
 use Rattle.brd_trace.specs.declared.printer.{Manner.Manner, Printer.Printer}
 use Rattle.brd_trace.specs.Telling.{IsFirstLine, IsTrace, held_text}
+use Rattle.brd_trace.specs.Words.{words_of}
+use Rattle.brd_trace.specs.declared.words.WordsFault.{WordsFault}
+use Rattle.brd_trace.specs.declared.words.WordsFault.TheVariants as no
 use Rattle.brd_report.specs.Output.{Writes}
 use Rattle.brd_inputs.specs.Start.{AreWithin, IsStart, KeepsFromStarting}
 use Rattle.brd_inputs.specs.declared.fault.CommandFault.{CommandFault}
 use Rattle.brd_inputs.specs.declared.fault.CommandFault.TheVariants.{NoMemory, Trace, Write}
 use Rattle.brd_inputs.specs.declared.input_name.InputName.TheVariants as input_name
 use Rattle.brd_inputs.specs.declared.start.Start.{Start}
+use Rattle.brd_command.specs.RacesCommand.{WritesRaces}
 use Rattle.brd_command.specs.declared.trace_command.Part.{Part}
 use Rattle.brd_inputs.specs.declared.trace_fault.TraceFault.{TraceFault}
-use Rattle.brd_inputs.specs.declared.trace_fault.TraceFault.TheVariants.{NoEvents, NoSuchFormat, TooLong, TooMuch}
+use Rattle.brd_inputs.specs.declared.trace_fault.TraceFault.TheVariants.{NoEvents, NoSuchFormat, NoSymbol, NoWord}
+use Rattle.brd_inputs.specs.declared.trace_fault.TraceFault.TheVariants.{TooLong, TooManySteps, TooManyTouches, TooMuch}
 use Rattle.brd_command.specs.declared.trace_options.TraceFormat.{TraceFormat}
-use Rattle.brd_command.specs.declared.trace_options.TraceFormat.TheVariants.{Text, Json, Svg, Html}
+use Rattle.brd_command.specs.declared.trace_options.TraceFormat.TheVariants.{Text, Json, Svg, Html, Lcov, Callgrind}
 use Rattle.brd_command.specs.declared.trace_options.TraceOptions.{TraceOptions}
 
 -- the positions that the options ask for in a journal with n events: of the first one, and the one after the last
@@ -38,14 +44,48 @@ pub record IsPart (options : TraceOptions) (len : ℕ) (part : Part) : Type 0 wh
   pub ordered : part.from ≤ part.to
   pub within : part.to ≤ len
 
--- Why the options give no trace of a journal with n events: they name no form, or their first event comes after
--- their last; or they ask for a picture, which has too much to draw, or for a page, which has too much to show.
-abbrev pub KeepsFromTracing : TraceOptions → ℕ → TraceFault → Type 0
-KeepsFromTracing options len NoSuchFormat = options.format ≡ None
-KeepsFromTracing options len (NoEvents from to all) =
+-- Why the options give no part of a journal with n events: they name no form, or their first event comes after
+-- their last.
+abbrev pub KeepsFromAsking : TraceOptions → ℕ → TraceFault → Type 0
+KeepsFromAsking options len NoSuchFormat = options.format ≡ None
+KeepsFromAsking options len (NoEvents from to all) =
     (from ≡ first_of options) × (to ≡ end_of options len) × (all ≡ len) × (to < from) × (options.format ≢ None)
-KeepsFromTracing options len TooMuch = (options.format ≡ Some Svg) × (options.summary ≡ false)
-KeepsFromTracing options len TooLong = (options.format ≡ Some Html) × (options.summary ≡ false)
+KeepsFromAsking options len fault = ⊥
+
+-- the words of which loads and stores are shown, of a board and the symbols of its image: none where no option names some
+abbrev pub words_named : List Symbol → BoardState → Option (List ℕ) → Result (List ℕ) WordsFault
+words_named symbols board None = Ok []
+words_named symbols board (Some text) = words_of symbols board text
+
+abbrev pub words_asked : TraceOptions → Start → Result (List ℕ) WordsFault
+words_asked options start =
+    words_named start.image.symbols start.board (option_map (λ text. text.now) options.words)
+
+-- the fault of a command whose words aren't there
+abbrev pub of_words : WordsFault → CommandFault
+of_words no.NoMemory = NoMemory
+of_words no.NoSymbol = Trace NoSymbol
+of_words no.NoWord = Trace NoWord
+
+-- Why there is no trace: the options give no part of the journal, or name no words; or they ask for a picture, which
+-- has too much to draw, for a page, which has too much to show, or for races among too many touches.
+abbrev pub KeepsFromTracing : TraceOptions → Start → TraceFault → Type 0
+KeepsFromTracing options start NoSuchFormat = KeepsFromAsking options (length start.journal.events) NoSuchFormat
+KeepsFromTracing options start (NoEvents from to all) =
+    KeepsFromAsking options (length start.journal.events) (NoEvents from to all)
+KeepsFromTracing options start NoSymbol = words_asked options start ≡ Err no.NoSymbol
+KeepsFromTracing options start NoWord = words_asked options start ≡ Err no.NoWord
+KeepsFromTracing options start TooMuch = (options.format ≡ Some Svg) × (options.summary ≡ false)
+KeepsFromTracing options start TooLong = (options.format ≡ Some Html) × (options.summary ≡ false)
+KeepsFromTracing options start TooManySteps = ⊥
+KeepsFromTracing options start TooManyTouches = options.races ≡ true
+
+-- it is that of these words, or lack of memory
+abbrev pub IsOfWords : Result (List ℕ) WordsFault → CommandFault → Type 0
+IsOfWords words NoMemory = Unit {0}
+IsOfWords words (Trace NoSymbol) = words ≡ Err no.NoSymbol
+IsOfWords words (Trace NoWord) = words ≡ Err no.NoWord
+IsOfWords words fault = ⊥
 
 -- bytes that are meant to come first were written, and some after them
 pub record WritesFirst (IsFirst : List ℕ → Type 0) (old new : Option (List ℕ)) : Type 0 where
@@ -83,16 +123,18 @@ pub record WritesTold (manner : Manner) (boot : BoardState) (events : List Event
   pub is_told : IsTrace manner boot events from to first last text
   pub written : Appends old new text
 
--- the names of an image, and its byte order
-pub record IsMannerOf (image : Image) (manner : Manner) : Type 0 where
+-- the names of an image, its byte order, and words that are shown
+pub record IsMannerOf (image : Image) (asked : Result (List ℕ) WordsFault) (manner : Manner) : Type 0 where
   pub symbols : manner.names.symbols.now ≡ image.symbols
   pub segments : manner.names.segments.now ≡ image.segments
   pub order : manner.order ≡ image.order
+  pub words : asked ≡ Ok manner.words.now
 
 -- the lines that the options ask for are shown, and nothing is held back
 pub record IsShown (options : TraceOptions) (first : Printer) : Type 0 where
   pub cpu : first.options.cpu ≡ options.cpu
   pub instructions : first.options.instructions ≡ options.instructions
+  pub touching : first.options.touching ≡ is_some options.words
   pub shown : first.options.shown ≡ true
   pub held : first.held ≡ None
 
@@ -100,25 +142,39 @@ pub record IsShown (options : TraceOptions) (first : Printer) : Type 0 where
 pub record WritesTrace (start : Start) (options : TraceOptions) (old new : Option (List ℕ)) : Type 0 where
   pub manner : Manner
   pub first : Printer
-  pub is_manner : IsMannerOf start.image manner
+  pub is_manner : IsMannerOf start.image (words_asked options start) manner
   pub is_first : IsShown options first
   pub lines : WritesLines head manner start.board start.journal.events (first_of options)
       (end_of options (length start.journal.events)) first old new
 
 -- What is written in each form. A timeline ends as an object of JSON, and a picture as one of SVG; of what stands before
--- it nothing is said here. A page is one of brd_page.
+-- it nothing is said here. A page is one of brd_page. Of counts it is said that their last line is whole.
 abbrev pub WritesForm : Option TraceFormat → Start → TraceOptions → Option (List ℕ) → Option (List ℕ) → Type 0
 WritesForm None start options old new = ⊥
 WritesForm (Some Text) start options old new = WritesTrace start options old new
 WritesForm (Some Json) start options old new = Writes (EndsWith (codes "\n]}\n")) old new
 WritesForm (Some Svg) start options old new = Writes (EndsWith (codes "</svg>\n")) old new
 WritesForm (Some Html) start options old new = Writes IsRunPage old new
+WritesForm (Some Lcov) start options old new = Writes (EndsWith (codes "\n")) old new
+WritesForm (Some Callgrind) start options old new = Writes (EndsWith (codes "\n")) old new
+
+-- the races up to where the options end were written, by the names of the image
+pub record WritesAllRaces (start : Start) (options : TraceOptions) (old new : Option (List ℕ)) : Type 0 where
+  pub names : Names
+  pub symbols : names.symbols.now ≡ start.image.symbols
+  pub segments : names.segments.now ≡ start.image.segments
+  pub races : WritesRaces names start.board start.journal.events (end_of options (length start.journal.events)) old new
 
 -- a summary is written, which has a first line, or the form that was asked for
-abbrev pub WritesAsked : Start → TraceOptions → Option (List ℕ) → Option (List ℕ) → Type 0
-WritesAsked start options old new =
+abbrev pub WritesShown : Start → TraceOptions → Option (List ℕ) → Option (List ℕ) → Type 0
+WritesShown start options old new =
     MatchBool options.summary (WritesFirst (EndsWith (codes "\n")) old new)
     (WritesForm options.format start options old new)
+
+-- the races are written, or what else was asked for
+abbrev pub WritesAsked : Start → TraceOptions → Option (List ℕ) → Option (List ℕ) → Type 0
+WritesAsked start options old new =
+    MatchBool options.races (WritesAllRaces start options old new) (WritesShown start options old new)
 
 -- what may keep a trace from being written that has begun: want of memory, or that writing fails
 abbrev pub IsOfWriting : CommandFault → Type 0
@@ -138,12 +194,25 @@ EndsPaging (Ok done) old new = Writes IsRunPage old new
 EndsPaging (Err (Trace fault)) old new = (fault ≡ TooLong) × Keeps old new
 EndsPaging (Err fault) old new = IsOfWriting fault
 
+-- what keeps races from being told: want of memory, or that there are too many touches
+abbrev pub IsNoRace : CommandFault → Type 0
+IsNoRace NoMemory = Unit {0}
+IsNoRace (Trace fault) = fault ≡ TooManyTouches
+IsNoRace fault = ⊥
+
+-- how races end that are looked for: they are written, or there are too many touches, and then nothing is; or as above
+abbrev pub EndsRacing : Result Unit CommandFault → Names → BoardState → List Event → ℕ → Option (List ℕ) →
+    Option (List ℕ) → Type 0
+EndsRacing (Ok done) names board events to old new = WritesRaces names board events to old new
+EndsRacing (Err (Trace fault)) names board events to old new = (fault ≡ TooManyTouches) × Keeps old new
+EndsRacing (Err fault) names board events to old new = IsOfWriting fault
+
 -- How a trace ends of a board and a journal. Where the options give none, nothing is written.
 abbrev pub EndsTracing : Result Unit CommandFault → TraceOptions → Start → Option (List ℕ) → Option (List ℕ) → Type 0
 EndsTracing (Ok done) options start old new =
     (first_of options ≤ end_of options (length start.journal.events)) × WritesAsked start options old new
 EndsTracing (Err (Trace fault)) options start old new =
-    KeepsFromTracing options (length start.journal.events) fault × Keeps old new
+    KeepsFromTracing options start fault × Keeps old new
 EndsTracing (Err fault) options start old new = IsOfWriting fault
 
 -- Three inputs give a board and a journal, of which there is a trace.

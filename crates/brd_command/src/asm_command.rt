@@ -1,11 +1,14 @@
 //! The command `asm`.
 
-ghost use Rattle.std.specs.Prelude.{◌≡◌, IfSome, MatchResult};
+ghost use Rattle.std.specs.Prelude.{◌≡◌, ◌≢◌, Err as err, IfSome, MatchResult};
+ghost use Rattle.brd_asm.specs.Image.{program_of};
+ghost use Rattle.brd_asm.specs.declared.fault.AsmFault.TheVariants as asm_fault;
 ghost use Rattle.brd_command.specs.Files.{AsmFilesEnd};
 ghost use Rattle.brd_command.specs.AsmCommand.{AsmEnds, IsObjectFile, KeepsFromAssembling, faulty_line};
 ghost use Rattle.brd_inputs.specs.FileKinds.{source_looks_like};
 
 use brd_asm::{AsmFault, assemble};
+use brd_base::NoMemory;
 use brd_inputs::{
     Clue, CommandFault, Excerpt, FileKind, Files, InputName, other_kind, read_whole, source_hint,
 };
@@ -62,17 +65,13 @@ pub fn asm_files<F: Files>(
 }
 
 /// The object file of a source. An image that no file can hold is refused before its file is made.
-fn object_file(alloc: Global, source: &[u8]) -> Result<Vec<u8>, CommandFault>
+pub(crate) fn object_file(alloc: Global, source: &[u8]) -> Result<Vec<u8>, CommandFault>
     ensures { MatchResult result (λ file. IsObjectFile source.now file.items) (KeepsFromAssembling source.now) }
 {
     let image = match assemble(alloc, source) {
         Ok(image) => image,
         Err(AsmFault::NoMemory) => return Err(CommandFault::NoMemory),
-        Err(fault) => {
-            let excerpt = Excerpt::of_line(alloc, source, line_of(fault))?;
-            let clue = clue_of(alloc, fault, source);
-            return Err(CommandFault::Source(fault, excerpt, clue));
-        }
+        Err(fault) => return Err(source_fault(alloc, source, fault)),
     };
     if !brd_elf::fits(&image) {
         return Err(CommandFault::ImageTooLarge);
@@ -80,8 +79,18 @@ fn object_file(alloc: Global, source: &[u8]) -> Result<Vec<u8>, CommandFault>
     Ok(brd_elf::write(alloc, &image)?)
 }
 
+/// The fault of a source as a command ends with it.
+pub(crate) fn source_fault(alloc: Global, source: &[u8], fault: AsmFault) -> CommandFault
+    ensures { fault ≢ asm_fault.NoMemory → program_of source.now ≡ err fault → KeepsFromAssembling source.now result }
+{
+    match Excerpt::of_line(alloc, source, line_of(fault)) {
+        Ok(excerpt) => CommandFault::Source(fault, excerpt, clue_of(alloc, fault, source)),
+        Err(NoMemory) => CommandFault::NoMemory,
+    }
+}
+
 /// The line that a fault is in, counted from 1.
-fn line_of(fault: AsmFault) -> usize
+pub(crate) fn line_of(fault: AsmFault) -> usize
     ensures { result ≡ faulty_line fault }
 {
     match fault {

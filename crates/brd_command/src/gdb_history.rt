@@ -165,6 +165,7 @@ impl History {
                     self.image.segments.as_slice(),
                 ),
                 order: self.image.order,
+                words: &[],
             },
             image: &self.image,
             journal: &self.journal,
@@ -184,6 +185,7 @@ impl History {
         let shown = Options {
             cpu: None,
             instructions: false,
+            touching: false,
             shown: false,
             lines: self.lines,
         };

@@ -3,7 +3,7 @@
 //! The commands' contracts say how each command ends, by what it read: `AsmEnds`, `RunEnds`, `DebugEnds` and
 //! `RaceEnds`. What follows from these ends, about the files of the commands, is the headline.
 
-ghost use Rattle.std.specs.Prelude.{◌≡◌, ◌≢◌, ◌↔◌, ℕ, [], List, Option, Some, Result, Ok};
+ghost use Rattle.std.specs.Prelude.{◌≡◌, ◌≢◌, ◌↔◌, ℕ, [], List, Option, Some, Result, Ok, false};
 ghost use Rattle.brd_board.specs.Board.{BoardState};
 ghost use Rattle.brd_image.specs.Building.{IsBuilt};
 ghost use Rattle.brd_image.specs.declared.fault.BuildFault.{BuildFault as BuildFaultOf};
@@ -17,7 +17,10 @@ ghost use Rattle.brd_command.specs.RaceCommand.{RaceEnds, ShowsRace};
 ghost use Rattle.brd_command.specs.RunCommand.{RunEnds, ShowsRun};
 ghost use Rattle.brd_command.specs.declared.debug_line.DebugCommand.{DebugCommand};
 ghost use Rattle.brd_command.specs.declared.debug_line.DebugCommand.TheVariants.{Unknown};
+ghost use Rattle.brd_command.specs.TryCommand.{ShowsTried, Tries};
+ghost use Rattle.brd_inputs.specs.FileKinds.{is_object_file};
 ghost use Rattle.brd_inputs.specs.declared.fault.CommandFault.{CommandFault};
+ghost use Rattle.brd_try.specs.declared.options.TryOptions.{TryOptions};
 
 use brd_asm::laws::a_program_has_one_image;
 
@@ -65,6 +68,15 @@ pub fn race_shows_the_headline()
     ensures again { (quota : ℕ) (elf config script journal report printed : List ℕ) →
         RaceEnds (Ok tt) quota elf config script (Some []) (Some journal) (Some []) (Some report) →
         RunEnds (Ok tt) elf config journal (Some []) (Some printed) → printed ≡ report }
+{}
+
+/// The headline of `try`. Where it has told of a source, the configuration and the journal that it made are those of a
+/// board whose words decode to the source's instructions, whose memory starts as the source's object file and the
+/// configuration name, and which is the definition's after the journal's events; and this board is told.
+pub fn try_shows_the_headline()
+    ensures { (options : TryOptions) (source elf config journal : List ℕ) (old new : Option (List ℕ)) →
+        is_object_file source ≡ false → Tries options source elf config journal old new →
+        Writes (ShowsTried options source elf config journal) old new }
 {}
 
 /// Commands are refused where building is, and for the same first fault. `asm` says a fault of the source just where

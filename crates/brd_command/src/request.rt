@@ -13,10 +13,12 @@ use crate::run_command::run_files;
 use crate::shrink_command::{ShrinkOptions, shrink_files};
 use crate::trace_command::trace_files;
 use crate::trace_options::TraceOptions;
+use crate::try_command::try_files;
 use crate::words_command::words;
 use brd_inputs::{CommandFault, Files};
 use brd_progress::Progress;
 use brd_search::SearchOptions;
+use brd_try::TryOptions;
 use std::alloc::Global;
 use std::io::{Read, Write};
 use std::sync::Wait;
@@ -68,7 +70,7 @@ pub enum Request<'a> {
         image: &'a str,
         config: &'a str,
         journal: &'a str,
-        options: TraceOptions,
+        options: TraceOptions<'a>,
     },
     /// A journal of n events, of which each is a step of one of m processors or what the options say, on
     /// standard output.
@@ -94,11 +96,19 @@ pub enum Request<'a> {
         options: ShrinkOptions<'a>,
         out: Option<&'a str>,
     },
+    /// What comes of a source or an object file without a configuration and a journal, on standard output. Those that
+    /// are made for it go to files whose names begin as is said, and a page of it to another file, if one is named.
+    Try {
+        source: &'a str,
+        options: TryOptions,
+        keep: Option<&'a str>,
+        page: Option<&'a str>,
+    },
 }
 
 /// Does what was asked for, on files, standard input and standard output. `words` and `journal` touch no file; `asm`
-/// neither reads standard input nor writes standard output; `run`, `race`, `trace`, `journal`, `explore` and `shrink`
-/// don't read standard input. `debug` and `gdb` read that only where their files could be opened and make a debugger.
+/// neither reads standard input nor writes standard output; `run`, `race`, `trace`, `journal`, `explore`, `shrink` and
+/// `try` don't read standard input. `debug` and `gdb` read that only where their files could be opened and make a debugger.
 /// Threads of the host are started only for `race`. How far `run`, `race`, `debug`, `gdb`, `trace` and `explore` are, is
 /// told on the way.
 pub fn perform<F: Files, R: Read, W: Write, P: Progress + Send, T: Threads + Wait + Sync>(
@@ -170,5 +180,11 @@ pub fn perform<F: Files, R: Read, W: Write, P: Progress + Send, T: Threads + Wai
             options,
             out,
         } => shrink_files(alloc, files, image, config, journal, options, out, output),
+        Request::Try {
+            source,
+            options,
+            keep,
+            page,
+        } => try_files(alloc, files, source, options, keep, page, output),
     }
 }

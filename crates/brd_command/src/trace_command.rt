@@ -1,6 +1,6 @@
 //! The command `trace`.
 
-ghost use Rattle.std.specs.Prelude.{◌≡◌, ◌<◌, ◌≤◌, length, [], IfOk, IfSome, MatchResult, codes};
+ghost use Rattle.std.specs.Prelude.{◌≡◌, ◌<◌, ◌≤◌, length, [], IfOk, IfSome, MatchResult, codes, option_map};
 ghost use Rattle.std.specs.Io.KnownBytes.{Appends};
 ghost use Rattle.brd_timeline.specs.Ends.{EndsWith};
 ghost use Rattle.brd_report.specs.Output.{Writes};
@@ -9,31 +9,38 @@ ghost use Rattle.brd_command.specs.TraceCommand.{
   EndsDrawing,
   EndsPaging,
   EndsTracing,
+  IsOfWords,
   IsOfWriting,
   IsPart,
-  KeepsFromTracing,
+  KeepsFromAsking,
   TraceEnds,
   WritesFirst,
   WritesLines,
   WritesTold,
   head,
+  of_words,
+  words_named,
 };
 ghost use Rattle.brd_board.specs.Board.{BoardState as BoardOf};
 ghost use Rattle.brd_journal.specs.Playing.{IsPlayed};
 ghost use Rattle.brd_trace.specs.Telling.{IsTrace, shown_by};
+ghost use Rattle.brd_trace.specs.Words.{Adds};
 
 use crate::progress::PIECE;
+use crate::races_command::write_races;
 use crate::trace_options::{TraceFormat, TraceOptions};
-use brd_base::NoMemory;
+use brd_base::{List, NoMemory};
+use brd_board::Board;
 use brd_config::Config;
-use brd_inputs::{CommandFault, Files, Inputs, Start, TraceFault, open_inputs, read_start};
+use brd_inputs::{CommandFault, Files, Inputs, Start, TraceFault, open_inputs, read_sourced_start};
 use brd_journal::Journal;
+use brd_lines::Source;
 use brd_mem::Image;
 use brd_page::{PageFault, page};
 use brd_progress::Progress;
 use brd_report::write_whole;
 use brd_timeline::{PictureFault, Timeline, json, svg};
-use brd_trace::{HEAD, Manner, Names, Options, Tracer};
+use brd_trace::{HEAD, Manner, Names, Options, Tracer, WordsFault, add_words};
 use std::alloc::Global;
 use std::io::{Read, Write};
 
@@ -49,13 +56,14 @@ pub fn trace<R: Read, W: Write, P: Progress>(
 ) -> Result<(), CommandFault>
     ensures { IfSome (R.remaining inputs.old.image) (λ file. IfSome (R.remaining inputs.old.config) (λ statements.
         IfSome (R.remaining inputs.old.last) (λ events.
-        TraceEnds result options file statements events (W.contents writer.old) (W.contents writer.new)))) }
+        TraceEnds result options.entry file statements events (W.contents writer.old) (W.contents writer.new)))) }
 {
-    let start = match read_start(alloc, inputs) {
+    let mut source = Source::new(alloc);
+    let start = match read_sourced_start(alloc, inputs, &mut source) {
         Ok(start) => start,
         Err(fault) => return Err(fault),
     };
-    write_trace(alloc, start, options, writer, progress)
+    write_trace(alloc, start, &source, options, writer, progress)
 }
 
 /// Does `trace` on its files: IMAGE is opened, then CONFIG, then JOURNAL, and then all are read. The trace is written.
@@ -69,7 +77,7 @@ pub fn trace_files<F: Files, W: Write, P: Progress>(
     output: &mut W,
     progress: &mut P,
 ) -> Result<(), CommandFault>
-    ensures { TraceFilesEnd F.opened F.Input.remaining files.old image.now config.now journal.now options
+    ensures { TraceFilesEnd F.opened F.Input.remaining files.old image.now config.now journal.now options.entry
         (W.contents output.old) (W.contents output.new) result files.new }
 {
     let mut inputs = match open_inputs(alloc, files, image, config, journal) {
@@ -104,7 +112,7 @@ pub(crate) struct Part {
 
 /// The part of a journal with n events that the options ask for.
 fn part_of(options: TraceOptions, len: u64) -> Result<Part, TraceFault>
-    ensures { MatchResult result (IsPart options len) (KeepsFromTracing options len) }
+    ensures { MatchResult result (IsPart options.entry len) (KeepsFromAsking options.entry len) }
 {
     let Some(format) = options.format else {
         return Err(TraceFault::NoSuchFormat);
@@ -121,11 +129,12 @@ fn part_of(options: TraceOptions, len: u64) -> Result<Part, TraceFault>
 fn write_trace<W: Write, P: Progress>(
     alloc: Global,
     start: Start,
+    source: &Source,
     options: TraceOptions,
     writer: &mut W,
     progress: &mut P,
 ) -> Result<(), CommandFault>
-    ensures { EndsTracing result options start (W.contents writer.old) (W.contents writer.new) }
+    ensures { EndsTracing result options.entry start (W.contents writer.old) (W.contents writer.new) }
 {
     let Start {
         board,
@@ -137,9 +146,19 @@ fn write_trace<W: Write, P: Progress>(
         Ok(part) => part,
         Err(fault) => return Err(CommandFault::Trace(fault)),
     };
+    let mut words = List::new(alloc);
+    match choose(&mut words, options.words, &image, &board) {
+        Ok(()) => {}
+        Err(fault) => return Err(fault),
+    }
+    if options.races {
+        let names = Names::new(image.symbols.as_slice(), image.segments.as_slice());
+        return write_races(alloc, board, names, &journal, part.to, writer, progress);
+    }
     let shown = Options {
         cpu: options.cpu,
         instructions: options.instructions,
+        touching: options.words.is_some(),
         shown: false,
         lines: lines_of(&config),
     };
@@ -149,6 +168,7 @@ fn write_trace<W: Write, P: Progress>(
         manner: Manner {
             names: Names::new(image.symbols.as_slice(), image.segments.as_slice()),
             order: image.order,
+            words: words.as_slice(),
         },
         image: &image,
         journal: &journal,
@@ -162,6 +182,39 @@ fn write_trace<W: Write, P: Progress>(
         TraceFormat::Json => traced.write_json(tracer, writer, progress),
         TraceFormat::Svg => traced.write_svg(tracer, writer, progress),
         TraceFormat::Html => traced.write_html(tracer, writer, progress),
+        TraceFormat::Lcov => traced.write_lcov(source, tracer, writer, progress),
+        TraceFormat::Callgrind => traced.write_callgrind(source, tracer, writer, progress),
+    }
+}
+
+/// Adds the words of which loads and stores are shown, where an option names some, of a board and its image.
+fn choose(
+    words: &mut List<u32>,
+    named: Option<&str>,
+    image: &Image,
+    board: &Board,
+) -> Result<(), CommandFault>
+    ensures { MatchResult result
+        (λ _. Adds (words_named image.now.symbols board.now (option_map (λ text. text.now) named.entry)) words.old words.new)
+        (IsOfWords (words_named image.now.symbols board.now (option_map (λ text. text.now) named.entry))) }
+{
+    let Some(text) = named else {
+        return Ok(());
+    };
+    match add_words(words, text.as_bytes(), image.symbols.as_slice(), board) {
+        Ok(()) => Ok(()),
+        Err(fault) => Err(of_words(fault)),
+    }
+}
+
+/// The fault of words that aren't there.
+fn of_words(fault: WordsFault) -> CommandFault
+    ensures { result ≡ of_words fault }
+{
+    match fault {
+        WordsFault::NoMemory => CommandFault::NoMemory,
+        WordsFault::NoSymbol => CommandFault::Trace(TraceFault::NoSymbol),
+        WordsFault::NoWord => CommandFault::Trace(TraceFault::NoWord),
     }
 }
 
@@ -412,6 +465,7 @@ impl<'a> Traced<'a> {
     {
         let mut tracer = tracer;
         tracer.printer.options.cpu = None;
+        tracer.printer.options.touching = false;
         self.skip(&mut tracer, self.part.from, progress)?;
         let shown = brd_page::Part {
             image: self.image,
@@ -428,7 +482,7 @@ impl<'a> Traced<'a> {
 }
 
 /// Writes all of the bytes.
-fn written<W: Write>(writer: &mut W, bytes: &[u8]) -> Result<(), CommandFault>
+pub(crate) fn written<W: Write>(writer: &mut W, bytes: &[u8]) -> Result<(), CommandFault>
     ensures { MatchResult result (λ _. Appends (W.contents writer.old) (W.contents writer.new) bytes.now) IsOfWriting }
 {
     match write_whole(writer, bytes) {

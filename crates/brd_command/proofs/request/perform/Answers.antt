@@ -30,3 +30,6 @@ returns-in-Explore g c = rw c.in-Explore.is (c.explore_files.ensures, refl)
 
 pub returns-in-Shrink : goal.returns-in-Shrink
 returns-in-Shrink g c = rw c.in-Shrink.is (c.shrink_files.ensures, refl)
+
+pub returns-in-Try : goal.returns-in-Try
+returns-in-Try g c = rw c.in-Try.is (c.try_files.ensures, refl)
