@@ -15,10 +15,11 @@ use Rattle.brd_command.specs.declared.trace_options.TraceFormat.TheVariants as f
 use Rattle.brd_command.specs.declared.trace_options.TraceOptions.{TraceOptions}
 use Rattle.brd_command.specs.declared.request.Request.{Request}
 use Rattle.brd_command.specs.declared.request.Request.TheVariants.{Words, Asm, Run, Race, Debug, Trace, Journal}
-use Rattle.brd_command.specs.declared.request.Request.TheVariants.{Explore, Gdb, Shrink}
+use Rattle.brd_command.specs.declared.request.Request.TheVariants.{Explore, Gdb, Shrink, Try}
 use Rattle.brd_search.specs.declared.options.Looks.{Looks}
 use Rattle.brd_search.specs.declared.options.SearchOptions.{SearchOptions}
 use Rattle.brd_search.specs.declared.options.Sizes.{Sizes}
+use Rattle.brd_try.specs.declared.options.TryOptions.{TryOptions}
 use Rattle.brd_cli.specs.declared.end.EarlyEnd.{EarlyEnd}
 use Rattle.brd_cli.specs.declared.end.EarlyEnd.TheVariants.{Fault, Usage}
 use Rattle.brd_cli.specs.Usage.{board, inputs, pair, race_files, source_and_out}
@@ -74,7 +75,9 @@ format_named None = Some form.Text
 format_named (Some name) = if bytes_eq name (codes "text") then Some form.Text
     else (if bytes_eq name (codes "json") then Some form.Json
     else (if bytes_eq name (codes "svg") then Some form.Svg
-    else (if bytes_eq name (codes "html") then Some form.Html else None)))
+    else (if bytes_eq name (codes "html") then Some form.Html
+    else (if bytes_eq name (codes "lcov") then Some form.Lcov
+    else (if bytes_eq name (codes "callgrind") then Some form.Callgrind else None)))))
 
 -- the byte order that is named: big-endian where none is
 abbrev pub order_named : Option Text → Option Order
@@ -88,7 +91,9 @@ AreTraceOptions rows options = IsNumberOf 64 (one_of (codes "from") rows) option
     × IsNumberOf 64 (one_of (codes "to") rows) options.to
     × IsNumberOf 8 (one_of (codes "cpu") rows) options.cpu
     × IsFlag (one_of (codes "instructions") rows) options.instructions
+    × (option_map (λ text. text.now) options.words ≡ first_of (codes "WORDS") rows)
     × IsFlag (one_of (codes "summary") rows) options.summary
+    × IsFlag (one_of (codes "races") rows) options.races
     × (options.format ≡ format_named (first_of (codes "format") rows))
 
 -- the options of `journal`, each as it was given; `Usage` says which option has which name here
@@ -158,6 +163,21 @@ IsShrink rows (Some (Shrink image config journal options out)) =
     × (option_map (λ name. name.now) out ≡ first_of (codes "OUT") rows)
 IsShrink rows (Some other) = ⊥
 
+-- the options of `try`: 10,000 events of one processor where it isn't said otherwise, and no ticks
+abbrev pub AreTryOptions : List Row → TryOptions → Type 0
+AreTryOptions rows options = IsNumberOr 1 (one_of (codes "CPUS") rows) options.cpus
+    × IsNumberOr 10000 (one_of (codes "STEPS") rows) options.steps
+    × IsNumberOr 0 (one_of (codes "INTERVAL") rows) options.tick_every
+
+-- the request of `try`
+abbrev pub IsTry : List Row → Option Request → Type 0
+IsTry rows None = first_of (codes "SOURCE") rows ≡ None
+IsTry rows (Some (Try source options keep page)) =
+    (first_of (codes "SOURCE") rows ≡ Some source.now) × AreTryOptions rows options
+    × (option_map (λ name. name.now) keep ≡ first_of (codes "NAME") rows)
+    × (option_map (λ name. name.now) page ≡ first_of (codes "FILE") rows)
+IsTry rows (Some other) = ⊥
+
 -- a request, as its command and the names of its files
 abbrev pub spoken : Request → Text × List Text
 spoken (Words steps) = (codes "words", [])
@@ -170,6 +190,7 @@ spoken (Shrink image config journal options out) = (codes "shrink", image.now �
 spoken (Debug image config journal) = (codes "debug", image.now ∷ config.now ∷ journal.now ∷ [])
 spoken (Gdb image config journal) = (codes "gdb", image.now ∷ config.now ∷ journal.now ∷ [])
 spoken (Trace image config journal options) = (codes "trace", image.now ∷ config.now ∷ journal.now ∷ [])
+spoken (Try source options keep page) = (codes "try", source.now ∷ [])
 
 -- the request of a command of files has what was given for them, in this order
 abbrev pub IsOfFiles : Text → List Text → List Row → Option Request → Type 0
@@ -188,7 +209,8 @@ IsRequestOf name rows request =
     (MatchBool (bytes_eq name (codes "journal")) (IsJournal rows request)
     (MatchBool (bytes_eq name (codes "explore")) (IsExplore rows request)
     (MatchBool (bytes_eq name (codes "shrink")) (IsShrink rows request)
-    (request ≡ None))))))))))
+    (MatchBool (bytes_eq name (codes "try")) (IsTry rows request)
+    (request ≡ None)))))))))))
 
 -- the request of a command with its rows; none where there is no command
 abbrev pub IsAsked : Option (Text × List Row) → Option Request → Type 0

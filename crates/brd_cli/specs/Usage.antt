@@ -64,6 +64,13 @@ program_with name commands =
 abbrev pub words : App
 words = command_with (codes "words") (number (codes "STEPS") ∷ [])
 
+-- `try` takes its options before or after its file
+abbrev pub tries : App
+tries = command_with (codes "try")
+    (needed (codes "SOURCE") ∷ count (codes "STEPS") (codes "steps") ∷ count (codes "CPUS") (codes "cpus")
+    ∷ count (codes "INTERVAL") (codes "tick-every") ∷ option (codes "NAME") (codes "keep")
+    ∷ option (codes "FILE") (codes "page") ∷ [])
+
 abbrev pub asm : App
 asm = command_with (codes "asm") (map needed source_and_out)
 
@@ -86,7 +93,8 @@ abbrev pub trace : App
 trace = command_with (codes "trace")
     (needed (codes "IMAGE") ∷ needed (codes "CONFIG") ∷ needed (codes "JOURNAL")
     ∷ position (codes "from") ∷ position (codes "to") ∷ processor (codes "cpu")
-    ∷ flag (codes "instructions") ∷ flag (codes "summary") ∷ valued (codes "format") ∷ [])
+    ∷ flag (codes "instructions") ∷ option (codes "WORDS") (codes "word") ∷ flag (codes "summary")
+    ∷ flag (codes "races") ∷ valued (codes "format") ∷ [])
 
 abbrev pub journal : App
 journal = command_with (codes "journal")
@@ -125,7 +133,7 @@ shrink = command_with (codes "shrink") (map needed inputs ++ checks ++ option (c
 abbrev pub board : App
 board =
     program_with (codes "board")
-    (asm ∷ run ∷ trace ∷ debug ∷ gdb ∷ race ∷ journal ∷ explore ∷ shrink ∷ words ∷ [])
+    (tries ∷ asm ∷ run ∷ trace ∷ debug ∷ gdb ∷ race ∷ journal ∷ explore ∷ shrink ∷ words ∷ [])
 
 -- where the command is added to another, a command of this form is
 abbrev pub AddsForm : App → Command → Type 0

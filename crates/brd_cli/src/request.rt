@@ -3,9 +3,10 @@
 ghost use Rattle.std.specs.Prelude.{◌≡◌, ◌∷◌, [], IfOk, codes, map, option_map};
 ghost use Rattle.clap.specs.Words.{app_of, first_of, found_of, kind_of, one_of, rows_of, subcommand_rows_of};
 ghost use Rattle.clap.specs.declared.error.kind.ErrorKind.TheVariants.{MissingSubcommand};
-ghost use Rattle.brd_cli.specs.Requests.{AreJournalOptions, AreTraceOptions, IsAnswer, IsAsked, IsJournal, IsNumber};
+ghost use Rattle.brd_cli.specs.Requests.{AreJournalOptions, AreTraceOptions, AreTryOptions, IsAnswer, IsAsked};
+ghost use Rattle.brd_cli.specs.Requests.{IsJournal, IsNumber};
 ghost use Rattle.brd_cli.specs.Requests.{IsNumberOf};
-ghost use Rattle.brd_cli.specs.Requests.{AreLooks, AreSearchOptions, AreSizes, IsExplore, IsNumberOr, IsShrink};
+ghost use Rattle.brd_cli.specs.Requests.{AreLooks, AreSearchOptions, AreSizes, IsExplore, IsNumberOr, IsShrink, IsTry};
 ghost use Rattle.brd_cli.specs.Requests.{IsFlag, IsRace, IsRequestOf, IsTrace, format_named, given, order_named};
 ghost use Rattle.brd_cli.specs.Usage as usage;
 ghost use Rattle.brd_cli.specs.Usage.{inputs, pair, race_files};
@@ -15,7 +16,7 @@ use crate::usage::board_command;
 use brd_base::NoMemory;
 use brd_command::{
     JournalOptions, Looks, Order, Request, SearchOptions, ShrinkOptions, Sizes, TraceFormat,
-    TraceOptions,
+    TraceOptions, TryOptions,
 };
 use clap::error::ErrorKind;
 use clap::{ArgMatches, Command};
@@ -101,7 +102,39 @@ fn request_named<'a>(name: &str, arguments: &ArgMatches<'a>) -> Option<Request<'
         "journal" => journal_of(arguments),
         "explore" => explore_of(arguments),
         "shrink" => shrink_of(arguments),
+        "try" => try_of(arguments),
         _ => None,
+    }
+}
+
+/// The request of `try`.
+fn try_of<'a>(arguments: &ArgMatches<'a>) -> Option<Request<'a>>
+    ensures { IsTry (rows_of (found_of arguments.now)) result }
+{
+    let source = text_of(arguments, "SOURCE")?;
+    let options = try_options_of(arguments);
+    let keep = text_of(arguments, "NAME");
+    let page = text_of(arguments, "FILE");
+    Some(Request::Try {
+        source,
+        options,
+        keep,
+        page,
+    })
+}
+
+/// How many steps `try` does at most, unless it is said (own choice).
+const USUAL_STEPS: u32 = 10_000;
+
+/// The options of `try`.
+fn try_options_of(arguments: &ArgMatches) -> TryOptions
+    ensures { AreTryOptions (rows_of (found_of arguments.now)) result }
+{
+    let tick_every = number_or(arguments, "INTERVAL", 0);
+    TryOptions {
+        cpus: number_or(arguments, "CPUS", 1),
+        steps: number_or(arguments, "STEPS", USUAL_STEPS),
+        tick_every,
     }
 }
 
@@ -120,7 +153,7 @@ fn trace_of<'a>(arguments: &ArgMatches<'a>) -> Option<Request<'a>>
 }
 
 /// The options of `trace`.
-fn trace_options_of(arguments: &ArgMatches) -> TraceOptions
+fn trace_options_of<'a>(arguments: &ArgMatches<'a>) -> TraceOptions<'a>
     ensures { AreTraceOptions (rows_of (found_of arguments.now)) result }
 {
     TraceOptions {
@@ -128,7 +161,9 @@ fn trace_options_of(arguments: &ArgMatches) -> TraceOptions
         to: position_of(arguments, "to"),
         cpu: processor_of(arguments, "cpu"),
         instructions: flag_of(arguments, "instructions"),
+        words: text_of(arguments, "WORDS"),
         summary: flag_of(arguments, "summary"),
+        races: flag_of(arguments, "races"),
         format: format_of(text_of(arguments, "format")),
     }
 }
@@ -142,6 +177,8 @@ fn format_of(name: Option<&str>) -> Option<TraceFormat>
         Some("json") => Some(TraceFormat::Json),
         Some("svg") => Some(TraceFormat::Svg),
         Some("html") => Some(TraceFormat::Html),
+        Some("lcov") => Some(TraceFormat::Lcov),
+        Some("callgrind") => Some(TraceFormat::Callgrind),
         Some(_) => None,
     }
 }

@@ -24,7 +24,8 @@ Files:
 
 Where a file is read, `-` is standard input; only one may be.
 
-Example, from the top of the repository:
+Examples, from the top of the repository:
+  board try examples/hello/hello.s
   board asm examples/hello/hello.s build/hello.elf
   board run build/hello.elf examples/hello/hello.cfg examples/hello/hello.journal";
 
@@ -34,6 +35,18 @@ Words have eight hexadecimal digits, with blanks or newlines between them.
 
 Example:
   echo 24080005 01084821 | board words 2";
+
+/// What the help of `try` says of its options.
+const TRY: &str = "\
+A task starts on each processor at the symbol main, or where there is none at _start, or at the first
+word; $a0 is the processor's number. The processors take one step each in turn, until the board is
+off, every task has ended, or the steps are done. The console is printed, why it stopped, and the
+registers of each task that aren't 0. With --keep, `board run`, `trace` and `debug` can go on from
+there.
+
+Examples, from the top of the repository:
+  board try examples/hello/hello.s
+  board try examples/hello/hello.s --keep build/hello --page build/hello.html";
 
 /// What the help of `asm` says of its files.
 const SOURCE: &str = "\
@@ -142,6 +155,7 @@ pub fn board_command<'a>(alloc: Global) -> Result<Command<'a>, NoMemory>
         .after_help(FILES)
         .subcommand_required(true)
         .version(VERSION)
+        .subcommand(try_command(alloc)?)?
         .subcommand(asm_command(alloc)?)?
         .subcommand(run_command(alloc)?)?
         .subcommand(trace_command(alloc)?)?
@@ -168,6 +182,51 @@ fn words_command<'a>(alloc: Global) -> Result<Command<'a>, NoMemory>
         .about("Runs the words that standard input has in hexadecimal, and prints the registers")
         .after_help(WORDS)
         .arg(steps)?;
+    Ok(command)
+}
+
+/// What `try` takes.
+fn try_command<'a>(alloc: Global) -> Result<Command<'a>, NoMemory>
+    ensures { IfOk result (AddsForm usage.tries) }
+{
+    let command = Command::new(alloc, "try")
+        .about("Runs a source without a configuration and a journal, and prints what comes of it")
+        .after_help(TRY)
+        .arg(needed(
+            alloc,
+            "SOURCE",
+            "A file of assembler source, or an object file",
+        ))?
+        .arg(count(
+            alloc,
+            "STEPS",
+            "steps",
+            "How many steps and ticks there are at most; 10,000 if left out",
+        ))?
+        .arg(count(
+            alloc,
+            "CPUS",
+            "cpus",
+            "How many processors there are, 1 to 8; 1 if left out",
+        ))?
+        .arg(count(
+            alloc,
+            "INTERVAL",
+            "tick-every",
+            "Each event whose number is a multiple of this is a tick",
+        ))?
+        .arg(option(
+            alloc,
+            "NAME",
+            "keep",
+            "Writes the configuration and the journal to NAME.cfg and NAME.journal",
+        ))?
+        .arg(option(
+            alloc,
+            "FILE",
+            "page",
+            "Where a page for a browser goes, of each step",
+        ))?;
     Ok(command)
 }
 
@@ -270,16 +329,28 @@ fn trace_command<'a>(alloc: Global) -> Result<Command<'a>, NoMemory>
             "instructions",
             "Shows each instruction, with what it changed",
         ))?
+        .arg(option(
+            alloc,
+            "WORDS",
+            "word",
+            "Shows only loads and stores of words, as count,0x80000100",
+        ))?
         .arg(flag(
             alloc,
             "summary",
             "Shows only what stands at the end, and where it went wrong",
         ))?
+        .arg(flag(
+            alloc,
+            "races",
+            "Shows only the data races: touches of words that nothing orders",
+        ))?
         .arg(valued(
             alloc,
             "format",
             "FORMAT",
-            "text, as if it weren't given; json, for Perfetto; svg, a picture; html, a page for a browser",
+            "text, as if it weren't given; json, for Perfetto; svg, a picture; html, a page for a browser; lcov or \
+             callgrind, counts for these tools",
         ))?;
     Ok(command)
 }

@@ -12,13 +12,19 @@ returns c = λ old new adds.
     let five = c.in_ok-arg-5.ensures.shape c.position-2.ensures.own ∙ ap₂ with_rule four c.position-2.ensures.rule in
     let six = c.in_ok-arg-6.ensures.shape c.processor.ensures.own ∙ ap₂ with_rule five c.processor.ensures.rule in
     let seven = c.in_ok-arg-7.ensures.shape c.flag.ensures.own ∙ ap₂ with_rule six c.flag.ensures.rule in
-    let eight = c.in_ok-arg-8.ensures.shape c.flag-2.ensures.own ∙ ap₂ with_rule seven c.flag-2.ensures.rule in
-    let nine = c.in_ok-command.ensures.shape c.valued.ensures.own ∙ ap₂ with_rule eight c.valued.ensures.rule in
+    let eight = c.in_ok-arg-8.ensures.shape c.option.ensures.own ∙ ap₂ with_rule seven c.option.ensures.rule in
+    let nine = c.in_ok-arg-9.ensures.shape c.flag-2.ensures.own ∙ ap₂ with_rule eight c.flag-2.ensures.rule in
+    let ten = c.in_ok-arg-10.ensures.shape c.flag-3.ensures.own ∙ ap₂ with_rule nine c.flag-3.ensures.rule in
+    let eleven = c.in_ok-command.ensures.shape c.valued.ensures.own ∙ ap₂ with_rule ten c.valued.ensures.rule in
     adds.shape (rw (
       c.in_ok-command.ensures.globals,
       c.valued.ensures.own,
-      c.in_ok-arg-8.ensures.globals,
+      c.in_ok-arg-10.ensures.globals,
+      c.flag-3.ensures.own,
+      c.in_ok-arg-9.ensures.globals,
       c.flag-2.ensures.own,
+      c.in_ok-arg-8.ensures.globals,
+      c.option.ensures.own,
       c.in_ok-arg-7.ensures.globals,
       c.flag.ensures.own,
       c.in_ok-arg-6.ensures.globals,
@@ -37,4 +43,4 @@ returns c = λ old new adds.
       c.about.ensures,
       c.new.ensures.local,
     ) refl)
-    ∙ ap (λ (form : App). with_subcommand (app_of old) form.top) nine
+    ∙ ap (λ (form : App). with_subcommand (app_of old) form.top) eleven
