@@ -180,3 +180,26 @@ fn first_other(alloc: Global) -> Option<usize> {
 fn batches_of_steps(rt: HostRuntime) -> Result<(), Fail> {
     none_wrong(first_other(rt.alloc()))
 }
+
+/// Whether a board of `CALLS` goes on by one to three steps before each of its calls, with leave for very many.
+fn goes_from_call_to_call(board: &mut Board) -> bool {
+    for _ in 0..1_000u32 {
+        let went = board.go_on(1, 4_000_000_000);
+        if went < 1 || went > 3 {
+            return false;
+        }
+        let _ = board.event(Event::Step(1));
+    }
+    board.console().len() == 1_000
+}
+
+/// Steps at once that come to a call end there without more work, however many were asked for: a loop that went on to
+/// look for what it knows already would take longer than a test may.
+#[test]
+fn batches_end_at_calls(rt: HostRuntime) {
+    let goes = match Board::from_words(rt.alloc(), CALLS) {
+        Ok(mut board) => goes_from_call_to_call(&mut board),
+        Err(_) => false,
+    };
+    assert!(rt; goes);
+}
