@@ -78,7 +78,10 @@ if [ -x "$threads" ] && [ "$can_refuse" = yes ]; then
     verdict "a station's events take no memory" "$wrong"
 fi
 
-# Object files of GNU as and ld.
+# Object files of GNU as and ld, and the line tables of compilers.
 check_script "object files of GNU ld" tests/elf_binutils.sh
+if built crates/rows_lines/out/rows_lines; then
+    check_script "line tables beside addr2line" tests/lines_dwarf
+fi
 
 summary

@@ -48,7 +48,7 @@ shows() {
 
 shows "a short run" 0 never "" run "${boot[@]}" "$work/short"
 shows "a long run" 0 never "$line$emptied" run "${boot[@]}" "$work/long"
-shows "a long trace" 0 never "$line$emptied" trace "${boot[@]}" "$work/traced" --summary
+shows "a long trace" 0 never "$line$emptied" trace "${boot[@]}" "$work/long" --summary
 shows "Ctrl-C in a run" 130 shown "$line.*" run "${boot[@]}" "$work/endless"
 shows "Ctrl-C in a trace" 130 shown "$line.*" trace "${boot[@]}" "$work/endless"
 shows "Ctrl-C before a trace's first event" 130 shown "$line.*" trace "${boot[@]}" "$work/endless" --from 12000000000

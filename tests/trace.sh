@@ -138,7 +138,37 @@ more=$(sed -nE 's/.* idle, ([0-9]+) steps?$/\1/p' "$work/each" | awk '{ sum += $
 [ $((lines + more)) = 115 ] && missing= || missing="$lines lines and $more steps"
 verdict "trace: each event once" "$missing"
 
+# Words: the lines of the instructions that load or store them, which also say what was written over.
+# of_words NAME WORDS PATTERN: the lines with `--word` are those of `--instructions` with the pattern.
+of_words() {
+    local wrong=
+    "$board" trace --instructions "${files[@]}" | tail -n +3 | grep -E -- "$3" > "$work/lines"
+    [ -s "$work/lines" ] || wrong="; no line is wanted"
+    run_trace --word "$2" "${files[@]}"
+    tail -n +3 "$work/out" | sed -E 's/, was [0-9a-f]{8}//' | cmp -s - "$work/lines" || wrong="$wrong; other lines"
+    grep -E ' s[bhcw][lr]? ' "$work/lines" | grep -vc '; not stored' > "$work/stores"
+    grep -c ', was ' "$work/out" | cmp -s - "$work/stores" || wrong="$wrong; other stores"
+    verdict "trace: $1" "$wrong"
+}
+example lost_update/racy
+of_words "one word" count '; count \(80000070\): '
+of_words "one word, by its address" 0x80000070 '; count \(80000070\): '
+example lost_update/repaired
+of_words "a word of LL and SC" count '; count \([0-9a-f]+\): '
+scene loads
+of_words "bytes and halfwords of a word" word '; word(\+0x[0-3])? \([0-9a-f]+\): '
+
 # What is refused, and faults of files.
+example data_queue/data_queue
+for words in missing 0x80000000,missing '' 0x80000000,; do
+    refused "no such word, $words" 2 \
+        "board: the trace: --word names a symbol that the object file doesn't have" --word "$words" "${files[@]}"
+done
+for words in 0x80000002 0x7ffffffc 0xfffffffc 80000000g; do
+    refused "no word at '$words'" 2 \
+        "board: the trace: --word has symbols, or 0x and hexadecimal addresses, of aligned words of RAM, with commas \
+between them" --word "$words" "${files[@]}"
+done
 refused "from above to" 2 "board: the trace: there are no events from 5 to 3: the journal has 125" \
     --from 5 --to 3 "${files[@]}"
 refused "from above the length" 2 "board: the trace: there are no events from 126 to 125: the journal has 125" \

@@ -31,7 +31,7 @@ shows() {
     check "help that was asked for: board $*" 0 "tests/help/$name" "" $?
 }
 for arguments in -h --help help; do shows board $arguments; done
-for name in words asm run race debug gdb trace journal explore shrink; do
+for name in words asm run try race debug gdb trace journal explore shrink; do
     shows $name $name -h
     shows $name $name --help
     shows $name help $name

@@ -164,6 +164,8 @@ class Texts:
         if self.often(.4):
             words.append("--instructions")
         if self.often(.2):
+            words += ["--word", self.among("0x80000000", "0x80000100,0x80000104", "0x80000002", "main", "", "0x", ",")]
+        if self.often(.2):
             words.append("--summary")
         if self.often(.6):
             words += ["--format", self.among("text", "json", "json", "svg", "svg", "SVG", "xml", "")]
