@@ -1,7 +1,9 @@
-//! What is told how far long work is, and how a race went.
+//! What is told how far long work is, how a race went, and what is odd about the input.
 #![tactic(auto)]
 
-/// What is told how far work is, and how a race went. It is told nothing else, so all that it can change is what it is
+use std::fmt;
+
+/// What is told how far work is, how a race went, and what is odd about the input. It is told nothing else, so all that it can change is what it is
 /// itself.
 pub trait Progress {
     /// Work begins, of which it is told from now on.
@@ -19,6 +21,10 @@ pub trait Progress {
     /// A race is over in which the processors hardly took turns: its journal has so many steps of theirs, in so few
     /// runs. What doesn't say otherwise does nothing then.
     fn took_few_turns(&mut self, _steps: u64, _runs: u64) {}
+
+    /// What is odd about the work's input, which is done all the same: a line of text. What doesn't say otherwise does
+    /// nothing then.
+    fn warn<D: fmt::Display>(&mut self, _warning: &D) {}
 }
 
 /// What says nothing of how far work is.
