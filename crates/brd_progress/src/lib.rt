@@ -3,8 +3,8 @@
 
 use std::fmt;
 
-/// What is told how far work is, how a race went, and what is odd about the input. It is told nothing else, so all that it can change is what it is
-/// itself.
+/// What is told how far work is, how a race went, and what is odd about the input. It is told nothing else, so all that
+/// it can change is what it is itself.
 pub trait Progress {
     /// Work begins, of which it is told from now on.
     fn begin(&mut self);
