@@ -2,6 +2,7 @@
 
 ghost use Rattle.std.specs.Prelude.{◌≡◌, Decides, ◌≤◌, All, IfOk, replicate, None};
 ghost use Rattle.brd_config.specs.View.{view};
+ghost use Rattle.brd_kernel.specs.Kernel.{line_at};
 ghost use Rattle.brd_tasks.specs.Ready.{IsProcessor, IsSetup};
 ghost use Rattle.brd_board.specs.Board.{
   happens,
@@ -382,6 +383,13 @@ impl Board {
         ensures { result ≡ spin_lock_of self.now id }
     {
         self.kernel.spin(id)
+    }
+
+    /// Whether an interrupt is pending on a line: raised, and accepted by no processor since.
+    pub fn is_pending(&self, line: u8) -> bool
+        ensures { result ≡ (line_at self.now.kernel line).pending }
+    {
+        self.kernel.is_pending(line)
     }
 
     /// The word that a processor's link is to, from an LL on; None where it has none.

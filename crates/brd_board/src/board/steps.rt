@@ -79,7 +79,7 @@ impl Board {
         ensures done { self.new ≡ after self.old (replicate result (Step cpu)) }
         ensures ran { AllRun self.old cpu result }
     {
-        if limit < FEW || !self.has_read(limit) {
+        if limit == 0 || !self.has_read(limit) {
             return 0;
         }
         self.batch(cpu, limit)

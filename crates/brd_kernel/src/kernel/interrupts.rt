@@ -50,6 +50,16 @@ impl Kernel {
         true
     }
 
+    /// Whether an interrupt is pending on a line.
+    pub fn is_pending(&self, line: u8) -> bool
+        ensures { result ≡ (line_at self.now line).pending }
+    {
+        if (line as usize) >= self.common.lines.len() {
+            return false;
+        }
+        self.common.lines[line as usize].pending
+    }
+
     /// A processor accepts the interrupt that is deliverable to it. Answers its line, if there is one.
     pub fn accept(&mut self, cpu: u8) -> Option<u8>
         ensures is { self.new ≡ accepted self.old cpu }
