@@ -29,7 +29,7 @@ use Rattle.brd_board.specs.Board.{BoardState, Happened, with_executed, happens, 
 use Rattle.brd_happening.specs.declared.found.Found.{Found}
 use Rattle.brd_happening.specs.Word as word
 use Rattle.brd_happening.specs.Found.{stands_for, found_by, found_where, found_on}
-use Rattle.brd_happening.specs.Before.{before_of, is_pending}
+use Rattle.brd_happening.specs.Before.{before_of}
 use Rattle.brd_happening.specs.Happening.{is_told, instruction_from, exception_by, executed_in as executed_where, was_raised, what_of, happening_of}
 
 -- What is found where somebody executes.
@@ -130,7 +130,7 @@ abbrev HasFaults : BoardState → Type 0
 HasFaults b = length b.faults ≡ length b.kernel.processors
 
 abbrev Told : BoardState → Event → Happened → Type 0
-Told b event h = is_told (what_of (before_of b event (is_pending b event)) h.report h.board) ≡ true
+Told b event h = is_told (what_of (before_of b event) h.report h.board) ≡ true
 
 either : (test : Bool) (b : BoardState) (event : Event) (one other : Happened) → Told b event one → Told b event other →
     Told b event (if test then one else other)

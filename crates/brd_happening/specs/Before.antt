@@ -48,13 +48,13 @@ may_release (Raise line) found = false
 abbrev pub waiters_in : BoardState → Bool → List Waiter
 waiters_in b asked = if asked then waiters_of b else []
 
--- what has to be read before an event; `pending` is whether the line is pending that it raises
-abbrev pub before_of : BoardState → Event → Bool → Before
-before_of b event pending = record {
+-- what has to be read before an event
+abbrev pub before_of : BoardState → Event → Before
+before_of b event = record {
   event = event;
   who = who_of b event;
   found = found_in b event;
-  pending = pending;
+  pending = is_pending b event;
   waiters = waiters_in b (may_release event (found_in b event));
   off = b.kernel.off;
 }

@@ -21,7 +21,7 @@ use Rattle.brd_happening.specs.Instruction.{instruction_of}
 use Rattle.brd_happening.specs.Cause.{cause_of}
 use Rattle.brd_happening.specs.Release.{waiters_of, release_in}
 use Rattle.brd_happening.specs.Call.{call_of}
-use Rattle.brd_happening.specs.Before.{before_of, is_pending}
+use Rattle.brd_happening.specs.Before.{before_of}
 
 -- an instruction that was done: as it was found before it, and by the registers and the memory after it
 abbrev pub instruction_from : Option Insn → Option State → Found → BoardState → What
@@ -114,7 +114,7 @@ happening_from before told after = record {
 -- what happens in an event
 abbrev pub happening_of : BoardState → Event → Happening
 happening_of b event =
-    happening_from (before_of b event (is_pending b event)) (happens b event).report (happens b event).board
+    happening_from (before_of b event) (happens b event).report (happens b event).board
 
 -- the tasks that an event releases: of all that wait before it those whose call is answered after it
 abbrev pub released_between : BoardState → Happened → List Release

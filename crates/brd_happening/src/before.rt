@@ -4,6 +4,7 @@ ghost use Rattle.std.specs.Prelude.{◌≡◌, IfOk};
 ghost use Rattle.brd_happening.specs.Before.{
   who_of,
   found_in,
+  is_pending,
   may_release,
   finds_call,
   is_call,
@@ -49,10 +50,9 @@ impl Drop for Before {
 }
 
 impl Before {
-    /// What has to be read of a board before an event. `pending` is whether the line is pending that the event raises,
-    /// which a board doesn't tell.
-    pub fn of(alloc: Global, board: &Board, event: Event, pending: bool) -> Result<Before, NoMemory>
-        ensures { IfOk result (λ before. before ≡ before_of board.now event pending) }
+    /// What has to be read of a board before an event.
+    pub fn of(alloc: Global, board: &Board, event: Event) -> Result<Before, NoMemory>
+        ensures { IfOk result (λ before. before ≡ before_of board.now event) }
     {
         let found = found_in(board, event);
         let waiters = waiters_in(alloc, board, may_release(event, &found))?;
@@ -60,7 +60,7 @@ impl Before {
             event,
             who: who_of(board, event),
             found,
-            pending,
+            pending: is_pending(board, event),
             waiters,
             off: board.is_off(),
         })
@@ -84,6 +84,16 @@ fn found_in(board: &Board, event: Event) -> Option<Found>
     match event {
         Event::Step(cpu) => Found::on(board, cpu),
         Event::Tick | Event::Raise(_) => None,
+    }
+}
+
+/// Whether the line is pending that an event raises.
+fn is_pending(board: &Board, event: Event) -> bool
+    ensures { result ≡ is_pending board.now event }
+{
+    match event {
+        Event::Raise(line) => board.is_pending(line),
+        Event::Step(_) | Event::Tick => false,
     }
 }
 

@@ -2,7 +2,7 @@
 
 ghost use Rattle.std.specs.Prelude.{◌≡◌, IfOk};
 ghost use Rattle.brd_board.specs.Board.{BoardState, happens};
-ghost use Rattle.brd_happening.specs.Before.{before_of, is_pending};
+ghost use Rattle.brd_happening.specs.Before.{before_of};
 ghost use Rattle.brd_happening.specs.Happening.{
   processor_of,
   place_of,
@@ -122,7 +122,7 @@ impl Before {
         ensures is { IfOk result (λ told. told ≡ happening_from self.now report after.now) }
         // of every board of which this was read before the event, and to which it did that
         ensures exactly { (board : BoardState) →
-            self.now ≡ before_of board self.now.event (is_pending board self.now.event) →
+            self.now ≡ before_of board self.now.event →
             record { board = after.now; report = report } ≡ happens board self.now.event →
             IfOk result (λ told. told ≡ happening_of board self.now.event) }
     {
