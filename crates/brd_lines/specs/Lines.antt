@@ -1,7 +1,15 @@
 -- Which line the code at an address stands for.
-use Rattle.std.specs.Prelude.{ℕ, ◌<◌, ◌≤◌, Bool, ◌&&◌, nat_lt, nat_le, List, [], ◌∷◌}
+use Rattle.std.specs.Prelude.{ℕ, ◌<◌, ◌≤◌, Bool, ◌&&◌, ◌==◌, nat_lt, nat_le, List, [], ◌∷◌, ◌++◌, slice_index_or}
 use Rattle.std.specs.Prelude.{if◌then◌else◌, Option, Some, None, find}
-use Rattle.brd_lines.specs.declared.lines.Stretch.{Stretch}
+use Rattle.std.specs.List.{fold}
+use Rattle.std.specs.Option.{option_map}
+use Rattle.brd_lines.specs.declared.lines.{Stretch.Stretch, Place.Place}
+
+-- what contracts see of lines: the paths of files, and the stretches of addresses whose code stands for a line of one of
+-- them, by ascending address
+pub record LinesOf : Type 0 where
+  pub files : List (List ℕ)
+  pub stretches : List Stretch
 
 -- From low on, stretches of at least one address each ascend, none over another.
 abbrev pub AreApart : ℕ → List Stretch → Type 0
@@ -29,3 +37,31 @@ ends_by address stretch = nat_le stretch.to address
 
 abbrev pub chosen : ℕ → Stretch → Option Stretch
 chosen address stretch = if nat_le stretch.from address then Some stretch else None
+
+-- A line of a file, by its path.
+pub record PlaceOf : Type 0 where
+  pub file : List ℕ
+  pub line : ℕ
+
+abbrev pub seen : Place → PlaceOf
+seen place = record { file = place.file.now; line = place.line }
+
+abbrev pub file_at : List (List ℕ) → ℕ → List ℕ
+file_at files place = slice_index_or files place []
+
+abbrev pub place_of : List (List ℕ) → Stretch → PlaceOf
+place_of files stretch = record { file = file_at files stretch.file; line = stretch.line }
+
+-- the line of the code at an address
+abbrev pub place_at : LinesOf → ℕ → Option PlaceOf
+place_at lines address = option_map (place_of lines.files) (stretch_at lines.stretches address)
+
+-- The name of a file without the folders of its path, as it is shown: what isn't printable ASCII as `?`.
+abbrev pub shown_byte : ℕ → ℕ
+shown_byte byte = if nat_le 32 byte && nat_le byte 126 then byte else 63
+
+abbrev pub name_more : List ℕ → ℕ → List ℕ
+name_more name byte = if byte == 47 then [] else name ++ shown_byte byte ∷ []
+
+abbrev pub name_of : List ℕ → List ℕ
+name_of path = fold name_more [] path

@@ -1,8 +1,19 @@
 //! Which line the code at an address stands for.
 
-ghost use Rattle.std.specs.Prelude.{◌≡◌, ◌↔◌, IsTrue, [], option_map, nat_le, IfOk, OnOk};
+ghost use Rattle.std.specs.Prelude.{◌≡◌, ◌↔◌, ◌++◌, IsTrue, [], option_map, nat_le, IfOk, OnOk};
 ghost use Rattle.std.specs.List.{prefix_len};
-ghost use Rattle.brd_lines.specs.Lines.{AreApart, chosen, end_of, ends_by, stretch_at};
+ghost use Rattle.brd_lines.specs.Lines.{
+  AreApart,
+  chosen,
+  end_of,
+  ends_by,
+  file_at,
+  name_of,
+  place_at,
+  seen,
+  shown_byte,
+  stretch_at,
+};
 
 use brd_base::NoMemory;
 use std::alloc::Global;
@@ -30,7 +41,8 @@ pub struct Place<'a> {
     pub line: u32,
 }
 
-/// The lines of an object file. Contracts see the stretches of addresses, by ascending address.
+/// The lines of an object file. Contracts see the paths of the files, and the stretches of addresses by ascending
+/// address.
 pub struct Lines {
     /// The paths of the files.
     files: Vec<Vec<u8>>,
@@ -39,13 +51,15 @@ pub struct Lines {
 }
 
 impl Model for Lines {
-    ghost use Rattle.std.specs.Prelude.{List};
-    ghost use Rattle.brd_lines.specs.declared.lines.Stretch.{Stretch as StretchOf};
-    ghost use Rattle.brd_lines.specs.Lines.{AreApart as Apart};
+    ghost use Rattle.std.specs.Prelude.{map};
+    ghost use Rattle.brd_lines.specs.Lines.{AreApart as Apart, LinesOf};
 
-    ghost Value = { List StretchOf };
+    ghost Value = { LinesOf };
 
-    ghost view = { λ lines. lines.stretches.items };
+    ghost view = { λ lines. record {
+      files = map (λ file. file.items) lines.files.items;
+      stretches = lines.stretches.items;
+    } };
 
     ghost invariant = { λ lines. Apart 0 lines.stretches.items };
 }
@@ -60,10 +74,38 @@ impl Drop for Lines {
     }
 }
 
+impl<'a> Place<'a> {
+    /// Puts at the end the name of the file, without the folders of its path: what isn't printable ASCII as `?`.
+    pub fn put_name(&self, alloc: Global, out: &mut Vec<u8>) -> Result<(), NoMemory>
+        ensures { OnOk result (out.new.items ≡ out.old.items ++ name_of self.now.file.now) }
+    {
+        let mut name = Vec::new(alloc);
+        for byte in self.file {
+            if *byte == b'/' {
+                name.clear();
+            } else {
+                name.push(shown_byte(*byte))?;
+            }
+        }
+        out.extend_from_slice(&name)?;
+        Ok(())
+    }
+}
+
+/// A byte as it is shown.
+fn shown_byte(byte: u8) -> u8
+    ensures { result ≡ shown_byte byte }
+{
+    match byte {
+        b' '..=b'~' => byte,
+        _ => b'?',
+    }
+}
+
 impl Lines {
     /// None.
     pub fn new(alloc: Global) -> Lines
-        ensures { result ≡ [] }
+        ensures { result ≡ record { files = []; stretches = [] } }
     {
         Lines {
             files: Vec::new(alloc),
@@ -85,14 +127,14 @@ impl Lines {
 
     /// Whether there are none.
     pub fn is_empty(&self) -> bool
-        ensures { IsTrue result ↔ (self.now ≡ []) }
+        ensures { IsTrue result ↔ (self.now.stretches ≡ []) }
     {
         self.stretches.is_empty()
     }
 
     /// The stretches, by ascending address, none over another.
     pub fn stretches(&self) -> &[Stretch]
-        ensures is { result.now ≡ self.now }
+        ensures is { result.now ≡ self.now.stretches }
         ensures apart { AreApart 0 result.now }
     {
         self.stretches.as_slice()
@@ -105,7 +147,7 @@ impl Lines {
 
     /// The stretch in which an address lies. It is a search by halves.
     pub fn stretch_at(&self, address: u32) -> Option<Stretch>
-        ensures { result ≡ stretch_at self.now address }
+        ensures { result ≡ stretch_at self.now.stretches address }
     {
         let stretches = self.stretches.as_slice();
         let place = place_in(stretches, address);
@@ -117,8 +159,7 @@ impl Lines {
 
     /// The line of the code at an address.
     pub fn line_at(&self, address: u32) -> Option<Place<'_>>
-        ensures { option_map (λ place. place.line) result
-            ≡ option_map (λ stretch. stretch.line) (stretch_at self.now address) }
+        ensures { option_map seen result ≡ place_at self.now address }
     {
         let stretch = self.stretch_at(address)?;
         Some(Place {
@@ -128,7 +169,9 @@ impl Lines {
     }
 
     /// The path of the file at a place; nothing where there is none.
-    pub fn file(&self, place: u32) -> &[u8] {
+    pub fn file(&self, place: u32) -> &[u8]
+        ensures { result.now ≡ file_at self.now.files place }
+    {
         match self.files.get(place as usize) {
             Some(file) => file.as_slice(),
             None => &[],
