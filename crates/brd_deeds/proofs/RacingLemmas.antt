@@ -3,7 +3,7 @@ use Rattle.std.proofs.Common.{◌≡◌, ℕ, zero, suc, ◌+◌, ◌<◌, ◌�
 use Rattle.std.proofs.lemmas.Bool.{false≢true}
 use Rattle.std.proofs.lemmas.List.{append-nil}
 use Rattle.std.proofs.Math.Seq.{take-add}
-use Rattle.std.specs.Prelude.{Bool, true, false, Option, Some, None, if◌then◌else◌}
+use Rattle.std.specs.Prelude.{Bool, true, false, Option, Some, None, Result, Ok, Err, OnOk, if◌then◌else◌}
 use Rattle.std.specs.List.{flat_map, filter_map}
 use Rattle.brd_board.specs.declared.event.Event.{Event}
 use Rattle.brd_board.specs.declared.event.Event.TheVariants.{Step, Tick, Raise}
@@ -24,6 +24,9 @@ use Rattle.brd_happening.specs.Before.{before_of}
 use Rattle.brd_happening.specs.Release.{release_in}
 use Rattle.brd_happening.specs.Happening.{happening_from, released_in, releases, processor_of, no_such}
 use Rattle.brd_order.specs.declared.deed.Deed.{Deed}
+use Rattle.brd_order.specs.declared.fault.OrderFault.{OrderFault}
+use Rattle.brd_order.specs.declared.fault.OrderFault.TheVariants as fault
+use Rattle.brd_order.specs.Refusals.{MayRefuse}
 use Rattle.brd_deeds.specs.declared.acts.Acts.{Acts}
 use Rattle.brd_deeds.specs.Acts.{none, acts_at, acts_of, acts_released}
 use Rattle.brd_deeds.specs.Deeds.{listed, stamp_of, deeds_of, deeds_in, deeds_from}
@@ -74,7 +77,7 @@ no-deeds position h b acts released =
 
 quiet-none : (position : ℕ) (b : BoardState) (event : Event) → did_nothing (happens b event).report ≡ true → deeds_in position b event ≡ []
 quiet-none position b event quiet =
-    let before = before_of b event false in
+    let before = before_of b event in
     let h = happens b event in
     no-deeds position (happening_from before h.report h.board) h.board (quiet-acts before h.report h.board quiet) (quiet-released before h.report h.board quiet)
 
@@ -84,7 +87,7 @@ both-none false b = refl
 
 raise-none : (position : ℕ) (b : BoardState) (line : ℕ) → deeds_in position b (Raise line) ≡ []
 raise-none position b line =
-    let before = before_of b (Raise line) false in
+    let before = before_of b (Raise line) in
     let h = happens b (Raise line) in
     no-deeds position (happening_from before h.report h.board) h.board refl (both-none (releases h.report) h.board)
 
@@ -161,11 +164,23 @@ deeds-on boot b events at n rest is within comes some few over =
 
 -- what was read of the board, and what is told by it
 pub deeds-told : (b : BoardState) (event : Event) (position : ℕ) (before : Before) (told : Report) (next : BoardState) (it : Happening) (deeds : List Deed) →
-    before ≡ before_of b event false → told ≡ (happens b event).report → next ≡ (happens b event).board → it ≡ happening_from before told next →
+    before ≡ before_of b event → told ≡ (happens b event).report → next ≡ (happens b event).board → it ≡ happening_from before told next →
     deeds ≡ deeds_of position it next → deeds ≡ deeds_in position b event
 deeds-told b event position before told next it deeds read reports leaves is gives =
     gives
     ∙ ap (λ (h : Happening). deeds_of position h next) is
     ∙ ap (λ (x : Before). deeds_of position (happening_from x told next) next) read
-    ∙ ap (λ (x : Report). deeds_of position (happening_from (before_of b event false) x next) next) reports
-    ∙ ap (λ (x : BoardState). deeds_of position (happening_from (before_of b event false) (happens b event).report x) x) leaves
+    ∙ ap (λ (x : Report). deeds_of position (happening_from (before_of b event) x next) next) reports
+    ∙ ap (λ (x : BoardState). deeds_of position (happening_from (before_of b event) (happens b event).report x) x) leaves
+
+-- what holds of a success holds together
+pub on_ok_both : {A E : Type 0} (P Q : Type 0) (r : Result A E) → OnOk r P → OnOk r Q → OnOk r (P × Q)
+on_ok_both P Q (Ok x) p q = (p, q)
+on_ok_both P Q (Err e) p q = tt
+
+-- a deed that may be refused after some deeds may be refused after more
+pub refuses-later : (n m : ℕ) (fault : OrderFault) → n ≤ m → MayRefuse n fault → MayRefuse m fault
+refuses-later n m fault.NoMemory more may = tt
+refuses-later n m fault.TooManyTouches more may = omega (arith, more, may)
+refuses-later n m fault.TooManyThings more may = omega (arith, more, may)
+refuses-later n m fault.TooManyDeeds more may = omega (arith, more, may)

@@ -1,13 +1,12 @@
 -- The deeds of an event: what who executes does, and then what the tasks do whose waits it ended, by ascending ID.
-use Rattle.std.specs.Prelude.{◌++◌, ◌+◌, ℕ, List, [], ◌∷◌, Option, None, Some, false}
+use Rattle.std.specs.Prelude.{◌++◌, ◌+◌, ℕ, List, [], ◌∷◌, Option, None, Some}
 use Rattle.std.specs.List.{flat_map, cons_option}
 use Rattle.std.specs.Option.{option_map}
 use Rattle.std.specs.Prelude.{unwrap_or}
 use Rattle.brd_board.specs.declared.event.Event.{Event}
 use Rattle.brd_board.specs.Board.{BoardState, happens}
 use Rattle.brd_happening.specs.declared.happening.Happening.{Happening}
-use Rattle.brd_happening.specs.Before.{before_of}
-use Rattle.brd_happening.specs.Happening.{happening_from}
+use Rattle.brd_happening.specs.Happening.{happening_of}
 use Rattle.brd_order.specs.declared.deed.Deed.{Deed}
 use Rattle.brd_deeds.specs.declared.acts.{Done.Done, Acts.Acts}
 use Rattle.brd_deeds.specs.declared.deeds.Stamp.{Stamp}
@@ -33,11 +32,9 @@ deeds_of position told after =
     listed (stamp_of position told) (acts_of told after)
     ++ flat_map (λ release. listed (stamp_of position told) (acts_released release)) told.released
 
--- by the board before an event (whether a line is pending that it raises makes no difference)
+-- by the board before an event
 abbrev pub deeds_in : ℕ → BoardState → Event → List Deed
-deeds_in position b event =
-    deeds_of position (happening_from (before_of b event false) (happens b event).report (happens b event).board)
-    (happens b event).board
+deeds_in position b event = deeds_of position (happening_of b event) (happens b event).board
 
 -- of a list of events, from a board at a position on
 abbrev pub deeds_from : ℕ → BoardState → List Event → List Deed

@@ -1,12 +1,13 @@
 //! Going through a journal, with the order of what is done.
 
-ghost use Rattle.std.specs.Prelude.{◌≡◌, ◌≤◌, ◌<◌, ◌++◌, List as ListOf, length, take, IfOk, OnOk};
+ghost use Rattle.std.specs.Prelude.{◌≡◌, ◌≤◌, ◌<◌, ◌+◌, ◌++◌, ℕ, List as ListOf, length, take, IfErr, IfOk, OnOk};
 ghost use Rattle.brd_board.specs.declared.event.Event.{Event as EventOf};
 ghost use Rattle.brd_board.specs.Board.{BoardState as BoardOf};
 ghost use Rattle.brd_journal.specs.Runs.{ComesBehind};
 ghost use Rattle.brd_order.specs.declared.deed.Deed.{Deed as DeedOf};
 ghost use Rattle.brd_order.specs.Races.{AreRaces};
 ghost use Rattle.brd_order.specs.After.{IsAfter};
+ghost use Rattle.brd_order.specs.Refusals.{IsKept, MayRefuse};
 ghost use Rattle.brd_deeds.specs.Deeds.{deeds_from};
 ghost use Rattle.brd_deeds.specs.Racing.{IsRaced};
 
@@ -50,6 +51,9 @@ impl Racing {
         ensures goes { self.old.playback.at < to → self.old.playback.at < self.new.playback.at }
         ensures raced { (boot : BoardOf) → IsRaced boot journal.now.events self.old →
             OnOk result (IsRaced boot journal.now.events self.new) }
+        // It refuses no sooner than the deeds of the events up to there are as many as that.
+        ensures refuses { (boot : BoardOf) → IsRaced boot journal.now.events self.old →
+            IfErr result (MayRefuse (length (deeds_from 0 boot (take self.new.playback.at journal.now.events)))) }
     {
         if self.playback.at >= to {
             return Ok(());
@@ -69,9 +73,12 @@ impl Racing {
         ensures raced { (boot : BoardOf) (events : ListOf EventOf) → to ≤ length events
             → ComesBehind events self.old.playback.at rest → IsRaced boot events self.old
             → OnOk result (IsRaced boot events self.new) }
+        ensures refuses { (boot : BoardOf) (events : ListOf EventOf) → to ≤ length events
+            → ComesBehind events self.old.playback.at rest → IsRaced boot events self.old
+            → IfErr result (MayRefuse (length (deeds_from 0 boot (take self.new.playback.at events)))) }
     {
         let position = self.playback.at;
-        let before = match Before::of(alloc, &self.playback.board, rest.event, false) {
+        let before = match Before::of(alloc, &self.playback.board, rest.event) {
             Ok(before) => before,
             Err(NoMemory) => {
                 self.playback.advance(rest, position + 1, to);
@@ -95,8 +102,10 @@ impl Racing {
 
 /// Takes deeds in their order.
 fn take_all(order: &mut Order, deeds: &[Deed]) -> Result<(), OrderFault>
-    ensures { (before : ListOf DeedOf) → IsAfter before order.old →
+    ensures after { (before : ListOf DeedOf) → IsAfter before order.old →
         OnOk result (IsAfter (before ++ deeds.now) order.new) }
+    ensures kept { (n : ℕ) → IsKept n order.old → OnOk result (IsKept (n + length deeds.now) order.new) }
+    ensures refuses { (n : ℕ) → IsKept n order.old → IfErr result (MayRefuse (n + length deeds.now)) }
 {
     for deed in deeds {
         order.take(*deed)?;

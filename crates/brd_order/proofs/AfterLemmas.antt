@@ -1,7 +1,6 @@
 -- What is known after one deed more.
-use Rattle.std.proofs.Common.{◌≡◌, ℕ, ◌+◌, ◌<◌, ◌≤◌, List, [], ◌∷◌, ◌++◌, length, length-append, refl, sym, ap, subst, ◌∙◌, arith, inl, inr}
+use Rattle.std.proofs.Common.{◌≡◌, ℕ, ◌+◌, ◌<◌, List, [], ◌∷◌, ◌++◌, length, length-append, refl, sym, ap, subst, ◌∙◌, arith, inl, inr}
 use Rattle.std.specs.Prelude.{Some, None, ◌⊎◌, Option}
-use Rattle.std.specs.List.{slice_get}
 use Rattle.std.proofs.lemmas.Bool.{cases_eq}
 use Rattle.brd_order.specs.declared.deed.{Act.Act, Deed.Deed, Touch.Touch, Mark.Mark, Race.Race}
 use Rattle.brd_order.specs.declared.deed.Act.TheVariants.{Touches, Acquires, Releases}
@@ -9,12 +8,12 @@ use Rattle.brd_order.specs.declared.order.Order.{Order}
 use Rattle.brd_order.specs.declared.strands.Given.{Given}
 use Rattle.brd_order.specs.declared.marks.Share.{Share}
 use Rattle.brd_order.specs.Order.{Hands, Orders}
-use Rattle.brd_order.specs.Clocks.{LeadsToOne, Knows, Did, Released, IsGreater, Joins, Puts}
-use Rattle.brd_order.specs.Races.{deed_of, IsIn, AreRaces}
+use Rattle.brd_order.specs.Clocks.{Knows, Did, Released, Joins, Puts}
+use Rattle.brd_order.specs.Races.{deed_of, AreRaces}
 use Rattle.brd_order.specs.Marks.{AreMarks, ComesIn, IsLast}
 use Rattle.brd_order.specs.Tables.{counts_at, counts_given, marks_at, Gives}
-use Rattle.brd_order.specs.After.{IsAfter, HasRace, TellsRace}
-use Rattle.brd_order.proofs.OrderLemmas.{get-cases, knows-bystander, knows-same, knows-both, knows-doer, knows-released}
+use Rattle.brd_order.specs.After.{IsAfter, TellsRace}
+use Rattle.brd_order.proofs.OrderLemmas.{knows-bystander, knows-same, knows-both, knows-doer, knows-released}
 use Rattle.brd_order.proofs.RaceLemmas.{marks-untouched, marks-touched, races-untouched, races-none, races-again, races-found}
 
 -- who releases into what is acquired from

@@ -1,14 +1,14 @@
 -- What a deed more changes of the order, and of what clocks know.
-use Rattle.std.proofs.Common.{◌≡◌, ℕ, zero, suc, ◌+◌, ◌<◌, ◌≤◌, List, [], ◌∷◌, ◌++◌, length, length-append, ⊎_elim, refl, sym, ap, subst, ◌∙◌, arith, inl, inr}
-use Rattle.std.specs.Prelude.{Some, None, ◌⊎◌, ◌≢◌}
+use Rattle.std.proofs.Common.{◌≡◌, ℕ, zero, suc, ◌+◌, ◌<◌, ◌≤◌, List, [], ◌∷◌, ◌++◌, length, length-append, refl, sym, ap, subst, ◌∙◌, arith, inl, inr}
+use Rattle.std.specs.Prelude.{Some, ◌⊎◌}
 use Rattle.std.specs.List.{slice_get}
 use Rattle.std.proofs.lemmas.Option.{slice_get_within}
 use Rattle.std.proofs.lemmas.Bool.{cases_eq}
-use Rattle.brd_order.specs.declared.deed.{Act.Act, Deed.Deed, Touch.Touch}
-use Rattle.brd_order.specs.declared.deed.Act.TheVariants.{Touches, Acquires, Releases}
-use Rattle.brd_order.specs.Order.{Hands, Orders, Step, Leads}
+use Rattle.brd_order.specs.declared.deed.{Deed.Deed}
+use Rattle.brd_order.specs.declared.deed.Act.TheVariants.{Releases}
+use Rattle.brd_order.specs.Order.{Orders, Step, Leads}
 use Rattle.brd_order.specs.Order.Leads.{here, on}
-use Rattle.brd_order.specs.Clocks.{LeadsToOne, Knows, Did, Released, IsGreater, Joins, Puts}
+use Rattle.brd_order.specs.Clocks.{LeadsToOne, Knows, Did, Released, Joins, Puts}
 
 pub of-some : {A : Type 0} (x y : A) → Some x ≡ Some y → x ≡ y
 of-some x y e = cc

@@ -1,5 +1,5 @@
 -- What a deed more changes of the races that are told.
-use Rattle.std.proofs.Common.{◌≡◌, ℕ, zero, suc, ◌+◌, ◌<◌, ◌≤◌, List, [], ◌∷◌, ◌++◌, length, length-append, refl, sym, ap, subst, ◌∙◌, arith, inl, inr}
+use Rattle.std.proofs.Common.{◌≡◌, ℕ, ◌<◌, ◌≤◌, List, [], ◌∷◌, ◌++◌, length, refl, sym, ap, subst, ◌∙◌, arith, inl, inr}
 use Rattle.std.specs.Prelude.{Some, None, ◌⊎◌, true, false, Option}
 use Rattle.std.specs.List.{slice_get}
 use Rattle.std.proofs.lemmas.Option.{slice_get_within}
@@ -8,8 +8,7 @@ use Rattle.std.proofs.lemmas.Bool.Decides.{nat_tests}
 use Rattle.brd_order.specs.declared.deed.{Act.Act, Deed.Deed, Touch.Touch, Mark.Mark, Race.Race}
 use Rattle.brd_order.specs.declared.deed.Act.TheVariants.{Touches, Acquires, Releases}
 use Rattle.brd_order.specs.Order.{Leads}
-use Rattle.brd_order.specs.Order.Leads.{here, on}
-use Rattle.brd_order.specs.Clocks.{LeadsToOne, Knows, Did}
+use Rattle.brd_order.specs.Clocks.{Knows, Did}
 use Rattle.brd_order.specs.Races.{meets, deed_of, IsOf, IsRace, IsFirst, IsIn, AreRaces}
 use Rattle.brd_order.specs.Marks.{AreLike, AreMarks, ComesIn, IsUnknown, IsLast}
 use Rattle.brd_order.proofs.OrderLemmas.{of-some, get-more, get-back, get-last, get-cases, leads-more, leads-back, led-to-last}

@@ -1,20 +1,20 @@
 -- Clocks and marks as they are kept.
-use Rattle.std.proofs.Common.{◌≡◌, ℕ, zero, suc, ◌+◌, ◌<◌, ◌≤◌, List, [], ◌∷◌, ◌++◌, length, length-append, refl, sym, ap, subst, ◌∙◌, arith, inl, inr}
-use Rattle.std.specs.Prelude.{Some, None, ◌⊎◌, true, false, Option, ◌==◌, slice_set}
+use Rattle.std.proofs.Common.{◌≡◌, ℕ, zero, suc, ◌+◌, ◌<◌, ◌≤◌, List, [], ◌∷◌, ◌++◌, length, refl, sym, ap, subst, ◌∙◌, arith, inl, inr}
+use Rattle.std.specs.Prelude.{Some, ◌⊎◌, Option, slice_set}
 use Rattle.std.specs.List.{slice_get}
 use Rattle.std.specs.Prelude.{IfSome, slice_index_or}
 use Rattle.std.proofs.lemmas.Option.{slice_get_read}
 use Rattle.std.proofs.lemmas.Bool.{cases_eq, cases_lt}
 use Rattle.std.proofs.lemmas.Bool.Decides.{nat_tests}
-use Rattle.brd_order.specs.declared.deed.{Act.Act, Deed.Deed, Touch.Touch, Mark.Mark, Race.Race}
+use Rattle.brd_order.specs.declared.deed.{Mark.Mark}
 use Rattle.brd_order.specs.declared.clock.Clock.{Clock}
 use Rattle.brd_order.specs.declared.strands.Given.{Given}
 use Rattle.brd_order.specs.declared.marks.Share.{Share}
-use Rattle.brd_order.specs.Clocks.{count_in, IsGreater, Joins, Puts}
+use Rattle.brd_order.specs.Clocks.{count_in, IsGreater, Joins}
 use Rattle.brd_order.specs.Races.{IsIn}
-use Rattle.brd_order.specs.Marks.{AreLike, ComesIn, Replaces, IsUnknown, IsLast, TakesLater}
+use Rattle.brd_order.specs.Marks.{AreLike, ComesIn, Replaces, IsUnknown, TakesLater}
 use Rattle.brd_order.specs.Tables.{counts_of, counts_if, counts_at, counts_given, place_of, marks_if, marks_at, share_of, Gives}
-use Rattle.brd_order.proofs.OrderLemmas.{of-some, get-more, get-back, get-last, get-cases}
+use Rattle.brd_order.proofs.OrderLemmas.{of-some}
 
 -- a clock with more counts of 0
 pub count-more : (xs : List ℕ) (i : ℕ) → count_in (xs ++ 0 ∷ []) i ≡ count_in xs i

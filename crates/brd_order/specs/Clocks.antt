@@ -2,7 +2,7 @@
 -- which all its deeds lead to one of certain deeds, and from which on none does.
 use Rattle.std.specs.Prelude.{◌≡◌, ◌⊎◌, ◌<◌, ◌≤◌, ℕ, List, length, Some}
 use Rattle.std.specs.List.{slice_get, slice_index}
-use Rattle.brd_order.specs.declared.deed.{Act.Act, Deed.Deed}
+use Rattle.brd_order.specs.declared.deed.{Deed.Deed}
 use Rattle.brd_order.specs.declared.deed.Act.TheVariants.{Releases}
 use Rattle.brd_order.specs.Order.{Leads}
 

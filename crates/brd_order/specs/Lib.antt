@@ -4,3 +4,4 @@ pub mod Clocks
 pub mod Marks
 pub mod Tables
 pub mod After
+pub mod Refusals

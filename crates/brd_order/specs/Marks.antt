@@ -1,5 +1,5 @@
 -- Which touches are kept: of each strand and each kind of touch the last one, by the word.
-use Rattle.std.specs.Prelude.{◌≡◌, ◌⊎◌, ◌≤◌, ℕ, List, Option, None, Some, true, IfSome}
+use Rattle.std.specs.Prelude.{◌≡◌, ◌⊎◌, ◌≤◌, ℕ, List, Option, Some, true, IfSome}
 use Rattle.brd_order.specs.declared.deed.{Deed.Deed, Mark.Mark}
 use Rattle.brd_order.specs.Races.{IsOf, IsIn, meets}
 

@@ -1,5 +1,8 @@
 //! Why the order isn't followed further.
 
+ghost use Rattle.std.specs.Prelude.{◌≡◌};
+ghost use Rattle.brd_order.specs.declared.fault.OrderFault.TheVariants.{NoMemory as no_memory};
+
 use brd_base::NoMemory;
 use std::alloc::AllocFailed;
 use thiserror::Error;
@@ -22,12 +25,16 @@ pub enum OrderFault {
 }
 
 impl From<NoMemory> for OrderFault {
+    ghost from_gives = { λ _ e. e ≡ no_memory };
+
     fn from(_e: NoMemory) -> Self {
         OrderFault::NoMemory
     }
 }
 
 impl<T: Drop> From<AllocFailed<T>> for OrderFault {
+    ghost from_gives = { λ _ e. e ≡ no_memory };
+
     fn from(_e: AllocFailed<T>) -> Self {
         OrderFault::NoMemory
     }

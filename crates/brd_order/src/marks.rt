@@ -7,11 +7,13 @@ ghost use Rattle.std.specs.Prelude.{
   ◌/◌,
   ◌%◌,
   ◌&&◌,
+  ◌+◌,
   ℕ,
   [],
   length,
   Decides,
   IfSome,
+  IfErr,
   IfOk,
   OnOk,
   Some,
@@ -20,6 +22,7 @@ ghost use Rattle.std.specs.Prelude.{
 ghost use Rattle.std.specs.List.{slice_get};
 ghost use Rattle.brd_order.specs.declared.deed.Mark.{Mark as MarkOf};
 ghost use Rattle.brd_order.specs.Races.{meets};
+ghost use Rattle.brd_order.specs.Refusals.{MayRefuse};
 ghost use Rattle.brd_order.specs.Marks.{AreLike, ComesIn, IsLast, IsUnknown, Replaces, TakesLater};
 ghost use Rattle.brd_order.specs.Tables.{counts_of, marks_at, share_of};
 
@@ -69,7 +72,9 @@ impl Share {
 impl Marks {
     /// No word is touched.
     pub(crate) fn new(alloc: Global) -> Result<Marks, NoMemory>
-        ensures { IfOk result (λ marks. (word : ℕ) → marks_at marks.shares.items word ≡ []) }
+        ensures none { IfOk result (λ marks. (word : ℕ) → marks_at marks.shares.items word ≡ []) }
+        ensures count { IfOk result (λ marks. marks.count ≡ 0) }
+        ensures shares { IfOk result (λ marks. length marks.shares.items ≡ 65536) }
     {
         let mut shares = Vec::new(alloc);
         for _ in 0..SHARES {
@@ -93,7 +98,10 @@ impl Marks {
 
     /// Puts a mark in the place of one that is like it, or with the others.
     pub(crate) fn put(&mut self, mark: Mark) -> Result<(), OrderFault>
-        ensures { OnOk result (ComesIn mark (marks_at self.old.shares.items) (marks_at self.new.shares.items)) }
+        ensures comes { OnOk result (ComesIn mark (marks_at self.old.shares.items) (marks_at self.new.shares.items)) }
+        ensures count { OnOk result (self.new.count ≤ self.old.count + 1) }
+        ensures shares { OnOk result (length self.new.shares.items ≡ length self.old.shares.items) }
+        ensures refuses { length self.old.shares.items ≡ 65536 → IfErr result (MayRefuse self.old.count) }
     {
         let share = share_of(mark.touch.word);
         if share >= self.shares.len() || self.count >= MOST_MARKS {

@@ -1,10 +1,11 @@
 //! The order of deeds, as they are done.
 
-ghost use Rattle.std.specs.Prelude.{◌≡◌, ◌⊎◌, ◌++◌, ◌∷◌, ◌+◌, ◌^◌, ◌<◌, ℕ, [], List as ListOf, length, Option as OptionOf, Decides, IfOk, OnOk};
+ghost use Rattle.std.specs.Prelude.{◌≡◌, ◌⊎◌, ◌++◌, ◌∷◌, ◌+◌, ◌^◌, ◌<◌, ℕ, [], List as ListOf, length, Option as OptionOf, Decides, IfErr, IfOk, OnOk};
 ghost use Rattle.brd_order.specs.declared.deed.Deed.{Deed as DeedOf};
 ghost use Rattle.brd_order.specs.declared.deed.Act.TheVariants.{Acquires as AcquiresOf, Releases as ReleasesOf};
 ghost use Rattle.brd_order.specs.Races.{AreRaces, deed_of};
 ghost use Rattle.brd_order.specs.After.{HasRace, IsAfter, TellsRace};
+ghost use Rattle.brd_order.specs.Refusals.{IsKept, MayRefuse};
 
 use crate::deed::{Act, Deed, Mark, Race};
 use crate::fault::OrderFault;
@@ -27,7 +28,8 @@ pub struct Order {
 impl Order {
     /// Nothing was done.
     pub fn new(alloc: Global) -> Result<Order, NoMemory>
-        ensures { IfOk result (IsAfter []) }
+        ensures after { IfOk result (IsAfter []) }
+        ensures kept { IfOk result (IsKept 0) }
     {
         Ok(Order {
             strands: Strands::new(alloc),
@@ -41,8 +43,10 @@ impl Order {
 
     /// Takes the next deed. After a fault nothing is known any more.
     pub fn take(&mut self, deed: Deed) -> Result<(), OrderFault>
-        ensures { (deeds : ListOf DeedOf) → IsAfter deeds self.old →
+        ensures after { (deeds : ListOf DeedOf) → IsAfter deeds self.old →
             OnOk result (IsAfter (deeds ++ deed ∷ []) self.new) }
+        ensures kept { (n : ℕ) → IsKept n self.old → OnOk result (IsKept (n + 1) self.new) }
+        ensures refuses { (n : ℕ) → IsKept n self.old → IfErr result (MayRefuse n) }
     {
         if self.count == u64::MAX {
             return Err(OrderFault::TooManyDeeds);
@@ -71,8 +75,10 @@ impl Order {
     fn acquire(&mut self, deed: Deed, thing: u64) -> Result<(), OrderFault>
         requires act { deed.act ≡ AcquiresOf thing }
         requires count { self.old.count + 1 < 2 ^ 64 }
-        ensures { (deeds : ListOf DeedOf) → IsAfter deeds self.old →
+        ensures after { (deeds : ListOf DeedOf) → IsAfter deeds self.old →
             OnOk result (IsAfter (deeds ++ deed ∷ []) self.new) }
+        ensures kept { (n : ℕ) → IsKept n self.old → OnOk result (IsKept (n + 1) self.new) }
+        ensures refuses { (n : ℕ) → IsKept n self.old → IfErr result (MayRefuse n) }
     {
         self.strands.extend(self.alloc, deed.strand)?;
         self.strands.acquire(deed.strand, &self.things, thing)?;
@@ -85,8 +91,10 @@ impl Order {
     fn release(&mut self, deed: Deed, thing: u64) -> Result<(), OrderFault>
         requires act { deed.act ≡ ReleasesOf thing }
         requires count { self.old.count + 1 < 2 ^ 64 }
-        ensures { (deeds : ListOf DeedOf) → IsAfter deeds self.old →
+        ensures after { (deeds : ListOf DeedOf) → IsAfter deeds self.old →
             OnOk result (IsAfter (deeds ++ deed ∷ []) self.new) }
+        ensures kept { (n : ℕ) → IsKept n self.old → OnOk result (IsKept (n + 1) self.new) }
+        ensures refuses { (n : ℕ) → IsKept n self.old → IfErr result (MayRefuse n) }
     {
         self.strands.extend(self.alloc, deed.strand)?;
         self.count += 1;
@@ -98,8 +106,10 @@ impl Order {
     fn touch(&mut self, new: Mark) -> Result<(), OrderFault>
         requires at { new.at ≡ self.old.count }
         requires count { self.old.count + 1 < 2 ^ 64 }
-        ensures { (deeds : ListOf DeedOf) → IsAfter deeds self.old →
+        ensures after { (deeds : ListOf DeedOf) → IsAfter deeds self.old →
             OnOk result (IsAfter (deeds ++ deed_of new ∷ []) self.new) }
+        ensures kept { (n : ℕ) → IsKept n self.old → OnOk result (IsKept (n + 1) self.new) }
+        ensures refuses { (n : ℕ) → IsKept n self.old → IfErr result (MayRefuse n) }
     {
         self.strands.extend(self.alloc, new.strand)?;
         self.count += 1;

@@ -1,7 +1,8 @@
 //! The clocks of all strands, and of all that orders them.
 
-ghost use Rattle.std.specs.Prelude.{◌≡◌, ◌≤◌, ◌<◌, ℕ, [], length, IfSome, IfNone, IfOk, OnOk};
+ghost use Rattle.std.specs.Prelude.{◌≡◌, ◌≤◌, ◌<◌, ◌+◌, ℕ, [], length, IfSome, IfNone, IfErr, IfOk, OnOk};
 ghost use Rattle.brd_order.specs.Clocks.{Joins, Puts};
+ghost use Rattle.brd_order.specs.Refusals.{MayRefuse};
 ghost use Rattle.brd_order.specs.Tables.{counts_of, counts_at, counts_given, place_of, Gives};
 
 use crate::clock::Clock;
@@ -133,8 +134,10 @@ impl Things {
 
     /// What a clock knows is released into a thing.
     pub(crate) fn give(&mut self, thing: u64, clock: &Clock) -> Result<(), OrderFault>
-        ensures { OnOk result
+        ensures gives { OnOk result
             (Gives thing (counts_of clock.now) self.old.given.items self.new.given.items) }
+        ensures len { OnOk result (length self.new.given.items ≤ length self.old.given.items + 1) }
+        ensures refuses { IfErr result (MayRefuse (length self.old.given.items)) }
     {
         match self.find(thing) {
             Some(i) => self.join_at(i, clock),
@@ -145,8 +148,10 @@ impl Things {
     /// What a clock knows is released into the thing at an index.
     fn join_at(&mut self, i: usize, clock: &Clock) -> Result<(), OrderFault>
         requires { i < length self.old.given.items }
-        ensures { OnOk result ((thing : ℕ) → place_of self.old.given.items thing ≡ i →
+        ensures gives { OnOk result ((thing : ℕ) → place_of self.old.given.items thing ≡ i →
             Gives thing (counts_of clock.now) self.old.given.items self.new.given.items) }
+        ensures len { OnOk result (length self.new.given.items ≡ length self.old.given.items) }
+        ensures refuses { IfErr result (MayRefuse (length self.old.given.items)) }
     {
         self.given[i].clock.join(clock)?;
         Ok(())
@@ -155,8 +160,10 @@ impl Things {
     /// What a clock knows is released into a thing that nothing was released into.
     fn add(&mut self, thing: u64, clock: &Clock) -> Result<(), OrderFault>
         requires { place_of self.old.given.items thing ≡ length self.old.given.items }
-        ensures { OnOk result
+        ensures gives { OnOk result
             (Gives thing (counts_of clock.now) self.old.given.items self.new.given.items) }
+        ensures len { OnOk result (length self.new.given.items ≡ length self.old.given.items + 1) }
+        ensures refuses { IfErr result (MayRefuse (length self.old.given.items)) }
     {
         if self.given.len() >= MOST_THINGS {
             return Err(OrderFault::TooManyThings);

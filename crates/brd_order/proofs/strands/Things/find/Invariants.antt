@@ -1,5 +1,5 @@
 -- Those before the index are of other things.
-use Rattle.std.proofs.Common.{◌≡◌, ◌+◌, ℕ, drop}
+use Rattle.std.proofs.Common.{◌≡◌, ◌+◌, drop}
 use Rattle.brd_order.specs.Tables.{place_of}
 use Rattle.brd_order.proofs.strands.Things.find.Given as goal
 
