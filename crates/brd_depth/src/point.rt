@@ -1,0 +1,29 @@
+//! Where a stack pointer was.
+
+/// A store to memory.
+#[derive(Clone, Copy)]
+pub struct Store {
+    /// The address that it names.
+    pub address: u32,
+    /// Whether it names it by $sp and an offset.
+    pub by_pointer: bool,
+}
+
+/// What a task or a handler did with its stack pointer in an event.
+#[derive(Clone, Copy)]
+pub struct Point {
+    /// Who: a task's strand is its ID, a handler's 256 and its line.
+    pub strand: u16,
+    /// The position of the event.
+    pub event: u64,
+    /// The address of the instruction.
+    pub place: u32,
+    /// $sp before it.
+    pub before: u32,
+    /// $sp after it.
+    pub after: u32,
+    /// Whether $sp stayed, or was computed from itself.
+    pub kept: bool,
+    /// What it stored.
+    pub store: Option<Store>,
+}
