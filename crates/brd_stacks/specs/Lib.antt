@@ -1,0 +1,4 @@
+pub mod Laid
+pub mod Points
+pub mod Following
+pub mod Text
