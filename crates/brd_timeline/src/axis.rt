@@ -2,7 +2,7 @@
 
 ghost use Rattle.std.specs.Prelude.{◌≤◌};
 
-use crate::layout::{LEFT, SPAN, TOP, bottom_of, x_of};
+use crate::layout::{AXIS, LEFT, SPAN, TOP, bottom_of, x_of};
 use crate::number::{put, put_attribute, put_decimal};
 use crate::timeline::Timeline;
 use brd_base::NoMemory;
@@ -51,10 +51,13 @@ fn put_event(to: &mut Vec<u8>, timeline: &Timeline, at: u64, bottom: u32) -> Res
     put_number(to, at, x, bottom + 160)
 }
 
-/// Puts the axis of ticks at the end. Where there are many ticks, only some have a line, and fewer a number; of those
+/// Puts the axis of ticks at the end, if there are any. Where there are many ticks, only some have a line, and fewer a number; of those
 /// that are close together, only some have a number.
 pub(crate) fn put_ticks(to: &mut Vec<u8>, timeline: &Timeline) -> Result<(), NoMemory> {
-    let bottom = bottom_of(timeline) + 260;
+    if timeline.ticks.is_empty() {
+        return Ok(());
+    }
+    let bottom = bottom_of(timeline) + AXIS;
     put_line(to, "#999999", (LEFT, bottom), (LEFT + SPAN, bottom))?;
     put_title(to, "ticks", bottom + 160)?;
     let count = timeline.ticks.len() as u64;

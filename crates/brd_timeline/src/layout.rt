@@ -22,11 +22,16 @@ pub(crate) const STEP: u32 = 260;
 /// How high a slice is.
 pub(crate) const HEIGHT: u32 = 200;
 
-/// How far the first task is from the last processor, beside that.
+/// How far the lanes of one kind are from those of the kind before, beside that.
 const GAP: u32 = 120;
 
-/// How high the two axes are together.
-pub(crate) const AXES: u32 = 600;
+/// How high an axis is, and how far the picture goes on below the last one.
+pub(crate) const AXIS: u32 = 260;
+
+const REST: u32 = 80;
+
+/// How many lanes, slices and marks a picture has at most together: more can't be told apart.
+pub const MOST_DRAWN: usize = 5_000;
 
 /// Where a position is. One before the picture's first is there, and one after its last is at the end.
 pub(crate) fn x_of(timeline: &Timeline, position: u64) -> u32
@@ -49,20 +54,87 @@ fn share_of(part: u64, whole: u64) -> u32
     share.min(SPAN as u128) as u32
 }
 
+/// Where a lane is, with so many lanes before it, and so many gaps.
+fn row_at(place: usize, gaps: u32) -> u32
+    requires { gaps ≤ 3 }
+    ensures { result ≤ 2700000 }
+{
+    TOP + gaps * GAP + place.min(10_000) as u32 * STEP
+}
+
 /// Where the lane at a place of the list is.
 pub(crate) fn y_of(place: usize, group: Group) -> u32
     ensures { result ≤ 3000000 }
 {
-    let gap = match group {
-        Group::Processor => 0,
-        Group::Task => GAP,
+    match group {
+        Group::Processor => row_at(place, 0),
+        Group::Task => row_at(place, 1),
+    }
+}
+
+/// How many spin locks have a lane: all of them, or none where with them there is more than can be told apart.
+pub(crate) fn locks_shown(timeline: &Timeline) -> usize {
+    let others = timeline.lanes.len() as u128
+        + timeline.slices.len() as u128
+        + timeline.marks.len() as u128;
+    let locks = timeline.locks.len() as u128
+        + timeline.holds.len() as u128
+        + timeline.spins.len() as u128;
+    if others + locks > MOST_DRAWN as u128 {
+        return 0;
+    }
+    timeline.locks.len()
+}
+
+/// Whether the turns have a lane: there are some of two processors.
+pub(crate) fn shows_turns(timeline: &Timeline) -> bool {
+    let Some(first) = timeline.turns.first() else {
+        return false;
     };
-    TOP + gap + place.min(10_000) as u32 * STEP
+    for turn in timeline.turns.iter() {
+        if turn.cpu != first.cpu {
+            return true;
+        }
+    }
+    false
+}
+
+/// Where the lane of the spin lock at a place of their list is.
+pub(crate) fn lock_y(timeline: &Timeline, place: usize) -> u32
+    ensures { result ≤ 2700000 }
+{
+    row_at(timeline.lanes.len().saturating_add(place), 2)
+}
+
+/// Where the lane of the turns is.
+pub(crate) fn turns_y(timeline: &Timeline) -> u32
+    ensures { result ≤ 2700000 }
+{
+    let locks = locks_shown(timeline);
+    let gaps = if locks == 0 { 2 } else { 3 };
+    row_at(timeline.lanes.len().saturating_add(locks), gaps)
 }
 
 /// Where the lanes end.
 pub(crate) fn bottom_of(timeline: &Timeline) -> u32
     ensures { result ≤ 3000000 }
 {
-    y_of(timeline.lanes.len(), Group::Task)
+    if shows_turns(timeline) {
+        return turns_y(timeline) + STEP;
+    }
+    let locks = locks_shown(timeline);
+    if locks == 0 {
+        return y_of(timeline.lanes.len(), Group::Task);
+    }
+    lock_y(timeline, locks)
+}
+
+/// How high the axes are together: where there are no ticks, there is only that of events.
+pub(crate) fn axes_of(timeline: &Timeline) -> u32
+    ensures { result ≤ 600 }
+{
+    if timeline.ticks.is_empty() {
+        return AXIS + REST;
+    }
+    2 * AXIS + REST
 }

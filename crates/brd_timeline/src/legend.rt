@@ -1,10 +1,15 @@
 //! What the colours and shapes of a picture mean: those that it has.
 
-use crate::layout::LEFT;
+ghost use Rattle.std.specs.Prelude.{◌≤◌};
+
+use crate::cpus::Cpus;
+use crate::layout::{HEIGHT, LEFT, locks_shown, shows_turns};
+use crate::locks::{SPINS, SPINS_HEIGHT};
 use crate::mark::put_shape;
 use crate::number::{put, put_attribute};
 use crate::slice::{colour_of, height_of};
 use crate::timeline::{Kind, MarkKind, Timeline, kind_name, mark_name};
+use crate::turns::joins_turns;
 use brd_base::NoMemory;
 
 /// The kinds in the order of the legend.
@@ -35,27 +40,49 @@ const KIND_ROW: u32 = 170;
 
 const MARK_ROW: u32 = 390;
 
-/// Puts the legend at the end.
+/// Puts the legend at the end: each colour once, each shape, and then the processors.
 pub(crate) fn put_legend(to: &mut Vec<u8>, timeline: &Timeline) -> Result<(), NoMemory> {
     put_kinds(to, timeline)?;
-    put_marks(to, timeline)
+    let x = put_marks(to, timeline)?;
+    let x = put_spins(to, timeline, x)?;
+    put_cpus(to, timeline, x)
 }
 
-/// Puts the kinds of slices that there are at the end.
+/// Puts the kinds of slices that there are at the end; those of one colour are one entry.
 fn put_kinds(to: &mut Vec<u8>, timeline: &Timeline) -> Result<(), NoMemory> {
     let mut x = LEFT;
     for kind in KINDS {
-        if has_kind(timeline, kind) {
-            put_swatch(to, kind, x)?;
-            put_name(to, kind_name(kind), x, KIND_ROW)?;
-            x = after(x, kind_name(kind));
+        if has_kind(timeline, kind) && !stands_before(timeline, kind) {
+            put_swatch(to, colour_of(kind), height_of(kind), x, KIND_ROW)?;
+            x = put_kind_names(to, timeline, kind, x)?;
         }
     }
     Ok(())
 }
 
-/// Puts the kinds of marks that there are at the end.
-fn put_marks(to: &mut Vec<u8>, timeline: &Timeline) -> Result<(), NoMemory> {
+/// Whether a kind's colour has an entry before it: that of a task that runs is its processor's.
+fn stands_before(timeline: &Timeline, kind: Kind) -> bool {
+    kind == Kind::Running && has_kind(timeline, Kind::Task)
+}
+
+/// Puts the names of the kinds at the end that have a kind's colour. Answers where the next entry begins.
+fn put_kind_names(
+    to: &mut Vec<u8>,
+    timeline: &Timeline,
+    kind: Kind,
+    x: u32,
+) -> Result<u32, NoMemory> {
+    let name = if kind == Kind::Task && has_kind(timeline, Kind::Running) {
+        "task, running"
+    } else {
+        kind_name(kind)
+    };
+    put_name(to, name, x, KIND_ROW)?;
+    Ok(after(x, name))
+}
+
+/// Puts the kinds of marks that there are at the end. Answers where the next entry begins.
+fn put_marks(to: &mut Vec<u8>, timeline: &Timeline) -> Result<u32, NoMemory> {
     let mut x = LEFT;
     for kind in MARKS {
         if has_mark(timeline, kind) {
@@ -65,7 +92,60 @@ fn put_marks(to: &mut Vec<u8>, timeline: &Timeline) -> Result<(), NoMemory> {
             x = after(x, mark_name(kind));
         }
     }
-    Ok(())
+    Ok(x)
+}
+
+/// Puts what asks for a spin lock again and again at the end, if there is some. Answers where the next entry begins.
+fn put_spins(to: &mut Vec<u8>, timeline: &Timeline, x: u32) -> Result<u32, NoMemory> {
+    if locks_shown(timeline) == 0 || timeline.spins.is_empty() {
+        return Ok(x);
+    }
+    put_swatch(to, SPINS, SPINS_HEIGHT, x, MARK_ROW)?;
+    put_name(to, "spins", x, MARK_ROW)?;
+    Ok(after(x, "spins"))
+}
+
+/// Puts the processors at the end that have turns or hold spin locks, and what stands for several.
+fn put_cpus(to: &mut Vec<u8>, timeline: &Timeline, x: u32) -> Result<(), NoMemory> {
+    let mut x = x;
+    let cpus = cpus_shown(timeline);
+    for cpu in 1..9u8 {
+        if cpus.contains(cpu) {
+            let one = Cpus::one(cpu);
+            put_swatch(to, one.colour(), HEIGHT, x, MARK_ROW)?;
+            put_name_start(to, x, MARK_ROW)?;
+            one.put(to)?;
+            put(to, "</text>\n")?;
+            x = after(x, "cpu 1");
+        }
+    }
+    if !shows_turns(timeline) || !joins_turns(timeline) {
+        return Ok(());
+    }
+    put_swatch(
+        to,
+        Cpus::one(1).with(Cpus::one(2)).colour(),
+        HEIGHT,
+        x,
+        MARK_ROW,
+    )?;
+    put_name(to, "in turns", x, MARK_ROW)
+}
+
+/// The processors whose colours the picture has.
+fn cpus_shown(timeline: &Timeline) -> Cpus {
+    let mut cpus = Cpus::none();
+    if locks_shown(timeline) > 0 {
+        for hold in timeline.holds.iter() {
+            cpus.add(hold.cpu);
+        }
+    }
+    if shows_turns(timeline) {
+        for turn in timeline.turns.iter() {
+            cpus.add(turn.cpu);
+        }
+    }
+    cpus
 }
 
 /// From where on a shape is drawn, so that its middle is in its row.
@@ -102,25 +182,33 @@ fn has_mark(timeline: &Timeline, kind: MarkKind) -> bool {
     false
 }
 
-/// Puts a piece of a kind's colour at the end.
-fn put_swatch(to: &mut Vec<u8>, kind: Kind, x: u32) -> Result<(), NoMemory> {
-    let height = height_of(kind) * 3 / 5;
+/// Puts a piece of a colour at the end, as high as what it stands for, but smaller.
+fn put_swatch(to: &mut Vec<u8>, colour: &str, height: u32, x: u32, row: u32) -> Result<(), NoMemory>
+    requires high { height ≤ 200 }
+    requires down { 60 ≤ row }
+{
+    let height = height * 3 / 5;
     put(to, "<rect")?;
     put_attribute(to, "x", x)?;
-    put_attribute(to, "y", KIND_ROW - height / 2)?;
+    put_attribute(to, "y", row - height / 2)?;
     put_attribute(to, "width", 120)?;
     put_attribute(to, "height", height)?;
     put(to, " fill=\"")?;
-    put(to, colour_of(kind))?;
+    put(to, colour)?;
     put(to, "\"/>\n")
 }
 
 /// Puts the name of an entry at the end.
 fn put_name(to: &mut Vec<u8>, name: &str, x: u32, row: u32) -> Result<(), NoMemory> {
+    put_name_start(to, x, row)?;
+    put(to, name)?;
+    put(to, "</text>\n")
+}
+
+/// Puts the beginning of an entry's name at the end; the element stays open.
+fn put_name_start(to: &mut Vec<u8>, x: u32, row: u32) -> Result<(), NoMemory> {
     put(to, "<text")?;
     put_attribute(to, "x", x.saturating_add(170))?;
     put_attribute(to, "y", row.saturating_add(40))?;
-    put(to, ">")?;
-    put(to, name)?;
-    put(to, "</text>\n")
+    put(to, ">")
 }

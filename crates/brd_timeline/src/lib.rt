@@ -3,18 +3,22 @@
 #![tactic(auto)]
 
 mod axis;
+mod cpus;
 mod escape;
 mod fault;
 mod layout;
 mod legend;
+mod locks;
 mod mark;
 mod number;
 mod picture;
 mod slice;
 mod timeline;
 mod trace_events;
+mod turns;
 
 pub use fault::PictureFault;
-pub use picture::{MOST_DRAWN, svg};
-pub use timeline::{Group, Kind, Lane, Mark, MarkKind, Slice, Timeline};
+pub use layout::MOST_DRAWN;
+pub use picture::svg;
+pub use timeline::{Group, Hold, Kind, Lane, Mark, MarkKind, Slice, Spinning, Timeline, Turn};
 pub use trace_events::json;

@@ -1,6 +1,6 @@
 //! A timeline as a picture in SVG.
 
-ghost use Rattle.std.specs.Prelude.{◌≡◌, ◌↔◌, IfOk, IsTrue, Err, codes};
+ghost use Rattle.std.specs.Prelude.{◌≡◌, ◌≤◌, ◌↔◌, IfOk, IsTrue, Err, codes};
 ghost use Rattle.brd_timeline.specs.Ends.{EndsWith};
 ghost use Rattle.brd_timeline.specs.Picture.{IsTooMuch};
 ghost use Rattle.brd_timeline.specs.declared.fault.PictureFault.TheVariants.{TooMuch};
@@ -8,20 +8,19 @@ ghost use Rattle.brd_timeline.specs.declared.fault.PictureFault.TheVariants.{Too
 use crate::axis::{put_events, put_ticks};
 use crate::escape::put_xml;
 use crate::fault::PictureFault;
-use crate::layout::{AXES, HEIGHT, LEFT, WIDTH, bottom_of, y_of};
+use crate::layout::{HEIGHT, LEFT, MOST_DRAWN, WIDTH, axes_of, bottom_of, y_of};
 use crate::legend::put_legend;
+use crate::locks::put_locks;
 use crate::mark::put_mark;
 use crate::number::{put, put_attribute, put_decimal, put_tenths};
 use crate::slice::put_slice;
 use crate::timeline::{Lane, Timeline};
+use crate::turns::put_turns;
 use brd_base::NoMemory;
 
-/// How many lanes, slices and marks a picture has at most together: more can't be told apart.
-pub const MOST_DRAWN: usize = 5_000;
-
-/// Puts a timeline at the end as a picture ("Scalable Vector Graphics (SVG) 1.1", W3C): a lane for each processor and
-/// each task, a legend above, and the axes of events and ticks below. Where memory runs out, a front of it may be
-/// there.
+/// Puts a timeline at the end as a picture ("Scalable Vector Graphics (SVG) 1.1", W3C): a lane for each processor, each
+/// task and each spin lock, and one for the turns; a legend above, and the axes of events and ticks below. Where memory
+/// runs out, a front of it may be there.
 ///
 /// # Errors
 ///
@@ -61,6 +60,8 @@ fn put_picture(to: &mut Vec<u8>, timeline: &Timeline) -> Result<(), NoMemory>
     for slice in timeline.slices.iter() {
         put_slice(to, timeline, slice)?;
     }
+    put_locks(to, timeline)?;
+    put_turns(to, timeline)?;
     for mark in timeline.marks.iter() {
         put_mark(to, timeline, mark)?;
     }
@@ -69,7 +70,7 @@ fn put_picture(to: &mut Vec<u8>, timeline: &Timeline) -> Result<(), NoMemory>
 
 /// Puts the beginning at the end: the size, what a reader aloud says, a white ground.
 fn put_head(to: &mut Vec<u8>, timeline: &Timeline) -> Result<(), NoMemory> {
-    let height = bottom_of(timeline) + AXES;
+    let height = bottom_of(timeline) + axes_of(timeline);
     put(
         to,
         "<svg xmlns=\"http://www.w3.org/2000/svg\" viewBox=\"0 0 ",
@@ -103,10 +104,17 @@ fn put_lanes(to: &mut Vec<u8>, timeline: &Timeline) -> Result<(), NoMemory> {
 
 /// Puts the name of a lane at the end.
 fn put_name(to: &mut Vec<u8>, place: usize, lane: &Lane) -> Result<(), NoMemory> {
-    put(to, "<text text-anchor=\"end\"")?;
-    put_attribute(to, "x", LEFT - 80)?;
-    put_attribute(to, "y", y_of(place, lane.group) + HEIGHT * 7 / 10)?;
-    put(to, ">")?;
+    put_title(to, y_of(place, lane.group))?;
     put_xml(to, &lane.name)?;
     put(to, "</text>\n")
+}
+
+/// Puts the beginning of a lane's name at the end, of a lane at a place; the element stays open.
+pub(crate) fn put_title(to: &mut Vec<u8>, y: u32) -> Result<(), NoMemory>
+    requires { y ≤ 3000000 }
+{
+    put(to, "<text text-anchor=\"end\"")?;
+    put_attribute(to, "x", LEFT - 80)?;
+    put_attribute(to, "y", y + HEIGHT * 7 / 10)?;
+    put(to, ">")
 }

@@ -86,6 +86,43 @@ pub struct Mark {
     pub label: Vec<u8>,
 }
 
+/// A stretch in which a processor held a spin lock. Those of one lock don't overlap; between them it was free.
+#[derive(Clone, Copy)]
+pub struct Hold {
+    /// The lock's place in the list of locks, from 0 on.
+    pub lock: usize,
+    /// The processor.
+    pub cpu: u8,
+    /// The position at which it begins.
+    pub from: u64,
+    /// The position at which it ends, above `from`.
+    pub to: u64,
+}
+
+/// A stretch in which a task asked for a spin lock again and again. It lies in a slice of the processor's lane.
+#[derive(Clone, Copy)]
+pub struct Spinning {
+    /// The processor's place in the list of lanes, from 0 on.
+    pub lane: usize,
+    /// The number of the lock.
+    pub lock: u32,
+    /// The position at which it begins.
+    pub from: u64,
+    /// The position at which it ends, above `from`.
+    pub to: u64,
+}
+
+/// A stretch of events that are all steps of one processor.
+#[derive(Clone, Copy)]
+pub struct Turn {
+    /// The processor, from 1 to 8.
+    pub cpu: u8,
+    /// The position of the first of these events.
+    pub from: u64,
+    /// The position after the last one, above `from`.
+    pub to: u64,
+}
+
 /// A stretch of a run.
 #[derive(Drop)]
 pub struct Timeline {
@@ -95,6 +132,14 @@ pub struct Timeline {
     pub slices: Vec<Slice>,
     /// What happened.
     pub marks: Vec<Mark>,
+    /// The numbers of the spin locks.
+    pub locks: Vec<u8>,
+    /// Who held them.
+    pub holds: Vec<Hold>,
+    /// Who asked for them.
+    pub spins: Vec<Spinning>,
+    /// Whose steps the events were, ascending. Ticks and raises of lines are no steps.
+    pub turns: Vec<Turn>,
     /// The positions of the ticks, ascending.
     pub ticks: Vec<u64>,
     /// The number of the first of these ticks: the system time from then on.

@@ -11,9 +11,10 @@
 //! - `build ANSWER` makes the board of both, and does 100 steps of processor 1. The answer has a letter for each (r
 //!   `Ran`, c `Called`, o `Off`, - any other), and after a space the console, in which `\n` is a newline;
 //! - `load ANSWER` does the same on a copy of the board that is loaded from the source's object file;
-//! - `span FROM TO`, `lane processor|task NAME`, `slice LANE FROM TO KIND LABEL`, `mark LANE AT KIND LABEL`, `tick AT`
-//!   and `first TICK` are parts of a timeline. KIND is a number, in the order in which the kinds are declared, LANE the
-//!   number of a lane from 0 on;
+//! - `span FROM TO`, `lane processor|task NAME`, `slice LANE FROM TO KIND LABEL`, `mark LANE AT KIND LABEL`, `tick AT`,
+//!   `first TICK`, `lock ID`, `hold LOCK CPU FROM TO`, `spin LANE ID FROM TO` and `turn CPU FROM TO` are parts of a
+//!   timeline. KIND is a number, in the order in which the kinds are declared, LANE the number of a lane from 0 on, and
+//!   LOCK that of a lock;
 //! - `json` and `svg` print the picture of the timeline.
 #![tactic(auto)]
 

@@ -1,6 +1,9 @@
 //! A timeline that rows list, and its pictures.
 
-use brd_timeline::{Group, Kind, Lane, Mark, MarkKind, PictureFault, Slice, Timeline, json, svg};
+use brd_timeline::{
+    Group, Hold, Kind, Lane, Mark, MarkKind, PictureFault, Slice, Spinning, Timeline, Turn, json,
+    svg,
+};
 use std::alloc::{AllocError, Global};
 use test_help::unescaped;
 
@@ -81,6 +84,51 @@ fn put_mark(alloc: Global, timeline: &mut Timeline, text: &str) -> Result<(), Al
     Ok(())
 }
 
+/// A number of a processor or of a spin lock: what is greater than 255 is 255.
+fn small(text: &str) -> u8 {
+    number(text).min(255) as u8
+}
+
+/// Puts at the end that a processor holds a spin lock.
+fn put_hold(timeline: &mut Timeline, text: &str) -> Result<(), AllocError> {
+    let (lock, text) = word(text);
+    let (cpu, text) = word(text);
+    let (from, to) = word(text);
+    timeline.holds.push(Hold {
+        lock: number(lock) as usize,
+        cpu: small(cpu),
+        from: number(from),
+        to: number(to),
+    })?;
+    Ok(())
+}
+
+/// Puts at the end that a task asks for a spin lock.
+fn put_spinning(timeline: &mut Timeline, text: &str) -> Result<(), AllocError> {
+    let (lane, text) = word(text);
+    let (lock, text) = word(text);
+    let (from, to) = word(text);
+    timeline.spins.push(Spinning {
+        lane: number(lane) as usize,
+        lock: u32::from(small(lock)),
+        from: number(from),
+        to: number(to),
+    })?;
+    Ok(())
+}
+
+/// Puts a turn at the end.
+fn put_turn(timeline: &mut Timeline, text: &str) -> Result<(), AllocError> {
+    let (cpu, text) = word(text);
+    let (from, to) = word(text);
+    timeline.turns.push(Turn {
+        cpu: small(cpu),
+        from: number(from),
+        to: number(to),
+    })?;
+    Ok(())
+}
+
 /// Adds the part that a row is. Answers whether it is one.
 pub fn add(
     alloc: Global,
@@ -97,6 +145,10 @@ pub fn add(
         "lane" => put_lane(alloc, timeline, text)?,
         "slice" => put_slice(alloc, timeline, text)?,
         "mark" => put_mark(alloc, timeline, text)?,
+        "lock" => timeline.locks.push(small(text))?,
+        "hold" => put_hold(timeline, text)?,
+        "spin" => put_spinning(timeline, text)?,
+        "turn" => put_turn(timeline, text)?,
         "tick" => timeline.ticks.push(number(text))?,
         "first" => timeline.first_tick = number(text),
         _ => return Ok(false),
@@ -126,6 +178,10 @@ pub fn empty(alloc: Global) -> Timeline {
         lanes: Vec::new(alloc),
         slices: Vec::new(alloc),
         marks: Vec::new(alloc),
+        locks: Vec::new(alloc),
+        holds: Vec::new(alloc),
+        spins: Vec::new(alloc),
+        turns: Vec::new(alloc),
         ticks: Vec::new(alloc),
         first_tick: 1,
         from: 0,

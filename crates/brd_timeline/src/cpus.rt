@@ -1,0 +1,167 @@
+//! Processors in a picture: each has a colour of its own, where it holds a spin lock and where it has the turn.
+
+ghost use Rattle.std.specs.Prelude.{◌≤◌};
+
+use crate::layout::{HEIGHT, x_of};
+use crate::number::{put, put_attribute, put_decimal};
+use crate::timeline::Timeline;
+use brd_base::NoMemory;
+
+/// The colours of processors 1 to 8, from a palette whose colours are told apart without regard to how one sees them
+/// and are none of those of kinds (Paul Tol, "Colour Schemes", light).
+const COLOURS: [&str; 8] = [
+    "#77aadd", "#ee8866", "#eedd88", "#ffaabb", "#99ddff", "#44bb99", "#bbcc33", "#aaaa00",
+];
+
+/// The least width of a bar, in tenths of a pixel, so that each can be seen.
+const LEAST_WIDTH: u32 = 5;
+
+/// How much room a letter takes, and how much a label takes beside its letters.
+const LETTER: u32 = 65;
+
+const MARGIN: u32 = 60;
+
+/// Some processors.
+#[derive(Clone, Copy)]
+pub(crate) struct Cpus {
+    /// Whether each is one of them, by its number.
+    has: [bool; 9],
+}
+
+/// A bar in a lane that has no kinds.
+#[derive(Clone, Copy)]
+pub(crate) struct Bar {
+    /// Of which processors.
+    pub cpus: Cpus,
+    /// Where it begins.
+    pub from: u64,
+    /// Where it ends.
+    pub to: u64,
+}
+
+impl Cpus {
+    /// None.
+    pub(crate) fn none() -> Cpus {
+        Cpus { has: [false; 9] }
+    }
+
+    /// One processor.
+    pub(crate) fn one(cpu: u8) -> Cpus {
+        let mut cpus = Cpus::none();
+        cpus.add(cpu);
+        cpus
+    }
+
+    /// These processors and one more.
+    pub(crate) fn add(&mut self, cpu: u8) {
+        if (cpu as usize) < 9 {
+            self.has[cpu as usize] = true;
+        }
+    }
+
+    /// These processors and others.
+    pub(crate) fn with(self, others: Cpus) -> Cpus {
+        let mut cpus = self;
+        for cpu in 1..9u8 {
+            if others.contains(cpu) {
+                cpus.add(cpu);
+            }
+        }
+        cpus
+    }
+
+    /// Whether a processor is one of them.
+    pub(crate) fn contains(self, cpu: u8) -> bool {
+        (cpu as usize) < 9 && self.has[cpu as usize]
+    }
+
+    /// How many they are.
+    pub(crate) fn count(self) -> u32 {
+        let mut count = 0u32;
+        for cpu in 1..9u8 {
+            if self.contains(cpu) {
+                count = count.saturating_add(1);
+            }
+        }
+        count
+    }
+
+    /// Their colour: of several processors white, with a line round it.
+    pub(crate) fn colour(self) -> &'static str {
+        if self.count() > 1 {
+            return "#ffffff\" stroke=\"#999999";
+        }
+        for place in 0..8usize {
+            if self.contains(place as u8 + 1) {
+                return COLOURS[place];
+            }
+        }
+        "#ffffff"
+    }
+
+    /// Puts at the end which they are: `cpu 1, 3`.
+    pub(crate) fn put(self, to: &mut Vec<u8>) -> Result<(), NoMemory> {
+        let mut between = "cpu ";
+        for cpu in 1..9u8 {
+            if self.contains(cpu) {
+                put(to, between)?;
+                put_decimal(to, u64::from(cpu))?;
+                between = ", ";
+            }
+        }
+        Ok(())
+    }
+}
+
+impl Bar {
+    /// Puts the bar at the end, where it lies in the picture, with what stands before and after its processors.
+    pub(crate) fn put(
+        &self,
+        to: &mut Vec<u8>,
+        timeline: &Timeline,
+        y: u32,
+        words: (&str, &str),
+    ) -> Result<(), NoMemory>
+        requires { y ≤ 2700000 }
+    {
+        if self.to <= timeline.from || timeline.to <= self.from {
+            return Ok(());
+        }
+        let x = x_of(timeline, self.from);
+        let width = x_of(timeline, self.to).saturating_sub(x);
+        put(to, "<rect")?;
+        put_attribute(to, "x", x)?;
+        put_attribute(to, "y", y)?;
+        put_attribute(to, "width", width.max(LEAST_WIDTH))?;
+        put_attribute(to, "height", HEIGHT)?;
+        put(to, " fill=\"")?;
+        put(to, self.cpus.colour())?;
+        put(to, "\"><title>")?;
+        put(to, words.0)?;
+        self.cpus.put(to)?;
+        put(to, words.1)?;
+        put(to, ", ")?;
+        put_decimal(to, self.from)?;
+        put(to, " to ")?;
+        put_decimal(to, self.to)?;
+        put(to, "</title></rect>\n")?;
+        self.put_label(to, x, y, width)
+    }
+
+    /// Puts the processors in the bar at the end, where it has room for them.
+    fn put_label(&self, to: &mut Vec<u8>, x: u32, y: u32, width: u32) -> Result<(), NoMemory>
+        requires across { x ≤ 11400 }
+        requires down { y ≤ 2700000 }
+    {
+        let letters = width.saturating_sub(MARGIN) / LETTER;
+        if self.cpus.count().saturating_mul(3).saturating_add(2) > letters {
+            return Ok(());
+        }
+        put(to, "<text pointer-events=\"none\"")?;
+        put_attribute(to, "x", x + MARGIN / 2)?;
+        put_attribute(to, "y", y + 140)?;
+        put(to, " fill=\"#000000\">")?;
+        self.cpus.put(to)?;
+        put(to, "</text>\n")
+    }
+}
