@@ -91,6 +91,9 @@ impl Walk {
             return FaultHint::none();
         }
         let last = self.last;
+        if is_skipped(last, parts.operation) {
+            return FaultHint::none();
+        }
         self.last = Placed {
             number,
             sort,
@@ -138,6 +141,12 @@ fn behind_all(last: Placed) -> FaultHint {
 /// Whether what is executed at a line goes on behind it, whatever it does.
 fn goes_on(line: Placed) -> bool {
     line.sort == Sort::Plain && !line.is_in_slot
+}
+
+/// Whether a line may never be executed: a `nop` behind a service call, as `ext_tsk`, or behind the slot of a branch.
+fn is_skipped(last: Placed, operation: Option<Operation>) -> bool {
+    let is_nop = matches!(operation, Some(Operation::Shorthand(Shorthand::Nop)));
+    is_nop && (last.sort == Sort::Call || last.is_in_slot && last.sort == Sort::Plain)
 }
 
 /// Whether a line begins with the label of a program's start.

@@ -27,6 +27,6 @@ pub enum TraceFault {
     #[error("it is more than a page can show: choose fewer events by --steps")]
     TooManySteps,
     /// Races aren't looked for among so many touches.
-    #[error("it touches more words, or has more that orders tasks and handlers, than is kept: choose fewer events by --to")]
+    #[error("it has more touches of words, or more that orders them, than are kept: choose fewer events by --to")]
     TooManyTouches,
 }
