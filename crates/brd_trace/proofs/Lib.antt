@@ -2,3 +2,9 @@ pub mod TraceLemmas
 pub mod RanLemmas
 pub mod PutLemmas
 pub mod WordsLemmas
+pub mod ThereLemmas
+pub mod AlikeLemmas
+pub mod NotedLemmas
+pub mod DatedLemmas
+pub mod FollowLemmas
+pub mod SummaryLemmas

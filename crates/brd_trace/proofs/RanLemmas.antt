@@ -22,11 +22,11 @@ use Rattle.brd_happening.specs.declared.happening.{What.What, Happening.Happenin
 use Rattle.brd_happening.specs.declared.happening.What.TheVariants as what
 use Rattle.brd_happening.specs.Before.{before_of}
 use Rattle.brd_happening.specs.declared.before.Before.{Before}
-use Rattle.brd_happening.specs.Happening.{instruction_from, executed_in, what_of, happening_from}
+use Rattle.brd_happening.specs.Happening.{instruction_from, executed_in, what_of, happening_from, happening_of}
 use Rattle.brd_trace.specs.declared.printer.{Manner.Manner, Options.Options, Printer.Printer}
 use Rattle.brd_trace.specs.declared.quiet.Quiet.{Quiet}
 use Rattle.brd_trace.specs.Quiets.{quiet_of}
-use Rattle.brd_trace.specs.Telling.{TellsNothing, TellsBy, Tells, instruction_in, is_untold, is_ran, happening_with}
+use Rattle.brd_trace.specs.Telling.{TellsNothing, TellsBy, Tells, instruction_in, is_untold, is_ran}
 use Rattle.brd_trace.specs.Telling.{is_chosen, may_list, shows_instruction, touches, wants}
 use Rattle.brd_trace.specs.Telling.{IsTold, IsTrace}
 use Rattle.brd_trace.proofs.TraceLemmas.{trace_nothing, trace_one, trace_on}
@@ -84,37 +84,37 @@ hidden (what.Accepted line) kind manner position count told p plain off = absurd
 hidden (what.Tick number) kind manner position count told p plain off = absurd (false≢true plain)
 hidden (what.Nothing why) kind manner position count told p plain off = absurd (false≢true plain)
 
-ran_plain : (board : BoardState) (event : Event) (pending : Bool) (told : Report) (after : BoardState) → is_ran told ≡ true
-    → is_plain (what_of (before_of board event pending) told after) ≡ true
-ran_plain board event pending (report.Ran address) after is = in_plain (before_of board event pending).found address after
-ran_plain board event pending report.Off after is = absurd (false≢true is)
-ran_plain board event pending report.NoSuch after is = absurd (false≢true is)
-ran_plain board event pending report.Stopped after is = absurd (false≢true is)
-ran_plain board event pending (report.Accepted line) after is = absurd (false≢true is)
-ran_plain board event pending (report.Called address) after is = absurd (false≢true is)
-ran_plain board event pending (report.Faulted address) after is = absurd (false≢true is)
-ran_plain board event pending report.Idle after is = absurd (false≢true is)
-ran_plain board event pending report.Ticked after is = absurd (false≢true is)
-ran_plain board event pending report.TimeOver after is = absurd (false≢true is)
-ran_plain board event pending report.Raised after is = absurd (false≢true is)
+ran_plain : (board : BoardState) (event : Event) (told : Report) (after : BoardState) → is_ran told ≡ true
+    → is_plain (what_of (before_of board event) told after) ≡ true
+ran_plain board event (report.Ran address) after is = in_plain (before_of board event).found address after
+ran_plain board event report.Off after is = absurd (false≢true is)
+ran_plain board event report.NoSuch after is = absurd (false≢true is)
+ran_plain board event report.Stopped after is = absurd (false≢true is)
+ran_plain board event (report.Accepted line) after is = absurd (false≢true is)
+ran_plain board event (report.Called address) after is = absurd (false≢true is)
+ran_plain board event (report.Faulted address) after is = absurd (false≢true is)
+ran_plain board event report.Idle after is = absurd (false≢true is)
+ran_plain board event report.Ticked after is = absurd (false≢true is)
+ran_plain board event report.TimeOver after is = absurd (false≢true is)
+ran_plain board event report.Raised after is = absurd (false≢true is)
 
 -- what is told of an event, by what was read of the board before it
-pub told_is : (b boot : BoardState) (event : Event) (pending : Bool) (before : Before) (told : Report) (after : BoardState) (it : Happening)
-    → b ≡ boot → before ≡ before_of b event pending → told ≡ (happens b event).report → after ≡ (happens b event).board
-    → it ≡ happening_from before told after → it ≡ happening_with boot event pending
-told_is b boot event pending before told after it same read reports leaves is =
+pub told_is : (b boot : BoardState) (event : Event) (before : Before) (told : Report) (after : BoardState) (it : Happening)
+    → b ≡ boot → before ≡ before_of b event → told ≡ (happens b event).report → after ≡ (happens b event).board
+    → it ≡ happening_from before told after → it ≡ happening_of boot event
+told_is b boot event before told after it same read reports leaves is =
     is ∙ ap (λ (x : Before). happening_from x told after) read
-    ∙ ap (λ (x : Report). happening_from (before_of b event pending) x after) reports
-    ∙ ap (λ (x : BoardState). happening_from (before_of b event pending) (happens b event).report x) leaves
-    ∙ ap (λ (x : BoardState). happening_with x event pending) same
+    ∙ ap (λ (x : Report). happening_from (before_of b event) x after) reports
+    ∙ ap (λ (x : BoardState). happening_from (before_of b event) (happens b event).report x) leaves
+    ∙ ap (λ (x : BoardState). happening_of x event) same
 
-pub ran_hidden : (manner : Manner) (position count : ℕ) (board : BoardState) (event : Event) (pending : Bool) (p : Printer)
+pub ran_hidden : (manner : Manner) (position count : ℕ) (board : BoardState) (event : Event) (p : Printer)
     → is_ran (happens board event).report ≡ true → may_list p.options ≡ false
-    → Tells manner position count (happening_with board event pending) p p []
-ran_hidden manner position count board event pending p ran off =
+    → Tells manner position count (happening_of board event) p p []
+ran_hidden manner position count board event p ran off =
     let h = happens board event in
-    hidden (what_of (before_of board event pending) h.report h.board) (quiet_of (happening_with board event pending)) manner position count (happening_with board event pending) p
-    (ran_plain board event pending h.report h.board ran) off
+    hidden (what_of (before_of board event) h.report h.board) (quiet_of (happening_of board event)) manner position count (happening_of board event) p
+    (ran_plain board event h.report h.board ran) off
 
 -- what is passed is an ordinary instruction, and lines of these aren't shown
 pub passes_both : (lists ran : Bool) → (not lists && ran) ≡ true → (lists ≡ false) × (ran ≡ true)
@@ -123,7 +123,7 @@ passes_both false ran is = (refl, is)
 
 -- ---- many of them, one after the other
 
-ran_step : (board : BoardState) (event : Event) (count n : ℕ) → AllGoOn board event count → n < count
+pub ran_step : (board : BoardState) (event : Event) (count n : ℕ) → AllGoOn board event count → n < count
     → is_ran (happens (after board (copies event n)) event).report ≡ true
 unfolding copies
 ran_step board (Step cpu) count n ran few = ap is_ran (ran n few).1
@@ -136,12 +136,11 @@ ran_one : (manner : Manner) (boot : BoardState) (events : List Event) (position 
     → may_list p.options ≡ false → IsTold manner boot events position 1 p p []
 ran_one manner boot events position board event p is same ran off = record {
   event = event;
-  pending = false;
   is = is;
   some = omega arith;
   still = λ n above below. absurd (omega (arith, above, below));
-  tells = subst (λ (b : BoardState). Tells manner position 1 (happening_with b event false) p p []) same
-      (ran_hidden manner position 1 board event false p ran off);
+  tells = subst (λ (b : BoardState). Tells manner position 1 (happening_of b event) p p []) same
+      (ran_hidden manner position 1 board event p ran off);
 }
 
 module _ (manner : Manner) (boot board : BoardState) (events : List Event) (at : ℕ) (rest : Run) (count : ℕ) (p : Printer)

@@ -1,12 +1,15 @@
 -- What is told of an instruction that was done: the instruction as it was found, what it wrote, what of memory it loaded
 -- or stored, and where it led.
 use Rattle.std.specs.Prelude.{◌≡◌, ℕ, ◌-◌, ◌*◌, ◌/◌, ◌%◌, ◌==◌, Bool, true, false, nat_le, nat_lt, ◌&&◌}
-use Rattle.std.specs.Prelude.{if◌then◌else◌, List, [], ◌++◌, length, take, drop, codes, Option, Some, None}
+use Rattle.std.specs.Prelude.{if◌then◌else◌, List, [], ◌∷◌, ◌++◌, length, take, drop, codes, Option, Some, None}
 use Rattle.std.specs.List.{list_any}
+use Rattle.std.specs.Fmt.{decimal}
+use Rattle.std.specs.Option.{option_and_then}
 use Rattle.brd_word.specs.declared.order.Order.{Order}
 use Rattle.brd_text.specs.Hex.{hex_of}
 use Rattle.brd_isa.specs.declared.instruction.{Insn.Insn, LoadOp.LoadOp}
 use Rattle.brd_mem.specs.declared.image.{Symbol.Symbol, Segment.Segment}
+use Rattle.brd_lines.specs.Lines.{PlaceOf, name_of, place_at}
 use Rattle.brd_listing.specs.Places.{nearest_of, place_text}
 use Rattle.brd_listing.specs.Listing.{register_text, IsListed}
 use Rattle.brd_happening.specs.declared.instruction.{Change.Change, Written.Written, Access.Access, Jump.Jump}
@@ -37,6 +40,30 @@ both_text symbols address = place_text symbols address ++ in_brackets (nearest_o
 abbrev pub datum_text : List Symbol → List Segment → ℕ → List ℕ
 datum_text symbols segments address =
     if is_loaded segments address then both_text symbols address else hex_of address
+
+-- ---- source
+
+-- the line of the code at an address, where it is known
+abbrev pub source_at : Names → ℕ → Option PlaceOf
+source_at names address = option_and_then (λ lines. place_at lines.now address) names.lines
+
+-- the name of the file and the line, after these bytes
+abbrev pub source_by : List ℕ → Option PlaceOf → List ℕ
+source_by before None = []
+source_by before (Some it) = before ++ name_of it.file ++ 58 ∷ decimal it.line
+
+abbrev pub source_text : List ℕ → Names → ℕ → List ℕ
+source_text before names address = source_by before (source_at names address)
+
+-- the address of code by the nearest symbol and as digits, with its line
+abbrev pub code_brackets : Option Symbol → ℕ → List ℕ → List ℕ
+code_brackets None address source = source
+code_brackets (Some symbol) address source = codes " (" ++ hex_of address ++ source ++ codes ")"
+
+abbrev pub code_text : Names → ℕ → List ℕ
+code_text names address =
+    place_text names.symbols.now address
+    ++ code_brackets (nearest_of names.symbols.now address) address (source_text (codes ", ") names address)
 
 -- ---- what was written
 
@@ -144,8 +171,8 @@ effect_text form it =
     ++ access_text form (part_of it.insn) it.access
     ++ jump_text form.names.symbols.now (is_branch it.insn) it.jump ++ slot_text it.in_slot
 
--- A text is what is told of an instruction at an address: the instruction, and what it did.
+-- A text is what is told of an instruction at an address: the instruction, what it did, and the line of its source.
 pub record IsToldOf (form : Form) (address : ℕ) (it : Instruction) (text : List ℕ) : Type 0 where
   pub insn : List ℕ
   pub listed : IsListed it.insn address insn
-  pub is : text ≡ insn ++ effect_text form it
+  pub is : text ≡ insn ++ effect_text form it ++ source_text (codes "; ") form.names address

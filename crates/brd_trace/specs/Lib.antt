@@ -2,5 +2,8 @@ pub mod Lines
 pub mod Effects
 pub mod Quiets
 pub mod Words
+pub mod Noted
+pub mod Dated
 pub mod Telling
 pub mod Races
+pub mod Summary

@@ -4,7 +4,7 @@ use Rattle.std.specs.List.{flat_map}
 use Rattle.brd_order.specs.declared.deed.{Touch.Touch, Mark.Mark, Race.Race}
 use Rattle.brd_trace.specs.declared.names.Names.{Names}
 use Rattle.brd_trace.specs.Lines.{named_text, count_text}
-use Rattle.brd_trace.specs.Effects.{both_text, datum_text}
+use Rattle.brd_trace.specs.Effects.{code_text, datum_text}
 
 -- a task's strand is its ID, a handler's 256 and its line
 abbrev pub strand_text : ℕ → List ℕ
@@ -19,7 +19,7 @@ touch_text touch =
 abbrev pub mark_text : Names → Mark → List ℕ
 mark_text names mark =
     named_text (codes "event") mark.event ++ codes ", " ++ strand_text mark.strand ++ codes " at "
-    ++ both_text names.symbols.now mark.place ++ touch_text mark.touch
+    ++ code_text names mark.place ++ touch_text mark.touch
 
 abbrev pub marks_text : Names → Race → List ℕ
 marks_text names race =

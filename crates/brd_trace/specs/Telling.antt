@@ -12,8 +12,7 @@ use Rattle.brd_exec.specs.Unaligned.{aligned}
 use Rattle.brd_happening.specs.declared.instruction.{Access.Access, Instruction.Instruction}
 use Rattle.brd_happening.specs.declared.happening.{What.What, Happening.Happening}
 use Rattle.brd_happening.specs.declared.happening.What.TheVariants as what
-use Rattle.brd_happening.specs.Before.{before_of}
-use Rattle.brd_happening.specs.Happening.{happening_from}
+use Rattle.brd_happening.specs.Happening.{happening_of}
 use Rattle.brd_trace.specs.declared.effect.Form.{Form}
 use Rattle.brd_trace.specs.declared.line.Heading.{Heading}
 use Rattle.brd_trace.specs.declared.quiet.{Quiet.Quiet, Stretch.Stretch}
@@ -211,20 +210,14 @@ pub record IsFirstLine (symbols : List Symbol) (position : ℕ) (text : List ℕ
 
 -- ---- the events of a journal
 
--- What happens in an event; `pending` is whether the line is pending already that it raises, if it is a raise.
-abbrev pub happening_with : BoardState → Event → Bool → Happening
-happening_with board event pending =
-    happening_from (before_of board event pending) (happens board event).report (happens board event).board
-
 -- The event of a position is told, with those after it that change nothing.
 pub record IsTold (manner : Manner) (boot : BoardState) (events : List Event) (position count : ℕ) (old new : Printer)
     (text : List ℕ) : Type 0 where
   pub event : Event
-  pub pending : Bool
   pub is : slice_get events position ≡ Some event
   pub some : 1 ≤ count
   pub still : AreStill boot events (position + 1) (position + count)
-  pub tells : Tells manner position count (happening_with (board_at boot events position) event pending) old new text
+  pub tells : Tells manner position count (happening_of (board_at boot events position) event) old new text
 
 -- so many events, what is held back after them, and their text
 pub record Piece : Type 0 where

@@ -12,6 +12,7 @@ use brd_isa::{Insn, LoadOp};
 use brd_listing::{write_instruction, write_register};
 use brd_text::hex_digits;
 use brd_word::Order;
+use std::alloc::Global;
 
 /// How an instruction is told of.
 #[derive(Clone, Copy)]
@@ -26,6 +27,7 @@ pub(crate) struct Form<'a> {
 
 /// Puts at the end an instruction that was done, and what it did.
 pub(crate) fn put_done(
+    alloc: Global,
     form: Form,
     address: u32,
     it: &Instruction,
@@ -35,7 +37,8 @@ pub(crate) fn put_done(
         (λ _. IsBehind (effects.IsToldOf form.entry address it.now) out.old.items out.new.items) }
 {
     write_instruction(&it.insn, address, out)?;
-    put_effect(form, it, out)
+    put_effect(form, it, out)?;
+    form.names.put_source(alloc, "; ", address, out)
 }
 
 /// Puts at the end what an instruction did.

@@ -1,45 +1,59 @@
 //! The timeline of what is told.
 
-use crate::notes::Notes;
+ghost use Rattle.brd_trace.specs.Noted.{KeepsKnown};
+
+use crate::locks::Locks;
+use crate::notes::{Notes, Scene};
 use crate::recording::{Known, Recording};
 use brd_base::NoMemory;
+use brd_board::Board;
+use brd_journal::Journal;
 use brd_timeline::{MarkKind, Timeline};
 use std::alloc::Global;
 
 impl Notes {
-    /// From a position on a timeline is made.
-    pub(crate) fn record(&mut self, alloc: Global, from: u64) -> Result<(), NoMemory> {
+    /// From a position on a timeline is made, of a board.
+    pub(crate) fn record(&mut self, alloc: Global, board: &Board, from: u64) -> Result<(), NoMemory>
+        ensures { KeepsKnown self.old self.new }
+    {
         let known = Known {
             standings: &self.standings,
             tasks: self.tasks.as_slice(),
             is_off: self.off.is_some(),
         };
-        self.recording = Some(Recording::new(alloc, known, from)?);
+        let locks = Locks::new(alloc, board, from)?;
+        self.recording = Some(Recording::new(alloc, known, locks, from)?);
         Ok(())
     }
 
-    /// The timeline that was made up to a position, where one was.
+    /// The timeline that was made up to a position, where one was, of the events of a journal.
     pub(crate) fn into_timeline(
         self,
         alloc: Global,
+        journal: &Journal,
         to: u64,
     ) -> Result<Option<Timeline>, NoMemory> {
         let Notes { recording, .. } = self;
         match recording {
-            Some(recording) => Ok(Some(recording.end(alloc, to)?)),
+            Some(recording) => Ok(Some(recording.end(alloc, journal, to)?)),
             None => Ok(None),
         }
     }
 
-    /// Records what goes on from a position on.
-    pub(crate) fn see(&mut self, alloc: Global, at: u64) -> Result<(), NoMemory> {
+    /// Records what goes on from a position on, and how spin locks stand, after an event.
+    pub(crate) fn see(&mut self, it: Scene, at: u64) -> Result<(), NoMemory>
+        ensures { KeepsKnown self.old self.new }
+    {
         let known = Known {
             standings: &self.standings,
             tasks: self.tasks.as_slice(),
             is_off: self.off.is_some(),
         };
         match &mut self.recording {
-            Some(recording) => recording.see(alloc, known, at),
+            Some(recording) => {
+                recording.see_locks(known, it.board, it.told, at)?;
+                recording.see(it.alloc, known, at)
+            }
             None => Ok(()),
         }
     }
@@ -52,7 +66,9 @@ impl Notes {
         position: u64,
         kind: MarkKind,
         label: &[u8],
-    ) -> Result<(), NoMemory> {
+    ) -> Result<(), NoMemory>
+        ensures { KeepsKnown self.old self.new }
+    {
         match &mut self.recording {
             Some(recording) => recording.mark(alloc, cpu.unwrap_or(0), position, kind, label),
             None => Ok(()),
@@ -66,7 +82,9 @@ impl Notes {
         position: u64,
         line: u8,
         label: &[u8],
-    ) -> Result<(), NoMemory> {
+    ) -> Result<(), NoMemory>
+        ensures { KeepsKnown self.old self.new }
+    {
         if line as usize >= self.handlers.len() {
             return Ok(());
         }
@@ -83,7 +101,9 @@ impl Notes {
         alloc: Global,
         task: usize,
         at: u64,
-    ) -> Result<(), NoMemory> {
+    ) -> Result<(), NoMemory>
+        ensures { KeepsKnown self.old self.new }
+    {
         match &mut self.recording {
             Some(recording) => recording.mark_release(alloc, task, at),
             None => Ok(()),

@@ -1,19 +1,35 @@
 //! Names for addresses.
 
-ghost use Rattle.std.specs.Prelude.{◌≡◌, ◌++◌, OnOk};
+ghost use Rattle.std.specs.Prelude.{◌≡◌, ◌++◌, OnOk, Some, None};
+ghost use Rattle.std.specs.Option.{option_map};
+ghost use Rattle.brd_lines.specs.Lines.{seen};
 ghost use Rattle.brd_listing.specs.Places.{place_text};
-ghost use Rattle.brd_trace.specs.Effects.{is_loaded, is_in, both_text, datum_text};
+ghost use Rattle.brd_trace.specs.Effects.{
+  is_loaded,
+  is_in,
+  both_text,
+  datum_text,
+  code_text,
+  source_at,
+  source_by,
+  source_text,
+};
 
-use crate::text::{put, put_word};
+use crate::text::{put, put_number, put_word};
 use brd_base::NoMemory;
+use brd_happening::{Happening, What};
+use brd_lines::{Lines, Place};
 use brd_listing::{nearest, write_place};
 use brd_mem::{Segment, Symbol};
+use std::alloc::Global;
 
-/// The symbols of an image, by which addresses are named, and what the image loads.
+/// The symbols of an image, by which addresses are named, what the image loads, and the lines of its source, where the
+/// object file has them.
 #[derive(Clone, Copy)]
 pub struct Names<'a> {
     symbols: &'a [Symbol],
     segments: &'a [Segment],
+    lines: Option<&'a Lines>,
 }
 
 impl<'a> Names<'a> {
@@ -21,8 +37,97 @@ impl<'a> Names<'a> {
     pub fn new(symbols: &'a [Symbol], segments: &'a [Segment]) -> Self
         ensures symbols { result.symbols.now ≡ symbols.now }
         ensures segments { result.segments.now ≡ segments.now }
+        ensures lines { result.lines ≡ None }
     {
-        Names { symbols, segments }
+        Names {
+            symbols,
+            segments,
+            lines: None,
+        }
+    }
+
+    /// The same, with the lines of the source.
+    pub fn with_lines(symbols: &'a [Symbol], segments: &'a [Segment], lines: &'a Lines) -> Self
+        ensures symbols { result.symbols.now ≡ symbols.now }
+        ensures segments { result.segments.now ≡ segments.now }
+        ensures lines { option_map (λ lines. lines.now) result.lines ≡ Some lines.now }
+    {
+        Names {
+            symbols,
+            segments,
+            lines: Some(lines),
+        }
+    }
+
+    /// The line of the code at an address, where it is known.
+    fn source_at(&self, address: u32) -> Option<Place<'a>>
+        ensures { option_map seen result ≡ source_at self.now address }
+    {
+        match self.lines {
+            Some(lines) => lines.line_at(address),
+            None => None,
+        }
+    }
+
+    /// Puts at the end the file and the line of the code at an address, where they are known, after these bytes.
+    pub(crate) fn put_source(
+        &self,
+        alloc: Global,
+        before: &str,
+        address: u32,
+        out: &mut Vec<u8>,
+    ) -> Result<(), NoMemory>
+        ensures { OnOk result (out.new.items ≡ out.old.items ++ source_text before.now self.now address) }
+    {
+        match self.source_at(address) {
+            Some(place) => put_line_of(alloc, before, place, out),
+            None => Ok(()),
+        }
+    }
+
+    /// Puts at the end the file and the line of the code of an event, where it has some and they are known. Of a service
+    /// call that a header makes, as the kit's do, nobody asks for the header's line.
+    pub(crate) fn put_source_of(
+        &self,
+        alloc: Global,
+        told: &Happening,
+        out: &mut Vec<u8>,
+    ) -> Result<(), NoMemory> {
+        let Some(address) = told.place else {
+            return Ok(());
+        };
+        if matches!(told.what, What::Call(_)) && self.is_of_header(address) {
+            return Ok(());
+        }
+        self.put_source(alloc, "; ", address, out)
+    }
+
+    /// Whether the code at an address stands for a line of a header.
+    fn is_of_header(&self, address: u32) -> bool {
+        match self.source_at(address) {
+            Some(place) => place.file.ends_with(b".h"),
+            None => false,
+        }
+    }
+
+    /// Puts the address of code at the end: by the nearest symbol and as digits, with its file and line, where they are
+    /// known.
+    pub(crate) fn put_code(
+        &self,
+        alloc: Global,
+        address: u32,
+        out: &mut Vec<u8>,
+    ) -> Result<(), NoMemory>
+        ensures { OnOk result (out.new.items ≡ out.old.items ++ code_text self.now address) }
+    {
+        self.put_place(out, address)?;
+        if nearest(self.symbols, address).is_none() {
+            return self.put_source(alloc, ", ", address, out);
+        }
+        put(out, " (")?;
+        put_word(out, address)?;
+        self.put_source(alloc, ", ", address, out)?;
+        put(out, ")")
     }
 
     /// Puts an address at the end, by the nearest symbol at or below it.
@@ -69,6 +174,16 @@ impl<'a> Names<'a> {
         }
         false
     }
+}
+
+/// Puts a line of a file at the end, after these bytes.
+fn put_line_of(alloc: Global, before: &str, place: Place, out: &mut Vec<u8>) -> Result<(), NoMemory>
+    ensures { OnOk result (out.new.items ≡ out.old.items ++ source_by before.now (Some (seen place.entry))) }
+{
+    put(out, before)?;
+    place.put_name(alloc, out)?;
+    out.push(b':')?;
+    put_number(alloc, out, u64::from(place.line))
 }
 
 /// Whether an address lies in a segment.

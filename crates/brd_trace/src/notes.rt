@@ -1,24 +1,41 @@
 //! What is known of a board, and what is said of each event that is no ordinary instruction.
 
+ghost use Rattle.std.specs.Prelude.{
+  ◌≡◌,
+  List as ListOf,
+  IfOk,
+  None,
+  Some,
+  length,
+  map,
+  replicate,
+  slice_set,
+  unwrap_or,
+  true,
+  false,
+};
+ghost use Rattle.brd_board.specs.declared.event.Event.{Event as EventOf};
+ghost use Rattle.brd_trace.specs.Noted.{Knows, KeepsKnown, may_change, off_by, tasks_of};
+ghost use Rattle.brd_trace.specs.Dated.{IsDated, Follows, KeepsFault, KeepsFaults};
+
+use crate::cause::Raised;
 use crate::losses::{LostRaises, note_loss};
 use crate::names::Names;
 use crate::quiet::{Quiet, Stretch};
 use crate::recording::Recording;
 use crate::refusals::Refusals;
-use crate::tasks::{Cause, Standings, TaskSeen, put_task_seen, task_seen, tasks_seen};
+use crate::service::{EXT_TSK, SaidCall, TER_TSK};
+use crate::tasks::{Cause, Standings, TaskSeen, follow_tasks, task_seen, tasks_seen};
 use crate::text::put;
 use crate::units::Units;
 use brd_base::NoMemory;
-use brd_board::{Board, Event, Report, Standing, TaskId};
-use brd_happening::{Happening, Release};
-use brd_journal::Moved;
+use brd_board::{Board, Report, Standing, TaskId};
+use brd_happening::{CallMade, Happening, Release, What};
 use std::alloc::Global;
 
 /// The last exception of a processor.
 #[derive(Drop)]
 pub(crate) struct LastFault {
-    /// The processor.
-    pub cpu: u8,
     /// The position of its event.
     pub position: u64,
     /// Who raised it.
@@ -53,26 +70,28 @@ impl<'a> Scene<'a> {
         }
     }
 
-    /// What changes tasks, where it is no instruction.
-    pub(crate) fn outside(&self, ticks: bool) -> Cause {
+    /// What changes tasks.
+    pub(crate) fn cause(&self) -> Cause
+        ensures { result.position ≡ self.now.position }
+    {
+        let inside = matches!(self.told.what, What::Call(_) | What::Exception(_));
         Cause {
             position: self.position,
-            caller: None,
-            address: 0,
-            restarts: false,
-            ticks,
+            caller: if inside { self.task() } else { None },
+            address: self.told.place.unwrap_or(0),
+            restarts: may_restart(self.told.what),
+            ticks: matches!(self.told.what, What::Tick(_)),
         }
     }
 
-    /// What changes tasks, where it is an instruction, which may end a task that starts again then.
-    pub(crate) fn inside(&self, restarts: bool) -> Cause {
-        Cause {
-            position: self.position,
-            caller: self.task(),
-            address: self.told.place.unwrap_or(0),
-            restarts,
-            ticks: false,
+    /// The name and the cause of an exception.
+    fn fault_text(&self, place: u32) -> Result<Vec<u8>, NoMemory> {
+        let mut what = Vec::new(self.alloc);
+        if let What::Exception(exception) = self.told.what {
+            let raised = Raised { place, exception };
+            raised.put(self.alloc, self.names, &mut what)?;
         }
+        Ok(what)
     }
 
     /// The release of a task, if the event has released it.
@@ -86,18 +105,65 @@ impl<'a> Scene<'a> {
     }
 }
 
+/// No last exceptions.
+fn no_faults(alloc: Global) -> Result<Vec<Option<LastFault>>, NoMemory>
+    ensures { IfOk result (λ faults. faults.items ≡ replicate 9 None) }
+{
+    let mut faults = Vec::new(alloc);
+    for _ in 0..9u8 {
+        faults.push(None)?;
+    }
+    Ok(faults)
+}
+
+/// Puts an exception into the place of a processor, where there is one.
+fn put_fault_at(faults: &mut Vec<Option<LastFault>>, cpu: u8, fault: LastFault)
+    ensures { faults.new.items ≡ slice_set faults.old.items cpu (Some fault) }
+{
+    if (cpu as usize) < faults.len() {
+        faults[cpu as usize] = Some(fault);
+    }
+}
+
+/// Whether an event may end a task that starts again then.
+fn may_restart(what: What) -> bool {
+    match what {
+        What::Call(CallMade { asked, answer: _ }) => {
+            let call = SaidCall { asked };
+            call.number() == EXT_TSK || call.number() == TER_TSK
+        }
+        _ => false,
+    }
+}
+
+/// Whether an event that reports this may change how tasks stand, what processors do, or whether the board is off.
+fn may_change(report: Report) -> bool
+    ensures { result ≡ may_change report }
+{
+    matches!(
+        report,
+        Report::Accepted(_) | Report::Called(_) | Report::Faulted(_) | Report::Ticked
+    )
+}
+
+/// The position of the event that has turned a board off, where it is off.
+fn off_by(is_off: bool, position: u64) -> Option<u64>
+    ensures { result ≡ off_by is_off position }
+{
+    if is_off { Some(position) } else { None }
+}
+
 /// What is known of a board.
 #[derive(Drop)]
 pub(crate) struct Notes {
     pub(crate) tasks: Vec<TaskSeen>,
     pub(crate) standings: Standings,
     pub(crate) off: Option<u64>,
-    pub(crate) faults: Vec<LastFault>,
+    /// By the processor's number.
+    pub(crate) faults: Vec<Option<LastFault>>,
     pub(crate) refusals: Vec<Refusals>,
     pub(crate) losses: Vec<LostRaises>,
     pub(crate) units: Units,
-    /// Which lines are pending.
-    pub(crate) pending: [bool; 32],
     /// The processor that handles each line; 0 where none does.
     pub(crate) handlers: [u8; 32],
     /// The chosen processor.
@@ -112,65 +178,22 @@ impl Notes {
         board: &Board,
         handlers: [u8; 32],
         chosen: Option<u8>,
-    ) -> Result<Notes, NoMemory> {
+    ) -> Result<Notes, NoMemory>
+        ensures knows { IfOk result (Knows board.now) }
+        ensures dated { IfOk result (λ notes. (events : ListOf EventOf) → IsDated board.now events 0 notes) }
+    {
         Ok(Notes {
             tasks: tasks_seen(alloc, board)?,
             standings: Standings::of(board),
-            off: None,
-            faults: Vec::new(alloc),
+            off: off_by(board.is_off(), 0),
+            faults: no_faults(alloc)?,
             refusals: Vec::new(alloc),
             losses: Vec::new(alloc),
             units: Units::new(alloc),
-            pending: [false; 32],
             handlers,
             chosen,
             recording: None,
         })
-    }
-
-    /// Whether a line is pending.
-    fn is_pending(&self, line: u8) -> bool {
-        if (line as usize) < 32 {
-            return self.pending[line as usize];
-        }
-        false
-    }
-
-    /// Whether the line is pending that an event raises.
-    pub(crate) fn raises_again(&self, event: Event) -> bool {
-        match event {
-            Event::Raise(line) => self.is_pending(line),
-            Event::Step(_) | Event::Tick => false,
-        }
-    }
-
-    /// Notes whether a line is pending.
-    pub(crate) fn set_pending(&mut self, line: u8, pending: bool) {
-        if (line as usize) < 32 {
-            self.pending[line as usize] = pending;
-        }
-    }
-
-    /// Whether an event may be a step in which a processor accepts an interrupt.
-    pub(crate) fn may_accept(&self, event: Event) -> bool {
-        let Event::Step(cpu) = event else {
-            return false;
-        };
-        for i in 0..32usize {
-            if self.pending[i] && self.handlers[i] == cpu {
-                return true;
-            }
-        }
-        false
-    }
-
-    /// Notes which line an event raised, or accepted.
-    pub(crate) fn note_line(&mut self, moved: Moved) {
-        match (moved.report, moved.event) {
-            (Report::Raised, Event::Raise(line)) => self.set_pending(line, true),
-            (Report::Accepted(line), _) => self.set_pending(line, false),
-            _ => {}
-        }
     }
 
     /// Sees how a board stands at a position, after events of which nothing was told.
@@ -179,19 +202,75 @@ impl Notes {
         alloc: Global,
         board: &Board,
         position: u64,
-    ) -> Result<(), NoMemory> {
+    ) -> Result<(), NoMemory>
+        ensures { IfOk result (λ _. Knows board.now self.new) }
+    {
         self.tasks = tasks_seen(alloc, board)?;
         self.standings = Standings::of(board);
-        if board.is_off() {
-            self.off = Some(position);
+        self.off = off_by(board.is_off(), position);
+        Ok(())
+    }
+
+    /// Keeps how tasks and processors stand after an event, which reported this.
+    pub(crate) fn follow(&mut self, it: Scene, report: Report) -> Result<(), NoMemory>
+        ensures kept { may_change report ≡ false → KeepsKnown self.old self.new }
+        ensures known { may_change report ≡ true → map (λ it. it.id) self.old.tasks.items ≡ tasks_of it.entry.board.now
+            → Knows it.entry.board.now self.new }
+        ensures follows { may_change report ≡ true → IfOk result
+            (λ _. Follows it.entry.board.now it.entry.position self.old self.new) }
+        ensures faults { may_change report ≡ true → IfOk result (λ _. KeepsFaults report it.entry.position
+            (unwrap_or it.entry.told.now.cpu 0) it.entry.told.now.who self.old.faults.items self.new.faults.items) }
+    {
+        if !may_change(report) {
+            return Ok(());
         }
+        follow_tasks(&mut self.tasks, it.board, it.cause());
+        self.standings = Standings::of(it.board);
+        let position = self.off.unwrap_or(it.position);
+        self.off = off_by(it.board.is_off(), position);
+        self.keep_faults(it, report)?;
+        self.see(it, it.position.saturating_add(1))?;
+        Ok(())
+    }
+
+    /// Keeps an exception, if an event has reported one.
+    fn keep_faults(&mut self, it: Scene, report: Report) -> Result<(), NoMemory>
+        ensures tasks { self.new.tasks ≡ self.old.tasks }
+        ensures standings { self.new.standings ≡ self.old.standings }
+        ensures off { self.new.off ≡ self.old.off }
+        ensures places { length self.new.faults.items ≡ length self.old.faults.items }
+        ensures faults { IfOk result (λ _. KeepsFaults report it.entry.position (unwrap_or it.entry.told.now.cpu 0)
+            it.entry.told.now.who self.old.faults.items self.new.faults.items) }
+    {
+        match report {
+            Report::Faulted(place) => self.keep_fault(it, place),
+            _ => Ok(()),
+        }
+    }
+
+    /// Keeps an exception as its processor's last one.
+    fn keep_fault(&mut self, it: Scene, place: u32) -> Result<(), NoMemory>
+        ensures tasks { self.new.tasks ≡ self.old.tasks }
+        ensures standings { self.new.standings ≡ self.old.standings }
+        ensures off { self.new.off ≡ self.old.off }
+        ensures places { length self.new.faults.items ≡ length self.old.faults.items }
+        ensures kept { IfOk result (λ _. KeepsFault it.entry.position place (unwrap_or it.entry.told.now.cpu 0)
+            it.entry.told.now.who self.old.faults.items self.new.faults.items) }
+    {
+        let fault = LastFault {
+            position: it.position,
+            who: it.told.who,
+            place,
+            what: it.fault_text(place)?,
+        };
+        put_fault_at(&mut self.faults, it.told.cpu.unwrap_or(0), fault);
         Ok(())
     }
 
     /// Whether no line is pending on a processor that may still accept it: one that is stopped never does.
-    pub(crate) fn is_quiet(&self) -> bool {
-        for i in 0..32usize {
-            if self.pending[i] && !self.has_stopped(self.handlers[i]) {
+    pub(crate) fn is_quiet(&self, board: &Board) -> bool {
+        for line in 0..32u8 {
+            if board.is_pending(line) && !self.has_stopped(self.handlers[line as usize]) {
                 return false;
             }
         }
@@ -204,7 +283,9 @@ impl Notes {
     }
 
     /// Counts events that did nothing, if they are raises; a tick is recorded.
-    pub(crate) fn note_quiet(&mut self, it: Stretch) -> Result<(), NoMemory> {
+    pub(crate) fn note_quiet(&mut self, it: Stretch) -> Result<(), NoMemory>
+        ensures { KeepsKnown self.old self.new }
+    {
         let (line, pending) = match it.quiet {
             Quiet::Again(line) => (line, true),
             Quiet::NoLine(line) => (line, false),
@@ -227,26 +308,22 @@ impl Notes {
 
     /// Puts at the end what the event changed of tasks and processors. Answers whether it changed what the chosen
     /// processor does.
-    pub(crate) fn put_changes(
-        &mut self,
-        it: Scene,
-        what: &mut Vec<u8>,
-        cause: Cause,
-    ) -> Result<bool, NoMemory> {
-        self.put_tasks(it, what, cause)?;
+    pub(crate) fn put_changes(&mut self, it: Scene, what: &mut Vec<u8>) -> Result<bool, NoMemory>
+        ensures { KeepsKnown self.old self.new }
+    {
+        self.put_tasks(it, what, it.cause())?;
         let now = Standings::of(it.board);
         let concerned = now.put_changes(it.alloc, what, &self.standings, self.chosen)?;
-        self.standings = now;
         if it.told.goes_off {
-            self.off = Some(it.position);
             put(what, ", the board is off")?;
         }
-        self.see(it.alloc, it.position.saturating_add(1))?;
         Ok(concerned)
     }
 
-    /// Puts at the end what an event changed of tasks, and keeps them as they stand now.
-    fn put_tasks(&mut self, it: Scene, what: &mut Vec<u8>, cause: Cause) -> Result<(), NoMemory> {
+    /// Puts at the end what an event changed of tasks.
+    fn put_tasks(&mut self, it: Scene, what: &mut Vec<u8>, cause: Cause) -> Result<(), NoMemory>
+        ensures { KeepsKnown self.old self.new }
+    {
         for i in 0..self.tasks.len() {
             let Some(old) = self.tasks.get(i).copied() else {
                 return Ok(());
@@ -259,7 +336,6 @@ impl Notes {
             if let Some(release) = release {
                 self.note_release(it, i, old.place, &release, cause.ticks)?;
             }
-            put_task_seen(&mut self.tasks, i, old.after(now, cause));
         }
         Ok(())
     }

@@ -1,12 +1,9 @@
 //! A board that plays a journal, event by event.
 
-ghost use Rattle.std.specs.Prelude.{◌≡◌, ◌+◌, ◌≤◌, ◌<◌, length, IfSome, IfOk, OnOk, None};
-ghost use Rattle.brd_board.specs.Board.{BoardState as BoardOf, happens};
-ghost use Rattle.brd_journal.specs.Playing.{AreStill, IsPlayed};
+ghost use Rattle.std.specs.Prelude.{◌≡◌, ◌≤◌, ◌<◌, length, IfSome, None};
 ghost use Rattle.brd_journal.specs.Runs.{ComesBehind};
 
-use crate::notes::Notes;
-use brd_journal::{Journal, Moved, Playback, Run};
+use brd_journal::{Journal, Playback, Run};
 
 /// What is left of the run of a journal's next event, before a position. `None` at that position. `near` is where the
 /// journal looks for the run.
@@ -27,33 +24,4 @@ pub(crate) fn next_of(
         return None;
     }
     journal.rest_at(playback.at, near)
-}
-
-/// Does the next events of a run of a journal, up to a position: many, or only one and those after it that do nothing
-/// where that is asked for of the event. `None` at that position. `near` is where the journal looks for the run.
-pub(crate) fn advance_many(
-    playback: &mut Playback,
-    journal: &Journal,
-    to: u64,
-    near: &mut usize,
-    notes: &Notes,
-) -> Option<Moved>
-    requires on { playback.old.at ≤ to }
-    requires within { to ≤ length journal.now.events }
-    ensures goes { IfSome result (λ moved. (1 ≤ moved.count) × (playback.new.at ≡ playback.old.at + moved.count)) }
-    ensures to { playback.new.at ≤ to }
-    ensures ends { result ≡ None → (playback.new ≡ playback.old) × (playback.new.at ≡ to) }
-    ensures played { (boot : BoardOf) → IsPlayed boot journal.now.events playback.old
-        → IsPlayed boot journal.now.events playback.new }
-{
-    if playback.at >= to {
-        return None;
-    }
-    let rest = journal.rest_at(playback.at, near)?;
-    let end = if notes.may_accept(rest.event) {
-        playback.at + 1
-    } else {
-        to
-    };
-    Some(playback.advance(rest, end, to))
 }

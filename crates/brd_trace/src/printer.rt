@@ -81,7 +81,7 @@ impl Printer {
             order: manner.order,
             old: self.options.touching,
         };
-        put_done(form, told.place.unwrap_or(0), instruction, &mut what)?;
+        put_done(alloc, form, told.place.unwrap_or(0), instruction, &mut what)?;
         self.put_line(alloc, manner, position, told, what.as_slice(), out)?;
         Ok(())
     }

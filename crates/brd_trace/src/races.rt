@@ -54,7 +54,7 @@ fn put_mark(alloc: Global, names: Names, mark: &Mark, out: &mut Vec<u8>) -> Resu
     put(out, ", ")?;
     put_strand(alloc, mark.strand, out)?;
     put(out, " at ")?;
-    names.put_both(out, mark.place)?;
+    names.put_code(alloc, mark.place, out)?;
     put_touch(&mark.touch, out)
 }
 

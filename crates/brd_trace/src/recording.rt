@@ -1,10 +1,15 @@
 //! The timeline of a run.
 
+use crate::locks::{Locks, LocksSeen};
+use crate::quiet::{Quiet, SpinningTask, quiet_of};
 use crate::tasks::{Standings, TaskSeen};
 use crate::text::put_named;
+use crate::turns::turns_of;
 use crate::waits::put_wait;
 use brd_base::NoMemory;
-use brd_board::{Standing, TaskState, WaitReason};
+use brd_board::{Board, Standing, TaskState, WaitReason};
+use brd_happening::Happening;
+use brd_journal::Journal;
 use brd_timeline::{Group, Kind, Lane, Mark, MarkKind, Slice, Timeline};
 use std::alloc::Global;
 
@@ -47,23 +52,23 @@ pub(crate) struct Recording {
     processors: Vec<u8>,
     /// What goes on in each lane.
     open: Vec<Open>,
+    /// The spin locks.
+    locks: Locks,
 }
 
 impl Recording {
-    /// The timeline of a run, from a position on.
-    pub(crate) fn new(alloc: Global, known: Known, from: u64) -> Result<Recording, NoMemory> {
+    /// The timeline of a run, from a position on, with these spin locks.
+    pub(crate) fn new(
+        alloc: Global,
+        known: Known,
+        locks: Locks,
+        from: u64,
+    ) -> Result<Recording, NoMemory> {
         let mut recording = Recording {
-            timeline: Timeline {
-                lanes: Vec::new(alloc),
-                slices: Vec::new(alloc),
-                marks: Vec::new(alloc),
-                ticks: Vec::new(alloc),
-                first_tick: 0,
-                from,
-                to: from,
-            },
+            timeline: empty(alloc, from),
             processors: Vec::new(alloc),
             open: Vec::new(alloc),
+            locks,
         };
         for cpu in 1..9u8 {
             if known.standings.at(cpu).is_some() {
@@ -192,18 +197,88 @@ impl Recording {
         Ok(())
     }
 
-    /// The timeline up to a position.
-    pub(crate) fn end(mut self, alloc: Global, to: u64) -> Result<Timeline, NoMemory> {
+    /// How spin locks stand on a board from a position on, after an event.
+    pub(crate) fn see_locks(
+        &mut self,
+        known: Known,
+        board: &Board,
+        told: &Happening,
+        at: u64,
+    ) -> Result<(), NoMemory> {
+        self.locks.see(board, at)?;
+        match quiet_of(told) {
+            Some(Quiet::Spins(task)) => {
+                self.locks.answer(known, board, None, at)?;
+                self.ask(task, at)
+            }
+            _ => self.locks.answer(known, board, told.cpu, at),
+        }
+    }
+
+    /// A task has asked for a spin lock that is held, so that it asks again from a position on.
+    fn ask(&mut self, task: SpinningTask, at: u64) -> Result<(), NoMemory> {
+        for lane in 0..self.processors.len() {
+            if self.processors[lane] == task.cpu {
+                return self.locks.ask(task, lane, at);
+            }
+        }
+        Ok(())
+    }
+
+    /// The timeline up to a position, of the events of a journal.
+    pub(crate) fn end(
+        mut self,
+        alloc: Global,
+        journal: &Journal,
+        to: u64,
+    ) -> Result<Timeline, NoMemory> {
+        let end = self.off_from().unwrap_or(to);
         for lane in 0..self.open.len() {
             self.close(alloc, lane, to)?;
         }
         let Recording {
             mut timeline,
-            processors: _,
+            processors,
             open: _,
+            locks,
         } = self;
+        let LocksSeen {
+            locks,
+            holds,
+            spins,
+        } = locks.end(alloc, end)?;
+        timeline.turns = turns_of(alloc, journal, processors.as_slice(), timeline.from, end)?;
+        timeline.locks = locks;
+        timeline.holds = holds;
+        timeline.spins = spins;
         timeline.to = to;
         Ok(timeline)
+    }
+
+    /// From where on the board is off, if it is.
+    fn off_from(&self) -> Option<u64> {
+        let first = self.open.first()?;
+        if first.doing.kind == Kind::Off {
+            return Some(first.from);
+        }
+        None
+    }
+}
+
+/// A timeline without anything, at a position.
+fn empty(alloc: Global, from: u64) -> Timeline {
+    Timeline {
+        lanes: Vec::new(alloc),
+        slices: Vec::new(alloc),
+        marks: Vec::new(alloc),
+        locks: Vec::new(alloc),
+        holds: Vec::new(alloc),
+        spins: Vec::new(alloc),
+        turns: Vec::new(alloc),
+        ticks: Vec::new(alloc),
+        first_tick: 0,
+        from,
+        to: from,
     }
 }
 

@@ -1,7 +1,30 @@
 //! What stands at the end.
 
-ghost use Rattle.std.specs.Prelude.{IfOk, codes};
+ghost use Rattle.std.specs.Prelude.{◌≡◌, ◌++◌, List as ListOf, IfOk, None, OnOk, codes, slice_index_or};
+ghost use Rattle.brd_board.specs.declared.event.Event.{Event as EventOf};
+ghost use Rattle.brd_board.specs.Board.{BoardState as BoardOf};
+ghost use Rattle.brd_journal.specs.Playing.{IsPlayed};
+ghost use Rattle.brd_listing.specs.Listing.{IsBehind};
 ghost use Rattle.brd_timeline.specs.Ends.{EndsWith};
+ghost use Rattle.brd_trace.specs.Dated.{IsDated};
+ghost use Rattle.brd_trace.specs.Noted.{IsNoted};
+ghost use Rattle.brd_trace.specs.Summary.{
+  end_text,
+  off_text,
+  fault_behind,
+  fault_front,
+  fault_text,
+  last_text,
+  processor_text,
+  processors_text,
+  since_text,
+  task_text,
+  AreTexts,
+  IsEnd,
+  IsSummary,
+  IsTaskLine,
+  IsWait,
+};
 
 use crate::line::put_who;
 use crate::names::Names;
@@ -23,22 +46,36 @@ impl Tracer {
         alloc: Global,
         names: Names,
         out: &mut Vec<u8>,
-    ) -> Result<(), NoMemory> {
+    ) -> Result<(), NoMemory>
+        ensures { (boot : BoardOf) (events : ListOf EventOf) → IsPlayed boot events self.now.playback
+            → IsNoted boot events self.now.playback.at self.now.notes
+            → IsDated boot events self.now.playback.at self.now.notes
+            → IfOk result (λ _. IsBehind
+            (IsSummary names.entry.symbols.now boot events self.now.playback.at) out.old.items out.new.items) }
+    {
         self.put_processors(alloc, names, out)?;
-        for task in self.notes.tasks.as_slice() {
-            self.put_task(alloc, names, out, *task)?;
-        }
+        self.put_tasks(alloc, names, out)?;
+        let rest = self.rest(alloc, names)?;
+        out.extend_from_slice(rest.as_slice())?;
+        Ok(())
+    }
+
+    /// Whether nothing can release the tasks that wait, which wait for each other, how many calls were refused, and how
+    /// many raises had no effect.
+    fn rest(&self, alloc: Global, names: Names) -> Result<Vec<u8>, NoMemory> {
+        let mut out = Vec::new(alloc);
         if self.is_stuck() {
             put(
-                out,
+                &mut out,
                 "deadlock: no task is ready, and no tick and no pending interrupt releases one that waits\n",
             )?;
         }
         if self.notes.off.is_none() {
             let tasks = self.notes.tasks.as_slice();
-            self.notes.units.put_circle(alloc, out, tasks)?;
+            self.notes.units.put_circle(alloc, &mut out, tasks)?;
         }
-        self.put_counts(alloc, names, out)
+        self.put_counts(alloc, names, &mut out)?;
+        Ok(out)
     }
 
     /// Puts at the end how many calls were refused, and how many raises had no effect.
@@ -54,48 +91,87 @@ impl Tracer {
 
     /// Puts a line at the end: how many events there were, the tick, and where the board went off.
     pub fn put_end(&self, alloc: Global, out: &mut Vec<u8>) -> Result<(), NoMemory>
-        ensures { IfOk result (λ _. EndsWith (codes "\n") out.new.items) }
+        ensures ends { IfOk result (λ _. EndsWith (codes "\n") out.new.items) }
+        ensures end { (boot : BoardOf) (events : ListOf EventOf) → IsPlayed boot events self.now.playback
+            → IsDated boot events self.now.playback.at self.now.notes
+            → IfOk result (λ _. IsBehind (IsEnd boot events self.now.playback.at) out.old.items out.new.items) }
+    {
+        self.put_end_line(alloc, out)?;
+        Ok(())
+    }
+
+    /// Puts a line at the end: how many events there were, the tick, and where the board went off, as it is known.
+    fn put_end_line(&self, alloc: Global, out: &mut Vec<u8>) -> Result<(), NoMemory>
+        ensures line { OnOk result (out.new.items ≡ out.old.items
+            ++ end_text self.now.playback.at self.now.playback.board.kernel.time.count self.now.notes.off) }
+        ensures ends { IfOk result (λ _. EndsWith (codes "\n") out.new.items) }
     {
         put_named(alloc, out, "after event", self.playback.at)?;
         put(out, ", ")?;
         put_named(alloc, out, "tick", self.playback.board.now())?;
-        match self.notes.off {
-            Some(position) => put_named(alloc, out, ": off since event", position)?,
-            None => put(out, ": on")?,
-        }
+        put_off(alloc, out, self.notes.off)?;
         put(out, "\n")
     }
 
     /// Puts the processors at the end: what each does, and its last exception.
-    fn put_processors(
-        &self,
-        alloc: Global,
-        names: Names,
-        out: &mut Vec<u8>,
-    ) -> Result<(), NoMemory> {
+    fn put_processors(&self, alloc: Global, names: Names, out: &mut Vec<u8>) -> Result<(), NoMemory>
+        ensures { OnOk result (out.new.items ≡ out.old.items ++ processors_text names.entry.symbols.now self.now.notes) }
+    {
         for cpu in 1..9u8 {
-            let standing = self.notes.standings.at(cpu);
-            if standing.is_some() {
-                put_standing(alloc, out, cpu, standing)?;
-                put(out, "\n")?;
-                self.put_faults(alloc, names, out, cpu)?;
-            }
+            self.put_processor(alloc, names, out, cpu)?;
         }
         Ok(())
     }
 
-    /// Puts the last exception of a processor at the end, where it had one.
-    fn put_faults(
+    /// Puts a processor at the end, where there is one of that number: what it does, and its last exception.
+    fn put_processor(
         &self,
         alloc: Global,
         names: Names,
         out: &mut Vec<u8>,
         cpu: u8,
-    ) -> Result<(), NoMemory> {
-        for fault in self.notes.faults.as_slice() {
-            if fault.cpu == cpu {
-                put_fault(alloc, names, out, fault)?;
-            }
+    ) -> Result<(), NoMemory>
+        ensures { OnOk result (out.new.items ≡ out.old.items ++ processor_text names.entry.symbols.now cpu
+            (slice_index_or self.now.notes.standings.of cpu None)
+            (slice_index_or self.now.notes.faults.items cpu None)) }
+    {
+        let standing = self.notes.standings.at(cpu);
+        if standing.is_none() {
+            return Ok(());
+        }
+        put_standing(alloc, out, cpu, standing)?;
+        put(out, "\n")?;
+        self.put_last(alloc, names, out, cpu)
+    }
+
+    /// Puts the last exception of a processor at the end, where it had one.
+    fn put_last(
+        &self,
+        alloc: Global,
+        names: Names,
+        out: &mut Vec<u8>,
+        cpu: u8,
+    ) -> Result<(), NoMemory>
+        ensures { OnOk result (out.new.items ≡ out.old.items ++ last_text names.entry.symbols.now
+            (slice_index_or self.now.notes.faults.items cpu None)) }
+    {
+        if (cpu as usize) >= self.notes.faults.len() {
+            return Ok(());
+        }
+        match &self.notes.faults[cpu as usize] {
+            Some(fault) => put_fault(alloc, names, out, fault),
+            None => Ok(()),
+        }
+    }
+
+    /// Puts the tasks at the end, a line for each.
+    fn put_tasks(&self, alloc: Global, names: Names, out: &mut Vec<u8>) -> Result<(), NoMemory>
+        ensures { IfOk result (λ _. IsBehind
+            (AreTexts (IsTaskLine names.entry.symbols.now) self.now.notes.tasks.items) out.old.items out.new.items) }
+    {
+        let tasks = self.notes.tasks.as_slice();
+        for i in 0..tasks.len() {
+            self.put_task(alloc, names, out, tasks[i])?;
         }
         Ok(())
     }
@@ -107,23 +183,18 @@ impl Tracer {
         names: Names,
         out: &mut Vec<u8>,
         task: TaskSeen,
-    ) -> Result<(), NoMemory> {
-        put_named(alloc, out, "task", u64::from(task.id))?;
-        put(out, " ")?;
-        put(out, state_name(task.state))?;
-        match task.since {
-            Some(position) => put_named(alloc, out, " since event", position)?,
-            None => put(out, " since the start")?,
-        }
-        put(out, ", at ")?;
-        names.put_both(out, self.place_of(task))?;
-        if let Some(reason) = task.waiting {
-            put(out, ", ")?;
-            task.call.put(alloc, out)?;
-            put(out, " ")?;
-            put_wait(alloc, out, reason, task.due)?;
-        }
-        put(out, "\n")
+    ) -> Result<(), NoMemory>
+        ensures { IfOk result (λ _. IsBehind (IsTaskLine names.entry.symbols.now task) out.old.items out.new.items) }
+    {
+        let wait = wait_of(alloc, task)?;
+        put_task_line(
+            alloc,
+            names,
+            out,
+            task,
+            self.place_of(task),
+            wait.as_slice(),
+        )
     }
 
     /// Where a task is: where it waits or ended, else where it goes on.
@@ -147,7 +218,10 @@ impl Tracer {
             }
             waits = waits || task.waiting.is_some();
         }
-        waits && self.notes.off.is_none() && self.notes.is_quiet() && !self.handles()
+        waits
+            && self.notes.off.is_none()
+            && self.notes.is_quiet(&self.playback.board)
+            && !self.handles()
     }
 
     /// Whether a processor runs a handler.
@@ -161,17 +235,89 @@ impl Tracer {
     }
 }
 
+/// Puts at the end whether the board is on, or which event has turned it off.
+fn put_off(alloc: Global, out: &mut Vec<u8>, off: Option<u64>) -> Result<(), NoMemory>
+    ensures { OnOk result (out.new.items ≡ out.old.items ++ off_text off) }
+{
+    match off {
+        Some(position) => put_named(alloc, out, ": off since event", position),
+        None => put(out, ": on"),
+    }
+}
+
+/// Puts at the end since when a task is in its state.
+fn put_since(alloc: Global, out: &mut Vec<u8>, since: Option<u64>) -> Result<(), NoMemory>
+    ensures { OnOk result (out.new.items ≡ out.old.items ++ since_text since) }
+{
+    match since {
+        Some(position) => put_named(alloc, out, " since event", position),
+        None => put(out, " since the start"),
+    }
+}
+
+/// Puts a task's line at the end, with where it is, and what is said of its wait.
+fn put_task_line(
+    alloc: Global,
+    names: Names,
+    out: &mut Vec<u8>,
+    task: TaskSeen,
+    place: u32,
+    wait: &[u8],
+) -> Result<(), NoMemory>
+    ensures { OnOk result (out.new.items ≡ out.old.items
+        ++ task_text names.entry.symbols.now task.id task.state task.since place wait.now) }
+{
+    put_named(alloc, out, "task", u64::from(task.id))?;
+    put(out, " ")?;
+    put(out, state_name(task.state))?;
+    put_since(alloc, out, task.since)?;
+    put(out, ", at ")?;
+    names.put_both(out, place)?;
+    out.extend_from_slice(wait)?;
+    put(out, "\n")
+}
+
+/// What is said of a task's wait: its call, and what it waits for. Nothing where it doesn't wait.
+fn wait_of(alloc: Global, task: TaskSeen) -> Result<Vec<u8>, NoMemory>
+    ensures { IfOk result (λ wait. IsWait task.waiting task.due wait.items) }
+{
+    let mut wait = Vec::new(alloc);
+    if let Some(reason) = task.waiting {
+        put(&mut wait, ", ")?;
+        task.call.put(alloc, &mut wait)?;
+        put(&mut wait, " ")?;
+        put_wait(alloc, &mut wait, reason, task.due)?;
+    }
+    Ok(wait)
+}
+
 /// Puts the line of an exception at the end.
 fn put_fault(
     alloc: Global,
     names: Names,
     out: &mut Vec<u8>,
     fault: &LastFault,
-) -> Result<(), NoMemory> {
+) -> Result<(), NoMemory>
+    ensures { OnOk result (out.new.items ≡ out.old.items ++ fault_text names.entry.symbols.now fault.now) }
+{
+    put_fault_front(alloc, out, fault)?;
+    put_fault_behind(names, out, fault)
+}
+
+/// Puts at the end at which event an exception was raised, and of whom.
+fn put_fault_front(alloc: Global, out: &mut Vec<u8>, fault: &LastFault) -> Result<(), NoMemory>
+    ensures { OnOk result (out.new.items ≡ out.old.items ++ fault_front fault.now) }
+{
     put(out, "  last exception at event ")?;
     put_number(alloc, out, fault.position)?;
     put(out, ", of ")?;
-    put_who(alloc, out, fault.who)?;
+    put_who(alloc, out, fault.who)
+}
+
+/// Puts at the end where an exception was raised, and what it was.
+fn put_fault_behind(names: Names, out: &mut Vec<u8>, fault: &LastFault) -> Result<(), NoMemory>
+    ensures { OnOk result (out.new.items ≡ out.old.items ++ fault_behind names.entry.symbols.now fault.now) }
+{
     put(out, " at ")?;
     names.put_both(out, fault.place)?;
     put(out, ": ")?;

@@ -1,5 +1,33 @@
 //! What is known of tasks, and what an event changed of them, in words.
 
+ghost use Rattle.std.specs.Prelude.{
+  ◌≡◌,
+  ◌⊎◌,
+  ◌++◌,
+  ◌<◌,
+  ℕ,
+  [],
+  All,
+  Decides,
+  IfOk,
+  None,
+  OnOk,
+  codes,
+  is_some,
+  length,
+  map,
+  slice_index_or,
+  true,
+};
+ghost use Rattle.std.specs.Option.{option_map};
+ghost use Rattle.std.specs.List.{cons_option};
+ghost use Rattle.brd_board.specs.Board.{task_of};
+ghost use Rattle.brd_trace.specs.declared.tasks.TaskSeen.{TaskSeen as TaskOf};
+ghost use Rattle.brd_trace.specs.Lines.{named_text};
+ghost use Rattle.brd_trace.specs.Dated.{Same, Other, FollowsTask};
+ghost use Rattle.brd_trace.specs.Summary.{standing_text};
+ghost use Rattle.brd_trace.specs.Noted.{seen_of, view_of, IsSeen, all_seen, tasks_of, standings_of};
+
 use crate::answer::Answered;
 use crate::service::SaidCall;
 use crate::text::{put, put_comma, put_named, put_number};
@@ -39,7 +67,9 @@ pub(crate) struct TaskSeen {
 }
 
 /// A task as it stands, where there is one of that number.
-pub(crate) fn task_seen(board: &Board, id: TaskId) -> Option<TaskSeen> {
+pub(crate) fn task_seen(board: &Board, id: TaskId) -> Option<TaskSeen>
+    ensures { result ≡ option_map (seen_of id) (task_of board.now id) }
+{
     let view = board.task(id)?;
     Some(TaskSeen {
         id,
@@ -60,20 +90,36 @@ pub(crate) fn task_seen(board: &Board, id: TaskId) -> Option<TaskSeen> {
 }
 
 /// All tasks of a board, by ascending number.
-pub(crate) fn tasks_seen(alloc: Global, board: &Board) -> Result<Vec<TaskSeen>, NoMemory> {
+pub(crate) fn tasks_seen(alloc: Global, board: &Board) -> Result<Vec<TaskSeen>, NoMemory>
+    ensures { IfOk result (λ tasks. tasks.items ≡ all_seen board.now) }
+{
     let mut tasks = Vec::new(alloc);
     for id in 1..256u16 {
-        if let Some(task) = task_seen(board, id) {
-            tasks.push(task)?;
-        }
+        put_if(&mut tasks, task_seen(board, id))?;
     }
     Ok(tasks)
 }
 
-/// Writes a task anew, by its place in the list of tasks.
-pub(crate) fn put_task_seen(tasks: &mut Vec<TaskSeen>, i: usize, task: TaskSeen) {
-    if i < tasks.len() {
-        tasks[i] = task;
+/// Puts a task at the end, where there is one.
+fn put_if(tasks: &mut Vec<TaskSeen>, task: Option<TaskSeen>) -> Result<(), NoMemory>
+    ensures { OnOk result (tasks.new.items ≡ tasks.old.items ++ cons_option task []) }
+{
+    if let Some(task) = task {
+        tasks.push(task)?;
+    }
+    Ok(())
+}
+
+/// Keeps how each task stands after an event, and since when.
+pub(crate) fn follow_tasks(tasks: &mut Vec<TaskSeen>, board: &Board, cause: Cause)
+    ensures those { map (λ it. it.id) tasks.new.items ≡ map (λ it. it.id) tasks.old.items }
+    ensures each { map (λ it. it.id) tasks.old.items ≡ tasks_of board.now → All (IsSeen board.now) tasks.new.items }
+    ensures length { length tasks.new.items ≡ length tasks.old.items }
+    ensures follows { (i : ℕ) (d : TaskOf) → i < length tasks.old.items
+        → FollowsTask cause.position (slice_index_or tasks.old.items i d) (slice_index_or tasks.new.items i d) }
+{
+    for i in 0..tasks.len() {
+        tasks[i] = tasks[i].followed(board, cause);
     }
 }
 
@@ -93,28 +139,57 @@ pub(crate) struct Cause {
 }
 
 impl TaskSeen {
+    /// The task as it stands on a board after another event, with since when it has been in its state.
+    fn followed(self, board: &Board, cause: Cause) -> TaskSeen
+        ensures id { result.id ≡ self.id }
+        ensures seen { is_some (task_of board.now self.id) ≡ true → IsSeen board.now result }
+        ensures follows { FollowsTask cause.position self result }
+    {
+        match task_seen(board, self.id) {
+            Some(now) => self.after(now, cause),
+            None => self,
+        }
+    }
+
     /// The task as it stands after another event, with since when it has been in its state.
-    pub(crate) fn after(self, now: TaskSeen, cause: Cause) -> TaskSeen {
-        let same_state = self.state == now.state;
-        let same_wait = self.waiting == now.waiting;
-        let since = if same_state && same_wait {
-            self.since
-        } else {
-            Some(cause.position)
-        };
+    pub(crate) fn after(self, now: TaskSeen, cause: Cause) -> TaskSeen
+        ensures id { result.id ≡ now.id }
+        ensures view { view_of result ≡ view_of now }
+        ensures since { Same self now result.since ⊎ Other cause.position self now result.since }
+    {
         // A task that is suspended or resumed while it waits is still where it waits.
-        let place = if same_wait && (same_state || now.waiting.is_some()) {
+        let place = if self.waiting == now.waiting
+            && (self.state == now.state || now.waiting.is_some())
+        {
             self.place
         } else if cause.caller == Some(self.id) {
             cause.address
         } else {
             now.pc
         };
+        let since = self.since_with(now, cause.position);
         TaskSeen {
             since,
             place,
             ..now
         }
+    }
+
+    /// Since when a task has been in its state after the event of a position, after which it stands so.
+    fn since_with(self, now: TaskSeen, position: u64) -> Option<u64>
+        ensures { Same self now result ⊎ Other position self now result }
+    {
+        if self.stands_as(now) {
+            return self.since;
+        }
+        Some(position)
+    }
+
+    /// Whether a task is in the same state, and waits for the same.
+    fn stands_as(self, now: TaskSeen) -> bool
+        ensures { Decides result ((now.state ≡ self.state) × (now.waiting ≡ self.waiting)) }
+    {
+        self.state == now.state && self.waiting == now.waiting
     }
 
     /// Puts at the end what an event changed of the task, which it has released or not.
@@ -192,16 +267,28 @@ pub(crate) struct Standings {
 
 impl Standings {
     /// What the processors of a board do.
-    pub(crate) fn of(board: &Board) -> Standings {
-        let mut of = [None; 9];
-        for cpu in 1..9u8 {
-            of[cpu as usize] = board.standing(cpu);
+    pub(crate) fn of(board: &Board) -> Standings
+        ensures { result.of ≡ standings_of board.now }
+    {
+        Standings {
+            of: [
+                None,
+                board.standing(1),
+                board.standing(2),
+                board.standing(3),
+                board.standing(4),
+                board.standing(5),
+                board.standing(6),
+                board.standing(7),
+                board.standing(8),
+            ],
         }
-        Standings { of }
     }
 
     /// What one does.
-    pub(crate) fn at(&self, cpu: u8) -> Option<Standing> {
+    pub(crate) fn at(&self, cpu: u8) -> Option<Standing>
+        ensures { result ≡ slice_index_or self.now.of cpu None }
+    {
         if (cpu as usize) < 9 {
             return self.of[cpu as usize];
         }
@@ -256,8 +343,17 @@ pub(crate) fn put_standing(
     out: &mut Vec<u8>,
     cpu: u8,
     standing: Option<Standing>,
-) -> Result<(), NoMemory> {
+) -> Result<(), NoMemory>
+    ensures { OnOk result (out.new.items ≡ out.old.items ++ (named_text (codes "cpu") cpu ++ standing_text standing)) }
+{
     put_named(alloc, out, "cpu", u64::from(cpu))?;
+    put_doing(alloc, out, standing)
+}
+
+/// Puts at the end what a processor does, after its name.
+fn put_doing(alloc: Global, out: &mut Vec<u8>, standing: Option<Standing>) -> Result<(), NoMemory>
+    ensures { OnOk result (out.new.items ≡ out.old.items ++ standing_text standing) }
+{
     match standing {
         None => Ok(()),
         Some(Standing::Idle) => put(out, " idle"),

@@ -1,12 +1,13 @@
 //! What is said of each kind of event.
 
+ghost use Rattle.brd_trace.specs.Noted.{KeepsKnown};
+
 use crate::answer::Answered;
 use crate::cause::Raised;
-use crate::notes::{LastFault, Notes, Scene};
+use crate::notes::{Notes, Scene};
 use crate::printer::Said;
 use crate::refusals::{Refusals, note_refusal};
-use crate::service::{EXT_TSK, RET_INT, SaidCall, TER_TSK};
-use crate::tasks::Cause;
+use crate::service::{RET_INT, SaidCall};
 use crate::text::{put, put_named};
 use crate::units::Unit;
 use brd_base::NoMemory;
@@ -17,7 +18,9 @@ use brd_timeline::MarkKind;
 
 impl Notes {
     /// What is said of an event that is no instruction and does something.
-    pub(crate) fn say(&mut self, it: Scene) -> Result<Said, NoMemory> {
+    pub(crate) fn say(&mut self, it: Scene) -> Result<Said, NoMemory>
+        ensures { KeepsKnown self.old self.new }
+    {
         match it.told.what {
             What::Call(call) => self.say_call(it, &call),
             What::Exception(exception) => self.say_exception(it, exception),
@@ -32,13 +35,17 @@ impl Notes {
     }
 
     /// What is said, with what the event changed.
-    fn said(&mut self, it: Scene, mut what: Vec<u8>, cause: Cause) -> Result<Said, NoMemory> {
-        let concerned = self.put_changes(it, &mut what, cause)?;
+    fn said(&mut self, it: Scene, mut what: Vec<u8>) -> Result<Said, NoMemory>
+        ensures { KeepsKnown self.old self.new }
+    {
+        let concerned = self.put_changes(it, &mut what)?;
         Ok(Said { what, concerned })
     }
 
     /// A service call: the call, its answer, and what it changed.
-    fn say_call(&mut self, it: Scene, made: &CallMade) -> Result<Said, NoMemory> {
+    fn say_call(&mut self, it: Scene, made: &CallMade) -> Result<Said, NoMemory>
+        ensures { KeepsKnown self.old self.new }
+    {
         let call = SaidCall { asked: made.asked };
         let mut what = Vec::new(it.alloc);
         call.put(it.alloc, &mut what)?;
@@ -61,8 +68,7 @@ impl Notes {
             MarkKind::Call,
             what.as_slice(),
         )?;
-        let restarts = call.number() == EXT_TSK || call.number() == TER_TSK;
-        self.said(it, what, it.inside(restarts))
+        self.said(it, what)
     }
 
     /// Notes a call of a task, or of a handler, with its answer: those with an error are counted, and so are the units
@@ -73,7 +79,9 @@ impl Notes {
         task: Option<TaskId>,
         answered: Answered,
         place: u32,
-    ) -> Result<(), NoMemory> {
+    ) -> Result<(), NoMemory>
+        ensures { KeepsKnown self.old self.new }
+    {
         if !answered.is_error() {
             return self.note_units(position, task, answered);
         }
@@ -97,7 +105,9 @@ impl Notes {
         place: u32,
         release: &Release,
         ticks: bool,
-    ) -> Result<(), NoMemory> {
+    ) -> Result<(), NoMemory>
+        ensures { KeepsKnown self.old self.new }
+    {
         self.note(
             it.position,
             Some(release.task),
@@ -116,7 +126,9 @@ impl Notes {
         position: u64,
         task: Option<TaskId>,
         answered: Answered,
-    ) -> Result<(), NoMemory> {
+    ) -> Result<(), NoMemory>
+        ensures { KeepsKnown self.old self.new }
+    {
         if answered.code != 0 {
             return Ok(());
         }
@@ -132,18 +144,13 @@ impl Notes {
     }
 
     /// An exception: its cause, and what it ended.
-    fn say_exception(&mut self, it: Scene, exception: Exception) -> Result<Said, NoMemory> {
+    fn say_exception(&mut self, it: Scene, exception: Exception) -> Result<Said, NoMemory>
+        ensures { KeepsKnown self.old self.new }
+    {
         let mut what = Vec::new(it.alloc);
         let place = it.told.place.unwrap_or(0);
         let raised = Raised { place, exception };
         raised.put(it.alloc, it.names, &mut what)?;
-        self.keep_fault(LastFault {
-            cpu: it.told.cpu.unwrap_or(0),
-            position: it.position,
-            who: it.told.who,
-            place,
-            what: Vec::from_slice(it.alloc, what.as_slice())?,
-        })?;
         self.mark(
             it.alloc,
             it.told.cpu,
@@ -151,24 +158,13 @@ impl Notes {
             MarkKind::Fault,
             what.as_slice(),
         )?;
-        self.said(it, what, it.inside(false))
-    }
-
-    /// Keeps an exception as its processor's last one.
-    fn keep_fault(&mut self, fault: LastFault) -> Result<(), NoMemory> {
-        for kept in self.faults.iter_mut() {
-            if kept.cpu == fault.cpu {
-                *kept = fault;
-                return Ok(());
-            }
-        }
-        self.faults.push(fault)?;
-        Ok(())
+        self.said(it, what)
     }
 
     /// An interrupt that a processor accepts.
-    fn say_accepted(&mut self, it: Scene, line: u8) -> Result<Said, NoMemory> {
-        self.set_pending(line, false);
+    fn say_accepted(&mut self, it: Scene, line: u8) -> Result<Said, NoMemory>
+        ensures { KeepsKnown self.old self.new }
+    {
         let mut what = Vec::new(it.alloc);
         put_named(
             it.alloc,
@@ -183,20 +179,23 @@ impl Notes {
             MarkKind::Interrupt,
             what.as_slice(),
         )?;
-        self.said(it, what, it.outside(false))
+        self.said(it, what)
     }
 
     /// A tick that releases somebody.
-    fn say_tick(&mut self, it: Scene, number: u64) -> Result<Said, NoMemory> {
+    fn say_tick(&mut self, it: Scene, number: u64) -> Result<Said, NoMemory>
+        ensures { KeepsKnown self.old self.new }
+    {
         self.record_tick(it.position, number)?;
         let mut what = Vec::new(it.alloc);
         put_named(it.alloc, &mut what, "tick", number)?;
-        self.said(it, what, it.outside(true))
+        self.said(it, what)
     }
 
     /// A line that is raised.
-    fn say_raised(&mut self, it: Scene, line: u8) -> Result<Said, NoMemory> {
-        self.set_pending(line, true);
+    fn say_raised(&mut self, it: Scene, line: u8) -> Result<Said, NoMemory>
+        ensures { KeepsKnown self.old self.new }
+    {
         let mut what = Vec::new(it.alloc);
         put_named(
             it.alloc,
@@ -213,7 +212,9 @@ impl Notes {
     }
 
     /// Records a tick.
-    pub(crate) fn record_tick(&mut self, position: u64, number: u64) -> Result<(), NoMemory> {
+    pub(crate) fn record_tick(&mut self, position: u64, number: u64) -> Result<(), NoMemory>
+        ensures { KeepsKnown self.old self.new }
+    {
         match &mut self.recording {
             Some(recording) => recording.tick(position, number),
             None => Ok(()),

@@ -25,6 +25,8 @@ ghost use Rattle.brd_journal.specs.Runs.{ComesBehind};
 ghost use Rattle.brd_listing.specs.Listing.{IsBehind};
 ghost use Rattle.brd_trace.specs.declared.printer.Manner.{Manner as MannerOf};
 ghost use Rattle.brd_trace.specs.Quiets.{quiet_of};
+ghost use Rattle.brd_trace.specs.Noted.{IsNoted, KeepsKnown};
+ghost use Rattle.brd_trace.specs.Dated.{IsDated};
 ghost use Rattle.brd_trace.specs.Telling.{
   held_text,
   with_held,
@@ -49,7 +51,7 @@ ghost use Rattle.brd_trace.specs.Telling.{
 use crate::line::Heading;
 use crate::names::Names;
 use crate::notes::{Notes, Scene};
-use crate::playback::{advance_many, next_of};
+use crate::playback::next_of;
 use crate::printer::{Manner, Options, Printer};
 use crate::quiet::{Quiet, Stretch, quiet_of, tick_of};
 use brd_base::NoMemory;
@@ -79,6 +81,8 @@ impl Tracer {
     pub fn new(alloc: Global, board: Board, options: Options) -> Result<Tracer, NoMemory>
         ensures start { IfOk result (λ tracer. tracer.playback ≡ record { board = board; at = 0 }) }
         ensures printer { IfOk result (λ tracer. tracer.printer ≡ record { options = options; held = None }) }
+        ensures noted { IfOk result (λ tracer. (events : ListOf EventOf) → IsNoted board events 0 tracer.notes) }
+        ensures dated { IfOk result (λ tracer. (events : ListOf EventOf) → IsDated board events 0 tracer.notes) }
     {
         let notes = Notes::new(alloc, &board, options.lines, options.cpu)?;
         Ok(Tracer {
@@ -109,6 +113,13 @@ impl Tracer {
             → IfOk result (λ _. IsBehind
             (IsTrace manner.entry boot journal.now.events self.old.playback.at self.new.playback.at self.old.printer
             self.new.printer) out.old.items out.new.items) }
+        ensures noted { (boot : BoardOf) → IsPlayed boot journal.now.events self.old.playback
+            → IsNoted boot journal.now.events self.old.playback.at self.old.notes
+            → IfOk result (λ _. IsNoted boot journal.now.events self.new.playback.at self.new.notes) }
+        ensures dated { (boot : BoardOf) → IsPlayed boot journal.now.events self.old.playback
+            → IsNoted boot journal.now.events self.old.playback.at self.old.notes
+            → IsDated boot journal.now.events self.old.playback.at self.old.notes
+            → IfOk result (λ _. IsDated boot journal.now.events self.new.playback.at self.new.notes) }
     {
         let Some(rest) = next_of(&self.playback, journal, to, &mut self.near) else {
             return Ok(());
@@ -136,6 +147,13 @@ impl Tracer {
             → IfOk result (λ _. IsBehind
             (IsTrace manner.entry boot journal.now.events self.old.playback.at self.new.playback.at self.old.printer
             self.new.printer) out.old.items out.new.items) }
+        ensures noted { (boot : BoardOf) → IsPlayed boot journal.now.events self.old.playback
+            → IsNoted boot journal.now.events self.old.playback.at self.old.notes
+            → IfOk result (λ _. IsNoted boot journal.now.events self.new.playback.at self.new.notes) }
+        ensures dated { (boot : BoardOf) → IsPlayed boot journal.now.events self.old.playback
+            → IsNoted boot journal.now.events self.old.playback.at self.old.notes
+            → IsDated boot journal.now.events self.old.playback.at self.old.notes
+            → IfOk result (λ _. IsDated boot journal.now.events self.new.playback.at self.new.notes) }
     {
         let Some(rest) = next_of(&self.playback, journal, to, &mut self.near) else {
             return Ok(());
@@ -163,6 +181,14 @@ impl Tracer {
             → ComesBehind events self.old.playback.at rest → IsPlayed boot events self.old.playback
             → IsTrace manner boot events self.old.playback.at self.new.playback.at self.old.printer
             self.new.printer [] }
+        ensures noted { (boot : BoardOf) (events : ListOf EventOf) → to ≤ length events
+            → ComesBehind events self.old.playback.at rest → IsPlayed boot events self.old.playback
+            → IsNoted boot events self.old.playback.at self.old.notes
+            → IsNoted boot events self.new.playback.at self.new.notes }
+        ensures dated { (boot : BoardOf) (events : ListOf EventOf) → to ≤ length events
+            → ComesBehind events self.old.playback.at rest → IsPlayed boot events self.old.playback
+            → IsDated boot events self.old.playback.at self.old.notes
+            → IsDated boot events self.new.playback.at self.new.notes }
     {
         if self.printer.may_list() {
             return 0;
@@ -191,10 +217,18 @@ impl Tracer {
             → ComesBehind events self.old.playback.at rest → IsPlayed boot events self.old.playback
             → IfOk result (λ _. IsBehind (IsTrace manner.entry boot events self.old.playback.at self.new.playback.at
             self.old.printer self.new.printer) out.old.items out.new.items) }
+        ensures noted { (boot : BoardOf) (events : ListOf EventOf) → to ≤ length events
+            → ComesBehind events self.old.playback.at rest → IsPlayed boot events self.old.playback
+            → IsNoted boot events self.old.playback.at self.old.notes
+            → IfOk result (λ _. IsNoted boot events self.new.playback.at self.new.notes) }
+        ensures dated { (boot : BoardOf) (events : ListOf EventOf) → to ≤ length events
+            → ComesBehind events self.old.playback.at rest → IsPlayed boot events self.old.playback
+            → IsNoted boot events self.old.playback.at self.old.notes
+            → IsDated boot events self.old.playback.at self.old.notes
+            → IfOk result (λ _. IsDated boot events self.new.playback.at self.new.notes) }
     {
         let position = self.playback.at;
-        let pending = self.notes.raises_again(rest.event);
-        let before = match Before::of(alloc, &self.playback.board, rest.event, pending) {
+        let before = match Before::of(alloc, &self.playback.board, rest.event) {
             Ok(before) => before,
             Err(NoMemory) => {
                 self.playback.advance(rest, position + 1, to);
@@ -207,6 +241,14 @@ impl Tracer {
         }
         let told = before.happening(alloc, moved.report, &self.playback.board)?;
         self.tell(alloc, manner, position, moved.count, &told, out)?;
+        let scene = Scene {
+            alloc,
+            names: manner.names,
+            board: &self.playback.board,
+            position,
+            told: &told,
+        };
+        self.notes.follow(scene, moved.report)?;
         Ok(())
     }
 
@@ -229,6 +271,7 @@ impl Tracer {
     ) -> Result<(), NoMemory>
         requires { position + 1 < 2 ^ 64 }
         ensures same { self.new.playback ≡ self.old.playback }
+        ensures known { KeepsKnown self.old.notes self.new.notes }
         ensures told { IfOk result (λ _. IsBehind
             (Tells manner.entry position count told.now self.old.printer self.new.printer) out.old.items out.new.items) }
     {
@@ -256,6 +299,7 @@ impl Tracer {
     ) -> Result<(), NoMemory>
         requires { position + 1 < 2 ^ 64 }
         ensures same { self.new.playback ≡ self.old.playback }
+        ensures known { KeepsKnown self.old.notes self.new.notes }
         ensures told { IfOk result (λ _. IsBehind
             (TellsOther (quiet_of told.now) manner.entry.names.symbols.now position count told.now self.old.printer
             self.new.printer) out.old.items out.new.items) }
@@ -283,6 +327,7 @@ impl Tracer {
         out: &mut Vec<u8>,
     ) -> Result<(), NoMemory>
         ensures same { self.new.playback ≡ self.old.playback }
+        ensures known { KeepsKnown self.old.notes self.new.notes }
         ensures printer { IfOk result
             (λ _. self.new.printer ≡ with_held self.old.printer (held_quiet self.old.printer stretch)) }
         ensures line { OnOk result
@@ -304,6 +349,7 @@ impl Tracer {
     ) -> Result<(), NoMemory>
         requires { position + 1 < 2 ^ 64 }
         ensures same { self.new.playback ≡ self.old.playback }
+        ensures known { KeepsKnown self.old.notes self.new.notes }
         ensures told { IfOk result (λ _. IsBehind
             (TellsLine manner.entry.names.symbols.now position count told.now self.old.printer self.new.printer)
             out.old.items out.new.items) }
@@ -315,7 +361,8 @@ impl Tracer {
             position,
             told,
         };
-        let said = self.notes.say(scene)?;
+        let mut said = self.notes.say(scene)?;
+        manner.names.put_source_of(alloc, told, &mut said.what)?;
         self.printer
             .put_said(alloc, manner, position, told, &said, out)?;
         self.tell_more(
@@ -336,6 +383,7 @@ impl Tracer {
         out: &mut Vec<u8>,
     ) -> Result<(), NoMemory>
         ensures same { self.new.playback ≡ self.old.playback }
+        ensures known { KeepsKnown self.old.notes self.new.notes }
         ensures printer { IfOk result
             (λ _. self.new.printer ≡ with_held self.old.printer (held_more self.old.printer more)) }
         ensures line { OnOk result
@@ -366,6 +414,13 @@ impl Tracer {
             → IfOk result (λ _. IsBehind
             (IsTrace manner.entry boot journal.now.events self.old.playback.at self.new.playback.at self.old.printer
             self.new.printer) out.old.items out.new.items) }
+        ensures noted { (boot : BoardOf) → IsPlayed boot journal.now.events self.old.playback
+            → IsNoted boot journal.now.events self.old.playback.at self.old.notes
+            → IfOk result (λ _. IsNoted boot journal.now.events self.new.playback.at self.new.notes) }
+        ensures dated { (boot : BoardOf) → IsPlayed boot journal.now.events self.old.playback
+            → IsNoted boot journal.now.events self.old.playback.at self.old.notes
+            → IsDated boot journal.now.events self.old.playback.at self.old.notes
+            → IfOk result (λ _. IsDated boot journal.now.events self.new.playback.at self.new.notes) }
     {
         while self.playback.at < to {
             self.advance_some(alloc, manner, journal, to, out)?;
@@ -385,26 +440,17 @@ impl Tracer {
         ensures printer { self.new.printer ≡ self.old.printer }
         ensures played { (boot : BoardOf) → IsPlayed boot journal.now.events self.old.playback
             → IsPlayed boot journal.now.events self.new.playback }
+        ensures noted { (boot : BoardOf) → IsPlayed boot journal.now.events self.old.playback
+            → IfOk result (λ _. IsNoted boot journal.now.events self.new.playback.at self.new.notes) }
     {
-        while self.playback.at < to {
-            let Some(moved) = advance_many(
-                &mut self.playback,
-                journal,
-                to,
-                &mut self.near,
-                &self.notes,
-            ) else {
-                break;
-            };
-            self.notes.note_line(moved);
-        }
-        self.notes
-            .see_board(alloc, &self.playback.board, self.playback.at)
+        self.playback.play_to(journal, to, to);
+        self.notes.see_board(alloc, &self.playback.board, to)
     }
 
     /// From here on lines are shown. Before them it is put at the end what each processor does.
     pub fn show(&mut self, alloc: Global, manner: Manner, out: &mut Vec<u8>) -> Result<(), NoMemory>
         ensures same { self.new.playback ≡ self.old.playback }
+        ensures known { KeepsKnown self.old.notes self.new.notes }
         ensures printer { self.new.printer ≡ shown_by self.old.printer.options }
         ensures line { IfOk result (λ _. IsBehind
             (IsFirstLine manner.entry.names.symbols.now self.old.playback.at) out.old.items out.new.items) }
@@ -430,6 +476,7 @@ impl Tracer {
         out: &mut Vec<u8>,
     ) -> Result<(), NoMemory>
         ensures same { self.new.playback ≡ self.old.playback }
+        ensures known { KeepsKnown self.old.notes self.new.notes }
         ensures line { OnOk result
             (out.new.items ≡ out.old.items ++ held_text manner.entry.names.symbols.now self.old.printer.held) }
     {
@@ -438,20 +485,26 @@ impl Tracer {
 
     /// From here on a timeline is made.
     pub fn record(&mut self, alloc: Global) -> Result<(), NoMemory>
-        ensures { self.new.playback ≡ self.old.playback }
+        ensures same { self.new.playback ≡ self.old.playback }
+        ensures known { KeepsKnown self.old.notes self.new.notes }
     {
-        self.notes.record(alloc, self.playback.at)
+        self.notes
+            .record(alloc, &self.playback.board, self.playback.at)
     }
 
-    /// The timeline that was made up to here, where one was.
-    pub fn into_timeline(self, alloc: Global) -> Result<Option<Timeline>, NoMemory> {
+    /// The timeline that was made up to here, where one was. The journal is the one that was played.
+    pub fn into_timeline(
+        self,
+        alloc: Global,
+        journal: &Journal,
+    ) -> Result<Option<Timeline>, NoMemory> {
         let Tracer {
             playback,
             printer: _,
             notes,
             near: _,
         } = self;
-        notes.into_timeline(alloc, playback.at)
+        notes.into_timeline(alloc, journal, playback.at)
     }
 }
 

@@ -9,6 +9,8 @@ loop-self-init c = record {
   played = λ boot is. is;
   told = λ boot is.
       puts_nothing c.args.manner boot c.args.journal.now.events c.args.self.now.playback.at c.args.self.now.printer c.args.out.now.items;
+  noted = λ boot is noted. noted;
+  dated = λ boot is noted dated. dated;
 }
 
 pub loop-self-preserved : goal.loop-self-preserved
@@ -20,6 +22,10 @@ loop-self-preserved c = record {
       puts_on c.args.manner boot c.args.journal.now.events c.args.self.now.playback.at c.loop-self.self.playback.at c.advance_some.new.self.playback.at
       c.args.self.now.printer c.loop-self.self.printer c.advance_some.new.self.printer c.args.out.now.items c.loop-self.out.items c.advance_some.new.out.items
       (c.loop-self.invariant.told boot is) (c.in_ok-advance_some.ensures.told boot (c.loop-self.invariant.played boot is));
+  noted = λ boot is noted. c.in_ok-advance_some.ensures.noted boot (c.loop-self.invariant.played boot is) (c.loop-self.invariant.noted boot is noted);
+  dated = λ boot is noted dated.
+      c.in_ok-advance_some.ensures.dated boot (c.loop-self.invariant.played boot is) (c.loop-self.invariant.noted boot is noted)
+      (c.loop-self.invariant.dated boot is noted dated);
 }
 
 pub returns-then-len-ge-ENOUGH-clause-told : goal.returns-then-len-ge-ENOUGH-clause-told
@@ -27,3 +33,12 @@ returns-then-len-ge-ENOUGH-clause-told c = λ boot is.
     puts_on c.args.manner boot c.args.journal.now.events c.args.self.now.playback.at c.loop-self.self.playback.at c.advance_some.new.self.playback.at
     c.args.self.now.printer c.loop-self.self.printer c.advance_some.new.self.printer c.args.out.now.items c.loop-self.out.items c.advance_some.new.out.items
     (c.loop-self.invariant.told boot is) (c.in_ok-advance_some.ensures.told boot (c.loop-self.invariant.played boot is))
+
+pub returns-then-len-ge-ENOUGH-clause-noted : goal.returns-then-len-ge-ENOUGH-clause-noted
+returns-then-len-ge-ENOUGH-clause-noted c = λ boot is noted.
+    c.in_ok-advance_some.ensures.noted boot (c.loop-self.invariant.played boot is) (c.loop-self.invariant.noted boot is noted)
+
+pub returns-then-len-ge-ENOUGH-clause-dated : goal.returns-then-len-ge-ENOUGH-clause-dated
+returns-then-len-ge-ENOUGH-clause-dated c = λ boot is noted dated.
+    c.in_ok-advance_some.ensures.dated boot (c.loop-self.invariant.played boot is) (c.loop-self.invariant.noted boot is noted)
+    (c.loop-self.invariant.dated boot is noted dated)

@@ -1,9 +1,11 @@
 -- It has gone on, unless it is at the first turn, and not past the end; it has played the first events, as many as it
--- says; and what is told of them is behind what was there.
+-- says; what is told of them is behind what was there; and what is known of the board is so.
 use Rattle.std.proofs.Common.{◌≤◌, ◌-◌}
 use Rattle.brd_board.specs.Board.{BoardState}
 use Rattle.brd_journal.specs.Playing.{IsPlayed}
 use Rattle.brd_trace.specs.Telling.{IsTrace}
+use Rattle.brd_trace.specs.Noted.{IsNoted}
+use Rattle.brd_trace.specs.Dated.{IsDated}
 use Rattle.brd_listing.specs.Listing.{IsBehind}
 use Rattle.brd_trace.proofs.tracer.Tracer.advance_far.Given as goal
 
@@ -15,6 +17,13 @@ invariant-loop-self l = record {
   told : (boot : BoardState) → IsPlayed boot l.journal.events l.fn.self.playback
       → IsBehind (IsTrace l.manner boot l.journal.events l.fn.self.playback.at l.self.playback.at l.fn.self.printer l.self.printer)
       l.fn.out.items l.out.items;
+  noted : (boot : BoardState) → IsPlayed boot l.journal.events l.fn.self.playback
+      → IsNoted boot l.journal.events l.fn.self.playback.at l.fn.self.notes
+      → IsNoted boot l.journal.events l.self.playback.at l.self.notes;
+  dated : (boot : BoardState) → IsPlayed boot l.journal.events l.fn.self.playback
+      → IsNoted boot l.journal.events l.fn.self.playback.at l.fn.self.notes
+      → IsDated boot l.journal.events l.fn.self.playback.at l.fn.self.notes
+      → IsDated boot l.journal.events l.self.playback.at l.self.notes;
 }
 
 abbrev pub decreases-loop-self : goal.decreases-loop-self

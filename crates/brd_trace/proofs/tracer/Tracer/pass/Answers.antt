@@ -2,6 +2,9 @@ use Rattle.std.proofs.Common.{ℕ, ◌≡◌, [], false, sym, subst, arith}
 use Rattle.std.proofs.lemmas.Grind.{common_steps}
 use Rattle.brd_trace.specs.Telling.{IsTrace, may_list}
 use Rattle.brd_trace.proofs.RanLemmas.{all_hidden, none_done}
+use Rattle.brd_trace.specs.Dated.{IsDated}
+use Rattle.brd_trace.proofs.NotedLemmas.{noted-far}
+use Rattle.brd_trace.proofs.DatedLemmas.{dated-far}
 use Rattle.brd_trace.proofs.tracer.Tracer.pass.Goals as goal
 
 pub returns-clause-none : goal.returns-clause-none
@@ -16,3 +19,15 @@ returns-clause-told c = λ manner boot events comes is.
     subst (λ (to : ℕ). IsTrace manner boot events playback.at to printer printer []) (sym c.go_on.ensures.at)
     (all_hidden manner boot playback.board events playback.at c.args.rest c.go_on.result printer comes is.board c.go_on.ensures.ran
     c.go_on.ensures.few off)
+
+pub returns-clause-noted : goal.returns-clause-noted
+returns-clause-noted c = λ boot events within comes is noted.
+    noted-far boot events c.args.self.now.playback.at c.go_on.new.self.at c.args.self.now.playback.board c.go_on.new.self.board
+    c.args.rest.event c.go_on.result c.args.self.now.notes is.board (c.go_on.ensures.played boot events within comes is).board
+    c.go_on.ensures.board c.go_on.ensures.ran noted
+
+pub returns-clause-dated : goal.returns-clause-dated
+returns-clause-dated c = λ boot events within comes is dated.
+    subst (λ (to : ℕ). IsDated boot events to c.args.self.now.notes) (sym c.go_on.ensures.at)
+    (dated-far boot c.args.self.now.playback.board events c.args.self.now.playback.at c.go_on.result c.args.rest c.args.self.now.notes
+    is.board comes c.go_on.ensures.ran c.go_on.ensures.few dated)

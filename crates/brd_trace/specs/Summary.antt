@@ -1,0 +1,165 @@
+-- What a summary says of how a board stands after the events of a journal.
+use Rattle.std.specs.Prelude.{◌≡◌, ℕ, List, [], ◌∷◌, ◌++◌, codes, slice_index_or}
+use Rattle.std.specs.Prelude.{Option, None, Some}
+use Rattle.std.specs.Option.{option_map}
+use Rattle.std.specs.List.{flat_map, range_with_len}
+use Rattle.std.specs.Fmt.{decimal}
+use Rattle.brd_tasks.specs.declared.status.TaskState.{TaskState}
+use Rattle.brd_tasks.specs.declared.status.WaitReason.{WaitReason}
+use Rattle.brd_tasks.specs.declared.status.WaitReason.TheVariants as reason
+use Rattle.brd_tasks.specs.declared.status.WaitKind.{WaitKind}
+use Rattle.brd_tasks.specs.declared.task.TaskView.{TaskView}
+use Rattle.brd_kernel.specs.declared.processor.Standing.{Standing}
+use Rattle.brd_mem.specs.declared.image.Symbol.{Symbol}
+use Rattle.brd_board.specs.declared.event.Event.{Event}
+use Rattle.brd_board.specs.Board.{BoardState, task_of, standing_of}
+use Rattle.brd_board.specs.Runs.{without_context}
+use Rattle.brd_journal.specs.Playing.{board_at}
+use Rattle.brd_timeline.specs.Ends.{EndsWith}
+use Rattle.brd_trace.specs.declared.tasks.TaskSeen.{TaskSeen}
+use Rattle.brd_trace.specs.declared.notes.LastFault.{LastFault}
+use Rattle.brd_trace.specs.declared.notes.Notes.{Notes}
+use Rattle.brd_trace.specs.Lines.{named_text, who_text}
+use Rattle.brd_trace.specs.Effects.{both_text}
+use Rattle.brd_trace.specs.Noted.{tasks_of}
+use Rattle.brd_trace.specs.Dated.{IsSince, IsOff, IsLastFault}
+
+-- ---- the first line
+
+abbrev pub off_text : Option ℕ → List ℕ
+off_text None = codes ": on"
+off_text (Some position) = named_text (codes ": off since event") position
+
+-- how many events there were, the tick, and which event turned the board off
+abbrev pub end_text : ℕ → ℕ → Option ℕ → List ℕ
+end_text events tick off =
+    named_text (codes "after event") events ++ codes ", " ++ named_text (codes "tick") tick ++ off_text off ++ codes "\n"
+
+pub record IsEnd (boot : BoardState) (events : List Event) (n : ℕ) (text : List ℕ) : Type 0 where
+  pub off : Option ℕ
+  pub is_off : IsOff boot events n off
+  pub line : text ≡ end_text n (board_at boot events n).kernel.time.count off
+
+-- ---- a processor
+
+abbrev pub standing_text : Option Standing → List ℕ
+standing_text None = []
+standing_text (Some Standing.Idle) = codes " idle"
+standing_text (Some Standing.Stopped) = codes " stopped"
+standing_text (Some (Standing.Task id)) = named_text (codes " runs task") id
+standing_text (Some (Standing.Handler line)) = named_text (codes " runs handler") line
+
+-- the line of its last exception: at which event, of whom, where, and in some words what
+abbrev pub fault_front : LastFault → List ℕ
+fault_front it =
+    codes "  last exception at event " ++ decimal it.position ++ codes ", of " ++ who_text it.who
+
+abbrev pub fault_behind : List Symbol → LastFault → List ℕ
+fault_behind symbols it = codes " at " ++ both_text symbols it.place ++ codes ": " ++ it.what.items ++ codes "\n"
+
+abbrev pub fault_text : List Symbol → LastFault → List ℕ
+fault_text symbols it = fault_front it ++ fault_behind symbols it
+
+abbrev pub last_text : List Symbol → Option LastFault → List ℕ
+last_text symbols None = []
+last_text symbols (Some it) = fault_text symbols it
+
+-- what a processor does, where there is one of that number, and its last exception
+abbrev pub processor_text : List Symbol → ℕ → Option Standing → Option LastFault → List ℕ
+processor_text symbols cpu None last = []
+processor_text symbols cpu (Some standing) last =
+    named_text (codes "cpu") cpu ++ standing_text (Some standing) ++ codes "\n" ++ last_text symbols last
+
+-- as it is known
+abbrev pub processor_known : List Symbol → Notes → ℕ → List ℕ
+processor_known symbols notes cpu =
+    processor_text symbols cpu (slice_index_or notes.standings.of cpu None) (slice_index_or notes.faults.items cpu None)
+
+abbrev pub processors_text : List Symbol → Notes → List ℕ
+processors_text symbols notes = flat_map (processor_known symbols notes) (range_with_len 1 8)
+
+-- It is said what it does, and its last exception.
+pub record IsProcessor (symbols : List Symbol) (boot : BoardState) (events : List Event) (n cpu : ℕ) (text : List ℕ)
+    : Type 0 where
+  pub last : Option LastFault
+  pub is_last : IsLastFault boot events n cpu last
+  pub lines : text ≡ processor_text symbols cpu (standing_of (board_at boot events n) cpu) last
+
+-- ---- a task
+
+abbrev pub state_text : TaskState → List ℕ
+state_text TaskState.Dormant = codes "dormant"
+state_text TaskState.Ready = codes "ready"
+state_text TaskState.Waiting = codes "waiting"
+state_text TaskState.Suspended = codes "suspended"
+state_text TaskState.WaitingSuspended = codes "waiting-suspended"
+
+abbrev pub since_text : Option ℕ → List ℕ
+since_text None = codes " since the start"
+since_text (Some position) = named_text (codes " since event") position
+
+abbrev pub kind_text : WaitKind → List ℕ
+kind_text WaitKind.Semaphore = codes "for semaphore"
+kind_text WaitKind.Flag = codes "for event flag"
+kind_text WaitKind.Room = codes "to send to data queue"
+kind_text WaitKind.Datum = codes "to receive from data queue"
+
+abbrev pub reason_text : WaitReason → List ℕ
+reason_text reason.Sleep = codes "for a wake-up"
+reason_text reason.Delay = codes "for time to pass"
+reason_text (reason.On kind id) = named_text (kind_text kind) id
+
+abbrev pub due_text : Option ℕ → List ℕ
+due_text None = []
+due_text (Some tick) = named_text (codes ", until tick") tick
+
+abbrev pub wait_text : WaitReason → Option ℕ → List ℕ
+wait_text reason due = codes "waits " ++ reason_text reason ++ due_text due
+
+-- what is said of a wait: in some words the call, then what is waited for
+abbrev pub IsWait : Option WaitReason → Option ℕ → List ℕ → Type 0
+IsWait None due text = text ≡ []
+IsWait (Some reason) due text = EndsWith (wait_text reason due) text
+
+-- a task's line: its state and since when, where it is, and what is said of its wait
+abbrev pub task_text : List Symbol → ℕ → TaskState → Option ℕ → ℕ → List ℕ → List ℕ
+task_text symbols id state since place wait =
+    named_text (codes "task") id ++ codes " " ++ state_text state ++ since_text since ++ codes ", at "
+    ++ both_text symbols place ++ wait ++ codes "\n"
+
+-- as it is known
+pub record IsTaskLine (symbols : List Symbol) (it : TaskSeen) (text : List ℕ) : Type 0 where
+  pub place : ℕ
+  pub wait : List ℕ
+  pub is_wait : IsWait it.waiting it.due wait
+  pub line : text ≡ task_text symbols it.id it.state it.since place wait
+
+-- It is the line of the task as it stands; of the place nothing is said.
+pub record IsTask (symbols : List Symbol) (boot : BoardState) (events : List Event) (n id : ℕ) (text : List ℕ)
+    : Type 0 where
+  pub view : TaskView
+  pub since : Option ℕ
+  pub place : ℕ
+  pub wait : List ℕ
+  pub is_view : option_map without_context (task_of (board_at boot events n) id) ≡ Some view  -- whatever its context
+  pub is_since : IsSince boot events n id since
+  pub is_wait : IsWait view.waiting view.due wait
+  pub line : text ≡ task_text symbols id view.state since place wait
+
+-- ---- all of it
+
+-- a text is such texts of each of these, one after the other
+abbrev pub AreTexts : {X : Type 0} → (X → List ℕ → Type 0) → List X → List ℕ → Type 0
+AreTexts IsOf [] text = text ≡ []
+AreTexts IsOf (x ∷ xs) text =
+    (first : List ℕ) × (rest : List ℕ) × IsOf x first × AreTexts IsOf xs rest × (text ≡ first ++ rest)
+
+-- the processors, then the tasks, by rising number; and more
+pub record IsSummary (symbols : List Symbol) (boot : BoardState) (events : List Event) (n : ℕ) (text : List ℕ)
+    : Type 0 where
+  pub processors : List ℕ
+  pub tasks : List ℕ
+  pub rest : List ℕ
+  pub are_processors : AreTexts (IsProcessor symbols boot events n) (range_with_len 1 8) processors
+  pub are_tasks : AreTexts (IsTask symbols boot events n) (tasks_of (board_at boot events n)) tasks
+  pub is : text ≡ processors ++ tasks ++ rest
