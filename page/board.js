@@ -220,7 +220,8 @@ const cursor = svg && document.createElementNS("http://www.w3.org/2000/svg", "li
 const LEFT = 140, SPAN = 1000, TOP = 52;
 if (cursor) {
   cursor.setAttribute("y1", TOP);
-  cursor.setAttribute("y2", svg.viewBox.baseVal.height - 56);
+  // (The first line is the axis of events.)
+  cursor.setAttribute("y2", svg.querySelector("line").y1.baseVal.value + 4);
   for (const [name, value] of [["id", "cursor"], ["stroke", "#0057a8"], ["stroke-width", "2"],
     ["pointer-events", "none"]]) cursor.setAttribute(name, value);
   svg.append(cursor);

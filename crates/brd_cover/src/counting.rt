@@ -77,7 +77,7 @@ impl Counting {
             → ComesBehind events self.old.playback.at rest → IsPlayed boot events self.old.playback
             → IsPlayed boot events self.new.playback }
     {
-        let before = Before::of(alloc, &self.playback.board, rest.event, false)?;
+        let before = Before::of(alloc, &self.playback.board, rest.event)?;
         let position = self.playback.at;
         let moved = self.playback.advance(rest, position + 1, to);
         let Some(address) = executed_by(moved.report) else {

@@ -98,7 +98,7 @@ impl Recorder {
         let Some(rest) = part.journal.rest_at(at, &mut self.near) else {
             return Ok(());
         };
-        let before = Before::of(alloc, &self.playback.board, rest.event, false)?;
+        let before = Before::of(alloc, &self.playback.board, rest.event)?;
         let moved = self.playback.advance(rest, at + 1, at + 1);
         let happening = before.happening(alloc, moved.report, &self.playback.board)?;
         let mut line = Vec::new(alloc);

@@ -57,7 +57,7 @@ pub fn page(alloc: Global, tracer: Tracer, part: Part) -> Result<Vec<u8>, PageFa
     put_events(alloc, &mut recorder, part)?;
     put_places(alloc, &mut recorder, part)?;
     let Recorder { tracer, json, .. } = recorder;
-    let picture = picture_of(alloc, tracer)?;
+    let picture = picture_of(alloc, tracer, part.journal)?;
     whole(alloc, &picture, &json)
 }
 
@@ -100,10 +100,10 @@ fn put_places(alloc: Global, recorder: &mut Recorder, part: Part) -> Result<(), 
     json.end_object()
 }
 
-/// The picture of a tracer's timeline.
-fn picture_of(alloc: Global, tracer: Tracer) -> Result<Vec<u8>, NoMemory> {
+/// The picture of a tracer's timeline of a journal.
+fn picture_of(alloc: Global, tracer: Tracer, journal: &Journal) -> Result<Vec<u8>, NoMemory> {
     let mut picture = Vec::new(alloc);
-    let Some(timeline) = tracer.into_timeline(alloc)? else {
+    let Some(timeline) = tracer.into_timeline(alloc, journal)? else {
         return Ok(picture);
     };
     match svg(&timeline, &mut picture) {

@@ -6,7 +6,7 @@ pub(crate) const FRONT: &str = r##"<!DOCTYPE html>
 <head>
 <meta charset="utf-8">
 <meta name="viewport" content="width=device-width, initial-scale=1">
-<meta http-equiv="Content-Security-Policy" content="default-src 'none'; style-src 'sha256-Uv5zYj1C0cMijb5RcYPGALRSnOgA47evaF9oGybdbJg='; script-src 'sha256-IH469GucG7FWavE7i6p7RY7MkUwVydfBxt7WzqYanUY='; base-uri 'none'; form-action 'none'">
+<meta http-equiv="Content-Security-Policy" content="default-src 'none'; style-src 'sha256-Uv5zYj1C0cMijb5RcYPGALRSnOgA47evaF9oGybdbJg='; script-src 'sha256-g+8Xf8Y7w3v3Q4R4EFymtcslJFhtTY1y/CUWYQMgUXM='; base-uri 'none'; form-action 'none'">
 <title>A run of the board</title>
 <style>/* The look of a page of `board trace --format html`: light or dark as the reader's system is, and for paper. */
 :root {
@@ -377,7 +377,8 @@ const cursor = svg && document.createElementNS("http://www.w3.org/2000/svg", "li
 const LEFT = 140, SPAN = 1000, TOP = 52;
 if (cursor) {
   cursor.setAttribute("y1", TOP);
-  cursor.setAttribute("y2", svg.viewBox.baseVal.height - 56);
+  // (The first line is the axis of events.)
+  cursor.setAttribute("y2", svg.querySelector("line").y1.baseVal.value + 4);
   for (const [name, value] of [["id", "cursor"], ["stroke", "#0057a8"], ["stroke-width", "2"],
     ["pointer-events", "none"]]) cursor.setAttribute(name, value);
   svg.append(cursor);
