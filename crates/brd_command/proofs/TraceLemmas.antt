@@ -16,10 +16,12 @@ use Rattle.brd_inputs.specs.declared.fault.CommandFault.TheVariants as fault
 use Rattle.brd_command.specs.declared.trace_command.Part.{Part}
 use Rattle.brd_command.specs.declared.trace_options.TraceFormat.{TraceFormat}
 use Rattle.brd_command.specs.declared.trace_options.TraceFormat.TheVariants.{Text}
-use Rattle.brd_command.specs.TraceCommand.{EndsTracing, IsOfWriting, TraceEnds, WritesFirst, WritesLines, WritesTold, WritesTrace}
+use Rattle.brd_command.specs.TraceCommand.{EndsTracing, IsOfWriting, TraceEnds, WritesLines, WritesSummary, WritesTold, WritesTrace}
 use Rattle.brd_command.specs.TraceCommand.{IsPart, IsMannerOf, IsShown, WritesForm, first_of, end_of, head, words_asked}
-use Rattle.brd_command.specs.TraceCommand.{EndsRacing, KeepsFromTracing, WritesAllRaces, WritesShown}
+use Rattle.brd_trace.specs.Summary.{IsEnd, IsSummary}
+use Rattle.brd_command.specs.TraceCommand.{EndsRacing, KeepsFromTracing, WritesAllRaces, WritesAllStacks, WritesOther, WritesShown}
 use Rattle.brd_command.specs.RacesCommand.{WritesRaces}
+use Rattle.brd_command.specs.StacksCommand.{WritesStacks}
 use Rattle.brd_trace.specs.declared.names.Names.{Names}
 use Rattle.brd_inputs.specs.declared.trace_fault.TraceFault.{TraceFault}
 use Rattle.brd_inputs.specs.declared.fault.CommandFault.{CommandFault}
@@ -120,13 +122,13 @@ of_writing (fault.Write a) options start old new of = tt
 
 -- lines were written, which the options ask for
 pub text-ends : (start : Start) (options : TraceOptions) (part : Part) (manner : Manner) (first : Printer) (old new : Option (List ℕ))
-    (result : Result Unit CommandFault) → IsPart options (length start.journal.events) part → part.format ≡ Text → options.races ≡ false → options.summary ≡ false
+    (result : Result Unit CommandFault) → IsPart options (length start.journal.events) part → part.format ≡ Text → options.races ≡ false → options.stacks ≡ false → options.summary ≡ false
     → IsMannerOf start.image (words_asked options start) manner → IsShown options first
     → MatchResult result
     (λ _. WritesLines head manner start.board start.journal.events part.from part.to first old new) IsOfWriting
     → EndsTracing result options start old new
-text-ends start options part manner first old new (Err fault) is text races lines made shown of = of_writing fault options start old new of
-text-ends start options part manner first old new (Ok done) is text races lines made shown written =
+text-ends start options part manner first old new (Err fault) is text races stacks lines made shown of = of_writing fault options start old new of
+text-ends start options part manner first old new (Ok done) is text races stacks lines made shown written =
     let len = length start.journal.events in
     let from_there = subst (λ (n : ℕ). WritesLines head manner start.board start.journal.events n part.to first old new) is.from written in
     let both = subst (λ (n : ℕ). WritesLines head manner start.board start.journal.events (first_of options) n first old new) is.to from_there in
@@ -135,9 +137,11 @@ text-ends start options part manner first old new (Ok done) is text races lines 
     let ordered : first_of options ≤ end_of options len = subst (λ (n : ℕ). n ≤ end_of options len) is.from
     (subst (λ (n : ℕ). part.from ≤ n) is.to is.ordered) in (
       ordered,
-      subst (λ (b : Bool). MatchBool b (WritesAllRaces start options old new) (WritesShown start options old new)) (sym races)
-          (subst (λ (b : Bool). MatchBool b (WritesFirst (EndsWith (codes "\n")) old new) (WritesForm options.format start options old new)) (sym lines)
-          (subst (λ (f : Option TraceFormat). WritesForm f start options old new) (sym (is.format ∙ ap Some text)) trace)),
+      subst (λ (b : Bool). MatchBool b (WritesAllRaces start options old new) (WritesOther start options old new)) (sym races)
+          (subst (λ (b : Bool). MatchBool b (WritesAllStacks start options old new) (WritesShown start options old new)) (sym stacks)
+          (subst (λ (b : Bool). MatchBool b (WritesSummary start.image.symbols start.board start.journal.events (end_of options len) old new)
+          (WritesForm options.format start options old new)) (sym lines)
+          (subst (λ (f : Option TraceFormat). WritesForm f start options old new) (sym (is.format ∙ ap Some text)) trace))),
     )
 
 -- races were looked for, as the options ask
@@ -180,7 +184,44 @@ races-end start options part names old new (Ok done) is races symbols segments e
       segments = segments;
       races = subst (λ (n : ℕ). WritesRaces names start.board start.journal.events n old new) is.to ends;
     } in
-    (ordered, subst (λ (b : Bool). MatchBool b (WritesAllRaces start options old new) (WritesShown start options old new)) (sym races) all)
+    (ordered, subst (λ (b : Bool). MatchBool b (WritesAllRaces start options old new) (WritesOther start options old new)) (sym races) all)
+
+-- stacks were followed, as the options ask
+pub stacks-end : (start : Start) (options : TraceOptions) (part : Part) (old new : Option (List ℕ)) (result : Result Unit CommandFault) →
+    IsPart options (length start.journal.events) part → options.races ≡ false → options.stacks ≡ true →
+    MatchResult result (λ _. WritesStacks start.image.symbols start.config start.board start.journal.events part.to old new) IsOfWriting →
+    EndsTracing result options start old new
+stacks-end start options part old new (Err fault) is races stacks of = of_writing fault options start old new of
+stacks-end start options part old new (Ok done) is races stacks written =
+    let len = length start.journal.events in
+    let ordered : first_of options ≤ end_of options len = subst (λ (n : ℕ). n ≤ end_of options len) is.from
+    (subst (λ (n : ℕ). part.from ≤ n) is.to is.ordered) in
+    let all : WritesAllStacks start options old new =
+    subst (λ (n : ℕ). WritesStacks start.image.symbols start.config start.board start.journal.events n old new) is.to written in (
+      ordered,
+      subst (λ (b : Bool). MatchBool b (WritesAllRaces start options old new) (WritesOther start options old new)) (sym races)
+          (subst (λ (b : Bool). MatchBool b (WritesAllStacks start options old new) (WritesShown start options old new)) (sym stacks) all),
+    )
+
+-- a summary was written, as the options ask
+pub summary-ends : (start : Start) (options : TraceOptions) (part : Part) (symbols : List Symbol) (old new : Option (List ℕ))
+    (result : Result Unit CommandFault) → IsPart options (length start.journal.events) part → options.summary ≡ true → options.races ≡ false →
+    options.stacks ≡ false → symbols ≡ start.image.symbols →
+    MatchResult result (λ _. WritesSummary symbols start.board start.journal.events part.to old new) IsOfWriting →
+    EndsTracing result options start old new
+summary-ends start options part symbols old new (Err fault) is summary races stacks same of = of_writing fault options start old new of
+summary-ends start options part symbols old new (Ok done) is summary races stacks same written =
+    let len = length start.journal.events in
+    let ordered : first_of options ≤ end_of options len = subst (λ (n : ℕ). n ≤ end_of options len) is.from
+    (subst (λ (n : ℕ). part.from ≤ n) is.to is.ordered) in
+    let named = subst (λ (them : List Symbol). WritesSummary them start.board start.journal.events part.to old new) same written in
+    let whole = subst (λ (n : ℕ). WritesSummary start.image.symbols start.board start.journal.events n old new) is.to named in (
+      ordered,
+      subst (λ (b : Bool). MatchBool b (WritesAllRaces start options old new) (WritesOther start options old new)) (sym races)
+          (subst (λ (b : Bool). MatchBool b (WritesAllStacks start options old new) (WritesShown start options old new)) (sym stacks)
+          (subst (λ (b : Bool). MatchBool b (WritesSummary start.image.symbols start.board start.journal.events (end_of options len) old new)
+          (WritesForm options.format start options old new)) (sym summary) whole)),
+    )
 
 -- a board to which nothing has happened has played no events
 pub begins : (events : List Event) (p : Playback) → p.at ≡ 0 → IsPlayed p.board events p
@@ -188,12 +229,18 @@ begins events p start =
     let none : p.board ≡ board_at p.board events 0 = search rules in
     record { board = subst (λ (n : ℕ). p.board ≡ board_at p.board events n) (sym start) none; within = omega (arith, start) }
 
-module _ (IsFirst : List ℕ → Type 0) (old mid new : Option (List ℕ)) (first : List ℕ) (is : IsFirst first) (written : Appends old mid first) where
-  pub first-last : (bytes : List ℕ) (result : Result Unit CommandFault) → MatchResult result (λ _. Appends mid new bytes) IsOfWriting
-      → MatchResult result (λ _. WritesFirst IsFirst old new) IsOfWriting
-  first-last bytes (Ok done) more =
-      record { first = first; rest = bytes; is_first = is; written = one_more old mid new first bytes written more }
-  first-last bytes (Err fault) of = of
+module _ (symbols : List Symbol) (boot : BoardState) (events : List Event) (n : ℕ) (old mid new : Option (List ℕ)) (first rest : List ℕ)
+    (is_first : IsEnd boot events n first) (is_rest : IsSummary symbols boot events n rest) (written : Appends old mid first) where
+  pub summary-last : (result : Result Unit CommandFault) → MatchResult result (λ _. Appends mid new rest) IsOfWriting →
+      MatchResult result (λ _. WritesSummary symbols boot events n old new) IsOfWriting
+  summary-last (Ok done) more = record {
+    first = first;
+    rest = rest;
+    is_first = is_first;
+    is_rest = is_rest;
+    written = one_more old mid new first rest written more;
+  }
+  summary-last (Err fault) of = of
 
 -- ---- words
 

@@ -21,4 +21,5 @@ pub mod Laws
 pub mod Saving
 pub mod ExploreCommand
 pub mod ShrinkCommand
+pub mod StacksCommand
 pub mod TryCommand

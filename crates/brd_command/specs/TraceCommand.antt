@@ -12,6 +12,11 @@ use Rattle.brd_trace.specs.declared.names.Names.{Names}
 use Rattle.brd_trace.specs.declared.printer.{Manner.Manner, Printer.Printer}
 use Rattle.brd_trace.specs.Telling.{IsFirstLine, IsTrace, held_text}
 use Rattle.brd_trace.specs.Words.{words_of}
+use Rattle.brd_trace.specs.declared.tracer.Tracer.{Tracer}
+use Rattle.brd_trace.specs.Noted.{IsNoted}
+use Rattle.brd_trace.specs.Dated.{IsDated}
+use Rattle.brd_trace.specs.Summary.{IsEnd, IsSummary}
+use Rattle.brd_journal.specs.Playing.{IsPlayed}
 use Rattle.brd_trace.specs.declared.words.WordsFault.{WordsFault}
 use Rattle.brd_trace.specs.declared.words.WordsFault.TheVariants as no
 use Rattle.brd_report.specs.Output.{Writes}
@@ -21,6 +26,7 @@ use Rattle.brd_inputs.specs.declared.fault.CommandFault.TheVariants.{NoMemory, T
 use Rattle.brd_inputs.specs.declared.input_name.InputName.TheVariants as input_name
 use Rattle.brd_inputs.specs.declared.start.Start.{Start}
 use Rattle.brd_command.specs.RacesCommand.{WritesRaces}
+use Rattle.brd_command.specs.StacksCommand.{WritesStacks}
 use Rattle.brd_command.specs.declared.trace_command.Part.{Part}
 use Rattle.brd_inputs.specs.declared.trace_fault.TraceFault.{TraceFault}
 use Rattle.brd_inputs.specs.declared.trace_fault.TraceFault.TheVariants.{NoEvents, NoSuchFormat, NoSymbol, NoWord}
@@ -87,11 +93,20 @@ IsOfWords words (Trace NoSymbol) = words ≡ Err no.NoSymbol
 IsOfWords words (Trace NoWord) = words ≡ Err no.NoWord
 IsOfWords words fault = ⊥
 
--- bytes that are meant to come first were written, and some after them
-pub record WritesFirst (IsFirst : List ℕ → Type 0) (old new : Option (List ℕ)) : Type 0 where
+-- what a tracer knows of the board that has played the first events of a journal is so
+pub record IsFollowed (boot : BoardState) (events : List Event) (tracer : Tracer) : Type 0 where
+  pub played : IsPlayed boot events tracer.playback
+  pub noted : IsNoted boot events tracer.playback.at tracer.notes
+  pub dated : IsDated boot events tracer.playback.at tracer.notes
+
+-- A summary was written: how many events there were, the tick, and which event turned the board off; and how its
+-- processors and its tasks stand after them, since when, and the last exceptions.
+pub record WritesSummary (symbols : List Symbol) (boot : BoardState) (events : List Event) (n : ℕ)
+    (old new : Option (List ℕ)) : Type 0 where
   pub first : List ℕ
   pub rest : List ℕ
-  pub is_first : IsFirst first
+  pub is_first : IsEnd boot events n first
+  pub is_rest : IsSummary symbols boot events n rest
   pub written : Appends old new (first ++ rest)
 
 -- the names of a trace's columns
@@ -165,16 +180,29 @@ pub record WritesAllRaces (start : Start) (options : TraceOptions) (old new : Op
   pub segments : names.segments.now ≡ start.image.segments
   pub races : WritesRaces names start.board start.journal.events (end_of options (length start.journal.events)) old new
 
--- a summary is written, which has a first line, or the form that was asked for
+-- a summary of the board after the events up to where the options end is written, or the form that was asked for
 abbrev pub WritesShown : Start → TraceOptions → Option (List ℕ) → Option (List ℕ) → Type 0
 WritesShown start options old new =
-    MatchBool options.summary (WritesFirst (EndsWith (codes "\n")) old new)
+    MatchBool options.summary
+    (WritesSummary start.image.symbols start.board start.journal.events (end_of options (length start.journal.events))
+    old new)
     (WritesForm options.format start options old new)
+
+-- the stacks up to where the options end, or the first store below one, were written, by the symbols of the image
+abbrev pub WritesAllStacks : Start → TraceOptions → Option (List ℕ) → Option (List ℕ) → Type 0
+WritesAllStacks start options old new =
+    WritesStacks start.image.symbols start.config start.board start.journal.events
+    (end_of options (length start.journal.events)) old new
+
+-- the stacks are written, or what else was asked for
+abbrev pub WritesOther : Start → TraceOptions → Option (List ℕ) → Option (List ℕ) → Type 0
+WritesOther start options old new =
+    MatchBool options.stacks (WritesAllStacks start options old new) (WritesShown start options old new)
 
 -- the races are written, or what else was asked for
 abbrev pub WritesAsked : Start → TraceOptions → Option (List ℕ) → Option (List ℕ) → Type 0
 WritesAsked start options old new =
-    MatchBool options.races (WritesAllRaces start options old new) (WritesShown start options old new)
+    MatchBool options.races (WritesAllRaces start options old new) (WritesOther start options old new)
 
 -- what may keep a trace from being written that has begun: want of memory, or that writing fails
 abbrev pub IsOfWriting : CommandFault → Type 0

@@ -7,21 +7,24 @@ ghost use Rattle.brd_command.specs.Files.{AsmFilesEnd};
 ghost use Rattle.brd_command.specs.AsmCommand.{AsmEnds, IsObjectFile, KeepsFromAssembling, faulty_line};
 ghost use Rattle.brd_inputs.specs.FileKinds.{source_looks_like};
 
+use crate::warnings::warn_of_source;
 use brd_asm::{AsmFault, assemble};
 use brd_base::NoMemory;
 use brd_inputs::{
     Clue, CommandFault, Excerpt, FileKind, Files, InputName, other_kind, read_whole, source_hint,
 };
+use brd_progress::Progress;
 use brd_report::write_whole;
 use std::alloc::Global;
 use std::io::{Read, Write};
 
 /// Reads assembler source to its end and writes the object file of its image. Nothing is written before a fault of the
-/// source is known.
-pub fn asm<R: Read, W: Write>(
+/// source is known. What is odd about a source that has an object file is told once that is written.
+pub fn asm<R: Read, W: Write, P: Progress>(
     alloc: Global,
     reader: &mut R,
     writer: &mut W,
+    progress: &mut P,
 ) -> Result<(), CommandFault>
     ensures { IfSome (R.remaining reader.old) (λ source.
         AsmEnds result source (W.contents writer.old) (W.contents writer.new)) }
@@ -35,18 +38,22 @@ pub fn asm<R: Read, W: Write>(
         Err(fault) => return Err(fault),
     };
     match write_whole(writer, &file) {
-        Ok(()) => Ok(()),
+        Ok(()) => {
+            warn_of_source(alloc, &source, progress);
+            Ok(())
+        }
         Err(error) => Err(CommandFault::Write(error)),
     }
 }
 
 /// Does `asm` on its files: SOURCE is opened, then OUT is created or emptied, then the source is read. OUT is let go as
 /// `asm` left it.
-pub fn asm_files<F: Files>(
+pub fn asm_files<F: Files, P: Progress>(
     alloc: Global,
     files: &mut F,
     source: &str,
     out: &str,
+    progress: &mut P,
 ) -> Result<(), CommandFault>
     ensures { AsmFilesEnd F.opened F.created F.closed F.Input.remaining F.Output.contents
         files.old source.now out.now result files.new }
@@ -59,7 +66,7 @@ pub fn asm_files<F: Files>(
         Ok(writer) => writer,
         Err(error) => return Err(CommandFault::of_open(alloc, out, error)),
     };
-    let ended = asm(alloc, &mut reader, &mut writer);
+    let ended = asm(alloc, &mut reader, &mut writer, progress);
     files.close(writer);
     ended
 }

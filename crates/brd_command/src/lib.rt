@@ -28,11 +28,13 @@ mod request;
 mod run_command;
 mod saving;
 mod shrink_command;
+mod stacks_command;
 mod trace_command;
 mod trace_counts;
 mod trace_options;
 mod try_command;
 mod turns;
+mod warnings;
 mod word_text;
 mod words_command;
 

@@ -110,7 +110,7 @@ pub enum Request<'a> {
 /// neither reads standard input nor writes standard output; `run`, `race`, `trace`, `journal`, `explore`, `shrink` and
 /// `try` don't read standard input. `debug` and `gdb` read that only where their files could be opened and make a debugger.
 /// Threads of the host are started only for `race`. How far `run`, `race`, `debug`, `gdb`, `trace` and `explore` are, is
-/// told on the way.
+/// told on the way, and what is odd about the input of `asm` and `run`.
 pub fn perform<F: Files, R: Read, W: Write, P: Progress + Send, T: Threads + Wait + Sync>(
     rt: &T,
     alloc: Global,
@@ -125,7 +125,7 @@ pub fn perform<F: Files, R: Read, W: Write, P: Progress + Send, T: Threads + Wai
 {
     match request {
         Request::Words { steps } => words(alloc, input, output, steps),
-        Request::Asm { source, out } => asm_files(alloc, files, source, out),
+        Request::Asm { source, out } => asm_files(alloc, files, source, out, progress),
         Request::Run {
             image,
             config,

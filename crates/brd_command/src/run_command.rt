@@ -7,6 +7,7 @@ ghost use Rattle.brd_command.specs.Files.{RunFilesEnd};
 ghost use Rattle.brd_command.specs.RunCommand.{RunEnds};
 
 use crate::progress::replay;
+use crate::warnings::warn_of_run;
 use brd_base::NoMemory;
 use brd_inputs::{CommandFault, Files, Inputs, Start, open_inputs, read_start};
 use brd_progress::Progress;
@@ -15,8 +16,8 @@ use std::alloc::Global;
 use std::io::{Read, Write};
 
 /// Reads an object file, a configuration and a journal to their ends, in this order, lets the board that the first two
-/// make do the journal's events, and writes its report. Nothing is written where what was read has a fault. How far it
-/// is, is told on the way.
+/// make do the journal's events, and writes its report. Nothing is written where what was read has a fault. What is odd
+/// about it is told first, and on the way how far it is.
 pub fn run<R: Read, W: Write, P: Progress>(
     alloc: Global,
     inputs: &mut Inputs<R>,
@@ -73,6 +74,7 @@ fn report_after<P: Progress>(
         config: _,
         journal,
     } = start;
+    warn_of_run(&board, &journal, progress);
     let board = replay(&journal, board, progress);
     report(alloc, &board, journal.len())
 }

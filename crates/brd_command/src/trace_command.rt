@@ -9,12 +9,13 @@ ghost use Rattle.brd_command.specs.TraceCommand.{
   EndsDrawing,
   EndsPaging,
   EndsTracing,
+  IsFollowed,
   IsOfWords,
   IsOfWriting,
   IsPart,
   KeepsFromAsking,
   TraceEnds,
-  WritesFirst,
+  WritesSummary,
   WritesLines,
   WritesTold,
   head,
@@ -28,6 +29,7 @@ ghost use Rattle.brd_trace.specs.Words.{Adds};
 
 use crate::progress::PIECE;
 use crate::races_command::write_races;
+use crate::stacks_command::write_stacks;
 use crate::trace_options::{TraceFormat, TraceOptions};
 use brd_base::{List, NoMemory};
 use brd_board::Board;
@@ -152,8 +154,17 @@ fn write_trace<W: Write, P: Progress>(
         Err(fault) => return Err(fault),
     }
     if options.races {
-        let names = Names::new(image.symbols.as_slice(), image.segments.as_slice());
+        let names = Names::with_lines(
+            image.symbols.as_slice(),
+            image.segments.as_slice(),
+            &source.lines,
+        );
         return write_races(alloc, board, names, &journal, part.to, writer, progress);
+    }
+    if options.stacks {
+        return write_stacks(
+            alloc, board, &image, &config, &journal, part.to, writer, progress,
+        );
     }
     let shown = Options {
         cpu: options.cpu,
@@ -166,7 +177,11 @@ fn write_trace<W: Write, P: Progress>(
     let traced = Traced {
         alloc,
         manner: Manner {
-            names: Names::new(image.symbols.as_slice(), image.segments.as_slice()),
+            names: Names::with_lines(
+                image.symbols.as_slice(),
+                image.segments.as_slice(),
+                &source.lines,
+            ),
             order: image.order,
             words: words.as_slice(),
         },
@@ -242,6 +257,8 @@ impl<'a> Traced<'a> {
             → IsPlayed boot self.now.journal.now.events tracer.old.playback
             → IsTrace self.now.manner boot self.now.journal.now.events tracer.old.playback.at tracer.new.playback.at
             tracer.old.printer tracer.new.printer lines.items) }
+        ensures follows { (boot : BoardOf) → IsFollowed boot self.now.journal.now.events tracer.old
+            → IfOk result (λ _. IsFollowed boot self.now.journal.now.events tracer.new) }
     {
         let mut lines = Vec::new(self.alloc);
         let piece = tracer.playback.at.saturating_add(PIECE).min(to);
@@ -258,7 +275,9 @@ impl<'a> Traced<'a> {
     ) -> Result<(), NoMemory>
         requires on { tracer.old.playback.at ≤ to }
         requires within { to ≤ length self.now.journal.now.events }
-        ensures { IfOk result (λ _. tracer.new.playback.at ≡ to) }
+        ensures at { IfOk result (λ _. tracer.new.playback.at ≡ to) }
+        ensures follows { (boot : BoardOf) → IsFollowed boot self.now.journal.now.events tracer.old
+            → IfOk result (λ _. IsFollowed boot self.now.journal.now.events tracer.new) }
     {
         while tracer.playback.at < to {
             let _ = self.advance(tracer, to)?;
@@ -379,8 +398,9 @@ impl<'a> Traced<'a> {
     ) -> Result<(), CommandFault>
         requires start { tracer.playback.at ≡ 0 }
         requires within { self.now.part.to ≤ length self.now.journal.now.events }
-        ensures { MatchResult result
-            (λ _. WritesFirst (EndsWith (codes "\n")) (W.contents writer.old) (W.contents writer.new)) IsOfWriting }
+        requires follows { IsFollowed tracer.playback.board self.now.journal.now.events tracer }
+        ensures { MatchResult result (λ _. WritesSummary self.now.manner.names.symbols.now tracer.playback.board
+            self.now.journal.now.events self.now.part.to (W.contents writer.old) (W.contents writer.new)) IsOfWriting }
     {
         let mut tracer = tracer;
         self.play(&mut tracer, self.part.to, progress)?;
@@ -405,7 +425,7 @@ impl<'a> Traced<'a> {
         self.skip(&mut tracer, self.part.from, progress)?;
         tracer.record(self.alloc)?;
         self.play(&mut tracer, self.part.to, progress)?;
-        match tracer.into_timeline(self.alloc)? {
+        match tracer.into_timeline(self.alloc, self.journal)? {
             Some(timeline) => Ok(timeline),
             None => Err(NoMemory),
         }

@@ -34,6 +34,8 @@ pub struct TraceOptions<'a> {
     pub summary: bool,
     /// Whether only the races are shown.
     pub races: bool,
+    /// Whether only the stacks are shown.
+    pub stacks: bool,
     /// In which form; none where the form that was asked for isn't there.
     pub format: Option<TraceFormat>,
 }

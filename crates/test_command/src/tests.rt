@@ -9,7 +9,7 @@ mod inputs;
 mod race;
 mod run;
 
-use brd_command::{asm, words};
+use brd_command::{Quiet, asm, words};
 use brd_inputs::CommandFault;
 use brd_mem::{Image, is_plain};
 use fakes::{Busy, Bytewise, Taking};
@@ -45,7 +45,7 @@ impl Tested {
     ) -> Result<(), CommandFault> {
         match self {
             Tested::Words => words(alloc, reader, writer, 2),
-            Tested::Asm => asm(alloc, reader, writer),
+            Tested::Asm => asm(alloc, reader, writer, &mut Quiet),
         }
     }
 

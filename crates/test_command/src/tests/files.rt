@@ -102,7 +102,7 @@ fn cannot_be_opened(alloc: Global, name: &str, text: &str) -> bool {
         text: b"",
         kind: ErrorKind::NotFound,
     };
-    let ended = asm_files(alloc, &mut files, name, "out");
+    let ended = asm_files(alloc, &mut files, name, "out", &mut Quiet);
     is_fault(alloc, &ended, text, 4)
 }
 

@@ -1,25 +1,28 @@
-use Rattle.std.proofs.Common.{ℕ, List, ◌++◌, refl, sym, ap, ◌∙◌, subst}
+use Rattle.std.proofs.Common.{ℕ, List, ◌≡◌, ◌++◌, refl, sym, ap, ◌∙◌, subst}
 use Rattle.std.specs.Prelude.{MatchResult, Ok}
 use Rattle.brd_board.specs.Board.{BoardState}
 use Rattle.brd_trace.specs.declared.printer.{Manner.Manner}
 use Rattle.brd_trace.specs.Telling.{shown_by}
-use Rattle.brd_command.specs.TraceCommand.{KeepsFromAsking, IsPart, IsOfWriting, WritesLines, head}
-use Rattle.brd_command.proofs.TraceLemmas.{races-end, text-ends, not_asked, not_chosen}
+use Rattle.brd_trace.specs.Noted.{IsNoted}
+use Rattle.brd_trace.specs.Dated.{IsDated}
+use Rattle.brd_journal.specs.declared.playback.Playback.{Playback}
+use Rattle.brd_command.specs.TraceCommand.{KeepsFromAsking, IsPart, IsOfWriting, WritesLines, WritesSummary, head}
+use Rattle.brd_command.proofs.TraceLemmas.{begins, races-end, stacks-end, summary-ends, text-ends, not_asked, not_chosen}
 use Rattle.brd_command.proofs.trace_command.write_trace.Goals as goal
 
 -- The part is that of the whole journal, the tracer has the board of the start, and it shows what the options ask for.
 pub returns-in-Text : goal.returns-in-Text
 returns-in-Text g c =
     let start = c.args.start in
-    let manner : Manner = record { names = c.new-2.result; order = start.image.order; words = c.as_slice-4.result } in
+    let manner : Manner = record { names = c.with_lines.result; order = start.image.order; words = c.as_slice-4.result } in
     let first = shown_by c.in_ok-tracer.tracer.printer.options in
     let old = g.W.Write.contents c.args.writer.now in
     let new = g.W.Write.contents c.write_lines.new.writer in
     let added = c.in-Ok-choose.ensures in
     let named = added.is ∙ ap (λ (them : List ℕ). Ok them) (sym (c.as_slice-4.ensures ∙ added.all ∙ ap (λ (them : List ℕ). them ++ added.more) c.new-words.ensures)) in
     text-ends start c.args.options c.in-Ok.part manner first old new c.write_lines.result
-    (subst (λ (n : ℕ). IsPart c.args.options n c.in-Ok.part) c.len.ensures.len c.in-Ok.ensures) c.in-Text.is c.if-options.false c.if-options-2.false
-    (record { symbols = c.new-2.ensures.symbols ∙ c.as_slice-2.ensures; segments = c.new-2.ensures.segments ∙ c.as_slice-3.ensures; order = refl; words = named })
+    (subst (λ (n : ℕ). IsPart c.args.options n c.in-Ok.part) c.len.ensures.len c.in-Ok.ensures) c.in-Text.is c.if-options.false c.if-options-2.false c.if-options-3.false
+    (record { symbols = c.with_lines.ensures.symbols ∙ c.as_slice-2.ensures; segments = c.with_lines.ensures.segments ∙ c.as_slice-3.ensures; order = refl; words = named })
     (record {
       cpu = ap (λ p. p.options.cpu) c.in_ok-tracer.ensures.printer;
       instructions = ap (λ p. p.options.instructions) c.in_ok-tracer.ensures.printer;
@@ -44,6 +47,42 @@ returns-in-Err-choose g c =
 -- The races are looked for as far as the options say, by the names of the image.
 pub returns-then-options : goal.returns-then-options
 returns-then-options g c =
-    races-end c.args.start c.args.options c.in-Ok.part c.new-names.result (g.W.Write.contents c.args.writer.now) (g.W.Write.contents c.write_races.new.writer)
+    races-end c.args.start c.args.options c.in-Ok.part c.with_lines-names.result (g.W.Write.contents c.args.writer.now) (g.W.Write.contents c.write_races.new.writer)
     c.write_races.result (subst (λ (n : ℕ). IsPart c.args.options n c.in-Ok.part) c.len.ensures.len c.in-Ok.ensures) c.if-options.true
-    (c.new-names.ensures.symbols ∙ c.as_slice.ensures) (c.new-names.ensures.segments ∙ c.as_slice-then-options.ensures) c.write_races.ensures
+    (c.with_lines-names.ensures.symbols ∙ c.as_slice.ensures) (c.with_lines-names.ensures.segments ∙ c.as_slice-then-options.ensures) c.write_races.ensures
+
+-- The stacks are followed as far as the options say.
+pub returns-then-options-2 : goal.returns-then-options-2
+returns-then-options-2 g c =
+    stacks-end c.args.start c.args.options c.in-Ok.part (g.W.Write.contents c.args.writer.now) (g.W.Write.contents c.write_stacks.new.writer)
+    c.write_stacks.result (subst (λ (n : ℕ). IsPart c.args.options n c.in-Ok.part) c.len.ensures.len c.in-Ok.ensures) c.if-options.false c.if-options-2.true
+    c.write_stacks.ensures
+
+-- The summary is that of the board of the start, by the names of the image.
+pub returns-then-options-3 : goal.returns-then-options-3
+returns-then-options-3 g c =
+    let start = c.args.start in
+    let old = g.W.Write.contents c.args.writer.now in
+    let new = g.W.Write.contents c.write_summary.new.writer in
+    summary-ends start c.args.options c.in-Ok.part c.with_lines.result.symbols.now old new c.write_summary.result
+    (subst (λ (n : ℕ). IsPart c.args.options n c.in-Ok.part) c.len.ensures.len c.in-Ok.ensures) c.if-options-3.true c.if-options.false c.if-options-2.false
+    (c.with_lines.ensures.symbols ∙ c.as_slice-2.ensures)
+    (subst (λ (b : BoardState). MatchResult c.write_summary.result
+    (λ _. WritesSummary c.with_lines.result.symbols.now b start.journal.events c.in-Ok.part.to old new) IsOfWriting)
+    (ap (λ p. p.board) c.in_ok-tracer.ensures.start) c.write_summary.ensures)
+
+-- Of a board to which nothing has happened all that the tracer knows is so.
+pub write_summary-requires-clause-follows : goal.write_summary-requires-clause-follows
+write_summary-requires-clause-follows g c =
+    let tracer = c.in_ok-tracer.tracer in
+    let events = c.args.start.journal.events in
+    let made = c.in_ok-tracer.ensures in
+    let at : 0 ≡ tracer.playback.at = sym (ap (λ (p : Playback). p.at) made.start) in
+    let board : c.args.start.board ≡ tracer.playback.board = sym (ap (λ (p : Playback). p.board) made.start) in
+    record {
+      played = begins events tracer.playback (sym at);
+      noted = subst (λ (n : ℕ). IsNoted tracer.playback.board events n tracer.notes) at
+          (subst (λ (b : BoardState). IsNoted b events 0 tracer.notes) board (made.noted events));
+      dated = subst (λ (n : ℕ). IsDated tracer.playback.board events n tracer.notes) at
+          (subst (λ (b : BoardState). IsDated b events 0 tracer.notes) board (made.dated events));
+    }

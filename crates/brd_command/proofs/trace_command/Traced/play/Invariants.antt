@@ -1,9 +1,15 @@
--- It hasn't gone past the end.
+-- It hasn't gone past the end, and what it knows of the board is so.
 use Rattle.std.proofs.Common.{◌≤◌, ◌-◌}
+use Rattle.brd_board.specs.Board.{BoardState}
+use Rattle.brd_command.specs.TraceCommand.{IsFollowed}
 use Rattle.brd_command.proofs.trace_command.Traced.play.Given as goal
 
 abbrev pub invariant-loop-tracer : goal.invariant-loop-tracer
-invariant-loop-tracer g l = l.tracer.playback.at ≤ l.to
+invariant-loop-tracer g l = record {
+  on : l.tracer.playback.at ≤ l.to;
+  follows : (boot : BoardState) → IsFollowed boot l.self.journal.now.events l.fn.tracer
+      → IsFollowed boot l.self.journal.now.events l.tracer;
+}
 
 abbrev pub decreases-loop-tracer : goal.decreases-loop-tracer
 decreases-loop-tracer g l = l.to - l.tracer.playback.at
