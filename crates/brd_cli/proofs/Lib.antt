@@ -2,3 +2,4 @@ pub mod LawLemmas
 pub mod SaidLemmas
 pub mod WordsLemmas
 pub mod NumberLemmas
+pub mod UsageLemmas

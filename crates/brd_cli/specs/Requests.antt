@@ -94,6 +94,7 @@ AreTraceOptions rows options = IsNumberOf 64 (one_of (codes "from") rows) option
     × (option_map (λ text. text.now) options.words ≡ first_of (codes "WORDS") rows)
     × IsFlag (one_of (codes "summary") rows) options.summary
     × IsFlag (one_of (codes "races") rows) options.races
+    × IsFlag (one_of (codes "stacks") rows) options.stacks
     × (options.format ≡ format_named (first_of (codes "format") rows))
 
 -- the options of `journal`, each as it was given; `Usage` says which option has which name here

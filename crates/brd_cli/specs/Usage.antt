@@ -1,5 +1,6 @@
 -- What the program takes: its commands, and the arguments of each in the order in which they are given.
-use Rattle.std.specs.Prelude.{◌≡◌, ◌∷◌, ◌++◌, List, [], Some, codes, false, fold, map, pos, true}
+use Rattle.std.specs.Prelude.{◌≡◌, ◌∷◌, ◌++◌, List, [], Ok, Result, Some, codes, false, fold, map, pos, true}
+use Rattle.brd_base.specs.declared.no_memory.NoMemory.{NoMemory}
 use Rattle.clap.specs.Words.{AddsSubcommand, App, Rule, Text, app_of, new_app, new_rule, with_rule, with_subcommand}
 use Rattle.clap.specs.declared.builder.action.ArgAction.TheVariants.{Set, SetTrue}
 use Rattle.clap.specs.declared.builder.command.Command.{Command, out-Command}
@@ -94,7 +95,7 @@ trace = command_with (codes "trace")
     (needed (codes "IMAGE") ∷ needed (codes "CONFIG") ∷ needed (codes "JOURNAL")
     ∷ position (codes "from") ∷ position (codes "to") ∷ processor (codes "cpu")
     ∷ flag (codes "instructions") ∷ option (codes "WORDS") (codes "word") ∷ flag (codes "summary")
-    ∷ flag (codes "races") ∷ valued (codes "format") ∷ [])
+    ∷ flag (codes "races") ∷ flag (codes "stacks") ∷ valued (codes "format") ∷ [])
 
 abbrev pub journal : App
 journal = command_with (codes "journal")
@@ -139,6 +140,11 @@ board =
 abbrev pub AddsForm : App → Command → Type 0
 AddsForm form command = (old new : Command) → AddsSubcommand old command new
     → app_of new ≡ with_subcommand (app_of old) form.top
+
+-- a program that could be made, with a command more that could be made
+abbrev pub HasAdded : Result Command NoMemory → Result Command NoMemory → Command → Type 0
+HasAdded (Ok old) (Ok command) new = AddsSubcommand old command new
+HasAdded _ _ new = ⊥
 
 -- a command has these arguments more, in this order, of which none is for the commands below it too
 pub record AddsArguments (arguments : List Rule) (old new : Command) : Type 0 where

@@ -164,6 +164,7 @@ fn trace_options_of<'a>(arguments: &ArgMatches<'a>) -> TraceOptions<'a>
         words: text_of(arguments, "WORDS"),
         summary: flag_of(arguments, "summary"),
         races: flag_of(arguments, "races"),
+        stacks: flag_of(arguments, "stacks"),
         format: format_of(text_of(arguments, "format")),
     }
 }

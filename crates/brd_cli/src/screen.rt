@@ -1,6 +1,7 @@
-//! How far a long command is, on a terminal.
+//! How far a long command is, on a terminal, and what is odd about a command's input.
 
 use brd_command::Progress;
+use std::fmt;
 use std::io::IsTerminal;
 use std::time::{Duration, Instant};
 
@@ -10,7 +11,7 @@ const PATIENCE: u64 = 1_000;
 /// How many milliseconds what is shown stays at least (own choice).
 const PAUSE: u64 = 200;
 
-/// A line of standard error that says how far a command is, where that is a terminal; else nothing.
+/// A line of standard error that says how far a command is, where that is a terminal; and lines that warn, everywhere.
 #[derive(Drop)]
 pub struct Screen<'a> {
     rt: &'a HostRuntime,
@@ -96,5 +97,11 @@ impl<'a> Progress for Screen<'a> {
             "board: the processors hardly took turns ({steps} steps in {runs} runs): race again, with a larger QUOTA, \
              or draw turns by `board journal --random`"
         );
+    }
+
+    /// Says so in a line that stays.
+    fn warn<D: fmt::Display>(&mut self, warning: &D) {
+        self.hide();
+        let _ = eprintln!(self.rt; "board: warning: {warning}");
     }
 }

@@ -3,7 +3,8 @@
 ghost use Rattle.std.specs.Prelude.{◌≡◌, ◌∷◌, [], IfOk, codes, false, map};
 ghost use Rattle.clap.specs.Words.{app_of, rule_of};
 ghost use Rattle.brd_cli.specs.Usage as usage;
-ghost use Rattle.brd_cli.specs.Usage.{AddsArguments, AddsForm, board, command_with, inputs, race_files, source_and_out};
+ghost use Rattle.brd_cli.specs.Usage.{AddsArguments, AddsForm, HasAdded, board, command_with, inputs, race_files};
+ghost use Rattle.brd_cli.specs.Usage.{source_and_out};
 
 use brd_base::NoMemory;
 use clap::{Arg, ArgAction, Command};
@@ -154,19 +155,30 @@ pub fn board_command<'a>(alloc: Global) -> Result<Command<'a>, NoMemory>
         .about("An emulated MIPS32 board for real-time software")
         .after_help(FILES)
         .subcommand_required(true)
-        .version(VERSION)
-        .subcommand(try_command(alloc)?)?
-        .subcommand(asm_command(alloc)?)?
-        .subcommand(run_command(alloc)?)?
-        .subcommand(trace_command(alloc)?)?
-        .subcommand(debug_command(alloc)?)?
-        .subcommand(gdb_command(alloc)?)?
-        .subcommand(race_command(alloc)?)?
-        .subcommand(journal_command(alloc)?)?
-        .subcommand(explore_command(alloc)?)?
-        .subcommand(shrink_command(alloc)?)?
-        .subcommand(words_command(alloc)?)?;
-    Ok(board)
+        .version(VERSION);
+    let board = with_command(Ok(board), try_command(alloc));
+    let board = with_command(board, asm_command(alloc));
+    let board = with_command(board, run_command(alloc));
+    let board = with_command(board, trace_command(alloc));
+    let board = with_command(board, debug_command(alloc));
+    let board = with_command(board, gdb_command(alloc));
+    let board = with_command(board, race_command(alloc));
+    let board = with_command(board, journal_command(alloc));
+    let board = with_command(board, explore_command(alloc));
+    let board = with_command(board, shrink_command(alloc));
+    with_command(board, words_command(alloc))
+}
+
+/// A program with one command more, where both could be made. (So a program of many commands has no way out at which
+/// one that is half made is let go, of each of which it would have to be proved how it ends.)
+fn with_command<'a>(
+    program: Result<Command<'a>, NoMemory>,
+    command: Result<Command<'a>, NoMemory>,
+) -> Result<Command<'a>, NoMemory>
+    ensures { IfOk result (HasAdded program.entry command.entry) }
+{
+    let program = program?.subcommand(command?)?;
+    Ok(program)
 }
 
 /// What `words` takes.
@@ -344,6 +356,11 @@ fn trace_command<'a>(alloc: Global) -> Result<Command<'a>, NoMemory>
             alloc,
             "races",
             "Shows only the data races: touches of words that nothing orders",
+        ))?
+        .arg(flag(
+            alloc,
+            "stacks",
+            "Shows only how deep each stack became, up to the first store below one",
         ))?
         .arg(valued(
             alloc,

@@ -1,27 +1,45 @@
-use Rattle.std.proofs.Common.{◌∙◌, ◌≡◌, ap, codes}
-use Rattle.clap.specs.Words.{AddsSubcommand, App, app_of, new_app, with_subcommand}
-use Rattle.clap.specs.declared.builder.command.Command.{Command}
-use Rattle.brd_cli.specs.Usage.{AddsForm, asm, debug, explore, gdb, journal, race, run, shrink, trace, tries, wants_command}
-use Rattle.brd_cli.specs.Usage.{words}
+use Rattle.std.proofs.Common.{◌≡◌, ap, codes}
+use Rattle.std.specs.Prelude.{Ok}
+use Rattle.clap.specs.Words.{app_of, new_app}
+use Rattle.brd_cli.specs.Usage.{asm, debug, explore, gdb, journal, race, run, shrink, trace, tries, words}
+use Rattle.brd_cli.specs.Usage.{wants_command}
+use Rattle.brd_cli.proofs.UsageLemmas.{adds}
 use Rattle.brd_cli.proofs.usage.board_command.Goals as goal
-
--- one command more
-adds : (form before : App) (old command new : Command) → AddsForm form command → AddsSubcommand old command new
-    → app_of old ≡ before → app_of new ≡ with_subcommand before form.top
-adds form before old command new is added so_far = is old new added ∙ ap (λ (program : App). with_subcommand program form.top) so_far
 
 pub returns : goal.returns
 returns c =
-    let none : app_of c.version.result ≡ wants_command (new_app (codes "board")) =
-    rw c.version.ensures (rw c.subcommand_required.ensures (rw c.after_help.ensures (rw c.about.ensures (ap wants_command c.new.ensures.app)))) in
-    let one = adds tries _ _ _ _ c.in_ok-try_command.ensures c.in_ok-subcommand.ensures none in
-    let two = adds asm _ _ _ _ c.in_ok-asm_command.ensures c.in_ok-subcommand-2.ensures one in
-    let three = adds run _ _ _ _ c.in_ok-run_command.ensures c.in_ok-subcommand-3.ensures two in
-    let four = adds trace _ _ _ _ c.in_ok-trace_command.ensures c.in_ok-subcommand-4.ensures three in
-    let five = adds debug _ _ _ _ c.in_ok-debug_command.ensures c.in_ok-subcommand-5.ensures four in
-    let six = adds gdb _ _ _ _ c.in_ok-gdb_command.ensures c.in_ok-subcommand-6.ensures five in
-    let seven = adds race _ _ _ _ c.in_ok-race_command.ensures c.in_ok-subcommand-7.ensures six in
-    let eight = adds journal _ _ _ _ c.in_ok-journal_command.ensures c.in_ok-subcommand-8.ensures seven in
-    let nine = adds explore _ _ _ _ c.in_ok-explore_command.ensures c.in_ok-subcommand-9.ensures eight in
-    let ten = adds shrink _ _ _ _ c.in_ok-shrink_command.ensures c.in_ok-subcommand-10.ensures nine in
-    adds words _ _ _ _ c.in_ok-words_command.ensures c.in_ok-board.ensures ten
+    let none : app_of c.version-board.result ≡ wants_command (new_app (codes "board")) =
+    rw (c.version-board.ensures, c.subcommand_required.ensures, c.after_help.ensures, c.about.ensures)
+    (ap wants_command c.new.ensures.app) in
+    let one =
+    adds tries _ (Ok c.version-board.result) c.try_command.result c.with_command-board.result
+    c.try_command.ensures c.with_command-board.ensures none in
+    let two =
+    adds asm _ c.with_command-board.result c.asm_command.result c.with_command-board-2.result
+    c.asm_command.ensures c.with_command-board-2.ensures one in
+    let three =
+    adds run _ c.with_command-board-2.result c.run_command.result c.with_command-board-3.result
+    c.run_command.ensures c.with_command-board-3.ensures two in
+    let four =
+    adds trace _ c.with_command-board-3.result c.trace_command.result c.with_command-board-4.result
+    c.trace_command.ensures c.with_command-board-4.ensures three in
+    let five =
+    adds debug _ c.with_command-board-4.result c.debug_command.result c.with_command-board-5.result
+    c.debug_command.ensures c.with_command-board-5.ensures four in
+    let six =
+    adds gdb _ c.with_command-board-5.result c.gdb_command.result c.with_command-board-6.result
+    c.gdb_command.ensures c.with_command-board-6.ensures five in
+    let seven =
+    adds race _ c.with_command-board-6.result c.race_command.result c.with_command-board-7.result
+    c.race_command.ensures c.with_command-board-7.ensures six in
+    let eight =
+    adds journal _ c.with_command-board-7.result c.journal_command.result c.with_command-board-8.result
+    c.journal_command.ensures c.with_command-board-8.ensures seven in
+    let nine =
+    adds explore _ c.with_command-board-8.result c.explore_command.result c.with_command-board-9.result
+    c.explore_command.ensures c.with_command-board-9.ensures eight in
+    let ten =
+    adds shrink _ c.with_command-board-9.result c.shrink_command.result c.with_command-board-10.result
+    c.shrink_command.ensures c.with_command-board-10.ensures nine in
+    adds words _ c.with_command-board-10.result c.words_command.result c.with_command.result
+    c.words_command.ensures c.with_command.ensures ten

@@ -15,10 +15,13 @@ returns c = λ old new adds.
     let eight = c.in_ok-arg-8.ensures.shape c.option.ensures.own ∙ ap₂ with_rule seven c.option.ensures.rule in
     let nine = c.in_ok-arg-9.ensures.shape c.flag-2.ensures.own ∙ ap₂ with_rule eight c.flag-2.ensures.rule in
     let ten = c.in_ok-arg-10.ensures.shape c.flag-3.ensures.own ∙ ap₂ with_rule nine c.flag-3.ensures.rule in
-    let eleven = c.in_ok-command.ensures.shape c.valued.ensures.own ∙ ap₂ with_rule ten c.valued.ensures.rule in
+    let eleven = c.in_ok-arg-11.ensures.shape c.flag-4.ensures.own ∙ ap₂ with_rule ten c.flag-4.ensures.rule in
+    let twelve = c.in_ok-command.ensures.shape c.valued.ensures.own ∙ ap₂ with_rule eleven c.valued.ensures.rule in
     adds.shape (rw (
       c.in_ok-command.ensures.globals,
       c.valued.ensures.own,
+      c.in_ok-arg-11.ensures.globals,
+      c.flag-4.ensures.own,
       c.in_ok-arg-10.ensures.globals,
       c.flag-3.ensures.own,
       c.in_ok-arg-9.ensures.globals,
@@ -43,4 +46,4 @@ returns c = λ old new adds.
       c.about.ensures,
       c.new.ensures.local,
     ) refl)
-    ∙ ap (λ (form : App). with_subcommand (app_of old) form.top) eleven
+    ∙ ap (λ (form : App). with_subcommand (app_of old) form.top) twelve
