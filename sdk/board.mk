@@ -13,6 +13,11 @@
 #   make run            shows the report of JOURNAL (firmware.journal)
 #   make debug          debugs JOURNAL with the names of C
 #   make gdb            debugs JOURNAL with GDB, forward and backward
+#   make trace          shows what happens under JOURNAL, with files and lines of C; TRACEFLAGS: `board trace`'s options
+#   make races          shows the data races of JOURNAL
+#   make page           leaves JOURNAL as a page for a browser, build/firmware.html
+#   make cover          leaves which lines JOURNAL executed, build/firmware.info, for genhtml
+#   make stacks         shows how deep each stack became under JOURNAL, and fails where something was stored below one
 #   make hunt           does the events of JOURNAL in TRIES other orders, and keeps the first that fails
 #   make explore        searches all schedules within bounds for one under which the test of JOURNAL fails
 #   make shrink         leaves events out of the schedule that was found, as long as it fails
@@ -50,6 +55,7 @@ FAIR ?= 0
 LOOK ?=
 GDB ?= gdb-multiarch
 GDBFLAGS ?=
+TRACEFLAGS ?=
 BUILD ?= build
 
 BOARD ?= $(SDK)/../build/board
@@ -106,7 +112,7 @@ CONFIGURATION = $(BUILD)/$(PROGRAM).cfg
 # Its tests: of the only program all journals are.
 journals = $(if $(word 2,$(PROGRAMS)),$(wildcard $1.journal $1.*.journal),$(wildcard *.journal))
 
-.PHONY: all test accept run debug gdb hunt explore shrink clean FORCE
+.PHONY: all test accept run debug gdb trace races page cover stacks hunt explore shrink clean FORCE
 .DELETE_ON_ERROR:
 .SECONDARY:
 
@@ -182,6 +188,28 @@ debug: all
 gdb: all
 	@$(SDK)/ordered $(IMAGE) $(JOURNAL) > $(BUILD)/debug.journal
 	@GDB='$(GDB)' $(SDK)/gdb $(BOARD) $(IMAGE) $(CONFIGURATION) $(BUILD)/debug.journal $(GDBFLAGS)
+
+# What `board trace` says of JOURNAL, which is taken for the program's byte order.
+traced = $(SDK)/ordered $(IMAGE) $(JOURNAL) > $(BUILD)/trace.journal && \
+    $(BOARD) trace $1 $(IMAGE) $(CONFIGURATION) $(BUILD)/trace.journal
+
+trace: all
+	@$(call traced,$(TRACEFLAGS))
+
+races: all
+	@$(call traced,--races)
+
+page: all
+	@$(call traced,--format html $(TRACEFLAGS)) > $(BUILD)/$(PROGRAM).html
+	@echo "$(BUILD)/$(PROGRAM).html"
+
+cover: all
+	@$(call traced,--format lcov) > $(BUILD)/$(PROGRAM).info
+	@echo "$(BUILD)/$(PROGRAM).info"
+
+stacks: all
+	@$(call traced,--stacks) | tee $(BUILD)/stacks
+	@grep -qx 'stack overflow: none' $(BUILD)/stacks
 
 hunt: all
 	@$(SDK)/hunt $(BOARD) $(IMAGE) $(CONFIGURATION) $(JOURNAL) $(BUILD)/hunt.journal --tries '$(TRIES)' \

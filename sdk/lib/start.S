@@ -65,6 +65,7 @@ handler_\line:
         .balign 16
 handler_stack_\line:
         .space  HANDLER_STACK
+end_of_handler_stack_\line:
         .popsection
         .endm
 
