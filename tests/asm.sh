@@ -84,16 +84,26 @@ segments 65535
 : > "$work/wanted"
 asm "65,535 segments" 1 "${front}its image has more segments or bytes than an object file can hold"
 
+# warning EXAMPLE: what is warned of an example, if anything: words that are no program, and lab 1, of which it is right.
+warning() {
+    local slot="stands in the slot of the branch on line" exception="which is an exception where it is executed"
+    case $1 in
+        examples/delay_slot.s) echo "line 6: what comes here runs off the end of the program: end a task by ext_tsk, the" \
+            "board by ext_ker" ;;
+        examples/labs/1/lab.s) echo "line 23: jr $slot 22, $exception" && echo "line 31: jal $slot 30, $exception" ;;
+    esac | sed 's/^/board: warning: the source: /'
+}
+
 # The examples, which readelf reads too; but firmware.s, whose source is one for GNU as.
 readelf=
 have readelf "readelf of the examples" && readelf=yes
-for example in examples/*.s examples/*/*.s; do
+for example in examples/*.s examples/*/*.s examples/labs/*/lab.s examples/labs/*/solution/lab.s; do
     [ "$example" = examples/firmware.s ] && continue
     : > "$work/object"
     "$board" asm "$example" "$work/object" > "$work/out" 2> "$work/err"
     got=$?
     [ -s "$work/object" ] || got="$got, and OUT is empty"
-    check "asm: $example" 0 "$work/nothing" "" "$got"
+    check "asm: $example" 0 "$work/nothing" "$(warning "$example")" "$got"
     if [ $readelf ]; then
         readelf -a "$work/object" > /dev/null 2> "$work/err"
         got=$?
@@ -112,6 +122,19 @@ done
 "$board" asm "$work/source" "$work/wanted"
 : > "$work/in"
 refuse_each asm 3 "board: out of memory" "$board" asm "$work/source" /dev/stdout
+
+# A source of which 20 of 30 lines are warned, which each takes memory: the object file is the same where that is refused.
+{
+    echo '_start: nop'
+    for n in {1..30}; do printf 'b _start\nb _start\nnop\n'; done
+} > "$work/source"
+"$board" asm "$work/source" "$work/wanted" 2> "$work/err"
+wrong=
+[ "$(wc -l < "$work/err")" = 20 ] || wrong="$(wc -l < "$work/err") lines"
+grep -qv '^board: warning: the source: line [0-9]*: b stands in the slot of the branch on line [0-9]*, ' "$work/err" &&
+    wrong="$wrong; $(head -c 300 "$work/err")"
+verdict "asm: twenty warnings of thirty" "$wrong"
+refuse_each "asm, with warnings" 3 "board: out of memory" "$board" asm "$work/source" /dev/stdout
 
 # The same source assembled by GNU as.
 check_script "asm beside GNU as" tests/asm_binutils.sh "$board"

@@ -156,6 +156,13 @@ if have cc "kit: the benchmark on this machine"; then
     verdict "kit: the benchmark on this machine" "$(diff "$work/wanted" "$work/out")"
 fi
 
+# What happens in a run: lines with the places of C, races, a page, coverage.
+says "make trace" 0 " *[0-9]+ [12] +task .*; firmware[.]c:[0-9]+" \
+    project examples/c_two_processors trace TRACEFLAGS="--instructions --to 200"
+says "make races" 0 "races: [0-9]+ words?" project examples/c_two_processors races
+says "make page" 0 "$work/build/firmware.html" project examples/c_two_processors page TRACEFLAGS="--to 2000"
+says "make cover" 0 "$work/build/firmware.info" project examples/c_two_processors cover
+
 # Other orders: a right program shows the same, and one with a race doesn't.
 shared=$work/kit/shared
 interrupted=$work/kit/interrupted

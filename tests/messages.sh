@@ -2,7 +2,7 @@
 # What the program says of mistakes: tests/messages.sh PROGRAM. messages.table has one a line: the kind of text, a name
 # for the mistake, the text as `printf %b` reads it, and the message after `board: `. A text is a source (s), a
 # configuration (c) or a journal (j) beside a right object file, configuration and journal, or a source whose object
-# file isn't started by a configuration (b).
+# file is written all the same (w), of which there is a warning or nothing.
 . "$(dirname "$0")/check.sh"
 
 example=examples/hello/hello
@@ -18,6 +18,11 @@ told() {
 while IFS=$'\t' read -r kind name text message; do
     case $kind in '' | '#'*) continue ;; esac
     printf '%b' "$text" > "$work/text"
+    if [ "$kind" = w ]; then
+        "$board" asm "$work/text" "$work/made" 2> "$work/err"
+        check "messages: $name" 0 "$work/nothing" "${message:+board: warning: $message}" $?
+        continue
+    fi
     case $kind in
         s) "$board" asm "$work/text" "$work/made" 2> "$work/err" ;;
         c) "$board" run "$work/image" "$work/text" $example.journal > "$work/out" 2> "$work/err" ;;

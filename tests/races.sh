@@ -29,4 +29,10 @@ lost "a lost update, up to its second store" "races: 0 words" racy --to 7
 lost "a lost update, in whatever form" "$told"$'\nraces: 1 word' racy --to 8 --format json --summary
 lost "a lost update that is repaired" "races: 0 words" repaired
 
+if have python3 "random boards beside the model"; then
+    # Random boards beside a model that asks of each pair of touches whether one comes before the other.
+    wrong=$(tests/model/races "$board" 2>&1) && wrong=
+    verdict "races: random boards beside the model" "$(head -n 3 <<< "$wrong")"
+fi
+
 summary

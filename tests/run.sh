@@ -1,7 +1,8 @@
 #!/bin/bash
 # The tests of `board run`: tests/run.sh PROGRAM. Each folder of tests/scenarios is one: `source.s`, which is assembled,
 # or the object file `image.elf`; `config.cfg`; `journal`; and `report`, what `run` prints, or `fault`, what it says on
-# standard error with status 1. The head of the source says what happens in it. Folders of tests/debugging that have a
+# standard error with status 1; it warns where the journal steps a processor that isn't there. The head of the source
+# says what happens in it. Folders of tests/debugging that have a
 # report are some too, and so are the scenes of crates/rows_board that tests/scenes.reports names (tests/scenes makes
 # their folders); rows_board compares what is seen in registers and memory alone. What no folder can say follows.
 . "$(dirname "$0")/check.sh"
@@ -11,6 +12,16 @@
 run() {
     "$board" run "$5" "$6" "$7" < /dev/null > "$work/out" 2> "$work/err"
     check "run: $1" "$2" "$3" "$4" $?
+}
+
+# warned FOLDER: what `run` warns of there, if of anything: the first processor that is stepped and isn't there.
+warned() {
+    local count
+    count=$(sed -nE 's/^BOARD\(([0-9]+),.*/\1/p' "$1/config.cfg")
+    awk -v count="$count" '/^S / && ($2 < 1 || $2 > count) {
+        print "board: warning: the journal: it steps processor " $2 ", and the board has " count ": these steps do nothing"
+        exit
+    }' "$1/journal"
 }
 
 mkdir "$work/scenes"
@@ -30,7 +41,7 @@ for said in tests/scenarios/*/{report,fault} tests/debugging/*/report "$work"/sc
     if [ "${said##*/}" = fault ]; then
         run "$name" 1 "$work/nothing" "$(cat "$said")" "$image" "$folder/config.cfg" "$folder/journal"
     else
-        run "$name" 0 "$said" "" "$image" "$folder/config.cfg" "$folder/journal"
+        run "$name" 0 "$said" "$(warned "$folder")" "$image" "$folder/config.cfg" "$folder/journal"
     fi
 done
 
@@ -116,6 +127,32 @@ done << END
 2|$work/nothing|; it is empty
 END
 run "all three turned round" 1 "$work/nothing" "board: ${faults[0]}; it looks like a journal" $hello/journal "$work/hello" $hello/config.cfg
+
+# Warnings, with the same report all the same: a processor that isn't there, and a journal with which nothing starts.
+{ cat $hello/journal; printf 'S 2 3\nS 0 1\n'; } > "$work/journal"
+sed 's/^events 6$/events 10/' $hello/report > "$work/wanted"
+absent='these steps do nothing'
+run "a processor that isn't there" 0 "$work/wanted" \
+    "board: warning: the journal: it steps processor 2, and the board has 1: $absent" \
+    "$work/hello" $hello/config.cfg "$work/journal"
+printf 'BOARD(1, 0x10000);\nCRE_TSK(1, {0, 0, _start, 1, 256, NULL});\n' > "$work/dormant.cfg"
+printf 'events 6\ntick 0\noff 0\ncpu 1 idle\ntask 1 dormant pri 1 cpu 1\nconsole 0\n\n' > "$work/wanted"
+idle='no task is started: one that begins at once has the attribute TA_ACT'
+run "no task is started" 0 "$work/wanted" "board: warning: the configuration: $idle" \
+    "$work/hello" "$work/dormant.cfg" $hello/journal
+# None where an interrupt comes, by which tasks may be started, or where there are no events.
+{ cat $hello/journal; echo 'R 1 1'; } > "$work/journal"
+sed 's/^events 6$/events 7/' "$work/wanted" > "$work/raised"
+run "no task is started, but an interrupt comes" 0 "$work/raised" "" "$work/hello" "$work/dormant.cfg" "$work/journal"
+head -n 1 $hello/journal > "$work/journal"
+sed 's/^events 6$/events 0/' "$work/wanted" > "$work/empty"
+run "no task is started, and there are no events" 0 "$work/empty" "" "$work/hello" "$work/dormant.cfg" "$work/journal"
+# Both, of which the first is told; and it isn't played where a fault is told.
+{ cat $hello/journal; echo 'S 9 1'; } > "$work/journal"
+sed 's/^events 6$/events 7/' "$work/wanted" > "$work/both"
+run "two warnings, of which one is told" 0 "$work/both" \
+    "board: warning: the journal: it steps processor 9, and the board has 1: $absent" \
+    "$work/hello" "$work/dormant.cfg" "$work/journal"
 
 # A report that can't be written.
 if [ -e /dev/full ]; then

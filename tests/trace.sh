@@ -214,9 +214,28 @@ off 10 100 > "$work/lines"
 entries --from 100 "${files[@]}"
 has "off from the first event on" "$work/lines" '"ph":"X"'
 
+# Who holds a spin lock, who asks for it, and whose turn it is.
+example spin_lock/spin_lock
+cat > "$work/lines" << 'END'
+{"ph":"X","pid":4,"tid":1,"dur":13,"ts":6,"cat":"held","name":"held by cpu 1"}
+{"ph":"X","pid":4,"tid":1,"dur":5,"ts":20,"cat":"held","name":"held by cpu 2"}
+{"ph":"X","pid":4,"tid":1,"dur":5,"ts":30,"cat":"held","name":"held by cpu 2"}
+{"ph":"X","pid":4,"tid":1,"dur":5,"ts":40,"cat":"held","name":"held by cpu 2"}
+{"ph":"X","pid":4,"tid":1,"dur":5,"ts":84,"cat":"held","name":"held by cpu 1"}
+{"ph":"X","pid":4,"tid":1,"dur":5,"ts":94,"cat":"held","name":"held by cpu 1"}
+{"ph":"X","pid":1,"tid":2,"dur":7,"ts":13,"cat":"spins","name":"spins for lock 1"}
+{"ph":"X","pid":5,"tid":1,"dur":7,"ts":0,"cat":"turn","name":"cpu 1"}
+{"ph":"X","pid":5,"tid":1,"dur":8,"ts":7,"cat":"turn","name":"cpu 2"}
+{"ph":"X","pid":5,"tid":1,"dur":4,"ts":15,"cat":"turn","name":"cpu 1"}
+{"ph":"X","pid":5,"tid":1,"dur":60,"ts":19,"cat":"turn","name":"cpu 2"}
+{"ph":"X","pid":5,"tid":1,"dur":40,"ts":79,"cat":"turn","name":"cpu 1"}
+END
+entries "${files[@]}"
+has "spin locks and turns as json" "$work/lines" '"cat":"(held|spins|turn)"'
+
 if have python3 "the timelines"; then
     # What a timeline says, read by a parser: slices of a track don't overlap, and cover it.
-    for name in data_queue/data_queue interrupt/interrupt lost_update/racy deadlock/deadlock; do
+    for name in data_queue/data_queue interrupt/interrupt lost_update/racy deadlock/deadlock spin_lock/spin_lock; do
         example "$name"
         "$board" trace --format json "${files[@]}" > "$work/out"
         verdict "trace: $name as json" "$(python3 tests/tracks "$work/out" 2>&1)"

@@ -11,6 +11,8 @@ import xml.etree.ElementTree
 
 SECONDS, MEMORY = 60, 3 << 30
 LINE = re.compile(rb"board: [ -~]*\n")
+# What is told of an input that is done all the same.
+WARNINGS = re.compile(rb"(board: warning: [ -~]*\n)*")
 WRONG_LINE = re.compile(rb"error: [ -~\n]*\n\nFor more information, try '--help'\.\n|board: an argument isn't UTF-8\n")
 # What clap says of a wrong command line takes memory itself. This is said where there is none.
 UNTOLD = b"board: the command line is wrong, and there is no memory to say how\n"
@@ -26,6 +28,8 @@ ANY_BOARD = b"BOARD(1, 0x1000000);\n"
 HAS_OPTIONS = ("trace", "journal", "explore", "shrink", "line")
 # These write as they go, so what was written before a fault stands.
 WRITES_IN_PARTS = ("debug", "gdb", "trace")
+# These warn, and what a command line names may be one of them.
+WARN = ("asm", "run", "line")
 # What a search has found is told, and then it ends so.
 FAILS = b"board: a schedule fails\n"
 # The ways in which streams fail: what becomes of descriptors 0, 1 and 2.
@@ -36,10 +40,12 @@ WAYS = (REFUSED, *STREAMS)
 
 
 class Ended:
-    """How a run ended: its status, what it wrote, and the files that it left."""
+    """How a run ended: its status, what it wrote, with its warnings apart, and the files that it left."""
 
     def __init__(self, status, stdout, stderr, files):
-        self.status, self.stdout, self.stderr, self.files = status, stdout, stderr, files
+        self.status, self.stdout, self.files = status, stdout, files
+        self.warnings = WARNINGS.match(stderr).group()
+        self.stderr = stderr[len(self.warnings):]
 
 
 def read(name):
@@ -104,6 +110,8 @@ class Runs:
 
     def form(self, case, ended):
         status, said = ended.status, ended.stderr
+        if ended.warnings and case.kind not in WARN:
+            return f"a warning {ended.warnings[:200]!r}"
         if not 0 <= status <= 4 or status == 2 and case.kind not in HAS_OPTIONS:
             return f"status {status}"
         if said and status == 0 or status in (1, 3, 4) and not LINE.fullmatch(said) \
@@ -146,6 +154,8 @@ class Runs:
             wrong = self.look(case, ended)
         elif (ended.stdout, ended.stderr, ended.files) != (ample.stdout, ample.stderr, ample.files):
             wrong = "another output than with ample memory"
+        elif ended.warnings not in (b"", ample.warnings):
+            wrong = "other warnings than with ample memory"
         return f"{self.way}: {wrong}" if wrong else None
 
     def unfinished(self, case, ended, ample):

@@ -1,0 +1,15 @@
+# Four calls of a function, each with a frame of 16 bytes.
+main:   addiu $a0, $0, 3
+        jal down
+        nop
+        addiu $v0, $0, 3
+        syscall
+down:   addiu $sp, $sp, -16
+        sw $ra, 12($sp)
+        beqz $a0, up
+        addiu $a0, $a0, -1
+        jal down
+        nop
+up:     lw $ra, 12($sp)
+        jr $ra
+        addiu $sp, $sp, 16
