@@ -8,12 +8,12 @@ use Rattle.brd_mem.specs.declared.image.Symbol.{Symbol}
 use Rattle.brd_listing.specs.Places.{is_below, is_nearer, nearer, nearest_of}
 
 -- what was found is at least as near as t
-abbrev Tops : ℕ → Symbol → Option Symbol → Type 0
+abbrev pub Tops : ℕ → Symbol → Option Symbol → Type 0
 Tops address t None = is_below address t ≡ false
 Tops address t (Some s) = is_below address t ≡ true → t.value ≤ s.value
 
 -- what was found is below the address
-abbrev Found : ℕ → Option Symbol → Type 0
+abbrev pub Found : ℕ → Option Symbol → Type 0
 Found address None = Unit {0}
 Found address (Some s) = is_below address s ≡ true
 
@@ -31,7 +31,7 @@ new_by true address s found e = λ below. le_refl s.value
 new_by false address s None e = e
 new_by false address s (Some f) e = λ below. grind (arith, nat_tests, below, e)
 
-found_by : (b : Bool) (address : ℕ) (s : Symbol) (found : Option Symbol) → is_nearer address found s ≡ b → Found address found
+pub found_by : (b : Bool) (address : ℕ) (s : Symbol) (found : Option Symbol) → is_nearer address found s ≡ b → Found address found
     → Found address (if b then Some s else found)
 found_by false address s found e h = h
 found_by true address s None e h = e
@@ -39,13 +39,13 @@ found_by true address s (Some f) e h = grind (arith, nat_tests, e)
 
 -- ---- all symbols
 
-keeps : (address : ℕ) (t : Symbol) (found : Option Symbol) (symbols : List Symbol) → Tops address t found
+pub keeps : (address : ℕ) (t : Symbol) (found : Option Symbol) (symbols : List Symbol) → Tops address t found
     → Tops address t (fold (nearer address) found symbols)
 keeps address t found [] h = h
 keeps address t found (s ∷ ss) h =
     keeps address t (nearer address found s) ss (kept_by (is_nearer address found s) address t s found refl h)
 
-all_tops : (address : ℕ) (found : Option Symbol) (symbols : List Symbol)
+pub all_tops : (address : ℕ) (found : Option Symbol) (symbols : List Symbol)
     → AllByRecursion (λ t. Tops address t (fold (nearer address) found symbols)) symbols
 all_tops address found [] = tt
 all_tops address found (s ∷ ss) = (
@@ -53,7 +53,7 @@ all_tops address found (s ∷ ss) = (
   all_tops address (nearer address found s) ss,
 )
 
-stays_found : (address : ℕ) (found : Option Symbol) (symbols : List Symbol) → Found address found
+pub stays_found : (address : ℕ) (found : Option Symbol) (symbols : List Symbol) → Found address found
     → Found address (fold (nearer address) found symbols)
 stays_found address found [] h = h
 stays_found address found (s ∷ ss) h =

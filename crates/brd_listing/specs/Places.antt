@@ -1,7 +1,8 @@
 -- Which symbol an address goes by, and how that is written.
 use Rattle.std.specs.Prelude.{ℕ, ◌-◌, Bool, ◌&&◌, ◌==◌, nat_le, nat_lt, if◌then◌else◌, List, [], ◌∷◌, ◌++◌, Option}
-use Rattle.std.specs.Prelude.{Some, None, codes}
+use Rattle.std.specs.Prelude.{◌≡◌, Some, None, codes, filter}
 use Rattle.std.specs.List.{fold}
+use Rattle.std.specs.List.Sorted.{IsNonDecreasingBy}
 use Rattle.brd_base.specs.Space.{base, top}
 use Rattle.brd_text.specs.Hex.{hex_of}
 use Rattle.brd_mem.specs.declared.image.Symbol.{Symbol}
@@ -22,6 +23,18 @@ nearer address found s = if is_nearer address found s then Some s else found
 -- RAM has
 abbrev pub nearest_of : List Symbol → ℕ → Option Symbol
 nearest_of symbols address = if nat_lt address top then fold (nearer address) None symbols else None
+
+-- The order in which the nearest one is found by halves: by ascending value, and those of one value as they stand.
+abbrev pub has_value : ℕ → Symbol → Bool
+has_value value s = s.value == value
+
+pub record IsAscending (symbols ascending : List Symbol) : Type 0 where
+  pub rises : IsNonDecreasingBy (λ s. s.value) ascending
+  pub same : (value : ℕ) → filter (has_value value) ascending ≡ filter (has_value value) symbols
+
+-- Of ascending symbols the last one with at most the value of an address is the nearest, if RAM can lie there.
+abbrev pub of_ram : Symbol → Option Symbol
+of_ram s = if nat_le base s.value then Some s else None
 
 -- digits without the zeros before them; the last digit stays
 abbrev pub without_zeros : List ℕ → List ℕ

@@ -43,7 +43,18 @@ fn is_nearer(found: Option<&Symbol>, symbol: &Symbol, address: u32) -> bool
 pub fn write_place(symbols: &[Symbol], address: u32, to: &mut Vec<u8>) -> Result<(), NoMemory>
     ensures { OnOk result (to.new.items ≡ to.old.items ++ places.place_text symbols.now address) }
 {
-    let Some(symbol) = nearest(symbols, address) else {
+    put_by(nearest(symbols, address), address, to)
+}
+
+/// Puts an address at the end, by the symbol that is nearest to it.
+pub(crate) fn put_by(
+    symbol: Option<&Symbol>,
+    address: u32,
+    to: &mut Vec<u8>,
+) -> Result<(), NoMemory>
+    ensures { OnOk result (to.new.items ≡ to.old.items ++ places.text_by (option_map (λ s. s.now) symbol.entry) address) }
+{
+    let Some(symbol) = symbol else {
         to.extend_from_slice(&hex_digits(address))?;
         return Ok(());
     };
