@@ -1,9 +1,11 @@
 //! Processors in a picture: each has a colour of its own, where it holds a spin lock and where it has the turn.
 
-ghost use Rattle.std.specs.Prelude.{◌≤◌};
+ghost use Rattle.std.specs.Prelude.{◌≤◌, OnOk};
+ghost use Rattle.brd_timeline.specs.Bars.{GoesOn};
 
 use crate::layout::{HEIGHT, x_of};
 use crate::number::{put, put_attribute, put_decimal};
+use crate::slice::{put_ink, put_rect, put_span};
 use crate::timeline::Timeline;
 use brd_base::NoMemory;
 
@@ -100,13 +102,14 @@ impl Cpus {
     }
 
     /// Puts at the end which they are: `cpu 1, 3`.
-    pub(crate) fn put(self, to: &mut Vec<u8>) -> Result<(), NoMemory> {
-        let mut between = "cpu ";
+    pub(crate) fn put(self, to: &mut Vec<u8>) -> Result<(), NoMemory>
+        ensures { OnOk result (GoesOn to.old.items to.new.items) }
+    {
+        let mut is_first = true;
         for cpu in 1..9u8 {
             if self.contains(cpu) {
-                put(to, between)?;
-                put_decimal(to, u64::from(cpu))?;
-                between = ", ";
+                put_cpu(to, is_first, cpu)?;
+                is_first = false;
             }
         }
         Ok(())
@@ -123,45 +126,72 @@ impl Bar {
         words: (&str, &str),
     ) -> Result<(), NoMemory>
         requires { y ≤ 2700000 }
+        ensures { OnOk result (GoesOn to.old.items to.new.items) }
     {
         if self.to <= timeline.from || timeline.to <= self.from {
             return Ok(());
         }
         let x = x_of(timeline, self.from);
         let width = x_of(timeline, self.to).saturating_sub(x);
-        put(to, "<rect")?;
-        put_attribute(to, "x", x)?;
-        put_attribute(to, "y", y)?;
-        put_attribute(to, "width", width.max(LEAST_WIDTH))?;
-        put_attribute(to, "height", HEIGHT)?;
-        put(to, " fill=\"")?;
-        put(to, self.cpus.colour())?;
-        put(to, "\"><title>")?;
+        put_rect(
+            to,
+            (x, y),
+            (width.max(LEAST_WIDTH), HEIGHT),
+            self.cpus.colour(),
+        )?;
+        self.put_title(to, words)?;
+        self.put_label(to, x, y, width)
+    }
+
+    /// Puts at the end what a browser shows of the bar under the pointer, and closes it.
+    fn put_title(&self, to: &mut Vec<u8>, words: (&str, &str)) -> Result<(), NoMemory>
+        ensures { OnOk result (GoesOn to.old.items to.new.items) }
+    {
+        put(to, "<title>")?;
+        self.put_cpus(to, words)?;
+        put(to, ", ")?;
+        put_span(to, self.from, self.to)
+    }
+
+    /// Puts the processors at the end, with what stands before and after them.
+    fn put_cpus(&self, to: &mut Vec<u8>, words: (&str, &str)) -> Result<(), NoMemory>
+        ensures { OnOk result (GoesOn to.old.items to.new.items) }
+    {
         put(to, words.0)?;
         self.cpus.put(to)?;
-        put(to, words.1)?;
-        put(to, ", ")?;
-        put_decimal(to, self.from)?;
-        put(to, " to ")?;
-        put_decimal(to, self.to)?;
-        put(to, "</title></rect>\n")?;
-        self.put_label(to, x, y, width)
+        put(to, words.1)
     }
 
     /// Puts the processors in the bar at the end, where it has room for them.
     fn put_label(&self, to: &mut Vec<u8>, x: u32, y: u32, width: u32) -> Result<(), NoMemory>
         requires across { x ≤ 11400 }
         requires down { y ≤ 2700000 }
+        ensures { OnOk result (GoesOn to.old.items to.new.items) }
     {
         let letters = width.saturating_sub(MARGIN) / LETTER;
         if self.cpus.count().saturating_mul(3).saturating_add(2) > letters {
             return Ok(());
         }
-        put(to, "<text pointer-events=\"none\"")?;
-        put_attribute(to, "x", x + MARGIN / 2)?;
-        put_attribute(to, "y", y + 140)?;
-        put(to, " fill=\"#000000\">")?;
+        put_ink(to, "#000000", x + MARGIN / 2, y + 140)?;
         self.cpus.put(to)?;
         put(to, "</text>\n")
     }
+}
+
+/// Puts a processor at the end, the first one or another.
+fn put_cpu(to: &mut Vec<u8>, is_first: bool, cpu: u8) -> Result<(), NoMemory>
+    ensures { OnOk result (GoesOn to.old.items to.new.items) }
+{
+    put_between(to, is_first)?;
+    put_decimal(to, u64::from(cpu))
+}
+
+/// Puts at the end what stands before the first processor or another one.
+fn put_between(to: &mut Vec<u8>, is_first: bool) -> Result<(), NoMemory>
+    ensures { OnOk result (GoesOn to.old.items to.new.items) }
+{
+    if is_first {
+        return put(to, "cpu ");
+    }
+    put(to, ", ")
 }

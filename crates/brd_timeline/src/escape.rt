@@ -1,6 +1,7 @@
 //! Bytes of names and labels in texts that give some bytes a meaning of their own.
 
 ghost use Rattle.std.specs.Prelude.{◌≡◌, ◌++◌, OnOk};
+ghost use Rattle.std.specs.List.{flat_map};
 ghost use Rattle.brd_timeline.specs.Escapes as escapes;
 
 use brd_base::NoMemory;
@@ -28,10 +29,18 @@ pub(crate) fn put_json(to: &mut Vec<u8>, text: &[u8]) -> Result<(), NoMemory>
     ensures { OnOk result (to.new.items ≡ to.old.items ++ escapes.json_string text.now) }
 {
     to.push(b'"')?;
+    put_json_bytes(to, text)?;
+    to.push(b'"')?;
+    Ok(())
+}
+
+/// Puts bytes at the end as they stand in a string of JSON, without its quotes.
+pub(crate) fn put_json_bytes(to: &mut Vec<u8>, text: &[u8]) -> Result<(), NoMemory>
+    ensures { OnOk result (to.new.items ≡ to.old.items ++ flat_map escapes.json_byte text.now) }
+{
     for byte in text {
         put_json_byte(to, *byte)?;
     }
-    to.push(b'"')?;
     Ok(())
 }
 

@@ -1,6 +1,7 @@
 //! Where things stand in a picture, in tenths of a pixel.
 
-ghost use Rattle.std.specs.Prelude.{◌≤◌};
+ghost use Rattle.std.specs.Prelude.{◌≡◌, ◌≤◌};
+ghost use Rattle.brd_timeline.specs.Bars as bars;
 
 use crate::timeline::{Group, Timeline};
 
@@ -35,6 +36,7 @@ pub const MOST_DRAWN: usize = 5_000;
 
 /// Where a position is. One before the picture's first is there, and one after its last is at the end.
 pub(crate) fn x_of(timeline: &Timeline, position: u64) -> u32
+    ensures is { result ≡ bars.x_of timeline.now position }
     ensures left { 1400 ≤ result }
     ensures right { result ≤ 11400 }
 {
@@ -45,7 +47,8 @@ pub(crate) fn x_of(timeline: &Timeline, position: u64) -> u32
 
 /// Which part of `SPAN` a part of a length is.
 fn share_of(part: u64, whole: u64) -> u32
-    ensures { result ≤ 10000 }
+    ensures is { result ≡ bars.share_of part whole }
+    ensures most { result ≤ 10000 }
 {
     if whole == 0 {
         return 0;
@@ -57,14 +60,16 @@ fn share_of(part: u64, whole: u64) -> u32
 /// Where a lane is, with so many lanes before it, and so many gaps.
 fn row_at(place: usize, gaps: u32) -> u32
     requires { gaps ≤ 3 }
-    ensures { result ≤ 2700000 }
+    ensures is { result ≡ bars.row_at place gaps }
+    ensures most { result ≤ 2700000 }
 {
     TOP + gaps * GAP + place.min(10_000) as u32 * STEP
 }
 
 /// Where the lane at a place of the list is.
 pub(crate) fn y_of(place: usize, group: Group) -> u32
-    ensures { result ≤ 3000000 }
+    ensures is { result ≡ bars.y_of place group }
+    ensures most { result ≤ 3000000 }
 {
     match group {
         Group::Processor => row_at(place, 0),

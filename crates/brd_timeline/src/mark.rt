@@ -1,5 +1,8 @@
 //! Marks in a picture. Each kind has a shape of its own, so that it needs no colour.
 
+ghost use Rattle.std.specs.Prelude.{OnOk};
+ghost use Rattle.brd_timeline.specs.Bars.{GoesOn};
+
 use crate::escape::put_xml;
 use crate::layout::{HEIGHT, x_of, y_of};
 use crate::number::{put, put_decimal, put_tenths};
@@ -21,7 +24,9 @@ fn shape_of(kind: MarkKind) -> &'static str {
 }
 
 /// Puts the shape of a kind at the end, at a place; the element stays open.
-pub(crate) fn put_shape(to: &mut Vec<u8>, kind: MarkKind, x: u32, y: u32) -> Result<(), NoMemory> {
+pub(crate) fn put_shape(to: &mut Vec<u8>, kind: MarkKind, x: u32, y: u32) -> Result<(), NoMemory>
+    ensures { OnOk result (GoesOn to.old.items to.new.items) }
+{
     put(to, "<path d=\"M")?;
     put_tenths(to, x)?;
     put(to, " ")?;
@@ -30,8 +35,20 @@ pub(crate) fn put_shape(to: &mut Vec<u8>, kind: MarkKind, x: u32, y: u32) -> Res
     put(to, "\">")
 }
 
+/// Puts the marks at the end that have a lane and lie in the picture.
+pub(crate) fn put_marks(to: &mut Vec<u8>, timeline: &Timeline) -> Result<(), NoMemory>
+    ensures { OnOk result (GoesOn to.old.items to.new.items) }
+{
+    for mark in timeline.marks.iter() {
+        put_mark(to, timeline, mark)?;
+    }
+    Ok(())
+}
+
 /// Puts a mark at the end, where it has a lane and lies in the picture.
-pub(crate) fn put_mark(to: &mut Vec<u8>, timeline: &Timeline, mark: &Mark) -> Result<(), NoMemory> {
+fn put_mark(to: &mut Vec<u8>, timeline: &Timeline, mark: &Mark) -> Result<(), NoMemory>
+    ensures { OnOk result (GoesOn to.old.items to.new.items) }
+{
     let Some(lane) = timeline.lanes.get(mark.lane) else {
         return Ok(());
     };
@@ -45,6 +62,13 @@ pub(crate) fn put_mark(to: &mut Vec<u8>, timeline: &Timeline, mark: &Mark) -> Re
         x_of(timeline, mark.at),
         y_of(mark.lane, lane.group),
     )?;
+    put_title(to, mark, name)
+}
+
+/// Puts at the end what a browser shows of a mark of a kind of this name under the pointer, and closes it.
+fn put_title(to: &mut Vec<u8>, mark: &Mark, name: &str) -> Result<(), NoMemory>
+    ensures { OnOk result (GoesOn to.old.items to.new.items) }
+{
     put(to, "<title>")?;
     put_xml(to, label_or(&mark.label, name))?;
     put(to, " (")?;

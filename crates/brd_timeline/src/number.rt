@@ -1,35 +1,42 @@
 //! Numbers as text.
 
-ghost use Rattle.std.specs.Prelude.{IfOk};
-ghost use Rattle.brd_timeline.specs.Ends.{EndsWith};
+ghost use Rattle.std.specs.Prelude.{◌≡◌, ◌++◌, OnOk};
+ghost use Rattle.std.specs.Fmt.{decimal};
+ghost use Rattle.brd_timeline.specs.Bars as bars;
 
 use brd_base::NoMemory;
 use itoa::Buffer;
 
 /// Puts a text at the end.
 pub(crate) fn put(to: &mut Vec<u8>, text: &str) -> Result<(), NoMemory>
-    ensures { IfOk result (λ _. EndsWith text.now to.new.items) }
+    ensures { OnOk result (to.new.items ≡ to.old.items ++ text.now) }
 {
     to.extend_from_slice(text.as_bytes())?;
     Ok(())
 }
 
 /// Puts a decimal number at the end.
-pub(crate) fn put_decimal(to: &mut Vec<u8>, number: u64) -> Result<(), NoMemory> {
+pub(crate) fn put_decimal(to: &mut Vec<u8>, number: u64) -> Result<(), NoMemory>
+    ensures { OnOk result (to.new.items ≡ to.old.items ++ decimal number) }
+{
     let mut buffer = Buffer::new();
     to.extend_from_slice(buffer.format(number).as_bytes())?;
     Ok(())
 }
 
 /// Puts a number of tenths at the end, as `12.3`.
-pub(crate) fn put_tenths(to: &mut Vec<u8>, tenths: u32) -> Result<(), NoMemory> {
+pub(crate) fn put_tenths(to: &mut Vec<u8>, tenths: u32) -> Result<(), NoMemory>
+    ensures { OnOk result (to.new.items ≡ to.old.items ++ bars.tenths tenths) }
+{
     put_decimal(to, (tenths / 10) as u64)?;
-    to.push(b'.')?;
+    put(to, ".")?;
     put_decimal(to, (tenths % 10) as u64)
 }
 
 /// Puts an attribute at the end whose value is a number of tenths, with a space before it: ` x="12.3"`.
-pub(crate) fn put_attribute(to: &mut Vec<u8>, name: &str, tenths: u32) -> Result<(), NoMemory> {
+pub(crate) fn put_attribute(to: &mut Vec<u8>, name: &str, tenths: u32) -> Result<(), NoMemory>
+    ensures { OnOk result (to.new.items ≡ to.old.items ++ bars.attribute name.now tenths) }
+{
     put(to, " ")?;
     put(to, name)?;
     put(to, "=\"")?;

@@ -1,6 +1,7 @@
 //! A timeline as a picture in SVG.
 
-ghost use Rattle.std.specs.Prelude.{◌≡◌, ◌≤◌, ◌↔◌, IfOk, IsTrue, Err, codes};
+ghost use Rattle.std.specs.Prelude.{◌≡◌, ◌≤◌, ◌↔◌, IfOk, OnOk, IsTrue, Err, codes};
+ghost use Rattle.brd_timeline.specs.Bars.{GoesOn, Holds, slices_text};
 ghost use Rattle.brd_timeline.specs.Ends.{EndsWith};
 ghost use Rattle.brd_timeline.specs.Picture.{IsTooMuch};
 ghost use Rattle.brd_timeline.specs.declared.fault.PictureFault.TheVariants.{TooMuch};
@@ -11,9 +12,9 @@ use crate::fault::PictureFault;
 use crate::layout::{HEIGHT, LEFT, MOST_DRAWN, WIDTH, axes_of, bottom_of, y_of};
 use crate::legend::put_legend;
 use crate::locks::put_locks;
-use crate::mark::put_mark;
+use crate::mark::put_marks;
 use crate::number::{put, put_attribute, put_decimal, put_tenths};
-use crate::slice::put_slice;
+use crate::slice::put_slices;
 use crate::timeline::{Lane, Timeline};
 use crate::turns::put_turns;
 use brd_base::NoMemory;
@@ -29,6 +30,7 @@ use brd_base::NoMemory;
 pub fn svg(timeline: &Timeline, to: &mut Vec<u8>) -> Result<(), PictureFault>
     ensures much { (result ≡ Err TooMuch) ↔ IsTooMuch timeline.now }
     ensures same { result ≡ Err TooMuch → to.new ≡ to.old }
+    ensures slices { OnOk result (Holds (slices_text timeline.now) to.new.items) }
     ensures ends { IfOk result (λ _. EndsWith (codes "</svg>\n") to.new.items) }
 {
     if is_too_much(timeline) {
@@ -50,21 +52,18 @@ fn is_too_much(timeline: &Timeline) -> bool
 
 /// Puts the picture at the end.
 fn put_picture(to: &mut Vec<u8>, timeline: &Timeline) -> Result<(), NoMemory>
-    ensures { IfOk result (λ _. EndsWith (codes "</svg>\n") to.new.items) }
+    ensures slices { OnOk result (Holds (slices_text timeline.now) to.new.items) }
+    ensures ends { IfOk result (λ _. EndsWith (codes "</svg>\n") to.new.items) }
 {
     put_head(to, timeline)?;
     put_legend(to, timeline)?;
     put_events(to, timeline)?;
     put_ticks(to, timeline)?;
     put_lanes(to, timeline)?;
-    for slice in timeline.slices.iter() {
-        put_slice(to, timeline, slice)?;
-    }
+    put_slices(to, timeline)?;
     put_locks(to, timeline)?;
     put_turns(to, timeline)?;
-    for mark in timeline.marks.iter() {
-        put_mark(to, timeline, mark)?;
-    }
+    put_marks(to, timeline)?;
     put(to, "</svg>\n")
 }
 
@@ -112,6 +111,7 @@ fn put_name(to: &mut Vec<u8>, place: usize, lane: &Lane) -> Result<(), NoMemory>
 /// Puts the beginning of a lane's name at the end, of a lane at a place; the element stays open.
 pub(crate) fn put_title(to: &mut Vec<u8>, y: u32) -> Result<(), NoMemory>
     requires { y ≤ 3000000 }
+    ensures { OnOk result (GoesOn to.old.items to.new.items) }
 {
     put(to, "<text text-anchor=\"end\"")?;
     put_attribute(to, "x", LEFT - 80)?;

@@ -1,5 +1,8 @@
 //! Timelines. A place on one is a position: 0 is the boot, and n the board after the first n events.
 
+ghost use Rattle.std.specs.Prelude.{◌≡◌, option_copied, slice_get};
+ghost use Rattle.brd_timeline.specs.Names as names;
+
 /// What a lane is about.
 #[derive(Clone, Copy, PartialEq, Eq)]
 pub enum Group {
@@ -151,7 +154,9 @@ pub struct Timeline {
 }
 
 /// The name of a kind.
-pub(crate) fn kind_name(kind: Kind) -> &'static str {
+pub(crate) fn kind_name(kind: Kind) -> &'static str
+    ensures { result.now ≡ names.kind_name kind }
+{
     match kind {
         Kind::Task => "task",
         Kind::Handler => "handler",
@@ -168,7 +173,9 @@ pub(crate) fn kind_name(kind: Kind) -> &'static str {
 }
 
 /// The name of a kind of marks.
-pub(crate) fn mark_name(kind: MarkKind) -> &'static str {
+pub(crate) fn mark_name(kind: MarkKind) -> &'static str
+    ensures { result.now ≡ names.mark_name kind }
+{
     match kind {
         MarkKind::Call => "call",
         MarkKind::Fault => "fault",
@@ -178,9 +185,18 @@ pub(crate) fn mark_name(kind: MarkKind) -> &'static str {
 }
 
 /// A label, or the name of a kind where it is empty.
-pub(crate) fn label_or<'a>(label: &'a [u8], name: &'a str) -> &'a [u8] {
+pub(crate) fn label_or<'a>(label: &'a [u8], name: &'a str) -> &'a [u8]
+    ensures { result.now ≡ names.label_or label.now name.now }
+{
     if label.is_empty() {
         return name.as_bytes();
     }
     label
+}
+
+/// The lane at a place of the list, if there is one.
+pub(crate) fn lane_at(timeline: &Timeline, place: usize) -> Option<&Lane>
+    ensures { option_copied result ≡ slice_get timeline.now.lanes.items place }
+{
+    timeline.lanes.get(place)
 }

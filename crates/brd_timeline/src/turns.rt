@@ -1,5 +1,8 @@
 //! Turns in a picture: whose steps the events were. Short ones that follow one another are one bar.
 
+ghost use Rattle.std.specs.Prelude.{OnOk};
+ghost use Rattle.brd_timeline.specs.Bars.{GoesOn};
+
 use crate::cpus::{Bar, Cpus};
 use crate::layout::{shows_turns, turns_y};
 use crate::number::put;
@@ -48,7 +51,9 @@ impl Piece {
     }
 
     /// Puts their bar at the end.
-    fn put(&self, to: &mut Vec<u8>, timeline: &Timeline) -> Result<(), NoMemory> {
+    fn put(&self, to: &mut Vec<u8>, timeline: &Timeline) -> Result<(), NoMemory>
+        ensures { OnOk result (GoesOn to.old.items to.new.items) }
+    {
         let words = if self.bar.cpus.count() > 1 {
             ("turns of ", "")
         } else {
@@ -65,7 +70,9 @@ pub(crate) fn least_of(timeline: &Timeline) -> u64 {
 }
 
 /// Puts the lane of the turns at the end, where it is shown.
-pub(crate) fn put_turns(to: &mut Vec<u8>, timeline: &Timeline) -> Result<(), NoMemory> {
+pub(crate) fn put_turns(to: &mut Vec<u8>, timeline: &Timeline) -> Result<(), NoMemory>
+    ensures { OnOk result (GoesOn to.old.items to.new.items) }
+{
     if !shows_turns(timeline) {
         return Ok(());
     }
@@ -88,7 +95,9 @@ fn put_next(
     timeline: &Timeline,
     last: Option<Piece>,
     next: Piece,
-) -> Result<Piece, NoMemory> {
+) -> Result<Piece, NoMemory>
+    ensures { OnOk result (GoesOn to.old.items to.new.items) }
+{
     let Some(last) = last else {
         return Ok(next);
     };

@@ -1,0 +1,2 @@
+mod EventLemmas
+mod TextLemmas
