@@ -1,0 +1,4 @@
+pub mod StateLemmas
+pub mod TurnLemmas
+pub mod WatchLemmas
+pub mod ListLemmas

@@ -1,0 +1,3 @@
+pub mod Spins
+pub mod Since
+pub mod Text

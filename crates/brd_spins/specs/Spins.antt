@@ -1,0 +1,88 @@
+-- A processor that spins: left alone, it does the same few instructions for ever, and they change nothing; or its task
+-- asks again and again for a spin lock that is held.
+use Rattle.std.specs.Prelude.{◌≡◌, ◌≤◌, ◌+◌, ℕ, Bool, true, false, if◌then◌else◌, List, [], ◌∷◌, length, replicate, slice_index, slice_get}
+use Rattle.std.specs.Prelude.{Option, None, Some}
+use Rattle.brd_isa.specs.declared.instruction.Insn.{Insn}
+use Rattle.brd_exec.specs.State.{State}
+use Rattle.brd_board.specs.declared.event.Event.TheVariants.{Step}
+use Rattle.brd_board.specs.Board.{BoardState, happens, after, registers_of}
+use Rattle.brd_happening.specs.declared.call.{Answer.Answer, CallMade.CallMade}
+use Rattle.brd_happening.specs.declared.call.Answer.TheVariants.{Again}
+use Rattle.brd_happening.specs.declared.happening.{What.What}
+use Rattle.brd_happening.specs.declared.happening.What.TheVariants as what
+use Rattle.brd_happening.specs.Happening.{happening_of}
+use Rattle.brd_happening.specs.Telling.{stores_by}
+use Rattle.brd_spins.specs.declared.turn.Turn.{Turn}
+use Rattle.brd_spins.specs.declared.turn.Turn.TheVariants.{Reads, Asks, Other}
+use Rattle.brd_spins.specs.declared.spin.SpinKind.{SpinKind}
+use Rattle.brd_spins.specs.declared.spin.SpinKind.TheVariants.{Loop, Lock}
+use Rattle.brd_spins.specs.declared.spin.Turning.{Turning}
+
+-- an instruction that is told to store, at least where its processor is linked to the address
+abbrev pub may_store : Insn → Bool
+may_store insn = stores_by insn true
+
+abbrev pub turn_called : CallMade → Answer → Turn
+turn_called made Again = Asks (slice_index made.asked.arguments 0)
+turn_called made _ = Other
+
+-- what a processor does in a step in which this happens
+abbrev pub turn_by : What → Turn
+turn_by (what.Instruction it) = if may_store it.insn then Other else Reads
+turn_by (what.Call made) = turn_called made made.answer
+turn_by _ = Other
+
+-- what a processor does in its next step
+abbrev pub turn_of : BoardState → ℕ → Turn
+turn_of b cpu = turn_by (happening_of b (Step cpu)).what
+
+-- the board after so many steps of a processor, with nothing between them
+abbrev pub alone : BoardState → ℕ → ℕ → BoardState
+alone b cpu count = after b (replicate count (Step cpu))
+
+-- Left alone, a processor executes as many instructions as there are registers, each of which stores nothing, with these
+-- registers before them.
+abbrev pub AreTurns : BoardState → ℕ → List State → Type 0
+AreTurns b cpu [] = Unit {0}
+AreTurns b cpu (state ∷ states) =
+    (registers_of b cpu ≡ Some state) × (turn_of b cpu ≡ Reads) × AreTurns (happens b (Step cpu)).board cpu states
+
+-- A processor executes instructions that store nothing, with these registers before them, and then has the registers
+-- again that it has now.
+pub record IsLoop (b : BoardState) (cpu : ℕ) (states : List State) : Type 0 where
+  pub some : 1 ≤ length states
+  pub few : length states ≤ 256
+  pub turns : AreTurns b cpu states
+  pub again : registers_of (alone b cpu (length states)) cpu ≡ registers_of b cpu
+
+-- A processor's task is to make this call again, with these registers: it asks for a spin lock that is held.
+pub record IsAsking (b : BoardState) (cpu lock : ℕ) (states : List State) : Type 0 where
+  pub state : State
+  pub only : states ≡ state ∷ []
+  pub registers : registers_of b cpu ≡ Some state
+  pub asks : turn_of b cpu ≡ Asks lock
+
+-- what a processor does that spins, with its registers before each of the instructions
+abbrev pub IsSpinning : BoardState → ℕ → SpinKind → List State → Type 0
+IsSpinning b cpu (Loop count) states = (count ≡ length states) × IsLoop b cpu states
+IsSpinning b cpu (Lock lock) states = IsAsking b cpu lock states
+
+-- what is known of what a processor does, if it is known to spin
+abbrev pub IsTurning : BoardState → ℕ → List State → Option SpinKind → Type 0
+IsTurning b cpu states None = Unit {0}
+IsTurning b cpu states (Some kind) = IsSpinning b cpu kind states
+
+-- of each processor, by its number less 1
+abbrev pub AreTurnings : BoardState → List Turning → Type 0
+AreTurnings b turnings =
+    (place : ℕ) (turning : Turning) → slice_get turnings place ≡ Some turning
+    → IsTurning b (place + 1) turning.states turning.what
+
+-- a processor has gone on alone, with these registers before each instruction
+pub record HasGone (b : BoardState) (cpu : ℕ) (states : List State) (board : BoardState) : Type 0 where
+  pub turns : AreTurns b cpu states
+  pub there : board ≡ alone b cpu (length states)
+
+abbrev pub reads : Turn → Bool
+reads Reads = true
+reads _ = false

@@ -1,0 +1,5 @@
+//! Tests of brd_spins.
+#![tactic(auto)]
+
+#[cfg(test)]
+mod tests;
