@@ -29,7 +29,7 @@ use Rattle.brd_board.specs.Batch.{AllRun}
 use Rattle.brd_journal.specs.Runs.{copies}
 use Rattle.brd_trace.specs.declared.tasks.TaskSeen.{TaskSeen}
 use Rattle.brd_trace.specs.declared.notes.Notes.{Notes}
-use Rattle.brd_trace.specs.Noted.{IsSeen, tasks_of, Knows, KeepsKnown, may_change}
+use Rattle.brd_trace.specs.Noted.{IsSeen, tasks_of, standings_of, Knows, KeepsKnown, may_change}
 use Rattle.brd_trace.proofs.ThereLemmas.{same-tasks}
 
 -- tasks stand as they did, whatever their contexts, processors do what they did, and the board is on or off as it was
@@ -141,11 +141,15 @@ without-there (Some view) (Some other) same = refl
 pub alike-tasks : (b new : BoardState) → Alike b new → tasks_of new ≡ tasks_of b
 alike-tasks b new alike = same-tasks b new (λ id. without-there (task_of new id) (task_of b id) (alike.tasks id))
 
+pub alike-standings : (b new : BoardState) → Alike b new → standings_of new ≡ standings_of b
+alike-standings b new alike =
+    ap (λ those. None ∷ those) (same-map (standing_of new) (standing_of b) (range_with_len 1 8) alike.standings)
+
 pub alike-known : (b new : BoardState) (notes : Notes) → Alike b new → Knows b notes → Knows new notes
 alike-known b new notes alike knows = record {
   those = knows.those ∙ sym (alike-tasks b new alike);
   tasks = λ i d less. alike.tasks (slice_index_or notes.tasks.items i d).id ∙ knows.tasks i d less;
-  standings = knows.standings ∙ ap (λ those. None ∷ those) (sym (same-map (standing_of new) (standing_of b) (range_with_len 1 8) alike.standings));
+  standings = knows.standings ∙ sym (alike-standings b new alike);
   off = knows.off ∙ sym alike.off;
 }
 

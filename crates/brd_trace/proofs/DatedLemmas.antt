@@ -31,7 +31,7 @@ use Rattle.brd_journal.proofs.StillLemmas.{happens-leaves, raise-told}
 use Rattle.brd_trace.specs.declared.tasks.TaskSeen.{TaskSeen}
 use Rattle.brd_trace.specs.declared.notes.LastFault.{LastFault}
 use Rattle.brd_trace.specs.declared.notes.Notes.{Notes}
-use Rattle.brd_trace.specs.Noted.{seen_of, seen_in, all_seen, tasks_of, IsSeen, Knows, IsNoted, KeepsKnown, may_change}
+use Rattle.brd_trace.specs.Noted.{seen_of, seen_in, all_seen, tasks_of, IsSeen, Knows, KeepsKnown, may_change}
 use Rattle.brd_trace.specs.Dated.{Condition, condition_by, condition_of, Stays, IsSince, IsOff, RaisesAt, RaisesNone, IsLast, IsLastFault, IsDated, Same, Other, FollowsTask, Follows, KeepsFault, KeepsFaults}
 use Rattle.brd_trace.proofs.ThereLemmas.{still-there, same-tasks}
 use Rattle.brd_trace.proofs.NotedLemmas.{changes-none}
@@ -144,12 +144,12 @@ condition-without : (found : Option TaskView) →
 condition-without None = refl
 condition-without (Some view) = refl
 
-alike-condition : (b new : BoardState) (id : ℕ) → Alike b new → condition_of new id ≡ condition_of b id
+pub alike-condition : (b new : BoardState) (id : ℕ) → Alike b new → condition_of new id ≡ condition_of b id
 alike-condition b new id alike =
     condition-without (task_of new id) ∙ ap (option_map condition_by) (alike.tasks id) ∙ sym (condition-without (task_of b id))
 
 -- the condition of a task as it is seen
-abbrev condition_seen : TaskSeen → Condition
+abbrev pub condition_seen : TaskSeen → Condition
 condition_seen it = record { state = it.state; waiting = it.waiting }
 
 same-condition : (old new : TaskSeen) → Same old new new.since → condition_seen new ≡ condition_seen old
@@ -164,7 +164,7 @@ some-condition new old is = (
   ap (λ (c : Option Condition). (unwrap_or c (condition_seen new)).waiting) is,
 )
 
-seen-condition : (b : BoardState) (it : TaskSeen) → IsSeen b it → condition_of b it.id ≡ Some (condition_seen it)
+pub seen-condition : (b : BoardState) (it : TaskSeen) → IsSeen b it → condition_of b it.id ≡ Some (condition_seen it)
 seen-condition b it seen = condition-without (task_of b it.id) ∙ ap (option_map condition_by) seen
 
 quiet-stays : (boot : BoardState) (events : List Event) (id from to : ℕ) → AllQuiet boot events from to → Stays boot events id from to
@@ -428,7 +428,7 @@ module _ (boot : BoardState) (events : List Event) (p : ℕ) (event : Event) (is
 
 pub dated-one : (boot : BoardState) (events : List Event) (p : ℕ) (event : Event) (mid new : Notes) (told : Report) (cpu : ℕ)
     (who : Option Standing) → slice_get events p ≡ Some event → told ≡ (happens (board_at boot events p) event).report →
-    may_change told ≡ true → IsNoted boot events p mid → IsNoted boot events (suc p) new →
+    may_change told ≡ true → Knows (board_at boot events p) mid → Knows (board_at boot events (suc p)) new →
     Follows (board_at boot events (suc p)) p mid new → KeepsFaults told p cpu who mid.faults.items new.faults.items →
     ((n : ℕ) → event ≡ Step n → (cpu ≡ n) × (who ≡ standing_of (board_at boot events p) n)) →
     IsDated boot events p mid → IsDated boot events (suc p) new
@@ -451,22 +451,26 @@ dated-one boot events p event mid new told cpu who is tells changes noted noted_
 
 -- ---- an event, with those after it that do nothing
 
-at-first : (boot : BoardState) (events : List Event) (at to : ℕ) → Quiet boot events at → AllQuiet boot events (at + 1) to →
+pub at-first : (boot : BoardState) (events : List Event) (at to : ℕ) → Quiet boot events at → AllQuiet boot events (at + 1) to →
     AllQuiet boot events at to
 at-first boot events at to one more p above below =
     ⊎_elim
     (λ less. let same : at ≡ p = omega (arith, less, above) in subst (Quiet boot events) same one)
     (λ past. more p past below) (cases_lt p (at + 1))
 
+pub event-first : (events : List Event) (at count : ℕ) (rest : Run) → ComesBehind events at rest → 1 ≤ count → count ≤ rest.count →
+    slice_get events at ≡ Some rest.event
+event-first events at count rest comes some few =
+    let here : at + 0 ≡ at = omega arith in
+    subst (λ (k : ℕ). slice_get events k ≡ Some rest.event) here (run-at events at 0 rest comes (omega (arith, some, few)))
+
 module _ (boot : BoardState) (events : List Event) (at count : ℕ) (rest : Run) (b next : BoardState) (mid new : Notes) (told : Report)
     (cpu : ℕ) (who : Option Standing) (is : b ≡ board_at boot events at) (leaves : next ≡ (happens b rest.event).board)
     (comes : ComesBehind events at rest) (some : 1 ≤ count) (few : count ≤ rest.count)
     (over : 1 < count → does_no_more rest.event (happens b rest.event).report ≡ true)
-    (reports : told ≡ (happens b rest.event).report) (noted : IsNoted boot events at mid) (dated : IsDated boot events at mid) where
+    (reports : told ≡ (happens b rest.event).report) (noted : Knows (board_at boot events at) mid) (dated : IsDated boot events at mid) where
   first : slice_get events at ≡ Some rest.event
-  first =
-      let here : at + 0 ≡ at = omega arith in
-      subst (λ (k : ℕ). slice_get events k ≡ Some rest.event) here (run-at events at 0 rest comes (omega (arith, some, few)))
+  first = event-first events at count rest comes some few
 
   tells : told ≡ (happens (board_at boot events at) rest.event).report
   tells = reports ∙ ap (λ (x : BoardState). (happens x rest.event).report) is

@@ -1,3 +1,4 @@
+pub mod LinksLemmas
 pub mod TraceLemmas
 pub mod RanLemmas
 pub mod PutLemmas
@@ -6,5 +7,8 @@ pub mod ThereLemmas
 pub mod AlikeLemmas
 pub mod NotedLemmas
 pub mod DatedLemmas
+pub mod SlicesLemmas
 pub mod FollowLemmas
+pub mod LoadedLemmas
+pub mod LastStepLemmas
 pub mod SummaryLemmas

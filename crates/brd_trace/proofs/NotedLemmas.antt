@@ -17,7 +17,7 @@ use Rattle.brd_journal.specs.Playing.{board_at, AllGoOn}
 use Rattle.brd_journal.specs.Runs.{copies}
 use Rattle.brd_trace.specs.declared.tasks.TaskSeen.{TaskSeen}
 use Rattle.brd_trace.specs.declared.notes.Notes.{Notes}
-use Rattle.brd_trace.specs.Noted.{seen_of, IsSeen, seen_in, all_seen, tasks_of, standings_of, off_by, Knows, IsNoted, KeepsKnown, may_change}
+use Rattle.brd_trace.specs.Noted.{seen_of, IsSeen, seen_in, all_seen, tasks_of, standings_of, off_by, Knows, KeepsKnown, may_change}
 use Rattle.brd_trace.specs.Telling.{is_ran}
 use Rattle.brd_trace.proofs.ThereLemmas.{still-there, same-tasks}
 use Rattle.brd_trace.proofs.AlikeLemmas.{Alike, unchanged, many-alike, alike-known, kept-known}
@@ -121,10 +121,10 @@ known-by false b next event mid new told changes leaves reports knows kept known
 
 pub noted-on : (boot : BoardState) (events : List Event) (from to : ℕ) (b next : BoardState) (event : Event) (old mid new : Notes)
     (told : Report) → b ≡ board_at boot events from → next ≡ board_at boot events to → next ≡ (happens b event).board →
-    told ≡ (happens b event).report → IsNoted boot events from old → KeepsKnown old mid →
+    told ≡ (happens b event).report → Knows (board_at boot events from) old → KeepsKnown old mid →
     (may_change told ≡ false → KeepsKnown mid new) →
     (may_change told ≡ true → map (λ (it : TaskSeen). it.id) mid.tasks.items ≡ tasks_of next → Knows next new) →
-    IsNoted boot events to new
+    Knows (board_at boot events to) new
 noted-on boot events from to b next event old mid new told is ends leaves reports noted kept_mid kept known =
     subst (λ x. Knows x new) ends
     (known-by (may_change told) b next event mid new told refl leaves reports
@@ -146,7 +146,7 @@ changes-none report.Raised is = refl
 
 pub noted-ran : (boot : BoardState) (events : List Event) (from to : ℕ) (b next : BoardState) (event : Event) (notes : Notes)
     (told : Report) → b ≡ board_at boot events from → next ≡ board_at boot events to → next ≡ (happens b event).board →
-    told ≡ (happens b event).report → is_ran told ≡ true → IsNoted boot events from notes → IsNoted boot events to notes
+    told ≡ (happens b event).report → is_ran told ≡ true → Knows (board_at boot events from) notes → Knows (board_at boot events to) notes
 noted-ran boot events from to b next event notes told is ends leaves reports ran noted =
     subst (λ x. Knows x notes) ends
     (alike-known b next notes
@@ -156,7 +156,7 @@ noted-ran boot events from to b next event notes told is ends leaves reports ran
 -- many steps that only execute an instruction
 pub noted-far : (boot : BoardState) (events : List Event) (from to : ℕ) (b next : BoardState) (event : Event) (count : ℕ) (notes : Notes) →
     b ≡ board_at boot events from → next ≡ board_at boot events to → next ≡ after b (copies event count) → AllGoOn b event count →
-    IsNoted boot events from notes → IsNoted boot events to notes
+    Knows (board_at boot events from) notes → Knows (board_at boot events to) notes
 noted-far boot events from to b next event count notes is ends leaves ran noted =
     subst (λ x. Knows x notes) ends
     (alike-known b next notes (subst (Alike b) (sym leaves) (many-alike b event count ran)) (subst (λ x. Knows x notes) (sym is) noted))

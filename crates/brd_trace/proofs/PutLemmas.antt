@@ -20,21 +20,21 @@ nothing p = record { same = refl; none = refl }
 
 -- ---- an instruction
 
-pub instruction_hidden : (manner : Manner) (position : ℕ) (told : Happening) (it : Instruction) (p : Printer) (a : List ℕ)
-    → shows_instruction p.options manner.words.now told.cpu it ≡ false → IsBehind (TellsInstruction manner position told it p p) a a
-instruction_hidden manner position told it p a off = record {
+pub instruction_hidden : (manner : Manner) (position : ℕ) (told : Happening) (it : Instruction) (ended : List ℕ) (p : Printer) (a : List ℕ)
+    → shows_instruction p.options manner.words.now told.cpu it ≡ false → IsBehind (TellsInstruction manner position told it ended p p) a a
+instruction_hidden manner position told it ended p a off = record {
   text = [];
   is_it = record { shown = λ is. absurd (false≢true (sym off ∙ is)); hidden = λ is. nothing p };
   behind = sym (append-nil a);
 }
 
-pub instruction_line : (manner : Manner) (position : ℕ) (told : Happening) (it : Instruction) (old new : Printer) (what a b : List ℕ)
+pub instruction_line : (manner : Manner) (position : ℕ) (told : Happening) (it : Instruction) (ended : List ℕ) (old new : Printer) (what a b : List ℕ)
     → shows_instruction old.options manner.words.now told.cpu it ≡ true
-    → IsToldOf (form_of manner old.options) (unwrap_or told.place 0) it what
+    → IsToldOf (form_of manner old.options) (unwrap_or told.place 0) it ended what
     → new ≡ with_held old None
     → b ≡ a ++ held_text manner.names.symbols.now old.held ++ told_text manner.names.symbols.now position told what
-    → IsBehind (TellsInstruction manner position told it old new) a b
-instruction_line manner position told it old new what a b on is printer line = record {
+    → IsBehind (TellsInstruction manner position told it ended old new) a b
+instruction_line manner position told it ended old new what a b on is printer line = record {
   text = held_text manner.names.symbols.now old.held ++ told_text manner.names.symbols.now position told what;
   is_it = record {
     shown = λ _. record { what = what; is_told = is; printer = printer; line = refl };
@@ -90,25 +90,25 @@ line_and_more symbols position count told words concerned more old middle new a 
 
 -- ---- any event
 
-module _ (manner : Manner) (position count : ℕ) (told : Happening) (old new : Printer) (a b : List ℕ) where
+module _ (manner : Manner) (position count : ℕ) (told : Happening) (ended : List ℕ) (old new : Printer) (a b : List ℕ) where
   pub an_instruction : (it : Instruction) → instruction_in told.what ≡ Some it
-      → IsBehind (TellsInstruction manner position told it old new) a b → IsBehind (Tells manner position count told old new) a b
+      → IsBehind (TellsInstruction manner position told it ended old new) a b → IsBehind (Tells manner position count told ended old new) a b
   an_instruction it is puts =
-      subst (λ (o : Option Instruction). IsBehind (TellsBy o (is_untold told.what) (quiet_of told) manner position count told old new) a b)
+      subst (λ (o : Option Instruction). IsBehind (TellsBy o (is_untold told.what) (quiet_of told) manner position count told ended old new) a b)
       (sym is) puts
 
   pub another : instruction_in told.what ≡ None → is_untold told.what ≡ false
       → IsBehind (TellsOther (quiet_of told) manner.names.symbols.now position count told old new) a b
-      → IsBehind (Tells manner position count told old new) a b
+      → IsBehind (Tells manner position count told ended old new) a b
   another is_none is_told puts =
-      subst (λ (o : Option Instruction). IsBehind (TellsBy o (is_untold told.what) (quiet_of told) manner position count told old new) a b)
+      subst (λ (o : Option Instruction). IsBehind (TellsBy o (is_untold told.what) (quiet_of told) manner position count told ended old new) a b)
       (sym is_none)
-      (subst (λ (u : Bool). IsBehind (TellsBy None u (quiet_of told) manner position count told old new) a b) (sym is_told) puts)
+      (subst (λ (u : Bool). IsBehind (TellsBy None u (quiet_of told) manner position count told ended old new) a b) (sym is_told) puts)
 
-pub untold : (manner : Manner) (position count : ℕ) (told : Happening) (p : Printer) (a : List ℕ) → instruction_in told.what ≡ None
-    → is_untold told.what ≡ true → IsBehind (Tells manner position count told p p) a a
-untold manner position count told p a is_none is_untold_ =
-    subst (λ (o : Option Instruction). IsBehind (TellsBy o (is_untold told.what) (quiet_of told) manner position count told p p) a a)
+pub untold : (manner : Manner) (position count : ℕ) (told : Happening) (ended : List ℕ) (p : Printer) (a : List ℕ) → instruction_in told.what ≡ None
+    → is_untold told.what ≡ true → IsBehind (Tells manner position count told ended p p) a a
+untold manner position count told ended p a is_none is_untold_ =
+    subst (λ (o : Option Instruction). IsBehind (TellsBy o (is_untold told.what) (quiet_of told) manner position count told ended p p) a a)
     (sym is_none)
-    (subst (λ (u : Bool). IsBehind (TellsBy None u (quiet_of told) manner position count told p p) a a) (sym is_untold_)
+    (subst (λ (u : Bool). IsBehind (TellsBy None u (quiet_of told) manner position count told ended p p) a a) (sym is_untold_)
     (record { text = []; is_it = nothing p; behind = sym (append-nil a) }))

@@ -1,7 +1,7 @@
 -- What is told of an instruction that was done: the instruction as it was found, what it wrote, what of memory it loaded
 -- or stored, and where it led.
-use Rattle.std.specs.Prelude.{◌≡◌, ℕ, ◌-◌, ◌*◌, ◌/◌, ◌%◌, ◌==◌, Bool, true, false, nat_le, nat_lt, ◌&&◌}
-use Rattle.std.specs.Prelude.{if◌then◌else◌, List, [], ◌∷◌, ◌++◌, length, take, drop, codes, Option, Some, None}
+use Rattle.std.specs.Prelude.{◌≡◌, ◌≤◌, ℕ, ◌+◌, ◌-◌, ◌*◌, ◌/◌, ◌%◌, ◌==◌, Bool, true, false, nat_le, nat_lt}
+use Rattle.std.specs.Prelude.{◌&&◌, max, if◌then◌else◌, List, [], ◌∷◌, ◌++◌, length, take, drop, codes, Option, Some, None}
 use Rattle.std.specs.List.{list_any}
 use Rattle.std.specs.Fmt.{decimal}
 use Rattle.std.specs.Option.{option_and_then}
@@ -55,15 +55,48 @@ source_by before (Some it) = before ++ name_of it.file ++ 58 ∷ decimal it.line
 abbrev pub source_text : List ℕ → Names → ℕ → List ℕ
 source_text before names address = source_by before (source_at names address)
 
--- the address of code by the nearest symbol and as digits, with its line
+-- ---- code
+
+-- the address after what a segment loads, where it loads something, and nothing above an address; else 0
+abbrev pub end_below : ℕ → Segment → ℕ
+end_below address segment =
+    if nat_lt 0 (length segment.bytes) && nat_le (segment.address + length segment.bytes) address
+    then segment.address + length segment.bytes
+    else 0
+
+-- the greatest of these
+abbrev pub last_end : ℕ → List Segment → ℕ
+last_end address [] = 0
+last_end address (segment ∷ segments) = max (end_below address segment) (last_end address segments)
+
+-- nothing is loaded from an address on up to another one
+abbrev pub LoadsNone : List Segment → ℕ → ℕ → Type 0
+LoadsNone segments from to = (p : ℕ) → from ≤ p → p ≤ to → is_loaded segments p ≡ false
+
+-- the last word that what is loaded below an address has a byte of
+abbrev pub loaded_text : List Symbol → ℕ → List ℕ
+loaded_text symbols end =
+    if end == 0 then []
+    else codes ", past what is loaded, which ends with " ++ place_text symbols (end - 1 - (end - 1) % 4)
+
+-- where nothing is loaded at an address, but something below it
+abbrev pub past_text : Names → ℕ → List ℕ
+past_text names address =
+    if is_loaded names.segments.now address then []
+    else loaded_text names.symbols.now (last_end address names.segments.now)
+
+-- the address of code by the nearest symbol and as digits, with its line, and whether it is past what is loaded
 abbrev pub code_brackets : Option Symbol → ℕ → List ℕ → List ℕ
-code_brackets None address source = source
-code_brackets (Some symbol) address source = codes " (" ++ hex_of address ++ source ++ codes ")"
+code_brackets None address more = more
+code_brackets (Some symbol) address more = codes " (" ++ hex_of address ++ more ++ codes ")"
+
+abbrev pub code_more : Names → ℕ → List ℕ
+code_more names address = source_text (codes ", ") names address ++ past_text names address
 
 abbrev pub code_text : Names → ℕ → List ℕ
 code_text names address =
     place_text names.symbols.now address
-    ++ code_brackets (nearest_of names.symbols.now address) address (source_text (codes ", ") names address)
+    ++ code_brackets (nearest_of names.symbols.now address) address (code_more names address)
 
 -- ---- what was written
 
@@ -171,8 +204,9 @@ effect_text form it =
     ++ access_text form (part_of it.insn) it.access
     ++ jump_text form.names.symbols.now (is_branch it.insn) it.jump ++ slot_text it.in_slot
 
--- A text is what is told of an instruction at an address: the instruction, what it did, and the line of its source.
-pub record IsToldOf (form : Form) (address : ℕ) (it : Instruction) (text : List ℕ) : Type 0 where
+-- A text is what is told of an instruction at an address: the instruction, what it did, a text of the links that it ended,
+-- and the line of its source.
+pub record IsToldOf (form : Form) (address : ℕ) (it : Instruction) (ended text : List ℕ) : Type 0 where
   pub insn : List ℕ
   pub listed : IsListed it.insn address insn
-  pub is : text ≡ insn ++ effect_text form it ++ source_text (codes "; ") form.names address
+  pub is : text ≡ insn ++ effect_text form it ++ ended ++ source_text (codes "; ") form.names address

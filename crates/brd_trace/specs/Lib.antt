@@ -1,9 +1,12 @@
 pub mod Lines
+pub mod Links
 pub mod Effects
 pub mod Quiets
 pub mod Words
+pub mod Lanes
 pub mod Noted
 pub mod Dated
 pub mod Telling
 pub mod Races
 pub mod Summary
+pub mod Slices

@@ -5,15 +5,14 @@ use Rattle.std.specs.List.{filter_map, range_with_len}
 use Rattle.brd_tasks.specs.declared.task.TaskView.{TaskView}
 use Rattle.brd_tasks.specs.Tasks.{no_context}
 use Rattle.brd_kernel.specs.declared.processor.Standing.{Standing}
-use Rattle.brd_board.specs.declared.event.Event.{Event}
 use Rattle.brd_board.specs.declared.event.Report.{Report}
 use Rattle.brd_board.specs.declared.event.Report.TheVariants as report
 use Rattle.brd_board.specs.Board.{BoardState, task_of, standing_of}
 use Rattle.brd_board.specs.Runs.{without_context}
-use Rattle.brd_journal.specs.Playing.{board_at}
 use Rattle.brd_happening.specs.Release.{asked_of}
 use Rattle.brd_trace.specs.declared.tasks.TaskSeen.{TaskSeen}
 use Rattle.brd_trace.specs.declared.notes.Notes.{Notes}
+use Rattle.brd_trace.specs.Lanes.{lanes_of}
 
 -- ---- a task
 
@@ -79,10 +78,6 @@ pub record Knows (board : BoardState) (notes : Notes) : Type 0 where
   pub standings : notes.standings.of ≡ standings_of board
   pub off : is_some notes.off ≡ board.kernel.off
 
--- so it is of the board after the first n events
-abbrev pub IsNoted : BoardState → List Event → ℕ → Notes → Type 0
-IsNoted boot events at notes = Knows (board_at boot events at) notes
-
 -- ---- what changes it
 
 -- An event that reports this may change how tasks stand, what processors do, or whether the board is off. (No other
@@ -100,9 +95,10 @@ may_change report.Idle = false
 may_change report.TimeOver = false
 may_change report.Raised = false
 
--- what is known of the board stays
+-- what is known of the board stays, and what goes on in the lanes of a timeline
 pub record KeepsKnown (old new : Notes) : Type 0 where
   pub tasks : new.tasks ≡ old.tasks
   pub standings : new.standings ≡ old.standings
   pub off : new.off ≡ old.off
   pub faults : new.faults ≡ old.faults
+  pub recorded : option_map lanes_of new.recording ≡ option_map lanes_of old.recording

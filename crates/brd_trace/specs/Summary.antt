@@ -1,8 +1,8 @@
 -- What a summary says of how a board stands after the events of a journal.
-use Rattle.std.specs.Prelude.{◌≡◌, ℕ, List, [], ◌∷◌, ◌++◌, codes, slice_index_or}
+use Rattle.std.specs.Prelude.{◌≡◌, ◌≢◌, ℕ, suc, ◌<◌, ◌≤◌, List, [], ◌∷◌, ◌++◌, codes, slice_get, slice_index_or}
 use Rattle.std.specs.Prelude.{Option, None, Some}
 use Rattle.std.specs.Option.{option_map}
-use Rattle.std.specs.List.{flat_map, range_with_len}
+use Rattle.std.specs.List.{range_with_len}
 use Rattle.std.specs.Fmt.{decimal}
 use Rattle.brd_tasks.specs.declared.status.TaskState.{TaskState}
 use Rattle.brd_tasks.specs.declared.status.WaitReason.{WaitReason}
@@ -10,8 +10,8 @@ use Rattle.brd_tasks.specs.declared.status.WaitReason.TheVariants as reason
 use Rattle.brd_tasks.specs.declared.status.WaitKind.{WaitKind}
 use Rattle.brd_tasks.specs.declared.task.TaskView.{TaskView}
 use Rattle.brd_kernel.specs.declared.processor.Standing.{Standing}
-use Rattle.brd_mem.specs.declared.image.Symbol.{Symbol}
 use Rattle.brd_board.specs.declared.event.Event.{Event}
+use Rattle.brd_board.specs.declared.event.Event.TheVariants.{Step}
 use Rattle.brd_board.specs.Board.{BoardState, task_of, standing_of}
 use Rattle.brd_board.specs.Runs.{without_context}
 use Rattle.brd_journal.specs.Playing.{board_at}
@@ -19,8 +19,9 @@ use Rattle.brd_timeline.specs.Ends.{EndsWith}
 use Rattle.brd_trace.specs.declared.tasks.TaskSeen.{TaskSeen}
 use Rattle.brd_trace.specs.declared.notes.LastFault.{LastFault}
 use Rattle.brd_trace.specs.declared.notes.Notes.{Notes}
+use Rattle.brd_trace.specs.declared.names.Names.{Names}
 use Rattle.brd_trace.specs.Lines.{named_text, who_text}
-use Rattle.brd_trace.specs.Effects.{both_text}
+use Rattle.brd_trace.specs.Effects.{code_text}
 use Rattle.brd_trace.specs.Noted.{tasks_of}
 use Rattle.brd_trace.specs.Dated.{IsSince, IsOff, IsLastFault}
 
@@ -54,36 +55,58 @@ abbrev pub fault_front : LastFault → List ℕ
 fault_front it =
     codes "  last exception at event " ++ decimal it.position ++ codes ", of " ++ who_text it.who
 
-abbrev pub fault_behind : List Symbol → LastFault → List ℕ
-fault_behind symbols it = codes " at " ++ both_text symbols it.place ++ codes ": " ++ it.what.items ++ codes "\n"
+abbrev pub fault_behind : Names → LastFault → List ℕ
+fault_behind names it = codes " at " ++ code_text names it.place ++ codes ": " ++ it.what.items ++ codes "\n"
 
-abbrev pub fault_text : List Symbol → LastFault → List ℕ
-fault_text symbols it = fault_front it ++ fault_behind symbols it
+abbrev pub fault_text : Names → LastFault → List ℕ
+fault_text names it = fault_front it ++ fault_behind names it
 
-abbrev pub last_text : List Symbol → Option LastFault → List ℕ
-last_text symbols None = []
-last_text symbols (Some it) = fault_text symbols it
+abbrev pub last_text : Names → Option LastFault → List ℕ
+last_text names None = []
+last_text names (Some it) = fault_text names it
 
--- what a processor does, where there is one of that number, and its last exception
-abbrev pub processor_text : List Symbol → ℕ → Option Standing → Option LastFault → List ℕ
-processor_text symbols cpu None last = []
-processor_text symbols cpu (Some standing) last =
-    named_text (codes "cpu") cpu ++ standing_text (Some standing) ++ codes "\n" ++ last_text symbols last
+-- ---- the last step of a processor
+
+-- from a position on, before another one, no event is a step of it
+abbrev pub StepsNone : List Event → ℕ → ℕ → ℕ → Type 0
+StepsNone events cpu from to = (p : ℕ) → from ≤ p → p < to → slice_get events p ≢ Some (Step cpu)
+
+-- Before the position after n events: the last step of the processor is the event of this position; it did none, where
+-- none is named.
+abbrev pub IsLastStep : List Event → ℕ → ℕ → Option ℕ → Type 0
+IsLastStep events n cpu None = StepsNone events cpu 0 n
+IsLastStep events n cpu (Some p) = (p < n) × (slice_get events p ≡ Some (Step cpu)) × StepsNone events cpu (suc p) n
+
+abbrev pub step_text : Option ℕ → List ℕ
+step_text None = codes ", no step"
+step_text (Some position) = named_text (codes ", last step at event") position
+
+-- ---- what is said of a processor
+
+-- what it does, its last step, and its last exception
+abbrev pub processor_text : Names → ℕ → Option Standing → Option ℕ → Option LastFault → List ℕ
+processor_text names cpu standing step last =
+    named_text (codes "cpu") cpu ++ standing_text standing ++ step_text step ++ codes "\n" ++ last_text names last
+
+-- that is said where there is one of that number, else nothing
+abbrev pub IsOfProcessor : Names → List Event → ℕ → ℕ → Option Standing → Option LastFault → List ℕ → Type 0
+IsOfProcessor names events n cpu None last text = text ≡ []
+IsOfProcessor names events n cpu (Some standing) last text =
+    (step : Option ℕ) × IsLastStep events n cpu step
+    × (text ≡ processor_text names cpu (Some standing) step last)
 
 -- as it is known
-abbrev pub processor_known : List Symbol → Notes → ℕ → List ℕ
-processor_known symbols notes cpu =
-    processor_text symbols cpu (slice_index_or notes.standings.of cpu None) (slice_index_or notes.faults.items cpu None)
+abbrev pub IsKnownProcessor : Names → List Event → ℕ → Notes → ℕ → List ℕ → Type 0
+IsKnownProcessor names events n notes cpu text =
+    IsOfProcessor names events n cpu (slice_index_or notes.standings.of cpu None)
+    (slice_index_or notes.faults.items cpu None) text
 
-abbrev pub processors_text : List Symbol → Notes → List ℕ
-processors_text symbols notes = flat_map (processor_known symbols notes) (range_with_len 1 8)
-
--- It is said what it does, and its last exception.
-pub record IsProcessor (symbols : List Symbol) (boot : BoardState) (events : List Event) (n cpu : ℕ) (text : List ℕ)
+-- as it stands
+pub record IsProcessor (names : Names) (boot : BoardState) (events : List Event) (n cpu : ℕ) (text : List ℕ)
     : Type 0 where
   pub last : Option LastFault
   pub is_last : IsLastFault boot events n cpu last
-  pub lines : text ≡ processor_text symbols cpu (standing_of (board_at boot events n) cpu) last
+  pub is : IsOfProcessor names events n cpu (standing_of (board_at boot events n) cpu) last text
 
 -- ---- a task
 
@@ -122,20 +145,20 @@ IsWait None due text = text ≡ []
 IsWait (Some reason) due text = EndsWith (wait_text reason due) text
 
 -- a task's line: its state and since when, where it is, and what is said of its wait
-abbrev pub task_text : List Symbol → ℕ → TaskState → Option ℕ → ℕ → List ℕ → List ℕ
-task_text symbols id state since place wait =
+abbrev pub task_text : Names → ℕ → TaskState → Option ℕ → ℕ → List ℕ → List ℕ
+task_text names id state since place wait =
     named_text (codes "task") id ++ codes " " ++ state_text state ++ since_text since ++ codes ", at "
-    ++ both_text symbols place ++ wait ++ codes "\n"
+    ++ code_text names place ++ wait ++ codes "\n"
 
 -- as it is known
-pub record IsTaskLine (symbols : List Symbol) (it : TaskSeen) (text : List ℕ) : Type 0 where
+pub record IsTaskLine (names : Names) (it : TaskSeen) (text : List ℕ) : Type 0 where
   pub place : ℕ
   pub wait : List ℕ
   pub is_wait : IsWait it.waiting it.due wait
-  pub line : text ≡ task_text symbols it.id it.state it.since place wait
+  pub line : text ≡ task_text names it.id it.state it.since place wait
 
 -- It is the line of the task as it stands; of the place nothing is said.
-pub record IsTask (symbols : List Symbol) (boot : BoardState) (events : List Event) (n id : ℕ) (text : List ℕ)
+pub record IsTask (names : Names) (boot : BoardState) (events : List Event) (n id : ℕ) (text : List ℕ)
     : Type 0 where
   pub view : TaskView
   pub since : Option ℕ
@@ -144,7 +167,7 @@ pub record IsTask (symbols : List Symbol) (boot : BoardState) (events : List Eve
   pub is_view : option_map without_context (task_of (board_at boot events n) id) ≡ Some view  -- whatever its context
   pub is_since : IsSince boot events n id since
   pub is_wait : IsWait view.waiting view.due wait
-  pub line : text ≡ task_text symbols id view.state since place wait
+  pub line : text ≡ task_text names id view.state since place wait
 
 -- ---- all of it
 
@@ -155,11 +178,11 @@ AreTexts IsOf (x ∷ xs) text =
     (first : List ℕ) × (rest : List ℕ) × IsOf x first × AreTexts IsOf xs rest × (text ≡ first ++ rest)
 
 -- the processors, then the tasks, by rising number; and more
-pub record IsSummary (symbols : List Symbol) (boot : BoardState) (events : List Event) (n : ℕ) (text : List ℕ)
+pub record IsSummary (names : Names) (boot : BoardState) (events : List Event) (n : ℕ) (text : List ℕ)
     : Type 0 where
   pub processors : List ℕ
   pub tasks : List ℕ
   pub rest : List ℕ
-  pub are_processors : AreTexts (IsProcessor symbols boot events n) (range_with_len 1 8) processors
-  pub are_tasks : AreTexts (IsTask symbols boot events n) (tasks_of (board_at boot events n)) tasks
+  pub are_processors : AreTexts (IsProcessor names boot events n) (range_with_len 1 8) processors
+  pub are_tasks : AreTexts (IsTask names boot events n) (tasks_of (board_at boot events n)) tasks
   pub is : text ≡ processors ++ tasks ++ rest

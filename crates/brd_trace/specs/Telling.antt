@@ -20,6 +20,7 @@ use Rattle.brd_trace.specs.declared.quiet.Quiet.TheVariants as quiet
 use Rattle.brd_trace.specs.declared.printer.{Options.Options, Manner.Manner, Printer.Printer}
 use Rattle.brd_trace.specs.Lines.{line_text}
 use Rattle.brd_trace.specs.Effects.{IsToldOf}
+use Rattle.brd_trace.specs.Links.{ended_by}
 use Rattle.brd_trace.specs.Quiets as quiets
 use Rattle.brd_trace.specs.Quiets.{quiet_of, tick_of}
 
@@ -127,21 +128,21 @@ pub record TellsNothing (old new : Printer) (text : List ℕ) : Type 0 where
 abbrev pub form_of : Manner → Options → Form
 form_of manner options = record { names = manner.names; order = manner.order; old = options.touching }
 
--- the line of an instruction that was done is put at the end
-pub record PutsInstruction (manner : Manner) (position : ℕ) (told : Happening) (it : Instruction) (old new : Printer)
-    (text : List ℕ) : Type 0 where
+-- the line of an instruction that was done is put at the end, with what is said of the links that it ended
+pub record PutsInstruction (manner : Manner) (position : ℕ) (told : Happening) (it : Instruction) (ended : List ℕ)
+    (old new : Printer) (text : List ℕ) : Type 0 where
   pub what : List ℕ
-  pub is_told : IsToldOf (form_of manner old.options) (unwrap_or told.place 0) it what
+  pub is_told : IsToldOf (form_of manner old.options) (unwrap_or told.place 0) it ended what
   pub printer : new ≡ with_held old None
   pub line :
       text ≡ held_text manner.names.symbols.now old.held ++ told_text manner.names.symbols.now position told what
 
 -- of an instruction the line is told that says all that it did, if it is shown
-pub record TellsInstruction (manner : Manner) (position : ℕ) (told : Happening) (it : Instruction) (old new : Printer)
-    (text : List ℕ) : Type 0 where
+pub record TellsInstruction (manner : Manner) (position : ℕ) (told : Happening) (it : Instruction) (ended : List ℕ)
+    (old new : Printer) (text : List ℕ) : Type 0 where
   pub shown :
       shows_instruction old.options manner.words.now told.cpu it ≡ true
-      → PutsInstruction manner position told it old new text
+      → PutsInstruction manner position told it ended old new text
   pub hidden :
       shows_instruction old.options manner.words.now told.cpu it ≡ false → TellsNothing old new text
 
@@ -175,18 +176,18 @@ abbrev pub is_untold : What → Bool
 is_untold what.Untold = true
 is_untold _ = false
 
-abbrev pub TellsBy : Option Instruction → Bool → Option Quiet → Manner → ℕ → ℕ → Happening → Printer → Printer →
+abbrev pub TellsBy : Option Instruction → Bool → Option Quiet → Manner → ℕ → ℕ → Happening → List ℕ → Printer → Printer →
     List ℕ → Type 0
-TellsBy (Some it) untold kind manner position count told old new text =
-    TellsInstruction manner position told it old new text
-TellsBy None true kind manner position count told old new text = TellsNothing old new text
-TellsBy None false kind manner position count told old new text =
+TellsBy (Some it) untold kind manner position count told ended old new text =
+    TellsInstruction manner position told it ended old new text
+TellsBy None true kind manner position count told ended old new text = TellsNothing old new text
+TellsBy None false kind manner position count told ended old new text =
     TellsOther kind manner.names.symbols.now position count told old new text
 
 -- what is told of an event, with those after it that change nothing: so many events
-abbrev pub Tells : Manner → ℕ → ℕ → Happening → Printer → Printer → List ℕ → Type 0
-Tells manner position count told old new text =
-    TellsBy (instruction_in told.what) (is_untold told.what) (quiet_of told) manner position count told old new text
+abbrev pub Tells : Manner → ℕ → ℕ → Happening → List ℕ → Printer → Printer → List ℕ → Type 0
+Tells manner position count told ended old new text =
+    TellsBy (instruction_in told.what) (is_untold told.what) (quiet_of told) manner position count told ended old new text
 
 -- an event that reports this was an ordinary instruction
 abbrev pub is_ran : Report → Bool
@@ -217,7 +218,9 @@ pub record IsTold (manner : Manner) (boot : BoardState) (events : List Event) (p
   pub is : slice_get events position ≡ Some event
   pub some : 1 ≤ count
   pub still : AreStill boot events (position + 1) (position + count)
-  pub tells : Tells manner position count (happening_of (board_at boot events position) event) old new text
+  pub tells :
+      Tells manner position count (happening_of (board_at boot events position) event)
+      (ended_by (board_at boot events position) event) old new text
 
 -- so many events, what is held back after them, and their text
 pub record Piece : Type 0 where

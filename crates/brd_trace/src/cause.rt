@@ -2,7 +2,7 @@
 
 use crate::names::Names;
 use crate::text::{put, put_number, put_word};
-use brd_base::NoMemory;
+use brd_base::{BASE, NoMemory, is_ram_size};
 use brd_exec::ExceptionCode;
 use brd_happening::{Cause, Exception};
 use brd_isa::{Insn, RegisterOp};
@@ -87,6 +87,7 @@ impl Raised {
             }
             put(out, "fetch outside RAM at ")?;
             put_word(out, address)?;
+            put_run(names, out, address)?;
         }
         put(out, ", $ra is ")?;
         names.put_place(out, ra)
@@ -128,6 +129,15 @@ impl Raised {
         put_words(out, one, sign_of(&self.exception.insn), other)?;
         put(out, " is no signed word")
     }
+}
+
+/// Puts at the end the last word of what is loaded, where an address may be the end of RAM, and nothing is loaded right
+/// before it: who fetches from there may have run to it from that word.
+fn put_run(names: Names, out: &mut Vec<u8>, address: u32) -> Result<(), NoMemory> {
+    if address > BASE && is_ram_size(address - BASE) && !names.loads(address - 4) {
+        return names.put_past(address, out);
+    }
+    Ok(())
 }
 
 /// The sign between the words of a sum or a difference.

@@ -3,7 +3,9 @@
 ghost use Rattle.std.specs.Prelude.{◌≡◌, ◌++◌, ◌+◌, ◌≤◌, OnOk, IfOk};
 ghost use Rattle.brd_listing.specs.Listing.{IsBehind};
 ghost use Rattle.brd_trace.specs.Effects as effects;
+ghost use Rattle.brd_trace.specs.Links.{text_of};
 
+use crate::links::Links;
 use crate::names::Names;
 use crate::text::{put, put_word};
 use brd_base::NoMemory;
@@ -25,19 +27,21 @@ pub(crate) struct Form<'a> {
     pub old: bool,
 }
 
-/// Puts at the end an instruction that was done, and what it did.
+/// Puts at the end an instruction that was done, what it did, and whose links it ended.
 pub(crate) fn put_done(
     alloc: Global,
     form: Form,
     address: u32,
     it: &Instruction,
+    links: Links,
     out: &mut Vec<u8>,
 ) -> Result<(), NoMemory>
-    ensures { IfOk result
-        (λ _. IsBehind (effects.IsToldOf form.entry address it.now) out.old.items out.new.items) }
+    ensures { IfOk result (λ _. IsBehind (effects.IsToldOf form.entry address it.now (text_of links.entry))
+        out.old.items out.new.items) }
 {
     write_instruction(&it.insn, address, out)?;
     put_effect(form, it, out)?;
+    links.put_ended(alloc, out)?;
     form.names.put_source(alloc, "; ", address, out)
 }
 

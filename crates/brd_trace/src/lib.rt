@@ -7,7 +7,9 @@
 mod answer;
 mod cause;
 mod effect;
+mod last_step;
 mod line;
+mod links;
 mod locks;
 mod losses;
 mod marks;

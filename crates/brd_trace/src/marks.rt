@@ -1,6 +1,10 @@
 //! The timeline of what is told.
 
+ghost use Rattle.std.specs.Prelude.{◌≡◌, IfOk, is_some};
+ghost use Rattle.std.specs.Option.{option_map};
+ghost use Rattle.brd_trace.specs.Lanes.{lanes_of};
 ghost use Rattle.brd_trace.specs.Noted.{KeepsKnown};
+ghost use Rattle.brd_trace.specs.Slices.{begun_of, BeginsIn, EndsIn, Records};
 
 use crate::locks::Locks;
 use crate::notes::{Notes, Scene};
@@ -14,7 +18,11 @@ use std::alloc::Global;
 impl Notes {
     /// From a position on a timeline is made, of a board.
     pub(crate) fn record(&mut self, alloc: Global, board: &Board, from: u64) -> Result<(), NoMemory>
-        ensures { KeepsKnown self.old self.new }
+        ensures tasks { self.new.tasks ≡ self.old.tasks }
+        ensures standings { self.new.standings ≡ self.old.standings }
+        ensures off { self.new.off ≡ self.old.off }
+        ensures faults { self.new.faults ≡ self.old.faults }
+        ensures begins { IfOk result (λ _. BeginsIn from self.new (option_map lanes_of self.new.recording)) }
     {
         let known = Known {
             standings: &self.standings,
@@ -32,7 +40,9 @@ impl Notes {
         alloc: Global,
         journal: &Journal,
         to: u64,
-    ) -> Result<Option<Timeline>, NoMemory> {
+    ) -> Result<Option<Timeline>, NoMemory>
+        ensures { IfOk result (EndsIn to (option_map lanes_of self.recording)) }
+    {
         let Notes { recording, .. } = self;
         match recording {
             Some(recording) => Ok(Some(recording.end(alloc, journal, to)?)),
@@ -42,7 +52,13 @@ impl Notes {
 
     /// Records what goes on from a position on, and how spin locks stand, after an event.
     pub(crate) fn see(&mut self, it: Scene, at: u64) -> Result<(), NoMemory>
-        ensures { KeepsKnown self.old self.new }
+        ensures tasks { self.new.tasks ≡ self.old.tasks }
+        ensures standings { self.new.standings ≡ self.old.standings }
+        ensures off { self.new.off ≡ self.old.off }
+        ensures faults { self.new.faults ≡ self.old.faults }
+        ensures begun { begun_of self.new ≡ begun_of self.old }
+        ensures records { IfOk result (λ _. Records at self.old (option_map lanes_of self.old.recording)
+            (option_map lanes_of self.new.recording)) }
     {
         let known = Known {
             standings: &self.standings,

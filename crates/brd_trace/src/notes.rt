@@ -2,6 +2,9 @@
 
 ghost use Rattle.std.specs.Prelude.{
   ◌≡◌,
+  ◌+◌,
+  ◌<◌,
+  ◌^◌,
   List as ListOf,
   IfOk,
   None,
@@ -15,6 +18,9 @@ ghost use Rattle.std.specs.Prelude.{
   false,
 };
 ghost use Rattle.brd_board.specs.declared.event.Event.{Event as EventOf};
+ghost use Rattle.std.specs.Option.{option_map};
+ghost use Rattle.brd_trace.specs.Lanes.{lanes_of};
+ghost use Rattle.brd_trace.specs.Slices.{begun_of, Records};
 ghost use Rattle.brd_trace.specs.Noted.{Knows, KeepsKnown, may_change, off_by, tasks_of};
 ghost use Rattle.brd_trace.specs.Dated.{IsDated, Follows, KeepsFault, KeepsFaults};
 
@@ -181,6 +187,7 @@ impl Notes {
     ) -> Result<Notes, NoMemory>
         ensures knows { IfOk result (Knows board.now) }
         ensures dated { IfOk result (λ notes. (events : ListOf EventOf) → IsDated board.now events 0 notes) }
+        ensures none { IfOk result (λ notes. notes.recording ≡ None) }
     {
         Ok(Notes {
             tasks: tasks_seen(alloc, board)?,
@@ -196,15 +203,18 @@ impl Notes {
         })
     }
 
-    /// Sees how a board stands at a position, after events of which nothing was told.
+    /// Sees how a board stands at a position, after events of which nothing was told. A timeline that was being made is
+    /// dropped.
     pub(crate) fn see_board(
         &mut self,
         alloc: Global,
         board: &Board,
         position: u64,
     ) -> Result<(), NoMemory>
-        ensures { IfOk result (λ _. Knows board.now self.new) }
+        ensures knows { IfOk result (λ _. Knows board.now self.new) }
+        ensures none { self.new.recording ≡ None }
     {
+        self.recording = None;
         self.tasks = tasks_seen(alloc, board)?;
         self.standings = Standings::of(board);
         self.off = off_by(board.is_off(), position);
@@ -213,6 +223,7 @@ impl Notes {
 
     /// Keeps how tasks and processors stand after an event, which reported this.
     pub(crate) fn follow(&mut self, it: Scene, report: Report) -> Result<(), NoMemory>
+        requires { it.position + 1 < 2 ^ 64 }
         ensures kept { may_change report ≡ false → KeepsKnown self.old self.new }
         ensures known { may_change report ≡ true → map (λ it. it.id) self.old.tasks.items ≡ tasks_of it.entry.board.now
             → Knows it.entry.board.now self.new }
@@ -220,6 +231,9 @@ impl Notes {
             (λ _. Follows it.entry.board.now it.entry.position self.old self.new) }
         ensures faults { may_change report ≡ true → IfOk result (λ _. KeepsFaults report it.entry.position
             (unwrap_or it.entry.told.now.cpu 0) it.entry.told.now.who self.old.faults.items self.new.faults.items) }
+        ensures begun { begun_of self.new ≡ begun_of self.old }
+        ensures records { may_change report ≡ true → IfOk result (λ _. Records (it.entry.position + 1) self.new
+            (option_map lanes_of self.old.recording) (option_map lanes_of self.new.recording)) }
     {
         if !may_change(report) {
             return Ok(());
@@ -229,7 +243,7 @@ impl Notes {
         let position = self.off.unwrap_or(it.position);
         self.off = off_by(it.board.is_off(), position);
         self.keep_faults(it, report)?;
-        self.see(it, it.position.saturating_add(1))?;
+        self.see(it, it.position + 1)?;
         Ok(())
     }
 
@@ -238,6 +252,7 @@ impl Notes {
         ensures tasks { self.new.tasks ≡ self.old.tasks }
         ensures standings { self.new.standings ≡ self.old.standings }
         ensures off { self.new.off ≡ self.old.off }
+        ensures recording { self.new.recording ≡ self.old.recording }
         ensures places { length self.new.faults.items ≡ length self.old.faults.items }
         ensures faults { IfOk result (λ _. KeepsFaults report it.entry.position (unwrap_or it.entry.told.now.cpu 0)
             it.entry.told.now.who self.old.faults.items self.new.faults.items) }
@@ -253,6 +268,7 @@ impl Notes {
         ensures tasks { self.new.tasks ≡ self.old.tasks }
         ensures standings { self.new.standings ≡ self.old.standings }
         ensures off { self.new.off ≡ self.old.off }
+        ensures recording { self.new.recording ≡ self.old.recording }
         ensures places { length self.new.faults.items ≡ length self.old.faults.items }
         ensures kept { IfOk result (λ _. KeepsFault it.entry.position place (unwrap_or it.entry.told.now.cpu 0)
             it.entry.told.now.who self.old.faults.items self.new.faults.items) }

@@ -2,10 +2,12 @@
 
 ghost use Rattle.std.specs.Prelude.{◌≡◌, ◌++◌, None, OnOk, IfOk};
 ghost use Rattle.brd_listing.specs.Listing.{IsBehind};
+ghost use Rattle.brd_trace.specs.Links.{text_of};
 ghost use Rattle.brd_trace.specs.Telling as telling;
 
 use crate::effect::{Form, put_done};
 use crate::line::Heading;
+use crate::links::Links;
 use crate::names::Names;
 use crate::quiet::{Quiet, Stretch};
 use brd_base::NoMemory;
@@ -67,10 +69,11 @@ impl Printer {
         position: u64,
         told: &Happening,
         instruction: &Instruction,
+        links: Links,
         out: &mut Vec<u8>,
     ) -> Result<(), NoMemory>
         ensures { IfOk result (λ _. IsBehind (telling.TellsInstruction manner.entry position told.now instruction.now
-            self.old self.new) out.old.items out.new.items) }
+            (text_of links.entry) self.old self.new) out.old.items out.new.items) }
     {
         if !self.shows_instruction(manner.words, told.cpu, instruction) {
             return Ok(());
@@ -81,7 +84,14 @@ impl Printer {
             order: manner.order,
             old: self.options.touching,
         };
-        put_done(alloc, form, told.place.unwrap_or(0), instruction, &mut what)?;
+        put_done(
+            alloc,
+            form,
+            told.place.unwrap_or(0),
+            instruction,
+            links,
+            &mut what,
+        )?;
         self.put_line(alloc, manner, position, told, what.as_slice(), out)?;
         Ok(())
     }

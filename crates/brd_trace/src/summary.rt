@@ -1,13 +1,14 @@
 //! What stands at the end.
 
-ghost use Rattle.std.specs.Prelude.{◌≡◌, ◌++◌, List as ListOf, IfOk, None, OnOk, codes, slice_index_or};
+ghost use Rattle.std.specs.Prelude.{◌≡◌, ◌++◌, List as ListOf, IfOk, None, OnOk, Some, codes, slice_index_or};
+ghost use Rattle.std.specs.List.{range_with_len};
 ghost use Rattle.brd_board.specs.declared.event.Event.{Event as EventOf};
 ghost use Rattle.brd_board.specs.Board.{BoardState as BoardOf};
 ghost use Rattle.brd_journal.specs.Playing.{IsPlayed};
 ghost use Rattle.brd_listing.specs.Listing.{IsBehind};
 ghost use Rattle.brd_timeline.specs.Ends.{EndsWith};
 ghost use Rattle.brd_trace.specs.Dated.{IsDated};
-ghost use Rattle.brd_trace.specs.Noted.{IsNoted};
+ghost use Rattle.brd_trace.specs.Slices.{IsNoted};
 ghost use Rattle.brd_trace.specs.Summary.{
   end_text,
   off_text,
@@ -16,16 +17,18 @@ ghost use Rattle.brd_trace.specs.Summary.{
   fault_text,
   last_text,
   processor_text,
-  processors_text,
   since_text,
+  step_text,
   task_text,
   AreTexts,
   IsEnd,
+  IsKnownProcessor,
   IsSummary,
   IsTaskLine,
   IsWait,
 };
 
+use crate::last_step::last_step;
 use crate::line::put_who;
 use crate::names::Names;
 use crate::notes::LastFault;
@@ -35,25 +38,27 @@ use crate::tracer::Tracer;
 use crate::waits::{put_wait, state_name};
 use brd_base::NoMemory;
 use brd_board::{Standing, TaskState};
+use brd_journal::Journal;
 use std::alloc::Global;
 
 impl Tracer {
-    /// Puts at the end what stands after the events that were played: what each processor does and its last exception,
-    /// what each task is, whether nothing can release those that wait, which wait for each other, which calls were
-    /// refused, and which raises had no effect. `put_end` says what comes before it.
+    /// Puts at the end what stands after the events of a journal that were played: what each processor does, its last
+    /// step and its last exception, what each task is, whether nothing can release those that wait, which wait for each
+    /// other, which calls were refused, and which raises had no effect. `put_end` says what comes before it.
     pub fn put_summary(
         &self,
         alloc: Global,
         names: Names,
+        journal: &Journal,
         out: &mut Vec<u8>,
     ) -> Result<(), NoMemory>
-        ensures { (boot : BoardOf) (events : ListOf EventOf) → IsPlayed boot events self.now.playback
-            → IsNoted boot events self.now.playback.at self.now.notes
-            → IsDated boot events self.now.playback.at self.now.notes
+        ensures { (boot : BoardOf) → IsPlayed boot journal.now.events self.now.playback
+            → IsNoted boot journal.now.events self.now.playback.at self.now.notes
+            → IsDated boot journal.now.events self.now.playback.at self.now.notes
             → IfOk result (λ _. IsBehind
-            (IsSummary names.entry.symbols.now boot events self.now.playback.at) out.old.items out.new.items) }
+            (IsSummary names.entry boot journal.now.events self.now.playback.at) out.old.items out.new.items) }
     {
-        self.put_processors(alloc, names, out)?;
+        self.put_processors(alloc, names, journal, out)?;
         self.put_tasks(alloc, names, out)?;
         let rest = self.rest(alloc, names)?;
         out.extend_from_slice(rest.as_slice())?;
@@ -113,33 +118,61 @@ impl Tracer {
         put(out, "\n")
     }
 
-    /// Puts the processors at the end: what each does, and its last exception.
-    fn put_processors(&self, alloc: Global, names: Names, out: &mut Vec<u8>) -> Result<(), NoMemory>
-        ensures { OnOk result (out.new.items ≡ out.old.items ++ processors_text names.entry.symbols.now self.now.notes) }
+    /// Puts the processors at the end: what each does, its last step, and its last exception.
+    fn put_processors(
+        &self,
+        alloc: Global,
+        names: Names,
+        journal: &Journal,
+        out: &mut Vec<u8>,
+    ) -> Result<(), NoMemory>
+        ensures { IfOk result (λ _. IsBehind (AreTexts
+            (IsKnownProcessor names.entry journal.now.events self.now.playback.at self.now.notes)
+            (range_with_len 1 8)) out.old.items out.new.items) }
     {
         for cpu in 1..9u8 {
-            self.put_processor(alloc, names, out, cpu)?;
+            self.put_processor(alloc, names, journal, out, cpu)?;
         }
         Ok(())
     }
 
-    /// Puts a processor at the end, where there is one of that number: what it does, and its last exception.
+    /// Puts a processor at the end, where there is one of that number: what it does, its last step, and its last
+    /// exception.
     fn put_processor(
+        &self,
+        alloc: Global,
+        names: Names,
+        journal: &Journal,
+        out: &mut Vec<u8>,
+        cpu: u8,
+    ) -> Result<(), NoMemory>
+        ensures { IfOk result (λ _. IsBehind
+            (IsKnownProcessor names.entry journal.now.events self.now.playback.at self.now.notes cpu)
+            out.old.items out.new.items) }
+    {
+        let Some(standing) = self.notes.standings.at(cpu) else {
+            return Ok(());
+        };
+        let step = last_step(journal, self.playback.at, cpu);
+        self.put_lines(alloc, names, out, cpu, standing, step)?;
+        Ok(())
+    }
+
+    /// Puts the lines of a processor at the end: what it does, its last step, and its last exception.
+    fn put_lines(
         &self,
         alloc: Global,
         names: Names,
         out: &mut Vec<u8>,
         cpu: u8,
+        standing: Standing,
+        step: Option<u64>,
     ) -> Result<(), NoMemory>
-        ensures { OnOk result (out.new.items ≡ out.old.items ++ processor_text names.entry.symbols.now cpu
-            (slice_index_or self.now.notes.standings.of cpu None)
+        ensures { OnOk result (out.new.items ≡ out.old.items ++ processor_text names.entry cpu (Some standing) step
             (slice_index_or self.now.notes.faults.items cpu None)) }
     {
-        let standing = self.notes.standings.at(cpu);
-        if standing.is_none() {
-            return Ok(());
-        }
-        put_standing(alloc, out, cpu, standing)?;
+        put_standing(alloc, out, cpu, Some(standing))?;
+        put_step(alloc, out, step)?;
         put(out, "\n")?;
         self.put_last(alloc, names, out, cpu)
     }
@@ -152,7 +185,7 @@ impl Tracer {
         out: &mut Vec<u8>,
         cpu: u8,
     ) -> Result<(), NoMemory>
-        ensures { OnOk result (out.new.items ≡ out.old.items ++ last_text names.entry.symbols.now
+        ensures { OnOk result (out.new.items ≡ out.old.items ++ last_text names.entry
             (slice_index_or self.now.notes.faults.items cpu None)) }
     {
         if (cpu as usize) >= self.notes.faults.len() {
@@ -167,7 +200,7 @@ impl Tracer {
     /// Puts the tasks at the end, a line for each.
     fn put_tasks(&self, alloc: Global, names: Names, out: &mut Vec<u8>) -> Result<(), NoMemory>
         ensures { IfOk result (λ _. IsBehind
-            (AreTexts (IsTaskLine names.entry.symbols.now) self.now.notes.tasks.items) out.old.items out.new.items) }
+            (AreTexts (IsTaskLine names.entry) self.now.notes.tasks.items) out.old.items out.new.items) }
     {
         let tasks = self.notes.tasks.as_slice();
         for i in 0..tasks.len() {
@@ -184,7 +217,7 @@ impl Tracer {
         out: &mut Vec<u8>,
         task: TaskSeen,
     ) -> Result<(), NoMemory>
-        ensures { IfOk result (λ _. IsBehind (IsTaskLine names.entry.symbols.now task) out.old.items out.new.items) }
+        ensures { IfOk result (λ _. IsBehind (IsTaskLine names.entry task) out.old.items out.new.items) }
     {
         let wait = wait_of(alloc, task)?;
         put_task_line(
@@ -245,6 +278,16 @@ fn put_off(alloc: Global, out: &mut Vec<u8>, off: Option<u64>) -> Result<(), NoM
     }
 }
 
+/// Puts at the end which event was a processor's last step.
+fn put_step(alloc: Global, out: &mut Vec<u8>, step: Option<u64>) -> Result<(), NoMemory>
+    ensures { OnOk result (out.new.items ≡ out.old.items ++ step_text step) }
+{
+    match step {
+        Some(position) => put_named(alloc, out, ", last step at event", position),
+        None => put(out, ", no step"),
+    }
+}
+
 /// Puts at the end since when a task is in its state.
 fn put_since(alloc: Global, out: &mut Vec<u8>, since: Option<u64>) -> Result<(), NoMemory>
     ensures { OnOk result (out.new.items ≡ out.old.items ++ since_text since) }
@@ -265,14 +308,14 @@ fn put_task_line(
     wait: &[u8],
 ) -> Result<(), NoMemory>
     ensures { OnOk result (out.new.items ≡ out.old.items
-        ++ task_text names.entry.symbols.now task.id task.state task.since place wait.now) }
+        ++ task_text names.entry task.id task.state task.since place wait.now) }
 {
     put_named(alloc, out, "task", u64::from(task.id))?;
     put(out, " ")?;
     put(out, state_name(task.state))?;
     put_since(alloc, out, task.since)?;
     put(out, ", at ")?;
-    names.put_both(out, place)?;
+    names.put_code(alloc, place, out)?;
     out.extend_from_slice(wait)?;
     put(out, "\n")
 }
@@ -298,10 +341,10 @@ fn put_fault(
     out: &mut Vec<u8>,
     fault: &LastFault,
 ) -> Result<(), NoMemory>
-    ensures { OnOk result (out.new.items ≡ out.old.items ++ fault_text names.entry.symbols.now fault.now) }
+    ensures { OnOk result (out.new.items ≡ out.old.items ++ fault_text names.entry fault.now) }
 {
     put_fault_front(alloc, out, fault)?;
-    put_fault_behind(names, out, fault)
+    put_fault_behind(alloc, names, out, fault)
 }
 
 /// Puts at the end at which event an exception was raised, and of whom.
@@ -315,11 +358,16 @@ fn put_fault_front(alloc: Global, out: &mut Vec<u8>, fault: &LastFault) -> Resul
 }
 
 /// Puts at the end where an exception was raised, and what it was.
-fn put_fault_behind(names: Names, out: &mut Vec<u8>, fault: &LastFault) -> Result<(), NoMemory>
-    ensures { OnOk result (out.new.items ≡ out.old.items ++ fault_behind names.entry.symbols.now fault.now) }
+fn put_fault_behind(
+    alloc: Global,
+    names: Names,
+    out: &mut Vec<u8>,
+    fault: &LastFault,
+) -> Result<(), NoMemory>
+    ensures { OnOk result (out.new.items ≡ out.old.items ++ fault_behind names.entry fault.now) }
 {
     put(out, " at ")?;
-    names.put_both(out, fault.place)?;
+    names.put_code(alloc, fault.place, out)?;
     put(out, ": ")?;
     out.extend_from_slice(fault.what.as_slice())?;
     put(out, "\n")

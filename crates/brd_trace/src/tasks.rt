@@ -26,6 +26,7 @@ ghost use Rattle.brd_trace.specs.declared.tasks.TaskSeen.{TaskSeen as TaskOf};
 ghost use Rattle.brd_trace.specs.Lines.{named_text};
 ghost use Rattle.brd_trace.specs.Dated.{Same, Other, FollowsTask};
 ghost use Rattle.brd_trace.specs.Summary.{standing_text};
+ghost use Rattle.brd_trace.specs.Slices.{has_task, runs_in};
 ghost use Rattle.brd_trace.specs.Noted.{seen_of, view_of, IsSeen, all_seen, tasks_of, standings_of};
 
 use crate::answer::Answered;
@@ -296,13 +297,10 @@ impl Standings {
     }
 
     /// Whether a processor runs a task.
-    pub(crate) fn runs(&self, id: TaskId) -> bool {
-        for cpu in 1..9u8 {
-            if self.at(cpu) == Some(Standing::Task(id)) {
-                return true;
-            }
-        }
-        false
+    pub(crate) fn runs(&self, id: TaskId) -> bool
+        ensures { result ≡ runs_in self.now.of id }
+    {
+        self.of.iter().any(|standing| runs_task(id, *standing))
     }
 
     /// Puts at the end what each processor does, before an event.
@@ -334,6 +332,16 @@ impl Standings {
             }
         }
         Ok(concerned)
+    }
+}
+
+/// Whether a processor that does this runs a task.
+fn runs_task(id: TaskId, standing: Option<Standing>) -> bool
+    ensures { result ≡ has_task id standing }
+{
+    match standing {
+        Some(Standing::Task(other)) => other == id,
+        _ => false,
     }
 }
 

@@ -8,6 +8,8 @@ ghost use Rattle.std.specs.Prelude.{
   ◌+◌,
   ◌^◌,
   ◌&&◌,
+  ℕ,
+  Some,
   not,
   [],
   List as ListOf,
@@ -25,8 +27,10 @@ ghost use Rattle.brd_journal.specs.Runs.{ComesBehind};
 ghost use Rattle.brd_listing.specs.Listing.{IsBehind};
 ghost use Rattle.brd_trace.specs.declared.printer.Manner.{Manner as MannerOf};
 ghost use Rattle.brd_trace.specs.Quiets.{quiet_of};
-ghost use Rattle.brd_trace.specs.Noted.{IsNoted, KeepsKnown};
+ghost use Rattle.brd_trace.specs.Noted.{KeepsKnown};
+ghost use Rattle.brd_trace.specs.Slices.{begun_of, IsNoted, IsTimeline};
 ghost use Rattle.brd_trace.specs.Dated.{IsDated};
+ghost use Rattle.brd_trace.specs.Links.{ended_text, linked_on};
 ghost use Rattle.brd_trace.specs.Telling.{
   held_text,
   with_held,
@@ -49,6 +53,7 @@ ghost use Rattle.brd_trace.specs.Telling.{
 };
 
 use crate::line::Heading;
+use crate::links::{Links, linked_on};
 use crate::names::Names;
 use crate::notes::{Notes, Scene};
 use crate::playback::next_of;
@@ -120,6 +125,7 @@ impl Tracer {
             → IsNoted boot journal.now.events self.old.playback.at self.old.notes
             → IsDated boot journal.now.events self.old.playback.at self.old.notes
             → IfOk result (λ _. IsDated boot journal.now.events self.new.playback.at self.new.notes) }
+        ensures begun { begun_of self.new.notes ≡ begun_of self.old.notes }
     {
         let Some(rest) = next_of(&self.playback, journal, to, &mut self.near) else {
             return Ok(());
@@ -154,6 +160,7 @@ impl Tracer {
             → IsNoted boot journal.now.events self.old.playback.at self.old.notes
             → IsDated boot journal.now.events self.old.playback.at self.old.notes
             → IfOk result (λ _. IsDated boot journal.now.events self.new.playback.at self.new.notes) }
+        ensures begun { begun_of self.new.notes ≡ begun_of self.old.notes }
     {
         let Some(rest) = next_of(&self.playback, journal, to, &mut self.near) else {
             return Ok(());
@@ -226,6 +233,7 @@ impl Tracer {
             → IsNoted boot events self.old.playback.at self.old.notes
             → IsDated boot events self.old.playback.at self.old.notes
             → IfOk result (λ _. IsDated boot events self.new.playback.at self.new.notes) }
+        ensures begun { begun_of self.new.notes ≡ begun_of self.old.notes }
     {
         let position = self.playback.at;
         let before = match Before::of(alloc, &self.playback.board, rest.event) {
@@ -235,12 +243,13 @@ impl Tracer {
                 return Err(NoMemory);
             }
         };
+        let linked = linked_on(&self.playback.board);
         let moved = self.playback.advance(rest, position + 1, to);
         if self.passes(moved.report) {
             return Ok(());
         }
         let told = before.happening(alloc, moved.report, &self.playback.board)?;
-        self.tell(alloc, manner, position, moved.count, &told, out)?;
+        self.tell(alloc, manner, position, moved.count, &told, &linked, out)?;
         let scene = Scene {
             alloc,
             names: manner.names,
@@ -259,7 +268,8 @@ impl Tracer {
         !self.printer.may_list() && is_ran(report)
     }
 
-    /// Puts at the end what is told of an event, and of those after it that do nothing.
+    /// Puts at the end what is told of an event, and of those after it that do nothing. Before it these processors had a
+    /// link.
     fn tell(
         &mut self,
         alloc: Global,
@@ -267,17 +277,26 @@ impl Tracer {
         position: u64,
         count: u64,
         told: &Happening,
+        linked: &[bool],
         out: &mut Vec<u8>,
     ) -> Result<(), NoMemory>
         requires { position + 1 < 2 ^ 64 }
         ensures same { self.new.playback ≡ self.old.playback }
         ensures known { KeepsKnown self.old.notes self.new.notes }
         ensures told { IfOk result (λ _. IsBehind
-            (Tells manner.entry position count told.now self.old.printer self.new.printer) out.old.items out.new.items) }
+            (Tells manner.entry position count told.now
+            (ended_text told.now.cpu linked.now (linked_on self.old.playback.board)) self.old.printer self.new.printer)
+            out.old.items out.new.items) }
     {
         if let Some(instruction) = instruction_in(told.what) {
+            let still = linked_on(&self.playback.board);
+            let links = Links {
+                cpu: told.cpu,
+                before: linked,
+                after: &still,
+            };
             self.printer
-                .put_instruction(alloc, manner, position, told, &instruction, out)?;
+                .put_instruction(alloc, manner, position, told, &instruction, links, out)?;
             return Ok(());
         }
         if is_untold(told.what) {
@@ -421,6 +440,7 @@ impl Tracer {
             → IsNoted boot journal.now.events self.old.playback.at self.old.notes
             → IsDated boot journal.now.events self.old.playback.at self.old.notes
             → IfOk result (λ _. IsDated boot journal.now.events self.new.playback.at self.new.notes) }
+        ensures begun { begun_of self.new.notes ≡ begun_of self.old.notes }
     {
         while self.playback.at < to {
             self.advance_some(alloc, manner, journal, to, out)?;
@@ -444,7 +464,8 @@ impl Tracer {
             → IfOk result (λ _. IsNoted boot journal.now.events self.new.playback.at self.new.notes) }
     {
         self.playback.play_to(journal, to, to);
-        self.notes.see_board(alloc, &self.playback.board, to)
+        self.notes.see_board(alloc, &self.playback.board, to)?;
+        Ok(())
     }
 
     /// From here on lines are shown. Before them it is put at the end what each processor does.
@@ -486,10 +507,14 @@ impl Tracer {
     /// From here on a timeline is made.
     pub fn record(&mut self, alloc: Global) -> Result<(), NoMemory>
         ensures same { self.new.playback ≡ self.old.playback }
-        ensures known { KeepsKnown self.old.notes self.new.notes }
+        ensures begun { IfOk result (λ _. begun_of self.new.notes ≡ Some self.old.playback.at) }
+        ensures noted { (boot : BoardOf) (events : ListOf EventOf) → IsPlayed boot events self.old.playback
+            → IsNoted boot events self.old.playback.at self.old.notes
+            → IfOk result (λ _. IsNoted boot events self.new.playback.at self.new.notes) }
     {
         self.notes
-            .record(alloc, &self.playback.board, self.playback.at)
+            .record(alloc, &self.playback.board, self.playback.at)?;
+        Ok(())
     }
 
     /// The timeline that was made up to here, where one was. The journal is the one that was played.
@@ -497,14 +522,19 @@ impl Tracer {
         self,
         alloc: Global,
         journal: &Journal,
-    ) -> Result<Option<Timeline>, NoMemory> {
+    ) -> Result<Option<Timeline>, NoMemory>
+        ensures { (boot : BoardOf) (events : ListOf EventOf) (from : ℕ) → IsPlayed boot events self.playback
+            → IsNoted boot events self.playback.at self.notes → begun_of self.notes ≡ Some from
+            → IfOk result (IsTimeline boot events from self.playback.at) }
+    {
         let Tracer {
             playback,
             printer: _,
             notes,
             near: _,
         } = self;
-        notes.into_timeline(alloc, journal, playback.at)
+        let made = notes.into_timeline(alloc, journal, playback.at)?;
+        Ok(made)
     }
 }
 

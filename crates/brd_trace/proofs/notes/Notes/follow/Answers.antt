@@ -1,8 +1,12 @@
-use Rattle.std.proofs.Common.{sym, ap, subst, ◌∙◌}
+use Rattle.std.proofs.Common.{◌+◌, sym, ap, subst, ◌∙◌}
 use Rattle.std.specs.Prelude.{length, slice_index_or, unwrap_or}
+use Rattle.std.specs.Option.{option_map}
+use Rattle.brd_trace.specs.Lanes.{lanes_of}
+use Rattle.brd_trace.specs.Slices.{Records}
 use Rattle.brd_trace.specs.Noted.{off_by}
 use Rattle.brd_trace.specs.Dated.{FollowsTask, KeepsFaults}
 use Rattle.brd_trace.proofs.DatedLemmas.{followed}
+use Rattle.brd_trace.proofs.SlicesLemmas.{records-same}
 use Rattle.brd_trace.proofs.notes.Notes.follow.Goals as goal
 
 pub returns-clause-follows : goal.returns-clause-follows
@@ -20,3 +24,12 @@ returns-clause-faults c = λ changes.
     subst
     (KeepsFaults c.args.report c.args.it.position (unwrap_or c.args.it.told.now.cpu 0) c.args.it.told.now.who c.args.self.now.faults.items)
     (sym (ap (λ faults. faults.items) c.see.ensures.faults)) c.in_ok-keep_faults.ensures.faults
+
+pub returns-clause-records : goal.returns-clause-records
+returns-clause-records c = λ changes.
+    let mid = c.keep_faults.new.self in
+    let at = c.args.it.position + 1 in
+    subst (λ them. Records at c.see.new.self (option_map lanes_of them) (option_map lanes_of c.see.new.self.recording))
+    c.keep_faults.ensures.recording
+    (records-same at mid c.see.new.self (option_map lanes_of mid.recording) (option_map lanes_of c.see.new.self.recording) c.see.ensures.tasks
+    c.see.ensures.standings c.see.ensures.off c.in_ok-see.ensures.records)

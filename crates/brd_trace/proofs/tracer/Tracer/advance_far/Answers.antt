@@ -1,4 +1,4 @@
-use Rattle.std.proofs.Common.{le_refl, arith}
+use Rattle.std.proofs.Common.{◌∙◌, refl, le_refl, arith}
 use Rattle.brd_trace.proofs.TraceLemmas.{puts_nothing, puts_on}
 use Rattle.brd_trace.proofs.tracer.Tracer.advance_far.Goals as goal
 
@@ -11,6 +11,7 @@ loop-self-init c = record {
       puts_nothing c.args.manner boot c.args.journal.now.events c.args.self.now.playback.at c.args.self.now.printer c.args.out.now.items;
   noted = λ boot is noted. noted;
   dated = λ boot is noted dated. dated;
+  begun = refl;
 }
 
 pub loop-self-preserved : goal.loop-self-preserved
@@ -26,6 +27,7 @@ loop-self-preserved c = record {
   dated = λ boot is noted dated.
       c.in_ok-advance_some.ensures.dated boot (c.loop-self.invariant.played boot is) (c.loop-self.invariant.noted boot is noted)
       (c.loop-self.invariant.dated boot is noted dated);
+  begun = c.advance_some.ensures.begun ∙ c.loop-self.invariant.begun;
 }
 
 pub returns-then-len-ge-ENOUGH-clause-told : goal.returns-then-len-ge-ENOUGH-clause-told

@@ -1,10 +1,10 @@
 -- It has gone on, unless it is at the first turn, and not past the end; it has played the first events, as many as it
--- says; what is told of them is behind what was there; and what is known of the board is so.
-use Rattle.std.proofs.Common.{◌≤◌, ◌-◌}
+-- says; what is told of them is behind what was there; what is known of the board is so; and a timeline begins where it did.
+use Rattle.std.proofs.Common.{◌≡◌, ◌≤◌, ◌-◌}
 use Rattle.brd_board.specs.Board.{BoardState}
 use Rattle.brd_journal.specs.Playing.{IsPlayed}
 use Rattle.brd_trace.specs.Telling.{IsTrace}
-use Rattle.brd_trace.specs.Noted.{IsNoted}
+use Rattle.brd_trace.specs.Slices.{begun_of, IsNoted}
 use Rattle.brd_trace.specs.Dated.{IsDated}
 use Rattle.brd_listing.specs.Listing.{IsBehind}
 use Rattle.brd_trace.proofs.tracer.Tracer.advance_far.Given as goal
@@ -24,6 +24,7 @@ invariant-loop-self l = record {
       → IsNoted boot l.journal.events l.fn.self.playback.at l.fn.self.notes
       → IsDated boot l.journal.events l.fn.self.playback.at l.fn.self.notes
       → IsDated boot l.journal.events l.self.playback.at l.self.notes;
+  begun : begun_of l.self.notes ≡ begun_of l.fn.self.notes;
 }
 
 abbrev pub decreases-loop-self : goal.decreases-loop-self

@@ -1,4 +1,4 @@
-use Rattle.std.proofs.Common.{ℕ, refl, ◌≡◌, ◌+◌, ◌<◌, true, false, sym, ap, ◌∙◌, subst, arith}
+use Rattle.std.proofs.Common.{ℕ, List, refl, ◌≡◌, ◌+◌, ◌<◌, true, false, sym, ap, ◌∙◌, subst, arith}
 use Rattle.brd_board.specs.Board.{happens}
 use Rattle.brd_happening.specs.declared.happening.Happening.{Happening}
 use Rattle.brd_happening.specs.Happening.{happening_of}
@@ -7,7 +7,9 @@ use Rattle.brd_journal.specs.Playing.{AreStill, board_at, IsPlayed}
 use Rattle.brd_journal.specs.Still.{does_no_more}
 use Rattle.brd_journal.proofs.PlayingLemmas.{first-board}
 use Rattle.brd_journal.proofs.RestLemmas.{rest_some}
+use Rattle.brd_trace.specs.Links.{ended_text, linked_on}
 use Rattle.brd_trace.specs.Telling.{is_ran, may_list, Tells}
+use Rattle.brd_trace.proofs.LinksLemmas.{ends_by}
 use Rattle.brd_trace.proofs.RanLemmas.{passes_both, ran_hidden, told_is}
 use Rattle.brd_trace.proofs.TraceLemmas.{puts_one, puts_hidden}
 use Rattle.brd_trace.specs.Dated.{IsDated}
@@ -18,6 +20,10 @@ use Rattle.brd_happening.specs.Happening.{processor_of}
 use Rattle.brd_happening.specs.Before.{who_of}
 use Rattle.brd_board.specs.declared.event.Event.{Event}
 use Rattle.std.specs.Prelude.{None, unwrap_or}
+use Rattle.std.specs.Option.{option_map}
+use Rattle.brd_trace.specs.Lanes.{lanes_of}
+use Rattle.brd_trace.specs.Slices.{IsRecorded}
+use Rattle.brd_trace.proofs.SlicesLemmas.{keeps-begun, recorded-on, recorded-ran}
 use Rattle.brd_trace.proofs.tracer.Tracer.advance_in.Goals as goal
 
 pub returns-then-passes-clause-told : goal.returns-then-passes-clause-told
@@ -63,6 +69,8 @@ returns-clause-told c = λ boot events within comes is.
     let it : c.in_ok-told.told ≡ happening_of (board_at boot events position) event =
     told_is board (board_at boot events position) event c.in-Ok.before moved.report next.board c.in_ok-told.told
     is.board c.in-Ok.ensures c.advance-moved.ensures.report leaves c.in_ok-told.ensures.is in
+    let ended = ends_by board (board_at boot events position) next.board event c.in_ok-told.told.cpu c.linked_on-linked.result (linked_on next.board)
+    is.board leaves (ap (λ (h : Happening). h.cpu) it) c.linked_on-linked.ensures refl in
     let t = c.in_ok-tell.ensures.told in
     let ends : c.tell.new.self.playback.at ≡ position + moved.count = ap (λ (p : Playback). p.at) c.tell.ensures.same ∙ goes.2 in
     puts_one c.args.manner boot events position moved.count c.tell.new.self.playback.at c.args.self.now.printer c.tell.new.self.printer
@@ -74,7 +82,10 @@ returns-clause-told c = λ boot events within comes is.
         is = sym (rest_some events position c.args.rest comes);
         some = goes.0;
         still = subst (AreStill boot events (position + 1)) goes.2 (c.advance-moved.ensures.still boot events comes is);
-        tells = subst (λ (h : Happening). Tells c.args.manner position moved.count h c.args.self.now.printer c.tell.new.self.printer t.text) it t.is_it;
+        tells = subst (λ (ended : List ℕ). Tells c.args.manner position moved.count (happening_of (board_at boot events position) event) ended
+            c.args.self.now.printer c.tell.new.self.printer t.text) ended
+            (subst (λ (h : Happening). Tells c.args.manner position moved.count h (ended_text c.in_ok-told.told.cpu c.linked_on-linked.result (linked_on next.board)) c.args.self.now.printer
+            c.tell.new.self.printer t.text) it t.is_it);
       };
       behind = t.behind;
     })
@@ -95,8 +106,16 @@ returns-then-passes-clause-noted c = λ boot events within comes is noted.
     let over : 1 < moved.count → does_no_more event (happens board event).report ≡ true =
     λ more. ap (does_no_more event) (sym c.advance-moved.ensures.report) ∙ c.advance-moved.ensures.over (omega (arith, more, goes.2)) in
     let leaves : next.board ≡ (happens board event).board = first-board board next.board event moved.count goes.0 over c.advance-moved.ensures.board in
-    noted-ran boot events c.args.self.now.playback.at next.at board next.board event c.args.self.now.notes moved.report is.board
-    (c.advance-moved.ensures.played boot events within comes is).board leaves c.advance-moved.ensures.report both.1 noted
+    let notes = c.args.self.now.notes in
+    let at = c.args.self.now.playback.at in
+    record {
+      known = noted-ran boot events at next.at board next.board event notes moved.report is.board
+          (c.advance-moved.ensures.played boot events within comes is).board leaves c.advance-moved.ensures.report both.1 noted.known;
+      recorded = subst (λ (to : ℕ). IsRecorded boot events to (option_map lanes_of notes.recording)) (sym goes.2)
+          (recorded-ran boot events at moved.count c.args.rest board next.board notes notes moved.report is.board leaves comes goes.0 goes.1
+          over c.advance-moved.ensures.report noted.recorded both.1
+          (record { tasks = refl; standings = refl; off = refl; faults = refl; recorded = refl }));
+    }
 
 pub returns-clause-noted : goal.returns-clause-noted
 returns-clause-noted c = λ boot events within comes is noted.
@@ -111,9 +130,19 @@ returns-clause-noted c = λ boot events within comes is noted.
     let leaves : next.board ≡ (happens board event).board = first-board board next.board event moved.count goes.0 over c.advance-moved.ensures.board in
     let played : IsPlayed boot events last =
     subst (λ (p : Playback). IsPlayed boot events p) (sym c.tell.ensures.same) (c.advance-moved.ensures.played boot events within comes is) in
-    noted-on boot events c.args.self.now.playback.at last.at board last.board event c.args.self.now.notes c.tell.new.self.notes
-    c.follow.new.self moved.report is.board played.board (ap (λ (p : Playback). p.board) c.tell.ensures.same ∙ leaves)
-    c.advance-moved.ensures.report noted c.tell.ensures.known c.follow.ensures.kept c.follow.ensures.known
+    let at = c.args.self.now.playback.at in
+    let left = ap (λ (p : Playback). p.board) c.tell.ensures.same ∙ leaves in
+    let ends : last.at ≡ at + moved.count = ap (λ (p : Playback). p.at) c.tell.ensures.same ∙ goes.2 in
+    record {
+      known = noted-on boot events at last.at board last.board event c.args.self.now.notes c.tell.new.self.notes c.follow.new.self moved.report
+          is.board played.board left c.advance-moved.ensures.report noted.known c.tell.ensures.known c.follow.ensures.kept c.follow.ensures.known;
+      recorded = subst (λ (to : ℕ). IsRecorded boot events to (option_map lanes_of c.follow.new.self.recording)) (sym ends)
+          (recorded-on boot events at moved.count c.args.rest board last.board c.tell.new.self.notes c.follow.new.self moved.report is.board left
+          comes goes.0 goes.1 over c.advance-moved.ensures.report
+          (subst (IsRecorded boot events at) (sym c.tell.ensures.known.recorded) noted.recorded)
+          (kept-known (board_at boot events at) c.args.self.now.notes c.tell.new.self.notes c.tell.ensures.known noted.known)
+          c.follow.ensures.kept c.follow.ensures.known c.in_ok-follow.ensures.records);
+    }
 
 pub returns-then-passes-clause-dated : goal.returns-then-passes-clause-dated
 returns-then-passes-clause-dated c = λ boot events within comes is noted dated.
@@ -130,8 +159,8 @@ returns-then-passes-clause-dated c = λ boot events within comes is noted dated.
     let leaves : next.board ≡ (happens board event).board = first-board board next.board event moved.count goes.0 over c.advance-moved.ensures.board in
     subst (λ (to : ℕ). IsDated boot events to notes) (sym goes.2)
     (dated-ran boot events c.args.self.now.playback.at moved.count c.args.rest board next.board notes notes moved.report 0 None is.board
-    leaves comes goes.0 goes.1 over c.advance-moved.ensures.report noted dated both.1
-    (record { tasks = refl; standings = refl; off = refl; faults = refl }))
+    leaves comes goes.0 goes.1 over c.advance-moved.ensures.report noted.known dated both.1
+    (record { tasks = refl; standings = refl; off = refl; faults = refl; recorded = refl }))
 
 pub returns-clause-dated : goal.returns-clause-dated
 returns-clause-dated c = λ boot events within comes is noted dated.
@@ -154,10 +183,16 @@ returns-clause-dated c = λ boot events within comes is noted dated.
     (dated-on boot events at moved.count c.args.rest board last.board c.tell.new.self.notes c.follow.new.self moved.report
     (unwrap_or told.cpu 0) told.who is.board (ap (λ (p : Playback). p.board) c.tell.ensures.same ∙ leaves) comes goes.0 goes.1 over
     c.advance-moved.ensures.report
-    (kept-known (board_at boot events at) c.args.self.now.notes c.tell.new.self.notes c.tell.ensures.known noted)
+    (kept-known (board_at boot events at) c.args.self.now.notes c.tell.new.self.notes c.tell.ensures.known noted.known)
     (kept-dated boot events at c.args.self.now.notes c.tell.new.self.notes c.tell.ensures.known dated)
     c.follow.ensures.kept c.follow.ensures.known c.in_ok-follow.ensures.follows c.in_ok-follow.ensures.faults
     (λ n steps. (
       ap (λ (h : Happening). unwrap_or h.cpu 0) it ∙ ap (λ (e : Event). unwrap_or (processor_of e) 0) steps,
       ap (λ (h : Happening). h.who) it ∙ ap (who_of (board_at boot events at)) steps,
     )))
+
+pub returns-clause-begun : goal.returns-clause-begun
+returns-clause-begun c = c.follow.ensures.begun ∙ keeps-begun c.args.self.now.notes c.tell.new.self.notes c.tell.ensures.known
+
+pub returns-in_err-follow-clause-begun : goal.returns-in_err-follow-clause-begun
+returns-in_err-follow-clause-begun c = c.follow.ensures.begun ∙ keeps-begun c.args.self.now.notes c.tell.new.self.notes c.tell.ensures.known

@@ -5,6 +5,10 @@ use Rattle.brd_trace.proofs.RanLemmas.{all_hidden, none_done}
 use Rattle.brd_trace.specs.Dated.{IsDated}
 use Rattle.brd_trace.proofs.NotedLemmas.{noted-far}
 use Rattle.brd_trace.proofs.DatedLemmas.{dated-far}
+use Rattle.std.specs.Option.{option_map}
+use Rattle.brd_trace.specs.Lanes.{lanes_of}
+use Rattle.brd_trace.specs.Slices.{IsRecorded}
+use Rattle.brd_trace.proofs.SlicesLemmas.{recorded-far}
 use Rattle.brd_trace.proofs.tracer.Tracer.pass.Goals as goal
 
 pub returns-clause-none : goal.returns-clause-none
@@ -22,9 +26,15 @@ returns-clause-told c = λ manner boot events comes is.
 
 pub returns-clause-noted : goal.returns-clause-noted
 returns-clause-noted c = λ boot events within comes is noted.
-    noted-far boot events c.args.self.now.playback.at c.go_on.new.self.at c.args.self.now.playback.board c.go_on.new.self.board
-    c.args.rest.event c.go_on.result c.args.self.now.notes is.board (c.go_on.ensures.played boot events within comes is).board
-    c.go_on.ensures.board c.go_on.ensures.ran noted
+    let playback = c.args.self.now.playback in
+    let notes = c.args.self.now.notes in
+    record {
+      known = noted-far boot events playback.at c.go_on.new.self.at playback.board c.go_on.new.self.board c.args.rest.event c.go_on.result notes
+          is.board (c.go_on.ensures.played boot events within comes is).board c.go_on.ensures.board c.go_on.ensures.ran noted.known;
+      recorded = subst (λ (to : ℕ). IsRecorded boot events to (option_map lanes_of notes.recording)) (sym c.go_on.ensures.at)
+          (recorded-far boot playback.board events playback.at c.go_on.result c.args.rest (option_map lanes_of notes.recording) is.board comes
+          c.go_on.ensures.ran c.go_on.ensures.few noted.recorded);
+    }
 
 pub returns-clause-dated : goal.returns-clause-dated
 returns-clause-dated c = λ boot events within comes is dated.

@@ -1,10 +1,14 @@
--- With the processors that are left, all are put at the end.
-use Rattle.std.proofs.Common.{◌≡◌, ◌++◌, ◌-◌}
-use Rattle.std.specs.List.{flat_map, range_with_len}
-use Rattle.brd_trace.specs.Summary.{processor_known, processors_text}
+-- The processors before this one are put at the end.
+use Rattle.std.proofs.Common.{◌≤◌, ◌-◌}
+use Rattle.std.specs.List.{range_with_len}
+use Rattle.brd_listing.specs.Listing.{IsBehind}
+use Rattle.brd_trace.specs.Summary.{AreTexts, IsKnownProcessor}
 use Rattle.brd_trace.proofs.tracer.Tracer.put_processors.Given as goal
 
 abbrev pub invariant-loop-cpu : goal.invariant-loop-cpu
-invariant-loop-cpu l =
-    l.out.items ++ flat_map (processor_known l.names.symbols.now l.self.notes) (range_with_len l.cpu (9 - l.cpu))
-    ≡ l.fn.out.items ++ processors_text l.names.symbols.now l.self.notes
+invariant-loop-cpu l = record {
+  least : 1 ≤ l.cpu;
+  most : l.cpu ≤ 9;
+  put : IsBehind (AreTexts (IsKnownProcessor l.names l.journal.events l.self.playback.at l.self.notes) (range_with_len 1 (l.cpu - 1)))
+      l.fn.out.items l.out.items;
+}

@@ -6,4 +6,4 @@ use Rattle.brd_trace.proofs.tracer.Tracer.put_tasks.Given as goal
 
 abbrev pub invariant-loop-i : goal.invariant-loop-i
 invariant-loop-i l =
-    IsBehind (AreTexts (IsTaskLine l.names.symbols.now) (take l.i l.self.notes.tasks.items)) l.fn.out.items l.out.items
+    IsBehind (AreTexts (IsTaskLine l.names) (take l.i l.self.notes.tasks.items)) l.fn.out.items l.out.items
