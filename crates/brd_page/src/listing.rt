@@ -4,7 +4,7 @@ use crate::data::Json;
 use crate::source::SourceLine;
 use brd_base::NoMemory;
 use brd_isa::decode;
-use brd_listing::{write_instruction, write_place};
+use brd_listing::{Places, write_instruction};
 use brd_mem::{Image, Segment};
 use brd_text::hex_digits;
 use brd_word::word_of;
@@ -19,6 +19,7 @@ pub(crate) fn put_listing(
     json: &mut Json,
     alloc: Global,
     image: &Image,
+    symbols: &Places,
     sources: &[SourceLine],
     places: &[u32],
 ) -> Result<(), NoMemory> {
@@ -33,7 +34,7 @@ pub(crate) fn put_listing(
                 break;
             }
             left = from_address(left, address);
-            put_row(json, alloc, image, left, address)?;
+            put_row(json, alloc, image, symbols, left, address)?;
             next = address.saturating_add(4);
         }
     }
@@ -57,6 +58,7 @@ fn put_row(
     json: &mut Json,
     alloc: Global,
     image: &Image,
+    symbols: &Places,
     sources: &[SourceLine],
     address: u32,
 ) -> Result<(), NoMemory> {
@@ -64,7 +66,7 @@ fn put_row(
         return Ok(());
     };
     let mut name = Vec::new(alloc);
-    write_place(image.symbols.as_slice(), address, &mut name)?;
+    symbols.write(address, &mut name)?;
     json.begin_line()?;
     json.begin_list()?;
     json.word(address)?;
@@ -115,13 +117,13 @@ fn bytes_at(segment: &Segment, address: u32) -> Option<[u8; 4]> {
 pub(crate) fn put_names(
     json: &mut Json,
     alloc: Global,
-    image: &Image,
+    symbols: &Places,
     addresses: &[u32],
 ) -> Result<(), NoMemory> {
     json.begin_list()?;
     for address in addresses {
         let mut name = Vec::new(alloc);
-        write_place(image.symbols.as_slice(), *address, &mut name)?;
+        symbols.write(*address, &mut name)?;
         json.begin_line()?;
         json.begin_list()?;
         json.word(*address)?;

@@ -12,7 +12,7 @@ use brd_board::Board;
 use brd_exec::Context;
 use brd_happening::{Before, Happening, Instruction, What};
 use brd_journal::Playback;
-use brd_listing::write_instruction;
+use brd_listing::{Places, write_instruction};
 use brd_trace::{Manner, Tracer};
 use std::alloc::Global;
 
@@ -90,7 +90,12 @@ impl Recorder {
     }
 
     /// Plays the next event, and puts it at the end.
-    pub(crate) fn step(&mut self, alloc: Global, part: Part) -> Result<(), NoMemory> {
+    pub(crate) fn step(
+        &mut self,
+        alloc: Global,
+        part: Part,
+        symbols: &Places,
+    ) -> Result<(), NoMemory> {
         let at = self.playback.at;
         if at >= part.journal.len() || self.tracer.playback.at > at {
             return Ok(());
@@ -102,7 +107,7 @@ impl Recorder {
         let moved = self.playback.advance(rest, at + 1, at + 1);
         let happening = before.happening(alloc, moved.report, &self.playback.board)?;
         let mut line = Vec::new(alloc);
-        let manner = manner_of(part.image);
+        let manner = manner_of(part.image, symbols);
         self.tracer
             .advance(alloc, manner, part.journal, at + 1, &mut line)?;
         self.tracer.finish(alloc, manner, &mut line)?;
@@ -115,7 +120,7 @@ impl Recorder {
         let what = happening.what;
         match what {
             What::Instruction(done) => self.put_done(alloc, part, &happening, &done)?,
-            _ => self.put_more(alloc, part, &happening, at, &line)?,
+            _ => self.put_more(alloc, symbols, &happening, at, &line)?,
         }
         self.json.end_object()
     }
@@ -146,12 +151,11 @@ impl Recorder {
     fn put_more(
         &mut self,
         alloc: Global,
-        part: Part,
+        symbols: &Places,
         happening: &Happening,
         at: u64,
         line: &[u8],
     ) -> Result<(), NoMemory> {
-        let symbols = part.image.symbols.as_slice();
         let words = words_of(alloc, line, symbols, at, happening.place)?;
         self.json.key("t")?;
         self.json.string(&words)?;

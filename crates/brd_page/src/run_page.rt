@@ -11,6 +11,7 @@ use crate::source::SourceLine;
 use crate::template::{FRONT, MIDDLE, REST};
 use brd_base::NoMemory;
 use brd_journal::Journal;
+use brd_listing::Places;
 use brd_mem::Image;
 use brd_timeline::{PictureFault, svg};
 use brd_trace::{Manner, Names, Tracer};
@@ -53,31 +54,37 @@ pub fn page(alloc: Global, tracer: Tracer, part: Part) -> Result<Vec<u8>, PageFa
     if part.to.saturating_sub(tracer.playback.at) > MOST_EVENTS {
         return Err(PageFault::TooMuch);
     }
-    let mut recorder = Recorder::new(alloc, tracer, manner_of(part.image))?;
-    put_events(alloc, &mut recorder, part)?;
-    put_places(alloc, &mut recorder, part)?;
+    let symbols = Places::new(alloc, part.image.symbols.as_slice())?;
+    let mut recorder = Recorder::new(alloc, tracer, manner_of(part.image, &symbols))?;
+    put_events(alloc, &mut recorder, part, &symbols)?;
+    put_places(alloc, &mut recorder, part, &symbols)?;
     let Recorder { tracer, json, .. } = recorder;
     let picture = picture_of(alloc, tracer, part.journal)?;
     whole(alloc, &picture, &json)
 }
 
-/// How the lines of an image's board are made.
-pub(crate) fn manner_of<'a>(image: &'a Image) -> Manner<'a> {
+/// How the lines of an image's board are made, by these symbols.
+pub(crate) fn manner_of<'a>(image: &'a Image, symbols: &'a Places<'_>) -> Manner<'a> {
     Manner {
-        names: Names::new(image.symbols.as_slice(), image.segments.as_slice()),
+        names: Names::new(symbols, image.segments.as_slice()),
         order: image.order,
         words: &[],
     }
 }
 
 /// Puts at the end how the board stands, and the events up to the end of the part.
-fn put_events(alloc: Global, recorder: &mut Recorder, part: Part) -> Result<(), PageFault> {
+fn put_events(
+    alloc: Global,
+    recorder: &mut Recorder,
+    part: Part,
+    symbols: &Places,
+) -> Result<(), PageFault> {
     recorder.json.begin_object()?;
     recorder.put_begin()?;
     recorder.json.key("events")?;
     recorder.json.begin_list()?;
     for _ in recorder.playback.at..part.to {
-        recorder.step(alloc, part)?;
+        recorder.step(alloc, part, symbols)?;
         if recorder.json.len() > MOST_BYTES {
             return Err(PageFault::TooMuch);
         }
@@ -87,16 +94,28 @@ fn put_events(alloc: Global, recorder: &mut Recorder, part: Part) -> Result<(), 
 }
 
 /// Puts the listing at the end, and the names of the words that were loaded or stored.
-fn put_places(alloc: Global, recorder: &mut Recorder, part: Part) -> Result<(), NoMemory> {
+fn put_places(
+    alloc: Global,
+    recorder: &mut Recorder,
+    part: Part,
+    symbols: &Places,
+) -> Result<(), NoMemory> {
     let json = &mut recorder.json;
     recorder.places.sort()?;
     recorder.places.dedup();
     recorder.words.sort()?;
     recorder.words.dedup();
     json.key("listing")?;
-    put_listing(json, alloc, part.image, part.sources, &recorder.places)?;
+    put_listing(
+        json,
+        alloc,
+        part.image,
+        symbols,
+        part.sources,
+        &recorder.places,
+    )?;
     json.key("words")?;
-    put_names(json, alloc, part.image, &recorder.words)?;
+    put_names(json, alloc, symbols, &recorder.words)?;
     json.end_object()
 }
 

@@ -1,8 +1,7 @@
 //! What is said of an event, without the columns that stand before it in a line of a trace.
 
 use brd_base::NoMemory;
-use brd_listing::write_place;
-use brd_mem::Symbol;
+use brd_listing::Places;
 use itoa::Buffer;
 use std::alloc::Global;
 
@@ -16,7 +15,7 @@ const POSITION: usize = 10;
 pub(crate) fn words_of(
     alloc: Global,
     line: &[u8],
-    symbols: &[Symbol],
+    symbols: &Places,
     position: u64,
     place: Option<u32>,
 ) -> Result<Vec<u8>, NoMemory> {
@@ -24,7 +23,7 @@ pub(crate) fn words_of(
     let rest = match place {
         Some(place) => {
             let mut name = Vec::new(alloc);
-            write_place(symbols, place, &mut name)?;
+            symbols.write(place, &mut name)?;
             without_name(rest, &name)
         }
         None => rest,

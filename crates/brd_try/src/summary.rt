@@ -4,6 +4,7 @@ use crate::turning::Turned;
 use brd_base::NoMemory;
 use brd_board::{Board, TaskState, TaskView};
 use brd_journal::Journal;
+use brd_listing::Places;
 use brd_mem::{Image, Segment};
 use brd_text::hex_digits;
 use brd_trace::{Manner, Names, Options, Tracer};
@@ -34,8 +35,9 @@ fn put_summary(
     journal: &Journal,
     out: &mut Vec<u8>,
 ) -> Result<(), NoMemory> {
+    let symbols = Places::new(alloc, image.symbols.as_slice())?;
     let manner = Manner {
-        names: Names::new(image.symbols.as_slice(), image.segments.as_slice()),
+        names: Names::new(&symbols, image.segments.as_slice()),
         order: image.order,
         words: &[],
     };
@@ -52,7 +54,7 @@ fn put_summary(
         let mut lines = Vec::new(alloc);
         tracer.advance_far(alloc, manner, journal, len, &mut lines)?;
     }
-    tracer.put_summary(alloc, manner.names, out)
+    tracer.put_summary(alloc, manner.names, journal, out)
 }
 
 /// Puts a line at the end where a task goes on, or has stopped by an exception, at an address at which nothing of the
