@@ -1,5 +1,5 @@
 -- A trace of what was read.
-use Rattle.std.proofs.Common.{rules, ◌≡◌, ℕ, ◌≤◌, Bool, true, false, List, [], ◌++◌, length, inl, refl, sym, ap, ◌∙◌, subst, arith}
+use Rattle.std.proofs.Common.{rules, ◌≡◌, ℕ, ◌≤◌, Bool, true, false, List, [], ◌++◌, length, inl, refl, sym, ap, ◌∙◌, subst, append_assoc, arith}
 use Rattle.std.specs.Bool.{MatchBool}
 use Rattle.std.specs.Prelude.{Option, Some, None, IfSome, Result, Ok, Err, MatchResult, codes}
 use Rattle.std.specs.Io.KnownBytes.{Appends}
@@ -9,16 +9,24 @@ use Rattle.brd_board.specs.Board.{BoardState}
 use Rattle.brd_trace.specs.declared.printer.{Manner.Manner, Printer.Printer}
 use Rattle.brd_trace.specs.Telling.{IsFirstLine, IsTrace, held_text}
 use Rattle.brd_trace.proofs.TraceLemmas.{trace_nothing, trace_on}
+use Rattle.brd_timeline.specs.declared.timeline.Timeline.{Timeline}
+use Rattle.brd_timeline.specs.Events.{json_text}
 use Rattle.brd_timeline.specs.Ends.{EndsWith}
+use Rattle.brd_spins.specs.declared.spin.Spin.{Spin}
+use Rattle.brd_spins.specs.Since.{AreSpins}
+use Rattle.brd_spins.specs.Text.{spins_text}
+use Rattle.brd_trace.specs.Slices.{AreSlices}
 use Rattle.brd_journal.specs.declared.playback.Playback.{Playback}
 use Rattle.brd_journal.specs.Playing.{IsPlayed, board_at}
 use Rattle.brd_inputs.specs.declared.fault.CommandFault.TheVariants as fault
 use Rattle.brd_command.specs.declared.trace_command.Part.{Part}
 use Rattle.brd_command.specs.declared.trace_options.TraceFormat.{TraceFormat}
-use Rattle.brd_command.specs.declared.trace_options.TraceFormat.TheVariants.{Text}
-use Rattle.brd_command.specs.TraceCommand.{EndsTracing, IsOfWriting, TraceEnds, WritesLines, WritesSummary, WritesTold, WritesTrace}
+use Rattle.brd_command.specs.declared.trace_options.TraceFormat.TheVariants.{Text, Json, Svg}
+use Rattle.brd_command.specs.TraceCommand.{EndsTracing, IsOfWriting, TraceEnds, WritesLines, WritesSummary, WritesTimeline, WritesTold, WritesTrace, WritesWholeSummary}
 use Rattle.brd_command.specs.TraceCommand.{IsPart, IsMannerOf, IsShown, WritesForm, first_of, end_of, head, words_asked}
 use Rattle.brd_trace.specs.Summary.{IsEnd, IsSummary}
+use Rattle.brd_report.specs.Output.{Writes}
+use Rattle.brd_command.specs.TraceCommand.{EndsDrawing, IsPicture}
 use Rattle.brd_command.specs.TraceCommand.{EndsRacing, KeepsFromTracing, WritesAllRaces, WritesAllStacks, WritesOther, WritesShown}
 use Rattle.brd_command.specs.RacesCommand.{WritesRaces}
 use Rattle.brd_command.specs.StacksCommand.{WritesStacks}
@@ -139,9 +147,111 @@ text-ends start options part manner first old new (Ok done) is text races stacks
       ordered,
       subst (λ (b : Bool). MatchBool b (WritesAllRaces start options old new) (WritesOther start options old new)) (sym races)
           (subst (λ (b : Bool). MatchBool b (WritesAllStacks start options old new) (WritesShown start options old new)) (sym stacks)
-          (subst (λ (b : Bool). MatchBool b (WritesSummary start.image.symbols start.board start.journal.events (end_of options len) old new)
+          (subst (λ (b : Bool). MatchBool b (WritesWholeSummary start options old new)
           (WritesForm options.format start options old new)) (sym lines)
           (subst (λ (f : Option TraceFormat). WritesForm f start options old new) (sym (is.format ∙ ap Some text)) trace))),
+    )
+
+-- a timeline was written, which the options ask for
+
+pub timeline-written : (boot : BoardState) (events : List Event) (from to : ℕ) (timeline : Timeline) (bytes : List ℕ) (old new : Option (List ℕ))
+    (result : Result Unit CommandFault) → AreSlices boot events from to timeline → bytes ≡ json_text timeline →
+    MatchResult result (λ _. Appends old new bytes) IsOfWriting →
+    MatchResult result (λ _. WritesTimeline boot events from to old new) IsOfWriting
+timeline-written boot events from to timeline bytes old new (Err fault) are is of = of
+timeline-written boot events from to timeline bytes old new (Ok done) are is written = record {
+  timeline = timeline;
+  are_slices = are;
+  written = subst (λ (them : List ℕ). Appends old new them) is written;
+}
+
+pub json-ends : (start : Start) (options : TraceOptions) (part : Part) (old new : Option (List ℕ)) (result : Result Unit CommandFault)
+    → IsPart options (length start.journal.events) part → part.format ≡ Json → options.races ≡ false → options.stacks ≡ false → options.summary ≡ false
+    → MatchResult result (λ _. WritesTimeline start.board start.journal.events part.from part.to old new) IsOfWriting
+    → EndsTracing result options start old new
+json-ends start options part old new (Err fault) is json races stacks lines of = of_writing fault options start old new of
+json-ends start options part old new (Ok done) is json races stacks lines written =
+    let len = length start.journal.events in
+    let from_there = subst (λ (n : ℕ). WritesTimeline start.board start.journal.events n part.to old new) is.from written in
+    let both = subst (λ (n : ℕ). WritesTimeline start.board start.journal.events (first_of options) n old new) is.to from_there in
+    let ordered : first_of options ≤ end_of options len = subst (λ (n : ℕ). n ≤ end_of options len) is.from
+    (subst (λ (n : ℕ). part.from ≤ n) is.to is.ordered) in (
+      ordered,
+      subst (λ (b : Bool). MatchBool b (WritesAllRaces start options old new) (WritesOther start options old new)) (sym races)
+          (subst (λ (b : Bool). MatchBool b (WritesAllStacks start options old new) (WritesShown start options old new)) (sym stacks)
+          (subst (λ (b : Bool). MatchBool b (WritesWholeSummary start options old new) (WritesForm options.format start options old new)) (sym lines)
+          (subst (λ (f : Option TraceFormat). WritesForm f start options old new) (sym (is.format ∙ ap Some json)) both))),
+    )
+
+-- a picture was drawn, which the options ask for
+
+pub drawing-ends : (boot : BoardState) (events : List Event) (from to : ℕ) (bytes : List ℕ) (old new : Option (List ℕ))
+    (result : Result Unit CommandFault) → IsPicture boot events from to bytes → MatchResult result (λ _. Appends old new bytes) IsOfWriting →
+    EndsDrawing result boot events from to old new
+drawing-ends boot events from to bytes old new (Ok done) is written = record { bytes = bytes; are_meant = is; written = written }
+drawing-ends boot events from to bytes old new (Err fault.NoMemory) is of = tt
+drawing-ends boot events from to bytes old new (Err fault.Argument) is of = absurd of
+drawing-ends boot events from to bytes old new (Err (fault.Words a)) is of = absurd of
+drawing-ends boot events from to bytes old new (Err (fault.Source a b c)) is of = absurd of
+drawing-ends boot events from to bytes old new (Err fault.ImageTooLarge) is of = absurd of
+drawing-ends boot events from to bytes old new (Err (fault.Open a b)) is of = absurd of
+drawing-ends boot events from to bytes old new (Err (fault.Read a b)) is of = absurd of
+drawing-ends boot events from to bytes old new (Err (fault.TooLong a)) is of = absurd of
+drawing-ends boot events from to bytes old new (Err (fault.TooManyReads a)) is of = absurd of
+drawing-ends boot events from to bytes old new (Err (fault.Build a b)) is of = absurd of
+drawing-ends boot events from to bytes old new (Err (fault.Journal a b)) is of = absurd of
+drawing-ends boot events from to bytes old new (Err (fault.OtherOrder a)) is of = absurd of
+drawing-ends boot events from to bytes old new (Err (fault.Script a b)) is of = absurd of
+drawing-ends boot events from to bytes old new (Err (fault.Race a)) is of = absurd of
+drawing-ends boot events from to bytes old new (Err (fault.Trace a)) is of = absurd of
+drawing-ends boot events from to bytes old new (Err (fault.Schedule a)) is of = absurd of
+drawing-ends boot events from to bytes old new (Err (fault.Search a)) is of = absurd of
+drawing-ends boot events from to bytes old new (Err fault.Fails) is of = absurd of
+drawing-ends boot events from to bytes old new (Err fault.Passes) is of = absurd of
+drawing-ends boot events from to bytes old new (Err (fault.Write a)) is of = tt
+
+of_drawing : (fault : CommandFault) (options : TraceOptions) (start : Start) (from to : ℕ) (old new : Option (List ℕ)) →
+    options.format ≡ Some Svg → options.summary ≡ false → EndsDrawing (Err fault) start.board start.journal.events from to old new →
+    EndsTracing (Err fault) options start old new
+of_drawing fault.NoMemory options start from to old new format lines of = tt
+of_drawing fault.Argument options start from to old new format lines of = absurd of
+of_drawing (fault.Words a) options start from to old new format lines of = absurd of
+of_drawing (fault.Source a b c) options start from to old new format lines of = absurd of
+of_drawing fault.ImageTooLarge options start from to old new format lines of = absurd of
+of_drawing (fault.Open a b) options start from to old new format lines of = absurd of
+of_drawing (fault.Read a b) options start from to old new format lines of = absurd of
+of_drawing (fault.TooLong a) options start from to old new format lines of = absurd of
+of_drawing (fault.TooManyReads a) options start from to old new format lines of = absurd of
+of_drawing (fault.Build a b) options start from to old new format lines of = absurd of
+of_drawing (fault.Journal a b) options start from to old new format lines of = absurd of
+of_drawing (fault.OtherOrder a) options start from to old new format lines of = absurd of
+of_drawing (fault.Script a b) options start from to old new format lines of = absurd of
+of_drawing (fault.Race a) options start from to old new format lines of = absurd of
+of_drawing (fault.Trace a) options start from to old new format lines of =
+    (subst (λ (f : TraceFault). KeepsFromTracing options start f) (sym of.0) (format, lines), of.1)
+of_drawing (fault.Schedule a) options start from to old new format lines of = absurd of
+of_drawing (fault.Search a) options start from to old new format lines of = absurd of
+of_drawing fault.Fails options start from to old new format lines of = absurd of
+of_drawing fault.Passes options start from to old new format lines of = absurd of
+of_drawing (fault.Write a) options start from to old new format lines of = tt
+
+pub svg-ends : (start : Start) (options : TraceOptions) (part : Part) (old new : Option (List ℕ)) (result : Result Unit CommandFault)
+    → IsPart options (length start.journal.events) part → part.format ≡ Svg → options.races ≡ false → options.stacks ≡ false → options.summary ≡ false
+    → EndsDrawing result start.board start.journal.events part.from part.to old new
+    → EndsTracing result options start old new
+svg-ends start options part old new (Err fault) is svg races stacks lines of =
+    of_drawing fault options start part.from part.to old new (is.format ∙ ap Some svg) lines of
+svg-ends start options part old new (Ok done) is svg races stacks lines written =
+    let len = length start.journal.events in
+    let from_there = subst (λ (n : ℕ). Writes (IsPicture start.board start.journal.events n part.to) old new) is.from written in
+    let both = subst (λ (n : ℕ). Writes (IsPicture start.board start.journal.events (first_of options) n) old new) is.to from_there in
+    let ordered : first_of options ≤ end_of options len = subst (λ (n : ℕ). n ≤ end_of options len) is.from
+    (subst (λ (n : ℕ). part.from ≤ n) is.to is.ordered) in (
+      ordered,
+      subst (λ (b : Bool). MatchBool b (WritesAllRaces start options old new) (WritesOther start options old new)) (sym races)
+          (subst (λ (b : Bool). MatchBool b (WritesAllStacks start options old new) (WritesShown start options old new)) (sym stacks)
+          (subst (λ (b : Bool). MatchBool b (WritesWholeSummary start options old new) (WritesForm options.format start options old new)) (sym lines)
+          (subst (λ (f : Option TraceFormat). WritesForm f start options old new) (sym (is.format ∙ ap Some svg)) both))),
     )
 
 -- races were looked for, as the options ask
@@ -204,22 +314,26 @@ stacks-end start options part old new (Ok done) is races stacks written =
     )
 
 -- a summary was written, as the options ask
-pub summary-ends : (start : Start) (options : TraceOptions) (part : Part) (symbols : List Symbol) (old new : Option (List ℕ))
+pub summary-ends : (start : Start) (options : TraceOptions) (part : Part) (names : Names) (old new : Option (List ℕ))
     (result : Result Unit CommandFault) → IsPart options (length start.journal.events) part → options.summary ≡ true → options.races ≡ false →
-    options.stacks ≡ false → symbols ≡ start.image.symbols →
-    MatchResult result (λ _. WritesSummary symbols start.board start.journal.events part.to old new) IsOfWriting →
+    options.stacks ≡ false → names.symbols.now ≡ start.image.symbols → names.segments.now ≡ start.image.segments →
+    MatchResult result (λ _. WritesSummary names start.image.symbols start.board start.journal.events part.to old new) IsOfWriting →
     EndsTracing result options start old new
-summary-ends start options part symbols old new (Err fault) is summary races stacks same of = of_writing fault options start old new of
-summary-ends start options part symbols old new (Ok done) is summary races stacks same written =
+summary-ends start options part names old new (Err fault) is summary races stacks symbols segments of = of_writing fault options start old new of
+summary-ends start options part names old new (Ok done) is summary races stacks symbols segments written =
     let len = length start.journal.events in
     let ordered : first_of options ≤ end_of options len = subst (λ (n : ℕ). n ≤ end_of options len) is.from
     (subst (λ (n : ℕ). part.from ≤ n) is.to is.ordered) in
-    let named = subst (λ (them : List Symbol). WritesSummary them start.board start.journal.events part.to old new) same written in
-    let whole = subst (λ (n : ℕ). WritesSummary start.image.symbols start.board start.journal.events n old new) is.to named in (
+    let whole : WritesWholeSummary start options old new = record {
+      names = names;
+      symbols = symbols;
+      segments = segments;
+      summary = subst (λ (n : ℕ). WritesSummary names start.image.symbols start.board start.journal.events n old new) is.to written;
+    } in (
       ordered,
       subst (λ (b : Bool). MatchBool b (WritesAllRaces start options old new) (WritesOther start options old new)) (sym races)
           (subst (λ (b : Bool). MatchBool b (WritesAllStacks start options old new) (WritesShown start options old new)) (sym stacks)
-          (subst (λ (b : Bool). MatchBool b (WritesSummary start.image.symbols start.board start.journal.events (end_of options len) old new)
+          (subst (λ (b : Bool). MatchBool b (WritesWholeSummary start options old new)
           (WritesForm options.format start options old new)) (sym summary) whole)),
     )
 
@@ -229,16 +343,19 @@ begins events p start =
     let none : p.board ≡ board_at p.board events 0 = search rules in
     record { board = subst (λ (n : ℕ). p.board ≡ board_at p.board events n) (sym start) none; within = omega (arith, start) }
 
-module _ (symbols : List Symbol) (boot : BoardState) (events : List Event) (n : ℕ) (old mid new : Option (List ℕ)) (first rest : List ℕ)
-    (is_first : IsEnd boot events n first) (is_rest : IsSummary symbols boot events n rest) (written : Appends old mid first) where
-  pub summary-last : (result : Result Unit CommandFault) → MatchResult result (λ _. Appends mid new rest) IsOfWriting →
-      MatchResult result (λ _. WritesSummary symbols boot events n old new) IsOfWriting
+module _ (names : Names) (symbols : List Symbol) (boot : BoardState) (events : List Event) (n : ℕ) (old mid new : Option (List ℕ))
+    (first rest bytes : List ℕ) (spins : List Spin) (is_first : IsEnd boot events n first) (is_rest : IsSummary names boot events n rest)
+    (are_spins : AreSpins boot events n spins) (are : bytes ≡ rest ++ spins_text symbols spins) (written : Appends old mid first) where
+  pub summary-last : (result : Result Unit CommandFault) → MatchResult result (λ _. Appends mid new bytes) IsOfWriting →
+      MatchResult result (λ _. WritesSummary names symbols boot events n old new) IsOfWriting
   summary-last (Ok done) more = record {
     first = first;
     rest = rest;
     is_first = is_first;
+    spins = spins;
     is_rest = is_rest;
-    written = one_more old mid new first rest written more;
+    are_spins = are_spins;
+    written = subst (λ (them : List ℕ). Appends old new (first ++ them)) are (one_more old mid new first bytes written more);
   }
   summary-last (Err fault) of = of
 

@@ -6,14 +6,20 @@ use Rattle.std.specs.Io.KnownBytes.{Appends, Keeps}
 use Rattle.brd_mem.specs.declared.image.{Image.Image, Symbol.Symbol}
 use Rattle.brd_board.specs.declared.event.Event.{Event}
 use Rattle.brd_board.specs.Board.{BoardState}
+use Rattle.brd_timeline.specs.declared.timeline.Timeline.{Timeline}
 use Rattle.brd_timeline.specs.Ends.{EndsWith}
+use Rattle.brd_timeline.specs.Events.{json_text}
+use Rattle.brd_timeline.specs.Bars.{slices_text, Holds}
+use Rattle.brd_spins.specs.declared.spin.Spin.{Spin}
+use Rattle.brd_spins.specs.Since.{AreSpins}
+use Rattle.brd_spins.specs.Text.{spins_text}
 use Rattle.brd_page.specs.Page.{IsRunPage}
 use Rattle.brd_trace.specs.declared.names.Names.{Names}
 use Rattle.brd_trace.specs.declared.printer.{Manner.Manner, Printer.Printer}
 use Rattle.brd_trace.specs.Telling.{IsFirstLine, IsTrace, held_text}
 use Rattle.brd_trace.specs.Words.{words_of}
 use Rattle.brd_trace.specs.declared.tracer.Tracer.{Tracer}
-use Rattle.brd_trace.specs.Noted.{IsNoted}
+use Rattle.brd_trace.specs.Slices.{IsNoted, AreSlices}
 use Rattle.brd_trace.specs.Dated.{IsDated}
 use Rattle.brd_trace.specs.Summary.{IsEnd, IsSummary}
 use Rattle.brd_journal.specs.Playing.{IsPlayed}
@@ -93,21 +99,30 @@ IsOfWords words (Trace NoSymbol) = words ≡ Err no.NoSymbol
 IsOfWords words (Trace NoWord) = words ≡ Err no.NoWord
 IsOfWords words fault = ⊥
 
--- what a tracer knows of the board that has played the first events of a journal is so
+-- What a tracer knows of the board that has played the first events of a journal is so, and what its timeline has up to
+-- there;
+pub record IsKnown (boot : BoardState) (events : List Event) (tracer : Tracer) : Type 0 where
+  pub played : IsPlayed boot events tracer.playback
+  pub noted : IsNoted boot events tracer.playback.at tracer.notes
+
+-- and what it knows of the events before.
 pub record IsFollowed (boot : BoardState) (events : List Event) (tracer : Tracer) : Type 0 where
   pub played : IsPlayed boot events tracer.playback
   pub noted : IsNoted boot events tracer.playback.at tracer.notes
   pub dated : IsDated boot events tracer.playback.at tracer.notes
 
 -- A summary was written: how many events there were, the tick, and which event turned the board off; and how its
--- processors and its tasks stand after them, since when, and the last exceptions.
-pub record WritesSummary (symbols : List Symbol) (boot : BoardState) (events : List Event) (n : ℕ)
+-- processors and its tasks stand after them, since when, and each processor's last step and last exception; and
+-- processors that spin.
+pub record WritesSummary (names : Names) (symbols : List Symbol) (boot : BoardState) (events : List Event) (n : ℕ)
     (old new : Option (List ℕ)) : Type 0 where
   pub first : List ℕ
   pub rest : List ℕ
+  pub spins : List Spin
   pub is_first : IsEnd boot events n first
-  pub is_rest : IsSummary symbols boot events n rest
-  pub written : Appends old new (first ++ rest)
+  pub is_rest : IsSummary names boot events n rest
+  pub are_spins : AreSpins boot events n spins
+  pub written : Appends old new (first ++ (rest ++ spins_text symbols spins))
 
 -- the names of a trace's columns
 abbrev pub head : List ℕ
@@ -162,13 +177,29 @@ pub record WritesTrace (start : Start) (options : TraceOptions) (old new : Optio
   pub lines : WritesLines head manner start.board start.journal.events (first_of options)
       (end_of options (length start.journal.events)) first old new
 
--- What is written in each form. A timeline ends as an object of JSON, and a picture as one of SVG; of what stands before
--- it nothing is said here. A page is one of brd_page. Of counts it is said that their last line is whole.
+-- a timeline from one position to another was written as trace events in JSON, whose slices are of what goes on
+pub record WritesTimeline (boot : BoardState) (events : List Event) (from to : ℕ) (old new : Option (List ℕ)) : Type 0 where
+  pub timeline : Timeline
+  pub are_slices : AreSlices boot events from to timeline
+  pub written : Appends old new (json_text timeline)
+
+-- a picture of SVG of a timeline from one position to another: it has the bars of its slices, which are of what goes on
+pub record IsPicture (boot : BoardState) (events : List Event) (from to : ℕ) (text : List ℕ) : Type 0 where
+  pub timeline : Timeline
+  pub are_slices : AreSlices boot events from to timeline
+  pub bars : Holds (slices_text timeline) text
+  pub ends : EndsWith (codes "</svg>\n") text
+
+-- What is written in each form. Of what a picture has besides bars nothing is said here. A page is one of brd_page. Of counts it is said that their last line is whole.
 abbrev pub WritesForm : Option TraceFormat → Start → TraceOptions → Option (List ℕ) → Option (List ℕ) → Type 0
 WritesForm None start options old new = ⊥
 WritesForm (Some Text) start options old new = WritesTrace start options old new
-WritesForm (Some Json) start options old new = Writes (EndsWith (codes "\n]}\n")) old new
-WritesForm (Some Svg) start options old new = Writes (EndsWith (codes "</svg>\n")) old new
+WritesForm (Some Json) start options old new =
+    WritesTimeline start.board start.journal.events (first_of options) (end_of options (length start.journal.events)) old
+    new
+WritesForm (Some Svg) start options old new =
+    Writes (IsPicture start.board start.journal.events (first_of options) (end_of options (length start.journal.events)))
+    old new
 WritesForm (Some Html) start options old new = Writes IsRunPage old new
 WritesForm (Some Lcov) start options old new = Writes (EndsWith (codes "\n")) old new
 WritesForm (Some Callgrind) start options old new = Writes (EndsWith (codes "\n")) old new
@@ -180,12 +211,19 @@ pub record WritesAllRaces (start : Start) (options : TraceOptions) (old new : Op
   pub segments : names.segments.now ≡ start.image.segments
   pub races : WritesRaces names start.board start.journal.events (end_of options (length start.journal.events)) old new
 
--- a summary of the board after the events up to where the options end is written, or the form that was asked for
+-- a summary of the board after the events up to where the options end was written, by the names of the image
+pub record WritesWholeSummary (start : Start) (options : TraceOptions) (old new : Option (List ℕ)) : Type 0 where
+  pub names : Names
+  pub symbols : names.symbols.now ≡ start.image.symbols
+  pub segments : names.segments.now ≡ start.image.segments
+  pub summary :
+      WritesSummary names start.image.symbols start.board start.journal.events
+      (end_of options (length start.journal.events)) old new
+
+-- a summary is written, or the form that was asked for
 abbrev pub WritesShown : Start → TraceOptions → Option (List ℕ) → Option (List ℕ) → Type 0
 WritesShown start options old new =
-    MatchBool options.summary
-    (WritesSummary start.image.symbols start.board start.journal.events (end_of options (length start.journal.events))
-    old new)
+    MatchBool options.summary (WritesWholeSummary start options old new)
     (WritesForm options.format start options old new)
 
 -- the stacks up to where the options end, or the first store below one, were written, by the symbols of the image
@@ -211,10 +249,11 @@ IsOfWriting (Write error) = Unit {0}
 IsOfWriting fault = ⊥
 
 -- how a picture ends that has begun: it is written, or has too much to draw, and then nothing is; or as above
-abbrev pub EndsDrawing : Result Unit CommandFault → Option (List ℕ) → Option (List ℕ) → Type 0
-EndsDrawing (Ok done) old new = Writes (EndsWith (codes "</svg>\n")) old new
-EndsDrawing (Err (Trace fault)) old new = (fault ≡ TooMuch) × Keeps old new
-EndsDrawing (Err fault) old new = IsOfWriting fault
+abbrev pub EndsDrawing : Result Unit CommandFault → BoardState → List Event → ℕ → ℕ → Option (List ℕ) →
+    Option (List ℕ) → Type 0
+EndsDrawing (Ok done) boot events from to old new = Writes (IsPicture boot events from to) old new
+EndsDrawing (Err (Trace fault)) boot events from to old new = (fault ≡ TooMuch) × Keeps old new
+EndsDrawing (Err fault) boot events from to old new = IsOfWriting fault
 
 -- how a page ends that has begun: it is written, or has too much to show, and then nothing is; or as above
 abbrev pub EndsPaging : Result Unit CommandFault → Option (List ℕ) → Option (List ℕ) → Type 0

@@ -9,6 +9,7 @@ use brd_board::Board;
 use brd_config::Config;
 use brd_gdb::{Monitor, Request};
 use brd_journal::{Journal, MOST_RUNS};
+use brd_listing::Places;
 use brd_mem::Image;
 use brd_progress::Progress;
 use brd_trace::{HEAD, Manner, Names, Options, Tracer};
@@ -94,11 +95,13 @@ impl History {
         progress: &mut P,
     ) -> Result<Vec<u8>, NoMemory> {
         let most = (lines as u64).min(MOST_LINES);
+        let symbols = Places::new(alloc, self.image.symbols.as_slice())?;
         let mut back = FIRST;
         let mut tail = Tail::new(alloc, most);
         for _ in 0..ROUNDS {
             let from = position.saturating_sub(back);
-            tail = self.tail(self.traced(alloc, from, position), most, progress)?;
+            let traced = self.traced(alloc, &symbols, from, position);
+            tail = self.tail(traced, most, progress)?;
             if from == 0 || tail.count > most {
                 break;
             }
@@ -141,17 +144,24 @@ impl History {
         position: u64,
         progress: &mut P,
     ) -> Result<Vec<u8>, NoMemory> {
-        let traced = self.traced(alloc, 0, position);
+        let symbols = Places::new(alloc, self.image.symbols.as_slice())?;
+        let traced = self.traced(alloc, &symbols, 0, position);
         let mut tracer = self.tracer(alloc)?;
         traced.play(&mut tracer, traced.part.to, progress)?;
         let mut out = Vec::new(alloc);
         tracer.put_end(alloc, &mut out)?;
-        tracer.put_summary(alloc, traced.manner.names, &mut out)?;
+        tracer.put_summary(alloc, traced.manner.names, traced.journal, &mut out)?;
         Ok(out)
     }
 
     /// What a trace of the events between two positions is made of, as far as the journal has some.
-    fn traced(&self, alloc: Global, from: u64, to: u64) -> Traced<'_>
+    fn traced<'a>(
+        &'a self,
+        alloc: Global,
+        symbols: &'a Places<'_>,
+        from: u64,
+        to: u64,
+    ) -> Traced<'a>
         ensures order { result.part.from ≤ result.part.to }
         ensures within { result.part.to ≤ length result.journal.now.events }
     {
@@ -160,10 +170,7 @@ impl History {
         Traced {
             alloc,
             manner: Manner {
-                names: Names::new(
-                    self.image.symbols.as_slice(),
-                    self.image.segments.as_slice(),
-                ),
+                names: Names::new(symbols, self.image.segments.as_slice()),
                 order: self.image.order,
                 words: &[],
             },

@@ -10,12 +10,14 @@ ghost use Rattle.brd_command.specs.TraceCommand.{
   EndsPaging,
   EndsTracing,
   IsFollowed,
+  IsKnown,
   IsOfWords,
   IsOfWriting,
   IsPart,
   KeepsFromAsking,
   TraceEnds,
   WritesSummary,
+  WritesTimeline,
   WritesLines,
   WritesTold,
   head,
@@ -24,6 +26,7 @@ ghost use Rattle.brd_command.specs.TraceCommand.{
 };
 ghost use Rattle.brd_board.specs.Board.{BoardState as BoardOf};
 ghost use Rattle.brd_journal.specs.Playing.{IsPlayed};
+ghost use Rattle.brd_trace.specs.Slices.{begun_of, AreSlices};
 ghost use Rattle.brd_trace.specs.Telling.{IsTrace, shown_by};
 ghost use Rattle.brd_trace.specs.Words.{Adds};
 
@@ -37,10 +40,12 @@ use brd_config::Config;
 use brd_inputs::{CommandFault, Files, Inputs, Start, TraceFault, open_inputs, read_sourced_start};
 use brd_journal::Journal;
 use brd_lines::Source;
+use brd_listing::Places;
 use brd_mem::Image;
 use brd_page::{PageFault, page};
 use brd_progress::Progress;
 use brd_report::write_whole;
+use brd_spins::{put_spins, spins};
 use brd_timeline::{PictureFault, Timeline, json, svg};
 use brd_trace::{HEAD, Manner, Names, Options, Tracer, WordsFault, add_words};
 use std::alloc::Global;
@@ -153,12 +158,9 @@ fn write_trace<W: Write, P: Progress>(
         Ok(()) => {}
         Err(fault) => return Err(fault),
     }
+    let symbols = Places::new(alloc, image.symbols.as_slice())?;
+    let names = Names::with_lines(&symbols, image.segments.as_slice(), &source.lines);
     if options.races {
-        let names = Names::with_lines(
-            image.symbols.as_slice(),
-            image.segments.as_slice(),
-            &source.lines,
-        );
         return write_races(alloc, board, names, &journal, part.to, writer, progress);
     }
     if options.stacks {
@@ -177,11 +179,7 @@ fn write_trace<W: Write, P: Progress>(
     let traced = Traced {
         alloc,
         manner: Manner {
-            names: Names::with_lines(
-                image.symbols.as_slice(),
-                image.segments.as_slice(),
-                &source.lines,
-            ),
+            names,
             order: image.order,
             words: words.as_slice(),
         },
@@ -259,6 +257,9 @@ impl<'a> Traced<'a> {
             tracer.old.printer tracer.new.printer lines.items) }
         ensures follows { (boot : BoardOf) → IsFollowed boot self.now.journal.now.events tracer.old
             → IfOk result (λ _. IsFollowed boot self.now.journal.now.events tracer.new) }
+        ensures knows { (boot : BoardOf) → IsKnown boot self.now.journal.now.events tracer.old
+            → IfOk result (λ _. IsKnown boot self.now.journal.now.events tracer.new) }
+        ensures begun { begun_of tracer.new.notes ≡ begun_of tracer.old.notes }
     {
         let mut lines = Vec::new(self.alloc);
         let piece = tracer.playback.at.saturating_add(PIECE).min(to);
@@ -278,6 +279,9 @@ impl<'a> Traced<'a> {
         ensures at { IfOk result (λ _. tracer.new.playback.at ≡ to) }
         ensures follows { (boot : BoardOf) → IsFollowed boot self.now.journal.now.events tracer.old
             → IfOk result (λ _. IsFollowed boot self.now.journal.now.events tracer.new) }
+        ensures knows { (boot : BoardOf) → IsKnown boot self.now.journal.now.events tracer.old
+            → IfOk result (λ _. IsKnown boot self.now.journal.now.events tracer.new) }
+        ensures begun { begun_of tracer.new.notes ≡ begun_of tracer.old.notes }
     {
         while tracer.playback.at < to {
             let _ = self.advance(tracer, to)?;
@@ -300,6 +304,8 @@ impl<'a> Traced<'a> {
         ensures printer { tracer.new.printer ≡ tracer.old.printer }
         ensures played { (boot : BoardOf) → IsPlayed boot self.now.journal.now.events tracer.old.playback
             → IsPlayed boot self.now.journal.now.events tracer.new.playback }
+        ensures knows { (boot : BoardOf) → IsKnown boot self.now.journal.now.events tracer.old
+            → IfOk result (λ _. IsKnown boot self.now.journal.now.events tracer.new) }
     {
         while tracer.playback.at < to {
             let piece = tracer.playback.at.saturating_add(PIECE).min(to);
@@ -399,15 +405,20 @@ impl<'a> Traced<'a> {
         requires start { tracer.playback.at ≡ 0 }
         requires within { self.now.part.to ≤ length self.now.journal.now.events }
         requires follows { IsFollowed tracer.playback.board self.now.journal.now.events tracer }
-        ensures { MatchResult result (λ _. WritesSummary self.now.manner.names.symbols.now tracer.playback.board
-            self.now.journal.now.events self.now.part.to (W.contents writer.old) (W.contents writer.new)) IsOfWriting }
+        ensures { MatchResult result (λ _. WritesSummary self.now.manner.names self.now.image.now.symbols
+            tracer.playback.board self.now.journal.now.events self.now.part.to (W.contents writer.old)
+            (W.contents writer.new)) IsOfWriting }
     {
+        let boot = tracer.playback.board.try_copy()?;
         let mut tracer = tracer;
         self.play(&mut tracer, self.part.to, progress)?;
         let mut first = Vec::new(self.alloc);
         tracer.put_end(self.alloc, &mut first)?;
         let mut rest = Vec::new(self.alloc);
-        tracer.put_summary(self.alloc, self.manner.names, &mut rest)?;
+        tracer.put_summary(self.alloc, self.manner.names, self.journal, &mut rest)?;
+        let spinning = spins(self.alloc, boot, self.journal, self.part.to)?;
+        let symbols = self.image.symbols.as_slice();
+        put_spins(self.alloc, symbols, spinning.as_slice(), &mut rest)?;
         match written(writer, &first) {
             Ok(()) => {}
             Err(fault) => return Err(fault),
@@ -420,6 +431,9 @@ impl<'a> Traced<'a> {
         requires start { tracer.playback.at ≡ 0 }
         requires from { self.now.part.from ≤ self.now.part.to }
         requires within { self.now.part.to ≤ length self.now.journal.now.events }
+        requires knows { IsKnown tracer.playback.board self.now.journal.now.events tracer }
+        ensures { IfOk result (AreSlices tracer.playback.board self.now.journal.now.events self.now.part.from
+            self.now.part.to) }
     {
         let mut tracer = tracer;
         self.skip(&mut tracer, self.part.from, progress)?;
@@ -441,8 +455,9 @@ impl<'a> Traced<'a> {
         requires start { tracer.playback.at ≡ 0 }
         requires from { self.now.part.from ≤ self.now.part.to }
         requires within { self.now.part.to ≤ length self.now.journal.now.events }
-        ensures { MatchResult result
-            (λ _. Writes (EndsWith (codes "\n]}\n")) (W.contents writer.old) (W.contents writer.new)) IsOfWriting }
+        requires knows { IsKnown tracer.playback.board self.now.journal.now.events tracer }
+        ensures { MatchResult result (λ _. WritesTimeline tracer.playback.board self.now.journal.now.events
+            self.now.part.from self.now.part.to (W.contents writer.old) (W.contents writer.new)) IsOfWriting }
     {
         let timeline = self.timeline(tracer, progress)?;
         let mut out = Vec::new(self.alloc);
@@ -460,7 +475,9 @@ impl<'a> Traced<'a> {
         requires start { tracer.playback.at ≡ 0 }
         requires from { self.now.part.from ≤ self.now.part.to }
         requires within { self.now.part.to ≤ length self.now.journal.now.events }
-        ensures { EndsDrawing result (W.contents writer.old) (W.contents writer.new) }
+        requires knows { IsKnown tracer.playback.board self.now.journal.now.events tracer }
+        ensures { EndsDrawing result tracer.playback.board self.now.journal.now.events self.now.part.from
+            self.now.part.to (W.contents writer.old) (W.contents writer.new) }
     {
         let timeline = self.timeline(tracer, progress)?;
         let mut out = Vec::new(self.alloc);

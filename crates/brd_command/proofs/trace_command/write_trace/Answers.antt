@@ -1,28 +1,30 @@
 use Rattle.std.proofs.Common.{ℕ, List, ◌≡◌, ◌++◌, refl, sym, ap, ◌∙◌, subst}
 use Rattle.std.specs.Prelude.{MatchResult, Ok}
 use Rattle.brd_board.specs.Board.{BoardState}
+use Rattle.brd_board.specs.declared.event.Event.{Event}
+use Rattle.brd_trace.specs.declared.tracer.Tracer.{Tracer}
 use Rattle.brd_trace.specs.declared.printer.{Manner.Manner}
 use Rattle.brd_trace.specs.Telling.{shown_by}
-use Rattle.brd_trace.specs.Noted.{IsNoted}
+use Rattle.brd_trace.specs.Slices.{IsNoted}
 use Rattle.brd_trace.specs.Dated.{IsDated}
 use Rattle.brd_journal.specs.declared.playback.Playback.{Playback}
-use Rattle.brd_command.specs.TraceCommand.{KeepsFromAsking, IsPart, IsOfWriting, WritesLines, WritesSummary, head}
-use Rattle.brd_command.proofs.TraceLemmas.{begins, races-end, stacks-end, summary-ends, text-ends, not_asked, not_chosen}
+use Rattle.brd_command.specs.TraceCommand.{KeepsFromAsking, IsPart, IsOfWriting, WritesLines, WritesSummary, WritesTimeline, EndsDrawing, IsKnown, head}
+use Rattle.brd_command.proofs.TraceLemmas.{begins, json-ends, svg-ends, races-end, stacks-end, summary-ends, text-ends, not_asked, not_chosen}
 use Rattle.brd_command.proofs.trace_command.write_trace.Goals as goal
 
 -- The part is that of the whole journal, the tracer has the board of the start, and it shows what the options ask for.
 pub returns-in-Text : goal.returns-in-Text
 returns-in-Text g c =
     let start = c.args.start in
-    let manner : Manner = record { names = c.with_lines.result; order = start.image.order; words = c.as_slice-4.result } in
+    let manner : Manner = record { names = c.with_lines-names.result; order = start.image.order; words = c.as_slice-3.result } in
     let first = shown_by c.in_ok-tracer.tracer.printer.options in
     let old = g.W.Write.contents c.args.writer.now in
     let new = g.W.Write.contents c.write_lines.new.writer in
     let added = c.in-Ok-choose.ensures in
-    let named = added.is ∙ ap (λ (them : List ℕ). Ok them) (sym (c.as_slice-4.ensures ∙ added.all ∙ ap (λ (them : List ℕ). them ++ added.more) c.new-words.ensures)) in
+    let named = added.is ∙ ap (λ (them : List ℕ). Ok them) (sym (c.as_slice-3.ensures ∙ added.all ∙ ap (λ (them : List ℕ). them ++ added.more) c.new-words.ensures)) in
     text-ends start c.args.options c.in-Ok.part manner first old new c.write_lines.result
     (subst (λ (n : ℕ). IsPart c.args.options n c.in-Ok.part) c.len.ensures.len c.in-Ok.ensures) c.in-Text.is c.if-options.false c.if-options-2.false c.if-options-3.false
-    (record { symbols = c.with_lines.ensures.symbols ∙ c.as_slice-2.ensures; segments = c.with_lines.ensures.segments ∙ c.as_slice-3.ensures; order = refl; words = named })
+    (record { symbols = c.with_lines-names.ensures.symbols ∙ (c.in_ok-symbols.ensures ∙ c.as_slice.ensures); segments = c.with_lines-names.ensures.segments ∙ c.as_slice-2.ensures; order = refl; words = named })
     (record {
       cpu = ap (λ p. p.options.cpu) c.in_ok-tracer.ensures.printer;
       instructions = ap (λ p. p.options.instructions) c.in_ok-tracer.ensures.printer;
@@ -33,6 +35,29 @@ returns-in-Text g c =
     (subst (λ (b : BoardState). MatchResult c.write_lines.result
     (λ _. WritesLines head manner b start.journal.events c.in-Ok.part.from c.in-Ok.part.to first old new) IsOfWriting)
     (ap (λ p. p.board) c.in_ok-tracer.ensures.start) c.write_lines.ensures)
+
+-- The timeline is that of the part, on the board of the start.
+pub returns-in-Json : goal.returns-in-Json
+returns-in-Json g c =
+    let start = c.args.start in
+    let old = g.W.Write.contents c.args.writer.now in
+    let new = g.W.Write.contents c.write_json.new.writer in
+    json-ends start c.args.options c.in-Ok.part old new c.write_json.result
+    (subst (λ (n : ℕ). IsPart c.args.options n c.in-Ok.part) c.len.ensures.len c.in-Ok.ensures) c.in-Json.is c.if-options.false c.if-options-2.false c.if-options-3.false
+    (subst (λ (b : BoardState). MatchResult c.write_json.result
+    (λ _. WritesTimeline b start.journal.events c.in-Ok.part.from c.in-Ok.part.to old new) IsOfWriting)
+    (ap (λ p. p.board) c.in_ok-tracer.ensures.start) c.write_json.ensures)
+
+-- The picture is that of the part, on the board of the start.
+pub returns-in-Svg : goal.returns-in-Svg
+returns-in-Svg g c =
+    let start = c.args.start in
+    let old = g.W.Write.contents c.args.writer.now in
+    let new = g.W.Write.contents c.write_svg.new.writer in
+    svg-ends start c.args.options c.in-Ok.part old new c.write_svg.result
+    (subst (λ (n : ℕ). IsPart c.args.options n c.in-Ok.part) c.len.ensures.len c.in-Ok.ensures) c.in-Svg.is c.if-options.false c.if-options-2.false c.if-options-3.false
+    (subst (λ (b : BoardState). EndsDrawing c.write_svg.result b start.journal.events c.in-Ok.part.from c.in-Ok.part.to old new)
+    (ap (λ p. p.board) c.in_ok-tracer.ensures.start) c.write_svg.ensures)
 
 -- The options give no part of the journal, or name no words.
 pub returns-in-Err : goal.returns-in-Err
@@ -49,7 +74,7 @@ pub returns-then-options : goal.returns-then-options
 returns-then-options g c =
     races-end c.args.start c.args.options c.in-Ok.part c.with_lines-names.result (g.W.Write.contents c.args.writer.now) (g.W.Write.contents c.write_races.new.writer)
     c.write_races.result (subst (λ (n : ℕ). IsPart c.args.options n c.in-Ok.part) c.len.ensures.len c.in-Ok.ensures) c.if-options.true
-    (c.with_lines-names.ensures.symbols ∙ c.as_slice.ensures) (c.with_lines-names.ensures.segments ∙ c.as_slice-then-options.ensures) c.write_races.ensures
+    (c.with_lines-names.ensures.symbols ∙ (c.in_ok-symbols.ensures ∙ c.as_slice.ensures)) (c.with_lines-names.ensures.segments ∙ c.as_slice-2.ensures) c.write_races.ensures
 
 -- The stacks are followed as far as the options say.
 pub returns-then-options-2 : goal.returns-then-options-2
@@ -64,11 +89,11 @@ returns-then-options-3 g c =
     let start = c.args.start in
     let old = g.W.Write.contents c.args.writer.now in
     let new = g.W.Write.contents c.write_summary.new.writer in
-    summary-ends start c.args.options c.in-Ok.part c.with_lines.result.symbols.now old new c.write_summary.result
+    summary-ends start c.args.options c.in-Ok.part c.with_lines-names.result old new c.write_summary.result
     (subst (λ (n : ℕ). IsPart c.args.options n c.in-Ok.part) c.len.ensures.len c.in-Ok.ensures) c.if-options-3.true c.if-options.false c.if-options-2.false
-    (c.with_lines.ensures.symbols ∙ c.as_slice-2.ensures)
+    (c.with_lines-names.ensures.symbols ∙ (c.in_ok-symbols.ensures ∙ c.as_slice.ensures)) (c.with_lines-names.ensures.segments ∙ c.as_slice-2.ensures)
     (subst (λ (b : BoardState). MatchResult c.write_summary.result
-    (λ _. WritesSummary c.with_lines.result.symbols.now b start.journal.events c.in-Ok.part.to old new) IsOfWriting)
+    (λ _. WritesSummary c.with_lines-names.result start.image.symbols b start.journal.events c.in-Ok.part.to old new) IsOfWriting)
     (ap (λ p. p.board) c.in_ok-tracer.ensures.start) c.write_summary.ensures)
 
 -- Of a board to which nothing has happened all that the tracer knows is so.
@@ -86,3 +111,21 @@ write_summary-requires-clause-follows g c =
       dated = subst (λ (n : ℕ). IsDated tracer.playback.board events n tracer.notes) at
           (subst (λ (b : BoardState). IsDated b events 0 tracer.notes) board (made.dated events));
     }
+
+known : (board : BoardState) (events : List Event) (tracer : Tracer) → tracer.playback ≡ record { board = board; at = 0 } →
+    IsNoted board events 0 tracer.notes → IsKnown tracer.playback.board events tracer
+known board events tracer start noted = record {
+  played = begins events tracer.playback (ap (λ (p : Playback). p.at) start);
+  noted = subst (λ (n : ℕ). IsNoted tracer.playback.board events n tracer.notes) (sym (ap (λ (p : Playback). p.at) start))
+      (subst (λ (b : BoardState). IsNoted b events 0 tracer.notes) (sym (ap (λ (p : Playback). p.board) start)) noted);
+}
+
+pub write_json-requires-clause-knows : goal.write_json-requires-clause-knows
+write_json-requires-clause-knows g c =
+    known c.args.start.board c.args.start.journal.events c.in_ok-tracer.tracer c.in_ok-tracer.ensures.start
+    (c.in_ok-tracer.ensures.noted c.args.start.journal.events)
+
+pub write_svg-requires-clause-knows : goal.write_svg-requires-clause-knows
+write_svg-requires-clause-knows g c =
+    known c.args.start.board c.args.start.journal.events c.in_ok-tracer.tracer c.in_ok-tracer.ensures.start
+    (c.in_ok-tracer.ensures.noted c.args.start.journal.events)

@@ -1,7 +1,8 @@
--- It hasn't gone past the end, and what it knows of the board is so.
-use Rattle.std.proofs.Common.{◌≤◌, ◌-◌}
+-- It hasn't gone past the end, what it knows of the board is so, and its timeline begins where it did.
+use Rattle.std.proofs.Common.{◌≡◌, ◌≤◌, ◌-◌}
 use Rattle.brd_board.specs.Board.{BoardState}
-use Rattle.brd_command.specs.TraceCommand.{IsFollowed}
+use Rattle.brd_trace.specs.Slices.{begun_of}
+use Rattle.brd_command.specs.TraceCommand.{IsFollowed, IsKnown}
 use Rattle.brd_command.proofs.trace_command.Traced.play.Given as goal
 
 abbrev pub invariant-loop-tracer : goal.invariant-loop-tracer
@@ -9,6 +10,9 @@ invariant-loop-tracer g l = record {
   on : l.tracer.playback.at ≤ l.to;
   follows : (boot : BoardState) → IsFollowed boot l.self.journal.now.events l.fn.tracer
       → IsFollowed boot l.self.journal.now.events l.tracer;
+  knows : (boot : BoardState) → IsKnown boot l.self.journal.now.events l.fn.tracer
+      → IsKnown boot l.self.journal.now.events l.tracer;
+  begun : begun_of l.tracer.notes ≡ begun_of l.fn.tracer.notes;
 }
 
 abbrev pub decreases-loop-tracer : goal.decreases-loop-tracer

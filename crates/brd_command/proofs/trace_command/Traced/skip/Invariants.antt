@@ -1,7 +1,9 @@
--- It hasn't gone past the end, has played the events so far, and shows the same.
+-- It hasn't gone past the end, has played the events so far, shows the same, and what it knows
+-- of the board is so.
 use Rattle.std.proofs.Common.{◌≡◌, ◌≤◌, ◌-◌}
 use Rattle.brd_board.specs.Board.{BoardState}
 use Rattle.brd_journal.specs.Playing.{IsPlayed}
+use Rattle.brd_command.specs.TraceCommand.{IsKnown}
 use Rattle.brd_command.proofs.trace_command.Traced.skip.Given as goal
 
 abbrev pub invariant-loop-tracer : goal.invariant-loop-tracer
@@ -10,6 +12,8 @@ invariant-loop-tracer g l = record {
   printer : l.tracer.printer ≡ l.fn.tracer.printer;
   played : (boot : BoardState) → IsPlayed boot l.self.journal.now.events l.fn.tracer.playback
       → IsPlayed boot l.self.journal.now.events l.tracer.playback;
+  knows : (boot : BoardState) → IsKnown boot l.self.journal.now.events l.fn.tracer
+      → IsKnown boot l.self.journal.now.events l.tracer;
 }
 
 abbrev pub decreases-loop-tracer : goal.decreases-loop-tracer
