@@ -1,7 +1,7 @@
 //! Addresses by the symbols of an image.
 
 use brd_asm::assemble;
-use brd_listing::write_place;
+use brd_listing::{Places, write_place};
 use brd_mem::Symbol;
 use std::alloc::Global;
 use std::test::Fail;
@@ -30,10 +30,21 @@ const PLACES: &[(u32, &str)] = &[
     (0xffffffff, "ffffffff"),
 ];
 
-/// Whether an address is written so.
+/// Whether an address is written so, also by sorted symbols.
 fn is_written(alloc: Global, symbols: &[Symbol], address: u32, wanted: &str) -> bool {
     let mut text = Vec::new(alloc);
-    write_place(symbols, address, &mut text).is_ok() && text.as_slice() == wanted.as_bytes()
+    write_place(symbols, address, &mut text).is_ok()
+        && text.as_slice() == wanted.as_bytes()
+        && is_written_sorted(alloc, symbols, address, wanted)
+}
+
+/// Whether an address is written so by sorted symbols.
+fn is_written_sorted(alloc: Global, symbols: &[Symbol], address: u32, wanted: &str) -> bool {
+    let Ok(places) = Places::new(alloc, symbols) else {
+        return false;
+    };
+    let mut text = Vec::new(alloc);
+    places.write(address, &mut text).is_ok() && text.as_slice() == wanted.as_bytes()
 }
 
 /// The first of `PLACES` that is written otherwise.
