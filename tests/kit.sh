@@ -273,7 +273,7 @@ says "orders by a deadlock of some tasks" 2 \
 verdict "kit: the names in a deadlock of some tasks" "$(
     second='task 2 (SECOND) waits for semaphore 1 (LEFT), which task 1 (FIRST) took at event [0-9]*'
     grep -q "^circular wait: task 1 (FIRST) waits for semaphore 2 (RIGHT), which task 2 (SECOND) took .*; $second\$" "$work/said" &&
-        grep -q '^cpu 1 runs task 3 (WATCHER)$' "$work/said" || cat "$work/said")"
+        grep -q '^cpu 1 runs task 3 (WATCHER), last step at event [0-9]*$' "$work/said" || cat "$work/said")"
 says "orders by the end" 2 "seed [0-9]+: the board isn't off in the end; the order is kept as .*" \
     project "$interrupted" hunt CFLAGS="-DRACE -w" EXPECT=off SOURCES="$work/deadlock.c"
 sed 's/printf/if (pulses != 33) *(volatile INT *)1 = 1;&/' "$interrupted/firmware.c" > "$work/exception.c"
@@ -364,12 +364,12 @@ mistake "a stack that overflows, unseen" 0 "ok: firmware.journal" firmware.c "$o
 mistake "a stack that overflows" 2 '*' firmware.c "$overflow" test STACK_CHECK=1
 verdict "kit: the stack that overflowed" "$(
     grep -qE '^\+the stack has no room for the function at 80[0-9a-f]{6} \(task 1, processor 1\)$' "$work/said" &&
-        grep -qE '^task 1 .*, at stop\+0x[0-9a-f]+ \(80[0-9a-f]{6}\)$' "$work/said" &&
+        grep -qE '^task 1 .*, at stop\+0x[0-9a-f]+ \(80[0-9a-f]{6}, [a-z]+\.[ch]:[0-9]+\)$' "$work/said" &&
         grep -qE '^80[0-9a-f]{6} is greet firmware.c:[0-9]+$' "$work/said" || cat "$work/said")"
 # The summary of the trace names the function, its line and the cause.
 mistake "a store outside RAM" 2 '*' firmware.c 's/ER answer = wai_sem/*(volatile INT *)16 = i; &/' test OPTIMIZE=-O0
 verdict "kit: the store outside RAM" "$(
-    cause='last exception at event [0-9]+, of task 1 \(GREETER\) at greet\+0x[0-9a-f]+ \(80[0-9a-f]{6}\): DBE: store to 00000010, outside RAM'
+    cause='last exception at event [0-9]+, of task 1 \(GREETER\) at greet\+0x[0-9a-f]+ \(80[0-9a-f]{6}, firmware\.c:1[0-9]\): DBE: store to 00000010, outside RAM'
     grep -qE "^  $cause\$" "$work/said" &&
         grep -qE '^80[0-9a-f]{6} is greet firmware.c:1[0-9]$' "$work/said" || cat "$work/said")"
 mistake "a handler's stack that overflows" 2 \
@@ -387,7 +387,7 @@ mistake "an assertion in a handler" 2 \
     "firmware.c:7: this doesn't hold: line != BUTTON (handler of line 3 (BUTTON), processor 1)" \
     firmware.c 's/line == BUTTON/line != BUTTON/' test
 verdict "kit: the board at an assertion in a handler" "$(
-    [ "$(grep -c '^refused: ' "$work/said")" = 0 ] && grep -q '^cpu 1 stopped$' "$work/said" &&
+    [ "$(grep -c '^refused: ' "$work/said")" = 0 ] && grep -q '^cpu 1 stopped, last step at event [0-9]*$' "$work/said" &&
         ! grep -q '^after event 104103' "$work/said" || cat "$work/said")"
 mistake "a report of an assertion in a handler" 0 \
     "firmware.c:7: this doesn't hold: line != BUTTON (handler of line 3 (BUTTON), processor 1)" \
@@ -413,7 +413,7 @@ says "an assertion under a spin lock" 2 \
     "+firmware.c:16: this doesn't hold: loc_spn(3) != E_OK (task 1, processor 1)" project "$new" test CFLAGS=-w
 mistake "another console" 2 "+Hullo, number 2 of 3" firmware.c 's/Hello/Hullo/' test
 verdict "kit: names of the configuration, and a task that has returned" "$(
-    where='at returned_from_greet\.1\+0x4 \((80[0-9a-f]{6})\)$'
+    where='at returned_from_greet\.1\+0x4 \((80[0-9a-f]{6}), entries\.inc:[0-9]+\)$'
     [[ "$(grep '^task 1 ' "$work/said")" =~ ^'task 1 (GREETER) dormant since event '[0-9]+,\ $where ]] &&
         grep -qxF "${BASH_REMATCH[1]} is where task 1 (GREETER) ends: greet has returned" "$work/said" || cat "$work/said")"
 mistake "a wait, with its names" 2 \

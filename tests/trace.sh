@@ -155,6 +155,8 @@ of_words "one word" count '; count \(80000070\): '
 of_words "one word, by its address" 0x80000070 '; count \(80000070\): '
 example lost_update/repaired
 of_words "a word of LL and SC" count '; count \([0-9a-f]+\): '
+scene links
+of_words "a word whose links end" word '; word \(80000100\): '
 scene loads
 of_words "bytes and halfwords of a word" word '; word(\+0x[0-3])? \([0-9a-f]+\): '
 

@@ -53,12 +53,12 @@ def is_branch(it):
 
 
 class Step:
-    """A step that is to be, seen before it: the instruction, its registers, and the processor's link."""
+    """A step that is to be, seen before it: the instruction, its registers, and the links."""
 
     def __init__(self, memory, context, processor):
         self.context, self.address, self.slot = context, context.pc, context.slot
         self.before = [*context.registers, context.hi, context.lo]
-        self.link = memory.links.get(processor)
+        self.processor, self.links = processor, dict(memory.links)
         try:
             self.instruction = decode(memory.load(context.pc, 4))
         except Fault:
@@ -72,7 +72,9 @@ class Step:
         said = [text(it, self.address)]
         said += [f"{name} = {new:08x}" for name, old, new in zip(names, self.before, after) if old != new]
         said += [*self.access(memory), *self.jump()]
-        return said + ["in the delay slot"] * self.slot
+        said += ["in the delay slot"] * self.slot
+        return said + [f"ends the link of cpu {other}" for other in sorted(self.links.keys() - memory.links.keys())
+                       if other != self.processor]
 
     def access(self, memory):
         """Of a load what it loads, else the aligned word; of an SC whether it has stored."""
@@ -84,7 +86,7 @@ class Step:
         start = address - address % length
         yield f"{start:08x}: {memory.load(start, length):0{2 * length}x}"
         if it.mnemonic == "SC":
-            yield "stored" if self.link == address else "not stored"
+            yield "stored" if self.links.get(self.processor) == address else "not stored"
 
     def jump(self):
         """Where a jump leads, and whether a branch is taken."""
