@@ -1,4 +1,5 @@
 pub mod StateLemmas
 pub mod TurnLemmas
+pub mod LoopLemmas
 pub mod WatchLemmas
 pub mod ListLemmas

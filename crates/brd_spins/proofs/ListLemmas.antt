@@ -1,15 +1,22 @@
 -- What is known of the processors that spin.
-use Rattle.std.proofs.Common.{◌≡◌, ℕ, ◌+◌, ◌<◌, List, length, sym, subst, ◌∙◌, arith}
-use Rattle.std.specs.Prelude.{Option, Some, None, Result, Ok, Err, IfOk, slice_index_or}
+use Rattle.std.proofs.Common.{◌≡◌, inl, inr, ℕ, ◌+◌, ◌-◌, ◌<◌, ◌≤◌, List, [], ◌∷◌, ◌++◌, length, sym, ap, subst, ◌∙◌, arith}
+use Rattle.std.specs.Prelude.{Option, Some, None, Result, Ok, Err, IfOk, slice_get, slice_index_or}
+use Rattle.std.proofs.lemmas.Bool.{cases_lt}
+use Rattle.brd_exec.specs.State.{State}
 use Rattle.brd_base.specs.declared.no_memory.NoMemory.{NoMemory}
 use Rattle.brd_board.specs.declared.event.Event.{Event}
 use Rattle.brd_board.specs.Board.{BoardState}
 use Rattle.brd_journal.specs.Playing.{board_at}
 use Rattle.brd_spins.specs.declared.spin.{Spin.Spin, Turning.Turning, SpinKind.SpinKind}
+use Rattle.brd_spins.specs.declared.spin.SpinKind.TheVariants.{Loop, Lock}
 use Rattle.brd_spins.specs.declared.watching.Watching.{Watching}
-use Rattle.brd_spins.specs.Spins.{AreTurnings, IsTurning}
-use Rattle.brd_spins.specs.Since.{AreAscending, AreListed, AreSpins, AreWatched, IsListed, IsSince, IsSpin}
-use Rattle.brd_spins.proofs.StateLemmas.{get-within}
+use Rattle.brd_spins.specs.Spins.{AreTurnings, IsSpinning, IsTurning, SpinsNot}
+use Rattle.brd_spins.specs.Since.{AreAscending, AreFound, AreListed, AreSpins, AreWatched, HasSpin, IsListed, IsSince, IsSpin}
+use Rattle.brd_spins.proofs.StateLemmas.{at-place, get-before, get-last, get-within}
+
+some-state : (b : BoardState) (cpu : ℕ) (kind : SpinKind) (states : List State) → IsSpinning b cpu kind states → 1 ≤ length states
+some-state b cpu (Loop count) states is = is.1.some
+some-state b cpu (Lock lock) states is = omega (arith, ap length is.only)
 
 -- what is known of a processor that spins
 pub spins-by : (boot : BoardState) (events : List Event) (to : ℕ) (turnings : List Turning) (watching : Watching) (spin : Spin) →
@@ -30,6 +37,7 @@ spins-by boot events to turnings watching spin are watched at many listed =
     record {
       states = listed.turning.states;
       spins = kind;
+      place = listed.least (some-state (board_at boot events to) spin.cpu spin.what listed.turning.states kind);
       since = since;
       cpu = (omega (arith, listed.cpu), omega (arith, listed.cpu, within, many));
     }
@@ -37,13 +45,72 @@ spins-by boot events to turnings watching spin are watched at many listed =
     some-none : (what : SpinKind) → Some what ≡ None → ⊥
     some-none what e = cc
 
+-- Processors that are found.
+
+pub found-none : (turnings : List Turning) (spins : List Spin) → AreFound turnings 0 spins
+found-none turnings spins place turning below = absurd (omega (arith, below))
+
+same-turning : (a b : Turning) → Some a ≡ Some b → a ≡ b
+same-turning a b is = cc
+
+-- one that isn't known to spin
+pub found-past : (turnings : List Turning) (spins : List Spin) (i : ℕ) (it : Turning) → AreFound turnings i spins →
+    slice_get turnings i ≡ Some it → it.what ≡ None → AreFound turnings (i + 1) spins
+found-past turnings spins i it are here none place turning below found some = elim (cases_lt place i) [
+  | inl less ↦ are place turning less found some
+  | inr not ↦
+      let at : place ≡ i = omega (arith, not, below) in
+      let same : turning ≡ it = same-turning turning it (sym found ∙ ap (slice_get turnings) at ∙ here) in
+      absurd (some (ap (λ (t : Turning). t.what) same ∙ none))
+]
+
+-- one that is put at the end
+pub found-more : (turnings : List Turning) (spins : List Spin) (i : ℕ) (spin : Spin) → AreFound turnings i spins → spin.cpu ≡ i + 1 →
+    AreFound turnings (i + 1) (spins ++ spin ∷ [])
+found-more turnings spins i spin are cpu place turning below found some = elim (cases_lt place i) [
+  | inl less ↦
+      let it = are place turning less found some in
+      record { at = it.at; spin = it.spin; found = get-before spins spin it.spin it.at it.found; of_it = it.of_it }
+  | inr not ↦
+      let at : place ≡ i = omega (arith, not, below) in
+      record { at = length spins; spin = spin; found = get-last spins spin; of_it = cpu ∙ ap (λ (n : ℕ). n + 1) (sym at) }
+]
+
+-- each processor that spins is found
+all-found : (b : BoardState) (turnings : List Turning) (spins : List Spin) → AreTurnings b turnings → length turnings ≡ 8 →
+    AreFound turnings (length turnings) spins → (cpu : ℕ) (kind : SpinKind) (states : List State) → 1 ≤ cpu → cpu ≤ 8 →
+    IsSpinning b cpu kind states → HasSpin spins cpu
+all-found b turnings spins are many found cpu kind states some most is =
+    let place : ℕ = cpu - 1 in
+    let next : place + 1 ≡ cpu = omega (arith, some) in
+    let within : place < length turnings = omega (arith, some, most, many) in
+    at-place turnings place within (λ turning here.
+    let spins_there : IsSpinning b (place + 1) kind states = subst (λ (n : ℕ). IsSpinning b n kind states) (sym next) is in
+    subst (λ (n : ℕ). HasSpin spins n) next (found place turning within here (λ none.
+    no-turning b (place + 1) turning.states turning.what (are place turning here) none kind states spins_there)))
+  where
+    no-turning : (b : BoardState) (cpu : ℕ) (own : List State) (what : Option SpinKind) → IsTurning b cpu own what → what ≡ None →
+        SpinsNot b cpu
+    no-turning b cpu own None is none = is
+    no-turning b cpu own (Some kind) is none = cc
+
 -- all that were listed
 pub spins-ok : (boot : BoardState) (events : List Event) (to : ℕ) (turnings : List Turning) (watching : Watching) (listed : Result (List Spin) NoMemory) →
     AreTurnings (board_at boot events to) turnings → AreWatched boot events turnings watching → watching.playback.at ≡ to → length turnings ≡ 8 →
-    IfOk listed (λ spins. AreListed turnings watching.sinces spins) → IfOk listed (λ spins. AreAscending spins) →
-    IfOk listed (λ spins. AreSpins boot events to spins)
-spins-ok boot events to turnings watching (Ok spins) are watched at many each ascending = record {
-  each = λ k spin found. spins-by boot events to turnings watching spin are watched at many (each k spin found);
+    IfOk listed (λ spins. AreListed turnings watching.sinces spins) → IfOk listed (λ spins. AreFound turnings (length turnings) spins) →
+    IfOk listed (λ spins. AreAscending spins) → IfOk listed (λ spins. AreSpins boot events to spins)
+spins-ok boot events to turnings watching (Ok spins) are watched at many each found ascending = record {
+  each = λ k spin here. spins-by boot events to turnings watching spin are watched at many (each k spin here);
+  all = all-found (board_at boot events to) turnings spins are many found;
   ascending = ascending;
 }
-spins-ok boot events to turnings watching (Err e) are watched at many each ascending = tt
+spins-ok boot events to turnings watching (Err e) are watched at many each found ascending = tt
+
+-- none spins
+pub no-spins : (boot : BoardState) (events : List Event) (to : ℕ) (turnings : List Turning) → AreTurnings (board_at boot events to) turnings →
+    length turnings ≡ 8 → AreFound turnings (length turnings) [] → AreSpins boot events to []
+no-spins boot events to turnings are many found = record {
+  each = λ k spin here. cc;
+  all = all-found (board_at boot events to) turnings [] are many found;
+  ascending = λ i j one other less here there. cc;
+}

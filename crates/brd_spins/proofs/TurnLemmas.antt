@@ -1,6 +1,6 @@
 -- A processor that goes on alone.
 use Rattle.std.proofs.Common.{◌≡◌, ℕ, zero, suc, List, [], ◌∷◌, ◌++◌, length, length-append, refl, sym, ap, subst, ◌∙◌, arith}
-use Rattle.std.specs.Prelude.{Some, true}
+use Rattle.std.specs.Prelude.{◌≢◌, Some, true}
 use Rattle.std.proofs.lemmas.Bool.{false≢true}
 use Rattle.brd_exec.specs.State.{State}
 use Rattle.brd_board.specs.declared.event.Event.TheVariants.{Step}
@@ -37,3 +37,14 @@ gone-more b cpu states board next state gone registers turn leaves =
       there = leaves ∙ ap (λ (x : BoardState). (happens x (Step cpu)).board) gone.there ∙ sym (alone-more b cpu (length states))
           ∙ ap (alone b cpu) more;
     }
+
+same-some : (a b : State) → Some a ≡ Some b → a ≡ b
+same-some a b is = cc
+
+-- its registers after so many steps are others than those with which it began
+pub differ : (b : BoardState) (cpu : ℕ) (board : BoardState) (states : List State) (n : ℕ) (first state : State) → HasGone b cpu states board →
+    length states ≡ n → registers_of b cpu ≡ Some first → Some state ≡ registers_of board cpu → (state ≡ first → ⊥) →
+    registers_of (alone b cpu n) cpu ≢ registers_of b cpu
+differ b cpu board states n first state gone long begins now other again =
+    let there : board ≡ alone b cpu n = gone.there ∙ ap (alone b cpu) long in
+    other (same-some state first (now ∙ ap (λ (x : BoardState). registers_of x cpu) there ∙ again ∙ begins))

@@ -7,8 +7,9 @@ use Rattle.brd_board.specs.declared.event.Event.TheVariants.{Step}
 use Rattle.brd_board.specs.Board.{BoardState, registers_of}
 use Rattle.brd_journal.specs.Playing.{IsPlayed, board_at}
 use Rattle.brd_spins.specs.declared.spin.{Spin.Spin, Turning.Turning}
+use Rattle.brd_spins.specs.declared.spin.SpinKind.{SpinKind}
 use Rattle.brd_spins.specs.declared.watching.Watching.{Watching}
-use Rattle.brd_spins.specs.Spins.{IsSpinning}
+use Rattle.brd_spins.specs.Spins.{IsSpinning, IsLeastPlace}
 
 -- registers that are some of these
 abbrev pub IsInside : List State → Option State → Type 0
@@ -54,15 +55,30 @@ pub record IsListed (turnings : List Turning) (sinces : List ℕ) (spin : Spin) 
   pub cpu : spin.cpu ≡ place + 1
   pub what : turning.what ≡ Some spin.what
   pub since : spin.since ≡ slice_index_or sinces place 0
+  pub least : 1 ≤ length turning.states → IsLeastPlace turning.states spin.place
 
 abbrev pub AreListed : List Turning → List ℕ → List Spin → Type 0
 AreListed turnings sinces spins =
     (at : ℕ) (spin : Spin) → slice_get spins at ≡ Some spin → IsListed turnings sinces spin
 
--- a processor that spins after the events up to a position: what it does, and since when
+-- one of these is of the processor
+pub record HasSpin (spins : List Spin) (cpu : ℕ) : Type 0 where
+  pub at : ℕ
+  pub spin : Spin
+  pub found : slice_get spins at ≡ Some spin
+  pub of_it : spin.cpu ≡ cpu
+
+-- the first so many of the processors are among these, where they are known to spin
+abbrev pub AreFound : List Turning → ℕ → List Spin → Type 0
+AreFound turnings count spins =
+    (place : ℕ) (turning : Turning) → place < count → slice_get turnings place ≡ Some turning → turning.what ≢ None
+    → HasSpin spins (place + 1)
+
+-- a processor that spins after the events up to a position: what it does, where, and since when
 pub record IsSpin (boot : BoardState) (events : List Event) (to : ℕ) (spin : Spin) : Type 0 where
   pub states : List State
   pub spins : IsSpinning (board_at boot events to) spin.cpu spin.what states
+  pub place : IsLeastPlace states spin.place
   pub since : IsSince boot events spin.cpu states to spin.since
   pub cpu : (1 ≤ spin.cpu) × (spin.cpu ≤ 8)
 
@@ -71,6 +87,10 @@ abbrev pub AreAscending : List Spin → Type 0
 AreAscending spins = (i j : ℕ) (one other : Spin) → i < j → slice_get spins i ≡ Some one → slice_get spins j ≡ Some other
     → one.cpu < other.cpu
 
+-- The processors of a board that spin after the events up to a position: each of these does, each that does is one of
+-- them, and they come by rising number.
 pub record AreSpins (boot : BoardState) (events : List Event) (to : ℕ) (spins : List Spin) : Type 0 where
   pub each : (at : ℕ) (spin : Spin) → slice_get spins at ≡ Some spin → IsSpin boot events to spin
+  pub all : (cpu : ℕ) (kind : SpinKind) (states : List State) → 1 ≤ cpu → cpu ≤ 8
+      → IsSpinning (board_at boot events to) cpu kind states → HasSpin spins cpu
   pub ascending : AreAscending spins

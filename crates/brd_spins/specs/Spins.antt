@@ -1,6 +1,6 @@
 -- A processor that spins: left alone, it does the same few instructions for ever, and they change nothing; or its task
 -- asks again and again for a spin lock that is held.
-use Rattle.std.specs.Prelude.{◌≡◌, ◌≤◌, ◌+◌, ℕ, Bool, true, false, if◌then◌else◌, List, [], ◌∷◌, length, replicate, slice_index, slice_get}
+use Rattle.std.specs.Prelude.{◌≡◌, ◌≢◌, ◌≤◌, ◌<◌, ◌+◌, ℕ, Bool, true, false, if◌then◌else◌, List, [], ◌∷◌, length, replicate, slice_index, slice_get, Contains}
 use Rattle.std.specs.Prelude.{Option, None, Some}
 use Rattle.brd_isa.specs.declared.instruction.Insn.{Insn}
 use Rattle.brd_exec.specs.State.{State}
@@ -47,13 +47,19 @@ AreTurns b cpu [] = Unit {0}
 AreTurns b cpu (state ∷ states) =
     (registers_of b cpu ≡ Some state) × (turn_of b cpu ≡ Reads) × AreTurns (happens b (Step cpu)).board cpu states
 
--- A processor executes instructions that store nothing, with these registers before them, and then has the registers
--- again that it has now.
+-- after none of these numbers of steps, from 1 on, does a processor have the registers again that it has now
+abbrev pub AreOther : BoardState → ℕ → ℕ → Type 0
+AreOther b cpu end =
+    (count : ℕ) → 1 ≤ count → count < end → registers_of (alone b cpu count) cpu ≢ registers_of b cpu
+
+-- A processor executes instructions that store nothing, with these registers before them; and after them, and not
+-- before, it has the registers again that it has now.
 pub record IsLoop (b : BoardState) (cpu : ℕ) (states : List State) : Type 0 where
   pub some : 1 ≤ length states
   pub few : length states ≤ 256
   pub turns : AreTurns b cpu states
   pub again : registers_of (alone b cpu (length states)) cpu ≡ registers_of b cpu
+  pub least : AreOther b cpu (length states)
 
 -- A processor's task is to make this call again, with these registers: it asks for a spin lock that is held.
 pub record IsAsking (b : BoardState) (cpu lock : ℕ) (states : List State) : Type 0 where
@@ -67,9 +73,13 @@ abbrev pub IsSpinning : BoardState → ℕ → SpinKind → List State → Type 
 IsSpinning b cpu (Loop count) states = (count ≡ length states) × IsLoop b cpu states
 IsSpinning b cpu (Lock lock) states = IsAsking b cpu lock states
 
--- what is known of what a processor does, if it is known to spin
+-- whatever a processor does, it doesn't spin
+abbrev pub SpinsNot : BoardState → ℕ → Type 0
+SpinsNot b cpu = (kind : SpinKind) (states : List State) → IsSpinning b cpu kind states → ⊥
+
+-- what a processor does that spins, or that it doesn't
 abbrev pub IsTurning : BoardState → ℕ → List State → Option SpinKind → Type 0
-IsTurning b cpu states None = Unit {0}
+IsTurning b cpu states None = SpinsNot b cpu
 IsTurning b cpu states (Some kind) = IsSpinning b cpu kind states
 
 -- of each processor, by its number less 1
@@ -77,6 +87,13 @@ abbrev pub AreTurnings : BoardState → List Turning → Type 0
 AreTurnings b turnings =
     (place : ℕ) (turning : Turning) → slice_get turnings place ≡ Some turning
     → IsTurning b (place + 1) turning.states turning.what
+
+-- the least address at which a processor goes on with some of these registers
+pub record IsLeastPlace (states : List State) (place : ℕ) : Type 0 where
+  pub state : State
+  pub some : Contains states state
+  pub here : state.pc ≡ place
+  pub least : (other : State) → Contains states other → place ≤ other.pc
 
 -- a processor has gone on alone, with these registers before each instruction
 pub record HasGone (b : BoardState) (cpu : ℕ) (states : List State) (board : BoardState) : Type 0 where

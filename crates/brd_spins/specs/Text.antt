@@ -1,5 +1,5 @@
 -- Processors that spin in words, a line for each.
-use Rattle.std.specs.Prelude.{ℕ, ◌==◌, if◌then◌else◌, List, [], ◌++◌, codes, Option, None, Some}
+use Rattle.std.specs.Prelude.{ℕ, ◌==◌, Bool, true, if◌then◌else◌, List, [], ◌++◌, codes, Option, None, Some}
 use Rattle.std.specs.List.{flat_map}
 use Rattle.std.specs.Fmt.{decimal}
 use Rattle.brd_mem.specs.declared.image.Symbol.{Symbol}
@@ -33,5 +33,14 @@ does_text symbols spin = codes " at " ++ place_text symbols spin.place ++ codes 
 abbrev pub spin_text : List Symbol → Spin → List ℕ
 spin_text symbols spin = begins_text spin ++ does_text symbols spin ++ codes "\n"
 
-abbrev pub spins_text : List Symbol → List Spin → List ℕ
-spins_text symbols spins = flat_map (spin_text symbols) spins
+-- whether a processor is the one that is asked for, where one is
+abbrev pub is_asked : Option ℕ → ℕ → Bool
+is_asked None cpu = true
+is_asked (Some asked) cpu = asked == cpu
+
+abbrev pub told_text : List Symbol → Option ℕ → Spin → List ℕ
+told_text symbols asked spin = if is_asked asked spin.cpu then spin_text symbols spin else []
+
+-- the lines of the processor that is asked for, or of all
+abbrev pub spins_text : List Symbol → Option ℕ → List Spin → List ℕ
+spins_text symbols asked spins = flat_map (told_text symbols asked) spins

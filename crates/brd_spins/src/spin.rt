@@ -1,7 +1,8 @@
 //! A processor that spins.
 
-ghost use Rattle.std.specs.Prelude.{◌≡◌, Contains, Decides};
+ghost use Rattle.std.specs.Prelude.{◌≡◌, ◌≤◌, length, Contains, Decides};
 ghost use Rattle.brd_spins.specs.Since.{IsInside};
+ghost use Rattle.brd_spins.specs.Spins.{IsLeastPlace};
 
 use brd_base::{List, Same};
 use brd_exec::Context;
@@ -73,8 +74,10 @@ fn is_same(one: &Context, other: &Context) -> bool
     one.same(other)
 }
 
-/// The least address of an instruction before which these registers are.
-pub(crate) fn least_place(states: &[Context]) -> u32 {
+/// The least address at which a processor goes on with some of these registers.
+pub(crate) fn least_place(states: &[Context]) -> u32
+    ensures { 1 ≤ length states.now → IsLeastPlace states.now result }
+{
     let mut least = u32::MAX;
     for i in 0..states.len() {
         least = least.min(states[i].pc());

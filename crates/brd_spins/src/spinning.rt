@@ -1,9 +1,8 @@
 //! Which processors spin.
 
-ghost use Rattle.std.specs.Prelude.{◌≡◌, ◌≤◌, length, IfOk};
-ghost use Rattle.brd_journal.specs.Playing.{board_at};
-ghost use Rattle.brd_spins.specs.Since.{AreAscending, AreListed, AreSpins};
-ghost use Rattle.brd_spins.specs.Spins.{AreTurnings};
+ghost use Rattle.std.specs.Prelude.{◌≡◌, ◌≤◌, [], false, length, IfOk};
+ghost use Rattle.brd_journal.specs.Playing.{IsPlayed};
+ghost use Rattle.brd_spins.specs.Since.{AreAscending, AreFound, AreListed, AreSpins};
 
 use crate::looping::turnings_of;
 use crate::spin::{Spin, Turning, least_place};
@@ -13,40 +12,31 @@ use brd_board::Board;
 use brd_journal::{Journal, Playback};
 use std::alloc::Global;
 
-/// Which processors spin after the events of a journal up to a position, from a board on, by rising number.
-pub fn spins(alloc: Global, boot: Board, journal: &Journal, to: u64) -> Result<List<Spin>, NoMemory>
-    requires { to ≤ length journal.now.events }
-    ensures { IfOk result (λ spins. AreSpins boot journal.now.events to spins) }
+/// Which processors spin on a board that has played a journal's first events, by rising number, from the board on to
+/// which nothing has happened.
+pub fn spins(
+    alloc: Global,
+    boot: Board,
+    journal: &Journal,
+    playback: &Playback,
+) -> Result<List<Spin>, NoMemory>
+    requires { IsPlayed boot journal.now.events playback.now }
+    ensures { IfOk result (λ spins. AreSpins boot journal.now.events playback.now.at spins) }
 {
-    let turnings = turnings_after(alloc, &boot, journal, to)?;
+    let turnings = turnings_of(alloc, &playback.board)?;
     let turnings = turnings.as_slice();
     if !some_spins(turnings) {
         return Ok(List::new(alloc));
     }
     let mut watching = Watching::new(boot);
-    watching.watch(journal, turnings, to);
+    watching.watch(journal, turnings, playback.at);
     listed(alloc, turnings, &watching.sinces)
 }
 
-/// What the processors do that spin after the events of a journal up to a position.
-fn turnings_after(
-    alloc: Global,
-    boot: &Board,
-    journal: &Journal,
-    to: u64,
-) -> Result<Vec<Turning>, NoMemory>
-    requires { to ≤ length journal.now.events }
-    ensures eight { IfOk result (λ turnings. length turnings.items ≡ 8) }
-    ensures are { IfOk result (λ turnings. AreTurnings (board_at boot.now journal.now.events to) turnings.items) }
-{
-    let board = boot.try_copy()?;
-    let mut playback = Playback { board, at: 0 };
-    playback.play_to(journal, to, to);
-    turnings_of(alloc, &playback.board)
-}
-
 /// Whether a processor spins.
-fn some_spins(turnings: &[Turning]) -> bool {
+fn some_spins(turnings: &[Turning]) -> bool
+    ensures { result ≡ false → AreFound turnings.now (length turnings.now) [] }
+{
     for i in 0..turnings.len() {
         if turnings[i].what.is_some() {
             return true;
@@ -59,6 +49,7 @@ fn some_spins(turnings: &[Turning]) -> bool {
 fn listed(alloc: Global, turnings: &[Turning], sinces: &[u64; 8]) -> Result<List<Spin>, NoMemory>
     requires { length turnings.now ≤ 8 }
     ensures each { IfOk result (λ spins. AreListed turnings.now sinces.now spins) }
+    ensures all { IfOk result (λ spins. AreFound turnings.now (length turnings.now) spins) }
     ensures ascending { IfOk result (λ spins. AreAscending spins) }
 {
     let mut spins = List::new(alloc);

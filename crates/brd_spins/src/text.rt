@@ -3,7 +3,17 @@
 ghost use Rattle.std.specs.Prelude.{◌≡◌, ◌++◌, OnOk};
 ghost use Rattle.std.specs.Fmt.{decimal};
 ghost use Rattle.brd_text.specs.Hex.{hex_of};
-ghost use Rattle.brd_spins.specs.Text.{begins_text, does_text, place_text, since_text, spin_text, spins_text, what_text};
+ghost use Rattle.brd_spins.specs.Text.{
+  begins_text,
+  does_text,
+  is_asked,
+  place_text,
+  since_text,
+  spin_text,
+  spins_text,
+  told_text,
+  what_text,
+};
 
 use crate::spin::{Spin, SpinKind};
 use brd_base::NoMemory;
@@ -12,19 +22,46 @@ use brd_mem::Symbol;
 use brd_text::hex_digits;
 use std::alloc::Global;
 
-/// Puts a line for each processor that spins at the end: since when, where, and what it does.
+/// Puts a line for each processor that spins at the end, or for one of them alone: since when, where, and what it does.
 pub fn put_spins(
     alloc: Global,
     symbols: &[Symbol],
+    asked: Option<u8>,
     spins: &[Spin],
     out: &mut Vec<u8>,
 ) -> Result<(), NoMemory>
-    ensures { OnOk result (out.new.items ≡ out.old.items ++ spins_text symbols.now spins.now) }
+    ensures { OnOk result (out.new.items ≡ out.old.items ++ spins_text symbols.now asked spins.now) }
 {
     for i in 0..spins.len() {
-        put_spin(alloc, symbols, spins[i], out)?;
+        put_told(alloc, symbols, asked, spins[i], out)?;
     }
     Ok(())
+}
+
+/// Puts the line of a processor that spins at the end, if it is asked for.
+fn put_told(
+    alloc: Global,
+    symbols: &[Symbol],
+    asked: Option<u8>,
+    spin: Spin,
+    out: &mut Vec<u8>,
+) -> Result<(), NoMemory>
+    ensures { OnOk result (out.new.items ≡ out.old.items ++ told_text symbols.now asked spin) }
+{
+    if !is_asked(asked, spin.cpu) {
+        return Ok(());
+    }
+    put_spin(alloc, symbols, spin, out)
+}
+
+/// Whether a processor is the one that is asked for, where one is.
+fn is_asked(asked: Option<u8>, cpu: u8) -> bool
+    ensures { result ≡ is_asked asked cpu }
+{
+    match asked {
+        None => true,
+        Some(asked) => asked == cpu,
+    }
 }
 
 /// Puts the line of a processor that spins at the end.

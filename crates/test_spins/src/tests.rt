@@ -2,7 +2,7 @@
 
 use brd_asm::assemble;
 use brd_image::build;
-use brd_journal::read_text;
+use brd_journal::{Playback, read_text};
 use brd_mem::Symbol;
 use brd_spins::{put_spins, spins};
 use std::alloc::Global;
@@ -18,6 +18,8 @@ struct Case {
     config: &'static str,
     journal: &'static str,
     to: u64,
+    /// The processor of which it is, if of one alone.
+    asked: Option<u8>,
     told: &'static str,
 }
 
@@ -138,6 +140,7 @@ const CASES: &[Case] = &[
         config: TWO,
         journal: POLLED,
         to: 1,
+        asked: None,
         told: "",
     },
     Case {
@@ -145,6 +148,7 @@ const CASES: &[Case] = &[
         config: TWO,
         journal: POLLED,
         to: 2,
+        asked: None,
         told: "cpu 1 spins since event 2 at wait (80000008): 3 instructions that change nothing\n",
     },
     Case {
@@ -152,6 +156,7 @@ const CASES: &[Case] = &[
         config: TWO,
         journal: POLLED,
         to: 14,
+        asked: None,
         told: "cpu 1 spins since event 2 at wait (80000008): 3 instructions that change nothing\n",
     },
     // The word that it has loaded is still 0, and the one that it will load is not.
@@ -160,6 +165,7 @@ const CASES: &[Case] = &[
         config: TWO,
         journal: POLLED,
         to: 15,
+        asked: None,
         told: "",
     },
     Case {
@@ -167,6 +173,7 @@ const CASES: &[Case] = &[
         config: TWO,
         journal: POLLED,
         to: 34,
+        asked: None,
         told: "cpu 1 spins since event 20 at done (80000014): 2 instructions that change nothing\n",
     },
     Case {
@@ -174,6 +181,7 @@ const CASES: &[Case] = &[
         config: TWO,
         journal: STORED,
         to: 32,
+        asked: None,
         told: "cpu 2 spins since event 23 at again (8000001c): 3 instructions that change nothing\n",
     },
     Case {
@@ -181,6 +189,7 @@ const CASES: &[Case] = &[
         config: TWO,
         journal: LOCKED,
         to: 5,
+        asked: None,
         told: "cpu 2 spins since event 5 at two+0x8 (80000024): asks for lock 1\n",
     },
     Case {
@@ -188,6 +197,7 @@ const CASES: &[Case] = &[
         config: TWO,
         journal: LOCKED,
         to: 12,
+        asked: None,
         told: "cpu 2 spins since event 5 at two+0x8 (80000024): asks for lock 1\n",
     },
     Case {
@@ -195,6 +205,7 @@ const CASES: &[Case] = &[
         config: TWO,
         journal: LOCKED,
         to: 15,
+        asked: None,
         told: "",
     },
     Case {
@@ -202,6 +213,7 @@ const CASES: &[Case] = &[
         config: ONE,
         journal: RAISED,
         to: 7,
+        asked: None,
         told: "cpu 1 spins since the start at one (80000000): 2 instructions that change nothing\n",
     },
     // It is about to accept the interrupt.
@@ -210,6 +222,7 @@ const CASES: &[Case] = &[
         config: ONE,
         journal: RAISED,
         to: 8,
+        asked: None,
         told: "",
     },
     Case {
@@ -217,7 +230,25 @@ const CASES: &[Case] = &[
         config: ONE,
         journal: RAISED,
         to: 17,
+        asked: None,
         told: "cpu 1 spins since event 10 at poll (8000000c): 3 instructions that change nothing\n",
+    },
+    // Processor 1 is asked for, and processor 2 spins.
+    Case {
+        source: LOCKS,
+        config: TWO,
+        journal: LOCKED,
+        to: 12,
+        asked: Some(1),
+        told: "",
+    },
+    Case {
+        source: LOCKS,
+        config: TWO,
+        journal: LOCKED,
+        to: 12,
+        asked: Some(2),
+        told: "cpu 2 spins since event 5 at two+0x8 (80000024): asks for lock 1\n",
     },
 ];
 
@@ -244,11 +275,16 @@ fn told(alloc: Global, case: &Case, symbols: &[Symbol]) -> Option<Vec<u8>> {
     if case.to > journal.len() {
         return None;
     }
-    let Ok(spins) = spins(alloc, board, &journal, case.to) else {
+    let Ok(copy) = board.try_copy() else {
+        return None;
+    };
+    let mut playback = Playback { board: copy, at: 0 };
+    playback.play_to(&journal, case.to, case.to);
+    let Ok(spins) = spins(alloc, board, &journal, &playback) else {
         return None;
     };
     let mut text = Vec::new(alloc);
-    match put_spins(alloc, symbols, spins.as_slice(), &mut text) {
+    match put_spins(alloc, symbols, case.asked, spins.as_slice(), &mut text) {
         Ok(()) => Some(text),
         Err(_) => None,
     }

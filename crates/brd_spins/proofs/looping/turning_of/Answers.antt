@@ -3,6 +3,7 @@ use Rattle.brd_exec.specs.State.{State}
 use Rattle.brd_board.specs.declared.event.Event.TheVariants.{Step}
 use Rattle.brd_board.specs.Board.{BoardState, happens}
 use Rattle.brd_spins.specs.Spins.{HasGone, turn_of}
+use Rattle.brd_spins.proofs.LoopLemmas.{does-other, has-none}
 use Rattle.brd_spins.proofs.looping.turning_of.Goals as goal
 
 pub returns-in-Reads : goal.returns-in-Reads
@@ -26,3 +27,11 @@ returns-in-Asks c = record {
   registers = sym c.in-Some.ensures;
   asks = ap (λ (x : BoardState). turn_of x c.args.cpu) (sym c.in_ok-copy.ensures) ∙ sym c.in_ok-turn.ensures.is ∙ c.in-Asks.is;
 }
+
+pub returns-in_default : goal.returns-in_default
+returns-in_default c = has-none c.args.board.now c.args.cpu (sym c.in_default.ensures)
+
+pub returns : goal.returns
+returns c =
+    does-other c.args.board.now c.args.cpu
+    (ap (λ (x : BoardState). turn_of x c.args.cpu) (sym c.in_ok-copy.ensures) ∙ sym c.in_ok-turn.ensures.is ∙ c.in-Other.is)
