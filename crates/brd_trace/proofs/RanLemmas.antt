@@ -118,6 +118,25 @@ ran_hidden manner position count board event p ran off =
     (ended_by board event) p
     (ran_plain board event h.report h.board ran) off
 
+-- Where lines of instructions aren't shown, nothing is said of links.
+unended : (insn : Option Instruction) (untold : Bool) (kind : Option Quiet) (manner : Manner) (position count : ℕ) (told : Happening)
+    (ended other : List ℕ) (old new : Printer) (text : List ℕ) → may_list old.options ≡ false
+    → TellsBy insn untold kind manner position count told ended old new text → TellsBy insn untold kind manner position count told other old new text
+unended (Some it) untold kind manner position count told ended other old new text off tells = record {
+  shown = λ is. absurd (false≢true (sym (none_shown old.options manner.words.now told.cpu it off) ∙ is));
+  hidden = tells.hidden;
+}
+unended None true kind manner position count told ended other old new text off tells = tells
+unended None false kind manner position count told ended other old new text off tells = tells
+
+pub told_ended : (manner : Manner) (position count : ℕ) (told : Happening) (ended other : List ℕ) (old new : Printer) (text : List ℕ) (lists : Bool)
+    → may_list old.options ≡ lists → (lists ≡ true → ended ≡ other)
+    → Tells manner position count told ended old new text → Tells manner position count told other old new text
+told_ended manner position count told ended other old new text true is same tells =
+    subst (λ (them : List ℕ). Tells manner position count told them old new text) (same refl) tells
+told_ended manner position count told ended other old new text false is same tells =
+    unended (instruction_in told.what) (is_untold told.what) (quiet_of told) manner position count told ended other old new text is tells
+
 -- what is passed is an ordinary instruction, and lines of these aren't shown
 pub passes_both : (lists ran : Bool) → (not lists && ran) ≡ true → (lists ≡ false) × (ran ≡ true)
 passes_both true ran is = absurd (false≢true is)

@@ -243,7 +243,7 @@ impl Tracer {
                 return Err(NoMemory);
             }
         };
-        let linked = linked_on(&self.playback.board);
+        let linked = self.linked_before();
         let moved = self.playback.advance(rest, position + 1, to);
         if self.passes(moved.report) {
             return Ok(());
@@ -259,6 +259,16 @@ impl Tracer {
         };
         self.notes.follow(scene, moved.report)?;
         Ok(())
+    }
+
+    /// Which processors have a link, by number, where lines of instructions may be shown: only these tell of links.
+    fn linked_before(&self) -> [bool; 9]
+        ensures { may_list self.now.printer.options ≡ true → result ≡ linked_on self.now.playback.board }
+    {
+        if !self.printer.may_list() {
+            return [false; 9];
+        }
+        linked_on(&self.playback.board)
     }
 
     /// Whether nothing is told of an event that reports this: it is an ordinary instruction, and those aren't shown.

@@ -7,10 +7,10 @@ use Rattle.brd_journal.specs.Playing.{AreStill, board_at, IsPlayed}
 use Rattle.brd_journal.specs.Still.{does_no_more}
 use Rattle.brd_journal.proofs.PlayingLemmas.{first-board}
 use Rattle.brd_journal.proofs.RestLemmas.{rest_some}
-use Rattle.brd_trace.specs.Links.{ended_text, linked_on}
+use Rattle.brd_trace.specs.Links.{ended_by, ended_text, linked_on}
 use Rattle.brd_trace.specs.Telling.{is_ran, may_list, Tells}
 use Rattle.brd_trace.proofs.LinksLemmas.{ends_by}
-use Rattle.brd_trace.proofs.RanLemmas.{passes_both, ran_hidden, told_is}
+use Rattle.brd_trace.proofs.RanLemmas.{passes_both, ran_hidden, told_ended, told_is}
 use Rattle.brd_trace.proofs.TraceLemmas.{puts_one, puts_hidden}
 use Rattle.brd_trace.specs.Dated.{IsDated}
 use Rattle.brd_trace.proofs.AlikeLemmas.{kept-known}
@@ -69,8 +69,11 @@ returns-clause-told c = λ boot events within comes is.
     let it : c.in_ok-told.told ≡ happening_of (board_at boot events position) event =
     told_is board (board_at boot events position) event c.in-Ok.before moved.report next.board c.in_ok-told.told
     is.board c.in-Ok.ensures c.advance-moved.ensures.report leaves c.in_ok-told.ensures.is in
-    let ended = ends_by board (board_at boot events position) next.board event c.in_ok-told.told.cpu c.linked_on-linked.result (linked_on next.board)
-    is.board leaves (ap (λ (h : Happening). h.cpu) it) c.linked_on-linked.ensures refl in
+    let linked = c.linked_before-linked.result in
+    let ended : may_list c.args.self.now.printer.options ≡ true →
+    ended_text c.in_ok-told.told.cpu linked (linked_on next.board) ≡ ended_by (board_at boot events position) event =
+    λ lists. ends_by board (board_at boot events position) next.board event c.in_ok-told.told.cpu linked (linked_on next.board)
+    is.board leaves (ap (λ (h : Happening). h.cpu) it) (c.linked_before-linked.ensures lists) refl in
     let t = c.in_ok-tell.ensures.told in
     let ends : c.tell.new.self.playback.at ≡ position + moved.count = ap (λ (p : Playback). p.at) c.tell.ensures.same ∙ goes.2 in
     puts_one c.args.manner boot events position moved.count c.tell.new.self.playback.at c.args.self.now.printer c.tell.new.self.printer
@@ -82,10 +85,11 @@ returns-clause-told c = λ boot events within comes is.
         is = sym (rest_some events position c.args.rest comes);
         some = goes.0;
         still = subst (AreStill boot events (position + 1)) goes.2 (c.advance-moved.ensures.still boot events comes is);
-        tells = subst (λ (ended : List ℕ). Tells c.args.manner position moved.count (happening_of (board_at boot events position) event) ended
-            c.args.self.now.printer c.tell.new.self.printer t.text) ended
-            (subst (λ (h : Happening). Tells c.args.manner position moved.count h (ended_text c.in_ok-told.told.cpu c.linked_on-linked.result (linked_on next.board)) c.args.self.now.printer
-            c.tell.new.self.printer t.text) it t.is_it);
+        tells = told_ended c.args.manner position moved.count (happening_of (board_at boot events position) event)
+            (ended_text c.in_ok-told.told.cpu linked (linked_on next.board)) (ended_by (board_at boot events position) event)
+            c.args.self.now.printer c.tell.new.self.printer t.text (may_list c.args.self.now.printer.options) refl ended
+            (subst (λ (h : Happening). Tells c.args.manner position moved.count h (ended_text c.in_ok-told.told.cpu linked (linked_on next.board))
+            c.args.self.now.printer c.tell.new.self.printer t.text) it t.is_it);
       };
       behind = t.behind;
     })
