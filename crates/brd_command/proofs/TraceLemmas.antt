@@ -1,7 +1,7 @@
 -- A trace of what was read.
 use Rattle.std.proofs.Common.{rules, ◌≡◌, ℕ, ◌≤◌, Bool, true, false, List, [], ◌++◌, length, inl, refl, sym, ap, ◌∙◌, subst, append_assoc, arith}
 use Rattle.std.specs.Bool.{MatchBool}
-use Rattle.std.specs.Prelude.{Option, Some, None, IfSome, Result, Ok, Err, MatchResult, codes}
+use Rattle.std.specs.Prelude.{Option, Some, None, is_some, IfOk, IfSome, Result, Ok, Err, MatchResult, codes}
 use Rattle.std.specs.Io.KnownBytes.{Appends}
 use Rattle.brd_inputs.specs.Start.{AreWithin, IsStart}
 use Rattle.brd_board.specs.declared.event.Event.{Event}
@@ -12,9 +12,6 @@ use Rattle.brd_trace.proofs.TraceLemmas.{trace_nothing, trace_on}
 use Rattle.brd_timeline.specs.declared.timeline.Timeline.{Timeline}
 use Rattle.brd_timeline.specs.Events.{json_text}
 use Rattle.brd_timeline.specs.Ends.{EndsWith}
-use Rattle.brd_spins.specs.declared.spin.Spin.{Spin}
-use Rattle.brd_spins.specs.Since.{AreSpins}
-use Rattle.brd_spins.specs.Text.{spins_text}
 use Rattle.brd_trace.specs.Slices.{AreSlices}
 use Rattle.brd_journal.specs.declared.playback.Playback.{Playback}
 use Rattle.brd_journal.specs.Playing.{IsPlayed, board_at}
@@ -22,11 +19,11 @@ use Rattle.brd_inputs.specs.declared.fault.CommandFault.TheVariants as fault
 use Rattle.brd_command.specs.declared.trace_command.Part.{Part}
 use Rattle.brd_command.specs.declared.trace_options.TraceFormat.{TraceFormat}
 use Rattle.brd_command.specs.declared.trace_options.TraceFormat.TheVariants.{Text, Json, Svg}
-use Rattle.brd_command.specs.TraceCommand.{EndsTracing, IsOfWriting, TraceEnds, WritesLines, WritesSummary, WritesTimeline, WritesTold, WritesTrace, WritesWholeSummary}
+use Rattle.brd_command.specs.TraceCommand.{EndsTracing, IsOfWriting, TraceEnds, WritesLines, WritesSummary, WritesTimeline, WritesText, WritesTold, WritesTrace, WritesWholeSummary}
 use Rattle.brd_command.specs.TraceCommand.{IsPart, IsMannerOf, IsShown, WritesForm, first_of, end_of, head, words_asked}
 use Rattle.brd_trace.specs.Summary.{IsEnd, IsSummary}
 use Rattle.brd_report.specs.Output.{Writes}
-use Rattle.brd_command.specs.TraceCommand.{EndsDrawing, IsPicture}
+use Rattle.brd_command.specs.TraceCommand.{EndsDrawing, IsPicture, TellsSpins, WritesAsked}
 use Rattle.brd_command.specs.TraceCommand.{EndsRacing, KeepsFromTracing, WritesAllRaces, WritesAllStacks, WritesOther, WritesShown}
 use Rattle.brd_command.specs.RacesCommand.{WritesRaces}
 use Rattle.brd_command.specs.StacksCommand.{WritesStacks}
@@ -105,6 +102,15 @@ pub last-of : {P Q : Type 0} (result : Result Unit CommandFault) → MatchResult
 last-of (Ok done) is then = then is
 last-of (Err fault) of then = of
 
+-- what is so however it ended, and what follows from what is so where it ended well
+pub in-any : {P : Type 0} (result : Result Unit CommandFault) → P → IfOk result (λ _. P)
+in-any (Ok done) is = is
+in-any (Err fault) is = tt
+
+pub if-then : {P Q : Type 0} (result : Result Unit CommandFault) → IfOk result (λ _. P) → (P → Q) → IfOk result (λ _. Q)
+if-then (Ok done) is then = then is
+if-then (Err fault) is then = tt
+
 of_writing : (fault : CommandFault) (options : TraceOptions) (start : Start) (old new : Option (List ℕ)) → IsOfWriting fault
     → EndsTracing (Err fault) options start old new
 of_writing fault.NoMemory options start old new of = tt
@@ -128,29 +134,63 @@ of_writing fault.Fails options start old new of = absurd of
 of_writing fault.Passes options start old new of = absurd of
 of_writing (fault.Write a) options start old new of = tt
 
+-- The part that the options ask for begins before it ends.
+in-order : (options : TraceOptions) (len : ℕ) (part : Part) → IsPart options len part → first_of options ≤ end_of options len
+in-order options len part is =
+    subst (λ (n : ℕ). n ≤ end_of options len) is.from (subst (λ (n : ℕ). part.from ≤ n) is.to is.ordered)
+
+-- What was asked for was written: not races; not stacks either; nor a summary, but this form.
+module _ (start : Start) (options : TraceOptions) (old new : Option (List ℕ)) (races : options.races ≡ false) where
+  other : WritesOther start options old new → WritesAsked start options old new
+  other =
+      subst (λ (b : Bool). MatchBool b (WritesAllRaces start options old new) (WritesOther start options old new)) (sym races)
+
+  shown : options.stacks ≡ false → WritesShown start options old new → WritesAsked start options old new
+  shown stacks it =
+      other (subst (λ (b : Bool). MatchBool b (WritesAllStacks start options old new) (WritesShown start options old new)) (sym stacks) it)
+
+  formed : options.stacks ≡ false → options.summary ≡ false → (format : TraceFormat) → options.format ≡ Some format →
+      WritesForm (Some format) start options old new → WritesAsked start options old new
+  formed stacks summary format is it =
+      shown stacks (subst (λ (b : Bool). MatchBool b (WritesWholeSummary start options old new) (WritesForm options.format start options old new))
+      (sym summary) (subst (λ (f : Option TraceFormat). WritesForm f start options old new) (sym is) it))
+
+-- lines were written, and then who spins, where that is asked for
+module _ (options : TraceOptions) (symbols : List Symbol) (manner : Manner) (boot : BoardState) (events : List Event) (from to : ℕ)
+    (first : Printer) (old : Option (List ℕ)) where
+  pub text-alone : (new : Option (List ℕ)) → is_some options.words ≡ true → WritesLines head manner boot events from to first old new →
+      WritesText options symbols manner boot events from to first old new
+  text-alone new touching lines = record {
+    middle = new;
+    lines = lines;
+    spins = subst (λ (b : Bool). MatchBool b (new ≡ new) (Writes (TellsSpins symbols options.cpu boot events to) new new)) (sym touching) refl;
+  }
+
+  pub text-spun : (middle new : Option (List ℕ)) → is_some options.words ≡ false →
+      WritesLines head manner boot events from to first old middle → Writes (TellsSpins symbols options.cpu boot events to) middle new →
+      WritesText options symbols manner boot events from to first old new
+  text-spun middle new touching lines spun = record {
+    middle = middle;
+    lines = lines;
+    spins = subst (λ (b : Bool). MatchBool b (middle ≡ new) (Writes (TellsSpins symbols options.cpu boot events to) middle new)) (sym touching) spun;
+  }
+
 -- lines were written, which the options ask for
 pub text-ends : (start : Start) (options : TraceOptions) (part : Part) (manner : Manner) (first : Printer) (old new : Option (List ℕ))
     (result : Result Unit CommandFault) → IsPart options (length start.journal.events) part → part.format ≡ Text → options.races ≡ false → options.stacks ≡ false → options.summary ≡ false
     → IsMannerOf start.image (words_asked options start) manner → IsShown options first
     → MatchResult result
-    (λ _. WritesLines head manner start.board start.journal.events part.from part.to first old new) IsOfWriting
+    (λ _. WritesText options start.image.symbols manner start.board start.journal.events part.from part.to first old new) IsOfWriting
     → EndsTracing result options start old new
-text-ends start options part manner first old new (Err fault) is text races stacks lines made shown of = of_writing fault options start old new of
-text-ends start options part manner first old new (Ok done) is text races stacks lines made shown written =
-    let len = length start.journal.events in
-    let from_there = subst (λ (n : ℕ). WritesLines head manner start.board start.journal.events n part.to first old new) is.from written in
-    let both = subst (λ (n : ℕ). WritesLines head manner start.board start.journal.events (first_of options) n first old new) is.to from_there in
+text-ends start options part manner first old new (Err fault) is text races stacks lines made shown_so of = of_writing fault options start old new of
+text-ends start options part manner first old new (Ok done) is text races stacks lines made shown_so written =
+    let symbols = start.image.symbols in
+    let events = start.journal.events in
+    let from_there = subst (λ (n : ℕ). WritesText options symbols manner start.board events n part.to first old new) is.from written in
+    let both = subst (λ (n : ℕ). WritesText options symbols manner start.board events (first_of options) n first old new) is.to from_there in
     let trace : WritesTrace start options old new =
-    record { manner = manner; first = first; is_manner = made; is_first = shown; lines = both } in
-    let ordered : first_of options ≤ end_of options len = subst (λ (n : ℕ). n ≤ end_of options len) is.from
-    (subst (λ (n : ℕ). part.from ≤ n) is.to is.ordered) in (
-      ordered,
-      subst (λ (b : Bool). MatchBool b (WritesAllRaces start options old new) (WritesOther start options old new)) (sym races)
-          (subst (λ (b : Bool). MatchBool b (WritesAllStacks start options old new) (WritesShown start options old new)) (sym stacks)
-          (subst (λ (b : Bool). MatchBool b (WritesWholeSummary start options old new)
-          (WritesForm options.format start options old new)) (sym lines)
-          (subst (λ (f : Option TraceFormat). WritesForm f start options old new) (sym (is.format ∙ ap Some text)) trace))),
-    )
+    record { manner = manner; first = first; is_manner = made; is_first = shown_so; text = both } in
+    (in-order options (length events) part is, formed start options old new races stacks lines Text (is.format ∙ ap Some text) trace)
 
 -- a timeline was written, which the options ask for
 
@@ -174,14 +214,7 @@ json-ends start options part old new (Ok done) is json races stacks lines writte
     let len = length start.journal.events in
     let from_there = subst (λ (n : ℕ). WritesTimeline start.board start.journal.events n part.to old new) is.from written in
     let both = subst (λ (n : ℕ). WritesTimeline start.board start.journal.events (first_of options) n old new) is.to from_there in
-    let ordered : first_of options ≤ end_of options len = subst (λ (n : ℕ). n ≤ end_of options len) is.from
-    (subst (λ (n : ℕ). part.from ≤ n) is.to is.ordered) in (
-      ordered,
-      subst (λ (b : Bool). MatchBool b (WritesAllRaces start options old new) (WritesOther start options old new)) (sym races)
-          (subst (λ (b : Bool). MatchBool b (WritesAllStacks start options old new) (WritesShown start options old new)) (sym stacks)
-          (subst (λ (b : Bool). MatchBool b (WritesWholeSummary start options old new) (WritesForm options.format start options old new)) (sym lines)
-          (subst (λ (f : Option TraceFormat). WritesForm f start options old new) (sym (is.format ∙ ap Some json)) both))),
-    )
+    (in-order options len part is, formed start options old new races stacks lines Json (is.format ∙ ap Some json) both)
 
 -- a picture was drawn, which the options ask for
 
@@ -245,14 +278,7 @@ svg-ends start options part old new (Ok done) is svg races stacks lines written 
     let len = length start.journal.events in
     let from_there = subst (λ (n : ℕ). Writes (IsPicture start.board start.journal.events n part.to) old new) is.from written in
     let both = subst (λ (n : ℕ). Writes (IsPicture start.board start.journal.events (first_of options) n) old new) is.to from_there in
-    let ordered : first_of options ≤ end_of options len = subst (λ (n : ℕ). n ≤ end_of options len) is.from
-    (subst (λ (n : ℕ). part.from ≤ n) is.to is.ordered) in (
-      ordered,
-      subst (λ (b : Bool). MatchBool b (WritesAllRaces start options old new) (WritesOther start options old new)) (sym races)
-          (subst (λ (b : Bool). MatchBool b (WritesAllStacks start options old new) (WritesShown start options old new)) (sym stacks)
-          (subst (λ (b : Bool). MatchBool b (WritesWholeSummary start options old new) (WritesForm options.format start options old new)) (sym lines)
-          (subst (λ (f : Option TraceFormat). WritesForm f start options old new) (sym (is.format ∙ ap Some svg)) both))),
-    )
+    (in-order options len part is, formed start options old new races stacks lines Svg (is.format ∙ ap Some svg) both)
 
 -- races were looked for, as the options ask
 
@@ -285,16 +311,13 @@ pub races-end : (start : Start) (options : TraceOptions) (part : Part) (names : 
     EndsRacing result names start.board start.journal.events part.to old new → EndsTracing result options start old new
 races-end start options part names old new (Err fault) is races symbols segments ends = of_racing fault options start names part.to old new races ends
 races-end start options part names old new (Ok done) is races symbols segments ends =
-    let len = length start.journal.events in
-    let ordered : first_of options ≤ end_of options len = subst (λ (n : ℕ). n ≤ end_of options len) is.from
-    (subst (λ (n : ℕ). part.from ≤ n) is.to is.ordered) in
     let all : WritesAllRaces start options old new = record {
       names = names;
       symbols = symbols;
       segments = segments;
       races = subst (λ (n : ℕ). WritesRaces names start.board start.journal.events n old new) is.to ends;
     } in
-    (ordered, subst (λ (b : Bool). MatchBool b (WritesAllRaces start options old new) (WritesOther start options old new)) (sym races) all)
+    (in-order options (length start.journal.events) part is, subst (λ (b : Bool). MatchBool b (WritesAllRaces start options old new) (WritesOther start options old new)) (sym races) all)
 
 -- stacks were followed, as the options ask
 pub stacks-end : (start : Start) (options : TraceOptions) (part : Part) (old new : Option (List ℕ)) (result : Result Unit CommandFault) →
@@ -303,13 +326,10 @@ pub stacks-end : (start : Start) (options : TraceOptions) (part : Part) (old new
     EndsTracing result options start old new
 stacks-end start options part old new (Err fault) is races stacks of = of_writing fault options start old new of
 stacks-end start options part old new (Ok done) is races stacks written =
-    let len = length start.journal.events in
-    let ordered : first_of options ≤ end_of options len = subst (λ (n : ℕ). n ≤ end_of options len) is.from
-    (subst (λ (n : ℕ). part.from ≤ n) is.to is.ordered) in
     let all : WritesAllStacks start options old new =
     subst (λ (n : ℕ). WritesStacks start.image.symbols start.config start.board start.journal.events n old new) is.to written in (
-      ordered,
-      subst (λ (b : Bool). MatchBool b (WritesAllRaces start options old new) (WritesOther start options old new)) (sym races)
+      in-order options (length start.journal.events) part is,
+      other start options old new races
           (subst (λ (b : Bool). MatchBool b (WritesAllStacks start options old new) (WritesShown start options old new)) (sym stacks) all),
     )
 
@@ -321,20 +341,15 @@ pub summary-ends : (start : Start) (options : TraceOptions) (part : Part) (names
     EndsTracing result options start old new
 summary-ends start options part names old new (Err fault) is summary races stacks symbols segments of = of_writing fault options start old new of
 summary-ends start options part names old new (Ok done) is summary races stacks symbols segments written =
-    let len = length start.journal.events in
-    let ordered : first_of options ≤ end_of options len = subst (λ (n : ℕ). n ≤ end_of options len) is.from
-    (subst (λ (n : ℕ). part.from ≤ n) is.to is.ordered) in
     let whole : WritesWholeSummary start options old new = record {
       names = names;
       symbols = symbols;
       segments = segments;
       summary = subst (λ (n : ℕ). WritesSummary names start.image.symbols start.board start.journal.events n old new) is.to written;
     } in (
-      ordered,
-      subst (λ (b : Bool). MatchBool b (WritesAllRaces start options old new) (WritesOther start options old new)) (sym races)
-          (subst (λ (b : Bool). MatchBool b (WritesAllStacks start options old new) (WritesShown start options old new)) (sym stacks)
-          (subst (λ (b : Bool). MatchBool b (WritesWholeSummary start options old new)
-          (WritesForm options.format start options old new)) (sym summary) whole)),
+      in-order options (length start.journal.events) part is,
+      shown start options old new races stacks
+          (subst (λ (b : Bool). MatchBool b (WritesWholeSummary start options old new) (WritesForm options.format start options old new)) (sym summary) whole),
     )
 
 -- a board to which nothing has happened has played no events
@@ -344,17 +359,17 @@ begins events p start =
     record { board = subst (λ (n : ℕ). p.board ≡ board_at p.board events n) (sym start) none; within = omega (arith, start) }
 
 module _ (names : Names) (symbols : List Symbol) (boot : BoardState) (events : List Event) (n : ℕ) (old mid new : Option (List ℕ))
-    (first rest bytes : List ℕ) (spins : List Spin) (is_first : IsEnd boot events n first) (is_rest : IsSummary names boot events n rest)
-    (are_spins : AreSpins boot events n spins) (are : bytes ≡ rest ++ spins_text symbols spins) (written : Appends old mid first) where
+    (first rest last bytes : List ℕ) (is_first : IsEnd boot events n first) (is_rest : IsSummary names boot events n rest)
+    (is_last : TellsSpins symbols None boot events n last) (are : bytes ≡ rest ++ last) (written : Appends old mid first) where
   pub summary-last : (result : Result Unit CommandFault) → MatchResult result (λ _. Appends mid new bytes) IsOfWriting →
       MatchResult result (λ _. WritesSummary names symbols boot events n old new) IsOfWriting
   summary-last (Ok done) more = record {
     first = first;
     rest = rest;
+    last = last;
     is_first = is_first;
-    spins = spins;
     is_rest = is_rest;
-    are_spins = are_spins;
+    is_last = is_last;
     written = subst (λ (them : List ℕ). Appends old new (first ++ them)) are (one_more old mid new first bytes written more);
   }
   summary-last (Err fault) of = of

@@ -111,18 +111,25 @@ pub record IsFollowed (boot : BoardState) (events : List Event) (tracer : Tracer
   pub noted : IsNoted boot events tracer.playback.at tracer.notes
   pub dated : IsDated boot events tracer.playback.at tracer.notes
 
--- A summary was written: how many events there were, the tick, and which event turned the board off; and how its
--- processors and its tasks stand after them, since when, and each processor's last step and last exception; and
--- processors that spin.
+-- A text is that of the processors that spin after the first n events: of the one that is asked for, or of all.
+pub record TellsSpins (symbols : List Symbol) (asked : Option ℕ) (boot : BoardState) (events : List Event) (n : ℕ)
+    (text : List ℕ) : Type 0 where
+  pub spins : List Spin
+  pub are_spins : AreSpins boot events n spins
+  pub is_text : text ≡ spins_text symbols asked spins
+
+-- A summary was written: how many events there were, the tick, and which event turned the board off; how its processors
+-- and its tasks stand after them, since when, and each processor's last step and last exception; and which processors
+-- spin.
 pub record WritesSummary (names : Names) (symbols : List Symbol) (boot : BoardState) (events : List Event) (n : ℕ)
     (old new : Option (List ℕ)) : Type 0 where
   pub first : List ℕ
   pub rest : List ℕ
-  pub spins : List Spin
+  pub last : List ℕ
   pub is_first : IsEnd boot events n first
   pub is_rest : IsSummary names boot events n rest
-  pub are_spins : AreSpins boot events n spins
-  pub written : Appends old new (first ++ (rest ++ spins_text symbols spins))
+  pub is_last : TellsSpins symbols None boot events n last
+  pub written : Appends old new (first ++ (rest ++ last))
 
 -- the names of a trace's columns
 abbrev pub head : List ℕ
@@ -146,6 +153,16 @@ pub record WritesLines (front : List ℕ) (manner : Manner) (boot : BoardState) 
   pub lines : AreLines manner boot events from to first last text
   pub written : Appends old new (front ++ text)
 
+-- Such lines were written, and then those of the processors that spin after the events; but none of these where only
+-- loads and stores are shown.
+pub record WritesText (options : TraceOptions) (symbols : List Symbol) (manner : Manner) (boot : BoardState)
+    (events : List Event) (from to : ℕ) (first : Printer) (old new : Option (List ℕ)) : Type 0 where
+  pub middle : Option (List ℕ)
+  pub lines : WritesLines head manner boot events from to first old middle
+  pub spins :
+      MatchBool (is_some options.words) (middle ≡ new)
+      (Writes (TellsSpins symbols options.cpu boot events to) middle new)
+
 -- what is told of the events was written
 pub record WritesTold (manner : Manner) (boot : BoardState) (events : List Event) (from to : ℕ) (first last : Printer)
     (old new : Option (List ℕ)) : Type 0 where
@@ -168,13 +185,14 @@ pub record IsShown (options : TraceOptions) (first : Printer) : Type 0 where
   pub shown : first.options.shown ≡ true
   pub held : first.held ≡ None
 
--- After the names of the columns come the lines of the part of the journal that the options ask for, on the board.
+-- After the names of the columns come the lines of the part of the journal that the options ask for, on the board, and
+-- those of the processors that spin at its end.
 pub record WritesTrace (start : Start) (options : TraceOptions) (old new : Option (List ℕ)) : Type 0 where
   pub manner : Manner
   pub first : Printer
   pub is_manner : IsMannerOf start.image (words_asked options start) manner
   pub is_first : IsShown options first
-  pub lines : WritesLines head manner start.board start.journal.events (first_of options)
+  pub text : WritesText options start.image.symbols manner start.board start.journal.events (first_of options)
       (end_of options (length start.journal.events)) first old new
 
 -- a timeline from one position to another was written as trace events in JSON, whose slices are of what goes on

@@ -151,6 +151,8 @@ impl History {
         let mut out = Vec::new(alloc);
         tracer.put_end(alloc, &mut out)?;
         tracer.put_summary(alloc, traced.manner.names, traced.journal, &mut out)?;
+        let boot = self.boot.try_copy()?;
+        traced.put_spins(boot, &tracer.playback, None, &mut out)?;
         Ok(out)
     }
 
@@ -186,7 +188,7 @@ impl History {
 
     /// What tells of the board, to which nothing has happened yet.
     fn tracer(&self, alloc: Global) -> Result<Tracer, NoMemory>
-        ensures { IfOk result (λ tracer. tracer.playback.at ≡ 0) }
+        ensures { IfOk result (λ tracer. tracer.playback ≡ record { board = self.now.boot; at = 0 }) }
     {
         let board = self.boot.try_copy()?;
         let shown = Options {

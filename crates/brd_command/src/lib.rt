@@ -31,6 +31,7 @@ mod shrink_command;
 mod stacks_command;
 mod trace_command;
 mod trace_counts;
+mod trace_lines;
 mod trace_options;
 mod try_command;
 mod turns;

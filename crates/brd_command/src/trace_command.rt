@@ -18,16 +18,13 @@ ghost use Rattle.brd_command.specs.TraceCommand.{
   TraceEnds,
   WritesSummary,
   WritesTimeline,
-  WritesLines,
-  WritesTold,
-  head,
   of_words,
   words_named,
 };
 ghost use Rattle.brd_board.specs.Board.{BoardState as BoardOf};
 ghost use Rattle.brd_journal.specs.Playing.{IsPlayed};
 ghost use Rattle.brd_trace.specs.Slices.{begun_of, AreSlices};
-ghost use Rattle.brd_trace.specs.Telling.{IsTrace, shown_by};
+ghost use Rattle.brd_trace.specs.Telling.{IsTrace};
 ghost use Rattle.brd_trace.specs.Words.{Adds};
 
 use crate::progress::PIECE;
@@ -45,9 +42,8 @@ use brd_mem::Image;
 use brd_page::{PageFault, page};
 use brd_progress::Progress;
 use brd_report::write_whole;
-use brd_spins::{put_spins, spins};
 use brd_timeline::{PictureFault, Timeline, json, svg};
-use brd_trace::{HEAD, Manner, Names, Options, Tracer, WordsFault, add_words};
+use brd_trace::{Manner, Names, Options, Tracer, WordsFault, add_words};
 use std::alloc::Global;
 use std::io::{Read, Write};
 
@@ -191,7 +187,7 @@ fn write_trace<W: Write, P: Progress>(
         return traced.write_summary(tracer, writer, progress);
     }
     match part.format {
-        TraceFormat::Text => traced.write_lines(tracer, writer, progress),
+        TraceFormat::Text => traced.write_text(tracer, options, writer, progress),
         TraceFormat::Json => traced.write_json(tracer, writer, progress),
         TraceFormat::Svg => traced.write_svg(tracer, writer, progress),
         TraceFormat::Html => traced.write_html(tracer, writer, progress),
@@ -277,6 +273,8 @@ impl<'a> Traced<'a> {
         requires on { tracer.old.playback.at ≤ to }
         requires within { to ≤ length self.now.journal.now.events }
         ensures at { IfOk result (λ _. tracer.new.playback.at ≡ to) }
+        ensures played { (boot : BoardOf) → IsPlayed boot self.now.journal.now.events tracer.old.playback
+            → IfOk result (λ _. IsPlayed boot self.now.journal.now.events tracer.new.playback) }
         ensures follows { (boot : BoardOf) → IsFollowed boot self.now.journal.now.events tracer.old
             → IfOk result (λ _. IsFollowed boot self.now.journal.now.events tracer.new) }
         ensures knows { (boot : BoardOf) → IsKnown boot self.now.journal.now.events tracer.old
@@ -316,85 +314,6 @@ impl<'a> Traced<'a> {
         Ok(())
     }
 
-    /// Lets a tracer do the events up to the end of the part, and writes their lines.
-    fn write_events<W: Write, P: Progress>(
-        &self,
-        tracer: &mut Tracer,
-        writer: &mut W,
-        progress: &mut P,
-    ) -> Result<(), CommandFault>
-        requires on { tracer.old.playback.at ≤ self.now.part.to }
-        requires within { self.now.part.to ≤ length self.now.journal.now.events }
-        ensures { MatchResult result (λ _. (boot : BoardOf)
-            → IsPlayed boot self.now.journal.now.events tracer.old.playback
-            → WritesTold self.now.manner boot self.now.journal.now.events tracer.old.playback.at self.now.part.to
-            tracer.old.printer tracer.new.printer (W.contents writer.old) (W.contents writer.new)) IsOfWriting }
-    {
-        while tracer.playback.at < self.part.to {
-            let lines = self.advance(tracer, self.part.to)?;
-            progress.hide();
-            match written(writer, &lines) {
-                Ok(()) => {}
-                Err(fault) => return Err(fault),
-            }
-            progress.show(tracer.playback.at, self.part.to);
-        }
-        progress.hide();
-        Ok(())
-    }
-
-    /// Writes the lines of the part, after the names of the columns.
-    fn write_lines<W: Write, P: Progress>(
-        &self,
-        tracer: Tracer,
-        writer: &mut W,
-        progress: &mut P,
-    ) -> Result<(), CommandFault>
-        requires start { tracer.playback.at ≡ 0 }
-        requires from { self.now.part.from ≤ self.now.part.to }
-        requires within { self.now.part.to ≤ length self.now.journal.now.events }
-        ensures { MatchResult result (λ _. WritesLines head self.now.manner tracer.playback.board
-            self.now.journal.now.events self.now.part.from self.now.part.to (shown_by tracer.printer.options)
-            (W.contents writer.old) (W.contents writer.new)) IsOfWriting }
-    {
-        let mut tracer = tracer;
-        self.skip(&mut tracer, self.part.from, progress)?;
-        match written(writer, HEAD.as_bytes()) {
-            Ok(()) => {}
-            Err(fault) => return Err(fault),
-        }
-        self.write_stretch(&mut tracer, writer, progress)
-    }
-
-    /// Writes what each processor does, the lines from there to the end of the part, and what was held back.
-    fn write_stretch<W: Write, P: Progress>(
-        &self,
-        tracer: &mut Tracer,
-        writer: &mut W,
-        progress: &mut P,
-    ) -> Result<(), CommandFault>
-        requires on { tracer.old.playback.at ≤ self.now.part.to }
-        requires within { self.now.part.to ≤ length self.now.journal.now.events }
-        ensures { MatchResult result (λ _. (boot : BoardOf)
-            → IsPlayed boot self.now.journal.now.events tracer.old.playback
-            → WritesLines [] self.now.manner boot self.now.journal.now.events tracer.old.playback.at self.now.part.to
-            (shown_by tracer.old.printer.options) (W.contents writer.old) (W.contents writer.new)) IsOfWriting }
-    {
-        let mut first = Vec::new(self.alloc);
-        tracer.show(self.alloc, self.manner, &mut first)?;
-        match written(writer, &first) {
-            Ok(()) => {}
-            Err(fault) => return Err(fault),
-        }
-        match self.write_events(tracer, writer, progress) {
-            Ok(()) => {}
-            Err(fault) => return Err(fault),
-        }
-        let mut last = Vec::new(self.alloc);
-        tracer.finish(self.alloc, self.manner, &mut last)?;
-        written(writer, &last)
-    }
-
     /// Writes what stands at the end of the part.
     fn write_summary<W: Write, P: Progress>(
         &self,
@@ -416,9 +335,7 @@ impl<'a> Traced<'a> {
         tracer.put_end(self.alloc, &mut first)?;
         let mut rest = Vec::new(self.alloc);
         tracer.put_summary(self.alloc, self.manner.names, self.journal, &mut rest)?;
-        let spinning = spins(self.alloc, boot, self.journal, self.part.to)?;
-        let symbols = self.image.symbols.as_slice();
-        put_spins(self.alloc, symbols, spinning.as_slice(), &mut rest)?;
+        self.put_spins(boot, &tracer.playback, None, &mut rest)?;
         match written(writer, &first) {
             Ok(()) => {}
             Err(fault) => return Err(fault),

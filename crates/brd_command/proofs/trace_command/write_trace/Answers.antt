@@ -8,7 +8,7 @@ use Rattle.brd_trace.specs.Telling.{shown_by}
 use Rattle.brd_trace.specs.Slices.{IsNoted}
 use Rattle.brd_trace.specs.Dated.{IsDated}
 use Rattle.brd_journal.specs.declared.playback.Playback.{Playback}
-use Rattle.brd_command.specs.TraceCommand.{KeepsFromAsking, IsPart, IsOfWriting, WritesLines, WritesSummary, WritesTimeline, EndsDrawing, IsKnown, head}
+use Rattle.brd_command.specs.TraceCommand.{KeepsFromAsking, IsPart, IsOfWriting, WritesSummary, WritesText, WritesTimeline, EndsDrawing, IsKnown}
 use Rattle.brd_command.proofs.TraceLemmas.{begins, json-ends, svg-ends, races-end, stacks-end, summary-ends, text-ends, not_asked, not_chosen}
 use Rattle.brd_command.proofs.trace_command.write_trace.Goals as goal
 
@@ -19,10 +19,10 @@ returns-in-Text g c =
     let manner : Manner = record { names = c.with_lines-names.result; order = start.image.order; words = c.as_slice-3.result } in
     let first = shown_by c.in_ok-tracer.tracer.printer.options in
     let old = g.W.Write.contents c.args.writer.now in
-    let new = g.W.Write.contents c.write_lines.new.writer in
+    let new = g.W.Write.contents c.write_text.new.writer in
     let added = c.in-Ok-choose.ensures in
     let named = added.is ∙ ap (λ (them : List ℕ). Ok them) (sym (c.as_slice-3.ensures ∙ added.all ∙ ap (λ (them : List ℕ). them ++ added.more) c.new-words.ensures)) in
-    text-ends start c.args.options c.in-Ok.part manner first old new c.write_lines.result
+    text-ends start c.args.options c.in-Ok.part manner first old new c.write_text.result
     (subst (λ (n : ℕ). IsPart c.args.options n c.in-Ok.part) c.len.ensures.len c.in-Ok.ensures) c.in-Text.is c.if-options.false c.if-options-2.false c.if-options-3.false
     (record { symbols = c.with_lines-names.ensures.symbols ∙ (c.in_ok-symbols.ensures ∙ c.as_slice.ensures); segments = c.with_lines-names.ensures.segments ∙ c.as_slice-2.ensures; order = refl; words = named })
     (record {
@@ -32,9 +32,9 @@ returns-in-Text g c =
       shown = refl;
       held = refl;
     })
-    (subst (λ (b : BoardState). MatchResult c.write_lines.result
-    (λ _. WritesLines head manner b start.journal.events c.in-Ok.part.from c.in-Ok.part.to first old new) IsOfWriting)
-    (ap (λ p. p.board) c.in_ok-tracer.ensures.start) c.write_lines.ensures)
+    (subst (λ (b : BoardState). MatchResult c.write_text.result
+    (λ _. WritesText c.args.options start.image.symbols manner b start.journal.events c.in-Ok.part.from c.in-Ok.part.to first old new) IsOfWriting)
+    (ap (λ p. p.board) c.in_ok-tracer.ensures.start) c.write_text.ensures)
 
 -- The timeline is that of the part, on the board of the start.
 pub returns-in-Json : goal.returns-in-Json

@@ -2,7 +2,7 @@ use Rattle.std.proofs.Common.{◌≡◌, ℕ, List, sym, subst, arith}
 use Rattle.brd_trace.specs.Telling.{IsTrace}
 use Rattle.brd_command.specs.TraceCommand.{WritesTold}
 use Rattle.brd_command.proofs.TraceLemmas.{told-first, told-more}
-use Rattle.brd_command.proofs.trace_command.Traced.write_events.Goals as goal
+use Rattle.brd_command.proofs.trace_lines.Traced.write_events.Goals as goal
 
 pub loop-tracer-init : goal.loop-tracer-init
 loop-tracer-init g c = record {
@@ -29,8 +29,14 @@ loop-tracer-preserved g c = record {
       c.in-Ok.ensures;
 }
 
-pub returns : goal.returns
-returns g c = λ boot is.
+pub returns-clause-at : goal.returns-clause-at
+returns-clause-at g c = omega (arith, c.loop-tracer.invariant.on, c.loop-tracer-test.false)
+
+pub returns-clause-played : goal.returns-clause-played
+returns-clause-played g c = c.loop-tracer.invariant.played
+
+pub returns-clause-told : goal.returns-clause-told
+returns-clause-told g c = λ boot is.
     let ends : c.loop-tracer.tracer.playback.at ≡ c.args.self.now.part.to =
     omega (arith, c.loop-tracer.invariant.on, c.loop-tracer-test.false) in
     subst (λ (n : ℕ). WritesTold c.args.self.now.manner boot c.args.self.now.journal.now.events c.args.tracer.now.playback.at n
