@@ -83,6 +83,7 @@ tells "ticks are among the events" "stopped: no end after 2 steps" --steps 4 --t
 printf 'main: b main\n nop\n' > "$work/spin.s"
 tells "a task that spins" "stopped: no end after 10000 steps" "$work/spin.s"
 tells "where it spins" "task 1 ready since the start, at main(\+0x4)? \(8000000[04]\)" "$work/spin.s"
+tells "that it spins" "cpu 1 spins since the start at main \(80000000\): 2 instructions that change nothing" "$work/spin.s"
 # shellcheck disable=SC2016
 printf 'main: lw $t0, 0($0)\n' > "$work/fault.s"
 tells "an exception" \

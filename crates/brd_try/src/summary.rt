@@ -6,6 +6,7 @@ use brd_board::{Board, TaskState, TaskView};
 use brd_journal::Journal;
 use brd_listing::Places;
 use brd_mem::{Image, Segment};
+use brd_spins::{put_spins, spins};
 use brd_text::hex_digits;
 use brd_trace::{Manner, Names, Options, Tracer};
 use std::alloc::Global;
@@ -48,13 +49,16 @@ fn put_summary(
         shown: false,
         lines: [0; 32],
     };
+    let first = boot.try_copy()?;
     let mut tracer = Tracer::new(alloc, boot, options)?;
     let len = journal.len();
     while tracer.playback.at < len {
         let mut lines = Vec::new(alloc);
         tracer.advance_far(alloc, manner, journal, len, &mut lines)?;
     }
-    tracer.put_summary(alloc, manner.names, journal, out)
+    tracer.put_summary(alloc, manner.names, journal, out)?;
+    let spinning = spins(alloc, first, journal, &tracer.playback)?;
+    put_spins(alloc, image.symbols.as_slice(), None, spinning.as_slice(), out)
 }
 
 /// Puts a line at the end where a task goes on, or has stopped by an exception, at an address at which nothing of the
