@@ -26,8 +26,8 @@ use Rattle.brd_trace.specs.declared.notes.Notes.{Notes}
 use Rattle.brd_trace.specs.Noted.{Knows, IsSeen, KeepsKnown, may_change, tasks_of, standings_of}
 use Rattle.brd_trace.specs.Dated.{Condition, condition_of}
 use Rattle.brd_trace.specs.Telling.{is_ran}
-use Rattle.brd_trace.specs.Lanes.{Lanes, names_of, lanes_of}
-use Rattle.brd_trace.specs.Slices.{Subject, Cpu, OfTask, off_doing, cpu_doing, task_doing, seen_doing, runs_in, doing_of, cpu_name, name_of, is_there, cpus_in, subjects_by, subjects_of, label_of, slices_in, doings_in, open_at, cpu_open, task_open, task_name, IsSlice, Follow, AreOf, AreSlices, IsOpen, IsLane, AreLanes, IsRecorded, IsTimeline, IsNoted, begun_of, Begins, BeginsIn, BecomesSlice, AddsSlice, Closes, GoesOn, Turns, FollowsLane, SameLanes, Sees, SeesNotes, Records, Ends, EndsIn}
+use Rattle.brd_trace.specs.Lanes.{Title, Lanes, lanes_of}
+use Rattle.brd_trace.specs.Slices.{Subject, Cpu, OfTask, off_doing, cpu_doing, task_doing, seen_doing, runs_in, doing_of, cpu_title, title_of, is_there, cpus_in, subjects_by, subjects_of, label_of, slices_in, doings_in, open_at, cpu_open, task_open, seen_title, IsSlice, Follow, AreOf, AreSlices, IsOpen, IsLane, AreLanes, IsRecorded, IsTimeline, IsNoted, begun_of, Begins, BeginsIn, BecomesSlice, AddsSlice, Closes, GoesOn, Turns, FollowsLane, SameLanes, Sees, SeesNotes, Records, Ends, EndsIn}
 use Rattle.brd_trace.proofs.ThereLemmas.{still-there, same-tasks}
 use Rattle.brd_trace.proofs.AlikeLemmas.{Alike, alike-tasks, alike-standings, kept-known}
 use Rattle.brd_trace.proofs.NotedLemmas.{changes-none}
@@ -203,7 +203,7 @@ lanes-quiet : (boot : BoardState) (events : List Event) (n to : ℕ) (it : Lanes
 lanes-quiet boot events n to it on quiet are = record {
   cpus = are.cpus;
   tasks = alike-tasks (board_at boot events n) (board_at boot events to) (alike-to boot events n to on quiet) ∙ are.tasks;
-  names = are.names;
+  titles = are.titles;
   as_many = are.as_many;
   lanes = λ lane subject d got.
       lane-quiet boot events it.from subject n to (slice_index_or it.current lane d) (slices_in lane it.slices) on quiet (are.lanes lane subject d got);
@@ -229,7 +229,7 @@ lanes-on boot events n notes old new knows tasks sees are =
     let at_old : AreLanes boot events (suc n) (record new { from = old.from }) = record {
       cpus = sees.same.cpus ∙ are.cpus;
       tasks = tasks ∙ are.tasks;
-      names = sees.same.names ∙ are.names;
+      titles = sees.same.titles ∙ are.titles;
       as_many = sees.same.as_many ∙ are.as_many;
       lanes = λ lane subject d got.
           let less : lane < length old.current = omega (arith, got-less subjects lane subject got, are.as_many) in
@@ -334,15 +334,15 @@ no-slices : (lane : ℕ) → slices_in lane [] ≡ []
 unfolding slices_in
 no-slices lane = refl
 
--- names, and what goes on, in the order of the lanes
-begin-names : (cpus : List ℕ) (tasks : List TaskSeen) →
-    map cpu_name cpus ++ map task_name tasks ≡ map name_of (subjects_by cpus (map (λ (it : TaskSeen). it.id) tasks))
-begin-names cpus tasks =
+-- titles, and what goes on, in the order of the lanes
+begin-titles : (cpus : List ℕ) (tasks : List TaskSeen) →
+    map cpu_title cpus ++ map seen_title tasks ≡ map title_of (subjects_by cpus (map (λ (it : TaskSeen). it.id) tasks))
+begin-titles cpus tasks =
     let ids : List ℕ = map (λ (it : TaskSeen). it.id) tasks in
-    ap (λ (them : List (List ℕ)). them ++ map task_name tasks) (sym (map-twice name_of Cpu cpus))
-    ∙ ap (λ (them : List (List ℕ)). map name_of (map Cpu cpus) ++ them)
-    (sym (map-twice (λ (id : ℕ). name_of (OfTask id)) (λ (it : TaskSeen). it.id) tasks) ∙ sym (map-twice name_of OfTask ids))
-    ∙ sym (map-both name_of (map Cpu cpus) (map OfTask ids))
+    ap (λ (them : List Title). them ++ map seen_title tasks) (sym (map-twice title_of Cpu cpus))
+    ∙ ap (λ (them : List Title). map title_of (map Cpu cpus) ++ them)
+    (sym (map-twice (λ (id : ℕ). title_of (OfTask id)) (λ (it : TaskSeen). it.id) tasks) ∙ sym (map-twice title_of OfTask ids))
+    ∙ sym (map-both title_of (map Cpu cpus) (map OfTask ids))
 
 begin-current : (off : Bool) (standings : List (Option Standing)) (tasks : List TaskSeen) (from : ℕ) (cpus : List ℕ) →
     map (cpu_open off standings from) cpus ++ map (task_open off standings from) tasks ≡ map (open_at from) (doings_in off standings tasks cpus)
@@ -365,7 +365,7 @@ lanes-begin boot events from notes it knows begins =
     let here : AreLanes boot events from (record it { from = from }) = record {
       cpus = cpus;
       tasks = refl;
-      names = begins.names ∙ begin-names it.cpus notes.tasks.items ∙ ap (λ (ids : List ℕ). map name_of (subjects_by it.cpus ids)) knows.those ∙ ap (map name_of) those;
+      titles = begins.titles ∙ begin-titles it.cpus notes.tasks.items ∙ ap (λ (ids : List ℕ). map title_of (subjects_by it.cpus ids)) knows.those ∙ ap (map title_of) those;
       as_many = ap length current ∙ length-map (map (doing_of b) subjects) (open_at from) ∙ length-map subjects (doing_of b);
       lanes = λ lane subject d got.
           let is : slice_index_or it.current lane d ≡ open_at from (doing_of b subject) =
@@ -401,7 +401,7 @@ lanes-end boot events from to old it d is ends are =
     let made : AreSlices boot events old.from to it = record {
       from_is = ends.from_is;
       to_is = ends.to_is;
-      names = ends.names ∙ are.names;
+      titles = ends.titles ∙ are.titles;
       slices = λ lane subject got.
           let subjects : List Subject = subjects_of (board_at boot events old.from) in
           let less : lane < length old.current = omega (arith, got-less subjects lane subject got, are.as_many) in
@@ -507,7 +507,7 @@ pub record SeesUpTo (at : ℕ) (doings : List Doing) (first now : Lanes) (i : �
 
 pub sees-first : (at : ℕ) (doings : List Doing) (first : Lanes) → SeesUpTo at doings first first 0
 sees-first at doings first = record {
-  same = record { from = refl; names = refl; cpus = refl; as_many = refl };
+  same = record { from = refl; titles = refl; cpus = refl; as_many = refl };
   done = λ lane d less. absurd (omega (arith, less));
   current = λ lane d past. refl;
   slices = λ lane past. refl;
@@ -516,7 +516,7 @@ sees-first at doings first = record {
 same-then : (from_lanes old new : Lanes) → SameLanes from_lanes old → SameLanes old new → SameLanes from_lanes new
 same-then from_lanes old new one more = record {
   from = more.from ∙ one.from;
-  names = more.names ∙ one.names;
+  titles = more.titles ∙ one.titles;
   cpus = more.cpus ∙ one.cpus;
   as_many = more.as_many ∙ one.as_many;
 }
@@ -578,7 +578,7 @@ pub record ClosesUpTo (to : ℕ) (first now : Lanes) (i : ℕ) : Type 0 where
 
 pub closes-first : (to : ℕ) (first : Lanes) → ClosesUpTo to first first 0
 closes-first to first = record {
-  same = record { from = refl; names = refl; cpus = refl; as_many = refl };
+  same = record { from = refl; titles = refl; cpus = refl; as_many = refl };
   current = refl;
   done = λ lane d less. absurd (omega (arith, less));
   slices = λ lane past. refl;

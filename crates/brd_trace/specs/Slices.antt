@@ -11,6 +11,7 @@ use Rattle.brd_kernel.specs.declared.processor.Standing.{Standing}
 use Rattle.brd_board.specs.declared.event.Event.{Event}
 use Rattle.brd_board.specs.Board.{BoardState}
 use Rattle.brd_journal.specs.Playing.{board_at}
+use Rattle.brd_timeline.specs.declared.timeline.Group.{Group}
 use Rattle.brd_timeline.specs.declared.timeline.Kind.{Kind}
 use Rattle.brd_timeline.specs.declared.timeline.Slice.{Slice}
 use Rattle.brd_timeline.specs.declared.timeline.Timeline.{Timeline}
@@ -20,7 +21,7 @@ use Rattle.brd_trace.specs.declared.recording.Open.{Open}
 use Rattle.brd_trace.specs.declared.recording.Recording.{Recording}
 use Rattle.brd_trace.specs.declared.notes.Notes.{Notes}
 use Rattle.brd_trace.specs.Lines.{named_text}
-use Rattle.brd_trace.specs.Lanes.{Lanes, names_of, lanes_of}
+use Rattle.brd_trace.specs.Lanes.{Title, titled, Lanes, titles_of, lanes_of}
 use Rattle.brd_trace.specs.Noted.{Knows, tasks_of, standings_of}
 use Rattle.brd_trace.specs.Dated.{Condition, condition_of}
 use Rattle.brd_trace.specs.Summary.{wait_text}
@@ -77,12 +78,16 @@ abbrev pub doing_of : BoardState → Subject → Doing
 doing_of board (Cpu cpu) = cpu_doing board.kernel.off (standings_of board) cpu
 doing_of board (OfTask id) = task_doing board.kernel.off (runs_in (standings_of board) id) (condition_of board id)
 
-abbrev pub cpu_name : ℕ → List ℕ
-cpu_name cpu = named_text (codes "cpu") cpu
+-- its title: what it is called, and in which group it is
+abbrev pub cpu_title : ℕ → Title
+cpu_title cpu = titled (named_text (codes "cpu") cpu) Group.Processor
 
-abbrev pub name_of : Subject → List ℕ
-name_of (Cpu cpu) = cpu_name cpu
-name_of (OfTask id) = named_text (codes "task") id
+abbrev pub task_title : ℕ → Title
+task_title id = titled (named_text (codes "task") id) Group.Task
+
+abbrev pub title_of : Subject → Title
+title_of (Cpu cpu) = cpu_title cpu
+title_of (OfTask id) = task_title id
 
 -- the processors that are there, and then the tasks, by their numbers
 abbrev pub is_there : List (Option Standing) → ℕ → Bool
@@ -136,12 +141,12 @@ pub record AreOf (boot : BoardState) (events : List Event) (start to : ℕ) (sub
   pub each : All (IsSlice boot events start subject) slices
   pub follow : Follow start slices to
 
--- A timeline from one position to another: its lanes are the processors and the tasks, and the slices of each lane are of
--- its subject.
+-- A timeline from one position to another: its lanes are the processors and the tasks, each by its name and in its
+-- group, and the slices of each lane are of its subject.
 pub record AreSlices (boot : BoardState) (events : List Event) (from to : ℕ) (it : Timeline) : Type 0 where
   pub from_is : it.from ≡ from
   pub to_is : it.to ≡ to
-  pub names : names_of it.lanes.items ≡ map name_of (subjects_of (board_at boot events from))
+  pub titles : titles_of it.lanes.items ≡ map title_of (subjects_of (board_at boot events from))
   pub slices :
       (lane : ℕ) (subject : Subject) → slice_get (subjects_of (board_at boot events from)) lane ≡ Some subject
       → AreOf boot events from to subject (slices_in lane it.slices.items)
@@ -164,7 +169,7 @@ pub record IsLane (boot : BoardState) (events : List Event) (start n : ℕ) (sub
 pub record AreLanes (boot : BoardState) (events : List Event) (n : ℕ) (it : Lanes) : Type 0 where
   pub cpus : it.cpus ≡ cpus_in (standings_of (board_at boot events it.from))
   pub tasks : tasks_of (board_at boot events n) ≡ tasks_of (board_at boot events it.from)
-  pub names : it.names ≡ map name_of (subjects_of (board_at boot events it.from))
+  pub titles : it.titles ≡ map title_of (subjects_of (board_at boot events it.from))
   pub as_many : length it.current ≡ length (subjects_of (board_at boot events it.from))
   pub lanes :
       (lane : ℕ) (subject : Subject) (d : Open)
@@ -210,14 +215,14 @@ cpu_open off standings from cpu = open_at from (cpu_doing off standings cpu)
 abbrev pub task_open : Bool → List (Option Standing) → ℕ → TaskSeen → Open
 task_open off standings from it = open_at from (seen_doing off standings it)
 
-abbrev pub task_name : TaskSeen → List ℕ
-task_name it = named_text (codes "task") it.id
+abbrev pub seen_title : TaskSeen → Title
+seen_title it = task_title it.id
 
 pub record Begins (off : Bool) (standings : List (Option Standing)) (tasks : List TaskSeen) (from : ℕ) (it : Lanes)
     : Type 0 where
   pub from_is : it.from ≡ from
   pub cpus : it.cpus ≡ cpus_in standings
-  pub names : it.names ≡ map cpu_name it.cpus ++ map task_name tasks
+  pub titles : it.titles ≡ map cpu_title it.cpus ++ map seen_title tasks
   pub current : it.current ≡ map (cpu_open off standings from) it.cpus ++ map (task_open off standings from) tasks
   pub none : it.slices ≡ []
 
@@ -259,7 +264,7 @@ FollowsLane at doing old new before after =
 -- what doesn't change while a timeline is made
 pub record SameLanes (old new : Lanes) : Type 0 where
   pub from : new.from ≡ old.from
-  pub names : new.names ≡ old.names
+  pub titles : new.titles ≡ old.titles
   pub cpus : new.cpus ≡ old.cpus
   pub as_many : length new.current ≡ length old.current
 
@@ -285,7 +290,7 @@ Records at notes (Some old) (Some new) = SeesNotes at notes old new
 pub record Ends (to : ℕ) (old : Lanes) (it : Timeline) : Type 0 where
   pub from_is : it.from ≡ old.from
   pub to_is : it.to ≡ to
-  pub names : names_of it.lanes.items ≡ old.names
+  pub titles : titles_of it.lanes.items ≡ old.titles
   pub each :
       (lane : ℕ) (d : Open) → lane < length old.current
       → Closes (slice_index_or old.current lane d) to (slices_in lane old.slices) (slices_in lane it.slices.items)

@@ -21,7 +21,7 @@ ghost use Rattle.std.specs.Prelude.{
 };
 ghost use Rattle.brd_timeline.specs.declared.timeline.Lane.{Lane as LaneOf};
 ghost use Rattle.brd_trace.specs.declared.recording.Open.{Open as OpenOf};
-ghost use Rattle.brd_trace.specs.Lanes.{lanes_of, names_of};
+ghost use Rattle.brd_trace.specs.Lanes.{lanes_of, titled, titles_of};
 ghost use Rattle.brd_trace.specs.Lines.{named_text};
 ghost use Rattle.brd_trace.specs.Slices.{
   off_doing,
@@ -36,9 +36,9 @@ ghost use Rattle.brd_trace.specs.Slices.{
   owner_text,
   slices_in,
   cpus_in,
-  cpu_name,
+  cpu_title,
   cpu_open,
-  task_name,
+  seen_title,
   task_open,
   Begins,
   BecomesSlice,
@@ -132,8 +132,8 @@ impl Recording {
         ensures from { self.new.timeline.from ≡ self.old.timeline.from }
         ensures slices { self.new.timeline.slices ≡ self.old.timeline.slices }
         ensures cpus { self.new.processors ≡ self.old.processors }
-        ensures names { OnOk result (names_of self.new.timeline.lanes.items
-            ≡ names_of self.old.timeline.lanes.items ++ map cpu_name self.old.processors.items) }
+        ensures titles { OnOk result (titles_of self.new.timeline.lanes.items
+            ≡ titles_of self.old.timeline.lanes.items ++ map cpu_title self.old.processors.items) }
         ensures current { OnOk result (self.new.current.items ≡ self.old.current.items
             ++ map (cpu_open known.entry.is_off known.entry.standings.now.of self.old.timeline.from)
             self.old.processors.items) }
@@ -151,8 +151,8 @@ impl Recording {
         ensures from { self.new.timeline.from ≡ self.old.timeline.from }
         ensures slices { self.new.timeline.slices ≡ self.old.timeline.slices }
         ensures cpus { self.new.processors ≡ self.old.processors }
-        ensures names { OnOk result (names_of self.new.timeline.lanes.items
-            ≡ names_of self.old.timeline.lanes.items ++ map task_name known.entry.tasks.now) }
+        ensures titles { OnOk result (titles_of self.new.timeline.lanes.items
+            ≡ titles_of self.old.timeline.lanes.items ++ map seen_title known.entry.tasks.now) }
         ensures current { OnOk result (self.new.current.items ≡ self.old.current.items
             ++ map (task_open known.entry.is_off known.entry.standings.now.of self.old.timeline.from)
             known.entry.tasks.now) }
@@ -177,8 +177,8 @@ impl Recording {
         ensures from { self.new.timeline.from ≡ self.old.timeline.from }
         ensures slices { self.new.timeline.slices ≡ self.old.timeline.slices }
         ensures cpus { self.new.processors ≡ self.old.processors }
-        ensures names { OnOk result (names_of self.new.timeline.lanes.items
-            ≡ names_of self.old.timeline.lanes.items ++ named_text name.now number ∷ []) }
+        ensures titles { OnOk result (titles_of self.new.timeline.lanes.items
+            ≡ titles_of self.old.timeline.lanes.items ++ titled (named_text name.now number) group ∷ []) }
         ensures current { OnOk result (self.new.current.items
             ≡ self.old.current.items ++ open_at self.old.timeline.from doing ∷ []) }
     {

@@ -1,7 +1,7 @@
 -- The first tasks have a lane.
 use Rattle.std.proofs.Common.{◌≡◌, ◌++◌, map, take}
-use Rattle.brd_trace.specs.Lanes.{names_of}
-use Rattle.brd_trace.specs.Slices.{task_name, task_open}
+use Rattle.brd_trace.specs.Lanes.{titles_of}
+use Rattle.brd_trace.specs.Slices.{seen_title, task_open}
 use Rattle.brd_trace.proofs.recording.Recording.add_tasks.Given as goal
 
 abbrev pub invariant-loop-i : goal.invariant-loop-i
@@ -9,8 +9,8 @@ invariant-loop-i l = record {
   from : l.self.timeline.from ≡ l.fn.self.timeline.from;
   slices : l.self.timeline.slices ≡ l.fn.self.timeline.slices;
   cpus : l.self.processors ≡ l.fn.self.processors;
-  names : names_of l.self.timeline.lanes.items
-      ≡ names_of l.fn.self.timeline.lanes.items ++ map task_name (take l.i l.known.tasks.now);
+  titles : titles_of l.self.timeline.lanes.items
+      ≡ titles_of l.fn.self.timeline.lanes.items ++ map seen_title (take l.i l.known.tasks.now);
   current : l.self.current.items
       ≡ l.fn.self.current.items
       ++ map (task_open l.known.is_off l.known.standings.now.of l.fn.self.timeline.from) (take l.i l.known.tasks.now);
