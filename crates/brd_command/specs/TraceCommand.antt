@@ -19,7 +19,8 @@ use Rattle.brd_trace.specs.declared.printer.{Manner.Manner, Printer.Printer}
 use Rattle.brd_trace.specs.Telling.{IsFirstLine, IsTrace, held_text}
 use Rattle.brd_trace.specs.Words.{words_of}
 use Rattle.brd_trace.specs.declared.tracer.Tracer.{Tracer}
-use Rattle.brd_trace.specs.Slices.{IsNoted, AreSlices}
+use Rattle.brd_trace.specs.Slices.{AreSlices}
+use Rattle.brd_trace.specs.Recording.{IsNoted}
 use Rattle.brd_trace.specs.Dated.{IsDated}
 use Rattle.brd_trace.specs.Summary.{IsEnd, IsSummary}
 use Rattle.brd_journal.specs.Playing.{IsPlayed}

@@ -23,7 +23,8 @@ ghost use Rattle.brd_command.specs.TraceCommand.{
 };
 ghost use Rattle.brd_board.specs.Board.{BoardState as BoardOf};
 ghost use Rattle.brd_journal.specs.Playing.{IsPlayed};
-ghost use Rattle.brd_trace.specs.Slices.{begun_of, AreSlices};
+ghost use Rattle.brd_trace.specs.Slices.{AreSlices};
+ghost use Rattle.brd_trace.specs.Recording.{begun_of};
 ghost use Rattle.brd_trace.specs.Telling.{IsTrace};
 ghost use Rattle.brd_trace.specs.Words.{Adds};
 

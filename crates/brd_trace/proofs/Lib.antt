@@ -8,6 +8,7 @@ pub mod AlikeLemmas
 pub mod NotedLemmas
 pub mod DatedLemmas
 pub mod SlicesLemmas
+pub mod RecordingLemmas
 pub mod FollowLemmas
 pub mod LoadedLemmas
 pub mod LastStepLemmas

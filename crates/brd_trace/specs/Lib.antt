@@ -10,3 +10,4 @@ pub mod Telling
 pub mod Races
 pub mod Summary
 pub mod Slices
+pub mod Recording

@@ -4,7 +4,7 @@ ghost use Rattle.std.specs.Prelude.{◌≡◌, IfOk, is_some};
 ghost use Rattle.std.specs.Option.{option_map};
 ghost use Rattle.brd_trace.specs.Lanes.{lanes_of};
 ghost use Rattle.brd_trace.specs.Noted.{KeepsKnown};
-ghost use Rattle.brd_trace.specs.Slices.{begun_of, BeginsIn, EndsIn, Records};
+ghost use Rattle.brd_trace.specs.Recording.{begun_of, BeginsIn, EndsIn, Records};
 
 use crate::locks::Locks;
 use crate::notes::{Notes, Scene};

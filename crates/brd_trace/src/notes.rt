@@ -20,7 +20,7 @@ ghost use Rattle.std.specs.Prelude.{
 ghost use Rattle.brd_board.specs.declared.event.Event.{Event as EventOf};
 ghost use Rattle.std.specs.Option.{option_map};
 ghost use Rattle.brd_trace.specs.Lanes.{lanes_of};
-ghost use Rattle.brd_trace.specs.Slices.{begun_of, Records};
+ghost use Rattle.brd_trace.specs.Recording.{begun_of, Records};
 ghost use Rattle.brd_trace.specs.Noted.{Knows, KeepsKnown, may_change, off_by, tasks_of};
 ghost use Rattle.brd_trace.specs.Dated.{IsDated, Follows, KeepsFault, KeepsFaults};
 

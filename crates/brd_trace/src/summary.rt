@@ -8,7 +8,7 @@ ghost use Rattle.brd_journal.specs.Playing.{IsPlayed};
 ghost use Rattle.brd_listing.specs.Listing.{IsBehind};
 ghost use Rattle.brd_timeline.specs.Ends.{EndsWith};
 ghost use Rattle.brd_trace.specs.Dated.{IsDated};
-ghost use Rattle.brd_trace.specs.Slices.{IsNoted};
+ghost use Rattle.brd_trace.specs.Recording.{IsNoted};
 ghost use Rattle.brd_trace.specs.Summary.{
   end_text,
   off_text,

@@ -28,7 +28,7 @@ ghost use Rattle.brd_listing.specs.Listing.{IsBehind};
 ghost use Rattle.brd_trace.specs.declared.printer.Manner.{Manner as MannerOf};
 ghost use Rattle.brd_trace.specs.Quiets.{quiet_of};
 ghost use Rattle.brd_trace.specs.Noted.{KeepsKnown};
-ghost use Rattle.brd_trace.specs.Slices.{begun_of, IsNoted, IsTimeline};
+ghost use Rattle.brd_trace.specs.Recording.{begun_of, IsNoted, IsTimeline};
 ghost use Rattle.brd_trace.specs.Dated.{IsDated};
 ghost use Rattle.brd_trace.specs.Links.{ended_text, linked_on};
 ghost use Rattle.brd_trace.specs.Telling.{

@@ -2,7 +2,7 @@ use Rattle.std.proofs.Common.{true, false, ap, sym, ◌∙◌, ◌++◌, append-
 use Rattle.std.specs.Prelude.{filter, is_some}
 use Rattle.std.specs.List.{range_with_len}
 use Rattle.brd_trace.specs.Slices.{is_there}
-use Rattle.brd_trace.proofs.SlicesLemmas.{next-there, all-there}
+use Rattle.brd_trace.proofs.RecordingLemmas.{next-there, all-there}
 use Rattle.brd_trace.proofs.recording.Known.processors.Goals.{then-is_some+in_ok-push, else-is_some}
 use Rattle.brd_trace.proofs.recording.Known.processors.Goals as goal
 

@@ -1,7 +1,8 @@
 -- The first processors have a lane.
 use Rattle.std.proofs.Common.{◌≡◌, ◌++◌, map, take}
 use Rattle.brd_trace.specs.Lanes.{titles_of}
-use Rattle.brd_trace.specs.Slices.{cpu_title, cpu_open}
+use Rattle.brd_trace.specs.Slices.{cpu_title}
+use Rattle.brd_trace.specs.Recording.{cpu_open}
 use Rattle.brd_trace.proofs.recording.Recording.add_processors.Given as goal
 
 abbrev pub invariant-loop-i : goal.invariant-loop-i

@@ -1,7 +1,7 @@
 -- The first tasks have a lane.
 use Rattle.std.proofs.Common.{◌≡◌, ◌++◌, map, take}
 use Rattle.brd_trace.specs.Lanes.{titles_of}
-use Rattle.brd_trace.specs.Slices.{seen_title, task_open}
+use Rattle.brd_trace.specs.Recording.{seen_title, task_open}
 use Rattle.brd_trace.proofs.recording.Recording.add_tasks.Given as goal
 
 abbrev pub invariant-loop-i : goal.invariant-loop-i

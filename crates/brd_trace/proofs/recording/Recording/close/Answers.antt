@@ -2,8 +2,9 @@ use Rattle.std.proofs.Common.{refl, sym, ap, subst, ◌∙◌, arith}
 use Rattle.std.proofs.lemmas.List.{get_or_read}
 use Rattle.brd_timeline.specs.declared.timeline.Slice.{Slice}
 use Rattle.brd_trace.specs.declared.recording.Open.{Open}
-use Rattle.brd_trace.specs.Slices.{slices_in, Closes}
-use Rattle.brd_trace.proofs.SlicesLemmas.{slices-own, slices-other}
+use Rattle.brd_trace.specs.Slices.{slices_in}
+use Rattle.brd_trace.specs.Recording.{Closes}
+use Rattle.brd_trace.proofs.RecordingLemmas.{slices-own, slices-other}
 use Rattle.brd_trace.proofs.recording.Recording.close.Goals as goal
 
 pub returns-clause-this : goal.returns-clause-this

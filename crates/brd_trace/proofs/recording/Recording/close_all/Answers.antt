@@ -1,6 +1,6 @@
 use Rattle.std.proofs.Common.{ap}
 use Rattle.brd_trace.specs.Lanes.{lanes_of}
-use Rattle.brd_trace.proofs.SlicesLemmas.{closes-more}
+use Rattle.brd_trace.proofs.RecordingLemmas.{closes-more}
 use Rattle.brd_trace.proofs.recording.Recording.close_all.Goals as goal
 
 pub loop-lane-preserved : goal.loop-lane-preserved

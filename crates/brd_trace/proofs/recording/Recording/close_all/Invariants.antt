@@ -1,6 +1,6 @@
 -- The lanes so far are closed, and the others are as they were.
 use Rattle.brd_trace.specs.Lanes.{lanes_of}
-use Rattle.brd_trace.proofs.SlicesLemmas.{ClosesUpTo}
+use Rattle.brd_trace.proofs.RecordingLemmas.{ClosesUpTo}
 use Rattle.brd_trace.proofs.recording.Recording.close_all.Given as goal
 
 abbrev pub invariant-loop-lane : goal.invariant-loop-lane

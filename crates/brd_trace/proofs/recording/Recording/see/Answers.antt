@@ -1,8 +1,9 @@
 use Rattle.std.proofs.Common.{ap, ◌∙◌, arith}
 use Rattle.std.specs.Prelude.{slice_index_or}
 use Rattle.brd_trace.specs.Lanes.{lanes_of}
-use Rattle.brd_trace.specs.Slices.{off_doing, doings_in}
-use Rattle.brd_trace.proofs.SlicesLemmas.{sees-first, sees-more, sees-all}
+use Rattle.brd_trace.specs.Slices.{off_doing}
+use Rattle.brd_trace.specs.Recording.{doings_in}
+use Rattle.brd_trace.proofs.RecordingLemmas.{sees-first, sees-more, sees-all}
 use Rattle.brd_trace.proofs.recording.Recording.see.Goals as goal
 
 pub loop-lane-init : goal.loop-lane-init

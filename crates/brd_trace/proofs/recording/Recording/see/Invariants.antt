@@ -1,7 +1,7 @@
 -- The lanes so far have seen what goes on, and the others are as they were.
 use Rattle.brd_trace.specs.Lanes.{lanes_of}
-use Rattle.brd_trace.specs.Slices.{doings_in}
-use Rattle.brd_trace.proofs.SlicesLemmas.{SeesUpTo}
+use Rattle.brd_trace.specs.Recording.{doings_in}
+use Rattle.brd_trace.proofs.RecordingLemmas.{SeesUpTo}
 use Rattle.brd_trace.proofs.recording.Recording.see.Given as goal
 
 abbrev pub invariant-loop-lane : goal.invariant-loop-lane

@@ -22,8 +22,9 @@ use Rattle.brd_board.specs.declared.event.Event.{Event}
 use Rattle.std.specs.Prelude.{None, unwrap_or}
 use Rattle.std.specs.Option.{option_map}
 use Rattle.brd_trace.specs.Lanes.{lanes_of}
-use Rattle.brd_trace.specs.Slices.{IsRecorded}
-use Rattle.brd_trace.proofs.SlicesLemmas.{keeps-begun, recorded-on, recorded-ran}
+use Rattle.brd_trace.specs.Recording.{IsRecorded}
+use Rattle.brd_trace.proofs.SlicesLemmas.{recorded-on, recorded-ran}
+use Rattle.brd_trace.proofs.RecordingLemmas.{keeps-begun}
 use Rattle.brd_trace.proofs.tracer.Tracer.advance_in.Goals as goal
 
 pub returns-then-passes-clause-told : goal.returns-then-passes-clause-told

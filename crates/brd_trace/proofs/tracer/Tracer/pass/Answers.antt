@@ -7,7 +7,7 @@ use Rattle.brd_trace.proofs.NotedLemmas.{noted-far}
 use Rattle.brd_trace.proofs.DatedLemmas.{dated-far}
 use Rattle.std.specs.Option.{option_map}
 use Rattle.brd_trace.specs.Lanes.{lanes_of}
-use Rattle.brd_trace.specs.Slices.{IsRecorded}
+use Rattle.brd_trace.specs.Recording.{IsRecorded}
 use Rattle.brd_trace.proofs.SlicesLemmas.{recorded-far}
 use Rattle.brd_trace.proofs.tracer.Tracer.pass.Goals as goal
 
