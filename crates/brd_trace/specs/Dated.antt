@@ -1,5 +1,5 @@
--- What the history of a board says of how it stands: since which event each task is in its state, which event has turned
--- the board off, and the last exception of each processor.
+-- What the history of a board says of how it stands: since which event each task is in its state, which event has
+-- turned the board off, and the last exception of each processor.
 use Rattle.std.specs.Prelude.{◌≡◌, ◌≢◌, ◌⊎◌, ℕ, suc, ◌<◌, ◌≤◌, true, false, List, All, length, slice_get, slice_set}
 use Rattle.std.specs.Prelude.{slice_index_or, unwrap_or, if◌then◌else◌, Option, None, Some}
 use Rattle.std.specs.Option.{option_map}
@@ -84,7 +84,8 @@ pub record IsDated (boot : BoardState) (events : List Event) (n : ℕ) (notes : 
   pub since : All (λ (it : TaskSeen). IsSince boot events n it.id it.since) notes.tasks.items
   pub off : IsOff boot events n notes.off
   pub places : length notes.faults.items ≡ 9
-  pub faults : (cpu : ℕ) → 1 ≤ cpu → cpu ≤ 8 → IsLastFault boot events n cpu (slice_index_or notes.faults.items cpu None)
+  pub faults :
+      (cpu : ℕ) → 1 ≤ cpu → cpu ≤ 8 → IsLastFault boot events n cpu (slice_index_or notes.faults.items cpu None)
 
 -- ---- one event
 
@@ -114,7 +115,8 @@ pub record Follows (board : BoardState) (position : ℕ) (old new : Notes) : Typ
   pub places : length new.faults.items ≡ length old.faults.items
 
 -- an exception is kept as its processor's last one
-pub record KeepsFault (position address cpu : ℕ) (who : Option Standing) (old new : List (Option LastFault)) : Type 0 where
+pub record KeepsFault (position address cpu : ℕ) (who : Option Standing) (old new : List (Option LastFault))
+    : Type 0 where
   pub it : LastFault
   pub position_is : it.position ≡ position
   pub place : it.place ≡ address

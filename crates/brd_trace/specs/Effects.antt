@@ -1,7 +1,8 @@
--- What is told of an instruction that was done: the instruction as it was found, what it wrote, what of memory it loaded
--- or stored, and where it led.
+-- What is told of an instruction that was done: the instruction as it was found, what it wrote, what of memory it
+-- loaded or stored, and where it led.
 use Rattle.std.specs.Prelude.{◌≡◌, ◌≤◌, ℕ, ◌+◌, ◌-◌, ◌*◌, ◌/◌, ◌%◌, ◌==◌, Bool, true, false, nat_le, nat_lt}
-use Rattle.std.specs.Prelude.{◌&&◌, max, if◌then◌else◌, List, [], ◌∷◌, ◌++◌, length, take, drop, codes, Option, Some, None}
+use Rattle.std.specs.Prelude.{◌&&◌, max, if◌then◌else◌, List, [], ◌∷◌, ◌++◌, length, take, drop, codes}
+use Rattle.std.specs.Prelude.{Option, Some, None}
 use Rattle.std.specs.List.{list_any}
 use Rattle.std.specs.Fmt.{decimal}
 use Rattle.std.specs.Option.{option_and_then}
@@ -204,8 +205,8 @@ effect_text form it =
     ++ access_text form (part_of it.insn) it.access
     ++ jump_text form.names.symbols.now (is_branch it.insn) it.jump ++ slot_text it.in_slot
 
--- A text is what is told of an instruction at an address: the instruction, what it did, a text of the links that it ended,
--- and the line of its source.
+-- A text is what is told of an instruction at an address: the instruction, what it did, a text of the links that it
+-- ended, and the line of its source.
 pub record IsToldOf (form : Form) (address : ℕ) (it : Instruction) (ended text : List ℕ) : Type 0 where
   pub insn : List ℕ
   pub listed : IsListed it.insn address insn

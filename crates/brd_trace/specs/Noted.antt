@@ -1,5 +1,6 @@
 -- What is known of a board while it plays a journal: how its tasks stand, what its processors do, whether it is off.
-use Rattle.std.specs.Prelude.{◌≡◌, ℕ, Bool, true, false, List, ◌∷◌, map, filter, if◌then◌else◌, All, Option, None, Some, is_some}
+use Rattle.std.specs.Prelude.{◌≡◌, ℕ, Bool, true, false, List, ◌∷◌, map, filter, if◌then◌else◌, All}
+use Rattle.std.specs.Prelude.{Option, None, Some, is_some}
 use Rattle.std.specs.Option.{option_map}
 use Rattle.std.specs.List.{filter_map, range_with_len}
 use Rattle.brd_tasks.specs.declared.task.TaskView.{TaskView}

@@ -54,7 +54,8 @@ state_kind runs TaskState.WaitingSuspended = Kind.WaitingSuspended
 abbrev pub condition_doing : Bool → TaskState → Option WaitReason → Doing
 condition_doing runs state waiting = record { kind = state_kind runs state; number = 0; waiting = waiting }
 
--- with a board's processor and with a task, by whether the board is off, what its processors do, and the task's condition
+-- with a board's processor and with a task, by whether the board is off, what its processors do, and the task's
+-- condition
 abbrev pub cpu_doing : Bool → List (Option Standing) → ℕ → Doing
 cpu_doing off standings cpu = if off then off_doing else standing_doing (slice_index_or standings cpu None)
 
@@ -112,8 +113,8 @@ label_by doing None = owner_text doing.kind doing.number
 abbrev pub label_of : Doing → List ℕ
 label_of doing = label_by doing doing.waiting
 
--- It tells what goes on with its subject from its first position up to its last one, where that stays so; and before its
--- first position, unless the timeline begins there, something else went on.
+-- It tells what goes on with its subject from its first position up to its last one, where that stays so; and before
+-- its first position, unless the timeline begins there, something else went on.
 pub record IsSlice (boot : BoardState) (events : List Event) (start : ℕ) (subject : Subject) (it : Slice) : Type 0 where
   pub doing : Doing
   pub some : it.from < it.to

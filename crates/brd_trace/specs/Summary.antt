@@ -34,7 +34,8 @@ off_text (Some position) = named_text (codes ": off since event") position
 -- how many events there were, the tick, and which event turned the board off
 abbrev pub end_text : ℕ → ℕ → Option ℕ → List ℕ
 end_text events tick off =
-    named_text (codes "after event") events ++ codes ", " ++ named_text (codes "tick") tick ++ off_text off ++ codes "\n"
+    named_text (codes "after event") events ++ codes ", " ++ named_text (codes "tick") tick ++ off_text off
+    ++ codes "\n"
 
 pub record IsEnd (boot : BoardState) (events : List Event) (n : ℕ) (text : List ℕ) : Type 0 where
   pub off : Option ℕ

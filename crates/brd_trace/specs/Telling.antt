@@ -176,8 +176,8 @@ abbrev pub is_untold : What → Bool
 is_untold what.Untold = true
 is_untold _ = false
 
-abbrev pub TellsBy : Option Instruction → Bool → Option Quiet → Manner → ℕ → ℕ → Happening → List ℕ → Printer → Printer →
-    List ℕ → Type 0
+abbrev pub TellsBy :
+    Option Instruction → Bool → Option Quiet → Manner → ℕ → ℕ → Happening → List ℕ → Printer → Printer → List ℕ → Type 0
 TellsBy (Some it) untold kind manner position count told ended old new text =
     TellsInstruction manner position told it ended old new text
 TellsBy None true kind manner position count told ended old new text = TellsNothing old new text
@@ -187,7 +187,8 @@ TellsBy None false kind manner position count told ended old new text =
 -- what is told of an event, with those after it that change nothing: so many events
 abbrev pub Tells : Manner → ℕ → ℕ → Happening → List ℕ → Printer → Printer → List ℕ → Type 0
 Tells manner position count told ended old new text =
-    TellsBy (instruction_in told.what) (is_untold told.what) (quiet_of told) manner position count told ended old new text
+    TellsBy (instruction_in told.what) (is_untold told.what) (quiet_of told) manner position count told ended old new
+    text
 
 -- an event that reports this was an ordinary instruction
 abbrev pub is_ran : Report → Bool

@@ -20,7 +20,8 @@ begins_with_digit (byte ∷ bytes) = is_digit byte
 -- the address of a place: a number where it begins with a digit, else the value of the symbol of that name
 abbrev pub address_of : List Symbol → List ℕ → Result ℕ WordsFault
 address_of symbols place =
-    if begins_with_digit place then or_fault NoWord (number_of place) else or_fault NoSymbol (symbol_value symbols place)
+    if begins_with_digit place then or_fault NoWord (number_of place)
+    else or_fault NoSymbol (symbol_value symbols place)
 
 -- an aligned word of RAM lies at an address, or that is a fault
 abbrev pub word_at : BoardState → ℕ → Result ℕ WordsFault

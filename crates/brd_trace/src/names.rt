@@ -91,8 +91,8 @@ impl<'a> Names<'a> {
         }
     }
 
-    /// Puts at the end the file and the line of the code of an event, where it has some and they are known. Of a service
-    /// call that a header makes, as the kit's do, nobody asks for the header's line.
+    /// Puts at the end the file and the line of the code of an event, where it has some and they are known. Of a
+    /// service call that a header makes, as the kit's do, nobody asks for the header's line.
     pub(crate) fn put_source_of(
         &self,
         alloc: Global,
@@ -199,8 +199,8 @@ impl<'a> Names<'a> {
         put_word(out, address)
     }
 
-    /// Where what is loaded below an address ends: the greatest address after a segment that loads something, and nothing
-    /// above this address. 0 where there is none.
+    /// Where what is loaded below an address ends: the greatest address after a segment that loads something, and
+    /// nothing above this address. 0 where there is none.
     fn last_end(&self, address: u32) -> u32
         ensures is { result ≡ last_end address self.now.segments.now }
         // The segments hold the address before it, and none from there on up to an address that they don't hold.

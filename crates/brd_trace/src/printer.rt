@@ -147,7 +147,8 @@ impl Printer {
         stretch: Stretch,
         out: &mut Vec<u8>,
     ) -> Result<(), NoMemory>
-        ensures printer { IfOk result (λ _. self.new ≡ telling.with_held self.old (telling.held_quiet self.old stretch)) }
+        ensures printer { IfOk result (λ _. self.new
+            ≡ telling.with_held self.old (telling.held_quiet self.old stretch)) }
         ensures line { OnOk result (out.new.items ≡ out.old.items
             ++ telling.text_quiet names.entry.symbols.now self.old stretch) }
     {

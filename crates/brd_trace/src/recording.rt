@@ -209,9 +209,9 @@ impl Recording {
     fn turn(&mut self, alloc: Global, lane: usize, doing: Doing, at: u64) -> Result<(), NoMemory>
         requires { lane < length self.old.current.items }
         ensures same { SameLanes (lanes_of self.old) (lanes_of self.new) }
-        ensures this { IfOk result (λ _. (d : OpenOf) → FollowsLane at doing (slice_index_or self.old.current.items lane d)
-            (slice_index_or self.new.current.items lane d) (slices_in lane self.old.timeline.slices.items)
-            (slices_in lane self.new.timeline.slices.items)) }
+        ensures this { IfOk result (λ _. (d : OpenOf) → FollowsLane at doing
+            (slice_index_or self.old.current.items lane d) (slice_index_or self.new.current.items lane d)
+            (slices_in lane self.old.timeline.slices.items) (slices_in lane self.new.timeline.slices.items)) }
         ensures others { (other : ℕ) (d : OpenOf) → other ≢ lane
             → slice_index_or self.new.current.items other d ≡ slice_index_or self.old.current.items other d }
         ensures slices { (other : ℕ) → other ≢ lane
@@ -451,8 +451,8 @@ impl<'a> Known<'a> {
 
     /// What goes on in the lane of the task at a place in the list of tasks.
     fn of_place(&self, place: usize) -> Doing
-        ensures { result ≡ slice_index_or (map (seen_doing self.now.is_off self.now.standings.now.of) self.now.tasks.now)
-            place off_doing }
+        ensures { result ≡ slice_index_or
+            (map (seen_doing self.now.is_off self.now.standings.now.of) self.now.tasks.now) place off_doing }
     {
         if place < self.tasks.len() {
             return self.of_task(&self.tasks[place]);

@@ -278,8 +278,8 @@ impl Tracer {
         !self.printer.may_list() && is_ran(report)
     }
 
-    /// Puts at the end what is told of an event, and of those after it that do nothing. Before it these processors had a
-    /// link.
+    /// Puts at the end what is told of an event, and of those after it that do nothing. Before it these processors had
+    /// a link.
     fn tell(
         &mut self,
         alloc: Global,
