@@ -209,8 +209,7 @@ class Board:
     def step(self, processor):
         if processor.stopped:
             return "Stopped", None
-        lines = [line for line in self.pending if self.lines[line][0] == processor.number]
-        if lines and processor.line is None and not processor.locked:
+        if lines := self.acceptable(processor):
             return self.accept(processor, min(lines))
         context = processor.context()
         if context is None:
@@ -224,6 +223,11 @@ class Board:
         if called:
             self.call(processor, context, before)
         return "Called" if called else "Ran", address
+
+    def acceptable(self, processor):
+        """The pending lines that a processor would accept in its next step, unless it is stopped."""
+        is_free = processor.line is None and not processor.locked
+        return [line for line in self.pending if is_free and self.lines[line][0] == processor.number]
 
     def accept(self, processor, line):
         """An interrupt: the handler begins in the place of an instruction."""
