@@ -58,7 +58,13 @@ fn put_summary(
     }
     tracer.put_summary(alloc, manner.names, journal, out)?;
     let spinning = spins(alloc, first, journal, &tracer.playback)?;
-    put_spins(alloc, image.symbols.as_slice(), None, spinning.as_slice(), out)
+    put_spins(
+        alloc,
+        image.symbols.as_slice(),
+        None,
+        spinning.as_slice(),
+        out,
+    )
 }
 
 /// Puts a line at the end where a task goes on, or has stopped by an exception, at an address at which nothing of the
