@@ -8,7 +8,7 @@ use Rattle.brd_command.proofs.gdb_history.History.summary.Goals as goal
 -- A copy of the board to which nothing has happened goes on to tell since when processors spin.
 pub put_spins-requires-clause-played : goal.put_spins-requires-clause-played
 put_spins-requires-clause-played g c =
-    let events = c.traced.result.journal.now.events in
+    let events = c.traced-traced.result.journal.now.events in
     let first = c.in_ok-tracer.tracer.playback in
     let there = begins events first (ap (λ (p : Playback). p.at) c.in_ok-tracer.ensures) in
     let board = ap (λ (p : Playback). p.board) c.in_ok-tracer.ensures ∙ sym c.in_ok-boot.ensures in

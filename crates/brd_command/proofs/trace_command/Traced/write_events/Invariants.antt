@@ -3,7 +3,7 @@ use Rattle.std.proofs.Common.{◌≤◌, ◌-◌}
 use Rattle.brd_board.specs.Board.{BoardState}
 use Rattle.brd_journal.specs.Playing.{IsPlayed}
 use Rattle.brd_command.specs.TraceCommand.{WritesTold}
-use Rattle.brd_command.proofs.trace_lines.Traced.write_events.Given as goal
+use Rattle.brd_command.proofs.trace_command.Traced.write_events.Given as goal
 
 abbrev pub invariant-loop-tracer : goal.invariant-loop-tracer
 invariant-loop-tracer g l = record {

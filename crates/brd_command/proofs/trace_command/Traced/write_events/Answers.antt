@@ -2,7 +2,7 @@ use Rattle.std.proofs.Common.{◌≡◌, ℕ, List, sym, subst, arith}
 use Rattle.brd_trace.specs.Telling.{IsTrace}
 use Rattle.brd_command.specs.TraceCommand.{WritesTold}
 use Rattle.brd_command.proofs.TraceLemmas.{told-first, told-more}
-use Rattle.brd_command.proofs.trace_lines.Traced.write_events.Goals as goal
+use Rattle.brd_command.proofs.trace_command.Traced.write_events.Goals as goal
 
 pub loop-tracer-init : goal.loop-tracer-init
 loop-tracer-init g c = record {

@@ -6,7 +6,7 @@ use Rattle.brd_report.specs.Output.{Writes}
 use Rattle.brd_trace.specs.Telling.{shown_by}
 use Rattle.brd_command.specs.TraceCommand.{TellsSpins}
 use Rattle.brd_command.proofs.TraceLemmas.{last-of, text-alone, text-spun}
-use Rattle.brd_command.proofs.trace_lines.Traced.write_text.Goals as goal
+use Rattle.brd_command.proofs.trace_command.Traced.write_text.Goals as goal
 
 -- Only loads and stores are shown.
 pub returns-then-is_some : goal.returns-then-is_some

@@ -1,7 +1,7 @@
 use Rattle.std.proofs.Common.{List, ℕ, ◌++◌, ◌∙◌, ap, sym, subst}
 use Rattle.brd_command.specs.TraceCommand.{TellsSpins}
 use Rattle.brd_command.proofs.TraceLemmas.{last-of}
-use Rattle.brd_command.proofs.trace_lines.Traced.write_spins.Goals as goal
+use Rattle.brd_command.proofs.trace_command.Traced.write_spins.Goals as goal
 
 pub returns : goal.returns
 returns g c =

@@ -6,7 +6,7 @@ use Rattle.brd_trace.specs.Telling.{shown_by}
 use Rattle.brd_journal.specs.Playing.{IsPlayed}
 use Rattle.brd_command.specs.TraceCommand.{head, WritesLines}
 use Rattle.brd_command.proofs.TraceLemmas.{begins, if-then, last-of, lines-behind}
-use Rattle.brd_command.proofs.trace_lines.Traced.write_lines.Goals as goal
+use Rattle.brd_command.proofs.trace_command.Traced.write_lines.Goals as goal
 
 pub returns-clause-played : goal.returns-clause-played
 returns-clause-played g c =

@@ -5,7 +5,7 @@ use Rattle.brd_trace.specs.declared.printer.Printer.{Printer}
 use Rattle.brd_trace.specs.Telling.{IsFirstLine, held_text, shown_by}
 use Rattle.brd_command.specs.TraceCommand.{WritesTold}
 use Rattle.brd_command.proofs.TraceLemmas.{in-any, last-of, lines-of}
-use Rattle.brd_command.proofs.trace_lines.Traced.write_stretch.Goals as goal
+use Rattle.brd_command.proofs.trace_command.Traced.write_stretch.Goals as goal
 
 pub returns-clause-at : goal.returns-clause-at
 returns-clause-at g c =
