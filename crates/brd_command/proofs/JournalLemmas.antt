@@ -1,10 +1,10 @@
 -- What the texts of `--raise` and `--weights` say, read piece by piece.
 use Rattle.std.proofs.Common.{◌≡◌, ℕ, zero, suc, ◌+◌, ◌-◌, ◌<◌, Bool, true, false, ◌&&◌, ◌||◌, List, [], ◌∷◌, ◌++◌, length, map, set, replicate, refl, sym, ap, ◌∙◌, inl, inr, arith, eqb, subst, Bor}
 use Rattle.std.specs.Prelude.{nat_lt, Option, None, Some, option_map, option_and_then, is_some, nat_eq}
-use Rattle.std.specs.List.{slice_split, list_all, list_any, position_or_len, IsDistinct, AllByRecursion}
+use Rattle.std.specs.List.{list_all, list_any, IsDistinct, AllByRecursion}
 use Rattle.std.proofs.lemmas.Bool.{cases_Bool}
-use Rattle.std.proofs.lemmas.List.{append_assoc, append-nil, length-append, length-replicate, length-drop, replicate_more}
-use Rattle.std.proofs.lemmas.List.Splits.{slice_split_first, slice_split-cons_no, length-slice_split}
+use Rattle.std.proofs.lemmas.List.{append_assoc, append-nil, length-append, length-replicate, replicate_more}
+use Rattle.std.proofs.lemmas.List.Splits.{length-slice_split}
 use Rattle.brd_schedule.specs.declared.plan.Raise.{Raise}
 use Rattle.brd_schedule.specs.declared.plan.Rule.{Rule}
 use Rattle.brd_schedule.specs.declared.plan.Rule.TheVariants.{Drawn, InTurns, Lowered}

@@ -7,8 +7,6 @@ use Rattle.std.specs.IoError.{error_kind}
 use Rattle.std.specs.declared.io.ErrorKind.{ErrorKind}
 use Rattle.std.specs.declared.io.ErrorKind.TheVariants.{OutOfMemory, UnexpectedEof}
 use Rattle.std.proofs.lemmas.Bool.{cases_Bool}
-use Rattle.brd_board.specs.Board.{BoardState}
-use Rattle.brd_board.specs.declared.event.Event.{Event}
 use Rattle.brd_gdb.specs.declared.request.Request.{Request}
 use Rattle.brd_gdb.specs.declared.request.Request.TheVariants.{StartNoAckMode, Detach, Kill, KillProcess}
 use Rattle.brd_stub.specs.Answers.{Answers}

@@ -1,7 +1,7 @@
 -- A trace of what was read.
-use Rattle.std.proofs.Common.{rules, ◌≡◌, ℕ, ◌≤◌, Bool, true, false, List, [], ◌++◌, length, inl, refl, sym, ap, ◌∙◌, subst, append_assoc, arith}
+use Rattle.std.proofs.Common.{rules, ◌≡◌, ℕ, ◌≤◌, Bool, true, false, List, [], ◌++◌, length, inl, refl, sym, ap, ◌∙◌, subst, arith}
 use Rattle.std.specs.Bool.{MatchBool}
-use Rattle.std.specs.Prelude.{Option, Some, None, is_some, IfOk, IfSome, Result, Ok, Err, MatchResult, codes}
+use Rattle.std.specs.Prelude.{Option, Some, None, is_some, IfOk, IfSome, Result, Ok, Err, MatchResult}
 use Rattle.std.specs.Io.KnownBytes.{Appends}
 use Rattle.brd_inputs.specs.Start.{AreWithin, IsStart}
 use Rattle.brd_board.specs.declared.event.Event.{Event}
@@ -11,7 +11,6 @@ use Rattle.brd_trace.specs.Telling.{IsFirstLine, IsTrace, held_text}
 use Rattle.brd_trace.proofs.TraceLemmas.{trace_nothing, trace_on}
 use Rattle.brd_timeline.specs.declared.timeline.Timeline.{Timeline}
 use Rattle.brd_timeline.specs.Events.{json_text}
-use Rattle.brd_timeline.specs.Ends.{EndsWith}
 use Rattle.brd_trace.specs.Slices.{AreSlices}
 use Rattle.brd_journal.specs.declared.playback.Playback.{Playback}
 use Rattle.brd_journal.specs.Playing.{IsPlayed, board_at}

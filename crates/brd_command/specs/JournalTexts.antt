@@ -1,5 +1,5 @@
 -- What the texts of the options `--raise` and `--weights` of `journal` say.
-use Rattle.std.specs.Prelude.{◌≡◌, ◌<◌, ℕ, zero, suc, ◌-◌, nat_lt, ◌==◌, Bool, false, if◌then◌else◌, List}
+use Rattle.std.specs.Prelude.{◌≡◌, ℕ, zero, suc, ◌-◌, nat_lt, ◌==◌, Bool, false, if◌then◌else◌, List}
 use Rattle.std.specs.Prelude.{[], ◌∷◌, ◌++◌, length, map, replicate, nat_eq, Option, None, Some, option_and_then}
 use Rattle.std.specs.Prelude.{option_map}
 use Rattle.std.specs.List.{list_all, position_or_len, before_first, after_first, IsDistinct}

@@ -1,5 +1,5 @@
 -- What a server of GDB answers to the bytes that it receives (GDB manual, "Overview", "Packet Acknowledgment").
-use Rattle.std.specs.Prelude.{◌≡◌, ℕ, Bool, true, false, if◌then◌else◌, List, [], ◌∷◌, ◌++◌, codes, Option, None, Some}
+use Rattle.std.specs.Prelude.{◌≡◌, ℕ, Bool, true, false, if◌then◌else◌, List, [], ◌∷◌, ◌++◌, codes, Option, Some}
 use Rattle.brd_board.specs.Board.{BoardState}
 use Rattle.brd_board.specs.declared.event.Event.{Event}
 use Rattle.brd_gdb.specs.Output.{Outputs}

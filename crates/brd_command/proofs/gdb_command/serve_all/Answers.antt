@@ -1,4 +1,4 @@
-use Rattle.std.proofs.Common.{ℕ, List, [], refl, sym, subst, true≢false, arith}
+use Rattle.std.proofs.Common.{ℕ, [], sym, subst, true≢false, arith}
 use Rattle.std.specs.Prelude.{Option}
 use Rattle.brd_command.specs.Serving.HasServed.{nothing_yet}
 use Rattle.brd_command.specs.Lines.{CountsByte}

@@ -1,4 +1,4 @@
-use Rattle.std.proofs.Common.{◌≡◌, ℕ, List, Bor, ap}
+use Rattle.std.proofs.Common.{ℕ, List, Bor, ap}
 use Rattle.std.specs.Prelude.{Option, option_map}
 use Rattle.brd_command.specs.Saving.Saves.{not_created, ended}
 use Rattle.brd_command.proofs.saving.save.Goals as goal

@@ -1,4 +1,4 @@
-use Rattle.std.proofs.Common.{rules, arith}
+use Rattle.std.proofs.Common.{rules}
 use Rattle.brd_command.proofs.stacks_command.play.Goals.{else-loop-following-test, then-loop-following-test+in_ok-advance_far+then-has_overflow}
 use Rattle.brd_command.proofs.stacks_command.play.Goals as goal
 

@@ -1,4 +1,4 @@
-use Rattle.std.proofs.Common.{◌≡◌, ℕ, List, Bor, ap, refl}
+use Rattle.std.proofs.Common.{ℕ, List, Bor, ap, refl}
 use Rattle.std.specs.Prelude.{Option, option_map}
 use Rattle.brd_command.specs.TryCommand.SavesBoth.{both, no_config}
 use Rattle.brd_command.proofs.try_command.save_both.Goals as goal

@@ -1,4 +1,4 @@
-use Rattle.std.proofs.Common.{◌≡◌, ◌∙◌, ap, sym, subst}
+use Rattle.std.proofs.Common.{◌∙◌, ap, sym, subst}
 use Rattle.brd_board.specs.Board.{BoardState}
 use Rattle.brd_journal.specs.declared.playback.Playback.{Playback}
 use Rattle.brd_journal.specs.Playing.{IsPlayed}

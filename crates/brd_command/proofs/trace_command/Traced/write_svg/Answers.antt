@@ -1,4 +1,4 @@
-use Rattle.std.proofs.Common.{List, ℕ, sym, subst}
+use Rattle.std.proofs.Common.{sym, subst}
 use Rattle.brd_command.specs.TraceCommand.{IsPicture}
 use Rattle.brd_command.proofs.TraceLemmas.{drawing-ends}
 use Rattle.brd_command.proofs.trace_command.Traced.write_svg.Goals as goal

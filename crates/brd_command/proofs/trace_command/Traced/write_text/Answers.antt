@@ -1,6 +1,5 @@
-use Rattle.std.proofs.Common.{◌≡◌, ◌∙◌, ap, sym, subst}
+use Rattle.std.proofs.Common.{◌∙◌, sym, subst}
 use Rattle.brd_board.specs.Board.{BoardState}
-use Rattle.brd_journal.specs.declared.playback.Playback.{Playback}
 use Rattle.brd_journal.specs.Playing.{IsPlayed}
 use Rattle.brd_report.specs.Output.{Writes}
 use Rattle.brd_trace.specs.Telling.{shown_by}
