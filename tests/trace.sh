@@ -131,6 +131,14 @@ head -n 2 "$work/whole" > "$work/first"
 trace "no such processor" "$work/first" --cpu 9 "${files[@]}"
 trace "to past the end" "$work/whole" --to 18446744073709551615 "${files[@]}"
 
+# Who spins comes after the lines: of the processor that is asked for alone, and not where only loads are shown.
+scene spins
+{ head -n 2 "$folder/trace"; grep -E '^ *[0-9]+ 2 |^cpu 2 spins' "$folder/trace"; } > "$work/second"
+trace "one processor that spins" "$work/second" --cpu 2 "${files[@]}"
+run_trace --word 0x80000100 "${files[@]}"
+verdict "trace: loads, and not who spins" "$(grep -q ' lw ' "$work/out" || echo 'no loads'; grep ' spins ' "$work/out")"
+example data_queue/data_queue
+
 # Each event is told of once: with instructions, the lines and the counts add up to the journal.
 "$board" trace --instructions --to 115 "${files[@]}" | tail -n +3 > "$work/each"
 lines=$(grep -vcE ' idle, [0-9]+ steps?$' "$work/each")
