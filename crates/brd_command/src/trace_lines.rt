@@ -27,8 +27,8 @@ use brd_trace::{HEAD, Tracer};
 use std::io::Write;
 
 impl<'a> Traced<'a> {
-    /// Writes the lines of the part, and then those of the processors that spin at its end, but where only loads and
-    /// stores are shown.
+    /// Writes the lines of the part, and then, unless only loads and stores are shown, those of the processors that spin
+    /// after it.
     pub(crate) fn write_text<W: Write, P: Progress>(
         &self,
         tracer: Tracer,
@@ -55,7 +55,7 @@ impl<'a> Traced<'a> {
         self.write_spins(boot, &tracer.playback, options.cpu, writer)
     }
 
-    /// Writes the lines of the processors that spin at the end of the part, of one of them or of all.
+    /// Writes the lines of the processors that spin after the part, of one of them or of all.
     fn write_spins<W: Write>(
         &self,
         boot: Board,
@@ -74,7 +74,7 @@ impl<'a> Traced<'a> {
         written(writer, &lines)
     }
 
-    /// Puts the lines of the processors that spin at the end of the part at the end, of one of them or of all.
+    /// Puts at the end the lines of the processors that spin after the part, of one of them or of all.
     pub(crate) fn put_spins(
         &self,
         boot: Board,
