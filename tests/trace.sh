@@ -250,7 +250,7 @@ if have python3 "the timelines"; then
         "$board" trace --format json "${files[@]}" > "$work/out"
         verdict "trace: $name as json" "$(python3 tests/tracks "$work/out" 2>&1)"
     done
-    # Random boards beside the model: states and since when, slices, and what instructions change and load.
+    # Random boards beside the model: states and since when, slices, what instructions change and load, and who spins.
     wrong=$(tests/model/traces "$board" 2>&1) && wrong=
     verdict "trace: random boards beside the model" "$(head -n 3 <<< "$wrong")"
 fi
