@@ -209,7 +209,8 @@ pub record IsPicture (boot : BoardState) (events : List Event) (from to : ℕ) (
   pub bars : Holds (slices_text timeline) text
   pub ends : EndsWith (codes "</svg>\n") text
 
--- What is written in each form. Of what a picture has besides bars nothing is said here. A page is one of brd_page. Of counts it is said that their last line is whole.
+-- What is written in each form. Of what a picture has besides bars nothing is said here. A page is one of brd_page. Of
+-- counts it is said that their last line is whole.
 abbrev pub WritesForm : Option TraceFormat → Start → TraceOptions → Option (List ℕ) → Option (List ℕ) → Type 0
 WritesForm None start options old new = ⊥
 WritesForm (Some Text) start options old new = WritesTrace start options old new

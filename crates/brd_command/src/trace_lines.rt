@@ -27,8 +27,8 @@ use brd_trace::{HEAD, Tracer};
 use std::io::Write;
 
 impl<'a> Traced<'a> {
-    /// Writes the lines of the part, and then, unless only loads and stores are shown, those of the processors that spin
-    /// after it.
+    /// Writes the lines of the part, and then, unless only loads and stores are shown, those of the processors that
+    /// spin after it.
     pub(crate) fn write_text<W: Write, P: Progress>(
         &self,
         tracer: Tracer,

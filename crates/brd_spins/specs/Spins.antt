@@ -1,6 +1,7 @@
 -- A processor that spins: left alone, it does the same few instructions for ever, and they change nothing; or its task
 -- asks again and again for a spin lock that is held.
-use Rattle.std.specs.Prelude.{◌≡◌, ◌≢◌, ◌≤◌, ◌<◌, ◌+◌, ℕ, Bool, true, false, if◌then◌else◌, List, [], ◌∷◌, length, replicate, slice_index, slice_get, Contains}
+use Rattle.std.specs.Prelude.{◌≡◌, ◌≢◌, ◌≤◌, ◌<◌, ◌+◌, ℕ, Bool, true, false, if◌then◌else◌}
+use Rattle.std.specs.Prelude.{List, [], ◌∷◌, length, replicate, slice_index, slice_get, Contains}
 use Rattle.std.specs.Prelude.{Option, None, Some}
 use Rattle.brd_isa.specs.declared.instruction.Insn.{Insn}
 use Rattle.brd_exec.specs.State.{State}
@@ -40,8 +41,8 @@ turn_of b cpu = turn_by (happening_of b (Step cpu)).what
 abbrev pub alone : BoardState → ℕ → ℕ → BoardState
 alone b cpu count = after b (replicate count (Step cpu))
 
--- Left alone, a processor executes as many instructions as there are registers, each of which stores nothing, with these
--- registers before them.
+-- Left alone, a processor executes as many instructions as there are registers, each of which stores nothing, with
+-- these registers before them.
 abbrev pub AreTurns : BoardState → ℕ → List State → Type 0
 AreTurns b cpu [] = Unit {0}
 AreTurns b cpu (state ∷ states) =

@@ -51,8 +51,8 @@ fn turning_of(alloc: Global, board: &Board, cpu: u8) -> Result<Turning, NoMemory
     }
 }
 
-/// Lets a processor go on alone, as long as each instruction stores nothing, until its registers are those with which it
-/// began: then they are a loop. Puts its registers before each instruction at the end.
+/// Lets a processor go on alone, as long as each instruction stores nothing, until its registers are those with which
+/// it began: then they are a loop. Puts its registers before each instruction at the end.
 fn go_round(
     alloc: Global,
     board: &mut Board,

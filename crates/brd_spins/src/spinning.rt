@@ -12,8 +12,8 @@ use brd_board::Board;
 use brd_journal::{Journal, Playback};
 use std::alloc::Global;
 
-/// Which processors spin on a board that has played the first events of a journal, by rising number. `boot` is the board
-/// before these events.
+/// Which processors spin on a board that has played the first events of a journal, by rising number. `boot` is the
+/// board before these events.
 pub fn spins(
     alloc: Global,
     boot: Board,
