@@ -1,2 +1,3 @@
 mod PlaceLemmas
 mod AscendingLemmas
+pub mod NameLemmas

@@ -1,2 +1,3 @@
+pub mod Names
 pub mod Places
 pub mod Listing

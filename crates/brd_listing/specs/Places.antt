@@ -6,6 +6,7 @@ use Rattle.std.specs.List.Sorted.{IsNonDecreasingBy}
 use Rattle.brd_base.specs.Space.{base, top}
 use Rattle.brd_text.specs.Hex.{hex_of}
 use Rattle.brd_mem.specs.declared.image.Symbol.{Symbol}
+use Rattle.brd_listing.specs.Names.{shown_name}
 
 -- a value from the first address of RAM to this address; other values are numbers, or addresses of something else
 abbrev pub is_below : ℕ → Symbol → Bool
@@ -49,10 +50,10 @@ short_hex n = codes "0x" ++ without_zeros (hex_of n)
 abbrev pub distance_text : ℕ → List ℕ
 distance_text distance = if distance == 0 then [] else 43 ∷ short_hex distance
 
--- a symbol's name and the distance from it; an address that has no symbol, as eight digits
+-- a symbol's name, as it is shown, and the distance from it; an address that has no symbol, as eight digits
 abbrev pub text_by : Option Symbol → ℕ → List ℕ
 text_by None address = hex_of address
-text_by (Some s) address = s.name ++ distance_text (address - s.value)
+text_by (Some s) address = shown_name s.name ++ distance_text (address - s.value)
 
 abbrev pub place_text : List Symbol → ℕ → List ℕ
 place_text symbols address = text_by (nearest_of symbols address) address

@@ -3,6 +3,7 @@
 ghost use Rattle.std.specs.Prelude.{◌≡◌, ◌++◌, option_map, OnOk};
 ghost use Rattle.brd_listing.specs.Places as places;
 
+use crate::name::write_name;
 use crate::number::put_hex;
 use brd_base::{BASE, NoMemory, TOP};
 use brd_mem::Symbol;
@@ -38,8 +39,9 @@ fn is_nearer(found: Option<&Symbol>, symbol: &Symbol, address: u32) -> bool
     }
 }
 
-/// Puts an address at the end: its nearest symbol and the distance from it, as `main+0x1c`, without a distance of 0;
-/// eight hexadecimal digits where it has no symbol. Where memory runs out, a front of it may be there.
+/// Puts an address at the end: its nearest symbol, as `write_name` writes it, and the distance from it, as `main+0x1c`,
+/// without a distance of 0; eight hexadecimal digits where it has no symbol. Where memory runs out, a front of it may
+/// be there.
 pub fn write_place(symbols: &[Symbol], address: u32, to: &mut Vec<u8>) -> Result<(), NoMemory>
     ensures { OnOk result (to.new.items ≡ to.old.items ++ places.place_text symbols.now address) }
 {
@@ -52,13 +54,14 @@ pub(crate) fn put_by(
     address: u32,
     to: &mut Vec<u8>,
 ) -> Result<(), NoMemory>
-    ensures { OnOk result (to.new.items ≡ to.old.items ++ places.text_by (option_map (λ s. s.now) symbol.entry) address) }
+    ensures { OnOk result (to.new.items ≡ to.old.items
+        ++ places.text_by (option_map (λ s. s.now) symbol.entry) address) }
 {
     let Some(symbol) = symbol else {
         to.extend_from_slice(&hex_digits(address))?;
         return Ok(());
     };
-    to.extend_from_slice(symbol.name.as_slice())?;
+    write_name(symbol.name.as_slice(), to)?;
     put_distance(to, address.saturating_sub(symbol.value))
 }
 

@@ -1,4 +1,4 @@
-use Rattle.std.proofs.Common.{◌≡◌, ◌++◌, refl, sym, ap, ◌∙◌, append_assoc}
+use Rattle.std.proofs.Common.{◌≡◌, ◌++◌, refl, ap, ◌∙◌, append_assoc}
 use Rattle.std.specs.Prelude.{Some}
 use Rattle.brd_isa.specs.Names.{mnemonic_named}
 use Rattle.brd_listing.specs.Listing.{mnemonic_of, operands_text, operands_of}
