@@ -3,6 +3,7 @@ use Rattle.std.specs.Prelude.{ℕ, ◌<◌, ◌≤◌, Bool, ◌&&◌, ◌==◌,
 use Rattle.std.specs.Prelude.{if◌then◌else◌, Option, Some, None, find}
 use Rattle.std.specs.List.{fold}
 use Rattle.std.specs.Option.{option_map}
+use Rattle.brd_listing.specs.Names.{shown_name}
 use Rattle.brd_lines.specs.declared.lines.{Stretch.Stretch, Place.Place}
 
 -- what contracts see of lines: the paths of files, and the stretches of addresses whose code stands for a line of one of
@@ -56,12 +57,10 @@ place_of files stretch = record { file = file_at files stretch.file; line = stre
 abbrev pub place_at : LinesOf → ℕ → Option PlaceOf
 place_at lines address = option_map (place_of lines.files) (stretch_at lines.stretches address)
 
--- The name of a file without the folders of its path, as it is shown: what isn't printable ASCII as `?`.
-abbrev pub shown_byte : ℕ → ℕ
-shown_byte byte = if nat_le 32 byte && nat_le byte 126 then byte else 63
-
+-- the name of a file without the folders of its path: what stands behind the last /
 abbrev pub name_more : List ℕ → ℕ → List ℕ
-name_more name byte = if byte == 47 then [] else name ++ shown_byte byte ∷ []
+name_more name byte = if byte == 47 then [] else name ++ byte ∷ []
 
+-- the same, as it is shown
 abbrev pub name_of : List ℕ → List ℕ
-name_of path = fold name_more [] path
+name_of path = shown_name (fold name_more [] path)

@@ -11,11 +11,11 @@ ghost use Rattle.brd_lines.specs.Lines.{
   name_of,
   place_at,
   seen,
-  shown_byte,
   stretch_at,
 };
 
 use brd_base::NoMemory;
+use brd_listing::write_name;
 use std::alloc::Global;
 use std::marker::Model;
 
@@ -75,7 +75,7 @@ impl Drop for Lines {
 }
 
 impl<'a> Place<'a> {
-    /// Puts at the end the name of the file, without the folders of its path: what isn't printable ASCII as `?`.
+    /// Puts at the end the name of the file, without the folders of its path, as `write_name` shows it.
     pub fn put_name(&self, alloc: Global, out: &mut Vec<u8>) -> Result<(), NoMemory>
         ensures { OnOk result (out.new.items ≡ out.old.items ++ name_of self.now.file.now) }
     {
@@ -84,21 +84,10 @@ impl<'a> Place<'a> {
             if *byte == b'/' {
                 name.clear();
             } else {
-                name.push(shown_byte(*byte))?;
+                name.push(*byte)?;
             }
         }
-        out.extend_from_slice(&name)?;
-        Ok(())
-    }
-}
-
-/// A byte as it is shown.
-fn shown_byte(byte: u8) -> u8
-    ensures { result ≡ shown_byte byte }
-{
-    match byte {
-        b' '..=b'~' => byte,
-        _ => b'?',
+        write_name(&name, out)
     }
 }
 
