@@ -46,7 +46,12 @@ starts : (source elf config : List ℕ) (board : BoardState) → IsObjectFile so
     → Starts source elf config board
 starts source elf config board object h =
     let again : fitting.IsReadAgain source elf object.image =
-    record { is_file = object.is_file; is_read = object.is_read; instructions = object.instructions } in
+    record {
+      is_image = object.is_image;
+      is_file = object.is_file;
+      is_read = object.is_read;
+      instructions = object.instructions;
+    } in
     let boots : booted object.image config ≡ Ok board =
     subst (λ (r : Result Image ElfFault). (step Elf r >>= λ i. booted i config) ≡ Ok board) object.is_read h in
     subst (λ (bytes : List ℕ). Starts source bytes config board) (sym object.is_file)

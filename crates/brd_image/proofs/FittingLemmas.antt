@@ -26,6 +26,7 @@ OneImage = (program : Program) (a b : Image) → IsImage program a → IsImage p
 
 -- an object file that means this image of the source again
 pub record IsReadAgain (source elf : List ℕ) (image : Image) : Type 0 where
+  pub is_image : IsImageOf source image
   pub is_file : elf ≡ file image
   pub is_read : meaning elf ≡ Ok image
   pub instructions : HasInstructions source image
@@ -43,9 +44,10 @@ the_image one source elf image is object =
     subst (λ (p : Program). IsImage p object.image) program of_object.is_image in
     one is.program object.image image image_of is.is_image
 
-read_again : (source elf : List ℕ) (image : Image) → Fits image → (object : IsObjectFile source elf)
-    → object.image ≡ image → IsReadAgain source elf image
-read_again source elf image fits object same = record {
+read_again : (source elf : List ℕ) (image : Image) → IsImageOf source image → Fits image
+    → (object : IsObjectFile source elf) → object.image ≡ image → IsReadAgain source elf image
+read_again source elf image is fits object same = record {
+  is_image = is;
   is_file = object.is_file ∙ ap file same;
   is_read = object.again (subst Fits (sym same) fits) ∙ ap (λ (i : Image). Ok i) same;
   instructions = subst (λ (i : Image). HasInstructions source i) same object.instructions;
@@ -54,7 +56,7 @@ read_again source elf image fits object same = record {
 pub is_read_again : OneImage → (source elf : List ℕ) (image : Image) → IsImageOf source image → Fits image
     → IsObjectFile source elf → IsReadAgain source elf image
 is_read_again one source elf image is fits object =
-    read_again source elf image fits object (the_image one source elf image is object)
+    read_again source elf image is fits object (the_image one source elf image is object)
 
 -- such a file comes to what its image comes to
 pub of_image : (source elf config : List ℕ) (image : Image) (answer : Result BoardState BuildFault)
@@ -105,7 +107,13 @@ start_of source elf config image board again h =
     let read : meaning (file image) ≡ Ok image = ap meaning (sym again.is_file) ∙ again.is_read in
     let found = booted_ok (config_of config) image board h in
     record {
-      words = record { image = image; is_read = read; instructions = again.instructions };
+      words = record {
+        image = image;
+        is_image = again.is_image;
+        is_file = refl;
+        is_read = read;
+        instructions = again.instructions;
+      };
       memory = record {
         image = image;
         is_read = read;
