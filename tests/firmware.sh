@@ -28,6 +28,7 @@ for level in -O0 -O2; do
     done
 done
 library "malloc on two processors" "ok: firmware.journal" test
+library "no race of malloc on two processors" "races: 0 words" races
 make -s -C tests/library BOARD="$board" BUILD="$work/build" hunt TRIES=5 > "$work/said" 2>&1
 verdict "the C library, malloc in other orders" "$(grep -q '^ok: [0-9]* orders, ' "$work/said" || cat "$work/said")"
 

@@ -159,7 +159,9 @@ fi
 # What happens in a run: lines with the places of C, races, a page, coverage.
 says "make trace" 0 " *[0-9]+ [12] +task .*; firmware[.]c:[0-9]+" \
     project examples/c_two_processors trace TRACEFLAGS="--instructions --to 200"
-says "make races" 0 "races: [0-9]+ words?" project examples/c_two_processors races
+for level in -O0 -O2; do
+    says "make races, $level" 0 "races: 0 words" project examples/c_two_processors races OPTIMIZE=$level
+done
 says "make page" 0 "$work/build/firmware.html" project examples/c_two_processors page TRACEFLAGS="--to 2000"
 says "make cover" 0 "$work/build/firmware.info" project examples/c_two_processors cover
 

@@ -56,8 +56,8 @@ void board_stop(const char *file, INT line, const char *condition) __attribute__
 
 #define BOARD_INLINE static inline __attribute__((always_inline, unused, no_instrument_function))
 
-/* Adds to a word in one step, and answers what it was before. (All processors see one memory, so there is no SYNC
- * here, nor in what follows.) */
+/* Adds to a word in one step, and answers what it was before. (All processors see one memory, in one order, so nothing
+ * here needs a SYNC. Only spin_unlock has one: by it `make races` knows that its store hands on what was done before.) */
 BOARD_INLINE UINT atomic_add(volatile UINT *word, UINT addend)
 {
     UINT before;
@@ -116,10 +116,10 @@ BOARD_INLINE void spin_lock(SPIN_LOCK *lock)
         ;
 }
 
+/* SYNC, and the store right after it. */
 BOARD_INLINE void spin_unlock(SPIN_LOCK *lock)
 {
-    __asm__ volatile("" : : : "memory");
-    lock->taken = 0;
+    __atomic_store_n(&lock->taken, 0, __ATOMIC_RELEASE);
 }
 
 #endif

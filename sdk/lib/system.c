@@ -25,8 +25,9 @@ static SPIN_LOCK memory;
 static char *heap_end = board_end;
 
 /* The lock of malloc: between processors, tasks and handlers. Who has it may take it again, as realloc does. A task that
- * is CPU-locked, and a handler, isn't interrupted, so its processor isn't locked once more, nor unlocked. */
-static const void *volatile owner;
+ * is CPU-locked, and a handler, isn't interrupted, so its processor isn't locked once more, nor unlocked. `owner` is
+ * read without the lock too: whatever others write there, nobody but the caller writes the caller's own stack. */
+static const void *owner;
 static UINT depth;
 static BOOL unlocks;
 
@@ -42,13 +43,13 @@ void __malloc_lock(struct _reent *unused)
 {
     ID task;
     (void)unused;
-    if (owner == caller()) {
+    if (__atomic_load_n(&owner, __ATOMIC_ACQUIRE) == caller()) {
         depth++;
         return;
     }
     BOOL is_interruptible = get_tid(&task) == E_OK && loc_cpu() == E_OK;
     spin_lock(&memory);
-    owner = caller();
+    __atomic_store_n(&owner, caller(), __ATOMIC_RELEASE);
     depth = 1;
     unlocks = is_interruptible;
 }
@@ -59,7 +60,7 @@ void __malloc_unlock(struct _reent *unused)
     if (--depth > 0)
         return;
     BOOL is_interruptible = unlocks;
-    owner = NULL;
+    __atomic_store_n(&owner, NULL, __ATOMIC_RELEASE);
     spin_unlock(&memory);
     if (is_interruptible)
         unl_cpu();
