@@ -156,7 +156,7 @@ acts_released it =
 -- An instruction touches a word. LL acquires from it, and SC that stores releases into it; else SC touches nothing.
 abbrev pub acts_loaded : ℕ → ℕ → Touch → Acts
 acts_loaded strand address touch =
-    if touch.linked then both (acquires strand thing.Word (address - address % 4)) (touches strand touch)
+    if touch.synchronizes then both (acquires strand thing.Word (address - address % 4)) (touches strand touch)
     else one (touches strand touch)
 
 abbrev pub acts_conditional : ℕ → ℕ → Touch → Bool → Acts

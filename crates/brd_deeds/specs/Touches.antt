@@ -25,5 +25,5 @@ touch_at address size stores linked = record {
   «from» = first_at address size;
   to = first_at address size + size;
   stores = stores;
-  linked = linked;
+  synchronizes = linked;
 }

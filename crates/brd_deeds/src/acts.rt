@@ -324,7 +324,7 @@ pub(crate) fn acts_released(release: &Release) -> Acts
 fn acts_loaded(strand: u16, address: u32, touch: Touch) -> Acts
     ensures { result ≡ acts_loaded strand address touch }
 {
-    if touch.linked {
+    if touch.synchronizes {
         return both(
             acquires(strand, ThingKind::Word, address - address % 4),
             touches(strand, touch),

@@ -39,6 +39,6 @@ pub(crate) fn touch_at(address: u32, size: u8, stores: bool, linked: bool) -> To
         from,
         to: from + size,
         stores,
-        linked,
+        synchronizes: linked,
     }
 }

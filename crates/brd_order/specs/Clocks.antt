@@ -7,24 +7,24 @@ use Rattle.brd_order.specs.declared.deed.Act.TheVariants.{Releases}
 use Rattle.brd_order.specs.Order.{Leads}
 
 -- the deed at a place of a list leads to one of those
-pub record LeadsToOne (deeds : List Deed) (those : Deed → Type 0) (i : ℕ) : Type 0 where
+pub record LeadsToOne (deeds : List Deed) (those : ℕ → Deed → Type 0) (i : ℕ) : Type 0 where
   pub k : ℕ
   pub deed : Deed
   pub is : slice_get deeds k ≡ Some deed
-  pub that : those deed
+  pub that : those k deed
   pub leads : Leads deeds i k
 
 -- a clock, which has a count for each strand, knows which deeds of a list lead to one of those
-pub record Knows (deeds : List Deed) (those : Deed → Type 0) (counts : ℕ → ℕ) : Type 0 where
+pub record Knows (deeds : List Deed) (those : ℕ → Deed → Type 0) (counts : ℕ → ℕ) : Type 0 where
   pub below : (i : ℕ) (deed : Deed) → slice_get deeds i ≡ Some deed → i < counts deed.strand → LeadsToOne deeds those i
   pub all : (i : ℕ) (deed : Deed) → slice_get deeds i ≡ Some deed → LeadsToOne deeds those i → i < counts deed.strand
   pub within : (strand : ℕ) → counts strand ≤ length deeds
 
-abbrev pub Did : ℕ → Deed → Type 0
-Did strand deed = deed.strand ≡ strand
+abbrev pub Did : ℕ → ℕ → Deed → Type 0
+Did strand k deed = deed.strand ≡ strand
 
-abbrev pub Released : ℕ → Deed → Type 0
-Released thing deed = deed.act ≡ Releases thing
+abbrev pub Released : ℕ → ℕ → Deed → Type 0
+Released thing k deed = deed.act ≡ Releases thing
 
 -- the greater one of two counts
 pub record IsGreater (one other count : ℕ) : Type 0 where

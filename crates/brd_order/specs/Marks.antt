@@ -8,8 +8,8 @@ pub record AreLike (one other : Mark) : Type 0 where
   pub strand : one.strand ≡ other.strand
   pub touch : one.touch ≡ other.touch
 
--- Marks of a list of deeds, by the word: each is of a deed of the list, and of each touch there is a like one that is no
--- earlier.
+-- Marks of a list of deeds, by the word: each is of a deed of the list, and of each touch there is a like one that is
+-- no earlier.
 pub record AreMarks (deeds : List Deed) (marks : ℕ → List Mark) : Type 0 where
   pub those : (word : ℕ) (m : Mark) → IsIn m (marks word) → IsOf deeds m
   pub each : (m : Mark) → IsOf deeds m →

@@ -5,10 +5,11 @@ use Rattle.brd_order.specs.declared.deed.{Deed.Deed, Touch.Touch, Mark.Mark, Rac
 use Rattle.brd_order.specs.declared.deed.Act.TheVariants.{Touches}
 use Rattle.brd_order.specs.Order.{Leads}
 
--- Touches meet where they have a byte in common and one of them stores, unless both are of LL or SC.
+-- Touches meet where they have a byte in common and one of them stores, unless both synchronize.
 abbrev pub meets : Touch → Touch → Bool
 meets a b =
-    (a.word == b.word) && nat_lt a.from b.to && nat_lt b.from a.to && (a.stores || b.stores) && not (a.linked && b.linked)
+    (a.word == b.word) && nat_lt a.from b.to && nat_lt b.from a.to && (a.stores || b.stores)
+    && not (a.synchronizes && b.synchronizes)
 
 -- the deed of a mark
 abbrev pub deed_of : Mark → Deed
@@ -37,8 +38,8 @@ pub record IsFirst (deeds : List Deed) (told : Race) : Type 0 where
 abbrev pub IsIn : {A : Type 0} → A → List A → Type 0
 IsIn x xs = (k : ℕ) × (slice_get xs k ≡ Some x)
 
--- Of a list of deeds these races are told: each is the first one of its word, each first one is told, and so one is told
--- of each word of which there is a race.
+-- Of a list of deeds these races are told: each is the first one of its word, each first one is told, and so one is
+-- told of each word of which there is a race.
 pub record AreRaces (deeds : List Deed) (races : List Race) : Type 0 where
   pub first : (race : Race) → IsIn race races → IsFirst deeds race
   pub all : (race : Race) → IsFirst deeds race → IsIn race races

@@ -9,12 +9,12 @@ use Rattle.brd_order.specs.declared.order.Order.{Order}
 abbrev pub MayRefuse : ℕ → OrderFault → Type 0
 MayRefuse n NoMemory = Unit {0}
 MayRefuse n TooManyTouches = 2097152 ≤ n
-MayRefuse n TooManyThings = 16384 ≤ n
+MayRefuse n TooManyThings = 65536 ≤ n
 MayRefuse n TooManyDeeds = 2 ^ 64 ≤ n + 1
 
 -- what is kept after n deeds
 pub record IsKept (n : ℕ) (o : Order) : Type 0 where
   pub count : o.count ≡ n
   pub touches : o.marks.count ≤ n
-  pub things : length o.things.given.items ≤ n
+  pub things : length o.things.given.entries ≤ n
   pub shares : length o.marks.shares.items ≡ 65536

@@ -1,9 +1,9 @@
 -- Clocks and marks as they are kept.
-use Rattle.std.specs.Prelude.{◌≡◌, ◌==◌, ◌/◌, ◌%◌, ℕ, suc, List, [], ◌∷◌, Option, None, Some, if◌then◌else◌}
+use Rattle.std.specs.Prelude.{◌≡◌, ◌/◌, ◌%◌, ℕ, nat_eq, List, [], Option, None, Some}
 use Rattle.std.specs.List.{slice_get}
+use Rattle.std.specs.Map.{lookup}
 use Rattle.brd_order.specs.declared.deed.Mark.{Mark}
 use Rattle.brd_order.specs.declared.clock.Clock.{Clock}
-use Rattle.brd_order.specs.declared.strands.Given.{Given}
 use Rattle.brd_order.specs.declared.marks.Share.{Share}
 use Rattle.brd_order.specs.Clocks.{count_in, Joins}
 
@@ -19,21 +19,15 @@ counts_if (Some clock) strand = counts_of clock strand
 abbrev pub counts_at : List Clock → ℕ → ℕ → ℕ
 counts_at clocks strand = counts_if (slice_get clocks strand)
 
--- what was released into a thing: by the first of it in a list, and nothing where there is none
-
-abbrev pub counts_given : List Given → ℕ → ℕ → ℕ
-counts_given [] thing strand = 0
-counts_given (given ∷ more) thing strand =
-    if given.thing == thing then counts_of given.clock strand else counts_given more thing strand
-
-abbrev pub place_of : List Given → ℕ → ℕ
-place_of [] thing = 0
-place_of (given ∷ more) thing = if given.thing == thing then 0 else suc (place_of more thing)
+-- what was released into a thing, and nothing where there is none of it
+abbrev pub counts_given : List (ℕ × Clock) → ℕ → ℕ → ℕ
+counts_given given thing = counts_if (lookup (nat_eq thing) given)
 
 -- what a clock knows was released into a thing, and nothing into others
-pub record Gives (thing : ℕ) (counts : ℕ → ℕ) (old new : List Given) : Type 0 where
+pub record Gives (thing : ℕ) (counts : ℕ → ℕ) (old new : List (ℕ × Clock)) : Type 0 where
   pub joins : Joins (counts_given old thing) counts (counts_given new thing)
-  pub others : (other : ℕ) → (other ≡ thing → ⊥) → (strand : ℕ) → counts_given new other strand ≡ counts_given old other strand
+  pub others : (other : ℕ) → (other ≡ thing → ⊥) → (strand : ℕ) →
+      counts_given new other strand ≡ counts_given old other strand
 
 -- the marks of a word: those of its share, in which there may be other words' marks too
 

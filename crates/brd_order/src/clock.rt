@@ -83,4 +83,20 @@ impl Clock {
             counts: Vec::from_slice(*self.counts.allocator(), self.counts.as_slice())?,
         })
     }
+
+    /// Every count is another clock's from here on.
+    pub(crate) fn assign(&mut self, other: &Clock) -> Result<(), NoMemory>
+        ensures { OnOk result (self.new.counts.items ≡ other.now.counts.items) }
+    {
+        self.counts.clear();
+        self.counts.extend_from_slice(other.counts.as_slice())?;
+        Ok(())
+    }
+
+    /// Every count is 0 from here on.
+    pub(crate) fn clear(&mut self)
+        ensures { self.new.counts.items ≡ [] }
+    {
+        self.counts.clear();
+    }
 }

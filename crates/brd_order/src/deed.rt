@@ -11,8 +11,8 @@ pub struct Touch {
     pub to: u8,
     /// Whether it stores; else it loads.
     pub stores: bool,
-    /// Whether it is of LL or SC.
-    pub linked: bool,
+    /// Whether it synchronizes: two touches that both do are no race.
+    pub synchronizes: bool,
 }
 
 /// What a deed does. Whatever orders strands has a number: it is released into, and acquired from.
@@ -24,6 +24,10 @@ pub enum Act {
     Acquires(u64),
     /// What came before it is ordered before all that acquires from this later.
     Releases(u64),
+    /// What was released into this before is what its strand has heard, in place of all that it heard earlier.
+    Hears(u64),
+    /// What comes after it is ordered after what its strand has heard.
+    Heeds,
 }
 
 /// Something that is done in a run.

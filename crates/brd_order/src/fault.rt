@@ -17,7 +17,7 @@ pub enum OrderFault {
     #[error("more than 2097152 touches of words that differ by word, processor or task, and kind")]
     TooManyTouches,
     /// More things order strands than are kept.
-    #[error("more than 16384 things that order tasks and handlers")]
+    #[error("more than 65536 things that order tasks and handlers")]
     TooManyThings,
     /// More deeds are done than can be counted.
     #[error("more deeds than can be counted")]

@@ -9,7 +9,9 @@ mod deed;
 mod fault;
 mod marks;
 mod order;
+mod races;
 mod strands;
+mod things;
 
 pub use deed::{Act, Deed, Mark, Race, Touch};
 pub use fault::OrderFault;

@@ -129,7 +129,7 @@ fn is_same(one: Touch, other: Touch) -> bool
         && one.from == other.from
         && one.to == other.to
         && one.stores == other.stores
-        && one.linked == other.linked
+        && one.synchronizes == other.synchronizes
 }
 
 /// The index of a mark that is like another one, if there is one.
@@ -145,7 +145,7 @@ fn find_like(marks: &[Mark], mark: Mark) -> Option<usize>
     None
 }
 
-/// Whether two touches have a byte in common and one of them stores, unless both are of LL or SC.
+/// Whether two touches have a byte in common and one of them stores, unless both synchronize.
 fn meets(one: Touch, other: Touch) -> bool
     ensures { result ≡ meets one other }
 {
@@ -153,7 +153,7 @@ fn meets(one: Touch, other: Touch) -> bool
         && one.from < other.to
         && other.from < one.to
         && (one.stores || other.stores)
-        && !(one.linked && other.linked)
+        && !(one.synchronizes && other.synchronizes)
 }
 
 /// Whether a mark meets a new one and isn't known to a clock.

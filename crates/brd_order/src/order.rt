@@ -1,16 +1,19 @@
 //! The order of deeds, as they are done.
 
-ghost use Rattle.std.specs.Prelude.{◌≡◌, ◌⊎◌, ◌++◌, ◌∷◌, ◌+◌, ◌^◌, ◌<◌, ℕ, [], List as ListOf, length, Option as OptionOf, Decides, IfErr, IfOk, OnOk};
+ghost use Rattle.std.specs.Prelude.{◌≡◌, ◌++◌, ◌∷◌, ◌+◌, ◌^◌, ◌<◌, ℕ, [], List as ListOf, IfErr, IfOk, OnOk};
 ghost use Rattle.brd_order.specs.declared.deed.Deed.{Deed as DeedOf};
 ghost use Rattle.brd_order.specs.declared.deed.Act.TheVariants.{Acquires as AcquiresOf, Releases as ReleasesOf};
+ghost use Rattle.brd_order.specs.declared.deed.Act.TheVariants.{Hears as HearsOf, Heeds as HeedsOf};
 ghost use Rattle.brd_order.specs.Races.{AreRaces, deed_of};
-ghost use Rattle.brd_order.specs.After.{HasRace, IsAfter, TellsRace};
+ghost use Rattle.brd_order.specs.After.{IsAfter};
 ghost use Rattle.brd_order.specs.Refusals.{IsKept, MayRefuse};
 
 use crate::deed::{Act, Deed, Mark, Race};
 use crate::fault::OrderFault;
 use crate::marks::Marks;
-use crate::strands::{Strands, Things};
+use crate::races::Races;
+use crate::strands::Strands;
+use crate::things::Things;
 use brd_base::NoMemory;
 use std::alloc::Global;
 
@@ -18,9 +21,11 @@ use std::alloc::Global;
 #[derive(Drop)]
 pub struct Order {
     pub(crate) strands: Strands,
+    /// What each strand has heard.
+    pub(crate) heard: Strands,
     pub(crate) things: Things,
     pub(crate) marks: Marks,
-    pub(crate) races: Vec<Race>,
+    pub(crate) races: Races,
     pub(crate) count: u64,
     alloc: Global,
 }
@@ -33,9 +38,10 @@ impl Order {
     {
         Ok(Order {
             strands: Strands::new(alloc),
+            heard: Strands::new(alloc),
             things: Things::new(alloc),
             marks: Marks::new(alloc)?,
-            races: Vec::new(alloc),
+            races: Races::new(alloc),
             count: 0,
             alloc,
         })
@@ -61,6 +67,8 @@ impl Order {
             }),
             Act::Acquires(thing) => self.acquire(deed, thing),
             Act::Releases(thing) => self.release(deed, thing),
+            Act::Hears(thing) => self.hear(deed, thing),
+            Act::Heeds => self.heed(deed),
         }
     }
 
@@ -68,7 +76,7 @@ impl Order {
     pub fn races(&self) -> &[Race]
         ensures { (deeds : ListOf DeedOf) → IsAfter deeds self.now → AreRaces deeds result.now }
     {
-        self.races.as_slice()
+        self.races.told.as_slice()
     }
 
     /// Takes a deed that acquires.
@@ -102,6 +110,41 @@ impl Order {
         self.things.give(thing, self.strands.clock(deed.strand))
     }
 
+    /// Takes a deed that hears.
+    fn hear(&mut self, deed: Deed, thing: u64) -> Result<(), OrderFault>
+        requires act { deed.act ≡ HearsOf thing }
+        requires count { self.old.count + 1 < 2 ^ 64 }
+        ensures after { (deeds : ListOf DeedOf) → IsAfter deeds self.old →
+            OnOk result (IsAfter (deeds ++ deed ∷ []) self.new) }
+        ensures kept { (n : ℕ) → IsKept n self.old → OnOk result (IsKept (n + 1) self.new) }
+        ensures refuses { (n : ℕ) → IsKept n self.old → IfErr result (MayRefuse n) }
+    {
+        self.strands.extend(self.alloc, deed.strand)?;
+        self.heard.extend(self.alloc, deed.strand)?;
+        self.heard.hear(deed.strand, &self.things, thing)?;
+        self.count += 1;
+        self.strands.put(deed.strand, self.count)?;
+        Ok(())
+    }
+
+    /// Takes a deed that heeds.
+    fn heed(&mut self, deed: Deed) -> Result<(), OrderFault>
+        requires act { deed.act ≡ HeedsOf }
+        requires count { self.old.count + 1 < 2 ^ 64 }
+        ensures after { (deeds : ListOf DeedOf) → IsAfter deeds self.old →
+            OnOk result (IsAfter (deeds ++ deed ∷ []) self.new) }
+        ensures kept { (n : ℕ) → IsKept n self.old → OnOk result (IsKept (n + 1) self.new) }
+        ensures refuses { (n : ℕ) → IsKept n self.old → IfErr result (MayRefuse n) }
+    {
+        self.strands.extend(self.alloc, deed.strand)?;
+        self.heard.extend(self.alloc, deed.strand)?;
+        let heard = self.heard.clock(deed.strand);
+        self.strands.join(deed.strand, heard)?;
+        self.count += 1;
+        self.strands.put(deed.strand, self.count)?;
+        Ok(())
+    }
+
     /// Takes a deed that touches a word.
     fn touch(&mut self, new: Mark) -> Result<(), OrderFault>
         requires at { new.at ≡ self.old.count }
@@ -115,36 +158,7 @@ impl Order {
         self.count += 1;
         self.strands.put(new.strand, self.count)?;
         let found = self.marks.last_unknown(self.strands.clock(new.strand), new);
-        tell(&mut self.races, found, new)?;
+        self.races.tell(found, new)?;
         self.marks.put(new)
     }
-}
-
-/// Tells the race of a new mark with the one that was found, if none of its word is told.
-fn tell(races: &mut Vec<Race>, found: Option<Mark>, new: Mark) -> Result<(), NoMemory>
-    ensures { OnOk result (TellsRace found new races.old.items races.new.items) }
-{
-    let Some(earlier) = found else {
-        return Ok(());
-    };
-    if has_race(races.as_slice(), new.touch.word) {
-        return Ok(());
-    }
-    races.push(Race {
-        earlier,
-        later: new,
-    })?;
-    Ok(())
-}
-
-/// Whether a race of a word is told.
-fn has_race(races: &[Race], word: u32) -> bool
-    ensures { Decides result (HasRace races.now word) }
-{
-    for i in 0..races.len() {
-        if races[i].later.touch.word == word {
-            return true;
-        }
-    }
-    false
 }

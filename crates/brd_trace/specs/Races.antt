@@ -13,8 +13,8 @@ strand_text strand =
 
 abbrev pub touch_text : Touch → List ℕ
 touch_text touch =
-    if touch.stores then (if touch.linked then codes ", stores by SC" else codes ", stores")
-    else (if touch.linked then codes ", loads by LL" else codes ", loads")
+    if touch.stores then (if touch.synchronizes then codes ", stores by SC" else codes ", stores")
+    else (if touch.synchronizes then codes ", loads by LL" else codes ", loads")
 
 abbrev pub mark_text : Names → Mark → List ℕ
 mark_text names mark =

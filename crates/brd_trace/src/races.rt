@@ -72,7 +72,7 @@ fn put_strand(alloc: Global, strand: u16, out: &mut Vec<u8>) -> Result<(), NoMem
 fn put_touch(touch: &Touch, out: &mut Vec<u8>) -> Result<(), NoMemory>
     ensures { OnOk result (out.new.items ≡ out.old.items ++ touch_text touch.now) }
 {
-    match (touch.stores, touch.linked) {
+    match (touch.stores, touch.synchronizes) {
         (true, true) => put(out, ", stores by SC"),
         (true, false) => put(out, ", stores"),
         (false, true) => put(out, ", loads by LL"),

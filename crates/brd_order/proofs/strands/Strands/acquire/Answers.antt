@@ -5,7 +5,8 @@ use Rattle.brd_order.proofs.strands.Strands.acquire.Goals as goal
 
 pub returns-clause-joins : goal.returns-clause-joins
 returns-clause-joins c = on_ok_weaker c.put_into.result
-    (λ joins. joins-at c.args.self.now.clocks.items c.args.strand c.index_mut.result.now c.put_into.new.clock (counts_given c.args.things.now.given.items c.args.thing)
+    (λ joins. joins-at c.args.self.now.clocks.items c.args.strand c.index_mut.result.now c.put_into.new.clock
+    (counts_given c.args.things.now.given.entries c.args.thing)
     c.requires c.index_mut.ensures.value joins)
     c.put_into.ensures
 
