@@ -29,8 +29,46 @@ lost "a lost update, up to its second store" "races: 0 words" racy --to 7
 lost "a lost update, in whatever form" "$told"$'\nraces: 1 word' racy --to 8 --format json --summary
 lost "a lost update that is repaired" "races: 0 words" repaired
 
+# Two tasks store into the same 131,072 words. It isn't timed but for this: a program that goes through all races that it
+# has found, for each touch, takes minutes.
+cat > "$work/many.s" << 'END'
+one:    lui $s0, %hi(words)
+        addiu $s0, $s0, %lo(words)
+        lui $s1, 0x8
+        addu $s1, $s0, $s1
+again:  sw $0, 0($s0)
+        addiu $s0, $s0, 4
+        bne $s0, $s1, again
+        nop
+        addiu $v0, $0, 3
+        syscall
+        .align 8
+words:  .word 0
+END
+printf '%s\n' 'BOARD(2, 0x100000);' 'CRE_TSK(1, {TA_ACT, 0, one, 1, 256, NULL});' \
+    'CLASS(TCL_2) { CRE_TSK(2, {TA_ACT, 0, one, 1, 256, NULL}); }' > "$work/many.cfg"
+printf 'board-journal 1\nS 1 600000\nS 2 600000\n' > "$work/many.journal"
+for ((i = 0; i < 131072; i++)); do
+    printf -v address %08x $((0x80000100 + 4 * i))
+    [ "$i" -gt 0 ] || address="words ($address)"
+    where='at again (80000010), stores'
+    echo "race at $address: event $((4 + 4 * i)), task 1 $where; event $((600004 + 4 * i)), task 2 $where"
+done > "$work/many.races"
+echo "races: 131072 words" >> "$work/many.races"
+program=$board
+printf '#!/bin/sh\nexec timeout 100 "%s" "$@"\n' "$board" > "$work/in_time"
+chmod +x "$work/in_time"
+board=$work/in_time
+races "many words" "$work/many.races" "$work/many.s" "$work/many.cfg" "$work/many.journal"
+board=$program
+
+if have python3 "the model"; then
+    # The same scenes by the model, which asks of each pair of touches whether one comes before the other.
+    wrong=$(tests/model/races --scenes "$board" tests/racing/*/ 2>&1) && wrong=
+    verdict "races: the scenes by the model" "$(head -n 3 <<< "$wrong")"
+fi
+
 if have python3 "random boards beside the model"; then
-    # Random boards beside a model that asks of each pair of touches whether one comes before the other.
     wrong=$(tests/model/races "$board" 2>&1) && wrong=
     verdict "races: random boards beside the model" "$(head -n 3 <<< "$wrong")"
 fi
