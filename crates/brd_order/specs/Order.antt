@@ -35,8 +35,8 @@ pub record Heard (deeds : List Deed) (strand before i : ℕ) (deed : Deed) : Typ
   pub heard : LastHeard deeds strand before thing at
   pub in_time : i < at
 
--- Two deeds at places of a list, of which the one was done before the other, are ordered where the same strand did
--- both, or the one releases into what the other acquires from, or the other heeds what its strand heard of the one.
+-- Two deeds at places of a list, of which the one was done before the other, are ordered if the same strand did both,
+-- or the one releases into what the other acquires from, or the other heeds what its strand heard of the one.
 abbrev pub Orders : List Deed → ℕ → ℕ → Deed → Deed → Type 0
 Orders deeds i j one other =
     (one.strand ≡ other.strand)

@@ -5,7 +5,7 @@ use Rattle.brd_order.specs.declared.deed.{Deed.Deed, Touch.Touch, Mark.Mark, Rac
 use Rattle.brd_order.specs.declared.deed.Act.TheVariants.{Touches}
 use Rattle.brd_order.specs.Order.{Leads}
 
--- Touches meet where they have a byte in common and one of them stores, unless both synchronize.
+-- Touches meet if they have a byte in common and one of them stores, unless both synchronize.
 abbrev pub meets : Touch → Touch → Bool
 meets a b =
     (a.word == b.word) && nat_lt a.from b.to && nat_lt b.from a.to && (a.stores || b.stores)

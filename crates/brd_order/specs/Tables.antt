@@ -19,7 +19,7 @@ counts_if (Some clock) strand = counts_of clock strand
 abbrev pub counts_at : List Clock → ℕ → ℕ → ℕ
 counts_at clocks strand = counts_if (slice_get clocks strand)
 
--- what was released into a thing, and nothing where there is none of it
+-- what was released into a thing, and nothing if there is none of it
 abbrev pub counts_given : List (ℕ × Clock) → ℕ → ℕ → ℕ
 counts_given given thing = counts_if (lookup (nat_eq thing) given)
 

@@ -163,7 +163,7 @@ fn is_unknown(clock: &Clock, new: Mark, mark: Mark) -> bool
     meets(mark.touch, new.touch) && clock.count(mark.strand) <= mark.at
 }
 
-/// A mark in place of what was found, where it meets a new one, isn't known to a clock and is no earlier.
+/// A mark in place of what was found, if it meets a new one, isn't known to a clock and is no earlier.
 fn later_of(clock: &Clock, new: Mark, mark: Mark, found: Option<Mark>) -> Option<Mark>
     ensures { TakesLater (counts_of clock.now) new mark found result }
 {

@@ -86,7 +86,7 @@ impl Strands {
         self.clocks[strand as usize].join(clock)
     }
 
-    /// The clock of a strand is what was released into a thing, and forgets the rest.
+    /// The clock of a strand becomes what was released into a thing.
     pub(crate) fn hear(&mut self, strand: u16, things: &Things, thing: u64) -> Result<(), NoMemory>
         requires { strand < length self.old.clocks.items }
         ensures hears { OnOk result ((t : ℕ) →

@@ -1,8 +1,7 @@
 //! What was released into things.
 
-ghost use Rattle.std.specs.Prelude.{◌≡◌, ◌≤◌, ◌+◌, ℕ, [], None, length, IfErr, OnOk};
+ghost use Rattle.std.specs.Prelude.{◌≡◌, ◌≤◌, ◌+◌, ℕ, nat_eq, [], None, length, IfErr, OnOk};
 ghost use Rattle.std.specs.Map.{lookup};
-ghost use Rattle.std.specs.Prelude.{nat_eq};
 ghost use Rattle.brd_order.specs.Clocks.{Joins};
 ghost use Rattle.brd_order.specs.Refusals.{MayRefuse};
 ghost use Rattle.brd_order.specs.Tables.{counts_of, counts_given, Gives};
