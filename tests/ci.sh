@@ -1,6 +1,7 @@
 #!/bin/bash
 # The recipes of docs/CI.md for build servers: tests/ci.sh PROGRAM. The shell lines of each are run in the folder of a
-# project, in which a copy of this clone stands as `board`; lines that get packages or the clone are left out.
+# project as sdk/new makes it, in which a copy of this clone stands as `board`; lines that get packages or the clone are
+# left out.
 . "$(dirname "$0")/check.sh"
 for tool in python3 make mips-linux-gnu-gcc; do
     have "$tool" "the recipes of docs/CI.md" || { summary; exit; }
@@ -16,7 +17,7 @@ lines_of() {
 
 for server in "GitHub Actions" GitLab; do
     project=$work/${server%% *}
-    cp -r tests/kit/interrupted "$project"
+    sdk/new "$project" > "$work/nothing_said"
     printf 'SDK = /nowhere/sdk\ninclude $(SDK)/board.mk\n' > "$project/Makefile"
     mkdir "$project/board"
     cp -r Makefile dist examples sdk "$project/board"

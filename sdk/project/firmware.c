@@ -8,7 +8,7 @@ void press(INHNO line)
     isig_sem(PRESSED);
 }
 
-/* The task: greets as often as its argument in firmware.cfg says, once for each press. */
+/* The task: greets as often as its argument in firmware.cfg says, once for each press, and turns the board off. */
 void greet(VP_INT times)
 {
     for (INT i = 1; i <= times; i++) {
@@ -16,4 +16,5 @@ void greet(VP_INT times)
         assert(answer == E_OK);
         printf("Hello, number %d of %d\n", i, times);
     }
+    ext_ker();
 }
