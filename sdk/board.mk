@@ -7,14 +7,15 @@
 # NAME.journal, NAME.console. docs/C.md goes through all of it.
 #
 #   make                builds build/firmware.elf and build/firmware.cfg
-#   make test           runs each journal, and compares the console. STRICT=1: an exception, a refused call whose answer
-#                       nobody looks at and a board that is on in the end are failures; REPORT=junit.xml: writes that too
-#   make accept         takes the consoles as they are for right
+#   make test           runs each journal, and compares the console; lost output is a failure, too. EXPECT: what else is;
+#                       STRICT=1: an exception, a refused call whose answer nobody looks at, a store below a stack and a
+#                       board that is on in the end are; REPORT=junit.xml: writes that too
+#   make accept         takes the consoles as they are for right, where no output was lost
 #   make run            shows the report of JOURNAL (firmware.journal)
 #   make debug          debugs JOURNAL with the names of C
 #   make gdb            debugs JOURNAL with GDB, forward and backward
 #   make trace          shows what happens under JOURNAL, with files and lines of C; TRACEFLAGS: `board trace`'s options
-#   make races          shows the data races of JOURNAL
+#   make races          shows the data races of JOURNAL, and fails where there is one
 #   make page           leaves JOURNAL as a page for a browser, build/firmware.html
 #   make cover          leaves which lines JOURNAL executed, build/firmware.info, for genhtml
 #   make stacks         shows how deep each stack became under JOURNAL, and fails where something was stored below one
@@ -173,7 +174,7 @@ tests = status=0; $(foreach it,$(PROGRAMS),$(SDK)/test $1 $(BOARD) $(BUILD)/$(it
 
 test: all
 	@$(if $(REPORT),rm -f '$(REPORT)')
-	@$(call tests,$(if $(STRICT),--strict) $(if $(REPORT),--junit '$(REPORT)') --jobs '$(JOBS)')
+	@$(call tests,$(if $(STRICT),--strict) --expect '$(EXPECT)' $(if $(REPORT),--junit '$(REPORT)') --jobs '$(JOBS)')
 
 accept: all
 	@$(call tests,--accept --jobs '$(JOBS)')
@@ -197,7 +198,8 @@ trace: all
 	@$(call traced,$(TRACEFLAGS))
 
 races: all
-	@$(call traced,--races)
+	@$(call traced,--races) | tee $(BUILD)/races
+	@grep -qx 'races: 0 words' $(BUILD)/races
 
 page: all
 	@$(call traced,--format html $(TRACEFLAGS)) > $(BUILD)/$(PROGRAM).html

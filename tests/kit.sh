@@ -30,7 +30,8 @@ says "sdk/new where something is" 1 "sdk/new: $work is there already" sdk/new "$
 says "sdk/libc with a wrong word" 2 "use: sdk/libc [big|little]" sdk/libc middle
 says "sdk/debian without a package" 2 "use: sdk/debian PACKAGE FOLDER" sdk/debian
 says "sdk/test without a program" 2 \
-    "use: sdk/test [--accept] [--strict] [--junit FILE] [--jobs N] BOARD IMAGE CONFIG NAME.journal.." sdk/test
+    "use: sdk/test [--accept] [--strict] [--expect WORDS] [--junit FILE] [--jobs N] BOARD IMAGE CONFIG NAME.journal.." \
+    sdk/test
 says "sdk/test with no jobs" 2 "JOBS is a number from 1 to 1024, and not '0'" sdk/test --jobs 0 "$board" image config
 says "sdk/test without a journal" 1 "FAILED: there is no journal, a file NAME.journal" sdk/test "$board" image config
 says "sdk/ordered without a program" 2 "use: sdk/ordered IMAGE JOURNAL" sdk/ordered
@@ -159,6 +160,10 @@ fi
 # What happens in a run: lines with the places of C, races, a page, coverage.
 says "make trace" 0 " *[0-9]+ [12] +task .*; firmware[.]c:[0-9]+" \
     project examples/c_two_processors trace TRACEFLAGS="--instructions --to 200"
+says "make races of a race" 2 \
+    "race at sum .*: event [0-9]+, task 1 at add.*firmware.c:11\\), stores; event [0-9]+, task 2 at add.*, loads" \
+    project "$work/kit/adders" races CFLAGS=-DRACE
+says "make races of a right program" 0 "races: 0 words" project "$work/kit/adders" races
 for level in -O0 -O2; do
     says "make races, $level" 0 "races: 0 words" project examples/c_two_processors races OPTIMIZE=$level
 done
@@ -230,6 +235,11 @@ says "orders by a check of one's own" 2 "seed [0-9]+: ./check ends with status 3
 says "orders by other words" 0 \
     "ok: [0-9]+ orders, from seed 1 on, as expected \\(exception refused deadlock off lines\\)" \
     project "$interrupted" hunt EXPECT="exception refused deadlock off lines" TRIES=20
+says "a test by other words" 0 "ok: firmware.journal" \
+    project "$interrupted" test EXPECT="exception refused deadlock off races stacks ./check"
+printf '#!/bin/sh\necho no such thing; exit 3\n' > "$interrupted/check"
+says "a test by a check of one's own" 2 "  ./check ends with status 3: no such thing" \
+    project "$interrupted" test EXPECT="lines ./check"
 sed 's/printf/if (pulses != 33) chg_pri(99, 1);&/' "$interrupted/firmware.c" > "$work/refused.c"
 says "orders by refused calls" 2 \
     "seed [0-9]+: chg_pri = E_NOEXS, which firmware.journal hasn't; the order is kept as .*" \
@@ -286,7 +296,69 @@ says "orders whose steps run out" 0 \
     "in [0-9]+ of them the steps ran out before the board was off or idle, so nothing is said of these" \
     project "$interrupted" hunt CFLAGS="-DRACE -w" SOURCES="$work/endless.c"
 
+# A semaphore says whether the other task has come first. If not, the word is touched in no order, or the stack is left.
+cp -r "$interrupted" "$work/order"
+cat > "$work/order/firmware.c" << 'END'
+#include "board.h"
+#include "ids.h"
+
+static volatile UINT shared;
+
+void first(VP_INT unused)
+{
+    shared = (UINT)unused;
+    sig_sem(READY);
+}
+
+void second(VP_INT unused)
+{
+    if (pol_sem(READY) == E_OK)
+        return;
+#ifdef DEEP
+    char text[1000];
+    memset(text, unused, sizeof text);
+#endif
+    shared = (UINT)unused;
+}
+END
+printf '%s\n' '#include "ids.h"' 'BOARD(2, 0x10000);' 'CRE_TSK(1, {TA_ACT, 1, first, 1, 256, NULL});' \
+    'CRE_SEM(READY, {TA_TFIFO, 0, 1});' 'CLASS(TCL_2) { CRE_TSK(2, {TA_ACT, 2, second, 1, 256, NULL}); }' \
+    > "$work/order/firmware.cfg"
+echo '#define READY 1' > "$work/order/ids.h"
+printf 'board-journal 1\nS 1 60\nS 2 600\n' > "$work/order/firmware.journal"
+: > "$work/order/firmware.console"
+says "a test without races and overflows" 0 "ok: firmware.journal" project "$work/order" test EXPECT="races stacks"
+says "orders by races" 2 "seed [0-9]+: race at shared; the order is kept as $work/build/hunt.journal" \
+    project "$work/order" hunt EXPECT=races
+verdict "kit: where an order has a race" "$(
+    grep -q '^race at shared .*task [12] at [a-z]*+0x[0-9a-f]* (80[0-9a-f]*, firmware.c:[0-9]*), stores$' "$work/said" ||
+        cat "$work/said")"
+says "orders by stores below a stack" 2 "seed [0-9]+: stack overflow: task 2; the order is kept as .*" \
+    project "$work/order" hunt EXPECT=stacks CFLAGS=-DDEEP
+says "orders that have a race themselves" 2 "firmware.journal itself isn't as expected: make test EXPECT=\"races\"" \
+    project "$adders" hunt EXPECT="console races" CFLAGS=-DRACE
+sed 's/printf/*(volatile INT *)1 = 1;&/' "$interrupted/firmware.c" > "$work/exception.c"
+says "orders that have an exception themselves" 2 \
+    "  last exception at event [0-9]+, of task 1 \\(COUNT\\) at count.*: DBE: store to 00000001, outside RAM" \
+    project "$interrupted" hunt EXPECT="exception deadlock" SOURCES="$work/exception.c"
+
+# Lost output: put_chr is refused with the CPU locked, in one schedule only; nothing of it is on the console.
+sed 's/^#ifdef RACE/    if (sum == 0 \&\& sum == 3)\n        loc_cpu(), put_chr(65), unl_cpu();\n&/' \
+    "$adders/firmware.c" > "$work/lose.c"
+says "no lost output under the journal" 0 "ok: firmware.journal" project "$adders" test SOURCES="$work/lose.c" CFLAGS=-w
+says "a schedule that loses output" 2 \
+    "lost output: 1 character of task 2 \\(SECOND\\), add lose.c:11, first at event [0-9]+: put_chr = E_CTX, .*" \
+    project "$adders" explore SOURCES="$work/lose.c" CFLAGS=-w LOOK="--word sum=7"
+verdict "kit: how a schedule that loses output fails" "$(
+    grep -q '^fails after [0-9]* events: the word at lost_output is 1, not 0..0$' "$work/said" || cat "$work/said")"
+says "an order that loses output" 2 "seed [0-9]+: lost output; the order is kept as $work/build/hunt.journal" \
+    project "$adders" hunt SOURCES="$work/lose.c" CFLAGS=-w EXPECT=off
+sed 's/put_chr(65)/try_put_chr(65) == E_CTX || (sum = 0)/' "$work/lose.c" > "$work/tries.c"
+says "schedules in which a program sees to a refusal itself" 0 "none of [0-9]+ schedules fails: .*" \
+    project "$adders" explore SOURCES="$work/tries.c" CFLAGS=-w
+
 cp -r sdk/project "$work/endless"
+sed -i '/ext_ker/d' "$work/endless/firmware.c"
 printf 'SDK = %s\ninclude $(SDK)/board.mk\n' "$sdk" > "$work/endless/Makefile"
 
 # Two tasks of two processors whose lines come in any order: the semaphore keeps each line whole.
@@ -333,8 +405,10 @@ says "a hunt for the end of what doesn't end" 2 \
 # Wrong words of a hunt.
 says "TRIES" 2 "TRIES is a number from 1 to 1000000, and not 'many'" project "$interrupted" hunt TRIES=many
 says "JOBS" 2 "JOBS is a number from 1 to 1024, and not '0'" project "$interrupted" hunt JOBS=0
-says "EXPECT" 2 "EXPECT has words of console, lines, exception, refused, deadlock, off, or a program with a / in its name, and not 'right'" \
-    project "$interrupted" hunt EXPECT=right
+known="console, lines, exception, refused, deadlock, off, races, stacks, or a program with a / in its name"
+for what in hunt test; do
+    says "EXPECT of a $what" 2 "EXPECT has words of $known, and not 'right'" project "$interrupted" $what EXPECT=right
+done
 says "EXPECT of a program" 2 "EXPECT names a program that isn't there: './nosuch'" \
     project "$interrupted" hunt EXPECT=./nosuch
 says "MOVE" 2 "MOVE has words of raises, ticks, none, and not 'lines'" project "$interrupted" hunt MOVE=lines
@@ -362,6 +436,12 @@ mistake() {
 
 overflow='s/printf("Hello/char text[1100]; memset(text, 0, sizeof text); printf("%s", text); &/'
 mistake "a stack that overflows, unseen" 0 "ok: firmware.journal" firmware.c "$overflow" test
+left="stack overflow: task 1 \\(GREETER\\), event [0-9]+ at .*, stores to [0-9a-f]{8}, [0-9]+ bytes below it"
+says "a stack that overflows, in a strict test" 2 "  $left" project "$new" test STRICT=1
+says "a stack that overflows, as expected" 2 "  $left" project "$new" test EXPECT=stacks
+says "make stacks of a stack that overflows" 2 "${left/ ??GREETER??/}" project "$new" stacks
+mistake "the hint at make stacks" 2 "  $left \\(make stacks JOURNAL=firmware.journal\\)" firmware.c \
+    "$overflow; s/Hello, n/Hullo, n/" test
 # The function's address is the compiler's affair.
 mistake "a stack that overflows" 2 '*' firmware.c "$overflow" test STACK_CHECK=1
 verdict "kit: the stack that overflowed" "$(
@@ -402,9 +482,27 @@ sed -i 's/answer == E_OK/i < 2/; s/printf("Hello/for (INT j = 0; j < 65536; j++)
 echo "S 1 2000000" >> "$new/firmware.journal"
 says "an assertion with a full console" 2 "firmware.c:16: this doesn't hold: i < 2 (task 1 (GREETER), processor 1)" \
     project "$new" test CFLAGS=-w
-mistake "printf in a handler" 2 \
-    "printf can't write from a handler, nor under loc_cpu: 3 times, first in press (firmware.c:7)" \
-    firmware.c 's/assert(line == BUTTON)/printf("%d", line)/; s/Hello/Hullo/' test
+verdict "kit: what a full console has lost" "$(
+    grep -q '^  lost output: 21 characters of task 1 (GREETER), printf in greet firmware.c:17, .*= E_QOVR, the console is full$' \
+        "$work/said" || cat "$work/said")"
+
+# What a handler writes, and a task under a lock, is lost: each command says it, and takes no such console for right.
+lost="first at event [0-9]+: put_chr = E_CTX, handlers and CPU-locked tasks can't write"
+by_handler="lost output: 12 characters of handler 3 \\(BUTTON\\), printf in press firmware.c:7, $lost"
+mistake "printf in a handler" 2 "  $by_handler" firmware.c 's/assert(line == BUTTON)/printf("(%d)\\n", line)/' test
+says "a console that lacks output" 2 "FAILED: firmware.journal: firmware.console is left as it is" project "$new" accept
+says "a hunt whose journal loses output" 2 "  $by_handler" project "$new" hunt TRIES=3
+says "a report of lost output" 0 "$by_handler" project "$new" run
+cp "$sdk"/project/* "$new"
+sed -i 's/printf("Hello/loc_spn(3); printf("%d bytes", i); unl_spn(3); &/' "$new/firmware.c"
+echo 'CRE_SPN(3, {TA_NULL});' >> "$new/firmware.cfg"
+says "printf under a spin lock" 2 \
+    "  lost output: 21 characters of task 1 \\(GREETER\\), printf in greet firmware.c:17, $lost" project "$new" test STRICT=1
+mistake "a call of its own that nobody looks at" 2 \
+    "  lost output: 3 characters of handler 3 \\(BUTTON\\), press firmware.c:7, $lost" \
+    firmware.c 's/assert(line == BUTTON)/(put_chr)(line)/' test
+mistake "a refusal that the program sees to" 0 "ok: firmware.journal" \
+    firmware.c 's/assert(line == BUTTON)/assert(try_put_chr(line) == E_CTX)/' test STRICT=1
 mistake "snprintf in a handler" 2 "+Hello, number 33 of 3" \
     firmware.c 's/assert(line == BUTTON)/snprintf(text, sizeof text, "<%d>", line)/; s/^void press/char text[8]; &/
         s/number %d of %d\\n", i/number %d%c of %d\\n", i, text[1]/' test
@@ -413,14 +511,16 @@ sed -i 's/answer == E_OK/loc_spn(3) != E_OK/' "$new/firmware.c"
 echo 'CRE_SPN(3, {TA_NULL});' >> "$new/firmware.cfg"
 says "an assertion under a spin lock" 2 \
     "+firmware.c:16: this doesn't hold: loc_spn(3) != E_OK (task 1, processor 1)" project "$new" test CFLAGS=-w
-mistake "another console" 2 "+Hullo, number 2 of 3" firmware.c 's/Hello/Hullo/' test
+mistake "a console of a task that returns" 2 "+Hullo, number 2 of 3" firmware.c 's/Hello/Hullo/; /ext_ker/d' test
 verdict "kit: names of the configuration, and a task that has returned" "$(
     where='at returned_from_greet\.1\+0x4 \((80[0-9a-f]{6}), entries\.inc:[0-9]+\)$'
     [[ "$(grep '^task 1 ' "$work/said")" =~ ^'task 1 (GREETER) dormant since event '[0-9]+,\ $where ]] &&
         grep -qxF "${BASH_REMATCH[1]} is where task 1 (GREETER) ends: greet has returned" "$work/said" || cat "$work/said")"
 mistake "a wait, with its names" 2 \
     "task 1 \\(GREETER\\) waiting .*, wai_sem\\(PRESSED\\) waits for semaphore 1 \\(PRESSED\\)[0-9]*" \
-    firmware.journal '/R 3 1/d' test
+    firmware.journal '/R 3 1/d' test EXPECT=deadlock
+verdict "kit: a deadlock in a test" "$(
+    grep -q '^  deadlock: no task is ready, ' "$work/said" || cat "$work/said")"
 mistake "a name that isn't one of an ID" 2 \
     "task 1 waiting since event .*, wai_sem\\(PRESSED\\) waits for semaphore 1 \\(PRESSED\\)[0-9]*" \
     firmware.cfg 's/GREETER/0 + 1/; s/, 3, greet/, 4, greet/' test
@@ -550,9 +650,10 @@ says "a journal that has a fault" 2 "FAILED: other.journal" project "$new" test
 rm "$new"/other.*
 
 # Strict tests: an exception, a refused call whose answer nobody looks at, a board that is on.
-ends='s/^    }$/    }\n    ext_ker();/'
-mistake "a strict test" 0 "ok: firmware.journal" firmware.c "$ends" test STRICT=1
-mistake "a strict test of a board that is on" 2 "  the board is on in the end" firmware.c '' test STRICT=1
+mistake "a strict test" 0 "ok: firmware.journal" firmware.c '' test STRICT=1
+mistake "a strict test of a board that is on" 2 "  the board is on in the end" firmware.c '/ext_ker/d' test STRICT=1
+verdict "kit: a strict test whose output nobody reads" "$(
+    project "$new" test STRICT=1 2>&1 > >(head -n 1 > "$work/out") | grep -v '^make: ')"
 verdict "kit: a strict test says that the console is right" "$(
     grep -qx 'FAILED: firmware.journal: the console is firmware.console, but' "$work/said" || cat "$work/said")"
 mistake "a strict test of an exception" 2 \
@@ -560,14 +661,14 @@ mistake "a strict test of an exception" 2 \
     firmware.c 's/^    }$/    }\n    *(volatile INT *)16 = 1;/' test STRICT=1
 mistake "a strict test of a refused call" 2 \
     "  chg_pri\\(99, 1\\) = E_NOEXS at event [0-9]+, at greet firmware.c:19: nobody looks at the answer" \
-    firmware.c 's/^    }$/    }\n    chg_pri(99, 1);\n    ext_ker();/' test STRICT=1
+    firmware.c 's/^    }$/    }\n    chg_pri(99, 1);/' test STRICT=1
 mistake "a strict test of a refused call whose answer is looked at" 0 "ok: firmware.journal" firmware.c \
-    's/^    }$/    }\n    if (chg_pri(99, 1) == E_OK)\n        put_chr(65);\n    ext_ker();/' test STRICT=1
+    's/^    }$/    }\n    if (chg_pri(99, 1) == E_OK)\n        put_chr(65);/' test STRICT=1
 mistake "a strict test of a refused call in a handler" 2 \
     "  iact_tsk\\(GREETER\\) = E_QOVR at event [0-9]+, at press firmware.c:9: nobody looks at the answer" firmware.c \
-    "s/^    isig_sem(PRESSED);/&\n    iact_tsk(GREETER), iact_tsk(GREETER);/; $ends" test STRICT=1
+    "s/^    isig_sem(PRESSED);/&\n    iact_tsk(GREETER), iact_tsk(GREETER);/" test STRICT=1
 cp "$sdk"/project/* "$new"
-sed -i 's/^    }$/    }\n    twai_sem(PRESSED, 2);\n    ext_ker();/' "$new/firmware.c"
+sed -i 's/^    }$/    }\n    twai_sem(PRESSED, 2);/' "$new/firmware.c"
 printf 'T 4\nS 1 1000\n' >> "$new/firmware.journal"
 says "a strict test of a wait that is refused" 2 \
     "  twai_sem\\(PRESSED, 2\\) = E_TMOUT at event [0-9]+, for task 1 \\(GREETER\\): nobody looks at the answer" \
@@ -582,7 +683,6 @@ says "the same tests one by one" 2 "ok: two.late.journal" project "$work/several
 verdict "kit: tests at the same time" "$(diff "$work/said" "$work/three";
     diff <(sed 's/ time="[0-9.]*"//' "$work/report.xml") <(sed 's/ time="[0-9.]*"//' "$work/three.xml"))"
 cp "$sdk"/project/* "$new"
-sed -i "$ends" "$new/firmware.c"
 project "$new" all
 hostile=('a<b>&"c'\''.journal' $'\x01 \xc3\xa9 ]]>.journal' $'\xff.journal')
 for it in "${hostile[@]}"; do

@@ -98,6 +98,25 @@ BOARD_INLINE BOOL compare_and_swap(volatile UINT *word, UINT expected, UINT want
     return (BOOL)stored;
 }
 
+/* How many characters the console has refused, from handlers, while the processor was CPU-locked, or since it is full:
+ * `make test` and its relatives fail where it isn't 0 (docs/C.md, "Lost output"). */
+extern volatile UINT lost_output;
+
+/* A byte for a program that sees by itself to one that is refused: it isn't counted. */
+BOARD_INLINE ER try_put_chr(char byte)
+{
+    return put_chr(byte);
+}
+
+BOARD_INLINE ER board_put_chr(char byte)
+{
+    ER answer = put_chr(byte);
+    if (answer != E_OK)
+        atomic_add(&lost_output, 1);
+    return answer;
+}
+#define put_chr(byte) board_put_chr(byte)
+
 /* A lock between processors. While somebody has it, nobody on the same processor may come between who wants it too: a
  * task calls loc_cpu() before spin_lock() and unl_cpu() after spin_unlock(); a handler can't be interrupted and calls
  * them as they are. A lock has 16 bytes to itself, since a store into these takes a try of another processor back. */

@@ -16,13 +16,13 @@ struct form {
 #define NONE (-1)
 #define MOST_DIGITS 22                  /* of 64 bits in octal */
 
-/* After an error nothing more is written. */
+/* After an error nothing more is written, so it is lost. */
 static void put(struct sink *sink, char byte)
 {
-    ER answer = sink->error == E_OK ? sink->put(sink, byte) : sink->error;
-    if (answer == E_OK)
+    if (sink->error != E_OK)
+        board_lose(NULL, 1);
+    else if ((sink->error = sink->put(sink, byte)) == E_OK)
         sink->count++;
-    sink->error = answer;
 }
 
 static void put_times(struct sink *sink, char byte, INT count)
@@ -223,7 +223,7 @@ static const char *read_form(const char *format, struct form *form, va_list *arg
 
 char board_format(struct sink *sink, const char *format, va_list *arguments)
 {
-    while (*format != '\0' && sink->error == E_OK) {
+    while (*format != '\0') {
         struct form form;
         if (*format != '%') {
             put(sink, *format++);
@@ -239,6 +239,8 @@ char board_format(struct sink *sink, const char *format, va_list *arguments)
 
 ER board_put(struct sink *sink, char byte)
 {
-    (void)sink;
-    return put_chr(byte);
+    ER answer = try_put_chr(byte);
+    if (answer != E_OK)
+        board_lose(sink->caller, 1);
+    return answer;
 }

@@ -12,6 +12,7 @@ struct sink {
     ER error;                           /* why no more are, or E_OK */
     char *text;                         /* for snprintf: where the next one goes, and how many there is room for */
     SIZE room;
+    const void *caller;                 /* for the console: who writes */
 };
 
 /* Writes a format with its arguments. It answers the letter of a conversion that isn't there, at which it stops, else
@@ -24,8 +25,9 @@ ER board_put(struct sink *sink, char byte);
 /* Ends the board since `format` has a conversion that isn't there; `caller` is where it was to be written. */
 void board_no_conversion(char letter, const void *caller) __attribute__((noreturn));
 
-/* Keeps how often handlers and CPU-locked tasks called printf, and from where first: sdk/test tells. */
-void board_refused_print(const void *caller);
+/* So many characters are lost, since the console has refused one. Who wrote them is kept before that, if it is known, so
+ * it can be seen as soon as `lost_output` isn't 0. */
+void board_lose(const void *caller, UINT count);
 
 /* In start.S: an exception, which stops a handler's processor for good. */
 void board_trap(void) __attribute__((noreturn));

@@ -9,11 +9,9 @@
 
 static INT print(const char *format, va_list *arguments, const void *caller)
 {
-    struct sink console = { board_put, 0, E_OK, NULL, 0 };
+    struct sink console = { board_put, 0, E_OK, NULL, 0, caller };
     char unknown = board_format(&console, format, arguments);
-    if (console.error == E_CTX)
-        board_refused_print(caller);
-    else if (unknown != 0)
+    if (unknown != 0)
         board_no_conversion(unknown, caller);
     return console.error == E_OK ? console.count : console.error;
 }
@@ -48,7 +46,7 @@ static ER put_text(struct sink *sink, char byte)
 
 static INT print_text(char *text, SIZE size, const char *format, va_list *arguments, const void *caller)
 {
-    struct sink sink = { put_text, 0, E_OK, text, size };
+    struct sink sink = { put_text, 0, E_OK, text, size, NULL };
     char unknown = board_format(&sink, format, arguments);
     if (unknown != 0)
         board_no_conversion(unknown, caller);

@@ -129,7 +129,8 @@ class Names:
     def told(self, address):
         """The same as a line of a list."""
         found = self.frame(address)
-        return f"{found[0]} {os.path.basename(found[1])}:{found[2]}" if found else self.name(address)
+        known = found and not found[1].startswith("??")
+        return f"{found[0]} {os.path.basename(found[1])}:{found[2]}" if known else self.name(address)
 
 
 class Objects:
@@ -265,11 +266,11 @@ class Program:
         return re.search(r"(?m)^ *trace ", listed) is not None
 
     def stop(self, journal, report):
-        """Why the program has stopped itself (sdk/lib/stop.c), and the position after that; and how handlers called
-        printf. Each is nothing where it isn't so."""
+        """Why the program has stopped itself (sdk/lib/stop.c), and the position after that. Each is nothing where it
+        isn't so."""
         place = self.names().place("board_stopped")
         if not place:
-            return None, None, None
+            return None, None
         debugger = Debugger(self.board, self.image, self.config, journal)
         debugger.answer(f"goto {report.events}")
         order = "little" if self.is_little else "big"
@@ -279,16 +280,12 @@ class Program:
             return [int.from_bytes(found[4 * it:4 * it + 4], order) for it in range(count)]
 
         why, position = self.why(debugger, words(place[0], 8), report), None
-        refused = self.names().place("board_refused")
-        count, caller = words(refused[0], 2) if refused else (0, 0)
-        refused = count and f"printf can't write from a handler, nor under loc_cpu: {count} times, first in " \
-            f"{self.names().name(f'{caller - 8:08x}')}"
         if why and report.stopped() and debugger.answer(f"break {self.names().place('board_trap')[0]:08x}") == "ok":
             debugger.answer("goto 0")
             moved = debugger.answer("next")
             position = int(moved[3:]) + 1 if moved.startswith("at ") else None
         debugger.close()
-        return why, position, refused or None
+        return why, position
 
     def why(self, debugger, words, report):
         taken, file, line, why, place, task, processor, stack = words
@@ -307,9 +304,8 @@ class Program:
     def explained(self, journal, report, console=b""):
         """What tells why: an assertion that a handler made, or for which the console had no room; the summary of `board
         trace` where the program has that, else the report; the functions in C of the addresses that were shown."""
-        why, position, refused = self.stop(journal, report)
+        why, position = self.stop(journal, report)
         found = [why] if why and why.encode() not in console else []
-        found += [refused] if refused else []
         running = report.running()
         if running:
             found.append(f"the steps of the journal have run out: the board is on, and {', '.join(running)}")

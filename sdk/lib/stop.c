@@ -16,16 +16,15 @@ struct stopped {
 
 struct stopped board_stopped;
 
-/* printf in handlers, and while the processor is CPU-locked. */
-struct {
-    volatile UINT count;
-    const void *caller;
-} board_refused;
+/* sdk/lib/lost.py reads in a trace what is added here, and by whom: to `board_lost_by` the place of who wrote. */
+volatile UINT lost_output;
+volatile UINT board_lost_by;
 
-void board_refused_print(const void *caller)
+void board_lose(const void *caller, UINT count)
 {
-    if (atomic_add(&board_refused.count, 1) == 0)
-        board_refused.caller = caller;
+    if (caller != NULL)
+        atomic_add(&board_lost_by, (UINT)caller);
+    atomic_add(&lost_output, count);
 }
 
 /* Whether a task calls, which then has given up the CPU lock and the spin lock that it held: under them nothing can be
@@ -45,7 +44,7 @@ static BOOL is_task(ID *task, ID *processor)
 
 __attribute__((format(printf, 1, 2))) static void say(const char *format, ...)
 {
-    struct sink console = { board_put, 0, E_OK, NULL, 0 };
+    struct sink console = { board_put, 0, E_OK, NULL, 0, NULL };
     va_list arguments;
     va_start(arguments, format);
     board_format(&console, format, &arguments);

@@ -1,10 +1,9 @@
-"""What a strict test takes for a failure besides another console: an exception, a refused call whose answer nobody looks
-at, a board that is on in the end."""
+"""Calls that the kernel has refused, as a trace shows them, and whether somebody looks at the answer."""
 import re
 
 # A line of `board trace`: the event, the executor, the place, and what happened. That of a tick has only an event.
 LINE = re.compile(r" *(\d+) (?:\d +(task|handler) (\d+) +(\S+))? +(.*)")
-ANSWER = re.compile(r"(?:task (\d+): )?(\w+\([^()]*\)) = (E_(?!OK\b)\w+)")
+ANSWER = re.compile(r"(?:task (\d+): )?(\w+\((?:'.+'|[^()]*)\)) = (E_(?!OK\b)\w+)")
 CALL = re.compile(r"\w+\(|service \d")
 # Instructions whose first operand isn't what they write: stores, branches, traps, products and quotients, jumps.
 WITHOUT_RESULT = re.compile(r"(?:s[bhw]|sw[lr]|b\w+|t(?:eq|ne|ge|lt)\w*|multu?|divu?|m(?:add|sub)u?|mt(?:hi|lo)|jr?|jal|pref)$")
@@ -39,28 +38,27 @@ def is_looked_at(program, journal, event, who):
     return True
 
 
-def refused(program, journal):
-    """The calls that were refused, each place once: event, executor, place or nothing, and the call with its answer."""
-    found = {}
+def answered(program, journal):
+    """The calls that were answered with an error: event, executor, place or nothing, and the call with its answer."""
     for line in program.traced(journal).split("\n"):
         parts = LINE.fullmatch(line)
         for task, call, answer in ANSWER.findall(parts[5]) if parts else ():
             who = ("task", task) if task else (parts[2], parts[3])
-            place = None if task else parts[4]
-            key = place or (who, call)
-            found.setdefault(key, (int(parts[1]), who, place, f"{call} = {answer}"))
-    return list(found.values())[:CALLS]
+            yield int(parts[1]), who, None if task else parts[4], f"{call} = {answer}"
 
 
-def faults(program, journal, report):
-    """What is wrong, a line for each."""
-    summary = program.traced(journal, "--summary")
-    found = [it.strip() for it in re.findall(r"(?m)^ *last exception at .*", summary)]
-    for event, who, place, call in refused(program, journal):
-        if not is_looked_at(program, journal, event, who):
-            where = program.names().place(place) if place else None
-            line = f", at {program.names().told(f'{where[0]:08x}')}" if where else f", for {' '.join(who)}"
-            found.append(f"{call} at event {event}{line}: nobody looks at the answer")
-    if not report.is_off:
-        found.append("the board is on in the end")
-    return [program.objects.named(it) for it in found]
+def unlooked(program, journal):
+    """Those whose answer nobody looks at, of each place the first. (Of put_chr lost.py says it.)"""
+    found = {}
+    for event, who, place, call in answered(program, journal):
+        if not call.startswith("put_chr("):
+            found.setdefault(place or (who, call.rpartition(" = ")[0]), (event, who, place, call))
+    return [it for it in list(found.values())[:CALLS] if not is_looked_at(program, journal, it[0], it[1])]
+
+
+def faults(program, journal):
+    """The same, a line for each."""
+    for event, who, place, call in unlooked(program, journal):
+        where = program.names().place(place) if place else None
+        line = f", at {program.names().told(f'{where[0]:08x}')}" if where else f", for {' '.join(who)}"
+        yield f"{call} at event {event}{line}: nobody looks at the answer"

@@ -182,11 +182,11 @@ int _close(int descriptor)
 static INT write_console(const char *bytes, UINT count)
 {
     for (UINT i = 0; i < count; i++) {
-        ER answer = put_chr(bytes[i]);
-        if (answer == E_CTX)
-            board_refused_print(__builtin_return_address(0));
-        if (answer != E_OK)
+        ER answer = try_put_chr(bytes[i]);
+        if (answer != E_OK) {
+            board_lose(__builtin_return_address(0), count - i);
             return refused(answer == E_CTX ? EPERM : ENOSPC);
+        }
     }
     return (INT)count;
 }

@@ -194,6 +194,9 @@ void all_calls(VP_INT unused)
     SAY(slp_tsk());
     for (INT i = 0; i < calls; i++)
         printf("in the handler: %s = %d\n", handled[i].call, handled[i].answer);
+    assert(lost_output == sizeof "not while the spin lock is held" + sizeof "not while CPU-locked" + sizeof "x" - 1 +
+                              sizeof "not from a handler");
+    lost_output = 0;                    /* all of these were refused on purpose */
     SAY_RESULT(pol_flg(ONE, 8, TWF_ORW, &result));
     SAY(dly_tsk(1));
     SAY(mact_tsk(OTHER, 1));
