@@ -133,6 +133,8 @@ BOARD_INLINE void spin_lock(SPIN_LOCK *lock)
 {
     while (!try_spin_lock(lock))
         ;
+    /* (GCC fills the delay slot of the loop's branch, which is executed after each try, with no load from below this) */
+    __asm__ volatile("" : : : "memory");
 }
 
 /* SYNC, and the store right after it. */
