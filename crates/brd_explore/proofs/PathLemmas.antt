@@ -9,7 +9,8 @@ use Rattle.brd_explore.specs.declared.search.Saved.{Saved}
 use Rattle.brd_explore.specs.declared.wanted.Wanted.{Wanted}
 use Rattle.brd_explore.specs.Schedules.{Place, does, is_left, next, place_after, event_at, IsAmong, IsWithin, IsEnd}
 use Rattle.brd_explore.specs.Failures.{fails_now, fails_at_end}
-use Rattle.brd_explore.specs.Searching.{FailsAt, Fails, IsTooMuch, place_of, place_of_saved, Leads, AreOnPath, IsOnPath, HasGone, HasStayed, HasPassed, HasGoneBack, KeepsRest}
+use Rattle.brd_explore.specs.Searching.{FailsAt, IsFound, IsTooMuch, place_of, place_of_saved, Leads, AreOnPath, IsOnPath, HasGone, HasStayed, HasPassed, HasGoneBack, KeepsRest}
+use Rattle.brd_explore.proofs.LessLemmas.{left-after}
 
 -- what leads to a place is within the bounds
 
@@ -32,6 +33,11 @@ leads-on among p [] to e leads one left did = (
   ap (λ (q : Place). next q e) leads,
 )
 leads-on among p (f ∷ es) to e leads one left did = (leads.0, leads.1, leads.2, leads-on among (next p f) es to e leads.3 one left did)
+
+-- each of these events takes one of those that are left
+pub leads-few : (among : List Event) (p : Place) (es : List Event) (to : Place) → Leads among p es to → length es ≤ p.left.events
+leads-few among p [] to leads = omega arith
+leads-few among p (e ∷ es) to leads = omega (arith, left-after p e leads.1, leads-few among (next p e) es to leads.3)
 
 -- the places that were saved
 
@@ -143,12 +149,17 @@ on-back-gone among from s t on back =
 
 -- what is found
 
+pub found-here : (wanted : Wanted) (among : List Event) (from : Place) (es : List Event) (to : Place) → Leads among from es to →
+    FailsAt wanted among to → IsFound wanted among from es
+found-here wanted among from es to leads fails = record {
+  within = leads-within among from es to leads;
+  few = leads-few among from es to leads;
+  fails = subst (FailsAt wanted among) (sym (leads-after among from es to leads)) fails;
+}
+
 pub found-now : (wanted : Wanted) (among : List Event) (from : Place) (t : Search) → IsOnPath among from t → fails_now wanted t.board ≡ true →
-    IsWithin among from t.path.items × Fails wanted among from t.path.items
-found-now wanted among from t on fails = (
-  leads-within among from t.path.items (place_of t) on.here,
-  subst (FailsAt wanted among) (sym (leads-after among from t.path.items (place_of t) on.here)) (inl fails),
-)
+    IsFound wanted among from t.path.items
+found-now wanted among from t on fails = found-here wanted among from t.path.items (place_of t) on.here (inl fails)
 
 -- what was tried at an end, and what is too much there
 end-here : (among : List Event) (from : Place) (s : Search) → IsOnPath among from s → s.fresh ≡ true →
@@ -160,9 +171,7 @@ end-here among from s on fresh much k below left = elim (cases_lt k s.at) [
 
 pub found-end : (wanted : Wanted) (among : List Event) (from : Place) (s : Search) (path : List Event) → IsOnPath among from s →
     IsTooMuch among (place_of s) s.at (length among) → s.fresh ≡ true → fails_at_end wanted s.board ≡ true → path ≡ s.path.items →
-    IsWithin among from path × Fails wanted among from path
+    IsFound wanted among from path
 found-end wanted among from s path on much fresh fails same =
-    subst (λ es. IsWithin among from es × Fails wanted among from es) (sym same) (
-      leads-within among from s.path.items (place_of s) on.here,
-      subst (FailsAt wanted among) (sym (leads-after among from s.path.items (place_of s) on.here)) (inr (end-here among from s on fresh much, fails)),
-    )
+    subst (IsFound wanted among from) (sym same)
+    (found-here wanted among from s.path.items (place_of s) on.here (inr (end-here among from s on fresh much, fails)))

@@ -14,13 +14,13 @@ use Rattle.brd_explore.specs.declared.search.Search.{Search}
 use Rattle.brd_explore.specs.declared.wanted.Wanted.{Wanted}
 use Rattle.brd_explore.specs.Schedules.{Place, does, is_left, next, one_if, event_at, IsWithin, IsEnd}
 use Rattle.brd_explore.specs.Failures.{fails_now, fails_at_end}
-use Rattle.brd_explore.specs.Searching.{FailsAt, Fails, NoneFails, NoneGoes, NoneBegins, NoneLeft, Leads, AreOnPath, IsOnPath, Takes, IsSame, IsSized, Finds, LeavesOut, LeadsOn, ended_by, place_of, spot_of}
+use Rattle.brd_explore.specs.Searching.{FailsAt, Fails, IsFound, NoneFails, NoneGoes, NoneBegins, NoneLeft, Leads, AreOnPath, IsOnPath, Takes, IsSame, IsSized, Finds, LeavesOut, LeadsOn, ended_by, place_of, spot_of}
 use Rattle.brd_explore.specs.Shards.{may_come, ways, branches, IsOnBranch, IsInShard, NoneFailsInShard, AnswersInShard}
 use Rattle.brd_explore.specs.Sharing.{IsFirst, NoneOnBranches, BeginsHere, SearchesFrom, SearchesBranch, SearchesBranches, SearchesShard, SearchesWay, SoFar, IsOnTrunk, EndsTrunk, GoesOn, PathFails, HasComeAlong}
 use Rattle.brd_explore.specs.Sleeping.{awake}
 use Rattle.brd_explore.proofs.AwakeLemmas.{none-awake}
 use Rattle.brd_explore.proofs.SearchLemmas.{does-or, after-doing, after-nothing, none-from}
-use Rattle.brd_explore.proofs.PathLemmas.{leads-on, leads-within, leads-after, found-now}
+use Rattle.brd_explore.proofs.PathLemmas.{leads-on, found-here, found-now}
 use Rattle.brd_explore.proofs.LessLemmas.{left-after}
 
 -- the code reads events at another default
@@ -227,12 +227,10 @@ searched-from wanted among s t false begins fine out on = none-here wanted among
 -- the end of the trunk fails, or not
 pub trunk-found : (wanted : Wanted) (among : List Event) (from : Place) (s : Search) (path : List Event) → IsOnPath among from s →
     ways among (place_of s) (length among) ≡ 0 → fails_at_end wanted s.board ≡ true → path ≡ s.path.items →
-    IsWithin among from path × Fails wanted among from path
+    IsFound wanted among from path
 trunk-found wanted among from s path on none fails same =
-    subst (λ es. IsWithin among from es × Fails wanted among from es) (sym same) (
-      leads-within among from s.path.items (place_of s) on.here,
-      subst (FailsAt wanted among) (sym (leads-after among from s.path.items (place_of s) on.here)) (inr (end-of-trunk among (place_of s) none, fails)),
-    )
+    subst (IsFound wanted among from) (sym same)
+    (found-here wanted among from s.path.items (place_of s) on.here (inr (end-of-trunk among (place_of s) none, fails)))
 
 -- the number of the branches so far
 
@@ -358,7 +356,7 @@ branch-found wanted among at s b t w u v done true is below comes place path beg
     let there = branch-place s b (event_at among at) done place comes t takes in
     let here = branch-on among from s w at below comes on (woken ∙ there.0) (rest.2 ∙ there.1 ∙ ap (λ es. es ++ event_at among at ∷ []) path)
     (rest.0 ∙ there.2) (rest.3 ∙ saved ∙ begins.saved) in
-    subst (λ es. IsWithin among from es × Fails wanted among from es) (sym same) (searched from here)
+    subst (IsFound wanted among from) (sym same) (searched from here)
 branch-found wanted among at s b t w u v done false is below comes place path begins takes saved woken rest searched same = absurd (false≢true is)
 
 pub branch-none : (wanted : Wanted) (among : List Event) (at : ℕ) (s b t w u v : Search) (done found : Bool) → found ≡ false →

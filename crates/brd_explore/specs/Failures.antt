@@ -1,7 +1,8 @@
 -- What of a board is a failure, by now or at the end of a schedule.
 use Rattle.std.specs.Prelude.{ℕ, zero, suc, ◌+◌, ◌%◌, ◌^◌, nat_lt, nat_le, ◌==◌, Bool, false, not, ◌&&◌, ◌||◌, List, []}
-use Rattle.std.specs.Prelude.{◌∷◌, Option, Some, None, is_some}
+use Rattle.std.specs.Prelude.{◌∷◌, if◌then◌else◌, Option, Some, None, is_some}
 use Rattle.std.specs.List.{list_any, starts_with}
+use Rattle.std.specs.Option.{option_or}
 use Rattle.brd_word.specs.declared.order.Order.{Order}
 use Rattle.brd_word.specs.Words.{word_of_bytes}
 use Rattle.brd_mem.specs.Memory.{byte_at}
@@ -115,3 +116,16 @@ unfoldable pub fails_at_end : Wanted → BoardState → Bool
 fails_at_end wanted b =
     fails_now wanted (ended wanted b)
     || (list_any (fails_at_last (ended wanted b)) wanted.failures && is_judged wanted (ended wanted b))
+
+-- the first of some failures of which this is so
+abbrev pub first_so : (Failure → Bool) → List Failure → Option Failure
+first_so is [] = None
+first_so is (one ∷ others) = if is one then Some one else first_so is others
+
+-- Which failure a list's last board shows: the first of those that it shows; if it shows none, the first that the end
+-- shows to which it goes on, and if that shows none, the first that this end shows as a last board.
+unfoldable pub shown_failure : Wanted → BoardState → Option Failure
+shown_failure wanted b =
+    option_or (first_so (fails_by_now b) wanted.failures)
+    (option_or (first_so (fails_by_now (ended wanted b)) wanted.failures)
+    (first_so (fails_at_last (ended wanted b)) wanted.failures))

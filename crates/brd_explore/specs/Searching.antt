@@ -21,6 +21,12 @@ FailsAt wanted among p = (fails_now wanted p.board ≡ true) ⊎ (IsEnd among p 
 abbrev pub Fails : Wanted → List Event → Place → List Event → Type 0
 Fails wanted among p events = FailsAt wanted among (place_after p events)
 
+-- A schedule that was found: it is within the bounds, has no more events than they leave, and fails.
+pub record IsFound (wanted : Wanted) (among : List Event) (from : Place) (events : List Event) : Type 0 where
+  pub within : IsWithin among from events
+  pub few : length events ≤ from.left.events
+  pub fails : Fails wanted among from events
+
 -- no schedule from a place fails
 abbrev pub NoneFails : Wanted → List Event → Place → Type 0
 NoneFails wanted among p = (events : List Event) → IsWithin among p events → Fails wanted among p events → ⊥
@@ -173,7 +179,7 @@ LeavesOut wanted among s t turn.Over = NoneLeft wanted among s
 -- the path of a search that goes on is one from where it began; one that was found fails
 abbrev pub LeadsOn : Wanted → List Event → Place → Search → Turn → Type 0
 LeadsOn wanted among from t turn.On = IsOnPath among from t
-LeadsOn wanted among from t turn.Found = IsWithin among from t.path.items × Fails wanted among from t.path.items
+LeadsOn wanted among from t turn.Found = IsFound wanted among from t.path.items
 LeadsOn wanted among from t turn.Over = Unit {0}
 
 -- whether it has gone back; if not, there is nothing to go back to
@@ -224,9 +230,9 @@ abbrev pub ended_by : Bool → Turn
 ended_by true = turn.Found
 ended_by false = turn.Over
 
--- What a search answers is so: the schedule is within the bounds and fails, or no schedule within the bounds fails.
+-- What a search answers is so: the schedule is one that was found, or no schedule within the bounds fails.
 abbrev pub Answers : Wanted → List Event → Place → Option (List Event) → Type 0
-Answers wanted among from (Some events) = IsWithin among from events × Fails wanted among from events
+Answers wanted among from (Some events) = IsFound wanted among from events
 Answers wanted among from None = NoneFails wanted among from
 
 -- which answer follows from what a search came to

@@ -5,7 +5,7 @@ use Rattle.brd_board.specs.declared.event.Event.{Event}
 use Rattle.brd_explore.specs.declared.shard.Shard.{Shard}
 use Rattle.brd_explore.specs.declared.wanted.Wanted.{Wanted}
 use Rattle.brd_explore.specs.Schedules.{Place, does, is_left, next, one_if, event_at, IsWithin}
-use Rattle.brd_explore.specs.Searching.{Fails}
+use Rattle.brd_explore.specs.Searching.{Fails, IsFound}
 
 -- an event may come at a place: something is left for it, and it does something
 abbrev pub may_come : Place → Event → Bool
@@ -43,7 +43,7 @@ NoneFailsInShard wanted shard among p before =
     (events : List Event) → IsWithin among p events → IsInShard shard among p before events →
     Fails wanted among p events → ⊥
 
--- What the search of a shard answers is so: the schedule is within the bounds and fails, or none of the shard fails.
+-- What the search of a shard answers is so: the schedule is one that was found, or none of the shard fails.
 abbrev pub AnswersInShard : Wanted → Shard → List Event → Place → Option (List Event) → Type 0
-AnswersInShard wanted shard among from (Some events) = IsWithin among from events × Fails wanted among from events
+AnswersInShard wanted shard among from (Some events) = IsFound wanted among from events
 AnswersInShard wanted shard among from None = NoneFailsInShard wanted shard among from 0

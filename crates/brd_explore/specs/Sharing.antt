@@ -6,9 +6,9 @@ use Rattle.brd_explore.specs.declared.search.Turn.{Turn}
 use Rattle.brd_explore.specs.declared.search.Turn.TheVariants as turn
 use Rattle.brd_explore.specs.declared.shard.Shard.{Shard}
 use Rattle.brd_explore.specs.declared.wanted.Wanted.{Wanted}
-use Rattle.brd_explore.specs.Schedules.{Place, event_at, IsWithin}
+use Rattle.brd_explore.specs.Schedules.{Place, event_at}
 use Rattle.brd_explore.specs.Failures.{fails_now}
-use Rattle.brd_explore.specs.Searching.{Fails, IsOnPath, IsSame, IsSized, NoneBegins, NoneFails, place_of}
+use Rattle.brd_explore.specs.Searching.{IsFound, IsOnPath, IsSame, IsSized, NoneBegins, NoneFails, place_of}
 use Rattle.brd_explore.specs.Shards.{branches, may_come, ways, IsOnBranch, NoneFailsInShard}
 
 -- A search is on the trunk: it has tried nothing where it is, has no place to go back to, and its board fails not.
@@ -30,10 +30,9 @@ abbrev pub NoneOnBranches : Wanted → Shard → List Event → Place → ℕ �
 NoneOnBranches wanted shard among p before to =
     (k : ℕ) → k < to → IsOnBranch shard among p before k → NoneBegins wanted among p (event_at among k)
 
--- the path of a search is within the bounds and fails, from wherever it leads
+-- the path of a search is a schedule that was found, from wherever it leads
 abbrev pub PathFails : Wanted → List Event → Search → Search → Type 0
-PathFails wanted among s t =
-    (from : Place) → IsOnPath among from s → IsWithin among from t.path.items × Fails wanted among from t.path.items
+PathFails wanted among s t = (from : Place) → IsOnPath among from s → IsFound wanted among from t.path.items
 
 -- what the search of one branch came to
 abbrev pub SearchesBranch : Wanted → List Event → ℕ → Search → Search → Bool → Type 0

@@ -1,6 +1,6 @@
 //! What of a board is a failure, by now or at the end.
 
-ghost use Rattle.std.specs.Prelude.{◌≡◌, ◌⊎◌, not, IfOk};
+ghost use Rattle.std.specs.Prelude.{◌≡◌, ◌⊎◌, not, option_map, IfOk};
 ghost use Rattle.std.specs.List.{list_any};
 ghost use Rattle.brd_board.specs.Board.{after};
 ghost use Rattle.brd_explore.specs.Failures.{
@@ -20,6 +20,8 @@ ghost use Rattle.brd_explore.specs.Failures.{
   ended,
   fails_now,
   fails_at_end,
+  first_so,
+  shown_failure,
 };
 ghost use Rattle.brd_board.specs.Board.{task_of};
 ghost use Rattle.brd_explore.specs.Shrinking.{fails_after};
@@ -117,7 +119,11 @@ impl Wanted {
 
     /// The first failure that the last board of a list that fails shows. The board goes on to its fair end where it
     /// shows none before.
-    pub fn shown(&self, board: &mut Board) -> Result<Option<&Failure>, NoMemory> {
+    #[tactic(auto, unfolding(crate::specs::Failures::shown_failure))]
+    pub fn shown(&self, board: &mut Board) -> Result<Option<&Failure>, NoMemory>
+        ensures { IfOk result
+            (λ found. option_map (λ failure. failure.now) found ≡ shown_failure self.now board.old) }
+    {
         let now = self.shown_now(board)?;
         if now.is_some() {
             return Ok(now);
@@ -131,7 +137,11 @@ impl Wanted {
     }
 
     /// The first failure that a board shows.
-    fn shown_now(&self, board: &Board) -> Result<Option<&Failure>, NoMemory> {
+    fn shown_now(&self, board: &Board) -> Result<Option<&Failure>, NoMemory>
+        ensures { IfOk result
+            (λ found. option_map (λ failure. failure.now) found
+            ≡ first_so (fails_by_now board.now) self.now.failures) }
+    {
         for failure in self.failures.as_slice() {
             if failure.shows(board)? {
                 return Ok(Some(failure));
@@ -141,7 +151,10 @@ impl Wanted {
     }
 
     /// The first failure that a last board shows.
-    fn shown_at_last(&self, board: &Board) -> Option<&Failure> {
+    fn shown_at_last(&self, board: &Board) -> Option<&Failure>
+        ensures { option_map (λ failure. failure.now) result
+            ≡ first_so (fails_at_last board.now) self.now.failures }
+    {
         for failure in self.failures.as_slice() {
             if failure.shows_at_last(board) {
                 return Some(failure);
