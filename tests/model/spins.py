@@ -67,17 +67,28 @@ def asked_lock(board, processor):
     return request.arguments[0] if request.object.holder else None
 
 
-def since(steps, begun):
-    """From which position on each of a processor's steps began as an instruction of its loop.
+def executing(processor):
+    """Who executes on a processor, and the registers there."""
+    if processor.stopped:
+        return "stopped", None
+    who = f"handler {processor.line}" if processor.line is not None else processor.running and processor.running.id
+    return who, state(processor.context())
 
-    `steps` are the position of each step, and what it began with.
+
+def since(past, begun):
+    """From which position on whoever executes on a processor now has executed there, and only its loop.
+
+    `past` are the positions at which something else executed there than before, or with other registers: what it was.
     """
-    among = {its for _, its in begun}
-    others = [position for position, its in steps if its not in among]
-    return f"event {others[-1] + 1}" if others else "the start"
+    who, among = past[-1][1][0], {its for _, its in begun}
+    for at in reversed(range(len(past))):
+        its, registers = past[at][1]
+        if its != who or registers not in among:
+            return f"event {past[at + 1][0]}"
+    return "the start"
 
 
-def spin(board, processor, steps):
+def spin(board, processor, past):
     """The line of a processor that spins, or None."""
     begun, lock = loop(board, processor), asked_lock(board, processor)
     what = f"{len(begun)} instructions that change nothing"
@@ -87,10 +98,10 @@ def spin(board, processor, steps):
     if not begun:
         return None
     place = min(address for address, _ in begun)
-    return f"cpu {processor.number} spins since {since(steps, begun)} at {place:08x}: {what}"
+    return f"cpu {processor.number} spins since {since(past, begun)} at {place:08x}: {what}"
 
 
-def spins(board, steps):
-    """The lines of all processors that spin; `steps` are those of each processor, by its number."""
-    found = (spin(board, it, steps[number]) for number, it in board.processors.items())
+def spins(board, pasts):
+    """The lines of all processors that spin; `pasts` are what executed on each processor, by its number."""
+    found = (spin(board, it, pasts[number]) for number, it in board.processors.items())
     return [line for line in found if line]

@@ -1,171 +1,203 @@
 -- Since when a processor is in its loop, while a board plays on.
-use Rattle.std.proofs.Common.{◌≡◌, inl, inr, ℕ, zero, suc, ◌+◌, ◌-◌, ◌<◌, ◌≤◌, List, length, sym, ap, subst, ◌∙◌, arith}
-use Rattle.std.specs.Prelude.{◌≢◌, Some, None, true, slice_get, slice_index_or, slice_set}
+use Rattle.std.proofs.Common.{◌≡◌, inl, inr, ℕ, zero, suc, ◌+◌, ◌-◌, ◌<◌, ◌≤◌, List, length, replicate, refl, sym, ap}
+use Rattle.std.proofs.Common.{subst, ◌∙◌, arith}
+use Rattle.std.specs.Prelude.{◌≢◌, ◌^◌, min, Option, Some, None, slice_get, slice_index_or, slice_set}
 use Rattle.std.proofs.lemmas.Bool.{cases_lt, cases_eq}
-use Rattle.std.proofs.lemmas.List.{get_or-set_same, get_or-set_other, length-set}
-use Rattle.brd_exec.specs.State.{State}
+use Rattle.std.proofs.lemmas.List.{get_or-set_same, get_or-set_other}
+use Rattle.std.proofs.Math.Nat.{le-min, le_refl, min-le_left}
 use Rattle.brd_board.specs.declared.event.Event.{Event}
-use Rattle.brd_board.specs.declared.event.Event.TheVariants.{Step}
-use Rattle.brd_board.specs.Board.{BoardState, happens, registers_of}
-use Rattle.brd_journal.specs.declared.run.Run.{Run}
-use Rattle.brd_journal.specs.Playing.{board_at, IsPlayed}
-use Rattle.brd_journal.specs.Runs.{ComesBehind}
-use Rattle.brd_journal.specs.Still.{does_no_more}
-use Rattle.brd_journal.proofs.StillLemmas.{happens-leaves}
-use Rattle.brd_journal.proofs.PlayingLemmas.{run-at, rest-board}
-use Rattle.brd_spins.specs.Since.{IsInside, IsStep, BeginsInside, IsSince, AreWatched}
+use Rattle.brd_board.specs.Board.{BoardState}
+use Rattle.brd_journal.specs.declared.playback.Playback.{Playback}
+use Rattle.brd_journal.specs.Playing.{board_at, AreStill, IsPlayed}
+use Rattle.brd_spins.specs.Since.{since_by, AreSeen, AreThere, AreWatched, IsLeft, IsSeen, IsSince, IsThere, IsThereAt}
 use Rattle.brd_spins.specs.declared.spin.Turning.{Turning}
 use Rattle.brd_spins.specs.declared.watching.Watching.{Watching}
+use Rattle.brd_spins.proofs.StateLemmas.{get-within}
 
--- a stretch of events each of whose steps of this processor began in its loop
-pub since-past : (boot : BoardState) (events : List Event) (cpu : ℕ) (states : List State) (at next since : ℕ) →
-    IsSince boot events cpu states at since → at ≤ next →
-    ((q : ℕ) → at ≤ q → q < next → IsStep events cpu q → BeginsInside boot events cpu states q) →
-    IsSince boot events cpu states next since
-since-past boot events cpu states at next since is on inside = record {
-  within = omega (arith, is.within, on);
-  inside = λ q above below step. elim (cases_lt q at) [
-    | inl before ↦ is.inside q above before step
-    | inr behind ↦ inside q behind below step
-  ];
-  least = is.least;
-}
+-- Between positions at which no event does anything the board is the same.
+still-on : (boot : BoardState) (events : List Event) (from to p : ℕ) → AreStill boot events from to → from ≤ p →
+    (n : ℕ) → p + n ≤ to →
+    board_at boot events (p + n) ≡ board_at boot events p
+still-on boot events from to p still above zero within =
+    let same : p + zero ≡ p = omega arith in ap (board_at boot events) same
+still-on boot events from to p still above (suc n) within =
+    let next : p + suc n ≡ suc (p + n) = omega arith in
+    ap (board_at boot events) next ∙ still (p + n) (omega (arith, above)) (omega (arith, within))
+    ∙ still-on boot events from to p still above n (omega (arith, within))
 
--- the event of a position in a run that comes
-pub comes-at : (events : List Event) (at q : ℕ) (rest : Run) → ComesBehind events at rest → at ≤ q → q < at + rest.count →
-    slice_get events q ≡ Some rest.event
-comes-at events at q rest comes above below =
-    let here : at + (q - at) ≡ q = omega (arith, above) in
-    subst (λ (k : ℕ). slice_get events k ≡ Some rest.event) here (run-at events at (q - at) rest comes (omega (arith, above, below)))
+still-board : (boot : BoardState) (events : List Event) (from to p : ℕ) → AreStill boot events from to → from ≤ p →
+    p ≤ to →
+    board_at boot events to ≡ board_at boot events p
+still-board boot events from to p still above below =
+    let there : p + (to - p) ≡ to = omega (arith, below) in
+    sym (ap (board_at boot events) there) ∙ still-on boot events from to p still above (to - p) (omega (arith, below))
 
-same-step : (cpu other : ℕ) → Some (Step cpu) ≡ Some (Step other) → cpu ≡ other
-same-step cpu other is = cc
+module _ (boot : BoardState) (events : List Event) (cpu : ℕ) (turning : Turning) where
+  -- where it is in its loop at the last of some positions, and was up to the one before them
+  there-on : (from at next : ℕ) → AreStill boot events (at + 1) next →
+      AreThere boot events cpu turning.who turning.states from at →
+      IsThere (board_at boot events next) cpu turning.who turning.states →
+      AreThere boot events cpu turning.who turning.states from next
+  there-on from at next still are now p above below = elim (cases_lt at p) [
+    | inl behind ↦
+        subst (λ (b : BoardState). IsThere b cpu turning.who turning.states)
+        (still-board boot events (at + 1) next p still (omega (arith, behind)) below) now
+    | inr before ↦ are p above before
+  ]
 
--- the processor whose step the events of a run are
-pub step-of : (events : List Event) (at q cpu other : ℕ) (rest : Run) → ComesBehind events at rest → at ≤ q → q < at + rest.count →
-    rest.event ≡ Step other → IsStep events cpu q → cpu ≡ other
-step-of events at q cpu other rest comes above below is step =
-    same-step cpu other (sym step ∙ comes-at events at q rest comes above below ∙ ap (λ (e : Event). Some e) is)
+  left-on : (at next : ℕ) (left : Option ℕ) → at ≤ next → AreStill boot events (at + 1) next →
+      IsLeft boot events cpu turning.who turning.states at left →
+      IsThere (board_at boot events next) cpu turning.who turning.states →
+      IsLeft boot events cpu turning.who turning.states next left
+  left-on at next None on still is now = there-on 0 at next still is now
+  left-on at next (Some left) on still is now = (
+    omega (arith, is.0, on),
+    is.1,
+    there-on (suc left) at next still is.2 now,
+  )
 
-not-step : (events : List Event) (at q cpu : ℕ) (rest : Run) → ComesBehind events at rest → at ≤ q → q < at + rest.count →
-    IsStep events cpu q → Some rest.event ≡ Some (Step cpu)
-not-step events at q cpu rest comes above below step = sym (comes-at events at q rest comes above below) ∙ step
+  left-now : (at : ℕ) → (IsThereAt boot events cpu turning.who turning.states at → ⊥) →
+      IsLeft boot events cpu turning.who turning.states at (Some at)
+  left-now at away = (omega arith, away, λ p above below. absurd (omega (arith, above, below)))
 
-same-event : (a b : Event) → Some a ≡ Some b → a ≡ b
-same-event a b is = cc
+  -- after a look at the last of some positions
+  left-more : (at next : ℕ) (old new : Option ℕ) → at ≤ next → AreStill boot events (at + 1) next →
+      IsLeft boot events cpu turning.who turning.states at old → IsSeen
+      (board_at boot events next) cpu turning next old new →
+      IsLeft boot events cpu turning.who turning.states next new
+  left-more at next old new on still is (inl there) =
+      subst (IsLeft boot events cpu turning.who turning.states next) (sym there.1)
+      (left-on at next old on still is there.0)
+  left-more at next old new on still is (inr away) =
+      subst (IsLeft boot events cpu turning.who turning.states next) (sym away.1) (left-now next away.0)
 
--- no event of a run is a step of a processor
-pub no-step : (events : List Event) (at q cpu : ℕ) (rest : Run) → ComesBehind events at rest → at ≤ q → q < at + rest.count →
-    rest.event ≢ Step cpu → IsStep events cpu q → ⊥
-no-step events at q cpu rest comes above below other step =
-    other (same-event rest.event (Step cpu) (not-step events at q cpu rest comes above below step))
+  -- after the first look
+  left-first : (old new : Option ℕ) → old ≡ None → IsSeen boot cpu turning 0 old new →
+      IsLeft boot events cpu turning.who turning.states 0 new
+  left-first old new none (inl there) =
+      subst (IsLeft boot events cpu turning.who turning.states 0) (sym (there.1 ∙ none)) (λ p above below.
+      let first : 0 ≡ p = omega (arith, below) in
+      subst (IsThereAt boot events cpu turning.who turning.states) first there.0)
+  left-first old new none (inr away) =
+      subst (IsLeft boot events cpu turning.who turning.states 0) (sym away.1) (left-now 0 away.0)
 
--- Steps of a processor that do nothing, but for the first one, begin where that one begins.
-quiet-board : (boot b : BoardState) (events : List Event) (at cpu : ℕ) (n : ℕ) (rest : Run) → b ≡ board_at boot events at →
-    ComesBehind events at rest → rest.event ≡ Step cpu → suc n ≤ rest.count →
-    (1 < suc n → does_no_more rest.event (happens b rest.event).report ≡ true) → board_at boot events (at + n) ≡ b
-quiet-board boot b events at cpu zero rest is comes step few over =
-    let same : at + zero ≡ at = omega arith in ap (board_at boot events) same ∙ sym is
-quiet-board boot b events at cpu (suc n) rest is comes step few over =
-    let quiet = over (omega arith) in
-    let stays : (happens b (Step cpu)).board ≡ b =
-    happens-leaves b (Step cpu) (subst (λ (e : Event). does_no_more e (happens b e).report ≡ true) step quiet) in
-    rest-board boot b events at (suc n) rest is comes quiet (omega arith) (omega (arith, few))
-    ∙ ap (λ (e : Event). (happens b e).board) step ∙ stays
-
--- after steps of a processor that began outside its loop
-pub since-now : (boot b : BoardState) (events : List Event) (cpu : ℕ) (states : List State) (at count : ℕ) (rest : Run) →
-    b ≡ board_at boot events at → ComesBehind events at rest → rest.event ≡ Step cpu → 1 ≤ count → count ≤ rest.count →
-    (1 < count → does_no_more rest.event (happens b rest.event).report ≡ true) →
-    (BeginsInside boot events cpu states at → ⊥) → IsSince boot events cpu states (at + count) (at + count)
-since-now boot b events cpu states at zero rest is comes step some few over outside = absurd (omega (arith, some))
-since-now boot b events cpu states at (suc n) rest is comes step some few over outside = record {
-  within = omega arith;
-  inside = λ q above below. absurd (omega (arith, above, below));
-  least = λ before same.
-      let there : at + n ≡ before = omega (arith, same) in
-      let board : board_at boot events (at + n) ≡ board_at boot events at = quiet-board boot b events at cpu n rest is comes step few over ∙ is in (
-        subst (λ (k : ℕ). IsStep events cpu k) there
-            (comes-at events at (at + n) rest comes (omega arith) (omega (arith, few)) ∙ ap (λ (e : Event). Some e) step),
-        λ begins. outside (subst (λ (x : BoardState). IsInside states (registers_of x cpu)) board
-            (subst (λ (k : ℕ). BeginsInside boot events cpu states k) (sym there) begins)),
-      );
-}
-
-some-same : (a b : Turning) → Some a ≡ Some b → a ≡ b
-some-same a b is = cc
-
--- all that is watched, after a step of a processor that began in its loop
-pub watched-inside : (boot : BoardState) (events : List Event) (turnings : List Turning) (old new : Watching) (rest : Run) (place : ℕ) (turning : Turning) →
-    AreWatched boot events turnings old → IsPlayed boot events new.playback → new.sinces ≡ old.sinces →
-    old.playback.at ≤ new.playback.at → new.playback.at ≤ old.playback.at + 1 →
-    ComesBehind events old.playback.at rest → rest.event ≡ Step (place + 1) → slice_get turnings place ≡ Some turning →
-    IsInside turning.states (registers_of old.playback.board (place + 1)) → AreWatched boot events turnings new
-watched-inside boot events turnings old new rest place turning are played same on near comes event there inside = record {
-  played = played;
-  eight = ap length same ∙ are.eight;
-  sinces = λ p t found some.
-      subst (λ (since : ℕ). IsSince boot events (p + 1) t.states new.playback.at since) (sym (ap (λ (them : List ℕ). slice_index_or them p 0) same))
-      (since-past boot events (p + 1) t.states old.playback.at new.playback.at (slice_index_or old.sinces p 0) (are.sinces p t found some) on
-      (λ q above below step.
-      let one : 1 ≤ rest.count = comes.0 in
-      let here : q ≡ old.playback.at = omega (arith, above, below, near) in
-      let which : p + 1 ≡ place + 1 = step-of events old.playback.at q (p + 1) (place + 1) rest comes above (omega (arith, one, here)) event step in
-      let at : p ≡ place = omega (arith, which) in
-      let its : t ≡ turning = some-same t turning (sym found ∙ ap (slice_get turnings) at ∙ there) in
-      subst (λ (k : ℕ). IsInside t.states (registers_of (board_at boot events k) (p + 1))) (sym here)
-      (subst (λ (n : ℕ). IsInside t.states (registers_of (board_at boot events old.playback.at) n)) (sym which)
-      (subst (λ (x : BoardState). IsInside t.states (registers_of x (place + 1))) are.played.board
-      (subst (λ (it : Turning). IsInside it.states (registers_of old.playback.board (place + 1))) (sym its) inside)))));
-}
-
--- after steps of a processor that began outside its loop
-pub watched-outside : (boot : BoardState) (events : List Event) (turnings : List Turning) (old new : Watching) (rest : Run) (place count : ℕ) (turning : Turning) →
-    AreWatched boot events turnings old → IsPlayed boot events new.playback → new.sinces ≡ slice_set old.sinces place new.playback.at →
-    place < 8 → 1 ≤ count → count ≤ rest.count → new.playback.at ≡ old.playback.at + count →
-    (1 < count → does_no_more rest.event (happens old.playback.board rest.event).report ≡ true) →
-    ComesBehind events old.playback.at rest → rest.event ≡ Step (place + 1) → slice_get turnings place ≡ Some turning →
-    (IsInside turning.states (registers_of old.playback.board (place + 1)) → ⊥) → AreWatched boot events turnings new
-watched-outside boot events turnings old new rest place count turning are played set few some most goes over comes event there outside = record {
-  played = played;
-  eight = ap length set ∙ length-set old.sinces place new.playback.at ∙ are.eight;
-  sinces = λ p t found kind. elim (cases_eq p place) [
-    | inl same ↦
-        let its : turning ≡ t = some-same turning t (sym there ∙ ap (slice_get turnings) (sym same) ∙ found) in
-        let which : place + 1 ≡ p + 1 = omega (arith, same) in
-        let value : slice_index_or new.sinces p 0 ≡ new.playback.at =
-        ap (λ (them : List ℕ). slice_index_or them p 0) set ∙ ap (λ (k : ℕ). slice_index_or (slice_set old.sinces place new.playback.at) k 0) same
-        ∙ get_or-set_same old.sinces place new.playback.at 0 (omega (arith, few, are.eight)) in
-        let now : IsSince boot events (place + 1) turning.states (old.playback.at + count) (old.playback.at + count) =
-        since-now boot old.playback.board events (place + 1) turning.states old.playback.at count rest are.played.board comes event some most over
-        (λ begins. outside (subst (λ (x : BoardState). IsInside turning.states (registers_of x (place + 1))) (sym are.played.board) begins)) in
-        subst (λ (since : ℕ). IsSince boot events (p + 1) t.states new.playback.at since) (sym value)
-        (subst (λ (n : ℕ). IsSince boot events (p + 1) t.states n n) (sym goes)
-        (subst (λ (cpu : ℕ). IsSince boot events cpu t.states (old.playback.at + count) (old.playback.at + count)) which
-        (subst (λ (it : Turning). IsSince boot events (place + 1) it.states (old.playback.at + count) (old.playback.at + count)) its now)))
+  -- since when, where it is in its loop at the last position
+  pub since-is : (to : ℕ) (left : Option ℕ) → to < 2 ^ 64 → IsLeft boot events cpu turning.who turning.states to left →
+      IsThereAt boot events cpu turning.who turning.states to →
+      IsSince boot events cpu turning.who turning.states to (since_by left)
+  since-is to None few is now = record {
+    within = omega arith;
+    there = is;
+    least = λ before next. absurd (omega (arith, next));
+  }
+  since-is to (Some left) few is now = elim (cases_eq left to) [
+    | inl last ↦ absurd (is.1 (subst (IsThereAt boot events cpu turning.who turning.states) (sym last) now))
     | inr other ↦
-        let value : slice_index_or new.sinces p 0 ≡ slice_index_or old.sinces p 0 =
-        ap (λ (them : List ℕ). slice_index_or them p 0) set ∙ get_or-set_other old.sinces place p new.playback.at 0 other in
-        subst (λ (since : ℕ). IsSince boot events (p + 1) t.states new.playback.at since) (sym value)
-        (since-past boot events (p + 1) t.states old.playback.at new.playback.at (slice_index_or old.sinces p 0) (are.sinces p t found kind) (omega (arith, goes))
-        (λ q above below step.
-        let which : p + 1 ≡ place + 1 = step-of events old.playback.at q (p + 1) (place + 1) rest comes above (omega (arith, below, goes, most)) event step in
-        absurd (other (omega (arith, which)))))
-  ];
+        let low : left + 1 ≤ min (left + 1) (2 ^ 64 - 1) = le-min (le_refl (left + 1))
+        (omega (arith, is.0, other, few)) in
+        let since : suc left ≡ min (left + 1) (2 ^ 64 - 1) = omega (arith, low, min-le_left (left + 1) (2 ^ 64 - 1)) in
+        subst (IsSince boot events cpu turning.who turning.states to) since (record {
+          within = omega (arith, is.0, other);
+          there = is.2;
+          least = λ before next.
+              let same : left ≡ before = omega (arith, next) in
+              λ there. is.1 (subst (IsThereAt boot events cpu turning.who turning.states) (sym same) there);
+        })
+  ]
+
+-- all that is watched, after some events and a look
+pub watched-on : (boot : BoardState) (events : List Event) (turnings : List Turning) (old new : Watching)
+    (next : Playback) →
+    AreWatched boot events turnings old → new.playback ≡ next → IsPlayed boot events next → old.playback.at ≤ next.at →
+    AreStill boot events (old.playback.at + 1) next.at → AreSeen next.board turnings
+    (length turnings) next.at old.lefts new.lefts →
+    AreWatched boot events turnings new
+watched-on boot events turnings old new next are same played on still seen = record {
+  played = subst (IsPlayed boot events) (sym same) played;
+  lefts = λ place turning found some.
+      subst (λ (p : Playback). IsLeft boot events (place + 1) turning.who turning.states p.at
+      (slice_index_or new.lefts place None)) (sym same)
+      (left-more boot events (place + 1) turning old.playback.at next.at (slice_index_or old.lefts place None)
+      (slice_index_or new.lefts place None) on
+      still (are.lefts place turning found some)
+      (subst (λ (b : BoardState). IsSeen b (place + 1) turning next.at (slice_index_or old.lefts place None)
+      (slice_index_or new.lefts place None))
+      played.board (seen place turning (get-within turnings turning place found) found some)));
 }
 
--- after events that are steps of no processor that is watched
-pub watched-past : (boot : BoardState) (events : List Event) (turnings : List Turning) (old new : Watching) (rest : Run) (count : ℕ) →
-    AreWatched boot events turnings old → IsPlayed boot events new.playback → new.sinces ≡ old.sinces →
-    count ≤ rest.count → new.playback.at ≡ old.playback.at + count → ComesBehind events old.playback.at rest →
-    ((place : ℕ) (turning : Turning) → slice_get turnings place ≡ Some turning → turning.what ≢ None → rest.event ≢ Step (place + 1)) →
-    AreWatched boot events turnings new
-watched-past boot events turnings old new rest count are played same most goes comes others = record {
-  played = played;
-  eight = ap length same ∙ are.eight;
-  sinces = λ p t found some.
-      subst (λ (since : ℕ). IsSince boot events (p + 1) t.states new.playback.at since) (sym (ap (λ (them : List ℕ). slice_index_or them p 0) same))
-      (since-past boot events (p + 1) t.states old.playback.at new.playback.at (slice_index_or old.sinces p 0) (are.sinces p t found some) (omega (arith, goes))
-      (λ q above below step.
-      absurd (no-step events old.playback.at q (p + 1) rest comes above (omega (arith, below, goes, most)) (others p t found some) step)));
+pub none-left : (n place : ℕ) (none : Option ℕ) → none ≡ None → slice_index_or (replicate n none) place None ≡ None
+none-left zero place none is = refl
+none-left (suc n) zero none is = is
+none-left (suc n) (suc place) none is = none-left n place none is
+
+-- before any event
+pub watched-first : (boot : BoardState) (events : List Event) (turnings : List Turning) (old : List (Option ℕ))
+    (new : Watching) (start : Playback) →
+    new.playback ≡ start → start ≡ record { board = boot; at = 0 } →
+    ((place : ℕ) → slice_index_or old place None ≡ None) →
+    AreSeen boot turnings (length turnings) 0 old new.lefts → AreWatched boot events turnings new
+watched-first boot events turnings old new start same begins none seen = record {
+  played = subst (IsPlayed boot events) (sym (same ∙ begins)) (record { board = refl; within = omega arith });
+  lefts = λ place turning found some.
+      subst (λ (p : Playback). IsLeft boot events (place + 1) turning.who turning.states p.at
+      (slice_index_or new.lefts place None))
+      (sym (same ∙ begins))
+      (left-first boot events (place + 1) turning (slice_index_or old place None)
+      (slice_index_or new.lefts place None) (none place)
+      (seen place turning (get-within turnings turning place found) found some));
 }
+
+-- ---- a look at the processors
+
+same-turning : (a b : Turning) → Some a ≡ Some b → a ≡ b
+same-turning a b is = cc
+
+-- one more, which isn't in its loop
+pub seen-away : (board : BoardState) (turnings : List Turning) (i position : ℕ) (old now : List (Option ℕ))
+    (it : Turning) →
+    AreSeen board turnings i position old now → slice_get turnings i ≡ Some it → i < length now →
+    (IsThere board (i + 1) it.who it.states → ⊥) →
+    AreSeen board turnings (i + 1) position old (slice_set now i (Some position))
+seen-away board turnings i position old now it seen here less away place turning below found some = elim
+    (cases_eq place i) [
+      | inl same ↦
+          let its : turning ≡ it = same-turning turning it (sym found ∙ ap (slice_get turnings) same ∙ here) in
+          inr (
+            λ there. away (subst (λ (n : ℕ). IsThere board (n + 1) it.who it.states) same
+                (subst (λ (t : Turning). IsThere board (place + 1) t.who t.states) its there)),
+            ap (λ (k : ℕ). slice_index_or (slice_set now i (Some position)) k None) same ∙ get_or-set_same now i
+                (Some position) None less,
+          )
+      | inr other ↦
+          subst (IsSeen board (place + 1) turning position (slice_index_or old place None))
+          (sym (get_or-set_other now i place (Some position) None other))
+          (seen place turning (omega (arith, below, other)) found some)
+    ]
+
+-- one more, which is
+pub seen-there : (board : BoardState) (turnings : List Turning) (i position : ℕ) (old now : List (Option ℕ))
+    (it : Turning) →
+    AreSeen board turnings i position old now → slice_get turnings i ≡ Some it →
+    slice_index_or now i None ≡ slice_index_or old i None →
+    (it.what ≢ None → IsThere board (i + 1) it.who it.states) → AreSeen board turnings (i + 1) position old now
+seen-there board turnings i position old now it seen here kept there place turning below found some = elim
+    (cases_eq place i) [
+      | inl same ↦
+          let its : it ≡ turning = same-turning it turning (sym here ∙ ap (slice_get turnings) (sym same) ∙ found) in
+          inl (
+            subst (λ (n : ℕ). IsThere board (n + 1) turning.who turning.states) (sym same)
+                (subst (λ (t : Turning). IsThere board (i + 1) t.who t.states) its
+                (there (λ none. some (ap (λ (t : Turning). t.what) (sym its) ∙ none)))),
+            ap (λ (k : ℕ). slice_index_or now k None) same ∙ kept ∙ ap (λ (k : ℕ). slice_index_or old k None) (sym same),
+          )
+      | inr other ↦ seen place turning (omega (arith, below, other)) found some
+    ]
+
+-- those behind it stay as they were
+pub rest-away : (i position : ℕ) (old now : List (Option ℕ)) →
+    ((place : ℕ) → i ≤ place → slice_index_or now place None ≡ slice_index_or old place None) →
+    (place : ℕ) → i + 1 ≤ place → slice_index_or (slice_set now i (Some position)) place None ≡ slice_index_or old
+    place None
+rest-away i position old now rest place behind =
+    get_or-set_other now i place (Some position) None (λ same. absurd (omega (arith, behind, same))) ∙ rest place
+    (omega (arith, behind))

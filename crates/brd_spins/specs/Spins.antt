@@ -6,7 +6,7 @@ use Rattle.std.specs.Prelude.{Option, None, Some}
 use Rattle.brd_isa.specs.declared.instruction.Insn.{Insn}
 use Rattle.brd_exec.specs.State.{State}
 use Rattle.brd_board.specs.declared.event.Event.TheVariants.{Step}
-use Rattle.brd_board.specs.Board.{BoardState, happens, after, registers_of}
+use Rattle.brd_board.specs.Board.{BoardState, happens, after, registers_of, standing_of}
 use Rattle.brd_happening.specs.declared.call.{Answer.Answer, CallMade.CallMade}
 use Rattle.brd_happening.specs.declared.call.Answer.TheVariants.{Again}
 use Rattle.brd_happening.specs.declared.happening.{What.What}
@@ -83,11 +83,11 @@ abbrev pub IsTurning : BoardState → ℕ → List State → Option SpinKind →
 IsTurning b cpu states None = SpinsNot b cpu
 IsTurning b cpu states (Some kind) = IsSpinning b cpu kind states
 
--- of each processor, by its number less 1
+-- of each processor, by its number less 1, and who executes there
 abbrev pub AreTurnings : BoardState → List Turning → Type 0
 AreTurnings b turnings =
     (place : ℕ) (turning : Turning) → slice_get turnings place ≡ Some turning
-    → IsTurning b (place + 1) turning.states turning.what
+    → IsTurning b (place + 1) turning.states turning.what × (turning.who ≡ standing_of b (place + 1))
 
 -- the least address at which a processor goes on with some of these registers
 pub record IsLeastPlace (states : List State) (place : ℕ) : Type 0 where

@@ -1,7 +1,7 @@
 //! Which loop a processor is in.
 
 ghost use Rattle.std.specs.Prelude.{◌≡◌, length, IfOk, Some};
-ghost use Rattle.brd_board.specs.Board.{BoardState as BoardOf, registers_of};
+ghost use Rattle.brd_board.specs.Board.{BoardState as BoardOf, registers_of, standing_of};
 ghost use Rattle.brd_spins.specs.Spins.{AreTurnings, HasGone, IsTurning, reads};
 
 use crate::spin::{SpinKind, Turning};
@@ -29,11 +29,17 @@ pub(crate) fn turnings_of(alloc: Global, board: &Board) -> Result<Vec<Turning>, 
 
 /// What a processor does, if it spins.
 fn turning_of(alloc: Global, board: &Board, cpu: u8) -> Result<Turning, NoMemory>
-    ensures { IfOk result (λ turning. IsTurning board.now cpu turning.states turning.what) }
+    ensures is { IfOk result (λ turning. IsTurning board.now cpu turning.states turning.what) }
+    ensures who { IfOk result (λ turning. turning.who ≡ standing_of board.now cpu) }
 {
+    let who = board.standing(cpu);
     let mut states = List::new(alloc);
     let Some(first) = board.registers(cpu) else {
-        return Ok(Turning { what: None, states });
+        return Ok(Turning {
+            what: None,
+            who,
+            states,
+        });
     };
     states.push(first)?;
     let mut copy = board.try_copy()?;
@@ -41,13 +47,18 @@ fn turning_of(alloc: Global, board: &Board, cpu: u8) -> Result<Turning, NoMemory
     match turn {
         Turn::Reads => {
             let what = go_round(alloc, &mut copy, cpu, &first, &mut states)?;
-            Ok(Turning { what, states })
+            Ok(Turning { what, who, states })
         }
         Turn::Asks(lock) => Ok(Turning {
             what: Some(SpinKind::Lock(lock)),
+            who,
             states,
         }),
-        Turn::Other => Ok(Turning { what: None, states }),
+        Turn::Other => Ok(Turning {
+            what: None,
+            who,
+            states,
+        }),
     }
 }
 

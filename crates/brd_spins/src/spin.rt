@@ -5,6 +5,7 @@ ghost use Rattle.brd_spins.specs.Since.{IsInside};
 ghost use Rattle.brd_spins.specs.Spins.{IsLeastPlace};
 
 use brd_base::{List, Same};
+use brd_board::Standing;
 use brd_exec::Context;
 
 /// What a processor does that spins.
@@ -21,7 +22,7 @@ pub enum SpinKind {
 pub struct Spin {
     /// Which.
     pub cpu: u8,
-    /// The position from which on it did nothing else.
+    /// The position from which on who executes there did nothing else.
     pub since: u64,
     /// The least address of the instructions.
     pub place: u32,
@@ -29,16 +30,21 @@ pub struct Spin {
     pub what: SpinKind,
 }
 
-/// What a processor does, if it spins, and its registers before each of the instructions.
+/// What a processor does, if it spins: who executes there, and its registers before each of the instructions.
 pub(crate) struct Turning {
     pub what: Option<SpinKind>,
+    pub who: Option<Standing>,
     pub states: List<Context>,
 }
 
 /// Written out, so that a function that lets one go is proved with a call, and not with the end of each part.
 impl Drop for Turning {
     fn drop(self) {
-        let Turning { what: _, states: _ } = self;
+        let Turning {
+            what: _,
+            who: _,
+            states: _,
+        } = self;
     }
 }
 

@@ -2,7 +2,7 @@
 
 ghost use Rattle.std.specs.Prelude.{◌≡◌, ◌≤◌, [], false, length, IfOk};
 ghost use Rattle.brd_journal.specs.Playing.{IsPlayed};
-ghost use Rattle.brd_spins.specs.Since.{AreAscending, AreFound, AreListed, AreSpins};
+ghost use Rattle.brd_spins.specs.Since.{AreAscending, AreFound, AreListed, AreSpins, since_by};
 
 use crate::looping::turnings_of;
 use crate::spin::{Spin, Turning, least_place};
@@ -28,9 +28,9 @@ pub fn spins(
     if !some_spins(turnings) {
         return Ok(List::new(alloc));
     }
-    let mut watching = Watching::new(boot);
+    let mut watching = Watching::new(boot, turnings);
     watching.watch(journal, turnings, playback.at);
-    listed(alloc, turnings, &watching.sinces)
+    listed(alloc, turnings, &watching.lefts)
 }
 
 /// Whether a processor spins.
@@ -46,9 +46,13 @@ fn some_spins(turnings: &[Turning]) -> bool
 }
 
 /// The processors that spin, since when.
-fn listed(alloc: Global, turnings: &[Turning], sinces: &[u64; 8]) -> Result<List<Spin>, NoMemory>
+fn listed(
+    alloc: Global,
+    turnings: &[Turning],
+    lefts: &[Option<u64>; 8],
+) -> Result<List<Spin>, NoMemory>
     requires { length turnings.now ≤ 8 }
-    ensures each { IfOk result (λ spins. AreListed turnings.now sinces.now spins) }
+    ensures each { IfOk result (λ spins. AreListed turnings.now lefts.now spins) }
     ensures all { IfOk result (λ spins. AreFound turnings.now (length turnings.now) spins) }
     ensures ascending { IfOk result (λ spins. AreAscending spins) }
 {
@@ -60,10 +64,20 @@ fn listed(alloc: Global, turnings: &[Turning], sinces: &[u64; 8]) -> Result<List
         let place = least_place(turnings[i].states.as_slice());
         spins.push(Spin {
             cpu: i as u8 + 1,
-            since: sinces[i],
+            since: since_by(lefts[i]),
             place,
             what,
         })?;
     }
     Ok(spins)
+}
+
+/// The position from which on a processor was in its loop, by the last one at which it wasn't.
+fn since_by(left: Option<u64>) -> u64
+    ensures { result ≡ since_by left }
+{
+    match left {
+        Some(left) => left.saturating_add(1),
+        None => 0,
+    }
 }

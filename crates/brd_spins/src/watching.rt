@@ -1,39 +1,39 @@
 //! Since when processors are in loops.
 
-ghost use Rattle.std.specs.Prelude.{◌≡◌, ◌≤◌, ◌<◌, ◌+◌, List as ListOf, length};
+ghost use Rattle.std.specs.Prelude.{◌≡◌, ◌≢◌, ◌≤◌, List as ListOf, Decides, None, false, length, true};
 ghost use Rattle.brd_board.specs.declared.event.Event.{Event as EventOf};
-ghost use Rattle.brd_board.specs.declared.event.Event.TheVariants.{Step};
 ghost use Rattle.brd_board.specs.Board.{BoardState as BoardOf};
-ghost use Rattle.brd_journal.specs.Runs.{ComesBehind};
-ghost use Rattle.brd_spins.specs.declared.spin.Turning.{Turning as TurningOf};
-ghost use Rattle.brd_spins.specs.Since.{AreWatched, IsWatched};
+ghost use Rattle.brd_spins.specs.Since.{AreSeen, AreWatched, IsThere};
 
 use crate::spin::{Turning, is_inside};
-use brd_board::{Board, Event};
-use brd_journal::{Journal, Playback, Run};
+use brd_board::Board;
+use brd_journal::{Journal, Playback};
 
-/// A board that plays a journal, and since when its processors are in loops.
+/// A board that plays a journal, and when its processors weren't in their loops.
 #[derive(Drop)]
 pub(crate) struct Watching {
     /// The board, and how many events it has played.
     pub playback: Playback,
-    /// Of each processor.
-    pub sinces: [u64; 8],
+    /// Of each processor the last position at which it wasn't.
+    pub lefts: [Option<u64>; 8],
     /// Where the journal looks for the next event's run.
     near: usize,
 }
 
 impl Watching {
     /// A board to which nothing has happened.
-    pub fn new(board: Board) -> Watching
+    pub fn new(board: Board, turnings: &[Turning]) -> Watching
+        requires few { length turnings.now ≤ 8 }
         ensures start { result.playback ≡ record { board = board; at = 0 } }
-        ensures watched { (events : ListOf EventOf) (turnings : ListOf TurningOf) → AreWatched board events turnings result }
+        ensures watched { (events : ListOf EventOf) → AreWatched board events turnings.now result }
     {
-        Watching {
+        let mut watching = Watching {
             playback: Playback { board, at: 0 },
-            sinces: [0; 8],
+            lefts: [None; 8],
             near: 0,
-        }
+        };
+        watching.look(turnings);
+        watching
     }
 
     /// Plays on up to a position.
@@ -49,68 +49,45 @@ impl Watching {
             let Some(rest) = journal.rest_at(self.playback.at, &mut self.near) else {
                 return;
             };
-            self.advance(turnings, rest, to);
+            let next = self.playback.at + 1;
+            self.playback.advance(rest, next, to);
+            self.look(turnings);
         }
     }
 
-    /// Does the next event of what is left of a run, and maybe more of it, up to a position.
-    fn advance(&mut self, turnings: &[Turning], rest: Run, to: u64)
-        requires on { self.old.playback.at < to }
-        requires some { 1 ≤ rest.count }
+    /// Keeps the position of each processor that spins, where it isn't in its loop now.
+    fn look(&mut self, turnings: &[Turning])
         requires few { length turnings.now ≤ 8 }
-        ensures at { self.new.playback.at ≤ to }
-        ensures goes { self.old.playback.at < self.new.playback.at }
-        ensures watched { (boot : BoardOf) (events : ListOf EventOf) → to ≤ length events
-            → ComesBehind events self.old.playback.at rest → AreWatched boot events turnings.now self.old
-            → AreWatched boot events turnings.now self.new }
+        ensures same { self.new.playback ≡ self.old.playback }
+        ensures seen { AreSeen self.old.playback.board turnings.now (length turnings.now) self.old.playback.at
+            self.old.lefts self.new.lefts }
     {
-        match watched(turnings, rest.event) {
-            Some(place) => self.step(turnings, rest, to, place),
-            None => {
-                self.playback.advance(rest, to, to);
+        for i in 0..turnings.len() {
+            if !is_away(&self.playback.board, i as u8 + 1, &turnings[i]) {
+                continue;
             }
+            self.lefts[i] = Some(self.playback.at);
         }
-    }
-
-    /// Does a step of a processor that is watched, and those after it that do nothing, up to a position.
-    fn step(&mut self, turnings: &[Turning], rest: Run, to: u64, place: u8)
-        requires on { self.old.playback.at < to }
-        requires some { 1 ≤ rest.count }
-        requires few { length turnings.now ≤ 8 }
-        requires within { place < length turnings.now }
-        requires step { rest.event ≡ Step (place + 1) }
-        ensures at { self.new.playback.at ≤ to }
-        ensures goes { self.old.playback.at < self.new.playback.at }
-        ensures watched { (boot : BoardOf) (events : ListOf EventOf) → to ≤ length events
-            → ComesBehind events self.old.playback.at rest → AreWatched boot events turnings.now self.old
-            → AreWatched boot events turnings.now self.new }
-    {
-        let next = self.playback.at + 1;
-        let registers = self.playback.board.registers(place + 1);
-        let states = turnings[place as usize].states.as_slice();
-        if is_inside(states, &registers) {
-            self.playback.advance(rest, next, next);
-            return;
-        }
-        self.playback.advance(rest, next, to);
-        self.sinces[place as usize] = self.playback.at;
     }
 }
 
-/// The place of a processor that is watched, if an event is a step of one.
-fn watched(turnings: &[Turning], event: Event) -> Option<u8>
-    requires { length turnings.now ≤ 8 }
-    ensures { IsWatched turnings.now event result }
+/// Whether a processor spins, and isn't in its loop on a board.
+fn is_away(board: &Board, cpu: u8, turning: &Turning) -> bool
+    ensures away { result ≡ true → IsThere board.now cpu turning.now.who turning.now.states → ⊥ }
+    ensures there { result ≡ false → turning.now.what ≢ None → IsThere board.now cpu turning.now.who turning.now.states }
 {
-    let Event::Step(cpu) = event else {
-        return None;
-    };
-    if cpu == 0 {
-        return None;
+    if turning.what.is_none() {
+        return false;
     }
-    let place = cpu - 1;
-    if place as usize >= turnings.len() || turnings[place as usize].what.is_none() {
-        return None;
+    !is_there(board, cpu, turning)
+}
+
+/// Whether on a board the task or handler of a loop executes on a processor, and is in it.
+fn is_there(board: &Board, cpu: u8, turning: &Turning) -> bool
+    ensures { Decides result (IsThere board.now cpu turning.now.who turning.now.states) }
+{
+    if board.standing(cpu) != turning.who {
+        return false;
     }
-    Some(place)
+    is_inside(turning.states.as_slice(), &board.registers(cpu))
 }

@@ -134,6 +134,36 @@ S 1 6
 S 2 3
 ";
 
+/// Task 1 starts task 2 on processor 2, where it branches to itself, ends it and starts it again. Then a handler does
+/// that there.
+const STARTS: &str = "
+one:    addiu   $a0, $0, 2
+        addiu   $v0, $0, 1
+        syscall
+        addiu   $v0, $0, 4
+        syscall
+        addiu   $v0, $0, 1
+        syscall
+done:   b       done
+        nop
+two:    b       two
+        nop
+handler: b      handler
+        nop
+";
+
+/// A task on each of two processors, of which the second one isn't started, and a handler on the second.
+const LATE: &str = "BOARD(2, 0x10000);
+CRE_TSK(1, {TA_ACT, 0, one, 1, 256, NULL});
+CLASS(TCL_2) { CRE_TSK(2, {TA_NULL, 0, two, 1, 256, NULL}); DEF_INH(4, {TA_HLNG, handler}); }
+";
+
+const STARTED: &str = "board-journal 2 big
+S 1 7
+R 4 1
+S 2 2
+";
+
 const CASES: &[Case] = &[
     Case {
         source: POLLS,
@@ -232,6 +262,47 @@ const CASES: &[Case] = &[
         to: 17,
         asked: None,
         told: "cpu 1 spins since event 10 at poll (8000000c): 3 instructions that change nothing\n",
+    },
+    // Who spins has executed there since it was started, and since it was started anew, whoever makes steps.
+    Case {
+        source: STARTS,
+        config: LATE,
+        journal: STARTED,
+        to: 3,
+        asked: Some(2),
+        told: "cpu 2 spins since event 3 at two (80000024): 2 instructions that change nothing\n",
+    },
+    Case {
+        source: STARTS,
+        config: LATE,
+        journal: STARTED,
+        to: 4,
+        asked: Some(2),
+        told: "cpu 2 spins since event 3 at two (80000024): 2 instructions that change nothing\n",
+    },
+    Case {
+        source: STARTS,
+        config: LATE,
+        journal: STARTED,
+        to: 5,
+        asked: Some(2),
+        told: "",
+    },
+    Case {
+        source: STARTS,
+        config: LATE,
+        journal: STARTED,
+        to: 7,
+        asked: Some(2),
+        told: "cpu 2 spins since event 7 at two (80000024): 2 instructions that change nothing\n",
+    },
+    Case {
+        source: STARTS,
+        config: LATE,
+        journal: STARTED,
+        to: 9,
+        asked: Some(2),
+        told: "cpu 2 spins since event 9 at handler (8000002c): 2 instructions that change nothing\n",
     },
     // Processor 1 is asked for, and processor 2 spins.
     Case {

@@ -6,7 +6,7 @@ use Rattle.brd_spins.proofs.spinning.listed.Given as goal
 
 abbrev pub invariant-loop-i : goal.invariant-loop-i
 invariant-loop-i l = record {
-  each : AreListed l.turnings l.sinces l.spins;
+  each : AreListed l.turnings l.lefts l.spins;
   found : AreFound l.turnings l.i l.spins;
   low : (at : ℕ) (spin : Spin) → slice_get l.spins at ≡ Some spin → spin.cpu ≤ l.i;
   ascending : AreAscending l.spins;

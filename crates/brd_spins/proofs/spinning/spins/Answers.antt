@@ -1,4 +1,4 @@
-use Rattle.std.proofs.Common.{List, length, sym, ap, subst, ◌∙◌}
+use Rattle.std.proofs.Common.{arith, List, length, sym, ap, subst, ◌∙◌}
 use Rattle.brd_board.specs.Board.{BoardState}
 use Rattle.brd_spins.specs.declared.spin.{Spin.Spin, Turning.Turning}
 use Rattle.brd_spins.specs.Since.{AreSpins}
@@ -14,10 +14,11 @@ returns c =
     let at = c.args.playback.now.at in
     let turnings = c.as_slice-turnings.result.now in
     let same = sym c.as_slice-turnings.ensures.value in
-    let are = subst (λ (b : BoardState). AreTurnings b c.in_ok-turnings.turnings.items) c.requires.board c.in_ok-turnings.ensures.are in
+    let are = subst (λ (b : BoardState). AreTurnings b c.in_ok-turnings.turnings.items) c.requires.board
+    c.in_ok-turnings.ensures.are in
     spins-ok boot events at turnings c.watch.new.self c.listed.result
     (subst (λ (them : List Turning). AreTurnings (board_at boot events at) them) same are)
-    (c.watch.ensures.watched boot (c.new-watching.ensures.watched events turnings)) c.watch.ensures.at
+    (c.watch.ensures.watched boot (c.new-watching.ensures.watched events)) c.watch.ensures.at (omega arith)
     (ap length (sym same) ∙ c.in_ok-turnings.ensures.eight)
     c.listed.ensures.each c.listed.ensures.all c.listed.ensures.ascending
 
@@ -29,7 +30,9 @@ returns-then-not-some_spins c =
     let at = c.args.playback.now.at in
     let turnings = c.as_slice-turnings.result.now in
     let same = sym c.as_slice-turnings.ensures.value in
-    let are = subst (λ (b : BoardState). AreTurnings b c.in_ok-turnings.turnings.items) c.requires.board c.in_ok-turnings.ensures.are in
+    let are = subst (λ (b : BoardState). AreTurnings b c.in_ok-turnings.turnings.items) c.requires.board
+    c.in_ok-turnings.ensures.are in
     subst (λ (spins : List Spin). AreSpins boot events at spins) (sym c.new.ensures)
-    (no-spins boot events at turnings (subst (λ (them : List Turning). AreTurnings (board_at boot events at) them) same are)
+    (no-spins boot events at turnings (subst (λ (them : List Turning). AreTurnings (board_at boot events at) them)
+    same are)
     (ap length (sym same) ∙ c.in_ok-turnings.ensures.eight) (c.some_spins.ensures c.if-not-some_spins.true))
