@@ -1,0 +1,2 @@
+mod DeadlockLemmas
+mod StepsLemmas

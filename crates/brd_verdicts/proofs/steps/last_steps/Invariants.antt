@@ -1,0 +1,13 @@
+-- The last steps up to here are known.
+use Rattle.std.proofs.Common.{◌≤◌, ◌-◌}
+use Rattle.brd_verdicts.specs.Steps.{AreFollowed}
+use Rattle.brd_verdicts.proofs.steps.last_steps.Given as goal
+
+abbrev pub invariant-loop-following : goal.invariant-loop-following
+invariant-loop-following l = record {
+  on : l.following.playback.at ≤ l.n;
+  followed : AreFollowed l.fn.boot l.journal.events l.following;
+}
+
+abbrev pub decreases-loop-following : goal.decreases-loop-following
+decreases-loop-following l = l.n - l.following.playback.at

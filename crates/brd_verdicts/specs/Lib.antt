@@ -1,0 +1,2 @@
+pub mod Deadlock
+pub mod Steps
