@@ -29,6 +29,24 @@ lost "a lost update, up to its second store" "races: 0 words" racy --to 7
 lost "a lost update, in whatever form" "$told"$'\nraces: 1 word' racy --to 8 --format json --summary
 lost "a lost update that is repaired" "races: 0 words" repaired
 
+# How many words have a race in the other examples: in the one about a race, and in the one whose meter marks without a
+# lock what another task shows, a sample and, by its mistake, which one that is.
+while read -r example count; do
+    "$board" asm "examples/$example.s" "$work/image"
+    "$board" trace --races "$work/image" "examples/$example.cfg" "examples/$example.journal" > "$work/out" 2>&1
+    verdict "races: examples/$example" "$(tail -n 1 "$work/out" | grep -qE "^races: $count words?\$" || cat "$work/out")"
+done << 'END'
+data_queue/data_queue 0
+deadlock/deadlock 0
+fault/fault 2
+hello/hello 0
+interrupt/interrupt 0
+priority_inversion/inversion 0
+recorded_race/counter 1
+spin_lock/spin_lock 0
+two_tasks/two_tasks 0
+END
+
 # Two tasks store into the same 131,072 words. It isn't timed but for this: a program that goes through all races that it
 # has found, for each touch, takes minutes.
 cat > "$work/many.s" << 'END'
