@@ -32,6 +32,15 @@ library "no race of malloc on two processors" "races: 0 words" races
 make -s -C tests/library BOARD="$board" BUILD="$work/build" hunt TRIES=5 > "$work/said" 2>&1
 verdict "the C library, malloc in other orders" "$(grep -q '^ok: [0-9]* orders, ' "$work/said" || cat "$work/said")"
 
+# What a handler writes by the C library's printf is lost: where, is seen through the library's own calls.
+sdk/new "$work/lost" > "$work/said"
+sed -i 's/assert(line == BUTTON)/printf("line %d\\n", line)/' "$work/lost/firmware.c"
+sed -i 's/0x10000/0x40000/; s/1024/4096/' "$work/lost/firmware.cfg"
+make -s -C "$work/lost" BOARD="$board" LIBC=1 HANDLER_STACK=4096 test > "$work/said" 2>&1
+verdict "the C library, output that is lost" "$(
+    grep -q '^  lost output: 21 characters of handler 3 (BUTTON), printf in press firmware.c:7, first at event ' "$work/said" ||
+        cat "$work/said")"
+
 left=$((SECONDS_AT_MOST - (SECONDS - started)))
 lines=$(timeout "$((left > 1 ? left : 1))" tests/firmware --short "$board" 2>&1)
 if [ $? = 124 ]; then
