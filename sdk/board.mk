@@ -8,8 +8,8 @@
 #
 #   make                builds build/firmware.elf and build/firmware.cfg
 #   make test           runs each journal, and compares the console; lost output is a failure, too. EXPECT: what else is;
-#                       STRICT=1: an exception, a refused call whose answer nobody looks at, a store below a stack and a
-#                       board that is on in the end are; REPORT=junit.xml: writes that too
+#                       STRICT=1: an exception, a refused call whose answer nobody looks at, a data race, a store below a
+#                       stack and a board that is on in the end are; REPORT=junit.xml: writes that too
 #   make accept         takes the consoles as they are for right, where no output was lost
 #   make run            shows the report of JOURNAL (firmware.journal)
 #   make debug          debugs JOURNAL with the names of C

@@ -164,6 +164,11 @@ says "make races of a race" 2 \
     "race at sum .*: event [0-9]+, task 1 at add.*firmware.c:11\\), stores; event [0-9]+, task 2 at add.*, loads" \
     project "$work/kit/adders" races CFLAGS=-DRACE
 says "make races of a right program" 0 "races: 0 words" project "$work/kit/adders" races
+says "a strict test of a race" 2 "  race at sum .*: event [0-9]+, task 1 .*, stores; event [0-9]+, task 2 .*, loads" \
+    project "$work/kit/adders" test CFLAGS=-DRACE STRICT=1
+for it in examples/c_two_processors "$work/kit/interrupted"; do
+    says "a strict test of a right program, $(basename "$it")" 0 "ok: firmware.journal" project "$it" test STRICT=1
+done
 for level in -O0 -O2; do
     says "make races, $level" 0 "races: 0 words" project examples/c_two_processors races OPTIMIZE=$level
 done

@@ -6,7 +6,7 @@ import subprocess
 import strict
 
 WORDS = ("console", "lines", "exception", "refused", "deadlock", "off", "races", "stacks")
-STRICT = ("exception", "refused", "off", "stacks")
+STRICT = ("exception", "refused", "off", "races", "stacks")
 SHOWN = 5                               # races that are shown
 QUICK = 5000000                         # events of a run that is looked through for races and stacks unasked
 
