@@ -3,8 +3,8 @@ use Rattle.std.specs.Prelude.{◌≡◌, ◌⊎◌, ℕ, ◌-◌, ◌≤◌, ◌
 use Rattle.brd_board.specs.declared.event.Event.{Event}
 use Rattle.brd_board.specs.Board.{BoardState}
 use Rattle.brd_explore.specs.declared.bounds.Bounds.{Bounds}
-use Rattle.brd_explore.specs.Schedules.{start, IsWithin}
-use Rattle.brd_explore.specs.Searching.{Fails}
+use Rattle.brd_explore.specs.Schedules.{start}
+use Rattle.brd_explore.specs.Searching.{IsFound}
 use Rattle.brd_explore.specs.Shards.{NoneFailsInShard}
 use Rattle.brd_search.specs.declared.plan.Plan.{Plan}
 use Rattle.brd_search.specs.declared.searching.Searched.{Searched}
@@ -20,10 +20,9 @@ pub record AreNotMore (few many : Bounds) : Type 0 where
 abbrev pub NoneWithin : Plan → BoardState → Bounds → Type 0
 NoneWithin plan b bounds = NoneFailsInShard plan.wanted plan.shard plan.among (start b bounds) 0
 
--- a schedule is within bounds, which are not more than the plan's, and fails
+-- a schedule that was found is within bounds, which are not more than the plan's, and fails
 pub record FailsWithin (plan : Plan) (b : BoardState) (bounds : Bounds) (events : List Event) : Type 0 where
-  pub within : IsWithin plan.among (start b bounds) events
-  pub fails : Fails plan.wanted plan.among (start b bounds) events
+  pub found : IsFound plan.wanted plan.among (start b bounds) events
   pub few : AreNotMore bounds plan.bounds
 
 -- What a search answers is so: the schedule is within the bounds that are named, and fails; or no schedule of the
@@ -32,11 +31,17 @@ abbrev pub Answers : Plan → BoardState → Bounds → Option (List Event) → 
 Answers plan b bounds (Some events) = FailsWithin plan b bounds events
 Answers plan b bounds None = (bounds ≡ plan.bounds) × NoneWithin plan b plan.bounds
 
+-- With fewer preemptions than these bounds leave, and else within the plan's, no schedule of the shard fails.
+abbrev pub IsFewest : Plan → BoardState → Bounds → Type 0
+IsFewest plan b bounds = (preemptions : ℕ) → preemptions < bounds.preemptions →
+    NoneWithin plan b (record plan.bounds { preemptions = preemptions })
+
 -- bounds with one event fewer than a schedule has, and than they have themselves
 abbrev pub shorter : Bounds → List Event → Bounds
 shorter bounds events = record bounds { events = min (length events) bounds.events - 1 }
 
--- A schedule is as short as it can be: it has no event, or none of the shard with fewer events fails.
+-- A schedule is as short as it can be with so many preemptions: it has no event, or none of the shard with fewer
+-- events, and no more preemptions, fails.
 abbrev pub IsShortest : Plan → BoardState → Bounds → Option (List Event) → Type 0
 IsShortest plan b bounds (Some events) =
     (min (length events) bounds.events ≡ 0) ⊎ NoneWithin plan b (shorter bounds events)

@@ -1,7 +1,7 @@
 //! The search itself: with few preemptions first, and then shorter.
 
 ghost use Rattle.std.specs.Prelude.{option_map, ◌≡◌, ◌<◌, true, IfOk, IfSome, IfNone};
-ghost use Rattle.brd_search.specs.Searches.{Answers, IsFewer, IsLeast, IsShortest};
+ghost use Rattle.brd_search.specs.Searches.{Answers, IsFewer, IsFewest, IsLeast, IsShortest};
 ghost use Rattle.brd_explore.specs.Schedules.{start};
 ghost use Rattle.brd_explore.specs.Shards.{AnswersInShard};
 
@@ -36,6 +36,7 @@ pub fn search<W: Watch>(
     ensures short { plan.now.shortest ≡ true →
         IfOk result
         (λ found. IsShortest plan.now board.now found.bounds (option_map (λ events. events.items) found.schedule)) }
+    ensures fewest { IfOk result (λ found. IsFewest plan.now board.now found.bounds) }
 {
     let searched = with_fewest(alloc, board, plan, watch)?;
     if plan.shortest {
@@ -52,8 +53,9 @@ fn with_fewest<W: Watch>(
     watch: &mut W,
 ) -> Result<Searched, NoMemory>
     requires { 0 < plan.now.shard.of }
-    ensures { IfOk result
+    ensures is { IfOk result
         (λ found. Answers plan.now board.now found.bounds (option_map (λ events. events.items) found.schedule)) }
+    ensures fewest { IfOk result (λ found. IsFewest plan.now board.now found.bounds) }
 {
     for preemptions in 0..plan.bounds.preemptions {
         let bounds = Bounds {
@@ -141,10 +143,12 @@ fn shortest<W: Watch>(
 ) -> Result<Searched, NoMemory>
     requires of { 0 < plan.now.shard.of }
     requires is { Answers plan.now board.now found.bounds (option_map (λ events. events.items) found.schedule) }
+    requires fewest { IsFewest plan.now board.now found.bounds }
     ensures is { IfOk result
         (λ found. Answers plan.now board.now found.bounds (option_map (λ events. events.items) found.schedule)) }
     ensures short { IfOk result
         (λ found. IsShortest plan.now board.now found.bounds (option_map (λ events. events.items) found.schedule)) }
+    ensures fewest { IfOk result (λ found. IsFewest plan.now board.now found.bounds) }
 {
     let mut best = found;
     while let Some(bounds) = fewer(&best) {
