@@ -84,6 +84,12 @@ verdict "progress: a short move after a long wait" "$(on_terminal 0 never "" deb
 wait
 input=/dev/null
 
+# ---- explore: how many schedules were tried
+
+"$board" asm examples/explore/philosophers_right.s "$work/dining"
+shows "Ctrl-C in a search" 130 shown '(\\r[0-9]+ schedules tried, none fails so far\\x1b\[K)+.*' \
+    explore "$work/dining" examples/explore/philosophers.cfg --preemptions 3
+
 # ---- race: stores take the longest, since no lease does them; the journal has room for a run for each event
 
 {

@@ -219,6 +219,17 @@ const CASES: &[Case] = &[
     },
 ];
 
+/// Peterson's lock, of which no schedule fails.
+const LOCK: &Case = &Case {
+    source: PETERSON,
+    config: TWO,
+    bounds: (40, 2, 0),
+    among: BOTH,
+    wrong: Wrong::Inside(1),
+    rounds: 0,
+    answer: Told::NoneFails,
+};
+
 /// A million steps in a row.
 const DEEP: &Case = &Case {
     source: LOOP,
@@ -347,7 +358,7 @@ fn search_of_shards(alloc: Global, board: &Board, case: &Case, of: u32) -> Told 
     for number in 0..of {
         all = together(
             all,
-            search_of_shard(alloc, board, case, Shard { number, of }),
+            search_of_shard(alloc, board, case, Shard { number, of }, 0),
         );
     }
     all
@@ -364,8 +375,8 @@ fn together(all: Told, next: Told) -> Told {
     }
 }
 
-/// What is told of the search of one shard of a case at a board.
-fn search_of_shard(alloc: Global, board: &Board, case: &Case, shard: Shard) -> Told
+/// What is told of the search of one shard of a case at a board, of which so many places are remembered.
+fn search_of_shard(alloc: Global, board: &Board, case: &Case, shard: Shard, remember: usize) -> Told
     requires { 0 < shard.of }
 {
     let Some(wanted) = wanted_of(alloc, case) else {
@@ -379,7 +390,7 @@ fn search_of_shard(alloc: Global, board: &Board, case: &Case, shard: Shard) -> T
         case.among,
         shard,
         &wanted,
-        0,
+        remember,
         &mut Nobody,
     ) {
         Ok(found) => told_of(found.schedule.is_some(), found.tried),
@@ -452,4 +463,30 @@ fn first_wrong_with_memory(alloc: Global) -> Option<usize> {
 #[test]
 fn what_is_remembered_changes_no_answer(rt: HostRuntime) -> Result<(), Fail> {
     none_wrong(first_wrong_with_memory(rt.alloc()))
+}
+
+/// Whether the search of the first of two shards of a case tries fewer schedules where places are remembered.
+fn saves_schedules(alloc: Global, case: &Case) -> bool {
+    let first = Shard { number: 0, of: 2 };
+    match build(alloc, case.source.as_bytes(), case.config.as_bytes()) {
+        Ok(board) => {
+            let whole = search_of_shard(alloc, &board, case, first, 0);
+            is_fewer(search_of_shard(alloc, &board, case, first, MANY), whole)
+        }
+        Err(_) => false,
+    }
+}
+
+/// Whether none fails of fewer schedules.
+fn is_fewer(told: Told, whole: Told) -> bool {
+    match (told, whole) {
+        (Told::NoneOf(tried), Told::NoneOf(all)) => tried < all,
+        _ => false,
+    }
+}
+
+/// Where places are remembered a search of Peterson's lock tries fewer schedules: many of them meet again.
+#[test]
+fn what_is_remembered_saves_schedules(rt: HostRuntime) {
+    assert!(rt; saves_schedules(rt.alloc(), LOCK));
 }
