@@ -29,6 +29,11 @@ if have python3 "the counts of instructions"; then
         example "$name"
         verdict "cover: the counts of $name" "$(tests/cover_counts "$board" "${files[@]}" 2>&1)"
     done
+    for name in runaway exceptions; do
+        "$board" asm "tests/tracing/$name/source.s" "$work/image" 2> "$work/err" || fail "cover: $name" "$(cat "$work/err")"
+        files=("$work/image" "tests/tracing/$name/config.cfg" "tests/tracing/$name/journal")
+        verdict "cover: the counts of $name" "$(tests/cover_counts "$board" "${files[@]}" 2>&1)"
+    done
     example deadlock/deadlock
     verdict "cover: the counts of a part" "$(tests/cover_counts "$board" "${files[@]}" 10 30 2>&1)"
 fi
@@ -43,6 +48,10 @@ if have lcov "lcov"; then
     says "lcov reads it" 'lines\.*: [0-9.]+%' lcov --rc lcov_branch_coverage=1 --summary "$work/one.info"
     says "lcov adds two" 'lines\.*: [0-9.]+%' lcov --rc lcov_branch_coverage=1 -a "$work/one.info" \
         -a "$work/other.info" -o "$work/both.info"
+fi
+if have genhtml "genhtml of code without a line table"; then
+    says "genhtml of code without a line table" 'functions\.*: 100.0%' \
+        genhtml --branch-coverage --ignore-errors source -o "$work/html" "$work/one.info"
 fi
 if have callgrind_annotate "callgrind_annotate"; then
     says "callgrind_annotate reads it" '^[0-9,]+ \(100\.0%\) +PROGRAM TOTALS' callgrind_annotate "$work/one.callgrind"

@@ -183,7 +183,8 @@ refused "from above to" 2 "board: the trace: there are no events from 5 to 3: th
     --from 5 --to 3 "${files[@]}"
 refused "from above the length" 2 "board: the trace: there are no events from 126 to 125: the journal has 125" \
     --from 126 "${files[@]}"
-refused "no such format" 2 "board: the trace: its formats are text, json, svg and html" --format png "${files[@]}"
+refused "no such format" 2 "board: the trace: its formats are text, json, svg, html, lcov and callgrind" \
+    --format png "${files[@]}"
 refused "no journal" 4 "board: can't open missing: $is_missing" "$work/image" examples/data_queue/data_queue.cfg missing
 refused "no object file" 1 \
     "board: the object file: no ELF file: it doesn't begin with the bytes 7F 45 4C 46; it looks like a journal" \
@@ -207,6 +208,55 @@ off() {
         echo "{\"ph\":\"X\",\"pid\":$lane,\"dur\":$1,\"ts\":$2,\"cat\":\"off\",\"name\":\"off\"}"
     done
 }
+
+# Names of symbols and of files of which an object file speaks may have any byte. What isn't printable ASCII is shown as
+# `\xHH`, so that a name can't end a line, as that of a forged verdict, nor command a terminal.
+# plain NAME TEXT ARGUMENTS..: what `board trace` prints has the text, and no byte but newlines and printable ASCII.
+plain() {
+    local wrong=
+    run_trace "${@:3}" || wrong="; status $?: $(head -c 300 "$work/err")"
+    grep -qF -- "$2" "$work/out" || wrong="$wrong; '$2' isn't there"
+    LC_ALL=C grep -q '[^ -~]' "$work/out" && wrong="$wrong; a byte isn't printable"
+    grep -q '^races: 0' "$work/out" && wrong="$wrong; a name has forged a line"
+    verdict "trace: $1" "$wrong"
+}
+cat > "$work/names.s" << 'END'
+escape: addiu   $sp, $sp, -8
+        sw      $zero, 0($sp)
+forging________:
+        lw      $t0, 0($zero)
+END
+cat > "$work/names.cfg" << 'END'
+BOARD(1, 0x10000);
+CRE_TSK(1, {TA_ACT, 0, 0x80000000, 1, 256, NULL});
+END
+printf 'board-journal 1\nS 1 3\n' > "$work/names.journal"
+assembled "names" "$work/names.s"
+LC_ALL=C sed -i 's/escape/\x1b[31m\xff/; s/forging________/\nraces: 0 words/' "$work/image"
+files=("$work/image" "$work/names.cfg" "$work/names.journal")
+shown='\x1b[31m\xff'
+forged='\x0araces: 0 words'
+plain "names of symbols" "$forged" "${files[@]}"
+plain "names of symbols in instructions" "$shown " --instructions "${files[@]}"
+plain "names of symbols in stacks" "$shown+0x4 (80000004)" --stacks "${files[@]}"
+plain "names of symbols in a summary" "$forged" --summary "${files[@]}"
+plain "names of symbols in a picture" "$forged" --format svg "${files[@]}"
+plain "names of symbols as json" '\\x0araces: 0 words' --format json "${files[@]}"
+plain "names of symbols in coverage" "$shown" --format lcov "${files[@]}"
+plain "names of symbols in a profile" "$shown" --format callgrind "${files[@]}"
+if have mips-linux-gnu-as "trace: names of files"; then
+    source="$work"/$'\x1b[31m\nraces: 0 words\xc3\xa4.s'
+    cp "$work/names.s" "$source"
+    mips-linux-gnu-as -g -mips32 -o "$work/names.o" "$source" &&
+        mips-linux-gnu-ld -e escape -T examples/firmware.ld -o "$work/image" "$work/names.o" ||
+        fail "trace: names of files" "no object file"
+    shown='\x1b[31m\x0araces: 0 words\xc3\xa4.s'
+    plain "names of files" "$shown:4" "${files[@]}"
+    plain "names of files in instructions" "$shown:1" --instructions "${files[@]}"
+    run_trace --format lcov "${files[@]}"
+    grep -q $'^SF:.*/\\\\x1b\\[31m\\\\x0araces: 0 words\xc3\xa4\\.s$' "$work/out" ||
+        fail "trace: names of files in coverage" "$(grep '^SF' "$work/out")"
+fi
 
 # A raise is an instant of the processor that handles the line.
 example interrupt/interrupt

@@ -6,7 +6,7 @@ ghost use Rattle.brd_timeline.specs.Ends.{EndsWith};
 use crate::calls::Call;
 use crate::counting::Counting;
 use crate::edges::parts_of;
-use crate::text::{put, put_decimal, put_line, put_name};
+use crate::text::{put, put_decimal, put_line, put_name, put_path};
 use crate::whole::{NONE, Sources};
 use brd_base::{BASE, NoMemory};
 use std::alloc::Global;
@@ -42,11 +42,23 @@ pub fn put_callgrind(
     counting.close();
     put(to, "# callgrind format\nversion: 1\ncreator: board trace\n")?;
     put(to, "positions: line\nevents: Steps\n")?;
-    put_line(to, "summary: ", counting.steps)?;
     let costs = costs_of(alloc, counting, sources)?;
+    let total = total_of(&costs);
+    put_line(to, "summary: ", total)?;
     put_costs(&costs, sources, to)?;
     put_owners(counting, sources, to)?;
-    put_line(to, "\ntotals: ", counting.steps)
+    put_line(to, "\ntotals: ", total)
+}
+
+/// How many steps there are, without those of calls, which are steps of other functions.
+fn total_of(costs: &Vec<Cost>) -> u64 {
+    let mut total = 0u64;
+    for cost in costs.iter() {
+        if cost.count == 0 {
+            total = total.saturating_add(cost.steps);
+        }
+    }
+    total
 }
 
 /// The steps of each address, and the calls that stand there, by function, file and line.
@@ -91,7 +103,7 @@ fn put_costs(costs: &Vec<Cost>, sources: Sources, to: &mut Vec<u8>) -> Result<()
             function = Some(cost.function);
         }
         if file != cost.file {
-            put_named(to, "fi=", sources.file_of(cost.file))?;
+            put_file(to, "fi=", sources.file_of(cost.file))?;
             file = cost.file;
         }
         put_cost(to, sources, cost)?;
@@ -102,7 +114,7 @@ fn put_costs(costs: &Vec<Cost>, sources: Sources, to: &mut Vec<u8>) -> Result<()
 /// Begins a function at the end: its file and its name. Answers the number of the file.
 fn put_function(to: &mut Vec<u8>, sources: Sources, function: u32) -> Result<u32, NoMemory> {
     let (file, _) = sources.start_of(function);
-    put_named(to, "\nfl=", sources.file_of(file))?;
+    put_file(to, "\nfl=", sources.file_of(file))?;
     put_named(to, "fn=", sources.name_of(function))?;
     Ok(file)
 }
@@ -120,14 +132,21 @@ fn put_cost(to: &mut Vec<u8>, sources: Sources, cost: &Cost) -> Result<(), NoMem
 fn put_callee(to: &mut Vec<u8>, sources: Sources, target: u32, count: u64) -> Result<(), NoMemory> {
     let function = sources.function_at(target);
     let (file, line) = sources.start_of(function);
-    put_named(to, "cfi=", sources.file_of(file))?;
+    put_file(to, "cfi=", sources.file_of(file))?;
     put_named(to, "cfn=", sources.name_of(function))?;
     put(to, "calls=")?;
     put_decimal(to, count)?;
     put_line(to, " ", u64::from(line))
 }
 
-/// Puts a line with a name at the end.
+/// Puts a line with the path of a file at the end.
+fn put_file(to: &mut Vec<u8>, front: &str, path: &[u8]) -> Result<(), NoMemory> {
+    put(to, front)?;
+    put_path(to, path)?;
+    put(to, "\n")
+}
+
+/// Puts a line with the name of a function at the end.
 fn put_named(to: &mut Vec<u8>, front: &str, name: &[u8]) -> Result<(), NoMemory> {
     put(to, front)?;
     put_name(to, name)?;

@@ -2,10 +2,10 @@
 
 ghost use Rattle.std.specs.Prelude.{◌≡◌, ◌≤◌, ◌<◌, List as ListOf, length, IfOk, OnOk};
 ghost use Rattle.brd_board.specs.declared.event.Event.{Event as EventOf};
-ghost use Rattle.brd_board.specs.Board.{BoardState as BoardOf, happens};
+ghost use Rattle.brd_board.specs.Board.{BoardState as BoardOf};
 ghost use Rattle.brd_journal.specs.Playing.{IsPlayed};
 ghost use Rattle.brd_journal.specs.Runs.{ComesBehind};
-ghost use Rattle.brd_cover.specs.Counts.{CountsAt, executed_by, place_in};
+ghost use Rattle.brd_cover.specs.Counts.{CountsAt, executed_by, if_fetched, place_by, place_in};
 
 use crate::calls::Calls;
 use crate::counts::Counts;
@@ -13,7 +13,7 @@ use crate::edges::{has_ended, is_taken, lead_in, owner_of};
 use crate::stacks::Stack;
 use brd_base::NoMemory;
 use brd_board::Report;
-use brd_happening::{Before, Happening};
+use brd_happening::{Before, Found, Happening};
 use brd_journal::{Journal, Playback, Run};
 use std::alloc::Global;
 
@@ -26,8 +26,6 @@ pub struct Counting {
     pub counts: Counts,
     pub(crate) calls: Calls,
     stacks: Vec<Stack>,
-    /// How many steps executed an instruction.
-    pub(crate) steps: u64,
     near: usize,
 }
 
@@ -41,7 +39,6 @@ impl Counting {
             counts: Counts::new(alloc),
             calls: Calls::new(alloc),
             stacks: Vec::new(alloc),
-            steps: 0,
             near: 0,
         }
     }
@@ -72,7 +69,7 @@ impl Counting {
         ensures goes { OnOk result (self.old.playback.at < self.new.playback.at) }
         // what the first of them executed is counted
         ensures counted { OnOk result (CountsAt self.old.counts.words.items self.new.counts.words.items
-            (place_in (happens self.old.playback.board rest.event).report)) }
+            (place_in self.old.playback.board rest.event)) }
         ensures played { (boot : BoardOf) (events : ListOf EventOf) → to ≤ length events
             → ComesBehind events self.old.playback.at rest → IsPlayed boot events self.old.playback
             → IsPlayed boot events self.new.playback }
@@ -84,22 +81,41 @@ impl Counting {
             return Ok(());
         };
         let happening = before.happening(alloc, moved.report, &self.playback.board)?;
-        self.counts.note(address, is_taken(&happening.what))?;
-        self.note(alloc, &happening, address)
+        let executed = if_fetched(&before.found, address);
+        self.count(executed, is_taken(&happening.what))?;
+        self.note(alloc, &happening, executed)
     }
 
-    /// Counts a step at an address to whom it is.
-    fn note(&mut self, alloc: Global, happening: &Happening, address: u32) -> Result<(), NoMemory>
+    /// Counts that an instruction was executed, if one was, and whether it was a branch that was taken.
+    fn count(&mut self, executed: Option<u32>, taken: bool) -> Result<(), NoMemory>
+        ensures playback { self.new.playback ≡ self.old.playback }
+        ensures counts { OnOk result (CountsAt self.old.counts.words.items self.new.counts.words.items
+            (place_by executed)) }
+    {
+        match executed {
+            Some(address) => self.counts.note(address, taken),
+            None => Ok(()),
+        }
+    }
+
+    /// Counts a step to whom it is: the instruction that it executed, if there is one, and whether he has ended by it.
+    fn note(
+        &mut self,
+        alloc: Global,
+        happening: &Happening,
+        executed: Option<u32>,
+    ) -> Result<(), NoMemory>
         ensures playback { self.new.playback ≡ self.old.playback }
         ensures counts { self.new.counts ≡ self.old.counts }
     {
-        self.steps = self.steps.saturating_add(1);
         let owner = owner_of(happening.cpu.unwrap_or(0), happening.who);
         let place = self.stack_of(alloc, owner)?;
         let Some(stack) = self.stacks.get_mut(place) else {
             return Ok(());
         };
-        stack.step(&mut self.calls, address, lead_in(happening, address))?;
+        if let Some(address) = executed {
+            stack.step(&mut self.calls, address, lead_in(happening, address))?;
+        }
         if has_ended(&happening.what) {
             stack.close(&mut self.calls);
         }
@@ -129,12 +145,22 @@ impl Counting {
     }
 }
 
-/// The address of the instruction that an event executed, if it reports one.
+/// The address of the instruction that a step was at, if it reports one.
 fn executed_by(report: Report) -> Option<u32>
     ensures { result ≡ executed_by report }
 {
     match report {
         Report::Ran(address) | Report::Called(address) | Report::Faulted(address) => Some(address),
+        _ => None,
+    }
+}
+
+/// The address of an instruction that a step was at, if it found a word there.
+fn if_fetched(found: &Option<Found>, address: u32) -> Option<u32>
+    ensures { result ≡ if_fetched found.now address }
+{
+    match found {
+        Some(found) if found.word.is_some() => Some(address),
         _ => None,
     }
 }

@@ -4,7 +4,7 @@ ghost use Rattle.std.specs.Prelude.{IfOk, codes};
 ghost use Rattle.brd_timeline.specs.Ends.{EndsWith};
 
 use crate::counts::Count;
-use crate::text::{put, put_decimal, put_line, put_name};
+use crate::text::{put, put_decimal, put_line, put_name, put_path};
 use brd_base::NoMemory;
 use std::alloc::Global;
 
@@ -122,7 +122,7 @@ impl Record {
             return Ok(());
         }
         put(to, "SF:")?;
-        put_name(to, file)?;
+        put_path(to, file)?;
         put(to, "\n")?;
         to.extend_from_slice(&self.starts)?;
         to.extend_from_slice(&self.calls)?;

@@ -1,10 +1,12 @@
 //! Pieces of text.
 
-ghost use Rattle.std.specs.Prelude.{IfOk, codes};
+ghost use Rattle.std.specs.Prelude.{◌≡◌, ◌++◌, IfOk, OnOk, codes};
+ghost use Rattle.std.specs.List.{flat_map};
+ghost use Rattle.brd_cover.specs.Names.{name_byte, path_byte};
 ghost use Rattle.brd_timeline.specs.Ends.{EndsWith};
 
 use brd_base::NoMemory;
-use brd_text::hex_digits;
+use brd_listing::write_name;
 use itoa::Buffer;
 
 /// Puts a text at the end.
@@ -31,17 +33,46 @@ pub(crate) fn put_line(to: &mut Vec<u8>, text: &str, number: u64) -> Result<(), 
     put(to, "\n")
 }
 
-/// Puts a name at the end: a byte that would end a line, or its part, as `\x0a`.
-pub(crate) fn put_name(to: &mut Vec<u8>, name: &[u8]) -> Result<(), NoMemory> {
+/// Puts the name of a function at the end, as text shows it, and a comma, which ends a part of a line, as `\x2c`.
+pub(crate) fn put_name(to: &mut Vec<u8>, name: &[u8]) -> Result<(), NoMemory>
+    ensures { OnOk result (to.new.items ≡ to.old.items ++ flat_map name_byte name.now) }
+{
     for byte in name {
-        if *byte < b' ' || *byte == 0x7f || *byte == b',' {
-            let [.., high, low] = hex_digits(u32::from(*byte));
-            to.extend_from_slice(&[b'\\', b'x', high, low])?;
-        } else {
-            to.push(*byte)?;
-        }
+        put_name_byte(to, *byte)?;
     }
     Ok(())
+}
+
+/// Puts a byte of the name of a function at the end.
+fn put_name_byte(to: &mut Vec<u8>, byte: u8) -> Result<(), NoMemory>
+    ensures { OnOk result (to.new.items ≡ to.old.items ++ name_byte byte) }
+{
+    if byte == b',' {
+        to.extend_from_slice(b"\\x2c")?;
+        return Ok(());
+    }
+    write_name(&[byte], to)
+}
+
+/// Puts the path of a file at the end, by which the tools open it: a control character of ASCII as `\xHH`.
+pub(crate) fn put_path(to: &mut Vec<u8>, path: &[u8]) -> Result<(), NoMemory>
+    ensures { OnOk result (to.new.items ≡ to.old.items ++ flat_map path_byte path.now) }
+{
+    for byte in path {
+        put_path_byte(to, *byte)?;
+    }
+    Ok(())
+}
+
+/// Puts a byte of a path at the end.
+fn put_path_byte(to: &mut Vec<u8>, byte: u8) -> Result<(), NoMemory>
+    ensures { OnOk result (to.new.items ≡ to.old.items ++ path_byte byte) }
+{
+    if byte >= 0x80 {
+        to.push(byte)?;
+        return Ok(());
+    }
+    write_name(&[byte], to)
 }
 
 #[cfg(test)]
@@ -52,8 +83,16 @@ mod tests {
     #[test]
     fn names_stay_in_their_line(rt: HostRuntime) -> Result<(), Fail> {
         let mut text = Vec::new(rt.alloc());
-        put_name(&mut text, b"a,b\nc")?;
-        assert!(rt; text.as_slice() == b"a\\x2cb\\x0ac".as_slice());
+        put_name(&mut text, b"a,b\n\xc3\xa4")?;
+        assert!(rt; text.as_slice() == b"a\\x2cb\\x0a\\xc3\\xa4".as_slice());
+        Ok(())
+    }
+
+    #[test]
+    fn paths_stay_in_their_line(rt: HostRuntime) -> Result<(), Fail> {
+        let mut text = Vec::new(rt.alloc());
+        put_path(&mut text, b"a,\x1b/\xc3\xa4.c")?;
+        assert!(rt; text.as_slice() == b"a,\\x1b/\xc3\xa4.c".as_slice());
         Ok(())
     }
 }

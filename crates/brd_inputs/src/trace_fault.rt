@@ -9,7 +9,7 @@ pub enum TraceFault {
     #[error("there are no events from {0} to {1}: the journal has {2}")]
     NoEvents(u64, u64, u64),
     /// There is no such form.
-    #[error("its formats are text, json, svg and html")]
+    #[error("its formats are text, json, svg, html, lcov and callgrind")]
     NoSuchFormat,
     /// A name of a word is that of no symbol.
     #[error("--word names a symbol that the object file doesn't have")]
