@@ -14,7 +14,7 @@ pub enum OrderFault {
     #[error("out of memory")]
     NoMemory,
     /// More words are touched than are kept.
-    #[error("more than 2097152 touches of words that differ by word, processor or task, and kind")]
+    #[error("more than 2097152 touches that differ by word, task or handler, and kind")]
     TooManyTouches,
     /// More things order strands than are kept.
     #[error("more than 65536 things that order tasks and handlers")]
