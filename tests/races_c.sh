@@ -3,7 +3,9 @@
 # tests/races_c.sh PROGRAM. The first line of each program of tests/racing_c says how many words have a race, and at -O0
 # where that is another number. two.journal lets the processors meet.
 . "$(dirname "$0")/check.sh"
-have make "races of programs in C" && have python3 "races of programs in C" || { summary; exit; }
+for tool in make python3; do
+    have "$tool" "races of programs in C" || { summary; exit; }
+done
 
 # wanted SOURCE LEVEL: how many words are to have a race.
 wanted() {
