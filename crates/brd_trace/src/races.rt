@@ -1,7 +1,15 @@
 //! Data races in words.
 
 ghost use Rattle.std.specs.Prelude.{◌≡◌, ◌++◌, OnOk};
-ghost use Rattle.brd_trace.specs.Races.{mark_text, marks_text, race_text, races_text, strand_text, touch_text};
+ghost use Rattle.brd_trace.specs.Races.{
+  mark_text,
+  marks_text,
+  pair_text,
+  race_text,
+  races_text,
+  strand_text,
+  touch_text,
+};
 
 use crate::names::Names;
 use crate::text::{put, put_count, put_named};
@@ -35,14 +43,30 @@ fn put_race(alloc: Global, names: Names, race: &Race, out: &mut Vec<u8>) -> Resu
     put_marks(alloc, names, race, out)
 }
 
-/// Puts both touches of a race at the end.
+/// Puts both touches of a race at the end, that of the earlier event first.
 fn put_marks(alloc: Global, names: Names, race: &Race, out: &mut Vec<u8>) -> Result<(), NoMemory>
     ensures { OnOk result (out.new.items ≡ out.old.items ++ marks_text names.entry race.now) }
 {
+    if race.later.event < race.earlier.event {
+        return put_pair(alloc, names, &race.later, &race.earlier, out);
+    }
+    put_pair(alloc, names, &race.earlier, &race.later, out)
+}
+
+/// Puts two touches at the end.
+fn put_pair(
+    alloc: Global,
+    names: Names,
+    first: &Mark,
+    second: &Mark,
+    out: &mut Vec<u8>,
+) -> Result<(), NoMemory>
+    ensures { OnOk result (out.new.items ≡ out.old.items ++ pair_text names.entry first.now second.now) }
+{
     put(out, ": ")?;
-    put_mark(alloc, names, &race.earlier, out)?;
+    put_mark(alloc, names, first, out)?;
     put(out, "; ")?;
-    put_mark(alloc, names, &race.later, out)?;
+    put_mark(alloc, names, second, out)?;
     put(out, "\n")
 }
 
@@ -73,9 +97,9 @@ fn put_touch(touch: &Touch, out: &mut Vec<u8>) -> Result<(), NoMemory>
     ensures { OnOk result (out.new.items ≡ out.old.items ++ touch_text touch.now) }
 {
     match (touch.stores, touch.synchronizes) {
-        (true, true) => put(out, ", stores by SC"),
+        (true, true) => put(out, ", stores, synchronizing"),
         (true, false) => put(out, ", stores"),
-        (false, true) => put(out, ", loads by LL"),
+        (false, true) => put(out, ", loads, synchronizing"),
         (false, false) => put(out, ", loads"),
     }
 }
