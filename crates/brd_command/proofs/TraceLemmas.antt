@@ -24,7 +24,7 @@ use Rattle.brd_trace.specs.Summary.{IsEnd, IsSummary}
 use Rattle.brd_report.specs.Output.{Writes}
 use Rattle.brd_command.specs.TraceCommand.{EndsDrawing, IsPicture, TellsSpins, WritesAsked}
 use Rattle.brd_command.specs.TraceCommand.{EndsRacing, KeepsFromTracing, WritesAllRaces, WritesAllStacks, WritesOther, WritesShown}
-use Rattle.brd_command.specs.RacesCommand.{WritesRaces}
+use Rattle.brd_command.specs.RacesCommand.{AreTooMany, WritesRaces}
 use Rattle.brd_command.specs.StacksCommand.{WritesStacks}
 use Rattle.brd_trace.specs.declared.names.Names.{Names}
 use Rattle.brd_inputs.specs.declared.trace_fault.TraceFault.{TraceFault}
@@ -282,39 +282,43 @@ svg-ends start options part old new (Ok done) is svg races stacks lines written 
 -- races were looked for, as the options ask
 
 of_racing : (fault : CommandFault) (options : TraceOptions) (start : Start) (names : Names) (to : ℕ) (old new : Option (List ℕ)) → options.races ≡ true
-    → EndsRacing (Err fault) names start.board start.journal.events to old new → EndsTracing (Err fault) options start old new
-of_racing fault.NoMemory options start names to old new races of = tt
-of_racing fault.Argument options start names to old new races of = absurd of
-of_racing (fault.Words a) options start names to old new races of = absurd of
-of_racing (fault.Source a b c) options start names to old new races of = absurd of
-of_racing fault.ImageTooLarge options start names to old new races of = absurd of
-of_racing (fault.Open a b) options start names to old new races of = absurd of
-of_racing (fault.Read a b) options start names to old new races of = absurd of
-of_racing (fault.TooLong a) options start names to old new races of = absurd of
-of_racing (fault.TooManyReads a) options start names to old new races of = absurd of
-of_racing (fault.Build a b) options start names to old new races of = absurd of
-of_racing (fault.Journal a b) options start names to old new races of = absurd of
-of_racing (fault.OtherOrder a) options start names to old new races of = absurd of
-of_racing (fault.Script a b) options start names to old new races of = absurd of
-of_racing (fault.Race a) options start names to old new races of = absurd of
-of_racing (fault.Trace a) options start names to old new races of =
-    (subst (λ (f : TraceFault). KeepsFromTracing options start f) (sym of.0) races, of.1)
-of_racing (fault.Schedule a) options start names to old new races of = absurd of
-of_racing (fault.Search a) options start names to old new races of = absurd of
-of_racing fault.Fails options start names to old new races of = absurd of
-of_racing fault.Passes options start names to old new races of = absurd of
-of_racing (fault.Write a) options start names to old new races of = tt
+    → to ≡ end_of options (length start.journal.events)
+    → EndsRacing (Err fault) names start.config.queues start.board start.journal.events to old new → EndsTracing (Err fault) options start old new
+of_racing fault.NoMemory options start names to old new races is of = tt
+of_racing fault.Argument options start names to old new races is of = absurd of
+of_racing (fault.Words a) options start names to old new races is of = absurd of
+of_racing (fault.Source a b c) options start names to old new races is of = absurd of
+of_racing fault.ImageTooLarge options start names to old new races is of = absurd of
+of_racing (fault.Open a b) options start names to old new races is of = absurd of
+of_racing (fault.Read a b) options start names to old new races is of = absurd of
+of_racing (fault.TooLong a) options start names to old new races is of = absurd of
+of_racing (fault.TooManyReads a) options start names to old new races is of = absurd of
+of_racing (fault.Build a b) options start names to old new races is of = absurd of
+of_racing (fault.Journal a b) options start names to old new races is of = absurd of
+of_racing (fault.OtherOrder a) options start names to old new races is of = absurd of
+of_racing (fault.Script a b) options start names to old new races is of = absurd of
+of_racing (fault.Race a) options start names to old new races is of = absurd of
+of_racing (fault.Trace a) options start names to old new races is of = (
+  subst (λ (f : TraceFault). KeepsFromTracing options start f) (sym of.0)
+      (races, subst (λ (n : ℕ). AreTooMany start.config.queues start.board start.journal.events n) is of.1.0),
+  of.1.1,
+)
+of_racing (fault.Schedule a) options start names to old new races is of = absurd of
+of_racing (fault.Search a) options start names to old new races is of = absurd of
+of_racing fault.Fails options start names to old new races is of = absurd of
+of_racing fault.Passes options start names to old new races is of = absurd of
+of_racing (fault.Write a) options start names to old new races is of = tt
 
 pub races-end : (start : Start) (options : TraceOptions) (part : Part) (names : Names) (old new : Option (List ℕ)) (result : Result Unit CommandFault) →
     IsPart options (length start.journal.events) part → options.races ≡ true → names.symbols.now ≡ start.image.symbols → names.segments.now ≡ start.image.segments →
-    EndsRacing result names start.board start.journal.events part.to old new → EndsTracing result options start old new
-races-end start options part names old new (Err fault) is races symbols segments ends = of_racing fault options start names part.to old new races ends
+    EndsRacing result names start.config.queues start.board start.journal.events part.to old new → EndsTracing result options start old new
+races-end start options part names old new (Err fault) is races symbols segments ends = of_racing fault options start names part.to old new races is.to ends
 races-end start options part names old new (Ok done) is races symbols segments ends =
     let all : WritesAllRaces start options old new = record {
       names = names;
       symbols = symbols;
       segments = segments;
-      races = subst (λ (n : ℕ). WritesRaces names start.board start.journal.events n old new) is.to ends;
+      races = subst (λ (n : ℕ). WritesRaces names start.config.queues start.board start.journal.events n old new) is.to ends;
     } in
     (in-order options (length start.journal.events) part is, subst (λ (b : Bool). MatchBool b (WritesAllRaces start options old new) (WritesOther start options old new)) (sym races) all)
 

@@ -4,6 +4,7 @@ use Rattle.std.specs.Prelude.{[], is_some, option_map, unwrap_or, Result, Ok, Er
 use Rattle.std.specs.Bool.{MatchBool}
 use Rattle.std.specs.Io.KnownBytes.{Appends, Keeps}
 use Rattle.brd_mem.specs.declared.image.{Image.Image, Symbol.Symbol}
+use Rattle.brd_config.specs.declared.objects.QueueConfig.{QueueConfig}
 use Rattle.brd_board.specs.declared.event.Event.{Event}
 use Rattle.brd_board.specs.Board.{BoardState}
 use Rattle.brd_timeline.specs.declared.timeline.Timeline.{Timeline}
@@ -32,7 +33,7 @@ use Rattle.brd_inputs.specs.declared.fault.CommandFault.{CommandFault}
 use Rattle.brd_inputs.specs.declared.fault.CommandFault.TheVariants.{NoMemory, Trace, Write}
 use Rattle.brd_inputs.specs.declared.input_name.InputName.TheVariants as input_name
 use Rattle.brd_inputs.specs.declared.start.Start.{Start}
-use Rattle.brd_command.specs.RacesCommand.{WritesRaces}
+use Rattle.brd_command.specs.RacesCommand.{AreTooMany, WritesRaces}
 use Rattle.brd_command.specs.StacksCommand.{WritesStacks}
 use Rattle.brd_command.specs.declared.trace_command.Part.{Part}
 use Rattle.brd_inputs.specs.declared.trace_fault.TraceFault.{TraceFault}
@@ -91,7 +92,9 @@ KeepsFromTracing options start NoWord = words_asked options start ≡ Err no.NoW
 KeepsFromTracing options start TooMuch = (options.format ≡ Some Svg) × (options.summary ≡ false)
 KeepsFromTracing options start TooLong = (options.format ≡ Some Html) × (options.summary ≡ false)
 KeepsFromTracing options start TooManySteps = ⊥
-KeepsFromTracing options start TooManyTouches = options.races ≡ true
+KeepsFromTracing options start TooManyTouches =
+    (options.races ≡ true)
+    × AreTooMany start.config.queues start.board start.journal.events (end_of options (length start.journal.events))
 
 -- it is that of these words, or lack of memory
 abbrev pub IsOfWords : Result (List ℕ) WordsFault → CommandFault → Type 0
@@ -229,7 +232,9 @@ pub record WritesAllRaces (start : Start) (options : TraceOptions) (old new : Op
   pub names : Names
   pub symbols : names.symbols.now ≡ start.image.symbols
   pub segments : names.segments.now ≡ start.image.segments
-  pub races : WritesRaces names start.board start.journal.events (end_of options (length start.journal.events)) old new
+  pub races :
+      WritesRaces names start.config.queues start.board start.journal.events
+      (end_of options (length start.journal.events)) old new
 
 -- a summary of the board after the events up to where the options end was written, by the names of the image
 pub record WritesWholeSummary (start : Start) (options : TraceOptions) (old new : Option (List ℕ)) : Type 0 where
@@ -281,18 +286,13 @@ EndsPaging (Ok done) old new = Writes IsRunPage old new
 EndsPaging (Err (Trace fault)) old new = (fault ≡ TooLong) × Keeps old new
 EndsPaging (Err fault) old new = IsOfWriting fault
 
--- what keeps races from being told: want of memory, or that there are too many touches
-abbrev pub IsNoRace : CommandFault → Type 0
-IsNoRace NoMemory = Unit {0}
-IsNoRace (Trace fault) = fault ≡ TooManyTouches
-IsNoRace fault = ⊥
-
 -- how races end that are looked for: they are written, or there are too many touches, and then nothing is; or as above
-abbrev pub EndsRacing : Result Unit CommandFault → Names → BoardState → List Event → ℕ → Option (List ℕ) →
-    Option (List ℕ) → Type 0
-EndsRacing (Ok done) names board events to old new = WritesRaces names board events to old new
-EndsRacing (Err (Trace fault)) names board events to old new = (fault ≡ TooManyTouches) × Keeps old new
-EndsRacing (Err fault) names board events to old new = IsOfWriting fault
+abbrev pub EndsRacing : Result Unit CommandFault → Names → List QueueConfig → BoardState → List Event → ℕ →
+    Option (List ℕ) → Option (List ℕ) → Type 0
+EndsRacing (Ok done) names queues board events to old new = WritesRaces names queues board events to old new
+EndsRacing (Err (Trace fault)) names queues board events to old new =
+    (fault ≡ TooManyTouches) × (AreTooMany queues board events to × Keeps old new)
+EndsRacing (Err fault) names queues board events to old new = IsOfWriting fault
 
 -- How a trace ends of a board and a journal. Where the options give none, nothing is written.
 abbrev pub EndsTracing : Result Unit CommandFault → TraceOptions → Start → Option (List ℕ) → Option (List ℕ) → Type 0

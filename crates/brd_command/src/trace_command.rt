@@ -158,7 +158,9 @@ fn write_trace<W: Write, P: Progress>(
     let symbols = Places::new(alloc, image.symbols.as_slice())?;
     let names = Names::with_lines(&symbols, image.segments.as_slice(), &source.lines);
     if options.races {
-        return write_races(alloc, board, names, &journal, part.to, writer, progress);
+        return write_races(
+            alloc, board, &config, names, &journal, part.to, writer, progress,
+        );
     }
     if options.stacks {
         return write_stacks(
