@@ -1,2 +1,2 @@
+mod LoopLemmas
 mod RacingLemmas
-mod DeedLemmas

@@ -1,58 +1,162 @@
--- What is done in an event, and who does it. A strand is who acts: a task, which keeps its strand wherever it runs and
--- however often it starts, or the handler of an interrupt line.
-use Rattle.std.specs.Prelude.{◌+◌, ◌-◌, ◌%◌, ◌==◌, nat_lt, ℕ, Bool, true, false, if◌then◌else◌, Option, None, Some}
-use Rattle.std.specs.Option.{option_map}
-use Rattle.brd_isa.specs.declared.instruction.Insn.{Insn}
+-- What orders tasks and handlers, row by row of the table of docs/TRACE.md: what is released into, and who acquires
+-- from it. A strand is who acts: a task, which keeps its strand wherever it runs and however often it starts, or the
+-- handler of an interrupt line. Which call does which of these, `Calls.antt` says.
+use Rattle.std.specs.Prelude.{◌/◌, ◌%◌, ◌^◌, ◌==◌, ℕ, zero, suc, Bool, true, false, if◌then◌else◌, [], ◌∷◌, bit_and}
+use Rattle.std.specs.Prelude.{Option, None, Some}
 use Rattle.brd_tasks.specs.declared.task.TaskView.{TaskView}
-use Rattle.brd_kernel.specs.declared.processor.Standing.{Standing}
-use Rattle.brd_kernel.specs.declared.call.Call.{Call}
-use Rattle.brd_kernel.specs.declared.call.Call.TheVariants as call
-use Rattle.brd_sysgate.specs.Gate.{asked}
 use Rattle.brd_board.specs.Board.{BoardState, task_of}
-use Rattle.brd_happening.specs.declared.release.{AskedCall.AskedCall, Release.Release}
-use Rattle.brd_happening.specs.declared.call.{Answer.Answer, CallMade.CallMade}
-use Rattle.brd_happening.specs.declared.call.Answer.TheVariants.{Given, Waits, Again, Never}
-use Rattle.brd_happening.specs.declared.instruction.{AccessKind.AccessKind, Access.Access, Instruction.Instruction}
-use Rattle.brd_happening.specs.declared.instruction.AccessKind.TheVariants.{Loads, Stores, StoresIfLinked}
-use Rattle.brd_happening.specs.declared.happening.{What.What, Happening.Happening}
-use Rattle.brd_happening.specs.declared.happening.What.TheVariants as what
-use Rattle.brd_order.specs.declared.deed.{Act.Act, Touch.Touch}
-use Rattle.brd_order.specs.declared.deed.Act.TheVariants.{Touches, Acquires, Releases}
+use Rattle.brd_order.specs.declared.deed.Touch.{Touch}
 use Rattle.brd_deeds.specs.declared.thing.ThingKind.{ThingKind}
 use Rattle.brd_deeds.specs.declared.thing.ThingKind.TheVariants as thing
-use Rattle.brd_deeds.specs.declared.acts.{Done.Done, Acts.Acts, Doer.Doer}
-use Rattle.brd_deeds.specs.Things.{number_of}
-use Rattle.brd_deeds.specs.Touches.{size_by, is_linked, touch_at}
+use Rattle.brd_deeds.specs.declared.past.{Stamp.Stamp}
+use Rattle.brd_deeds.specs.declared.log.{Doer.Doer, Log.Log}
+use Rattle.brd_deeds.specs.Things.{whole, part_of}
+use Rattle.brd_deeds.specs.Touches.{synchronizing}
+use Rattle.brd_deeds.specs.Past.{hold_in, with_hold, touches, acquires, releases, hears, heeds, notes}
 
-abbrev pub none : Acts
-none = record { first = None; second = None; third = None }
+-- who executes releases into a thing, and acquires from it
 
-abbrev pub one : Done → Acts
-one first = record { first = Some first; second = None; third = None }
+abbrev pub releases_into : Doer → ThingKind → ℕ → Log → Log
+releases_into doer kind id = notes doer.stamp (releases doer.strand (whole kind id) ∷ [])
 
-abbrev pub both : Done → Done → Acts
-both first second = record { first = Some first; second = Some second; third = None }
+abbrev pub acquires_from : Doer → ThingKind → ℕ → Log → Log
+acquires_from doer kind id = notes doer.stamp (acquires doer.strand (whole kind id) ∷ [])
 
-abbrev pub acquires : ℕ → ThingKind → ℕ → Done
-acquires strand kind id = record { strand = strand; act = Acquires (number_of (record { kind = kind; id = id })) }
+-- A semaphore.
 
-abbrev pub releases : ℕ → ThingKind → ℕ → Done
-releases strand kind id = record { strand = strand; act = Releases (number_of (record { kind = kind; id = id })) }
+-- sig_sem, isig_sem
+abbrev pub gives_unit : Doer → ℕ → Log → Log
+gives_unit doer id = releases_into doer thing.Semaphore id
 
-abbrev pub touches : ℕ → Touch → Done
-touches strand touch = record { strand = strand; act = Touches touch }
+-- who gets a unit, at once or when its wait ends
+abbrev pub gets_unit : Doer → ℕ → Log → Log
+gets_unit doer id = acquires_from doer thing.Semaphore id
 
--- a task's strand is its ID, a handler's 256 and its line
-abbrev pub strand_of : Option Standing → Option ℕ
-strand_of (Some (Standing.Task id)) = Some id
-strand_of (Some (Standing.Handler line)) = Some (256 + line)
-strand_of (Some Standing.Idle) = None
-strand_of (Some Standing.Stopped) = None
-strand_of None = None
+-- A bit of an event flag.
 
--- the task that a call names: 0 is the caller
-abbrev pub named : Doer → ℕ → ℕ
-named doer id = if id == 0 then doer.strand else id % 65536
+abbrev pub has_bit : ℕ → ℕ → Bool
+has_bit pattern bit = pattern / 2 ^ bit % 2 == 1
+
+-- set_flg, iset_flg that sets it
+
+abbrev pub sets_bit : Doer → ℕ → ℕ → ℕ → Log → Log
+sets_bit doer id bits bit log =
+    if has_bit bits bit then notes doer.stamp (releases doer.strand (part_of thing.FlagBit id bit) ∷ []) log else log
+
+-- the bits below a number, from 0 on
+unfoldable pub sets_below : Doer → ℕ → ℕ → ℕ → Log → Log
+sets_below doer id bits zero log = log
+sets_below doer id bits (suc n) log = sets_bit doer id bits n (sets_below doer id bits n log)
+
+abbrev pub sets_bits : Doer → ℕ → ℕ → Log → Log
+sets_bits doer id bits = sets_below doer id bits 32
+
+-- who waited for it, and had it set, at once or when the wait ends; the pattern is the call's second result
+
+abbrev pub gets_bit : Doer → ℕ → ℕ → ℕ → Log → Log
+gets_bit doer id bits bit log =
+    if has_bit bits bit then notes doer.stamp (acquires doer.strand (part_of thing.FlagBit id bit) ∷ []) log else log
+
+unfoldable pub gets_below : Doer → ℕ → ℕ → ℕ → Log → Log
+gets_below doer id bits zero log = log
+gets_below doer id bits (suc n) log = gets_bit doer id bits n (gets_below doer id bits n log)
+
+abbrev pub gets_bits : Doer → ℕ → ℕ → ℕ → Log → Log
+gets_bits doer id waited pattern = gets_below doer id (bit_and waited pattern) 32
+
+-- The datum in a place of a data queue.
+
+-- who sends it, at once or when its wait ends
+abbrev pub sends_datum : Doer → ℕ → ℕ → Log → Log
+sends_datum doer id place = notes doer.stamp (releases doer.strand (part_of thing.Datum id place) ∷ [])
+
+-- who gets it
+abbrev pub gets_datum : Doer → ℕ → ℕ → Log → Log
+gets_datum doer id place = notes doer.stamp (acquires doer.strand (part_of thing.Datum id place) ∷ [])
+
+-- The room in a place of a data queue.
+
+-- who gets the datum
+abbrev pub leaves_room : Doer → ℕ → ℕ → Log → Log
+leaves_room doer id place = notes doer.stamp (releases doer.strand (part_of thing.Room id place) ∷ [])
+
+-- who sends the next datum into it
+abbrev pub takes_room : Doer → ℕ → ℕ → Log → Log
+takes_room doer id place = notes doer.stamp (acquires doer.strand (part_of thing.Room id place) ∷ [])
+
+-- A rendezvous over a data queue of capacity 0.
+
+-- both, the sender and the receiver, whoever came first: each when it makes its call
+abbrev pub comes_to_meet : Doer → Log → Log
+comes_to_meet doer = releases_into doer thing.Meeting doer.strand
+
+-- both: who comes second, and the one that waited
+abbrev pub meets_other : ℕ → Doer → Log → Log
+meets_other second doer =
+    notes doer.stamp
+    (acquires second (whole thing.Meeting doer.strand) ∷ acquires doer.strand (whole thing.Meeting second) ∷ [])
+
+-- A spin lock.
+
+-- unl_spn
+abbrev pub frees_spin_lock : Doer → ℕ → Log → Log
+frees_spin_lock doer id = releases_into doer thing.SpinLock id
+
+-- loc_spn, try_spn that take it
+abbrev pub takes_spin_lock : Doer → ℕ → Log → Log
+takes_spin_lock doer id = acquires_from doer thing.SpinLock id
+
+-- A processor's CPU lock.
+
+abbrev pub releases_cpu : Doer → Log → Log
+releases_cpu doer = releases_into doer thing.Processor doer.cpu
+
+abbrev pub acquires_cpu : Doer → Log → Log
+acquires_cpu doer = acquires_from doer thing.Processor doer.cpu
+
+-- from then on its processor is CPU-locked, or not
+
+abbrev pub with_lock : Bool → Doer → Log → Log
+with_lock locked doer log = with_hold doer.cpu (record (hold_in log.past doer.cpu) { locked = locked }) log
+
+-- unl_cpu there if it was locked
+abbrev pub unlocks_cpu : Doer → Log → Log
+unlocks_cpu doer log =
+    with_lock false doer (if (hold_in log.past doer.cpu).locked then releases_cpu doer log else log)
+
+-- loc_cpu
+abbrev pub locks_cpu : Doer → Log → Log
+locks_cpu doer log = with_lock true doer (acquires_cpu doer log)
+
+-- unl_spn: it was locked
+abbrev pub gives_spin_lock_back : Doer → ℕ → Log → Log
+gives_spin_lock_back doer id log = with_lock false doer (releases_cpu doer (frees_spin_lock doer id log))
+
+-- a spin lock that is taken
+abbrev pub locks_by_spin_lock : Doer → ℕ → Log → Log
+locks_by_spin_lock doer id log = with_lock true doer (acquires_cpu doer (takes_spin_lock doer id log))
+
+-- ret_int there: `releases_cpu`; a handler that begins there: `acquires_cpu`
+
+-- A processor's dispatching.
+
+abbrev pub with_dispatching : Bool → Doer → Log → Log
+with_dispatching disabled doer log = with_hold doer.cpu (record (hold_in log.past doer.cpu) { disabled = disabled }) log
+
+abbrev pub releases_dispatching : Doer → Log → Log
+releases_dispatching doer = releases_into doer thing.Dispatching doer.cpu
+
+-- ena_dsp there if it was disabled
+abbrev pub enables_dispatching : Doer → Log → Log
+enables_dispatching doer log =
+    with_dispatching false doer (if (hold_in log.past doer.cpu).disabled then releases_dispatching doer log else log)
+
+-- dis_dsp there
+abbrev pub disables_dispatching : Doer → Log → Log
+disables_dispatching doer log =
+    with_dispatching true doer (acquires_from doer thing.Dispatching doer.cpu log)
+
+-- A task's starts.
 
 -- A start that was asked for and isn't queued has taken place.
 
@@ -63,147 +167,70 @@ is_unqueued (Some view) = view.activations == 0
 abbrev pub has_started : BoardState → ℕ → Bool
 has_started after task = is_unqueued (task_of after task)
 
-abbrev pub starting : Doer → ℕ → Bool → Acts
-starting doer task started =
-    if started then both (releases doer.strand thing.Start task) (acquires task thing.Start task)
-    else one (releases doer.strand thing.Start task)
+-- the task, when it starts
+abbrev pub starts : Stamp → ℕ → Log → Log
+starts stamp task = notes stamp (acquires task (whole thing.Start task) ∷ [])
 
--- A task gets what it asked for, at once or when its wait ends: a unit, bits, a datum (and gives the datum's place up),
--- a place for its own datum, a wake-up.
-abbrev pub acts_taken : ℕ → Call → Acts
-acts_taken strand (call.TwaiSem id timeout) = one (acquires strand thing.Semaphore id)
-acts_taken strand (call.TwaiFlg id bits mode timeout) = one (acquires strand thing.Flag id)
-acts_taken strand (call.TrcvDtq id timeout) = both (acquires strand thing.Queue id) (releases strand thing.Room id)
-acts_taken strand (call.TsndDtq id datum timeout) = one (acquires strand thing.Room id)
-acts_taken strand (call.TslpTsk timeout) = one (acquires strand thing.WakeUp strand)
-acts_taken strand _ = none
+-- act_tsk, mact_tsk, iact_tsk, imact_tsk; where the start isn't queued the task begins
+abbrev pub asks_to_start : Doer → ℕ → BoardState → Log → Log
+asks_to_start doer task after log =
+    let asked = releases_into doer thing.Start task log in
+    if has_started after task then starts doer.stamp task asked else asked
 
--- a task ends, and waits for the end of another one or its suspension
-abbrev pub halting : Doer → ℕ → Acts
-halting doer task = both (releases task thing.Halt task) (acquires doer.strand thing.Halt task)
+-- can_act of it that takes some back
+abbrev pub takes_starts_back : Doer → ℕ → Log → Log
+takes_starts_back doer task = acquires_from doer thing.Start task
 
--- A call was done at once, which was answered with E_OK.
-abbrev pub acts_done : Doer → Call → BoardState → Acts
-acts_done doer (call.ActTsk id) after = starting doer (named doer id) (has_started after (named doer id))
-acts_done doer (call.IactTsk id) after = starting doer (named doer id) (has_started after (named doer id))
-acts_done doer (call.MactTsk id cpu) after = starting doer (named doer id) (has_started after (named doer id))
-acts_done doer (call.ImactTsk id cpu) after = starting doer (named doer id) (has_started after (named doer id))
-acts_done doer (call.WupTsk id) after = one (releases doer.strand thing.WakeUp (named doer id))
-acts_done doer (call.IwupTsk id) after = one (releases doer.strand thing.WakeUp (named doer id))
-acts_done doer (call.RelWai id) after = one (releases doer.strand thing.Going (named doer id))
-acts_done doer (call.RsmTsk id) after =
-    both (releases doer.strand thing.Going (named doer id)) (acquires (named doer id) thing.Going (named doer id))
-acts_done doer (call.SusTsk id) after = halting doer (named doer id)
-acts_done doer (call.TerTsk id) after =
-    record (halting doer (named doer id)) { third = Some (acquires (named doer id) thing.Start (named doer id)) }
-acts_done doer (call.SigSem id) after = one (releases doer.strand thing.Semaphore id)
-acts_done doer (call.SetFlg id bits) after = one (releases doer.strand thing.Flag id)
-acts_done doer (call.TsndDtq id datum timeout) after =
-    both (releases doer.strand thing.Queue id) (acquires doer.strand thing.Room id)
-acts_done doer (call.FsndDtq id datum) after =
-    both (releases doer.strand thing.Queue id) (acquires doer.strand thing.Room id)
-acts_done doer call.LocCpu after = one (acquires doer.strand thing.Processor doer.cpu)
-acts_done doer call.UnlCpu after = one (releases doer.strand thing.Processor doer.cpu)
-acts_done doer call.DisDsp after = one (acquires doer.strand thing.Dispatching doer.cpu)
-acts_done doer call.EnaDsp after = one (releases doer.strand thing.Dispatching doer.cpu)
-acts_done doer (call.LocSpn id) after =
-    both (acquires doer.strand thing.SpinLock id) (acquires doer.strand thing.Processor doer.cpu)
-acts_done doer (call.TrySpn id) after =
-    both (acquires doer.strand thing.SpinLock id) (acquires doer.strand thing.Processor doer.cpu)
-acts_done doer (call.UnlSpn id) after =
-    both (releases doer.strand thing.SpinLock id) (releases doer.strand thing.Processor doer.cpu)
-acts_done doer other after = acts_taken doer.strand other
+-- A task's wake-ups.
 
--- a call's caller waits: a sender has sent its datum already
-abbrev pub acts_waiting : ℕ → Call → Acts
-acts_waiting strand (call.TsndDtq id datum timeout) = one (releases strand thing.Queue id)
-acts_waiting strand _ = none
+-- wup_tsk, iwup_tsk
+abbrev pub wakes_up : Doer → ℕ → Log → Log
+wakes_up doer task = releases_into doer thing.WakeUp task
 
--- A task ends, by ext_tsk or an exception, or a handler by ret_int. A task that starts again does so after who asked for
--- that. A lock that a task holds when it ends is freed, but nothing is released into it.
-abbrev pub acts_ended : Doer → Acts
-acts_ended doer =
-    if nat_lt doer.strand 256 then one (acquires doer.strand thing.Start doer.strand)
-    else one (releases doer.strand thing.Processor doer.cpu)
+-- its slp_tsk, tslp_tsk, answered with E_OK; can_wup of it that takes some back
+abbrev pub takes_wake_up : Doer → ℕ → Log → Log
+takes_wake_up doer task = acquires_from doer thing.WakeUp task
 
-abbrev pub call_in : AskedCall → Option Call
-call_in it = option_map (λ a. a.call) (asked it.number it.arguments)
+-- A task's waits and suspensions.
 
-abbrev pub acts_answered : Doer → Call → Answer → BoardState → Acts
-acts_answered doer call (Given code second) after = if code == 0 then acts_done doer call after else none
-acts_answered doer call (Waits reason due) after = acts_waiting doer.strand call
-acts_answered doer call Again after = none
-acts_answered doer call Never after = acts_ended doer
+-- rel_wai, irel_wai
+abbrev pub lets_go_on : Doer → ℕ → Log → Log
+lets_go_on doer task = releases_into doer thing.Going task
 
-abbrev pub acts_asked : Doer → Option Call → Answer → BoardState → Acts
-acts_asked doer None answer after = none
-acts_asked doer (Some call) answer after = acts_answered doer call answer after
+-- the task, when it goes on
+abbrev pub goes_on : Stamp → ℕ → Log → Log
+goes_on stamp task = notes stamp (acquires task (whole thing.Going task) ∷ [])
 
-abbrev pub acts_called : Doer → CallMade → BoardState → Acts
-acts_called doer made after = acts_asked doer (call_in made.asked) made.answer after
+-- rsm_tsk, after which it goes on
+abbrev pub resumes : Doer → ℕ → Log → Log
+resumes doer task log = goes_on doer.stamp task (lets_go_on doer task log)
 
--- The wait of a task ended: with what it waited for (E_OK), by rel_wai (E_RLWAI), or in time.
+-- A task's end and suspension.
 
-abbrev pub acts_given : ℕ → ℕ → Option Call → Acts
-acts_given task code None = none
-acts_given task code (Some call) = if code == 0 then acts_taken task call else none
+-- the task; ter_tsk, sus_tsk of it
+abbrev pub halts : Doer → ℕ → Log → Log
+halts doer task =
+    notes doer.stamp (releases task (whole thing.Halt task) ∷ acquires doer.strand (whole thing.Halt task) ∷ [])
 
-abbrev pub acts_released : Release → Acts
-acts_released it =
-    if it.code == 4294967247 then one (acquires it.task thing.Going it.task)
-    else acts_given it.task it.code (call_in it.asked)
+-- A word.
 
--- An instruction touches a word. LL acquires from it, and SC that stores releases into it; else SC touches nothing.
-abbrev pub acts_loaded : ℕ → ℕ → Touch → Acts
-acts_loaded strand address touch =
-    if touch.synchronizes then both (acquires strand thing.Word (address - address % 4)) (touches strand touch)
-    else one (touches strand touch)
+-- an SC that stores into it, a releasing store into it
+abbrev pub stores_releasing : Doer → Touch → Log → Log
+stores_releasing doer touch =
+    notes doer.stamp
+    (touches doer.strand (synchronizing touch) ∷ releases doer.strand (whole thing.Word touch.word) ∷ [])
 
-abbrev pub acts_conditional : ℕ → ℕ → Touch → Bool → Acts
-acts_conditional strand address touch stored =
-    if stored then both (touches strand touch) (releases strand thing.Word (address - address % 4)) else none
+-- LL of it
+abbrev pub loads_linked : Doer → Touch → Log → Log
+loads_linked doer touch =
+    notes doer.stamp
+    (acquires doer.strand (whole thing.Word touch.word) ∷ touches doer.strand (synchronizing touch) ∷ [])
 
-abbrev pub does_store : AccessKind → Bool
-does_store Loads = false
-does_store Stores = true
-does_store (StoresIfLinked stored) = true
+-- An acquiring load of it: what was released when it loaded is acquired with the SYNC, when it is known that it is one.
 
-abbrev pub acts_by : ℕ → ℕ → Touch → AccessKind → Acts
-acts_by strand address touch Loads = acts_loaded strand address touch
-acts_by strand address touch Stores = one (touches strand touch)
-acts_by strand address touch (StoresIfLinked stored) = acts_conditional strand address touch stored
+abbrev pub begins_to_load : Doer → Touch → Log → Log
+begins_to_load doer touch = notes doer.stamp (hears doer.strand (whole thing.Word touch.word) ∷ [])
 
-abbrev pub acts_accessed : ℕ → Insn → Access → Acts
-acts_accessed strand insn access =
-    acts_by strand access.address (touch_at access.address (size_by insn) (does_store access.kind) (is_linked insn)) access.kind
-
-abbrev pub acts_if : ℕ → Insn → Option Access → Acts
-acts_if strand insn None = none
-acts_if strand insn (Some access) = acts_accessed strand insn access
-
-abbrev pub acts_instruction : ℕ → Instruction → Acts
-acts_instruction strand it = acts_if strand it.insn it.access
-
--- what who executes does in an event
-abbrev pub acts_in : Doer → What → BoardState → Acts
-acts_in doer (what.Instruction instruction) after = acts_instruction doer.strand instruction
-acts_in doer (what.Call made) after = acts_called doer made after
-acts_in doer (what.Exception exception) after = acts_ended doer
-acts_in doer _ after = none
-
-abbrev pub acts_by_strand : Option ℕ → ℕ → What → BoardState → Acts
-acts_by_strand None cpu what after = none
-acts_by_strand (Some strand) cpu what after = acts_in (record { strand = strand; cpu = cpu }) what after
-
--- a handler that begins comes after all CPU locks of its processor, and after its handlers before
-abbrev pub acts_on : ℕ → Option ℕ → What → BoardState → Acts
-acts_on cpu strand (what.Accepted line) after = one (acquires (256 + line) thing.Processor cpu)
-acts_on cpu strand other after = acts_by_strand strand cpu other after
-
-abbrev pub acts_at : Option ℕ → Option ℕ → What → BoardState → Acts
-acts_at None strand what after = none
-acts_at (Some cpu) strand what after = acts_on cpu strand what after
-
--- what is done in an event, but for what whom it releases does
-abbrev pub acts_of : Happening → BoardState → Acts
-acts_of told after = acts_at told.cpu (strand_of told.who) told.what after
+abbrev pub loads_acquiring : Doer → Touch → Stamp → Log → Log
+loads_acquiring doer touch loaded log =
+    notes loaded (touches doer.strand (synchronizing touch) ∷ []) (notes doer.stamp (heeds doer.strand ∷ []) log)

@@ -1,5 +1,9 @@
 pub mod Things
 pub mod Touches
+pub mod Past
 pub mod Acts
+pub mod Trails
+pub mod Places
+pub mod Calls
 pub mod Deeds
 pub mod Racing

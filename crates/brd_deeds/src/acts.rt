@@ -1,146 +1,65 @@
-//! What instructions and service calls do, and who does it.
+//! What orders tasks and handlers: what is released into, and who acquires from it.
 
-ghost use Rattle.std.specs.Prelude.{◌≡◌};
+ghost use Rattle.std.specs.Prelude.{◌≡◌, ◌<◌, OnOk};
 ghost use Rattle.brd_deeds.specs.Acts.{
-  acquires,
-  acts_accessed,
-  acts_by,
-  acts_called,
-  acts_conditional,
-  acts_done,
-  acts_ended,
-  acts_in,
-  acts_instruction,
-  acts_loaded,
-  acts_of,
-  acts_released,
-  acts_taken,
-  acts_waiting,
-  both,
-  call_in,
-  does_store,
+  acquires_cpu,
+  acquires_from,
+  asks_to_start,
+  begins_to_load,
+  comes_to_meet,
+  disables_dispatching,
+  enables_dispatching,
+  frees_spin_lock,
+  gets_bit,
+  gets_bits,
+  gets_datum,
+  gets_unit,
+  gives_spin_lock_back,
+  gives_unit,
+  goes_on,
+  halts,
+  has_bit,
   has_started,
-  named,
-  none,
-  one,
-  releases,
-  starting,
-  strand_of,
-  touches,
+  leaves_room,
+  lets_go_on,
+  loads_acquiring,
+  loads_linked,
+  locks_by_spin_lock,
+  locks_cpu,
+  meets_other,
+  releases_cpu,
+  releases_dispatching,
+  releases_into,
+  resumes,
+  sends_datum,
+  sets_bit,
+  sets_bits,
+  starts,
+  stores_releasing,
+  takes_room,
+  takes_spin_lock,
+  takes_starts_back,
+  takes_wake_up,
+  unlocks_cpu,
+  wakes_up,
+  with_dispatching,
+  with_lock,
 };
 
+use crate::log::{Doer, Done, Log};
+use crate::past::{Hold, Stamp};
 use crate::thing::{Thing, ThingKind};
-use crate::touch::{is_linked, size_by, touch_at};
-use brd_board::{Board, Standing};
-use brd_happening::{
-    Access, AccessKind, Answer, AskedCall, CallMade, Happening, Instruction, Release, What,
-};
-use brd_isa::Insn;
-use brd_kernel::Call;
-use brd_order::{Act, Touch};
-use brd_sysgate::service;
+use crate::touch::synchronizing;
+use brd_base::NoMemory;
+use brd_board::Board;
+use brd_order::Touch;
 
-/// The answer of a wait that rel_wai ended (E_RLWAI).
-const RELEASED: u32 = 0xffff_ffcf;
-
-/// What a strand does.
-#[derive(Clone, Copy)]
-pub(crate) struct Done {
-    /// Who.
-    pub strand: u16,
-    /// What.
-    pub act: Act,
-}
-
-/// Up to three things that are done, one after the other.
-#[derive(Clone, Copy)]
-pub(crate) struct Acts {
-    pub first: Option<Done>,
-    pub second: Option<Done>,
-    pub third: Option<Done>,
-}
-
-/// Who makes a call, and where.
-#[derive(Clone, Copy)]
-pub(crate) struct Doer {
-    /// The strand.
-    pub strand: u16,
-    /// The processor.
-    pub cpu: u8,
-}
-
-/// Nothing is done.
-fn none() -> Acts
-    ensures { result ≡ none }
+/// Whether a pattern has a bit.
+fn has_bit(pattern: u32, bit: u16) -> bool
+    requires { bit < 32 }
+    ensures { result ≡ has_bit pattern bit }
 {
-    Acts {
-        first: None,
-        second: None,
-        third: None,
-    }
-}
-
-/// One thing is done.
-fn one(first: Done) -> Acts
-    ensures { result ≡ one first }
-{
-    Acts {
-        first: Some(first),
-        second: None,
-        third: None,
-    }
-}
-
-/// Two things are done.
-fn both(first: Done, second: Done) -> Acts
-    ensures { result ≡ both first second }
-{
-    Acts {
-        first: Some(first),
-        second: Some(second),
-        third: None,
-    }
-}
-
-/// A strand acquires from a thing.
-fn acquires(strand: u16, kind: ThingKind, id: u32) -> Done
-    ensures { result ≡ acquires strand kind id }
-{
-    Done {
-        strand,
-        act: Act::Acquires(Thing { kind, id }.number()),
-    }
-}
-
-/// A strand releases into a thing.
-fn releases(strand: u16, kind: ThingKind, id: u32) -> Done
-    ensures { result ≡ releases strand kind id }
-{
-    Done {
-        strand,
-        act: Act::Releases(Thing { kind, id }.number()),
-    }
-}
-
-/// The strand of who executes on a processor: a task's is its ID, a handler's 256 and its line.
-fn strand_of(who: Option<Standing>) -> Option<u16>
-    ensures { result ≡ strand_of who }
-{
-    match who {
-        Some(Standing::Task(id)) => Some(id),
-        Some(Standing::Handler(line)) => Some(256 + u16::from(line)),
-        Some(Standing::Idle | Standing::Stopped) | None => None,
-    }
-}
-
-/// The task that a call names: 0 is the caller.
-fn named(doer: Doer, id: u32) -> u16
-    ensures { result ≡ named doer id }
-{
-    if id == 0 {
-        return doer.strand;
-    }
-    (id % 65_536) as u16
+    (pattern >> bit) % 2 == 1
 }
 
 /// Whether a task has no start queued: one that was asked for has taken place.
@@ -153,271 +72,378 @@ fn has_started(after: &Board, task: u16) -> bool
     }
 }
 
-/// A start is asked for; where it takes place the task begins after that.
-fn starting(doer: Doer, task: u16, started: bool) -> Acts
-    ensures { result ≡ starting doer task started }
-{
-    let asks = releases(doer.strand, ThingKind::Start, u32::from(task));
-    if started {
-        return both(asks, acquires(task, ThingKind::Start, u32::from(task)));
+impl Log {
+    /// Who executes releases into a thing.
+    fn release(&mut self, doer: Doer, kind: ThingKind, id: u32) -> Result<(), NoMemory>
+        ensures { OnOk result (self.new ≡ releases_into doer kind id self.old) }
+    {
+        self.note(
+            doer.stamp,
+            &[Done::releases(doer.strand, Thing::whole(kind, id))],
+        )
     }
-    one(asks)
-}
 
-/// A task gets what it asked for, at once or later.
-fn acts_taken(strand: u16, call: Call) -> Acts
-    ensures { result ≡ acts_taken strand call }
-{
-    match call {
-        Call::TwaiSem(id, _) => one(acquires(strand, ThingKind::Semaphore, id)),
-        Call::TwaiFlg(id, _, _, _) => one(acquires(strand, ThingKind::Flag, id)),
-        Call::TrcvDtq(id, _) => both(
-            acquires(strand, ThingKind::Queue, id),
-            releases(strand, ThingKind::Room, id),
-        ),
-        Call::TsndDtq(id, _, _) => one(acquires(strand, ThingKind::Room, id)),
-        Call::TslpTsk(_) => one(acquires(strand, ThingKind::WakeUp, u32::from(strand))),
-        _ => none(),
+    /// Who executes acquires from a thing.
+    fn acquire(&mut self, doer: Doer, kind: ThingKind, id: u32) -> Result<(), NoMemory>
+        ensures { OnOk result (self.new ≡ acquires_from doer kind id self.old) }
+    {
+        self.note(
+            doer.stamp,
+            &[Done::acquires(doer.strand, Thing::whole(kind, id))],
+        )
     }
-}
 
-/// A call was done at once.
-fn acts_done(doer: Doer, call: Call, after: &Board) -> Acts
-    ensures { result ≡ acts_done doer call after.now }
-{
-    let strand = doer.strand;
-    match call {
-        Call::ActTsk(id) | Call::IactTsk(id) | Call::MactTsk(id, _) | Call::ImactTsk(id, _) => {
-            let task = named(doer, id);
-            starting(doer, task, has_started(after, task))
+    /// A unit is returned to a semaphore.
+    pub(crate) fn give_unit(&mut self, doer: Doer, id: u32) -> Result<(), NoMemory>
+        ensures { OnOk result (self.new ≡ gives_unit doer id self.old) }
+    {
+        self.release(doer, ThingKind::Semaphore, id)
+    }
+
+    /// A unit of a semaphore is taken.
+    pub(crate) fn get_unit(&mut self, doer: Doer, id: u32) -> Result<(), NoMemory>
+        ensures { OnOk result (self.new ≡ gets_unit doer id self.old) }
+    {
+        self.acquire(doer, ThingKind::Semaphore, id)
+    }
+
+    /// A bit of an event flag is set, if a pattern has it.
+    fn set_bit(&mut self, doer: Doer, id: u32, bits: u32, bit: u16) -> Result<(), NoMemory>
+        requires { bit < 32 }
+        ensures { OnOk result (self.new ≡ sets_bit doer id bits bit self.old) }
+    {
+        if has_bit(bits, bit) {
+            let thing = Thing::part(ThingKind::FlagBit, id, bit);
+            return self.note(doer.stamp, &[Done::releases(doer.strand, thing)]);
         }
-        Call::WupTsk(id) | Call::IwupTsk(id) => one(releases(
-            strand,
-            ThingKind::WakeUp,
-            u32::from(named(doer, id)),
-        )),
-        Call::RelWai(id) => one(releases(strand, ThingKind::Going, u32::from(named(doer, id)))),
-        Call::RsmTsk(id) => both(
-            releases(strand, ThingKind::Going, u32::from(named(doer, id))),
-            acquires(
-                named(doer, id),
-                ThingKind::Going,
-                u32::from(named(doer, id)),
-            ),
-        ),
-        Call::SusTsk(id) => both(
-            releases(named(doer, id), ThingKind::Halt, u32::from(named(doer, id))),
-            acquires(strand, ThingKind::Halt, u32::from(named(doer, id))),
-        ),
-        Call::TerTsk(id) => Acts {
-            first: Some(releases(named(doer, id), ThingKind::Halt, u32::from(named(doer, id)))),
-            second: Some(acquires(strand, ThingKind::Halt, u32::from(named(doer, id)))),
-            third: Some(acquires(
-                named(doer, id),
-                ThingKind::Start,
-                u32::from(named(doer, id)),
-            )),
-        },
-        Call::SigSem(id) => one(releases(strand, ThingKind::Semaphore, id)),
-        Call::SetFlg(id, _) => one(releases(strand, ThingKind::Flag, id)),
-        Call::TsndDtq(id, _, _) | Call::FsndDtq(id, _) => both(
-            releases(strand, ThingKind::Queue, id),
-            acquires(strand, ThingKind::Room, id),
-        ),
-        Call::LocCpu => one(acquires(strand, ThingKind::Processor, u32::from(doer.cpu))),
-        Call::UnlCpu => one(releases(strand, ThingKind::Processor, u32::from(doer.cpu))),
-        Call::DisDsp => one(acquires(strand, ThingKind::Dispatching, u32::from(doer.cpu))),
-        Call::EnaDsp => one(releases(strand, ThingKind::Dispatching, u32::from(doer.cpu))),
-        Call::LocSpn(id) | Call::TrySpn(id) => both(
-            acquires(strand, ThingKind::SpinLock, id),
-            acquires(strand, ThingKind::Processor, u32::from(doer.cpu)),
-        ),
-        Call::UnlSpn(id) => both(
-            releases(strand, ThingKind::SpinLock, id),
-            releases(strand, ThingKind::Processor, u32::from(doer.cpu)),
-        ),
-        Call::TwaiSem(_, _)
-        | Call::TwaiFlg(_, _, _, _)
-        | Call::TrcvDtq(_, _)
-        | Call::TslpTsk(_)
-        | Call::CanAct(_)
-        | Call::ExtTsk
-        | Call::ChgPri(_, _)
-        | Call::GetPri(_)
-        | Call::MigTsk(_, _)
-        | Call::GetPid
-        | Call::RotRdq(_)
-        | Call::IrotRdq(_)
-        | Call::GetTid
-        | Call::CanWup(_)
-        | Call::DlyTsk(_)
-        | Call::ClrFlg(_, _)
-        | Call::PutChr(_)
-        | Call::ExtKer
-        | Call::RetInt => acts_taken(strand, call),
+        Ok(())
     }
-}
 
-/// A call's caller waits: it has sent its datum already.
-fn acts_waiting(strand: u16, call: Call) -> Acts
-    ensures { result ≡ acts_waiting strand call }
-{
-    match call {
-        Call::TsndDtq(id, _, _) => one(releases(strand, ThingKind::Queue, id)),
-        _ => none(),
+    /// Bits of an event flag are set.
+    pub(crate) fn set_bits(&mut self, doer: Doer, id: u32, bits: u32) -> Result<(), NoMemory>
+        ensures { OnOk result (self.new ≡ sets_bits doer id bits self.old) }
+    {
+        for bit in 0..32u16 {
+            self.set_bit(doer, id, bits, bit)?;
+        }
+        Ok(())
     }
-}
 
-/// A task ends, or a handler does.
-fn acts_ended(doer: Doer) -> Acts
-    ensures { result ≡ acts_ended doer }
-{
-    if doer.strand < 256 {
-        return one(acquires(doer.strand, ThingKind::Start, u32::from(doer.strand)));
+    /// A bit of an event flag was waited for, and set, if a pattern has it.
+    fn get_bit(&mut self, doer: Doer, id: u32, bits: u32, bit: u16) -> Result<(), NoMemory>
+        requires { bit < 32 }
+        ensures { OnOk result (self.new ≡ gets_bit doer id bits bit self.old) }
+    {
+        if has_bit(bits, bit) {
+            let thing = Thing::part(ThingKind::FlagBit, id, bit);
+            return self.note(doer.stamp, &[Done::acquires(doer.strand, thing)]);
+        }
+        Ok(())
     }
-    one(releases(doer.strand, ThingKind::Processor, u32::from(doer.cpu)))
-}
 
-/// The call that is asked for.
-fn call_in(asked: AskedCall) -> Option<Call>
-    ensures { result ≡ call_in asked }
-{
-    match service(asked.number, asked.arguments) {
-        Some(service) => Some(service.asked.call),
-        None => None,
+    /// Bits of an event flag were waited for, and set in its pattern.
+    pub(crate) fn get_bits(
+        &mut self,
+        doer: Doer,
+        id: u32,
+        waited: u32,
+        pattern: u32,
+    ) -> Result<(), NoMemory>
+        ensures { OnOk result (self.new ≡ gets_bits doer id waited pattern self.old) }
+    {
+        let bits = waited & pattern;
+        for bit in 0..32u16 {
+            self.get_bit(doer, id, bits, bit)?;
+        }
+        Ok(())
     }
-}
 
-/// A call was made.
-fn acts_called(doer: Doer, made: CallMade, after: &Board) -> Acts
-    ensures { result ≡ acts_called doer made after.now }
-{
-    let Some(call) = call_in(made.asked) else {
-        return none();
-    };
-    match made.answer {
-        Answer::Given { code, second: _ } if code == 0 => acts_done(doer, call, after),
-        Answer::Given { code: _, second: _ } | Answer::Again => none(),
-        Answer::Waits { reason: _, due: _ } => acts_waiting(doer.strand, call),
-        Answer::Never => acts_ended(doer),
+    /// A datum goes into a place of a data queue.
+    pub(crate) fn send_datum(&mut self, doer: Doer, id: u32, place: u16) -> Result<(), NoMemory>
+        ensures { OnOk result (self.new ≡ sends_datum doer id place self.old) }
+    {
+        let thing = Thing::part(ThingKind::Datum, id, place);
+        self.note(doer.stamp, &[Done::releases(doer.strand, thing)])
     }
-}
 
-/// The wait of a task ended.
-pub(crate) fn acts_released(release: &Release) -> Acts
-    ensures { result ≡ acts_released release.now }
-{
-    let task = release.task;
-    if release.code == RELEASED {
-        return one(acquires(task, ThingKind::Going, u32::from(task)));
+    /// The datum in a place of a data queue is received.
+    pub(crate) fn get_datum(&mut self, doer: Doer, id: u32, place: u16) -> Result<(), NoMemory>
+        ensures { OnOk result (self.new ≡ gets_datum doer id place self.old) }
+    {
+        let thing = Thing::part(ThingKind::Datum, id, place);
+        self.note(doer.stamp, &[Done::acquires(doer.strand, thing)])
     }
-    let Some(call) = call_in(release.asked) else {
-        return none();
-    };
-    if release.code == 0 {
-        return acts_taken(task, call);
+
+    /// A place of a data queue becomes free.
+    pub(crate) fn leave_room(&mut self, doer: Doer, id: u32, place: u16) -> Result<(), NoMemory>
+        ensures { OnOk result (self.new ≡ leaves_room doer id place self.old) }
+    {
+        let thing = Thing::part(ThingKind::Room, id, place);
+        self.note(doer.stamp, &[Done::releases(doer.strand, thing)])
     }
-    none()
-}
 
-/// A word was loaded.
-fn acts_loaded(strand: u16, address: u32, touch: Touch) -> Acts
-    ensures { result ≡ acts_loaded strand address touch }
-{
-    if touch.synchronizes {
-        return both(
-            acquires(strand, ThingKind::Word, address - address % 4),
-            touches(strand, touch),
-        );
+    /// A place of a data queue is used.
+    pub(crate) fn take_room(&mut self, doer: Doer, id: u32, place: u16) -> Result<(), NoMemory>
+        ensures { OnOk result (self.new ≡ takes_room doer id place self.old) }
+    {
+        let thing = Thing::part(ThingKind::Room, id, place);
+        self.note(doer.stamp, &[Done::acquires(doer.strand, thing)])
     }
-    one(touches(strand, touch))
-}
 
-/// A word was stored, if the processor was linked to it.
-fn acts_conditional(strand: u16, address: u32, touch: Touch, stored: bool) -> Acts
-    ensures { result ≡ acts_conditional strand address touch stored }
-{
-    if stored {
-        return both(
-            touches(strand, touch),
-            releases(strand, ThingKind::Word, address - address % 4),
-        );
+    /// A sender or a receiver over a data queue of capacity 0 makes its call.
+    pub(crate) fn come_to_meet(&mut self, doer: Doer) -> Result<(), NoMemory>
+        ensures { OnOk result (self.new ≡ comes_to_meet doer self.old) }
+    {
+        self.release(doer, ThingKind::Meeting, u32::from(doer.strand))
     }
-    none()
-}
 
-/// Whether an access is a store.
-fn does_store(kind: AccessKind) -> bool
-    ensures { result ≡ does_store kind }
-{
-    !matches!(kind, AccessKind::Loads)
-}
-
-/// A word was touched in such a way.
-fn acts_by(strand: u16, address: u32, touch: Touch, kind: AccessKind) -> Acts
-    ensures { result ≡ acts_by strand address touch kind }
-{
-    match kind {
-        AccessKind::Loads => acts_loaded(strand, address, touch),
-        AccessKind::Stores => one(touches(strand, touch)),
-        AccessKind::StoresIfLinked(stored) => acts_conditional(strand, address, touch, stored),
+    /// A task that waited over a data queue of capacity 0 is met.
+    pub(crate) fn meet_other(&mut self, second: u16, doer: Doer) -> Result<(), NoMemory>
+        ensures { OnOk result (self.new ≡ meets_other second doer self.old) }
+    {
+        let waited = Thing::whole(ThingKind::Meeting, u32::from(doer.strand));
+        let came = Thing::whole(ThingKind::Meeting, u32::from(second));
+        self.note(
+            doer.stamp,
+            &[
+                Done::acquires(second, waited),
+                Done::acquires(doer.strand, came),
+            ],
+        )
     }
-}
 
-/// A word was loaded or stored.
-fn acts_accessed(strand: u16, insn: &Insn, access: &Access) -> Acts
-    ensures { result ≡ acts_accessed strand insn.now access.now }
-{
-    let size = size_by(insn);
-    let stores = does_store(access.kind);
-    let touch = touch_at(access.address, size, stores, is_linked(insn));
-    acts_by(strand, access.address, touch, access.kind)
-}
-
-/// A strand touches a word.
-fn touches(strand: u16, touch: Touch) -> Done
-    ensures { result ≡ touches strand touch }
-{
-    Done {
-        strand,
-        act: Act::Touches(touch),
+    /// A spin lock is given back.
+    fn free_spin_lock(&mut self, doer: Doer, id: u32) -> Result<(), NoMemory>
+        ensures { OnOk result (self.new ≡ frees_spin_lock doer id self.old) }
+    {
+        self.release(doer, ThingKind::SpinLock, id)
     }
-}
 
-/// An instruction was done.
-fn acts_instruction(strand: u16, instruction: &Instruction) -> Acts
-    ensures { result ≡ acts_instruction strand instruction.now }
-{
-    match instruction.access {
-        Some(access) => acts_accessed(strand, &instruction.insn, &access),
-        None => none(),
+    /// A spin lock is taken.
+    fn take_spin_lock(&mut self, doer: Doer, id: u32) -> Result<(), NoMemory>
+        ensures { OnOk result (self.new ≡ takes_spin_lock doer id self.old) }
+    {
+        self.acquire(doer, ThingKind::SpinLock, id)
     }
-}
 
-/// What who executes does in an event.
-fn acts_in(doer: Doer, told: &Happening, after: &Board) -> Acts
-    ensures { result ≡ acts_in doer told.now.what after.now }
-{
-    match told.what {
-        What::Instruction(instruction) => acts_instruction(doer.strand, &instruction),
-        What::Call(made) => acts_called(doer, made, after),
-        What::Exception(_) => acts_ended(doer),
-        _ => none(),
+    /// A processor's CPU lock, or its handler, ends.
+    pub(crate) fn release_cpu(&mut self, doer: Doer) -> Result<(), NoMemory>
+        ensures { OnOk result (self.new ≡ releases_cpu doer self.old) }
+    {
+        self.release(doer, ThingKind::Processor, u32::from(doer.cpu))
     }
-}
 
-/// What is done in an event, but for what whom it releases does.
-pub(crate) fn acts_of(told: &Happening, after: &Board) -> Acts
-    ensures { result ≡ acts_of told.now after.now }
-{
-    let Some(cpu) = told.cpu else {
-        return none();
-    };
-    if let What::Accepted(line) = told.what {
-        return one(acquires(256 + u16::from(line), ThingKind::Processor, u32::from(cpu)));
+    /// A processor's CPU lock, or its handler, begins.
+    pub(crate) fn acquire_cpu(&mut self, doer: Doer) -> Result<(), NoMemory>
+        ensures { OnOk result (self.new ≡ acquires_cpu doer self.old) }
+    {
+        self.acquire(doer, ThingKind::Processor, u32::from(doer.cpu))
     }
-    match strand_of(told.who) {
-        Some(strand) => acts_in(Doer { strand, cpu }, told, after),
-        None => none(),
+
+    /// From now on a processor is CPU-locked, or not.
+    fn put_lock(&mut self, locked: bool, doer: Doer)
+        ensures { self.new ≡ with_lock locked doer self.old }
+    {
+        let hold = self.past.hold(doer.cpu);
+        self.put_hold(doer.cpu, Hold { locked, ..hold });
+    }
+
+    /// A processor is CPU-locked no more.
+    pub(crate) fn unlock_cpu(&mut self, doer: Doer) -> Result<(), NoMemory>
+        ensures { OnOk result (self.new ≡ unlocks_cpu doer self.old) }
+    {
+        if self.past.hold(doer.cpu).locked {
+            self.release_cpu(doer)?;
+        }
+        self.put_lock(false, doer);
+        Ok(())
+    }
+
+    /// A processor is CPU-locked.
+    pub(crate) fn lock_cpu(&mut self, doer: Doer) -> Result<(), NoMemory>
+        ensures { OnOk result (self.new ≡ locks_cpu doer self.old) }
+    {
+        self.acquire_cpu(doer)?;
+        self.put_lock(true, doer);
+        Ok(())
+    }
+
+    /// A spin lock is given back, and its processor is CPU-locked no more.
+    pub(crate) fn give_spin_lock_back(&mut self, doer: Doer, id: u32) -> Result<(), NoMemory>
+        ensures { OnOk result (self.new ≡ gives_spin_lock_back doer id self.old) }
+    {
+        self.free_spin_lock(doer, id)?;
+        self.release_cpu(doer)?;
+        self.put_lock(false, doer);
+        Ok(())
+    }
+
+    /// A spin lock is taken, and its processor is CPU-locked.
+    pub(crate) fn lock_by_spin_lock(&mut self, doer: Doer, id: u32) -> Result<(), NoMemory>
+        ensures { OnOk result (self.new ≡ locks_by_spin_lock doer id self.old) }
+    {
+        self.take_spin_lock(doer, id)?;
+        self.acquire_cpu(doer)?;
+        self.put_lock(true, doer);
+        Ok(())
+    }
+
+    /// From now on dispatching is disabled on a processor, or not.
+    fn put_dispatching(&mut self, disabled: bool, doer: Doer)
+        ensures { self.new ≡ with_dispatching disabled doer self.old }
+    {
+        let hold = self.past.hold(doer.cpu);
+        self.put_hold(doer.cpu, Hold { disabled, ..hold });
+    }
+
+    /// Dispatching is enabled.
+    pub(crate) fn enable_dispatching(&mut self, doer: Doer) -> Result<(), NoMemory>
+        ensures { OnOk result (self.new ≡ enables_dispatching doer self.old) }
+    {
+        if self.past.hold(doer.cpu).disabled {
+            self.release(doer, ThingKind::Dispatching, u32::from(doer.cpu))?;
+        }
+        self.put_dispatching(false, doer);
+        Ok(())
+    }
+
+    /// Dispatching is disabled.
+    pub(crate) fn disable_dispatching(&mut self, doer: Doer) -> Result<(), NoMemory>
+        ensures { OnOk result (self.new ≡ disables_dispatching doer self.old) }
+    {
+        self.acquire(doer, ThingKind::Dispatching, u32::from(doer.cpu))?;
+        self.put_dispatching(true, doer);
+        Ok(())
+    }
+
+    /// A task starts.
+    pub(crate) fn start(&mut self, stamp: Stamp, task: u16) -> Result<(), NoMemory>
+        ensures { OnOk result (self.new ≡ starts stamp task self.old) }
+    {
+        let thing = Thing::whole(ThingKind::Start, u32::from(task));
+        self.note(stamp, &[Done::acquires(task, thing)])
+    }
+
+    /// A start is asked for; where it takes place the task begins after that.
+    pub(crate) fn ask_to_start(
+        &mut self,
+        doer: Doer,
+        task: u16,
+        after: &Board,
+    ) -> Result<(), NoMemory>
+        ensures { OnOk result (self.new ≡ asks_to_start doer task after.now self.old) }
+    {
+        self.release(doer, ThingKind::Start, u32::from(task))?;
+        if has_started(after, task) {
+            return self.start(doer.stamp, task);
+        }
+        Ok(())
+    }
+
+    /// Starts that were asked for are taken back.
+    pub(crate) fn take_starts_back(&mut self, doer: Doer, task: u16) -> Result<(), NoMemory>
+        ensures { OnOk result (self.new ≡ takes_starts_back doer task self.old) }
+    {
+        self.acquire(doer, ThingKind::Start, u32::from(task))
+    }
+
+    /// A task is woken up.
+    pub(crate) fn wake_up(&mut self, doer: Doer, task: u16) -> Result<(), NoMemory>
+        ensures { OnOk result (self.new ≡ wakes_up doer task self.old) }
+    {
+        self.release(doer, ThingKind::WakeUp, u32::from(task))
+    }
+
+    /// A task's wake-up is taken, by itself or back.
+    pub(crate) fn take_wake_up(&mut self, doer: Doer, task: u16) -> Result<(), NoMemory>
+        ensures { OnOk result (self.new ≡ takes_wake_up doer task self.old) }
+    {
+        self.acquire(doer, ThingKind::WakeUp, u32::from(task))
+    }
+
+    /// A task's wait or suspension is ended.
+    pub(crate) fn let_go_on(&mut self, doer: Doer, task: u16) -> Result<(), NoMemory>
+        ensures { OnOk result (self.new ≡ lets_go_on doer task self.old) }
+    {
+        self.release(doer, ThingKind::Going, u32::from(task))
+    }
+
+    /// A task goes on.
+    pub(crate) fn go_on(&mut self, stamp: Stamp, task: u16) -> Result<(), NoMemory>
+        ensures { OnOk result (self.new ≡ goes_on stamp task self.old) }
+    {
+        let thing = Thing::whole(ThingKind::Going, u32::from(task));
+        self.note(stamp, &[Done::acquires(task, thing)])
+    }
+
+    /// A task is resumed, and goes on.
+    pub(crate) fn resume(&mut self, doer: Doer, task: u16) -> Result<(), NoMemory>
+        ensures { OnOk result (self.new ≡ resumes doer task self.old) }
+    {
+        self.let_go_on(doer, task)?;
+        self.go_on(doer.stamp, task)
+    }
+
+    /// A task is ended or suspended.
+    pub(crate) fn halt(&mut self, doer: Doer, task: u16) -> Result<(), NoMemory>
+        ensures { OnOk result (self.new ≡ halts doer task self.old) }
+    {
+        let thing = Thing::whole(ThingKind::Halt, u32::from(task));
+        self.note(
+            doer.stamp,
+            &[
+                Done::releases(task, thing),
+                Done::acquires(doer.strand, thing),
+            ],
+        )
+    }
+
+    /// A word is stored to, by SC or after a SYNC.
+    pub(crate) fn store_releasing(&mut self, doer: Doer, touch: Touch) -> Result<(), NoMemory>
+        ensures { OnOk result (self.new ≡ stores_releasing doer touch self.old) }
+    {
+        let thing = Thing::whole(ThingKind::Word, touch.word);
+        self.note(
+            doer.stamp,
+            &[
+                Done::touches(doer.strand, synchronizing(touch)),
+                Done::releases(doer.strand, thing),
+            ],
+        )
+    }
+
+    /// A word is loaded by LL.
+    pub(crate) fn load_linked(&mut self, doer: Doer, touch: Touch) -> Result<(), NoMemory>
+        ensures { OnOk result (self.new ≡ loads_linked doer touch self.old) }
+    {
+        let thing = Thing::whole(ThingKind::Word, touch.word);
+        self.note(
+            doer.stamp,
+            &[
+                Done::acquires(doer.strand, thing),
+                Done::touches(doer.strand, synchronizing(touch)),
+            ],
+        )
+    }
+
+    /// A word is loaded, maybe before a SYNC.
+    pub(crate) fn begin_to_load(&mut self, doer: Doer, touch: Touch) -> Result<(), NoMemory>
+        ensures { OnOk result (self.new ≡ begins_to_load doer touch self.old) }
+    {
+        let thing = Thing::whole(ThingKind::Word, touch.word);
+        self.note(doer.stamp, &[Done::hears(doer.strand, thing)])
+    }
+
+    /// A word was loaded there, and a SYNC follows.
+    pub(crate) fn load_acquiring(
+        &mut self,
+        doer: Doer,
+        touch: Touch,
+        loaded: Stamp,
+    ) -> Result<(), NoMemory>
+        ensures { OnOk result (self.new ≡ loads_acquiring doer touch loaded self.old) }
+    {
+        self.note(doer.stamp, &[Done::heeds(doer.strand)])?;
+        self.note(loaded, &[Done::touches(doer.strand, synchronizing(touch))])
     }
 }

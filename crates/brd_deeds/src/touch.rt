@@ -1,8 +1,9 @@
 //! The touches of instructions.
 
 ghost use Rattle.std.specs.Prelude.{◌≡◌, ◌≤◌};
-ghost use Rattle.brd_deeds.specs.Touches.{is_linked, size_by, touch_at};
+ghost use Rattle.brd_deeds.specs.Touches.{does_store, is_linked, size_by, synchronizing, touch_at};
 
+use brd_happening::AccessKind;
 use brd_isa::{Insn, LinkedOp, LoadOp, StoreOp};
 use brd_order::Touch;
 
@@ -27,10 +28,17 @@ pub(crate) fn is_linked(insn: &Insn) -> bool
     matches!(*insn, Insn::Linked(LinkedOp::Ll | LinkedOp::Sc, _, _, _))
 }
 
-/// The touch of so many bytes at an address, or of the whole word.
-pub(crate) fn touch_at(address: u32, size: u8, stores: bool, linked: bool) -> Touch
+/// Whether an access is a store.
+pub(crate) fn does_store(kind: AccessKind) -> bool
+    ensures { result ≡ does_store kind }
+{
+    !matches!(kind, AccessKind::Loads)
+}
+
+/// The touch of so many bytes at an address, or of the whole word. It doesn't synchronize.
+pub(crate) fn touch_at(address: u32, size: u8, stores: bool) -> Touch
     requires { size ≤ 4 }
-    ensures { result ≡ touch_at address size stores linked }
+    ensures { result ≡ touch_at address size stores }
 {
     let within = (address % 4) as u8;
     let from = if size == 4 { 0 } else { within };
@@ -39,6 +47,16 @@ pub(crate) fn touch_at(address: u32, size: u8, stores: bool, linked: bool) -> To
         from,
         to: from + size,
         stores,
-        synchronizes: linked,
+        synchronizes: false,
+    }
+}
+
+/// The same touch, which synchronizes.
+pub(crate) fn synchronizing(touch: Touch) -> Touch
+    ensures { result ≡ synchronizing touch }
+{
+    Touch {
+        synchronizes: true,
+        ..touch
     }
 }
