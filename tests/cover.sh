@@ -66,6 +66,16 @@ if have mips-linux-gnu-gcc "the lines of C"; then
     info lcov c.info "${files[@]}"
     info callgrind c.callgrind "${files[@]}"
     verdict "cover: functions of C" "$(grep -q '^FNDA:[1-9][0-9]*,meter$' "$work/c.info" || grep FN "$work/c.info")"
+    # Also of a line whose last instruction isn't executed: a positive number is its own absolute value.
+    if have python3 "how often lines of C are executed"; then
+        mkdir "$work/abs"
+        sed 's/sum += litres\[i\];/&\n        asm volatile("abs %0, %0" : "+r"(sum));/' examples/c_program/firmware.c \
+            > "$work/abs/counted.c"
+        make -s -C examples/c_program BUILD="$work/abs" SOURCES="$work/abs/counted.c" > "$work/said" 2>&1 ||
+            fail "cover: how often lines of C are executed" "$(cat "$work/said")"
+        verdict "cover: how often lines of C are executed" "$(tests/cover_lines "$board" counted.c \
+            "$work/abs/firmware.elf" "$work/abs/firmware.cfg" examples/c_program/firmware.journal 2>&1)"
+    fi
     cd examples/c_program || exit 2
     if have genhtml "genhtml"; then
         says "genhtml reads it" '^Overall coverage rate' genhtml --branch-coverage -o "$work/html" "$work/c.info"
