@@ -5,6 +5,8 @@ use Rattle.std.specs.List.{range_with_len}
 use Rattle.brd_board.specs.declared.event.Event.{Event}
 use Rattle.brd_board.specs.Board.{BoardState, happens}
 use Rattle.brd_happening.specs.Happening.{processor_of}
+use Rattle.brd_kernel.specs.declared.processor.Standing.{Standing}
+use Rattle.brd_trace.specs.Concerns.{chosen_standing, concerns, does_other}
 use Rattle.brd_trace.specs.Links.{ended_by, ended_text, ended_text_of, ended_texts, linked_on}
 
 pub ended-on : (own : Option ℕ) (before after : List Bool) (cpu : ℕ) (a b all : List ℕ) → cpu < 9
@@ -26,3 +28,12 @@ ends_by b boot after_it event own before after same leaves steps had has =
     ∙ ap (λ (l : List Bool). ended_text (processor_of event) l after) had
     ∙ ap (λ (l : List Bool). ended_text (processor_of event) (linked_on b) l) (has ∙ ap linked_on leaves)
     ∙ ap (λ (x : BoardState). ended_by x event) same
+
+-- whether an event concerns the chosen processor, by what was read of it before the event, and the board after it
+pub concerns_by : (cpu : Option ℕ) (b boot after_it : BoardState) (event : Event) (stood : Option Standing) → b ≡ boot
+    → after_it ≡ (happens b event).board → stood ≡ chosen_standing cpu b
+    → does_other cpu stood after_it ≡ concerns cpu boot event
+concerns_by cpu b boot after_it event stood same leaves had =
+    ap (λ (s : Option Standing). does_other cpu s after_it) had
+    ∙ ap (λ (x : BoardState). does_other cpu (chosen_standing cpu b) x) leaves
+    ∙ ap (λ (x : BoardState). concerns cpu x event) same

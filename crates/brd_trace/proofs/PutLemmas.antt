@@ -9,6 +9,7 @@ use Rattle.brd_happening.specs.declared.happening.Happening.{Happening}
 use Rattle.brd_trace.specs.declared.printer.{Manner.Manner, Printer.Printer}
 use Rattle.brd_trace.specs.declared.quiet.{Quiet.Quiet, Stretch.Stretch}
 use Rattle.brd_listing.specs.Listing.{IsBehind}
+use Rattle.brd_listing.specs.Names.{IsPrintable}
 use Rattle.brd_trace.specs.Effects.{IsToldOf}
 use Rattle.brd_trace.specs.Quiets.{quiet_of, tick_of}
 use Rattle.brd_trace.specs.Telling.{Tells, TellsBy, TellsInstruction, TellsLine, TellsOther, TellsNothing}
@@ -45,12 +46,12 @@ instruction_line manner position told it ended old new what a b on is printer li
 
 -- ---- other events
 
-pub quiet_events : (symbols : List Symbol) (position count tick : ℕ) (told : Happening) (kind : Quiet) (old new : Printer) (a b : List ℕ)
+pub quiet_events : (symbols : List Symbol) (position count tick : ℕ) (told : Happening) (concerned : Bool) (kind : Quiet) (old new : Printer) (a b : List ℕ)
     → quiet_of told ≡ Some kind → tick ≡ tick_of told.what → new ≡ with_held old (held_quiet old (stretch_of kind position count tick))
     → b ≡ a ++ text_quiet symbols old (stretch_of kind position count tick)
-    → IsBehind (TellsOther (quiet_of told) symbols position count told old new) a b
-quiet_events symbols position count tick told kind old new a b is ticks printer line =
-    subst (λ (k : Option Quiet). IsBehind (TellsOther k symbols position count told old new) a b) (sym is) (record {
+    → IsBehind (TellsOther (quiet_of told) symbols position count told concerned old new) a b
+quiet_events symbols position count tick told concerned kind old new a b is ticks printer line =
+    subst (λ (k : Option Quiet). IsBehind (TellsOther k symbols position count told concerned old new) a b) (sym is) (record {
       text = text_quiet symbols old (stretch_of kind position count (tick_of told.what));
       is_it = record {
         printer = printer ∙ ap (λ (t : ℕ). with_held old (held_quiet old (stretch_of kind position count t))) ticks;
@@ -59,26 +60,26 @@ quiet_events symbols position count tick told kind old new a b is ticks printer 
       behind = line ∙ ap (λ (t : ℕ). a ++ text_quiet symbols old (stretch_of kind position count t)) ticks;
     })
 
-pub other_line : (symbols : List Symbol) (position count : ℕ) (told : Happening) (old new : Printer) (a b : List ℕ)
-    → quiet_of told ≡ None → IsBehind (TellsLine symbols position count told old new) a b
-    → IsBehind (TellsOther (quiet_of told) symbols position count told old new) a b
-other_line symbols position count told old new a b is puts =
-    subst (λ (k : Option Quiet). IsBehind (TellsOther k symbols position count told old new) a b) (sym is) puts
+pub other_line : (symbols : List Symbol) (position count : ℕ) (told : Happening) (concerned : Bool) (old new : Printer) (a b : List ℕ)
+    → quiet_of told ≡ None → IsBehind (TellsLine symbols position count told concerned old new) a b
+    → IsBehind (TellsOther (quiet_of told) symbols position count told concerned old new) a b
+other_line symbols position count told concerned old new a b is puts =
+    subst (λ (k : Option Quiet). IsBehind (TellsOther k symbols position count told concerned old new) a b) (sym is) puts
 
 pub line_and_more : (symbols : List Symbol) (position count : ℕ) (told : Happening) (words : List ℕ) (concerned : Bool)
-    (more : Option Stretch) (old middle new : Printer) (a b c : List ℕ) → more ≡ more_of told.what position count
+    (more : Option Stretch) (old middle new : Printer) (a b c : List ℕ) → IsPrintable words → more ≡ more_of told.what position count
     → middle ≡ with_held old (held_behind (shows old.options told.cpu concerned) old.held)
     → b ≡ a ++ text_behind (shows old.options told.cpu concerned) symbols old.held (told_text symbols position told words)
     → new ≡ with_held middle (held_more middle more) → c ≡ b ++ text_more symbols middle more
-    → IsBehind (TellsLine symbols position count told old new) a c
-line_and_more symbols position count told words concerned more old middle new a b c is after line printer text =
+    → IsBehind (TellsLine symbols position count told concerned old new) a c
+line_and_more symbols position count told words concerned more old middle new a b c plain is after line printer text =
     let one = text_behind (shows old.options told.cpu concerned) symbols old.held (told_text symbols position told words) in
     let other = text_more symbols middle (more_of told.what position count) in
     record {
       text = one ++ other;
       is_it = record {
         words = words;
-        concerned = concerned;
+        is_one_line = plain;
         middle = middle;
         after_line = after;
         printer = printer ∙ ap (λ (m : Option Stretch). with_held middle (held_more middle m)) is;
@@ -90,25 +91,25 @@ line_and_more symbols position count told words concerned more old middle new a 
 
 -- ---- any event
 
-module _ (manner : Manner) (position count : ℕ) (told : Happening) (ended : List ℕ) (old new : Printer) (a b : List ℕ) where
+module _ (manner : Manner) (position count : ℕ) (told : Happening) (ended : List ℕ) (concerned : Bool) (old new : Printer) (a b : List ℕ) where
   pub an_instruction : (it : Instruction) → instruction_in told.what ≡ Some it
-      → IsBehind (TellsInstruction manner position told it ended old new) a b → IsBehind (Tells manner position count told ended old new) a b
+      → IsBehind (TellsInstruction manner position told it ended old new) a b → IsBehind (Tells manner position count told ended concerned old new) a b
   an_instruction it is puts =
-      subst (λ (o : Option Instruction). IsBehind (TellsBy o (is_untold told.what) (quiet_of told) manner position count told ended old new) a b)
+      subst (λ (o : Option Instruction). IsBehind (TellsBy o (is_untold told.what) (quiet_of told) manner position count told ended concerned old new) a b)
       (sym is) puts
 
   pub another : instruction_in told.what ≡ None → is_untold told.what ≡ false
-      → IsBehind (TellsOther (quiet_of told) manner.names.symbols.now position count told old new) a b
-      → IsBehind (Tells manner position count told ended old new) a b
+      → IsBehind (TellsOther (quiet_of told) manner.names.symbols.now position count told concerned old new) a b
+      → IsBehind (Tells manner position count told ended concerned old new) a b
   another is_none is_told puts =
-      subst (λ (o : Option Instruction). IsBehind (TellsBy o (is_untold told.what) (quiet_of told) manner position count told ended old new) a b)
+      subst (λ (o : Option Instruction). IsBehind (TellsBy o (is_untold told.what) (quiet_of told) manner position count told ended concerned old new) a b)
       (sym is_none)
-      (subst (λ (u : Bool). IsBehind (TellsBy None u (quiet_of told) manner position count told ended old new) a b) (sym is_told) puts)
+      (subst (λ (u : Bool). IsBehind (TellsBy None u (quiet_of told) manner position count told ended concerned old new) a b) (sym is_told) puts)
 
-pub untold : (manner : Manner) (position count : ℕ) (told : Happening) (ended : List ℕ) (p : Printer) (a : List ℕ) → instruction_in told.what ≡ None
-    → is_untold told.what ≡ true → IsBehind (Tells manner position count told ended p p) a a
-untold manner position count told ended p a is_none is_untold_ =
-    subst (λ (o : Option Instruction). IsBehind (TellsBy o (is_untold told.what) (quiet_of told) manner position count told ended p p) a a)
+pub untold : (manner : Manner) (position count : ℕ) (told : Happening) (ended : List ℕ) (concerned : Bool) (p : Printer) (a : List ℕ) → instruction_in told.what ≡ None
+    → is_untold told.what ≡ true → IsBehind (Tells manner position count told ended concerned p p) a a
+untold manner position count told ended concerned p a is_none is_untold_ =
+    subst (λ (o : Option Instruction). IsBehind (TellsBy o (is_untold told.what) (quiet_of told) manner position count told ended concerned p p) a a)
     (sym is_none)
-    (subst (λ (u : Bool). IsBehind (TellsBy None u (quiet_of told) manner position count told ended p p) a a) (sym is_untold_)
+    (subst (λ (u : Bool). IsBehind (TellsBy None u (quiet_of told) manner position count told ended concerned p p) a a) (sym is_untold_)
     (record { text = []; is_it = nothing p; behind = sym (append-nil a) }))

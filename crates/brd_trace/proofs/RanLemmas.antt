@@ -26,6 +26,7 @@ use Rattle.brd_happening.specs.Happening.{instruction_from, executed_in, what_of
 use Rattle.brd_trace.specs.declared.printer.{Manner.Manner, Options.Options, Printer.Printer}
 use Rattle.brd_trace.specs.declared.quiet.Quiet.{Quiet}
 use Rattle.brd_trace.specs.Links.{ended_by}
+use Rattle.brd_trace.specs.Concerns.{concerns}
 use Rattle.brd_trace.specs.Quiets.{quiet_of}
 use Rattle.brd_trace.specs.Telling.{TellsNothing, TellsBy, Tells, instruction_in, is_untold, is_ran}
 use Rattle.brd_trace.specs.Telling.{is_chosen, may_list, shows_instruction, touches, wants}
@@ -70,20 +71,20 @@ none_shown options words cpu it off =
 nothing : (p : Printer) → TellsNothing p p []
 nothing p = record { same = refl; none = refl }
 
-hidden : (w : What) (kind : Option Quiet) (manner : Manner) (position count : ℕ) (told : Happening) (ended : List ℕ) (p : Printer) → is_plain w ≡ true
-    → may_list p.options ≡ false → TellsBy (instruction_in w) (is_untold w) kind manner position count told ended p p []
-hidden (what.Instruction it) kind manner position count told ended p plain off = record {
+hidden : (w : What) (kind : Option Quiet) (manner : Manner) (position count : ℕ) (told : Happening) (ended : List ℕ) (concerned : Bool) (p : Printer) → is_plain w ≡ true
+    → may_list p.options ≡ false → TellsBy (instruction_in w) (is_untold w) kind manner position count told ended concerned p p []
+hidden (what.Instruction it) kind manner position count told ended concerned p plain off = record {
   shown = λ is. absurd (false≢true (sym (none_shown p.options manner.words.now told.cpu it off) ∙ is));
   hidden = λ is. nothing p;
 }
-hidden what.Untold kind manner position count told ended p plain off = nothing p
-hidden (what.Call call) kind manner position count told ended p plain off = absurd (false≢true plain)
-hidden (what.Exception exception) kind manner position count told ended p plain off = absurd (false≢true plain)
-hidden (what.Raised line) kind manner position count told ended p plain off = absurd (false≢true plain)
-hidden (what.Lost line) kind manner position count told ended p plain off = absurd (false≢true plain)
-hidden (what.Accepted line) kind manner position count told ended p plain off = absurd (false≢true plain)
-hidden (what.Tick number) kind manner position count told ended p plain off = absurd (false≢true plain)
-hidden (what.Nothing why) kind manner position count told ended p plain off = absurd (false≢true plain)
+hidden what.Untold kind manner position count told ended concerned p plain off = nothing p
+hidden (what.Call call) kind manner position count told ended concerned p plain off = absurd (false≢true plain)
+hidden (what.Exception exception) kind manner position count told ended concerned p plain off = absurd (false≢true plain)
+hidden (what.Raised line) kind manner position count told ended concerned p plain off = absurd (false≢true plain)
+hidden (what.Lost line) kind manner position count told ended concerned p plain off = absurd (false≢true plain)
+hidden (what.Accepted line) kind manner position count told ended concerned p plain off = absurd (false≢true plain)
+hidden (what.Tick number) kind manner position count told ended concerned p plain off = absurd (false≢true plain)
+hidden (what.Nothing why) kind manner position count told ended concerned p plain off = absurd (false≢true plain)
 
 ran_plain : (board : BoardState) (event : Event) (told : Report) (after : BoardState) → is_ran told ≡ true
     → is_plain (what_of (before_of board event) told after) ≡ true
@@ -111,31 +112,31 @@ told_is b boot event before told after it same read reports leaves is =
 
 pub ran_hidden : (manner : Manner) (position count : ℕ) (board : BoardState) (event : Event) (p : Printer)
     → is_ran (happens board event).report ≡ true → may_list p.options ≡ false
-    → Tells manner position count (happening_of board event) (ended_by board event) p p []
+    → Tells manner position count (happening_of board event) (ended_by board event) (concerns p.options.cpu board event) p p []
 ran_hidden manner position count board event p ran off =
     let h = happens board event in
     hidden (what_of (before_of board event) h.report h.board) (quiet_of (happening_of board event)) manner position count (happening_of board event)
-    (ended_by board event) p
+    (ended_by board event) (concerns p.options.cpu board event) p
     (ran_plain board event h.report h.board ran) off
 
 -- Where lines of instructions aren't shown, nothing is said of links.
 unended : (insn : Option Instruction) (untold : Bool) (kind : Option Quiet) (manner : Manner) (position count : ℕ) (told : Happening)
-    (ended other : List ℕ) (old new : Printer) (text : List ℕ) → may_list old.options ≡ false
-    → TellsBy insn untold kind manner position count told ended old new text → TellsBy insn untold kind manner position count told other old new text
-unended (Some it) untold kind manner position count told ended other old new text off tells = record {
+    (ended other : List ℕ) (concerned : Bool) (old new : Printer) (text : List ℕ) → may_list old.options ≡ false
+    → TellsBy insn untold kind manner position count told ended concerned old new text → TellsBy insn untold kind manner position count told other concerned old new text
+unended (Some it) untold kind manner position count told ended other concerned old new text off tells = record {
   shown = λ is. absurd (false≢true (sym (none_shown old.options manner.words.now told.cpu it off) ∙ is));
   hidden = tells.hidden;
 }
-unended None true kind manner position count told ended other old new text off tells = tells
-unended None false kind manner position count told ended other old new text off tells = tells
+unended None true kind manner position count told ended other concerned old new text off tells = tells
+unended None false kind manner position count told ended other concerned old new text off tells = tells
 
-pub told_ended : (manner : Manner) (position count : ℕ) (told : Happening) (ended other : List ℕ) (old new : Printer) (text : List ℕ) (lists : Bool)
+pub told_ended : (manner : Manner) (position count : ℕ) (told : Happening) (ended other : List ℕ) (concerned : Bool) (old new : Printer) (text : List ℕ) (lists : Bool)
     → may_list old.options ≡ lists → (lists ≡ true → ended ≡ other)
-    → Tells manner position count told ended old new text → Tells manner position count told other old new text
-told_ended manner position count told ended other old new text true is same tells =
-    subst (λ (them : List ℕ). Tells manner position count told them old new text) (same refl) tells
-told_ended manner position count told ended other old new text false is same tells =
-    unended (instruction_in told.what) (is_untold told.what) (quiet_of told) manner position count told ended other old new text is tells
+    → Tells manner position count told ended concerned old new text → Tells manner position count told other concerned old new text
+told_ended manner position count told ended other concerned old new text true is same tells =
+    subst (λ (them : List ℕ). Tells manner position count told them concerned old new text) (same refl) tells
+told_ended manner position count told ended other concerned old new text false is same tells =
+    unended (instruction_in told.what) (is_untold told.what) (quiet_of told) manner position count told ended other concerned old new text is tells
 
 -- what is passed is an ordinary instruction, and lines of these aren't shown
 pub passes_both : (lists ran : Bool) → (not lists && ran) ≡ true → (lists ≡ false) × (ran ≡ true)
@@ -160,7 +161,7 @@ ran_one manner boot events position board event p is same ran off = record {
   is = is;
   some = omega arith;
   still = λ n above below. absurd (omega (arith, above, below));
-  tells = subst (λ (b : BoardState). Tells manner position 1 (happening_of b event) (ended_by b event) p p []) same
+  tells = subst (λ (b : BoardState). Tells manner position 1 (happening_of b event) (ended_by b event) (concerns p.options.cpu b event) p p []) same
       (ran_hidden manner position 1 board event p ran off);
 }
 

@@ -1,4 +1,5 @@
 pub mod Lines
+pub mod Concerns
 pub mod Links
 pub mod Effects
 pub mod Quiets

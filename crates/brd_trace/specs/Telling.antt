@@ -13,6 +13,7 @@ use Rattle.brd_happening.specs.declared.instruction.{Access.Access, Instruction.
 use Rattle.brd_happening.specs.declared.happening.{What.What, Happening.Happening}
 use Rattle.brd_happening.specs.declared.happening.What.TheVariants as what
 use Rattle.brd_happening.specs.Happening.{happening_of}
+use Rattle.brd_listing.specs.Names.{IsPrintable}
 use Rattle.brd_trace.specs.declared.effect.Form.{Form}
 use Rattle.brd_trace.specs.declared.line.Heading.{Heading}
 use Rattle.brd_trace.specs.declared.quiet.{Quiet.Quiet, Stretch.Stretch}
@@ -21,6 +22,7 @@ use Rattle.brd_trace.specs.declared.printer.{Options.Options, Manner.Manner, Pri
 use Rattle.brd_trace.specs.Lines.{line_text}
 use Rattle.brd_trace.specs.Effects.{IsToldOf}
 use Rattle.brd_trace.specs.Links.{ended_by}
+use Rattle.brd_trace.specs.Concerns.{concerns}
 use Rattle.brd_trace.specs.Quiets as quiets
 use Rattle.brd_trace.specs.Quiets.{quiet_of, tick_of}
 
@@ -151,11 +153,12 @@ pub record TellsQuiet (symbols : List Symbol) (more : Stretch) (old new : Printe
   pub printer : new ≡ with_held old (held_quiet old more)
   pub line : text ≡ text_quiet symbols old more
 
--- Of any other event a line is told, with some words; and after a raise the others of the same line.
-pub record TellsLine (symbols : List Symbol) (position count : ℕ) (told : Happening) (old new : Printer)
-    (text : List ℕ) : Type 0 where
+-- Of any other event a line is told, with some words of printable ASCII; and after a raise the others of the same line.
+-- It may be an event that concerns the chosen processor.
+pub record TellsLine (symbols : List Symbol) (position count : ℕ) (told : Happening) (concerned : Bool)
+    (old new : Printer) (text : List ℕ) : Type 0 where
   pub words : List ℕ
-  pub concerned : Bool
+  pub is_one_line : IsPrintable words
   pub middle : Printer
   pub after_line : middle ≡ with_held old (held_behind (shows old.options told.cpu concerned) old.held)
   pub printer : new ≡ with_held middle (held_more middle (more_of told.what position count))
@@ -163,10 +166,11 @@ pub record TellsLine (symbols : List Symbol) (position count : ℕ) (told : Happ
       text ≡ text_behind (shows old.options told.cpu concerned) symbols old.held (told_text symbols position told words)
       ++ text_more symbols middle (more_of told.what position count)
 
-abbrev pub TellsOther : Option Quiet → List Symbol → ℕ → ℕ → Happening → Printer → Printer → List ℕ → Type 0
-TellsOther (Some kind) symbols position count told old new text =
+abbrev pub TellsOther : Option Quiet → List Symbol → ℕ → ℕ → Happening → Bool → Printer → Printer → List ℕ → Type 0
+TellsOther (Some kind) symbols position count told concerned old new text =
     TellsQuiet symbols (stretch_of kind position count (tick_of told.what)) old new text
-TellsOther None symbols position count told old new text = TellsLine symbols position count told old new text
+TellsOther None symbols position count told concerned old new text =
+    TellsLine symbols position count told concerned old new text
 
 abbrev pub instruction_in : What → Option Instruction
 instruction_in (what.Instruction it) = Some it
@@ -177,18 +181,19 @@ is_untold what.Untold = true
 is_untold _ = false
 
 abbrev pub TellsBy :
-    Option Instruction → Bool → Option Quiet → Manner → ℕ → ℕ → Happening → List ℕ → Printer → Printer → List ℕ → Type 0
-TellsBy (Some it) untold kind manner position count told ended old new text =
+    Option Instruction → Bool → Option Quiet → Manner → ℕ → ℕ → Happening → List ℕ → Bool → Printer → Printer → List ℕ →
+    Type 0
+TellsBy (Some it) untold kind manner position count told ended concerned old new text =
     TellsInstruction manner position told it ended old new text
-TellsBy None true kind manner position count told ended old new text = TellsNothing old new text
-TellsBy None false kind manner position count told ended old new text =
-    TellsOther kind manner.names.symbols.now position count told old new text
+TellsBy None true kind manner position count told ended concerned old new text = TellsNothing old new text
+TellsBy None false kind manner position count told ended concerned old new text =
+    TellsOther kind manner.names.symbols.now position count told concerned old new text
 
 -- what is told of an event, with those after it that change nothing: so many events
-abbrev pub Tells : Manner → ℕ → ℕ → Happening → List ℕ → Printer → Printer → List ℕ → Type 0
-Tells manner position count told ended old new text =
-    TellsBy (instruction_in told.what) (is_untold told.what) (quiet_of told) manner position count told ended old new
-    text
+abbrev pub Tells : Manner → ℕ → ℕ → Happening → List ℕ → Bool → Printer → Printer → List ℕ → Type 0
+Tells manner position count told ended concerned old new text =
+    TellsBy (instruction_in told.what) (is_untold told.what) (quiet_of told) manner position count told ended concerned
+    old new text
 
 -- an event that reports this was an ordinary instruction
 abbrev pub is_ran : Report → Bool
@@ -204,9 +209,10 @@ shown options = record options { shown = true }
 abbrev pub shown_by : Options → Printer
 shown_by options = record { options = shown options; held = None }
 
--- a line that says in some words what is there before the events
+-- a line that says in some words of printable ASCII what is there before the events
 pub record IsFirstLine (symbols : List Symbol) (position : ℕ) (text : List ℕ) : Type 0 where
   pub words : List ℕ
+  pub is_one_line : IsPrintable words
   pub line :
       text ≡ line_text symbols (record { position = position; cpu = None; who = None; place = None }) words
 
@@ -221,7 +227,8 @@ pub record IsTold (manner : Manner) (boot : BoardState) (events : List Event) (p
   pub still : AreStill boot events (position + 1) (position + count)
   pub tells :
       Tells manner position count (happening_of (board_at boot events position) event)
-      (ended_by (board_at boot events position) event) old new text
+      (ended_by (board_at boot events position) event)
+      (concerns old.options.cpu (board_at boot events position) event) old new text
 
 -- so many events, what is held back after them, and their text
 pub record Piece : Type 0 where

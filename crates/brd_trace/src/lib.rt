@@ -6,6 +6,7 @@
 
 mod answer;
 mod cause;
+mod concerns;
 mod effect;
 mod last_step;
 mod line;

@@ -172,19 +172,12 @@ pub(crate) struct Notes {
     pub(crate) units: Units,
     /// The processor that handles each line; 0 where none does.
     pub(crate) handlers: [u8; 32],
-    /// The chosen processor.
-    pub(crate) chosen: Option<u8>,
     pub(crate) recording: Option<Recording>,
 }
 
 impl Notes {
     /// What is known of a board to which nothing has happened.
-    pub(crate) fn new(
-        alloc: Global,
-        board: &Board,
-        handlers: [u8; 32],
-        chosen: Option<u8>,
-    ) -> Result<Notes, NoMemory>
+    pub(crate) fn new(alloc: Global, board: &Board, handlers: [u8; 32]) -> Result<Notes, NoMemory>
         ensures knows { IfOk result (Knows board.now) }
         ensures dated { IfOk result (λ notes. (events : ListOf EventOf) → IsDated board.now events 0 notes) }
         ensures none { IfOk result (λ notes. notes.recording ≡ None) }
@@ -198,7 +191,6 @@ impl Notes {
             losses: Vec::new(alloc),
             units: Units::new(alloc),
             handlers,
-            chosen,
             recording: None,
         })
     }
@@ -322,18 +314,17 @@ impl Notes {
         )
     }
 
-    /// Puts at the end what the event changed of tasks and processors. Answers whether it changed what the chosen
-    /// processor does.
-    pub(crate) fn put_changes(&mut self, it: Scene, what: &mut Vec<u8>) -> Result<bool, NoMemory>
+    /// Puts at the end what the event changed of tasks and processors.
+    pub(crate) fn put_changes(&mut self, it: Scene, what: &mut Vec<u8>) -> Result<(), NoMemory>
         ensures { KeepsKnown self.old self.new }
     {
         self.put_tasks(it, what, it.cause())?;
         let now = Standings::of(it.board);
-        let concerned = now.put_changes(it.alloc, what, &self.standings, self.chosen)?;
+        now.put_changes(it.alloc, what, &self.standings)?;
         if it.told.goes_off {
             put(what, ", the board is off")?;
         }
-        Ok(concerned)
+        Ok(())
     }
 
     /// Puts at the end what an event changed of tasks.

@@ -96,27 +96,29 @@ impl Printer {
         Ok(())
     }
 
-    /// Puts at the end the line of an event with this text, where the trace shows it.
+    /// Puts at the end the line of an event with this text, which may concern the chosen processor, where the trace
+    /// shows it.
     pub(crate) fn put_said(
         &mut self,
         alloc: Global,
         manner: Manner,
         position: u64,
         told: &Happening,
-        said: &Said,
+        what: &[u8],
+        concerned: bool,
         out: &mut Vec<u8>,
     ) -> Result<(), NoMemory>
         ensures printer { IfOk result (λ _. self.new ≡ telling.with_held self.old
-            (telling.held_behind (telling.shows self.old.options told.now.cpu said.now.concerned) self.old.held)) }
+            (telling.held_behind (telling.shows self.old.options told.now.cpu concerned) self.old.held)) }
         ensures line { OnOk result (out.new.items ≡ out.old.items
-            ++ telling.text_behind (telling.shows self.old.options told.now.cpu said.now.concerned)
+            ++ telling.text_behind (telling.shows self.old.options told.now.cpu concerned)
             manner.entry.names.symbols.now self.old.held
-            (telling.told_text manner.entry.names.symbols.now position told.now said.now.what.items)) }
+            (telling.told_text manner.entry.names.symbols.now position told.now what.now)) }
     {
-        if !self.shows(told.cpu, said.concerned) {
+        if !self.shows(told.cpu, concerned) {
             return Ok(());
         }
-        self.put_line(alloc, manner, position, told, said.what.as_slice(), out)
+        self.put_line(alloc, manner, position, told, what, out)
     }
 
     /// Puts at the end the line of an event with this text, after the line of the events that were held back.
@@ -217,15 +219,6 @@ impl Printer {
             && !self.options.touching
             && (is_chosen(self.options.cpu, cpu) || concerned)
     }
-}
-
-/// What is said of an event that is no instruction.
-#[derive(Drop)]
-pub(crate) struct Said {
-    /// The text.
-    pub what: Vec<u8>,
-    /// Whether the chosen processor runs somebody else from then on.
-    pub concerned: bool,
 }
 
 /// Whether a load or a store is of one of these words, or of a part of one.

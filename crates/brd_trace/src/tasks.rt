@@ -315,23 +315,20 @@ impl Standings {
         Ok(())
     }
 
-    /// Puts at the end what processors do now that did something else before. Answers whether this one does.
+    /// Puts at the end what processors do now that did something else before.
     pub(crate) fn put_changes(
         &self,
         alloc: Global,
         out: &mut Vec<u8>,
         before: &Standings,
-        asked: Option<u8>,
-    ) -> Result<bool, NoMemory> {
-        let mut concerned = false;
+    ) -> Result<(), NoMemory> {
         for cpu in 1..9u8 {
             if self.at(cpu) != before.at(cpu) {
                 put_comma(out)?;
                 put_standing(alloc, out, cpu, self.at(cpu))?;
-                concerned = concerned || asked == Some(cpu);
             }
         }
-        Ok(concerned)
+        Ok(())
     }
 }
 

@@ -3,10 +3,12 @@
 ghost use Rattle.std.specs.Prelude.{◌≡◌, ◌++◌, ◌≤◌, IfOk, OnOk};
 ghost use Rattle.std.specs.Fmt.{decimal};
 ghost use Rattle.brd_text.specs.Hex.{hex_of};
+ghost use Rattle.brd_listing.specs.Names.{IsPrintable, shown_name};
 ghost use Rattle.brd_timeline.specs.Ends.{EndsWith};
 ghost use Rattle.brd_trace.specs.Lines.{blanks, named_text, count_text, signed_text};
 
 use brd_base::NoMemory;
+use brd_listing::write_name;
 use brd_text::hex_digits;
 use std::alloc::Global;
 
@@ -20,6 +22,16 @@ pub(crate) fn put(out: &mut Vec<u8>, text: &str) -> Result<(), NoMemory>
 {
     out.extend_from_slice(text.as_bytes())?;
     Ok(())
+}
+
+/// Words in printable ASCII alone: what isn't, is shown as in names.
+pub(crate) fn printable(alloc: Global, words: &[u8]) -> Result<Vec<u8>, NoMemory>
+    ensures is { IfOk result (λ shown. shown.items ≡ shown_name words.now) }
+    ensures printable { IfOk result (λ shown. IsPrintable shown.items) }
+{
+    let mut shown = Vec::new(alloc);
+    write_name(words, &mut shown)?;
+    Ok(shown)
 }
 
 /// Puts a number at the end, in decimal.

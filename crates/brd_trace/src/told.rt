@@ -5,7 +5,6 @@ ghost use Rattle.brd_trace.specs.Noted.{KeepsKnown};
 use crate::answer::Answered;
 use crate::cause::Raised;
 use crate::notes::{Notes, Scene};
-use crate::printer::Said;
 use crate::refusals::{Refusals, note_refusal};
 use crate::service::{RET_INT, SaidCall};
 use crate::text::{put, put_named};
@@ -18,7 +17,7 @@ use brd_timeline::MarkKind;
 
 impl Notes {
     /// What is said of an event that is no instruction and does something.
-    pub(crate) fn say(&mut self, it: Scene) -> Result<Said, NoMemory>
+    pub(crate) fn say(&mut self, it: Scene) -> Result<Vec<u8>, NoMemory>
         ensures { KeepsKnown self.old self.new }
     {
         match it.told.what {
@@ -27,23 +26,22 @@ impl Notes {
             What::Raised(line) => self.say_raised(it, line),
             What::Accepted(line) => self.say_accepted(it, line),
             What::Tick(number) => self.say_tick(it, number),
-            What::Instruction(_) | What::Lost(_) | What::Nothing(_) | What::Untold => Ok(Said {
-                what: Vec::new(it.alloc),
-                concerned: false,
-            }),
+            What::Instruction(_) | What::Lost(_) | What::Nothing(_) | What::Untold => {
+                Ok(Vec::new(it.alloc))
+            }
         }
     }
 
-    /// What is said, with what the event changed.
-    fn said(&mut self, it: Scene, mut what: Vec<u8>) -> Result<Said, NoMemory>
+    /// What is said, and then what the event changed.
+    fn with_changes(&mut self, it: Scene, mut what: Vec<u8>) -> Result<Vec<u8>, NoMemory>
         ensures { KeepsKnown self.old self.new }
     {
-        let concerned = self.put_changes(it, &mut what)?;
-        Ok(Said { what, concerned })
+        self.put_changes(it, &mut what)?;
+        Ok(what)
     }
 
     /// A service call: the call, its answer, and what it changed.
-    fn say_call(&mut self, it: Scene, made: &CallMade) -> Result<Said, NoMemory>
+    fn say_call(&mut self, it: Scene, made: &CallMade) -> Result<Vec<u8>, NoMemory>
         ensures { KeepsKnown self.old self.new }
     {
         let call = SaidCall { asked: made.asked };
@@ -68,7 +66,7 @@ impl Notes {
             MarkKind::Call,
             what.as_slice(),
         )?;
-        self.said(it, what)
+        self.with_changes(it, what)
     }
 
     /// Notes a call of a task, or of a handler, with its answer: those with an error are counted, and so are the units
@@ -144,7 +142,7 @@ impl Notes {
     }
 
     /// An exception: its cause, and what it ended.
-    fn say_exception(&mut self, it: Scene, exception: Exception) -> Result<Said, NoMemory>
+    fn say_exception(&mut self, it: Scene, exception: Exception) -> Result<Vec<u8>, NoMemory>
         ensures { KeepsKnown self.old self.new }
     {
         let mut what = Vec::new(it.alloc);
@@ -158,11 +156,11 @@ impl Notes {
             MarkKind::Fault,
             what.as_slice(),
         )?;
-        self.said(it, what)
+        self.with_changes(it, what)
     }
 
     /// An interrupt that a processor accepts.
-    fn say_accepted(&mut self, it: Scene, line: u8) -> Result<Said, NoMemory>
+    fn say_accepted(&mut self, it: Scene, line: u8) -> Result<Vec<u8>, NoMemory>
         ensures { KeepsKnown self.old self.new }
     {
         let mut what = Vec::new(it.alloc);
@@ -179,21 +177,21 @@ impl Notes {
             MarkKind::Interrupt,
             what.as_slice(),
         )?;
-        self.said(it, what)
+        self.with_changes(it, what)
     }
 
     /// A tick that releases somebody.
-    fn say_tick(&mut self, it: Scene, number: u64) -> Result<Said, NoMemory>
+    fn say_tick(&mut self, it: Scene, number: u64) -> Result<Vec<u8>, NoMemory>
         ensures { KeepsKnown self.old self.new }
     {
         self.record_tick(it.position, number)?;
         let mut what = Vec::new(it.alloc);
         put_named(it.alloc, &mut what, "tick", number)?;
-        self.said(it, what)
+        self.with_changes(it, what)
     }
 
     /// A line that is raised.
-    fn say_raised(&mut self, it: Scene, line: u8) -> Result<Said, NoMemory>
+    fn say_raised(&mut self, it: Scene, line: u8) -> Result<Vec<u8>, NoMemory>
         ensures { KeepsKnown self.old self.new }
     {
         let mut what = Vec::new(it.alloc);
@@ -205,10 +203,7 @@ impl Notes {
         )?;
         put(&mut what, " is raised")?;
         self.mark_raise(it.alloc, it.position, line, what.as_slice())?;
-        Ok(Said {
-            what,
-            concerned: false,
-        })
+        Ok(what)
     }
 
     /// Records a tick.

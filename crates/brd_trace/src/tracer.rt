@@ -31,6 +31,7 @@ ghost use Rattle.brd_trace.specs.Noted.{KeepsKnown};
 ghost use Rattle.brd_trace.specs.Recording.{begun_of, IsNoted, IsTimeline};
 ghost use Rattle.brd_trace.specs.Dated.{IsDated};
 ghost use Rattle.brd_trace.specs.Links.{ended_text, linked_on};
+ghost use Rattle.brd_trace.specs.Concerns.{does_other};
 ghost use Rattle.brd_trace.specs.Telling.{
   held_text,
   with_held,
@@ -52,6 +53,7 @@ ghost use Rattle.brd_trace.specs.Telling.{
   TellsOther,
 };
 
+use crate::concerns::{chosen_standing, does_other};
 use crate::line::Heading;
 use crate::links::{Links, linked_on};
 use crate::names::Names;
@@ -59,8 +61,9 @@ use crate::notes::{Notes, Scene};
 use crate::playback::next_of;
 use crate::printer::{Manner, Options, Printer};
 use crate::quiet::{Quiet, Stretch, quiet_of, tick_of};
+use crate::text::printable;
 use brd_base::NoMemory;
-use brd_board::{Board, Report};
+use brd_board::{Board, Report, Standing};
 use brd_happening::{Before, Happening, Instruction, What};
 use brd_journal::{Journal, Moved, Playback, Run};
 use brd_timeline::Timeline;
@@ -89,7 +92,7 @@ impl Tracer {
         ensures noted { IfOk result (λ tracer. (events : ListOf EventOf) → IsNoted board events 0 tracer.notes) }
         ensures dated { IfOk result (λ tracer. (events : ListOf EventOf) → IsDated board events 0 tracer.notes) }
     {
-        let notes = Notes::new(alloc, &board, options.lines, options.cpu)?;
+        let notes = Notes::new(alloc, &board, options.lines)?;
         Ok(Tracer {
             playback: Playback { board, at: 0 },
             printer: Printer::new(options),
@@ -244,12 +247,22 @@ impl Tracer {
             }
         };
         let linked = self.linked_before();
+        let stood = chosen_standing(self.printer.options.cpu, &self.playback.board);
         let moved = self.playback.advance(rest, position + 1, to);
         if self.passes(moved.report) {
             return Ok(());
         }
         let told = before.happening(alloc, moved.report, &self.playback.board)?;
-        self.tell(alloc, manner, position, moved.count, &told, &linked, out)?;
+        self.tell(
+            alloc,
+            manner,
+            position,
+            moved.count,
+            &told,
+            &linked,
+            stood,
+            out,
+        )?;
         let scene = Scene {
             alloc,
             names: manner.names,
@@ -279,7 +292,7 @@ impl Tracer {
     }
 
     /// Puts at the end what is told of an event, and of those after it that do nothing. Before it these processors had
-    /// a link.
+    /// a link, and the chosen one stood so.
     fn tell(
         &mut self,
         alloc: Global,
@@ -288,6 +301,7 @@ impl Tracer {
         count: u64,
         told: &Happening,
         linked: &[bool],
+        stood: Option<Standing>,
         out: &mut Vec<u8>,
     ) -> Result<(), NoMemory>
         requires { position + 1 < 2 ^ 64 }
@@ -295,7 +309,8 @@ impl Tracer {
         ensures known { KeepsKnown self.old.notes self.new.notes }
         ensures told { IfOk result (λ _. IsBehind
             (Tells manner.entry position count told.now
-            (ended_text told.now.cpu linked.now (linked_on self.old.playback.board)) self.old.printer self.new.printer)
+            (ended_text told.now.cpu linked.now (linked_on self.old.playback.board))
+            (does_other self.old.printer.options.cpu stood self.old.playback.board) self.old.printer self.new.printer)
             out.old.items out.new.items) }
     {
         if let Some(instruction) = instruction_in(told.what) {
@@ -312,11 +327,12 @@ impl Tracer {
         if is_untold(told.what) {
             return Ok(());
         }
-        self.tell_other(alloc, manner, position, count, told, out)?;
+        let concerned = does_other(self.printer.options.cpu, stood, &self.playback.board);
+        self.tell_other(alloc, manner, position, count, told, concerned, out)?;
         Ok(())
     }
 
-    /// Puts at the end what is told of an event that is no instruction.
+    /// Puts at the end what is told of an event that is no instruction, and may concern the chosen processor.
     fn tell_other(
         &mut self,
         alloc: Global,
@@ -324,17 +340,18 @@ impl Tracer {
         position: u64,
         count: u64,
         told: &Happening,
+        concerned: bool,
         out: &mut Vec<u8>,
     ) -> Result<(), NoMemory>
         requires { position + 1 < 2 ^ 64 }
         ensures same { self.new.playback ≡ self.old.playback }
         ensures known { KeepsKnown self.old.notes self.new.notes }
         ensures told { IfOk result (λ _. IsBehind
-            (TellsOther (quiet_of told.now) manner.entry.names.symbols.now position count told.now self.old.printer
-            self.new.printer) out.old.items out.new.items) }
+            (TellsOther (quiet_of told.now) manner.entry.names.symbols.now position count told.now concerned
+            self.old.printer self.new.printer) out.old.items out.new.items) }
     {
         let Some(quiet) = quiet_of(told) else {
-            self.tell_line(alloc, manner, position, count, told, out)?;
+            self.tell_line(alloc, manner, position, count, told, concerned, out)?;
             return Ok(());
         };
         let stretch = Stretch {
@@ -366,7 +383,8 @@ impl Tracer {
         self.printer.put_quiet(alloc, names, stretch, out)
     }
 
-    /// Puts at the end the line of an event, and what is told of raises of the same line after it.
+    /// Puts at the end the line of an event, which may concern the chosen processor, and what is told of raises of the
+    /// same line after it.
     fn tell_line(
         &mut self,
         alloc: Global,
@@ -374,14 +392,15 @@ impl Tracer {
         position: u64,
         count: u64,
         told: &Happening,
+        concerned: bool,
         out: &mut Vec<u8>,
     ) -> Result<(), NoMemory>
         requires { position + 1 < 2 ^ 64 }
         ensures same { self.new.playback ≡ self.old.playback }
         ensures known { KeepsKnown self.old.notes self.new.notes }
         ensures told { IfOk result (λ _. IsBehind
-            (TellsLine manner.entry.names.symbols.now position count told.now self.old.printer self.new.printer)
-            out.old.items out.new.items) }
+            (TellsLine manner.entry.names.symbols.now position count told.now concerned self.old.printer
+            self.new.printer) out.old.items out.new.items) }
     {
         let scene = Scene {
             alloc,
@@ -390,10 +409,18 @@ impl Tracer {
             position,
             told,
         };
-        let mut said = self.notes.say(scene)?;
-        manner.names.put_source_of(alloc, told, &mut said.what)?;
-        self.printer
-            .put_said(alloc, manner, position, told, &said, out)?;
+        let mut what = self.notes.say(scene)?;
+        manner.names.put_source_of(alloc, told, &mut what)?;
+        let words = printable(alloc, what.as_slice())?;
+        self.printer.put_said(
+            alloc,
+            manner,
+            position,
+            told,
+            words.as_slice(),
+            concerned,
+            out,
+        )?;
         self.tell_more(
             alloc,
             manner.names,
@@ -489,13 +516,14 @@ impl Tracer {
         self.printer = Printer::new(shown(self.printer.options));
         let mut what = Vec::new(alloc);
         self.notes.standings.put_all(alloc, &mut what)?;
+        let words = printable(alloc, what.as_slice())?;
         let heading = Heading {
             position: self.playback.at,
             cpu: None,
             who: None,
             place: None,
         };
-        heading.put_line(alloc, manner.names, what.as_slice(), out)?;
+        heading.put_line(alloc, manner.names, words.as_slice(), out)?;
         Ok(())
     }
 

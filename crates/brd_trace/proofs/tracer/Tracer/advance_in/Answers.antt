@@ -1,4 +1,4 @@
-use Rattle.std.proofs.Common.{ℕ, List, refl, ◌≡◌, ◌+◌, ◌<◌, true, false, sym, ap, ◌∙◌, subst, arith}
+use Rattle.std.proofs.Common.{Bool, ℕ, List, refl, ◌≡◌, ◌+◌, ◌<◌, true, false, sym, ap, ◌∙◌, subst, arith}
 use Rattle.brd_board.specs.Board.{happens}
 use Rattle.brd_happening.specs.declared.happening.Happening.{Happening}
 use Rattle.brd_happening.specs.Happening.{happening_of}
@@ -9,7 +9,8 @@ use Rattle.brd_journal.proofs.PlayingLemmas.{first-board}
 use Rattle.brd_journal.proofs.RestLemmas.{rest_some}
 use Rattle.brd_trace.specs.Links.{ended_by, ended_text, linked_on}
 use Rattle.brd_trace.specs.Telling.{is_ran, may_list, Tells}
-use Rattle.brd_trace.proofs.LinksLemmas.{ends_by}
+use Rattle.brd_trace.proofs.LinksLemmas.{concerns_by, ends_by}
+use Rattle.brd_trace.specs.Concerns.{concerns, does_other}
 use Rattle.brd_trace.proofs.RanLemmas.{passes_both, ran_hidden, told_ended, told_is}
 use Rattle.brd_trace.proofs.TraceLemmas.{puts_one, puts_hidden}
 use Rattle.brd_trace.specs.Dated.{IsDated}
@@ -75,6 +76,10 @@ returns-clause-told c = λ boot events within comes is.
     ended_text c.in_ok-told.told.cpu linked (linked_on next.board) ≡ ended_by (board_at boot events position) event =
     λ lists. ends_by board (board_at boot events position) next.board event c.in_ok-told.told.cpu linked (linked_on next.board)
     is.board leaves (ap (λ (h : Happening). h.cpu) it) (c.linked_before-linked.ensures lists) refl in
+    let cpu = c.args.self.now.printer.options.cpu in
+    let stood = c.chosen_standing-stood.result in
+    let concerned : does_other cpu stood next.board ≡ concerns cpu (board_at boot events position) event =
+    concerns_by cpu board (board_at boot events position) next.board event stood is.board leaves c.chosen_standing-stood.ensures in
     let t = c.in_ok-tell.ensures.told in
     let ends : c.tell.new.self.playback.at ≡ position + moved.count = ap (λ (p : Playback). p.at) c.tell.ensures.same ∙ goes.2 in
     puts_one c.args.manner boot events position moved.count c.tell.new.self.playback.at c.args.self.now.printer c.tell.new.self.printer
@@ -88,9 +93,13 @@ returns-clause-told c = λ boot events within comes is.
         still = subst (AreStill boot events (position + 1)) goes.2 (c.advance-moved.ensures.still boot events comes is);
         tells = told_ended c.args.manner position moved.count (happening_of (board_at boot events position) event)
             (ended_text c.in_ok-told.told.cpu linked (linked_on next.board)) (ended_by (board_at boot events position) event)
+            (concerns cpu (board_at boot events position) event)
             c.args.self.now.printer c.tell.new.self.printer t.text (may_list c.args.self.now.printer.options) refl ended
+            (subst (λ (x : Bool). Tells c.args.manner position moved.count (happening_of (board_at boot events position) event)
+            (ended_text c.in_ok-told.told.cpu linked (linked_on next.board)) x
+            c.args.self.now.printer c.tell.new.self.printer t.text) concerned
             (subst (λ (h : Happening). Tells c.args.manner position moved.count h (ended_text c.in_ok-told.told.cpu linked (linked_on next.board))
-            c.args.self.now.printer c.tell.new.self.printer t.text) it t.is_it);
+            (does_other cpu stood next.board) c.args.self.now.printer c.tell.new.self.printer t.text) it t.is_it));
       };
       behind = t.behind;
     })
