@@ -10,7 +10,8 @@ use Rattle.brd_board.specs.declared.event.Report.{Report}
 use Rattle.brd_board.specs.declared.event.Report.TheVariants as report
 use Rattle.brd_exec.specs.State.{State}
 use Rattle.brd_kernel.specs.declared.processor.Standing.{Standing}
-use Rattle.brd_board.specs.Board.{BoardState, happens, registers_of, standing_of}
+use Rattle.brd_tasks.specs.declared.task.TaskView.{TaskView}
+use Rattle.brd_board.specs.Board.{BoardState, happens, registers_of, standing_of, task_of}
 use Rattle.brd_journal.specs.Still.{does_no_more}
 use Rattle.brd_journal.specs.Playing.{board_at}
 use Rattle.brd_debug.specs.declared.stops.Stepper.{Stepper}
@@ -49,22 +50,41 @@ is_who (Standing.Task id) (Some (Standing.Task other)) = id == other
 is_who (Standing.Handler line) (Some (Standing.Handler other)) = line == other
 is_who who standing = false
 
--- who was executed on a processor is to go on there outside a range
+-- The processor of who was executed on another one: of a task the one to which it is assigned by now (a service call may
+-- have moved it, as mig_tsk does), of a handler the same.
+abbrev pub assigned_or : ℕ → Option TaskView → ℕ
+assigned_or cpu None = cpu
+assigned_or cpu (Some task) = task.cpu
+
+abbrev pub processor_of : ℕ → Standing → BoardState → ℕ
+processor_of cpu (Standing.Task id) b = assigned_or cpu (task_of b id)
+processor_of cpu other b = cpu
+
+-- who is meant is to go on, on a processor, outside a range
+abbrev pub goes_on_outside : ℕ → Standing → ℕ → ℕ → BoardState → Bool
+goes_on_outside cpu who start end b = is_who who (standing_of b cpu) && is_outside start end (registers_of b cpu)
+
+-- who was executed on a processor is to go on outside a range, on his processor
 abbrev pub has_come_out : ℕ → Standing → ℕ → ℕ → BoardState → Bool
-has_come_out cpu who start end after =
-    is_who who (standing_of after cpu) && is_outside start end (registers_of after cpu)
+has_come_out cpu who start end after = goes_on_outside (processor_of cpu who after) who start end after
 
 -- an event may have changed who executes, or where
 abbrev pub moves_on : Event → Report → Bool
 moves_on event told = not (does_no_more event told)
 
 -- An event is a stop of the processor that is stepped: it executes an instruction there; or it leads whom the processor
--- executes out of the range, others who are executed in the meantime apart.
+-- executes out of the range, others who are executed in the meantime apart, and on whichever processor he goes on.
 abbrev pub is_stepped : Option Stepper → Event → Report → BoardState → Bool
 is_stepped None event told after = false
 is_stepped (Some (Stepper.Each cpu)) event told after = is_step_of cpu event && executes told
 is_stepped (Some (Stepper.Until cpu who start end)) event told after =
     moves_on event told && has_come_out cpu who start end after
+
+-- the processor of who is stepped, on a board; of nobody another one
+abbrev pub stepped_on : Option Stepper → BoardState → ℕ → ℕ
+stepped_on None b other = other
+stepped_on (Some (Stepper.Each cpu)) b other = cpu
+stepped_on (Some (Stepper.Until cpu who start end)) b other = processor_of cpu who b
 
 -- an event raises an exception, where a debugger stops at these
 abbrev pub is_fault : Bool → Report → Bool

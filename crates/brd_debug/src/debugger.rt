@@ -187,6 +187,13 @@ impl Debugger {
         self.stops.stepper = stepper;
     }
 
+    /// The processor that is stepped, if one is.
+    pub fn stepper(&self) -> Option<Stepper>
+        ensures { result ≡ self.now.stops.stepper }
+    {
+        self.stops.stepper
+    }
+
     /// Stops from now on at exceptions, or not.
     pub fn set_faults(&mut self, faults: bool)
         ensures { self.new ≡ record self.old { stops = record self.old.stops { faults = faults } } }

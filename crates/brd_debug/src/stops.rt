@@ -19,6 +19,10 @@ ghost use Rattle.brd_debug.specs.Stops.{
   concerns,
   is_done,
   moves_on,
+  assigned_or,
+  processor_of,
+  stepped_on,
+  goes_on_outside,
   has_come_out,
   is_who,
 };
@@ -34,9 +38,9 @@ use brd_board::{Board, Event, Report, Standing};
 pub enum Stepper {
     /// Each instruction of this processor is a stop.
     Each(u8),
-    /// A stop is where whom the processor executes is to go on outside a range.
+    /// A stop is where whom the processor executes is to go on outside a range, on whichever processor.
     Until {
-        /// The processor.
+        /// The processor on which he is executed at first.
         cpu: u8,
         /// Whom it executes. Others whom it executes in the meantime are passed over.
         who: Standing,
@@ -312,9 +316,40 @@ fn moves_on(event: Event, report: Report) -> bool
     )
 }
 
-/// Whether somebody is to go on outside a range, on a processor.
+/// The processor of who is stepped, on a board; of nobody another one.
+pub fn stepped_on(stepper: Option<Stepper>, board: &Board, other: u8) -> u8
+    ensures { result ≡ stepped_on stepper board.now other }
+{
+    match stepper {
+        None => other,
+        Some(Stepper::Each(cpu)) => cpu,
+        Some(Stepper::Until { cpu, who, .. }) => processor_of(cpu, who, board),
+    }
+}
+
+/// The processor of who was executed on another one: a task's is the one to which it is assigned by now.
+fn processor_of(cpu: u8, who: Standing, board: &Board) -> u8
+    ensures { result ≡ processor_of cpu who board.now }
+{
+    match who {
+        Standing::Task(id) => match board.task(id) {
+            Some(task) => task.cpu,
+            None => cpu,
+        },
+        Standing::Idle | Standing::Stopped | Standing::Handler(_) => cpu,
+    }
+}
+
+/// Whether who was executed on a processor is to go on outside a range, on his processor.
 fn has_come_out(cpu: u8, who: Standing, start: u32, end: u32, board: &Board) -> bool
     ensures { result ≡ has_come_out cpu who start end board.now }
+{
+    goes_on_outside(processor_of(cpu, who, board), who, start, end, board)
+}
+
+/// Whether somebody is to go on, on a processor, outside a range.
+fn goes_on_outside(cpu: u8, who: Standing, start: u32, end: u32, board: &Board) -> bool
+    ensures { result ≡ goes_on_outside cpu who start end board.now }
 {
     is_who(who, board.standing(cpu)) && is_outside(cpu, start, end, board)
 }
