@@ -155,6 +155,63 @@ No more reverse-execution history\.
 END
 done
 
+# A reverse step is of the thread that was chosen: also from a break of another one, which GDB steps first, after a list
+# of the threads, and after something was shown of others.
+elf=$work/slots.big
+cfg=tests/gdb/slots.cfg
+journal=tests/gdb/slots.journal
+session "a reverse step of a chosen thread" << 'END'
+> break *0x80000024 thread 2
+Breakpoint 1 at 0x80000024
+> continue
+Thread 2( ".*")? hit Breakpoint 1, 0x80000024 in .*
+> continue
+> continue
+Thread 2( ".*")? hit Breakpoint 1, 0x80000024 in .*
+> thread 1
+\[Switching to thread 1 .*
+#0  0x80000008 in .*
+> reverse-stepi
+0x80000004 in .*
+> delete
+> info threads
+\* 1 +Thread 1 .*0x80000004 in .*
+  2 +Thread 2 .*
+> thread apply 2 1 2 -q print $pc
+\$3 = .*
+> reverse-stepi
+0x80000000 in .*
+> info threads
+\* 1 +Thread 1 .*0x80000000 in .*
+  2 +Thread 2 .*
+END
+
+# A step over a call that assigns its caller to another processor ends on that one, once the caller goes on there.
+for order in big little; do
+    elf=$work/mover.$order
+    { echo "        .byteorder $order"; cat tests/gdb/mover.s; } > "$work/mover.s"
+    "$board" asm "$work/mover.s" "$elf"
+    cfg=tests/gdb/mover.cfg
+    ordered tests/gdb/mover.journal
+    session "a step over a call that moves its caller to another processor, $order-endian" << 'END'
+> stepi 3
+0x8000000c in .*
+> stepi
+Thread 2( ".*")? received signal SIGTRAP, Trace/breakpoint trap\.
+\[Switching to Thread 2\]
+0x80000010 in .*
+> monitor where
+position 20 of 40: .*
+> info threads
+  1 +Thread 1 "task 2" .*
+\* 2 +Thread 2 "task 1" 0x80000010 in .*
+> stepi
+0x80000014 in .*
+> printf "t0=%d\n", $t0
+t0=1
+END
+done
+
 # Watches of stores, in a delay slot too, and of loads and accesses by the bytes that an instruction names.
 for order in big little; do
     elf=$work/parts.$order
@@ -309,18 +366,104 @@ New value = -2147483552
 END
 
 # What `board trace` shows up to a position: its last lines, all of them, and the summary, at both ends of a stretch of
-# ticks too.
-for position in 0 1 19 2019 2020 4000 6022 6026; do
-    sdk/gdb "$board" "$elf" "$cfg" "$journal" -ex "monitor goto $position" -ex 'echo @\n' -ex 'monitor trace 3' \
-        -ex 'echo @\n' -ex 'monitor trace 5000' -ex 'echo @\n' -ex 'monitor summary' -ex 'echo @\n' \
-        < /dev/null > "$work/said" 2>&1
-    "$board" trace --to $position "$elf" "$cfg" "$journal" > "$work/whole"
-    { echo @; tail -n 3 "$work/whole"; echo @; cat "$work/whole"; echo @
-        "$board" trace --summary --to $position "$elf" "$cfg" "$journal"; } > "$work/wanted"
-    awk '/^@$/ { marks++ } marks >= 1 && marks < 4' "$work/said" > "$work/shown"
-    verdict "gdb: the trace and the summary up to $position" \
-        "$([ $(grep -c . "$work/wanted") -ge 7 ] && diff "$work/wanted" "$work/shown" 2>&1 || tail -n 20 "$work/said")"
-done
+# ticks too, and where interrupts come.
+shows() {
+    local position
+    for position; do
+        sdk/gdb "$board" "$elf" "$cfg" "$journal" -ex "monitor goto $position" -ex 'echo @\n' -ex 'monitor trace 3' \
+            -ex 'echo @\n' -ex 'monitor trace 5000' -ex 'echo @\n' -ex 'monitor summary' -ex 'echo @\n' \
+            < /dev/null > "$work/said" 2>&1
+        "$board" trace --to $position "$elf" "$cfg" "$journal" > "$work/whole"
+        { echo @; tail -n 3 "$work/whole"; echo @; cat "$work/whole"; echo @
+            "$board" trace --summary --to $position "$elf" "$cfg" "$journal"; } > "$work/wanted"
+        awk '/^@$/ { marks++ } marks >= 1 && marks < 4' "$work/said" > "$work/shown"
+        verdict "gdb: the trace and the summary up to $position of ${elf##*/}" \
+            "$([ $(grep -c . "$work/wanted") -ge 7 ] && diff "$work/wanted" "$work/shown" 2>&1 || tail -n 20 "$work/said")"
+    done
+}
+shows 0 1 19 2019 2020 4000 6022 6026
+
+elf=$work/interrupt.elf
+cfg=examples/interrupt/interrupt.cfg
+journal=examples/interrupt/interrupt.journal
+"$board" asm examples/interrupt/interrupt.s "$elf"
+shows 9 10 27 46
+
+# (A line whose processor is stopped is accepted no more, so a deadlock is told.)
+elf=$work/stopped.elf
+cfg=tests/gdb/stopped.cfg
+journal=tests/gdb/stopped.journal
+"$board" asm tests/gdb/stopped.s "$elf"
+shows 7 12
+
+# LO and HI, and what else the command monitor shows: of a task that runs, of tasks that wait, each for something else,
+# and what was written.
+elf=$work/waits.elf
+cfg=tests/gdb/waits.cfg
+journal=tests/gdb/waits.journal
+"$board" asm tests/gdb/waits.s "$elf"
+session "the registers of a product" << 'END'
+> tbreak *0x80000060
+Temporary breakpoint 1 at 0x80000060
+> continue
+Temporary breakpoint 1, 0x80000060 in .*
+> stepi 3
+0x8000006c in .*
+> printf "%x %x\n", $lo, $hi
+34000000 12
+> info registers lo hi
+lo: 0x34000000
+hi: 0x12
+END
+session "what monitor shows" << 'END'
+> tbreak *0x80000060
+Temporary breakpoint 1 at 0x80000060
+> continue
+> monitor where
+position 24 of 40: a step of processor 1 comes
+> monitor tasks
+processor 1: task 8
+task 1 waiting, priority 1, processor 1
+task 2 waiting, priority 2, processor 1
+task 3 waiting, priority 3, processor 1
+task 4 waiting, priority 4, processor 1
+task 5 waiting, priority 5, processor 1
+task 6 waiting, priority 6, processor 1
+task 7 waiting, priority 7, processor 1
+task 8 ready, priority 8, processor 1
+task 9 dormant, priority 9, processor 1
+> monitor objects
+task 1 waits for a wake-up
+task 2 waits for the end of a delay, until tick 6
+task 3 waits for semaphore 1
+task 4 waits for semaphore 1, until tick 10
+task 5 waits for event flag 1
+task 6 waits to send to data queue 1
+task 7 waits to receive from data queue 2
+> continue
+The journal ends here: no processor executes anything\.
+> monitor console
+Ok
+> monitor goto 0
+at 0
+> monitor objects
+no task waits
+> monitor goto 41
+past 40
+> monitor where
+position 0 of 40: a step of processor 1 comes
+> monitor help
+goto N: goes to position N
+where: the position, and whose step comes
+tasks: the tasks and their states
+objects: who waits for what
+console: what was written to the console
+help: these commands
+trace N: .*
+summary: .*
+> monitor nothing
+unknown; .*
+END
 
 # Every byte of the stream is answered, or ends it: D and k by status 0, an end without them by 4.
 # ends NAME STATUS BYTES
@@ -335,6 +478,88 @@ ends "a pipe that ends within a packet" 4 '+$qSupp'
 ends "D" 0 '+$?#3f+$D#44'
 ends "k" 0 '$k#6b'
 ends "vKill" 0 '$vKill;1#6e'
+# Packets by themselves, as another client may send them.
+# packet PAYLOAD: a packet of GDB's protocol.
+packet() {
+    local sum=0 i
+    for ((i = 0; i < ${#1}; i++)); do sum=$(((sum + $(printf '%d' "'${1:i:1}")) % 256)); done
+    printf '$%s#%02x' "$1" "$sum"
+}
+# command TEXT: the payload by which GDB sends its command monitor.
+command() {
+    printf 'qRcmd,%s' "$(printf %s "$1" | od -An -v -tx1 | tr -d ' \n')"
+}
+# replies NAME WANTED PAYLOAD..: the payloads of the replies, a line each, but for what is shown on the console.
+replies() {
+    local name=$1 wanted=$2
+    shift 2
+    for it; do packet "$it"; done > "$work/packets"
+    packet D >> "$work/packets"
+    timeout 60 "$board" gdb "$elf" "$cfg" "$journal" < "$work/packets" > "$work/out" 2> "$work/err"
+    sed -E 's/\+?\$([^#]*)#../\1\n/g' "$work/out" | grep -v '^O[0-9a-f]' > "$work/got"
+    verdict "gdb: $name" "$(printf '%s\nOK\n' "$wanted" | diff - "$work/got")"
+}
+elf=$work/slots.big
+cfg=tests/gdb/slots.cfg
+journal=tests/gdb/slots.journal
+points=()
+for i in {10..73}; do points+=("Z0,800001$i,4"); done
+replies "64 points of a kind, and bytes of a watch" "$(printf 'OK\n%.0s' {1..64})
+E01
+OK
+OK
+OK
+OK
+E01
+E01
+E01
+OK" "${points[@]}" Z0,80000024,4 Z0,80000110,4 Z1,80000024,4 z0,80000110,4 Z0,80000024,4 Z0,80000028,4 Z2,80000040,0 \
+    Z3,80000040,9 Z4,80000040,8
+# Steps of a thread that is named, of one that is chosen by Hg, by T, and by a stop.
+replies "whose step it is" 'OK
+T05thread:02;
+OK
+OK
+T05thread:01;
+T05thread:01;
+OK
+T05thread:02;
+OK
+OK
+OK
+T05thread:01;
+OK
+OK
+T05thread:02;
+E01
+E01
+E01
+T05thread:02;' "$(command "goto 9")" "vCont;s:2" Hc0 Hg1 s bs T2 s Hc1 T2 Hg2 bs Hc-1 T2 bs Hg3 Hc3 T3 bs
+# Another position is another stop, though the one before was told: $t0 is 1 there.
+replies "a break at another position" 'OK
+T05thread:01;swbreak:;
+OK
+T05thread:01;swbreak:;
+00000001' Z0,80000008,4 "vCont;c" "$(command "goto 14")" "vCont;c" p8
+# The point that is named is the one whose byte is read, and not its neighbour.
+elf=$work/parts.big
+cfg=tests/gdb/parts.cfg
+journal=tests/gdb/parts.journal
+replies "neighbours of what is read" 'OK
+OK
+OK
+T05thread:01;rwatch:80000050;' Z3,80000054,1 Z3,8000004f,1 Z3,80000050,4 "vCont;c"
+# Who executes at the end.
+elf=$work/slots.big
+cfg=tests/gdb/slots.cfg
+journal=tests/gdb/slots.journal
+session "the end where processor 2 alone executes" << 'END'
+> continue
+Thread 1( ".*")? received signal SIGBUS, Bus error\.
+> continue
+The journal ends here\.
+END
+
 # GDB is killed while it is connected.
 mkfifo "$work/to"
 { "$board" gdb "$elf" "$cfg" "$journal" < "$work/to" > "$work/out" 2> "$work/err"; echo $? > "$work/status"; } &

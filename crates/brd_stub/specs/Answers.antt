@@ -15,6 +15,7 @@ use Rattle.brd_stub.specs.Registers.{context_or_rest, registers_text, register_t
 use Rattle.brd_stub.specs.Reading.{IsMemoryText}
 use Rattle.brd_stub.specs.Moving.{IsSameButStops, stepping, stepping_back, GoesForward, GoesBack}
 use Rattle.brd_stub.specs.Stepping.{stepped_by}
+use Rattle.brd_stub.specs.Selecting.{beginning, stepping_of}
 use Rattle.brd_stub.specs.Halting.{halt_text, fitting}
 
 -- What is replied to a request that reads a board: the registers of a processor, or memory. A write is refused.
@@ -50,8 +51,8 @@ Says s other reply = Unit {0}
 -- What a session answers to a request, and what it is then: it reads the board at its position, moves as it is asked and
 -- tells why it has stopped, and its reply fits a packet.
 pub record Answers (s : Session) (request : Request) (console reply : List ℕ) (next : Session) : Type 0 where
-  pub reads : Reads (shown s.debugger) s.reading request reply
-  pub moves : Moves s.stepping s.told request s.debugger next.debugger
+  pub reads : Reads (shown s.debugger) s.selection.reading request reply
+  pub moves : Moves (stepping_of s.selection) s.told request s.debugger next.debugger
   pub tells : Tells request next reply
   pub says : Says s request reply
   pub short : length reply ≤ packet_size
@@ -61,4 +62,4 @@ pub record Begins (boot : BoardState) (events : List Event) (s : Session) : Type
   pub debugger : s.debugger
       ≡ record { boot = boot; events = events; position = 0; stops = record no_stops { faults = true } }
   pub points : s.points.items ≡ []
-  pub reading : s.reading ≡ 1
+  pub selection : s.selection ≡ beginning

@@ -37,12 +37,6 @@ stepper_in cpu None context start end = Stepper.Each cpu
 abbrev pub stepper_on : BoardState → ℕ → ℕ → ℕ → Stepper
 stepper_on b cpu start end = stepper_in cpu (standing_of b cpu) (registers_of b cpu) start end
 
--- the processor that is stepped, or another one where none is
-abbrev pub cpu_of : Option Stepper → ℕ → ℕ
-cpu_of None other = other
-cpu_of (Some (Stepper.Each cpu)) other = cpu
-cpu_of (Some (Stepper.Until cpu who start end)) other = cpu
-
 -- What a move steps. A thread that moves alone is stepped by its processor's next instruction, whoever executes that,
 -- and what other processors come to isn't told.
 abbrev pub stepped_by : BoardState → ℕ → Move → Stepped

@@ -10,6 +10,7 @@ mod monitor;
 mod moves;
 mod points;
 mod registers;
+mod selection;
 mod session;
 mod stepping;
 mod telling;

@@ -27,12 +27,12 @@ use crate::halt::{
     watched,
 };
 use crate::session::Session;
-use crate::stepping::{Stepped, cpu_of};
+use crate::stepping::Stepped;
 use crate::telling::{halt_text, short, text};
 use crate::threads::executing;
 use brd_base::NoMemory;
 use brd_board::{Board, Standing};
-use brd_debug::{DebugFault, Look, Stepper};
+use brd_debug::{DebugFault, Look, Stepper, stepped_on};
 use brd_progress::Progress;
 use std::alloc::Global;
 
@@ -51,7 +51,6 @@ impl Session {
     {
         self.debugger.set_stepper(stepped.stepper);
         self.debugger.set_only(stepped.only);
-        self.stepping = cpu_of(stepped.stepper, self.stepping);
         self.halt = self.forward(progress)?;
         self.stopped(alloc)
     }
@@ -103,8 +102,7 @@ impl Session {
         ensures tells { IfOk result (λ answer. answer.reply.items ≡ fitting (halt_text self.new.halt)) }
         ensures short { IfOk result (λ answer. length answer.reply.items ≤ packet_size) }
     {
-        self.reading = self.halt.thread;
-        self.stepping = self.halt.thread;
+        self.selection = self.selection.choosing(self.halt.thread);
         let console = if self.halt.reason == Reason::End {
             text(alloc, end_text(self.debugger.show()))?
         } else {
@@ -190,10 +188,14 @@ impl Session {
         })
     }
 
-    /// That a step is done.
+    /// That a step is done, where the board stands after it.
     fn step_done(&self) -> Halt {
         Halt {
-            thread: self.stepping,
+            thread: stepped_on(
+                self.debugger.stepper(),
+                self.debugger.show(),
+                self.halt.thread,
+            ),
             reason: Reason::Done,
         }
     }

@@ -5,11 +5,13 @@ ghost use Rattle.brd_gdb.specs.Receiving.{packet_size};
 ghost use Rattle.brd_debug.specs.Debugger.{shown};
 ghost use Rattle.brd_stub.specs.Answers.{Answers, Begins, Reads, Moves, Tells, Says};
 ghost use Rattle.brd_stub.specs.Stepping.{processor_for, stepper_on, stepped_by};
+ghost use Rattle.brd_stub.specs.Selecting.{stepping_of};
 ghost use Rattle.brd_stub.specs.Moving.{IsSameButStops};
 
 use crate::answer::Answer;
 use crate::halt::{Halt, Reason, Told};
 use crate::points::{Point, Setting, clear_point, load, set_point};
+use crate::selection::Selection;
 use crate::stepping::{Stepped, stepper_on};
 use crate::telling::{plain, text};
 use crate::threads::processor_of;
@@ -31,10 +33,8 @@ pub struct Session {
     pub told: Told,
     /// Why the board stands where it is.
     pub halt: Halt,
-    /// The processor whose registers are read.
-    pub reading: u8,
-    /// The processor that steps where none is named.
-    pub stepping: u8,
+    /// Which threads requests are of.
+    pub selection: Selection,
 }
 
 /// Written out, so that a function that lets one go is proved with a call, and not with the end of each part.
@@ -45,8 +45,7 @@ impl Drop for Session {
             points: _,
             told: _,
             halt: _,
-            reading: _,
-            stepping: _,
+            selection: _,
         } = self;
     }
 }
@@ -67,8 +66,7 @@ impl Session {
                 thread: 1,
                 reason: Reason::Done,
             },
-            reading: 1,
-            stepping: 1,
+            selection: Selection::new(),
         })
     }
 
@@ -93,8 +91,8 @@ impl Session {
         progress: &mut P,
     ) -> Result<Answer, NoMemory>
         ensures reads { IfOk result (λ answer.
-            Reads (shown self.old.debugger) self.old.reading request answer.reply.items) }
-        ensures moves { IfOk result (λ _. Moves self.old.stepping self.old.told request self.old.debugger self.new.debugger) }
+            Reads (shown self.old.debugger) self.old.selection.reading request answer.reply.items) }
+        ensures moves { IfOk result (λ _. Moves (stepping_of self.old.selection) self.old.told request self.old.debugger self.new.debugger) }
         ensures tells { IfOk result (λ answer. Tells request self.new answer.reply.items) }
         ensures says { IfOk result (λ answer. Says self.old request answer.reply.items) }
         ensures short { IfOk result (λ answer. length answer.reply.items ≤ packet_size) }
@@ -106,7 +104,7 @@ impl Session {
             }
             Request::BackwardContinue => self.go_back(alloc, None, progress),
             Request::BackwardStep => {
-                let stepper = Stepper::Each(self.stepping);
+                let stepper = Stepper::Each(self.selection.stepping());
                 self.go_back(alloc, Some(stepper), progress)
             }
             Request::Monitor(Monitor::Goto(position)) => self.go_to(alloc, position, progress),
@@ -138,6 +136,9 @@ impl Session {
             Request::Monitor(command) => self.show_monitor(alloc, command),
             other => {
                 let reply = self.tell(alloc, other)?;
+                if let Request::IsAlive(thread) = other {
+                    self.selection = self.selection.asking(self.debugger.show(), thread);
+                }
                 Ok(plain(alloc, reply))
             }
         }
@@ -145,7 +146,7 @@ impl Session {
 
     /// The processor that a move steps, if it steps one, and whether it moves alone.
     fn stepped_by(&self, how: Move) -> Stepped
-        ensures { result ≡ stepped_by (shown self.now.debugger) self.now.stepping how }
+        ensures { result ≡ stepped_by (shown self.now.debugger) (stepping_of self.now.selection) how }
     {
         match how {
             Move::Continue => Stepped {
@@ -173,22 +174,20 @@ impl Session {
     /// How a thread is stepped within a range.
     fn stepper(&self, thread: ThreadId, start: u32, end: u32) -> Stepper
         ensures { result ≡ stepper_on (shown self.now.debugger)
-            (processor_for (shown self.now.debugger) thread self.now.stepping) start end }
+            (processor_for (shown self.now.debugger) thread (stepping_of self.now.selection)) start end }
     {
         stepper_on(self.debugger.show(), self.processor(thread), start, end)
     }
 
     /// The processor of a thread that steps.
     fn processor(&self, thread: ThreadId) -> u8
-        ensures { result ≡ processor_for (shown self.now.debugger) thread self.now.stepping }
+        ensures { result ≡ processor_for (shown self.now.debugger) thread (stepping_of self.now.selection) }
     {
-        match processor_of(self.debugger.show(), thread, self.stepping) {
-            Some(cpu) => cpu,
-            None => self.stepping,
-        }
+        let other = self.selection.stepping();
+        processor_of(self.debugger.show(), thread, other).unwrap_or(other)
     }
 
-    /// Makes a thread the one that is read, or that steps.
+    /// Selects the thread that is read, or that moves.
     fn set_thread(
         &mut self,
         alloc: Global,
@@ -201,11 +200,11 @@ impl Session {
         let Some(cpu) = processor_of(self.debugger.show(), thread, self.halt.thread) else {
             return error(alloc);
         };
-        if moves {
-            self.stepping = cpu;
+        self.selection = if moves {
+            self.selection.naming(thread, cpu)
         } else {
-            self.reading = cpu;
-        }
+            self.selection.choosing(cpu)
+        };
         okay(alloc)
     }
 

@@ -1,7 +1,7 @@
 //! How processors are stepped.
 
 ghost use Rattle.std.specs.Prelude.{◌≡◌};
-ghost use Rattle.brd_stub.specs.Stepping.{stepper_on, cpu_of};
+ghost use Rattle.brd_stub.specs.Stepping.{stepper_on};
 
 use brd_board::Board;
 use brd_debug::Stepper;
@@ -40,16 +40,5 @@ pub fn stepper_on(board: &Board, cpu: u8, start: u32, end: u32) -> Stepper
             }
         }
         _ => Stepper::Each(cpu),
-    }
-}
-
-/// The processor that is stepped, or another one where none is.
-pub fn cpu_of(stepper: Option<Stepper>, other: u8) -> u8
-    ensures { result ≡ cpu_of stepper other }
-{
-    match stepper {
-        None => other,
-        Some(Stepper::Each(cpu)) => cpu,
-        Some(Stepper::Until { cpu, .. }) => cpu,
     }
 }

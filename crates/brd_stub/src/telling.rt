@@ -28,14 +28,14 @@ impl Session {
     /// What is replied to a request that changes nothing.
     pub(crate) fn tell(&self, alloc: Global, request: Request) -> Result<Vec<u8>, NoMemory>
         ensures reads { IfOk result
-            (λ reply. Reads (shown self.now.debugger) self.now.reading request reply.items) }
+            (λ reply. Reads (shown self.now.debugger) self.now.selection.reading request reply.items) }
         ensures says { IfOk result (λ reply. Says self.now request reply.items) }
         ensures short { IfOk result (λ reply. length reply.items ≤ packet_size) }
     {
         let board = self.debugger.show();
         match request {
-            Request::ReadRegisters => registers(alloc, board, self.reading),
-            Request::ReadRegister(number) => register(alloc, board, self.reading, number),
+            Request::ReadRegisters => registers(alloc, board, self.selection.reading),
+            Request::ReadRegister(number) => register(alloc, board, self.selection.reading, number),
             Request::ReadMemory { address, length } => memory(alloc, board, address, length),
             Request::Write => text(alloc, b"E01"),
             Request::StopReason => {
@@ -60,7 +60,7 @@ impl Session {
             Request::CurrentThread => current(alloc, self.halt.thread),
             Request::FirstThreads => thread_list(alloc, board),
             Request::OtherThreads => text(alloc, b"l"),
-            Request::ThreadInfo(thread) => info(alloc, board, thread, self.reading),
+            Request::ThreadInfo(thread) => info(alloc, board, thread, self.selection.reading),
             Request::ReadFeatures { offset, length } => part(alloc, features(), offset, length),
             Request::ReadThreads { offset, length } => threads(alloc, board, offset, length),
             Request::MoveKinds => text(alloc, b"vCont;c;C;s;S;t;r"),
