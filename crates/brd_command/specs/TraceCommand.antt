@@ -123,8 +123,8 @@ pub record TellsSpins (symbols : List Symbol) (asked : Option ℕ) (boot : Board
   pub is_text : text ≡ spins_text symbols asked spins
 
 -- A summary was written: how many events there were, the tick, and which event turned the board off; how its processors
--- and its tasks stand after them, since when, and each processor's last step and last exception; and which processors
--- spin.
+-- and its tasks stand after them, since when, and each processor's last step that did something and last exception;
+-- whether the board is deadlocked; and which processors spin.
 pub record WritesSummary (names : Names) (symbols : List Symbol) (boot : BoardState) (events : List Event) (n : ℕ)
     (old new : Option (List ℕ)) : Type 0 where
   pub first : List ℕ

@@ -13,6 +13,7 @@ use brd_listing::Places;
 use brd_mem::Image;
 use brd_progress::Progress;
 use brd_trace::{HEAD, Manner, Names, Options, Tracer};
+use brd_verdicts::last_steps;
 use std::alloc::Global;
 
 /// How many lines of a trace are shown at most (own choice).
@@ -150,8 +151,9 @@ impl History {
         traced.play(&mut tracer, traced.part.to, progress)?;
         let mut out = Vec::new(alloc);
         tracer.put_end(alloc, &mut out)?;
-        tracer.put_summary(alloc, traced.manner.names, traced.journal, &mut out)?;
         let boot = self.boot.try_copy()?;
+        let steps = last_steps(boot.try_copy()?, traced.journal, traced.part.to);
+        tracer.put_summary(alloc, traced.manner.names, &steps, &mut out)?;
         traced.put_spins(boot, &tracer.playback, None, &mut out)?;
         Ok(out)
     }

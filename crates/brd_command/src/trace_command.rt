@@ -45,6 +45,7 @@ use brd_progress::Progress;
 use brd_report::write_whole;
 use brd_timeline::{PictureFault, Timeline, json, svg};
 use brd_trace::{Manner, Names, Options, Tracer, WordsFault, add_words};
+use brd_verdicts::last_steps;
 use std::alloc::Global;
 use std::io::{Read, Write};
 
@@ -336,8 +337,10 @@ impl<'a> Traced<'a> {
         self.play(&mut tracer, self.part.to, progress)?;
         let mut first = Vec::new(self.alloc);
         tracer.put_end(self.alloc, &mut first)?;
+        let start = boot.try_copy()?;
+        let steps = last_steps(start, self.journal, self.part.to);
         let mut rest = Vec::new(self.alloc);
-        tracer.put_summary(self.alloc, self.manner.names, self.journal, &mut rest)?;
+        tracer.put_summary(self.alloc, self.manner.names, &steps, &mut rest)?;
         self.put_spins(boot, &tracer.playback, None, &mut rest)?;
         match written(writer, &first) {
             Ok(()) => {}

@@ -11,5 +11,4 @@ pub mod SlicesLemmas
 pub mod RecordingLemmas
 pub mod FollowLemmas
 pub mod LoadedLemmas
-pub mod LastStepLemmas
 pub mod SummaryLemmas

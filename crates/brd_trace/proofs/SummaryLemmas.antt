@@ -1,5 +1,6 @@
 -- What is known of a board, in the lines of a summary.
-use Rattle.std.proofs.Common.{◌≡◌, ℕ, zero, suc, ◌+◌, ◌-◌, ◌<◌, ◌≤◌, List, [], ◌∷◌, ◌++◌, length, take, map, refl, sym, ap, subst, ◌∙◌, append_assoc, arith}
+use Rattle.std.proofs.Common.{◌≡◌, ℕ, zero, suc, ◌+◌, ◌-◌, ◌<◌, ◌≤◌, List, [], ◌∷◌, ◌++◌, length, take, map, refl}
+use Rattle.std.proofs.Common.{sym, ap, subst, ◌∙◌, append_assoc, arith}
 use Rattle.std.proofs.lemmas.List.{append-nil}
 use Rattle.std.proofs.Math.Seq.{take-suc}
 use Rattle.brd_listing.specs.Listing.{IsBehind}
@@ -15,9 +16,11 @@ use Rattle.brd_trace.specs.declared.notes.Notes.{Notes}
 use Rattle.brd_trace.specs.declared.names.Names.{Names}
 use Rattle.brd_trace.specs.Noted.{view_of, IsSeen, tasks_of, Knows}
 use Rattle.brd_trace.specs.Dated.{IsSince, IsDated}
-use Rattle.brd_trace.specs.Summary.{IsOfProcessor, IsKnownProcessor, IsProcessor, IsTaskLine, IsTask, AreTexts}
+use Rattle.brd_trace.specs.Summary.{standing_lines, IsKnownProcessor, IsProcessor, IsTaskLine, IsTask, AreTexts}
+use Rattle.brd_verdicts.specs.Steps.{AreLastSteps}
 
-pub texts-snoc : {X : Type 0} (IsOf : X → List ℕ → Type 0) (xs : List X) (x : X) (t u : List ℕ) → AreTexts IsOf xs t → IsOf x u →
+pub texts-snoc : {X : Type 0} (IsOf : X → List ℕ → Type 0) (xs : List X) (x : X) (t u : List ℕ) → AreTexts IsOf xs t →
+    IsOf x u →
     AreTexts IsOf (xs ++ x ∷ []) (t ++ u)
 texts-snoc IsOf [] x t u are is = (u, [], is, refl, ap (λ (s : List ℕ). s ++ u) are ∙ sym (append-nil u))
 texts-snoc IsOf (y ∷ ys) x t u are is = (
@@ -29,7 +32,8 @@ texts-snoc IsOf (y ∷ ys) x t u are is = (
 )
 
 -- each of the texts is one of another kind too
-texts-as : {X : Type 0} (IsOf IsToo : X → List ℕ → Type 0) (xs : List X) (text : List ℕ) → AllByRecursion (λ x. (t : List ℕ) → IsOf x t → IsToo x t) xs
+texts-as : {X : Type 0} (IsOf IsToo : X → List ℕ → Type 0) (xs : List X) (text : List ℕ) → AllByRecursion
+    (λ x. (t : List ℕ) → IsOf x t → IsToo x t) xs
     → AreTexts IsOf xs text → AreTexts IsToo xs text
 texts-as IsOf IsToo [] text all are = are
 texts-as IsOf IsToo (x ∷ xs) text all are =
@@ -43,7 +47,8 @@ range-more a (suc n) =
     ap (λ (ks : List ℕ). a ∷ ks) (range-more (a + 1) n ∙ ap (λ (k : ℕ). range_with_len (a + 1) n ++ k ∷ []) same)
 
 -- the texts of the numbers before one, and its own behind them
-pub numbers-on : (IsOf : ℕ → List ℕ → Type 0) (k : ℕ) (a b c : List ℕ) → 1 ≤ k → IsBehind (AreTexts IsOf (range_with_len 1 (k - 1))) a b →
+pub numbers-on : (IsOf : ℕ → List ℕ → Type 0) (k : ℕ) (a b c : List ℕ) → 1 ≤ k → IsBehind
+    (AreTexts IsOf (range_with_len 1 (k - 1))) a b →
     IsBehind (IsOf k) b c → IsBehind (AreTexts IsOf (range_with_len 1 (k + 1 - 1))) a c
 numbers-on IsOf k a b c least are one =
     let more : suc (k - 1) ≡ k + 1 - 1 = omega (arith, least) in
@@ -57,10 +62,8 @@ numbers-on IsOf k a b c least are one =
       behind = one.behind ∙ ap (λ (t : List ℕ). t ++ one.text) are.behind ∙ append_assoc a are.text one.text;
     }
 
-pub three-behind : (a b c d one two three : List ℕ) → b ≡ a ++ one → c ≡ b ++ two → d ≡ c ++ three → d ≡ a ++ (one ++ two ++ three)
-three-behind a b c d one two three first second third =
-    third ∙ ap (λ (s : List ℕ). s ++ three) (second ∙ ap (λ (s : List ℕ). s ++ two) first ∙ append_assoc a one two)
-    ∙ append_assoc a (one ++ two) three
+pub two-behind : (a b c one two : List ℕ) → b ≡ a ++ one → c ≡ b ++ two → c ≡ a ++ (one ++ two)
+two-behind a b c one two first second = second ∙ ap (λ (s : List ℕ). s ++ two) first ∙ append_assoc a one two
 
 pub tasks-on : (names : Names) (tasks slice : List TaskSeen) (i : ℕ) (a b c : List ℕ) (d : TaskSeen) → slice ≡ tasks →
     i < length slice → IsBehind (AreTexts (IsTaskLine names) (take i tasks)) a b →
@@ -75,40 +78,54 @@ tasks-on names tasks slice i a b c d same less are line =
     record {
       text = are.text ++ line.text;
       is_it = subst (λ (xs : List TaskSeen). AreTexts (IsTaskLine names) xs (are.text ++ line.text)) (sym more)
-          (texts-snoc (IsTaskLine names) (take i tasks) (slice_index_or slice i d) are.text line.text are.is_it line.is_it);
+          (texts-snoc (IsTaskLine names) (take i tasks)
+          (slice_index_or slice i d) are.text line.text are.is_it line.is_it);
       behind = line.behind ∙ ap (λ (t : List ℕ). t ++ line.text) are.behind ∙ append_assoc a are.text line.text;
     }
 
-module _ (names : Names) (boot : BoardState) (events : List Event) (n : ℕ) (notes : Notes)
-    (noted : Knows (board_at boot events n) notes) (dated : IsDated boot events n notes) where
+module _ (names : Names) (boot : BoardState) (events : List Event) (n : ℕ) (notes : Notes) (steps : List (Option ℕ))
+    (noted : Knows (board_at boot events n) notes) (dated : IsDated boot events n notes)
+    (stepped : AreLastSteps boot events n steps) where
   one-processor : (cpu : ℕ) → 1 ≤ cpu → cpu ≤ 8 →
       slice_index_or notes.standings.of cpu None ≡ standing_of (board_at boot events n) cpu →
-      (text : List ℕ) → IsKnownProcessor names events n notes cpu text → IsProcessor names boot events n cpu text
+      (text : List ℕ) → IsKnownProcessor names steps notes cpu text → IsProcessor names boot events n cpu text
   one-processor cpu least most is text known = record {
+    step = slice_index_or steps cpu None;
     last = slice_index_or notes.faults.items cpu None;
+    is_step = stepped cpu least most;
     is_last = dated.faults cpu least most;
-    is = subst (λ (s : Option Standing). IsOfProcessor names events n cpu s (slice_index_or notes.faults.items cpu None) text) is known;
+    is = known
+        ∙ ap (λ (s : Option Standing). standing_lines names cpu s (slice_index_or steps cpu None)
+        (slice_index_or notes.faults.items cpu None)) is;
   }
 
-  pub processors-are : (text : List ℕ) → AreTexts (IsKnownProcessor names events n notes) (range_with_len 1 8) text →
+  pub processors-are : (text : List ℕ) → AreTexts (IsKnownProcessor names steps notes) (range_with_len 1 8) text →
       AreTexts (IsProcessor names boot events n) (range_with_len 1 8) text
   processors-are text are =
-      texts-as (IsKnownProcessor names events n notes) (IsProcessor names boot events n) (range_with_len 1 8) text (
-        one-processor 1 (omega arith) (omega arith) (ap (λ (of : List (Option Standing)). slice_index_or of 1 None) noted.standings),
+      texts-as (IsKnownProcessor names steps notes) (IsProcessor names boot events n) (range_with_len 1 8) text (
+        one-processor 1 (omega arith) (omega arith)
+            (ap (λ (of : List (Option Standing)). slice_index_or of 1 None) noted.standings),
         (
-          one-processor 2 (omega arith) (omega arith) (ap (λ (of : List (Option Standing)). slice_index_or of 2 None) noted.standings),
+          one-processor 2 (omega arith) (omega arith)
+              (ap (λ (of : List (Option Standing)). slice_index_or of 2 None) noted.standings),
           (
-            one-processor 3 (omega arith) (omega arith) (ap (λ (of : List (Option Standing)). slice_index_or of 3 None) noted.standings),
+            one-processor 3 (omega arith) (omega arith)
+                (ap (λ (of : List (Option Standing)). slice_index_or of 3 None) noted.standings),
             (
-              one-processor 4 (omega arith) (omega arith) (ap (λ (of : List (Option Standing)). slice_index_or of 4 None) noted.standings),
+              one-processor 4 (omega arith) (omega arith)
+                  (ap (λ (of : List (Option Standing)). slice_index_or of 4 None) noted.standings),
               (
-                one-processor 5 (omega arith) (omega arith) (ap (λ (of : List (Option Standing)). slice_index_or of 5 None) noted.standings),
+                one-processor 5 (omega arith) (omega arith)
+                    (ap (λ (of : List (Option Standing)). slice_index_or of 5 None) noted.standings),
                 (
-                  one-processor 6 (omega arith) (omega arith) (ap (λ (of : List (Option Standing)). slice_index_or of 6 None) noted.standings),
+                  one-processor 6 (omega arith) (omega arith)
+                      (ap (λ (of : List (Option Standing)). slice_index_or of 6 None) noted.standings),
                   (
-                    one-processor 7 (omega arith) (omega arith) (ap (λ (of : List (Option Standing)). slice_index_or of 7 None) noted.standings),
+                    one-processor 7 (omega arith) (omega arith)
+                        (ap (λ (of : List (Option Standing)). slice_index_or of 7 None) noted.standings),
                     (
-                      one-processor 8 (omega arith) (omega arith) (ap (λ (of : List (Option Standing)). slice_index_or of 8 None) noted.standings),
+                      one-processor 8 (omega arith) (omega arith)
+                          (ap (λ (of : List (Option Standing)). slice_index_or of 8 None) noted.standings),
                       tt,
                     ),
                   ),
@@ -133,7 +150,8 @@ module _ (names : Names) (boot : BoardState) (events : List Event) (n : ℕ) (no
   }
 
   task-texts : (tasks : List TaskSeen) (text : List ℕ) → AreTexts (IsTaskLine names) tasks text →
-      All (IsSeen (board_at boot events n)) tasks → All (λ (it : TaskSeen). IsSince boot events n it.id it.since) tasks →
+      All (IsSeen (board_at boot events n)) tasks → All
+      (λ (it : TaskSeen). IsSince boot events n it.id it.since) tasks →
       AreTexts (IsTask names boot events n) (map (λ (it : TaskSeen). it.id) tasks) text
   task-texts [] text are seen since = are
   task-texts (it ∷ tasks) text are seen since = (

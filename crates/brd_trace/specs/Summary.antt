@@ -1,6 +1,5 @@
 -- What a summary says of how a board stands after the events of a journal.
-use Rattle.std.specs.Prelude.{◌≡◌, ◌≢◌, ℕ, suc, ◌<◌, ◌≤◌, List, [], ◌∷◌, ◌++◌, codes, slice_get, slice_index_or}
-use Rattle.std.specs.Prelude.{Option, None, Some}
+use Rattle.std.specs.Prelude.{◌≡◌, ◌⊎◌, ℕ, List, [], ◌∷◌, ◌++◌, codes, slice_index_or, Option, None, Some}
 use Rattle.std.specs.Option.{option_map}
 use Rattle.std.specs.List.{range_with_len}
 use Rattle.std.specs.Fmt.{decimal}
@@ -11,7 +10,6 @@ use Rattle.brd_tasks.specs.declared.status.WaitKind.{WaitKind}
 use Rattle.brd_tasks.specs.declared.task.TaskView.{TaskView}
 use Rattle.brd_kernel.specs.declared.processor.Standing.{Standing}
 use Rattle.brd_board.specs.declared.event.Event.{Event}
-use Rattle.brd_board.specs.declared.event.Event.TheVariants.{Step}
 use Rattle.brd_board.specs.Board.{BoardState, task_of, standing_of}
 use Rattle.brd_board.specs.Runs.{without_context}
 use Rattle.brd_journal.specs.Playing.{board_at}
@@ -24,6 +22,8 @@ use Rattle.brd_trace.specs.Lines.{named_text, who_text}
 use Rattle.brd_trace.specs.Effects.{code_text}
 use Rattle.brd_trace.specs.Noted.{tasks_of}
 use Rattle.brd_trace.specs.Dated.{IsSince, IsOff, IsLastFault}
+use Rattle.brd_verdicts.specs.Deadlock.{IsDeadlocked}
+use Rattle.brd_verdicts.specs.Steps.{IsLastStep}
 
 -- ---- the first line
 
@@ -66,23 +66,11 @@ abbrev pub last_text : Names → Option LastFault → List ℕ
 last_text names None = []
 last_text names (Some it) = fault_text names it
 
--- ---- the last step of a processor
-
--- from a position on, before another one, no event is a step of it
-abbrev pub StepsNone : List Event → ℕ → ℕ → ℕ → Type 0
-StepsNone events cpu from to = (p : ℕ) → from ≤ p → p < to → slice_get events p ≢ Some (Step cpu)
-
--- Before the position after n events: the last step of the processor is the event of this position; it did none, where
--- none is named.
-abbrev pub IsLastStep : List Event → ℕ → ℕ → Option ℕ → Type 0
-IsLastStep events n cpu None = StepsNone events cpu 0 n
-IsLastStep events n cpu (Some p) = (p < n) × (slice_get events p ≡ Some (Step cpu)) × StepsNone events cpu (suc p) n
+-- ---- what is said of a processor
 
 abbrev pub step_text : Option ℕ → List ℕ
 step_text None = codes ", no step"
 step_text (Some position) = named_text (codes ", last step at event") position
-
--- ---- what is said of a processor
 
 -- what it does, its last step, and its last exception
 abbrev pub processor_text : Names → ℕ → Option Standing → Option ℕ → Option LastFault → List ℕ
@@ -90,24 +78,24 @@ processor_text names cpu standing step last =
     named_text (codes "cpu") cpu ++ standing_text standing ++ step_text step ++ codes "\n" ++ last_text names last
 
 -- that is said where there is one of that number, else nothing
-abbrev pub IsOfProcessor : Names → List Event → ℕ → ℕ → Option Standing → Option LastFault → List ℕ → Type 0
-IsOfProcessor names events n cpu None last text = text ≡ []
-IsOfProcessor names events n cpu (Some standing) last text =
-    (step : Option ℕ) × IsLastStep events n cpu step
-    × (text ≡ processor_text names cpu (Some standing) step last)
+abbrev pub standing_lines : Names → ℕ → Option Standing → Option ℕ → Option LastFault → List ℕ
+standing_lines names cpu None step last = []
+standing_lines names cpu (Some standing) step last = processor_text names cpu (Some standing) step last
 
 -- as it is known
-abbrev pub IsKnownProcessor : Names → List Event → ℕ → Notes → ℕ → List ℕ → Type 0
-IsKnownProcessor names events n notes cpu text =
-    IsOfProcessor names events n cpu (slice_index_or notes.standings.of cpu None)
-    (slice_index_or notes.faults.items cpu None) text
+abbrev pub IsKnownProcessor : Names → List (Option ℕ) → Notes → ℕ → List ℕ → Type 0
+IsKnownProcessor names steps notes cpu text =
+    text ≡ standing_lines names cpu (slice_index_or notes.standings.of cpu None) (slice_index_or steps cpu None)
+    (slice_index_or notes.faults.items cpu None)
 
 -- as it stands
 pub record IsProcessor (names : Names) (boot : BoardState) (events : List Event) (n cpu : ℕ) (text : List ℕ)
     : Type 0 where
+  pub step : Option ℕ
   pub last : Option LastFault
+  pub is_step : IsLastStep boot events n cpu step
   pub is_last : IsLastFault boot events n cpu last
-  pub is : IsOfProcessor names events n cpu (standing_of (board_at boot events n) cpu) last text
+  pub is : text ≡ standing_lines names cpu (standing_of (board_at boot events n) cpu) step last
 
 -- ---- a task
 
@@ -178,12 +166,21 @@ AreTexts IsOf [] text = text ≡ []
 AreTexts IsOf (x ∷ xs) text =
     (first : List ℕ) × (rest : List ℕ) × IsOf x first × AreTexts IsOf xs rest × (text ≡ first ++ rest)
 
--- the processors, then the tasks, by rising number; and more
+-- a line where a board is deadlocked, and none where it isn't
+abbrev pub IsDeadlock : BoardState → List ℕ → Type 0
+IsDeadlock board text =
+    (IsDeadlocked board
+    × (text ≡ codes "deadlock: no task is ready, and no tick and no pending interrupt releases one that waits\n"))
+    ⊎ ((IsDeadlocked board → ⊥) × (text ≡ []))
+
+-- the processors, then the tasks, by rising number, whether the board is deadlocked; and more
 pub record IsSummary (names : Names) (boot : BoardState) (events : List Event) (n : ℕ) (text : List ℕ)
     : Type 0 where
   pub processors : List ℕ
   pub tasks : List ℕ
+  pub deadlock : List ℕ
   pub rest : List ℕ
   pub are_processors : AreTexts (IsProcessor names boot events n) (range_with_len 1 8) processors
   pub are_tasks : AreTexts (IsTask names boot events n) (tasks_of (board_at boot events n)) tasks
-  pub is : text ≡ processors ++ tasks ++ rest
+  pub is_deadlock : IsDeadlock (board_at boot events n) deadlock
+  pub is : text ≡ processors ++ tasks ++ deadlock ++ rest

@@ -8,7 +8,6 @@ mod answer;
 mod cause;
 mod concerns;
 mod effect;
-mod last_step;
 mod line;
 mod links;
 mod locks;

@@ -275,21 +275,6 @@ impl Notes {
         Ok(())
     }
 
-    /// Whether no line is pending on a processor that may still accept it: one that is stopped never does.
-    pub(crate) fn is_quiet(&self, board: &Board) -> bool {
-        for line in 0..32u8 {
-            if board.is_pending(line) && !self.has_stopped(self.handlers[line as usize]) {
-                return false;
-            }
-        }
-        true
-    }
-
-    /// Whether a processor is stopped for good.
-    fn has_stopped(&self, cpu: u8) -> bool {
-        matches!(self.standings.at(cpu), Some(Standing::Stopped))
-    }
-
     /// Counts events that did nothing, if they are raises; a tick is recorded.
     pub(crate) fn note_quiet(&mut self, it: Stretch) -> Result<(), NoMemory>
         ensures { KeepsKnown self.old self.new }

@@ -1,6 +1,6 @@
 //! What stands at the end.
 
-ghost use Rattle.std.specs.Prelude.{◌≡◌, ◌++◌, List as ListOf, IfOk, None, OnOk, Some, codes, slice_index_or};
+ghost use Rattle.std.specs.Prelude.{◌≡◌, ◌++◌, ◌<◌, List as ListOf, IfOk, None, OnOk, Some, codes, slice_index_or};
 ghost use Rattle.std.specs.List.{range_with_len};
 ghost use Rattle.brd_board.specs.declared.event.Event.{Event as EventOf};
 ghost use Rattle.brd_board.specs.Board.{BoardState as BoardOf};
@@ -9,6 +9,7 @@ ghost use Rattle.brd_listing.specs.Listing.{IsBehind};
 ghost use Rattle.brd_timeline.specs.Ends.{EndsWith};
 ghost use Rattle.brd_trace.specs.Dated.{IsDated};
 ghost use Rattle.brd_trace.specs.Recording.{IsNoted};
+ghost use Rattle.brd_verdicts.specs.Steps.{AreLastSteps};
 ghost use Rattle.brd_trace.specs.Summary.{
   end_text,
   off_text,
@@ -21,6 +22,7 @@ ghost use Rattle.brd_trace.specs.Summary.{
   step_text,
   task_text,
   AreTexts,
+  IsDeadlock,
   IsEnd,
   IsKnownProcessor,
   IsSummary,
@@ -28,7 +30,6 @@ ghost use Rattle.brd_trace.specs.Summary.{
   IsWait,
 };
 
-use crate::last_step::last_step;
 use crate::line::put_who;
 use crate::names::Names;
 use crate::notes::LastFault;
@@ -38,43 +39,53 @@ use crate::tracer::Tracer;
 use crate::waits::{put_wait, state_name};
 use brd_base::NoMemory;
 use brd_board::{Standing, TaskState};
-use brd_journal::Journal;
+use brd_verdicts::is_deadlocked;
 use std::alloc::Global;
 
 impl Tracer {
-    /// Puts at the end what stands after the events of a journal that were played: what each processor does, its last
-    /// step and its last exception, what each task is, whether nothing can release those that wait, which wait for each
-    /// other, which calls were refused, and which raises had no effect. `put_end` says what comes before it.
+    /// Puts at the end what stands after the events that were played: what each processor does, its last step, as it is
+    /// given by the processor's number, and its last exception, what each task is, whether the board is deadlocked, which
+    /// tasks wait for each other, which calls were refused, and which raises had no effect. `put_end` says what comes
+    /// before it.
     pub fn put_summary(
         &self,
         alloc: Global,
         names: Names,
-        journal: &Journal,
+        steps: &[Option<u64>; 9],
         out: &mut Vec<u8>,
     ) -> Result<(), NoMemory>
-        ensures { (boot : BoardOf) → IsPlayed boot journal.now.events self.now.playback
-            → IsNoted boot journal.now.events self.now.playback.at self.now.notes
-            → IsDated boot journal.now.events self.now.playback.at self.now.notes
+        ensures { (boot : BoardOf) (events : ListOf EventOf) → IsPlayed boot events self.now.playback
+            → IsNoted boot events self.now.playback.at self.now.notes
+            → IsDated boot events self.now.playback.at self.now.notes
+            → AreLastSteps boot events self.now.playback.at steps.now
             → IfOk result (λ _. IsBehind
-            (IsSummary names.entry boot journal.now.events self.now.playback.at) out.old.items out.new.items) }
+            (IsSummary names.entry boot events self.now.playback.at) out.old.items out.new.items) }
     {
-        self.put_processors(alloc, names, journal, out)?;
+        self.put_processors(alloc, names, steps, out)?;
         self.put_tasks(alloc, names, out)?;
+        self.put_deadlock(out)?;
         let rest = self.rest(alloc, names)?;
         out.extend_from_slice(rest.as_slice())?;
         Ok(())
     }
 
-    /// Whether nothing can release the tasks that wait, which wait for each other, how many calls were refused, and how
-    /// many raises had no effect.
+    /// Puts a line at the end, where the board is deadlocked.
+    fn put_deadlock(&self, out: &mut Vec<u8>) -> Result<(), NoMemory>
+        ensures { IfOk result
+            (λ _. IsBehind (IsDeadlock self.now.playback.board) out.old.items out.new.items) }
+    {
+        if !is_deadlocked(&self.playback.board)? {
+            return Ok(());
+        }
+        put(
+            out,
+            "deadlock: no task is ready, and no tick and no pending interrupt releases one that waits\n",
+        )
+    }
+
+    /// Which tasks wait for each other, how many calls were refused, and how many raises had no effect.
     fn rest(&self, alloc: Global, names: Names) -> Result<Vec<u8>, NoMemory> {
         let mut out = Vec::new(alloc);
-        if self.is_stuck() {
-            put(
-                &mut out,
-                "deadlock: no task is ready, and no tick and no pending interrupt releases one that waits\n",
-            )?;
-        }
         if self.notes.off.is_none() {
             let tasks = self.notes.tasks.as_slice();
             self.notes.units.put_circle(alloc, &mut out, tasks)?;
@@ -123,15 +134,14 @@ impl Tracer {
         &self,
         alloc: Global,
         names: Names,
-        journal: &Journal,
+        steps: &[Option<u64>; 9],
         out: &mut Vec<u8>,
     ) -> Result<(), NoMemory>
         ensures { IfOk result (λ _. IsBehind (AreTexts
-            (IsKnownProcessor names.entry journal.now.events self.now.playback.at self.now.notes)
-            (range_with_len 1 8)) out.old.items out.new.items) }
+            (IsKnownProcessor names.entry steps.now self.now.notes) (range_with_len 1 8)) out.old.items out.new.items) }
     {
         for cpu in 1..9u8 {
-            self.put_processor(alloc, names, journal, out, cpu)?;
+            self.put_processor(alloc, names, steps, out, cpu)?;
         }
         Ok(())
     }
@@ -142,19 +152,18 @@ impl Tracer {
         &self,
         alloc: Global,
         names: Names,
-        journal: &Journal,
+        steps: &[Option<u64>; 9],
         out: &mut Vec<u8>,
         cpu: u8,
     ) -> Result<(), NoMemory>
+        requires { cpu < 9 }
         ensures { IfOk result (λ _. IsBehind
-            (IsKnownProcessor names.entry journal.now.events self.now.playback.at self.now.notes cpu)
-            out.old.items out.new.items) }
+            (IsKnownProcessor names.entry steps.now self.now.notes cpu) out.old.items out.new.items) }
     {
         let Some(standing) = self.notes.standings.at(cpu) else {
             return Ok(());
         };
-        let step = last_step(journal, self.playback.at, cpu);
-        self.put_lines(alloc, names, out, cpu, standing, step)?;
+        self.put_lines(alloc, names, out, cpu, standing, steps[cpu as usize])?;
         Ok(())
     }
 
@@ -239,32 +248,6 @@ impl Tracer {
             },
             _ => task.place,
         }
-    }
-
-    /// Whether tasks wait, none is ready, no handler runs, no line is pending that may be accepted, and no tick ends a
-    /// wait.
-    fn is_stuck(&self) -> bool {
-        let mut waits = false;
-        for task in self.notes.tasks.as_slice() {
-            if task.state == TaskState::Ready || task.due.is_some() {
-                return false;
-            }
-            waits = waits || task.waiting.is_some();
-        }
-        waits
-            && self.notes.off.is_none()
-            && self.notes.is_quiet(&self.playback.board)
-            && !self.handles()
-    }
-
-    /// Whether a processor runs a handler.
-    fn handles(&self) -> bool {
-        for cpu in 1..9u8 {
-            if matches!(self.notes.standings.at(cpu), Some(Standing::Handler(_))) {
-                return true;
-            }
-        }
-        false
     }
 }
 

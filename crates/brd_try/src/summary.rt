@@ -9,6 +9,7 @@ use brd_mem::{Image, Segment};
 use brd_spins::{put_spins, spins};
 use brd_text::hex_digits;
 use brd_trace::{Manner, Names, Options, Tracer};
+use brd_verdicts::last_steps;
 use std::alloc::Global;
 
 /// What stands at the end of a journal, as a summary of its trace tells it, and which tasks have run off the end of
@@ -56,7 +57,8 @@ fn put_summary(
         let mut lines = Vec::new(alloc);
         tracer.advance_far(alloc, manner, journal, len, &mut lines)?;
     }
-    tracer.put_summary(alloc, manner.names, journal, out)?;
+    let steps = last_steps(first.try_copy()?, journal, len);
+    tracer.put_summary(alloc, manner.names, &steps, out)?;
     let spinning = spins(alloc, first, journal, &tracer.playback)?;
     put_spins(
         alloc,

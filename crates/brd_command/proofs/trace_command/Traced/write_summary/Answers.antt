@@ -1,8 +1,9 @@
-use Rattle.std.proofs.Common.{ℕ, List, ◌++◌, sym, ap, ◌∙◌, subst}
+use Rattle.std.proofs.Common.{◌≡◌, ℕ, List, ◌++◌, sym, ap, ◌∙◌, subst}
 use Rattle.std.specs.Prelude.{None}
 use Rattle.brd_trace.specs.Summary.{IsEnd, IsSummary}
 use Rattle.brd_board.specs.Board.{BoardState}
 use Rattle.brd_journal.specs.Playing.{IsPlayed}
+use Rattle.brd_verdicts.specs.Steps.{AreLastSteps}
 use Rattle.brd_command.specs.TraceCommand.{TellsSpins}
 use Rattle.brd_command.proofs.TraceLemmas.{summary-last}
 use Rattle.brd_command.proofs.trace_command.Traced.write_summary.Goals as goal
@@ -25,7 +26,11 @@ returns g c =
     let at = c.in_ok-play.ensures.at in
     let follows = c.in_ok-play.ensures.follows boot c.requires.follows in
     let end = c.in_ok-put_end.ensures.end boot events follows.played follows.dated in
-    let more = c.in_ok-put_summary.ensures boot follows.played follows.noted follows.dated in
+    let same : c.in_ok-start.start ≡ boot = c.in_ok-start.ensures ∙ c.in_ok-boot.ensures in
+    let stepped : AreLastSteps boot events c.play.new.tracer.playback.at c.last_steps-steps.result =
+    subst (λ (n : ℕ). AreLastSteps boot events n c.last_steps-steps.result) (sym at)
+    (subst (λ (b : BoardState). AreLastSteps b events to c.last_steps-steps.result) same c.last_steps-steps.ensures) in
+    let more = c.in_ok-put_summary.ensures boot events follows.played follows.noted follows.dated stepped in
     let last = c.in_ok-put_spins.ensures in
     let first = end.behind ∙ ap (λ (them : List ℕ). them ++ end.text) c.new-first.ensures.items in
     let rest = more.behind ∙ ap (λ (them : List ℕ). them ++ more.text) c.new-rest.ensures.items in

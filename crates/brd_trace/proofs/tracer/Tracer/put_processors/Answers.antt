@@ -17,8 +17,9 @@ pub loop-cpu-preserved : goal.loop-cpu-preserved
 loop-cpu-preserved c = record {
   least = omega arith;
   most = omega (arith, c.loop-cpu-test.true);
-  put = numbers-on (IsKnownProcessor c.args.names c.args.journal.now.events c.args.self.now.playback.at c.args.self.now.notes) c.loop-cpu.cpu
-      c.args.out.now.items c.loop-cpu.out.items c.put_processor.new.out.items c.loop-cpu.invariant.least c.loop-cpu.invariant.put
+  put = numbers-on (IsKnownProcessor c.args.names c.args.steps.now c.args.self.now.notes) c.loop-cpu.cpu
+      c.args.out.now.items c.loop-cpu.out.items c.put_processor.new.out.items c.loop-cpu.invariant.least
+      c.loop-cpu.invariant.put
       c.in_ok-put_processor.ensures;
 }
 
@@ -26,5 +27,5 @@ pub returns : goal.returns
 returns c =
     let all : c.loop-cpu.cpu ≡ 9 = omega (arith, c.loop-cpu-test.false, c.loop-cpu.invariant.most) in
     subst
-    (λ (n : ℕ). IsBehind (AreTexts (IsKnownProcessor c.args.names c.args.journal.now.events c.args.self.now.playback.at c.args.self.now.notes)
+    (λ (n : ℕ). IsBehind (AreTexts (IsKnownProcessor c.args.names c.args.steps.now c.args.self.now.notes)
     (range_with_len 1 (n - 1))) c.args.out.now.items c.loop-cpu.out.items) all c.loop-cpu.invariant.put

@@ -9,6 +9,6 @@ abbrev pub invariant-loop-cpu : goal.invariant-loop-cpu
 invariant-loop-cpu l = record {
   least : 1 ≤ l.cpu;
   most : l.cpu ≤ 9;
-  put : IsBehind (AreTexts (IsKnownProcessor l.names l.journal.events l.self.playback.at l.self.notes) (range_with_len 1 (l.cpu - 1)))
+  put : IsBehind (AreTexts (IsKnownProcessor l.names l.steps l.self.notes) (range_with_len 1 (l.cpu - 1)))
       l.fn.out.items l.out.items;
 }

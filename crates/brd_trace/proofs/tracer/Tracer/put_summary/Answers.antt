@@ -1,27 +1,40 @@
-use Rattle.std.proofs.Common.{◌++◌, refl, ap, ◌∙◌}
-use Rattle.brd_trace.proofs.SummaryLemmas.{processors-are, tasks-are, three-behind}
+use Rattle.std.proofs.Common.{◌++◌, List, ℕ, refl, sym, ap, ◌∙◌, subst}
+use Rattle.brd_board.specs.Board.{BoardState}
+use Rattle.brd_trace.specs.Summary.{IsDeadlock}
+use Rattle.brd_trace.proofs.SummaryLemmas.{processors-are, tasks-are, two-behind}
 use Rattle.brd_trace.proofs.tracer.Tracer.put_summary.Goals as goal
 
 pub returns : goal.returns
-returns c = λ boot is noted dated.
+returns c = λ boot events is noted dated stepped.
     let names = c.args.names in
-    let events = c.args.journal.now.events in
     let notes = c.args.self.now.notes in
     let n = c.args.self.now.playback.at in
+    let steps = c.args.steps.now in
     let processors = c.in_ok-put_processors.ensures in
     let tasks = c.in_ok-put_tasks.ensures in
+    let deadlock = c.in_ok-put_deadlock.ensures in
     let rest = c.in_ok-rest.rest.items in
+    let a = c.args.out.now.items in
+    let b = c.put_processors.new.out.items in
+    let with_tasks = c.put_tasks.new.out.items in
+    let d = c.put_deadlock.new.out.items in
+    let e = c.extend_from_slice.new.self.items in
     record {
-      text = processors.text ++ tasks.text ++ rest;
+      text = processors.text ++ tasks.text ++ deadlock.text ++ rest;
       is_it = record {
         processors = processors.text;
         tasks = tasks.text;
+        deadlock = deadlock.text;
         rest = rest;
-        are_processors = processors-are names boot events n notes noted.known dated processors.text processors.is_it;
-        are_tasks = tasks-are names boot events n notes noted.known dated tasks.text tasks.is_it;
+        are_processors = processors-are names boot events n notes steps noted.known dated stepped processors.text
+            processors.is_it;
+        are_tasks = tasks-are names boot events n notes steps noted.known dated stepped tasks.text tasks.is_it;
+        is_deadlock = subst (λ (b : BoardState). IsDeadlock b deadlock.text) is.board deadlock.is_it;
         is = refl;
       };
-      behind = three-behind c.args.out.now.items c.put_processors.new.out.items c.put_tasks.new.out.items c.extend_from_slice.new.self.items
-          processors.text tasks.text rest processors.behind tasks.behind
-          (c.in_ok-extend_from_slice.ensures.items ∙ ap (λ more. c.put_tasks.new.out.items ++ more) c.as_slice.ensures.value);
+      behind =
+          two-behind a d e (processors.text ++ tasks.text ++ deadlock.text) rest
+          (two-behind a with_tasks d (processors.text ++ tasks.text) deadlock.text
+          (two-behind a b with_tasks processors.text tasks.text processors.behind tasks.behind) deadlock.behind)
+          (c.in_ok-extend_from_slice.ensures.items ∙ ap (λ more. d ++ more) c.as_slice.ensures.value);
     }
