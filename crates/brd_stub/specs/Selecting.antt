@@ -1,7 +1,7 @@
 -- Which threads requests of GDB are of (GDB manual, "Packets": H and T). Registers are read of the thread that `Hg` has
 -- selected. A move steps the thread that it names itself, or that `Hc` names; where `Hc` names none, the one that was
--- chosen last (own choice): by `Hg`, by a stop in it, or by `T`. GDB 13 asks by `T` whether a thread is still there where
--- it comes back to it after it has stepped another one over a break, and says so by no other packet.
+-- chosen last (own choice): by `Hg`, by a stop in it, or by `T`. GDB 13 asks by `T` whether a thread is still there
+-- where it comes back to it after it has stepped another one over a break, and says so by no other packet.
 use Rattle.std.specs.Prelude.{ℕ, Option, Some, None}
 use Rattle.brd_board.specs.Board.{BoardState}
 use Rattle.brd_gdb.specs.declared.request.ThreadId.{ThreadId}

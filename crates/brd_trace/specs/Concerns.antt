@@ -1,4 +1,5 @@
--- Which processor an event concerns besides the one whose step it is: one that does something else after it than before.
+-- Which processor an event concerns besides the one whose step it is: one that does something else after it than
+-- before.
 use Rattle.std.specs.Prelude.{ℕ, ◌==◌, Bool, true, false, not, Option, None, Some}
 use Rattle.brd_kernel.specs.declared.processor.Standing.{Standing}
 use Rattle.brd_board.specs.declared.event.Event.{Event}
