@@ -2,3 +2,4 @@ mod ReadingLemmas
 mod AnswerLemmas
 mod MovingLemmas
 mod SizeLemmas
+mod PointLemmas
