@@ -9,6 +9,8 @@ use Rattle.std.specs.declared.io.ErrorKind.TheVariants.{OutOfMemory, UnexpectedE
 use Rattle.std.proofs.lemmas.Bool.{cases_Bool}
 use Rattle.brd_gdb.specs.declared.request.Request.{Request}
 use Rattle.brd_gdb.specs.declared.request.Request.TheVariants.{StartNoAckMode, Detach, Kill, KillProcess}
+use Rattle.brd_stub.specs.Answers.{Answers}
+use Rattle.brd_stub.specs.declared.session.Session.{Session}
 use Rattle.brd_command.specs.DebugLine.{line_size}
 use Rattle.brd_command.specs.GdbCommand.{EndsServing, IsCutOff, ServesCutShort, ServesFirst, ServesGdb, ServesToEnd, StopsServing}
 use Rattle.brd_command.specs.Serving.{AddsAnswer, AnswersPacket, HasServed, IsReady, Serves, accepted}
@@ -31,6 +33,12 @@ by_session Detach s after bytes no_mode no_detach no_process no_kill adds = absu
 by_session Kill s after bytes no_mode no_detach no_process no_kill adds = absurd (no_kill refl)
 by_session KillProcess s after bytes no_mode no_detach no_process no_kill adds = absurd (no_process refl)
 by_session other s after bytes no_mode no_detach no_process no_kill adds = (adds, refl)
+
+-- what is shown on the console is no part of what a session's answer is held to
+pub shown_otherwise : (s : Session) (request : Request) (console other reply : List ℕ) (next : Session)
+    → Answers s request console reply next → Answers s request other reply next
+shown_otherwise s request console other reply next it =
+    record { reads = it.reads; moves = it.moves; tells = it.tells; says = it.says; short = it.short }
 
 -- The answers to the bytes of a text, but for those of what is left of it, were written.
 abbrev pub IsServed : Server → List ℕ → Option (List ℕ) → ℕ → Server → Option (List ℕ) → Option (List ℕ) → Type 0

@@ -27,13 +27,12 @@ accepted s = if s.acknowledges then 43 ∷ [] else []
 abbrev pub refused : Server → List ℕ
 refused s = if s.acknowledges then 45 ∷ [] else []
 
--- The session's answer to a request came at the end of some bytes: the reply, after what is shown on the console, which is
--- the session's text, or in the place of that a trace or a summary.
+-- The session's answer to a request came at the end of some bytes: what is shown on the console, and the reply.
 pub record AddsAnswer (request : Request) (s after : Server) (old new : List ℕ) : Type 0 where
   pub console : List ℕ
   pub reply : List ℕ
   pub shown : List ℕ
-  pub answers : Answers s.session request reply after.session
+  pub answers : Answers s.session request console reply after.session
   pub shows : Outputs console shown
   pub added : new ≡ old ++ shown ++ framed reply
   pub receives : after.receiver ≡ s.receiver

@@ -2,4 +2,3 @@ mod ReadingLemmas
 mod AnswerLemmas
 mod MovingLemmas
 mod SizeLemmas
-mod PointLemmas

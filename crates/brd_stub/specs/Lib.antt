@@ -1,7 +1,5 @@
 pub mod Registers
 pub mod Reading
-pub mod Points
-pub mod Reasons
 pub mod Halting
 pub mod Stepping
 pub mod Selecting

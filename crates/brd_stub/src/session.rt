@@ -1,40 +1,23 @@
 //! A session with GDB.
 
-ghost use Rattle.std.specs.Prelude.{◌≡◌, ◌≤◌, length, is_some, true, false, IfOk};
+ghost use Rattle.std.specs.Prelude.{◌≡◌, ◌≤◌, length, IfOk};
 ghost use Rattle.brd_gdb.specs.Receiving.{packet_size};
 ghost use Rattle.brd_debug.specs.Debugger.{shown};
-ghost use Rattle.brd_stub.specs.Answers.{
-  Answers,
-  Begins,
-  Reads,
-  Becomes,
-  Says,
-  Shows,
-  console_text,
-  Stops,
-  SetsPoint,
-  HasPoints,
-  at_stop,
-  gone_to,
-  thread_named,
-};
-ghost use Rattle.brd_stub.specs.Halting.{halt_text, fitting, done_text, end_text};
-ghost use Rattle.brd_stub.specs.Moving.{stepping, stepping_back, GoesForward, GoesBack};
-ghost use Rattle.brd_stub.specs.Points.{may_set, without_point};
-ghost use Rattle.brd_stub.specs.Selecting.{stepping_of, selected_by, asked_by};
-ghost use Rattle.brd_stub.specs.Stepping.{processor_of, processor_for, stepper_on, stepped_by};
+ghost use Rattle.brd_stub.specs.Answers.{Answers, Begins, Reads, Moves, Tells, Says};
+ghost use Rattle.brd_stub.specs.Stepping.{processor_for, stepper_on, stepped_by};
+ghost use Rattle.brd_stub.specs.Selecting.{stepping_of};
+ghost use Rattle.brd_stub.specs.Moving.{IsSameButStops};
 
 use crate::answer::Answer;
-use crate::halt::{Halt, Reason, Stop, Told};
-use crate::moves::{Origin, backward, forward};
-use crate::points::{Point, clear_point, load, set_point};
+use crate::halt::{Halt, Reason, Told};
+use crate::points::{Point, Setting, clear_point, load, set_point};
 use crate::selection::Selection;
 use crate::stepping::{Stepped, stepper_on};
-use crate::telling::{halt_text, plain, short, text};
-use crate::threads::{executing, processor_of};
+use crate::telling::{plain, text};
+use crate::threads::processor_of;
 use brd_base::NoMemory;
 use brd_board::Board;
-use brd_debug::{DebugFault, Debugger, Stepper};
+use brd_debug::{Debugger, Stepper};
 use brd_gdb::{Monitor, Move, Request, ThreadId};
 use brd_journal::Journal;
 use brd_progress::Progress;
@@ -94,8 +77,8 @@ impl Session {
         request: Request,
         progress: &mut P,
     ) -> Result<Answer, NoMemory>
-        ensures answers { IfOk result (λ answer. Answers self.old request answer.reply.items self.new) }
-        ensures shows { IfOk result (λ answer. Shows request self.new answer.console.items) }
+        ensures { IfOk result
+            (λ answer. Answers self.old request answer.console.items answer.reply.items self.new) }
     {
         self.answered(alloc, request, progress)
     }
@@ -109,9 +92,9 @@ impl Session {
     ) -> Result<Answer, NoMemory>
         ensures reads { IfOk result (λ answer.
             Reads (shown self.old.debugger) self.old.selection.reading request answer.reply.items) }
-        ensures becomes { IfOk result (λ _. Becomes self.old request self.new) }
-        ensures says { IfOk result (λ answer. Says self.old request self.new answer.reply.items) }
-        ensures shows { IfOk result (λ answer. Shows request self.new answer.console.items) }
+        ensures moves { IfOk result (λ _. Moves (stepping_of self.old.selection) self.old.told request self.old.debugger self.new.debugger) }
+        ensures tells { IfOk result (λ answer. Tells request self.new answer.reply.items) }
+        ensures says { IfOk result (λ answer. Says self.old request answer.reply.items) }
         ensures short { IfOk result (λ answer. length answer.reply.items ≤ packet_size) }
     {
         match request {
@@ -150,11 +133,12 @@ impl Session {
                     length,
                 },
             ),
-            Request::IsAlive(thread) => self.ask(alloc, thread),
-            Request::StopReason => self.tell_stop(alloc),
             Request::Monitor(command) => self.show_monitor(alloc, command),
             other => {
                 let reply = self.tell(alloc, other)?;
+                if let Request::IsAlive(thread) = other {
+                    self.selection = self.selection.asking(self.debugger.show(), thread);
+                }
                 Ok(plain(alloc, reply))
             }
         }
@@ -210,11 +194,7 @@ impl Session {
         moves: bool,
         thread: ThreadId,
     ) -> Result<Answer, NoMemory>
-        ensures becomes { IfOk result (λ _. self.new
-            ≡ record self.old { selection = selected_by moves (thread_named self.old thread) thread self.old.selection
-                }) }
-        ensures says { IfOk result (λ answer.
-            answer.reply.items ≡ done_text (is_some (thread_named self.old thread))) }
+        ensures same { self.new.debugger ≡ self.old.debugger }
         ensures short { IfOk result (λ answer. length answer.reply.items ≤ packet_size) }
     {
         let Some(cpu) = processor_of(self.debugger.show(), thread, self.halt.thread) else {
@@ -230,168 +210,31 @@ impl Session {
 
     /// Sets a point.
     fn set(&mut self, alloc: Global, point: Point) -> Result<Answer, NoMemory>
-        ensures becomes { IfOk result (λ _. SetsPoint self.old point self.new) }
-        ensures says { IfOk result (λ answer. answer.reply.items ≡ done_text (may_set self.old.points.items point)) }
+        ensures same { IsSameButStops self.old.debugger self.new.debugger }
         ensures short { IfOk result (λ answer. length answer.reply.items ≤ packet_size) }
     {
-        if !set_point(&mut self.points, point)? {
-            return error(alloc);
+        match set_point(&mut self.points, point)? {
+            Setting::Set => {
+                load(&mut self.debugger, &self.points);
+                okay(alloc)
+            }
+            Setting::Refused => error(alloc),
         }
-        load(&mut self.debugger, &self.points);
-        okay(alloc)
     }
 
     /// Takes a point away.
     fn clear(&mut self, alloc: Global, point: Point) -> Result<Answer, NoMemory>
-        ensures becomes { IfOk result
-            (λ _. HasPoints self.old (without_point self.old.points.items point) self.new) }
-        ensures says { IfOk result (λ answer. answer.reply.items ≡ done_text true) }
+        ensures same { IsSameButStops self.old.debugger self.new.debugger }
         ensures short { IfOk result (λ answer. length answer.reply.items ≤ packet_size) }
     {
         clear_point(&mut self.points, point);
         load(&mut self.debugger, &self.points);
         okay(alloc)
     }
-
-    /// Answers whether there is a thread, which is chosen then.
-    fn ask(&mut self, alloc: Global, thread: ThreadId) -> Result<Answer, NoMemory>
-        ensures becomes { IfOk result (λ _. self.new
-            ≡ record self.old { selection = asked_by (shown self.old.debugger) thread self.old.selection }) }
-        ensures says { IfOk result (λ answer.
-            answer.reply.items ≡ done_text (is_some (processor_of (shown self.old.debugger) thread 1))) }
-        ensures short { IfOk result (λ answer. length answer.reply.items ≤ packet_size) }
-    {
-        let board = self.debugger.show();
-        self.selection = self.selection.asking(board, thread);
-        match processor_of(self.debugger.show(), thread, 1) {
-            Some(_) => okay(alloc),
-            None => error(alloc),
-        }
-    }
-
-    /// Goes on to the next stop, and tells it.
-    fn go_on<P: Progress>(
-        &mut self,
-        alloc: Global,
-        stepped: Stepped,
-        progress: &mut P,
-    ) -> Result<Answer, NoMemory>
-        ensures becomes { IfOk result (λ _. Stops
-            (GoesForward self.old.points.items (stepping_of self.old.selection) self.old.told
-            (stepping stepped self.old.debugger)) self.old self.new) }
-        ensures says { IfOk result (λ answer. answer.reply.items ≡ fitting (halt_text self.new.halt)) }
-        ensures shows { IfOk result (λ answer. answer.console.items ≡ console_text self.new) }
-        ensures short { IfOk result (λ answer. length answer.reply.items ≤ packet_size) }
-    {
-        self.debugger.set_stepper(stepped.stepper);
-        self.debugger.set_only(stepped.only);
-        let origin = Origin {
-            points: &self.points,
-            thread: self.selection.stepping(),
-            told: self.told,
-        };
-        let stop = forward(&mut self.debugger, origin, progress)?;
-        self.stopped(alloc, stop)
-    }
-
-    /// Goes back to the last stop, and tells it.
-    fn go_back<P: Progress>(
-        &mut self,
-        alloc: Global,
-        stepper: Option<Stepper>,
-        progress: &mut P,
-    ) -> Result<Answer, NoMemory>
-        ensures becomes { IfOk result (λ _. Stops
-            (GoesBack self.old.points.items (stepping_of self.old.selection) self.old.told
-            (stepping_back stepper self.old.debugger)) self.old self.new) }
-        ensures says { IfOk result (λ answer. answer.reply.items ≡ fitting (halt_text self.new.halt)) }
-        ensures shows { IfOk result (λ answer. answer.console.items ≡ console_text self.new) }
-        ensures short { IfOk result (λ answer. length answer.reply.items ≤ packet_size) }
-    {
-        self.debugger.set_stepper(stepper);
-        self.debugger.set_only(None);
-        let origin = Origin {
-            points: &self.points,
-            thread: self.selection.stepping(),
-            told: self.told,
-        };
-        let stop = backward(&mut self.debugger, origin, progress)?;
-        self.stopped(alloc, stop)
-    }
-
-    /// Tells why the board stands where it is.
-    fn tell_stop(&self, alloc: Global) -> Result<Answer, NoMemory>
-        ensures says { IfOk result (λ answer. answer.reply.items ≡ fitting (halt_text self.now.halt)) }
-        ensures short { IfOk result (λ answer. length answer.reply.items ≤ packet_size) }
-    {
-        let reply = halt_text(alloc, self.halt)?;
-        Ok(plain(alloc, short(reply)))
-    }
-
-    /// Keeps how a move has ended, and tells why the board stands where it is, and at the end of the journal what it
-    /// does
-    /// there.
-    fn stopped(&mut self, alloc: Global, stop: Stop) -> Result<Answer, NoMemory>
-        ensures becomes { self.new ≡ at_stop self.old (record { debugger = self.old.debugger; stop = stop }) }
-        ensures says { IfOk result (λ answer. answer.reply.items ≡ fitting (halt_text self.new.halt)) }
-        ensures shows { IfOk result (λ answer. answer.console.items ≡ console_text self.new) }
-        ensures short { IfOk result (λ answer. length answer.reply.items ≤ packet_size) }
-    {
-        self.halt = stop.halt;
-        self.told = stop.told;
-        self.selection = self.selection.choosing(stop.halt.thread);
-        let note: &[u8] = match stop.halt.reason {
-            Reason::End => end_text(self.debugger.show()),
-            _ => b"",
-        };
-        let console = text(alloc, note)?;
-        let reply = halt_text(alloc, stop.halt)?;
-        Ok(Answer {
-            console,
-            reply: short(reply),
-        })
-    }
-
-    /// Goes to a position, and says so on GDB's console.
-    fn go_to<P: Progress>(
-        &mut self,
-        alloc: Global,
-        position: u64,
-        progress: &mut P,
-    ) -> Result<Answer, NoMemory>
-        ensures becomes { IfOk result (λ _. self.new ≡ gone_to self.old position) }
-        ensures says { IfOk result (λ answer. answer.reply.items ≡ done_text true) }
-        ensures short { IfOk result (λ answer. length answer.reply.items ≤ packet_size) }
-    {
-        let console = match self.debugger.goto_telling(position, progress) {
-            Ok(()) => format!(in alloc; "at {position}\n")?,
-            Err(DebugFault::Past { len }) => format!(in alloc; "past {len}\n")?,
-            Err(DebugFault::NoMemory) => return Err(NoMemory),
-        };
-        self.told = Told::Nothing;
-        Ok(Answer {
-            console: text(alloc, console.as_bytes())?,
-            reply: text(alloc, b"OK")?,
-        })
-    }
-}
-
-/// What a board does at the end of a journal.
-fn end_text(board: &Board) -> &'static [u8]
-    ensures { result.now ≡ end_text board.now }
-{
-    if board.is_off() {
-        b"The journal ends here: the board is off.\n"
-    } else if board.registers(executing(board, 1)).is_some() {
-        b"The journal ends here.\n"
-    } else {
-        b"The journal ends here: no processor executes anything.\n"
-    }
 }
 
 /// The answer that all went well.
-fn okay(alloc: Global) -> Result<Answer, NoMemory>
-    ensures says { IfOk result (λ answer. answer.reply.items ≡ done_text true) }
+pub fn okay(alloc: Global) -> Result<Answer, NoMemory>
     ensures short { IfOk result (λ answer. length answer.reply.items ≤ packet_size) }
 {
     let reply = text(alloc, b"OK")?;
@@ -399,8 +242,7 @@ fn okay(alloc: Global) -> Result<Answer, NoMemory>
 }
 
 /// The answer that a request is refused.
-fn error(alloc: Global) -> Result<Answer, NoMemory>
-    ensures says { IfOk result (λ answer. answer.reply.items ≡ done_text false) }
+pub fn error(alloc: Global) -> Result<Answer, NoMemory>
     ensures short { IfOk result (λ answer. length answer.reply.items ≤ packet_size) }
 {
     let reply = text(alloc, b"E01")?;

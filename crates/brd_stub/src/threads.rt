@@ -3,7 +3,6 @@
 ghost use Rattle.std.specs.Prelude.{◌≡◌, is_some};
 ghost use Rattle.brd_board.specs.Board.{standing_of};
 ghost use Rattle.brd_stub.specs.Stepping.{processor_of};
-ghost use Rattle.brd_stub.specs.Reasons.{executing};
 
 use brd_base::NoMemory;
 use brd_board::{Board, Standing, TaskState};
@@ -34,9 +33,7 @@ pub fn processor_of(board: &Board, thread: ThreadId, other: u8) -> Option<u8>
 }
 
 /// A processor on which somebody executes: this one, else the first; this one where there is none.
-pub fn executing(board: &Board, cpu: u8) -> u8
-    ensures { result ≡ executing board.now cpu }
-{
+pub fn executing(board: &Board, cpu: u8) -> u8 {
     if board.registers(cpu).is_some() {
         return cpu;
     }

@@ -2,12 +2,12 @@ use Rattle.std.proofs.Common.{subst}
 use Rattle.std.specs.Prelude.{Some}
 use Rattle.brd_debug.specs.Debugger.{SeesAhead}
 use Rattle.brd_stub.proofs.AnswerLemmas.{if-then}
-use Rattle.brd_stub.proofs.moves.stop_ahead.Goals as goal
+use Rattle.brd_stub.proofs.session.Session.halt_back.Goals as goal
 
 pub returns-in-Some : goal.returns-in-Some
 returns-in-Some c =
-    if-then _ _ (λ stop does. record {
+    if-then _ _ (λ halt does. record {
       look = Some c.in-Some.look;
-      sees = subst (SeesAhead c.args.debugger.now) c.in-Some.is c.in_ok-look.ensures;
+      sees = subst (SeesAhead c.args.self.now.debugger) c.in-Some.is c.in_ok-look.ensures;
       stands = does;
-    }) c.stand.result c.stand.ensures
+    }) c.stand_behind.result c.stand_behind.ensures
