@@ -9,12 +9,13 @@ use Rattle.brd_image.specs.declared.building.Loaded.{Loaded}
 use Rattle.brd_inputs.specs.Opening.{OpensPair}
 use Rattle.brd_inputs.specs.Start.{IsLoaded, KeepsFromLoading}
 use Rattle.brd_inputs.specs.declared.fault.CommandFault.{CommandFault}
-use Rattle.brd_inputs.specs.declared.fault.CommandFault.TheVariants.{NoMemory, Search, Write, Fails}
+use Rattle.brd_inputs.specs.declared.fault.CommandFault.TheVariants.{NoMemory, Schedule, Search, Write, Fails}
 use Rattle.brd_inputs.specs.declared.inputs.Pair.{Pair}
+use Rattle.brd_inputs.specs.declared.schedule_fault.ScheduleFault.TheVariants.{TooLong}
 use Rattle.brd_journal.specs.Text.{text_of}
 use Rattle.brd_report.specs.Output.{WritesFront}
 use Rattle.brd_search.specs.Plans.{IsPlan, KeepsFromPlanning}
-use Rattle.brd_search.specs.Searches.{Answers, IsFewest, IsShortest}
+use Rattle.brd_search.specs.Searches.{Answers, IsShortest}
 use Rattle.brd_search.specs.Shown.{shown}
 use Rattle.brd_search.specs.declared.options.SearchOptions.{SearchOptions}
 use Rattle.brd_search.specs.declared.plan.Plan.{Plan}
@@ -34,23 +35,22 @@ Tells plan b (Some events) text journal =
 
 -- The text and the journal tell what a search of a board has answered. Its plan is the one that the options ask for.
 -- What it has answered is so: the schedule is within the bounds and fails, or none of the plan's shard within them
--- does. With fewer preemptions than the bounds leave none fails; and if the shortest is asked for, none with fewer
--- events and no more preemptions.
+-- does; and where the shortest is asked for, none with fewer events fails.
 pub record IsTold (options : SearchOptions) (loaded : Loaded) (text : List ℕ) (journal : Option (List ℕ)) : Type 0 where
   pub plan : Plan
   pub planned : IsPlan options (processors_of loaded.board) loaded.image.symbols plan
   pub bounds : Bounds
   pub schedule : Option (List Event)
   pub answers : Answers plan loaded.board bounds schedule
-  pub fewest : IsFewest plan loaded.board bounds
   pub short : plan.shortest ≡ true → IsShortest plan loaded.board bounds schedule
   pub tells : Tells plan loaded.board schedule text journal
 
--- What keeps a search of a board from being told: want of memory, or what is wrong with its options. (No journal of one
--- is too long: a schedule has a million events at most, and its fair end 20,000 rounds of 129.)
+-- what keeps a search of a board from being told: want of memory, what is wrong with its options, or a journal with too
+-- many runs
 abbrev pub KeepsFromSearching : SearchOptions → Loaded → CommandFault → Type 0
 KeepsFromSearching options loaded NoMemory = Unit {0}
 KeepsFromSearching options loaded (Search fault) = KeepsFromPlanning options loaded.image.symbols fault
+KeepsFromSearching options loaded (Schedule TooLong) = Unit {0}
 KeepsFromSearching options loaded _ = ⊥
 
 -- the object file and the configuration make a board, and the text and the journal tell of a search of it

@@ -8,9 +8,10 @@ use Rattle.brd_explore.specs.declared.wanted.Wanted.{Wanted}
 use Rattle.brd_inputs.specs.Opening.{OpensInputs}
 use Rattle.brd_inputs.specs.Start.{IsStart, KeepsFromStarting}
 use Rattle.brd_inputs.specs.declared.fault.CommandFault.{CommandFault}
-use Rattle.brd_inputs.specs.declared.fault.CommandFault.TheVariants.{NoMemory, Passes, Search, Write}
+use Rattle.brd_inputs.specs.declared.fault.CommandFault.TheVariants.{NoMemory, Passes, Schedule, Search, Write}
 use Rattle.brd_inputs.specs.declared.input_name.InputName.TheVariants as input_name
 use Rattle.brd_inputs.specs.declared.inputs.Inputs.{Inputs}
+use Rattle.brd_inputs.specs.declared.schedule_fault.ScheduleFault.TheVariants.{TooLong}
 use Rattle.brd_inputs.specs.declared.start.Start.{Start}
 use Rattle.brd_journal.specs.Journal.{JournalState}
 use Rattle.brd_journal.specs.Text.{text_of}
@@ -49,24 +50,19 @@ pub record Passing (options : ShrinkOptions) (start : Start) : Type 0 where
   pub looks : IsLookedFor options start wanted
   pub passes : is_failing wanted start.board start.journal.events ≡ false
 
--- a journal's events, of which there are a million at most
-pub record AreEventsOf (journal : JournalState) (events : List Event) : Type 0 where
-  pub same : events ≡ journal.events
-  pub few : length events ≤ 1000000
-
 -- what keeps a journal's events from being taken one by one: want of memory, or that there are more than a million
 abbrev pub IsOfLength : JournalState → SearchFault → Type 0
 IsOfLength journal search_fault.NoMemory = Unit {0}
 IsOfLength journal search_fault.Journal = 1000000 < length journal.events
 IsOfLength journal _ = ⊥
 
--- What keeps a journal from being made shorter: want of memory, what is wrong with the options, that it has more than a
--- million events, or that it passes. (What is left is never too long for a journal: it has a million events at most,
--- and its fair end 20,000 rounds of 129.)
+-- what keeps a journal from being made shorter: want of memory, what is wrong with the options, that it has more than a
+-- million events, that what is left has too many runs, or that it passes
 abbrev pub KeepsFromShrinking : ShrinkOptions → Start → CommandFault → Type 0
 KeepsFromShrinking options start NoMemory = Unit {0}
 KeepsFromShrinking options start (Search fault) =
     KeepsFromWanting options.looks options.fair start.image.symbols fault ⊎ IsOfLength start.journal fault
+KeepsFromShrinking options start (Schedule TooLong) = Unit {0}
 KeepsFromShrinking options start Passes = Passing options start
 KeepsFromShrinking options start _ = ⊥
 

@@ -4,7 +4,6 @@ ghost use Rattle.std.specs.Prelude.{◌≡◌, ◌++◌, codes, option_map, IfOk
 ghost use Rattle.brd_command.specs.ExploreCommand.{Explores, ExploreFilesEnd, IsTold, KeepsFromSearching};
 ghost use Rattle.brd_command.specs.ExploreCommand.{Begins, RefusesExploring, Tells};
 ghost use Rattle.brd_command.specs.Saving.{IsOfJournal};
-ghost use Rattle.brd_search.specs.Shown.{shown};
 ghost use Rattle.brd_board.specs.Board.{BoardState};
 
 use crate::saving::{journal_text, save};
@@ -149,7 +148,7 @@ fn told_found(
     ensures { MatchResult result
         (λ told. Tells plan.now board.now (Some events.now) told.text.items
         (option_map (λ text. text.items) told.journal))
-        (IsOfJournal (shown plan.now.wanted board.now events.now)) }
+        IsOfJournal }
 {
     let text = text_found(alloc, board, symbols, plan, events)?;
     let shown = shown_events(alloc, &plan.wanted, board, events)?;

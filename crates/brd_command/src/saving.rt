@@ -1,8 +1,8 @@
 //! Journals that a search has found: their texts, and the files that get them.
 
-ghost use Rattle.std.specs.Prelude.{◌≡◌, MatchResult, option_map};
+ghost use Rattle.std.specs.Prelude.{◌≡◌, IfOk, MatchResult, option_map};
 ghost use Rattle.brd_journal.specs.Text.{text_of};
-ghost use Rattle.brd_command.specs.Saving.{IsOfJournal, KeepsFromJournal, Saves};
+ghost use Rattle.brd_command.specs.Saving.{IsOfJournal, Saves};
 
 use brd_board::Event;
 use brd_inputs::{CommandFault, Files, ScheduleFault};
@@ -17,7 +17,7 @@ pub(crate) fn journal_text(
     order: Order,
     events: &[Event],
 ) -> Result<Vec<u8>, CommandFault>
-    ensures { MatchResult result (λ text. text.items ≡ text_of order events.now) (IsOfJournal events.now) }
+    ensures { MatchResult result (λ text. text.items ≡ text_of order events.now) IsOfJournal }
 {
     let journal = match journal_of(alloc, order, events) {
         Ok(journal) => journal,
@@ -32,15 +32,11 @@ pub(crate) fn journal_text(
 
 /// The journal of these events, for boards of this byte order.
 fn journal_of(alloc: Global, order: Order, events: &[Event]) -> Result<Journal, JournalFault>
-    ensures { MatchResult result (λ journal. (journal.events ≡ events.now) × (journal.order ≡ order))
-        (KeepsFromJournal events.now) }
+    ensures { IfOk result (λ journal. (journal.events ≡ events.now) × (journal.order ≡ order)) }
 {
     let mut journal = Journal::new(alloc, MOST_RUNS, order);
     for event in events {
-        match journal.push(*event) {
-            Ok(()) => {}
-            Err(fault) => return Err(fault),
-        }
+        journal.push(*event)?;
     }
     Ok(journal)
 }

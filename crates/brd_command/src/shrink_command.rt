@@ -5,7 +5,7 @@ ghost use Rattle.brd_journal.specs.Text.{text_of};
 ghost use Rattle.brd_search.specs.Shown.{shown};
 ghost use Rattle.brd_command.specs.Saving.{IsOfJournal};
 ghost use Rattle.brd_command.specs.ShrinkCommand.{IsShrunk, KeepsFromShrinking, RefusesShrinking, ShrinkFilesEnd};
-ghost use Rattle.brd_command.specs.ShrinkCommand.{AreEventsOf, IsOfLength, Shrinks};
+ghost use Rattle.brd_command.specs.ShrinkCommand.{IsOfLength, Shrinks};
 
 use crate::saving::{journal_text, save};
 use brd_base::NoMemory;
@@ -121,7 +121,7 @@ fn told_of(alloc: Global, start: &Start, options: ShrinkOptions<'_>) -> Result<T
 
 /// The events of a journal one by one.
 fn events_of(alloc: Global, journal: &Journal) -> Result<Vec<Event>, SearchFault>
-    ensures { MatchResult result (λ events. AreEventsOf journal.now events.items) (IsOfLength journal.now) }
+    ensures { MatchResult result (λ events. events.items ≡ journal.now.events) (IsOfLength journal.now) }
 {
     if journal.len() > MOST_EVENTS {
         return Err(SearchFault::Journal);
@@ -145,7 +145,7 @@ fn told_left(
 ) -> Result<Told, CommandFault>
     ensures { MatchResult result
         (λ told. told.journal.items ≡ text_of start.now.board.memory.order (shown wanted.now start.now.board left.now))
-        (IsOfJournal (shown wanted.now start.now.board left.now)) }
+        IsOfJournal }
 {
     let text = text_left(alloc, start, wanted, all, left)?;
     let shown = shown_events(alloc, wanted, &start.board, left)?;
