@@ -95,13 +95,22 @@ fn play<P: Progress>(
             Ok(()) => {}
             Err(fault) => return Err(fault),
         }
-        if racing.playback.at - shown >= PIECE {
-            shown = racing.playback.at;
-            progress.show(shown, to);
-        }
+        shown = show_piece(progress, shown, racing.playback.at, to);
     }
     progress.hide();
     Ok(())
+}
+
+/// Shows how far it has come, if that is a piece further than what is shown; and says what is shown then.
+fn show_piece<P: Progress>(progress: &mut P, shown: u64, at: u64, to: u64) -> u64
+    requires { shown ≤ at }
+    ensures { result ≤ at }
+{
+    if at - shown < PIECE {
+        return shown;
+    }
+    progress.show(at, to);
+    at
 }
 
 /// The fault of the command where the order isn't followed further.

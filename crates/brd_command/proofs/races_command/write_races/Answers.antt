@@ -45,7 +45,7 @@ races-written names queues board events to races bytes old new (Err fault.Fails)
 races-written names queues board events to races bytes old new (Err fault.Passes) are is of = absurd of
 races-written names queues board events to races bytes old new (Err (fault.Write a)) are is of = tt
 
-is_of_memory : OrderFault → Bool
+abbrev is_of_memory : OrderFault → Bool
 is_of_memory order.NoMemory = true
 is_of_memory order.TooManyTouches = false
 is_of_memory order.TooManyThings = false
