@@ -223,14 +223,16 @@ plain() {
 cat > "$work/names.s" << 'END'
 escape: addiu   $sp, $sp, -8
         sw      $zero, 0($sp)
+        jalr    $zero                   # its fetch fails, and $ra leads to the second name
+        nop
 forging________:
-        lw      $t0, 0($zero)
+        nop
 END
 cat > "$work/names.cfg" << 'END'
 BOARD(1, 0x10000);
 CRE_TSK(1, {TA_ACT, 0, 0x80000000, 1, 256, NULL});
 END
-printf 'board-journal 1\nS 1 3\n' > "$work/names.journal"
+printf 'board-journal 1\nS 1 5\n' > "$work/names.journal"
 assembled "names" "$work/names.s"
 LC_ALL=C sed -i 's/escape/\x1b[31m\xff/; s/forging________/\nraces: 0 words/' "$work/image"
 files=("$work/image" "$work/names.cfg" "$work/names.journal")
@@ -238,7 +240,7 @@ shown='\x1b[31m\xff'
 forged='\x0araces: 0 words'
 plain "names of symbols" "$forged" "${files[@]}"
 plain "names of symbols in instructions" "$shown " --instructions "${files[@]}"
-plain "names of symbols in stacks" "$shown+0x4 (80000004)" --stacks "${files[@]}"
+plain "names of symbols in stacks" "$shown (80000000)" --stacks "${files[@]}"
 plain "names of symbols in a summary" "$forged" --summary "${files[@]}"
 plain "names of symbols in a picture" "$forged" --format svg "${files[@]}"
 plain "names of symbols as json" '\\x0araces: 0 words' --format json "${files[@]}"
@@ -247,15 +249,17 @@ plain "names of symbols in a profile" "$shown" --format callgrind "${files[@]}"
 if have mips-linux-gnu-as "trace: names of files"; then
     source="$work"/$'\x1b[31m\nraces: 0 words\xc3\xa4.s'
     cp "$work/names.s" "$source"
-    mips-linux-gnu-as -g -mips32 -o "$work/names.o" "$source" &&
-        mips-linux-gnu-ld -e escape -T examples/firmware.ld -o "$work/image" "$work/names.o" ||
+    mips-linux-gnu-as -gdwarf-4 -mips32 -o "$work/names.o" "$source" &&
+        mips-linux-gnu-ld -e 0x80000000 -T examples/firmware.ld -o "$work/image" "$work/names.o" ||
         fail "trace: names of files" "no object file"
     shown='\x1b[31m\x0araces: 0 words\xc3\xa4.s'
-    plain "names of files" "$shown:4" "${files[@]}"
-    plain "names of files in instructions" "$shown:1" --instructions "${files[@]}"
+    plain "names of files" "$shown:1" --instructions "${files[@]}"
     run_trace --format lcov "${files[@]}"
-    grep -q $'^SF:.*/\\\\x1b\\[31m\\\\x0araces: 0 words\xc3\xa4\\.s$' "$work/out" ||
+    if grep -qF $'/\\x1b[31m\\x0araces: 0 words\xc3\xa4.s' "$work/out"; then
+        pass "trace: names of files in coverage"
+    else
         fail "trace: names of files in coverage" "$(grep '^SF' "$work/out")"
+    fi
 fi
 
 # A raise is an instant of the processor that handles the line.
@@ -292,6 +296,100 @@ cat > "$work/lines" << 'END'
 END
 entries "${files[@]}"
 has "spin locks and turns as json" "$work/lines" '"cat":"(held|spins|turn)"'
+
+# A tick has its number also if the first one comes before the part.
+example deadlock/deadlock
+echo '{"ph":"i","pid":3,"tid":1,"s":"t","ts":41,"cat":"tick","name":"tick 2"}' > "$work/lines"
+entries --from 41 "${files[@]}"
+has "the number of a tick as json" "$work/lines" '"cat":"tick"'
+
+# Processor 1 takes the lock of the greatest number, and the task of processor 2 asks for it. Processor 3 starts a task of
+# higher priority on processor 2, which runs from then on: so the other one spins no more, though its processor has made
+# no further step. That event concerns processor 2 and no other.
+cat > "$work/locks.s" << 'END'
+one:    addiu   $a0, $zero, 255
+        addiu   $v0, $zero, 60
+        syscall                         # loc_spn(255)
+end:    b       end
+        nop
+two:    addiu   $a0, $zero, 255
+        addiu   $v0, $zero, 60
+        syscall                         # loc_spn(255)
+three:  addiu   $a0, $zero, 4
+        addiu   $v0, $zero, 1
+        syscall                         # act_tsk(4)
+        b       end
+        nop
+END
+cat > "$work/locks.cfg" << 'END'
+BOARD(3, 0x10000);
+CRE_SPN(255, {TA_NULL});
+CRE_TSK(1, {TA_ACT, 0, one, 1, 256, NULL});
+CLASS(TCL_2) {
+    CRE_TSK(2, {TA_ACT, 0, two, 2, 256, NULL});
+    CRE_TSK(4, {TA_NULL, 0, end, 1, 256, NULL});
+}
+CLASS(TCL_3) { CRE_TSK(3, {TA_ACT, 0, three, 1, 256, NULL}); }
+END
+printf 'board-journal 1\nS 1 3\nS 2 5\nS 3 3\nS 1 2\nS 2 4\n' > "$work/locks.journal"
+assembled "locks" "$work/locks.s"
+files=("$work/image" "$work/locks.cfg" "$work/locks.journal")
+cat > "$work/lines" << 'END'
+{"ph":"X","pid":4,"tid":1,"dur":14,"ts":3,"cat":"held","name":"held by cpu 1"}
+{"ph":"X","pid":1,"tid":2,"dur":5,"ts":6,"cat":"spins","name":"spins for lock 255"}
+END
+entries "${files[@]}"
+has "a task that spins no more, since its processor runs another" "$work/lines" '"cat":"(held|spins)"'
+printf '%10d %-4d%-11s%-20s%s\n' 10 3 'task 3' three+0x8 'act_tsk(4) = E_OK, task 4 ready, cpu 2 runs task 4' \
+    > "$work/lines"
+run_trace --cpu 2 "${files[@]}"
+has "an event that concerns the chosen processor" "$work/lines" 'act_tsk'
+run_trace --cpu 1 "${files[@]}"
+grep -q act_tsk "$work/out" && fail "trace: an event that concerns another processor" "$(grep act_tsk "$work/out")"
+
+# A line table that is written by hand, since no compiler writes this opcode for the board: DW_LNS_fixed_advance_pc
+# (DWARF 4, 6.2.5.2) goes on by as many bytes as its operand says.
+if have mips-linux-gnu-as "trace: a line table with fixed_advance_pc"; then
+    cat > "$work/hand.s" << 'END'
+        .set    noreorder
+        .globl  main
+main:   addiu   $t0, $zero, 1
+        addiu   $t1, $zero, 2
+        addiu   $t2, $zero, 3
+end:    b       end
+        nop
+        .section .debug_line
+        .4byte  last - first
+first:  .2byte  2                       # DWARF 2
+        .4byte  program - header
+header: .byte   1, 1, -5, 14, 10        # bytes of an instruction, is_stmt, line base, line range, first special opcode
+        .byte   0, 1, 1, 1, 1, 0, 0, 0, 1
+        .byte   0                       # no folders
+        .asciz  "by_hand.s"
+        .byte   0, 0, 0, 0
+program:
+        .byte   0, 5, 2                 # DW_LNE_set_address
+        .4byte  main
+        .byte   3, 9, 1                 # DW_LNS_advance_line by 9, DW_LNS_copy
+        .byte   9                       # DW_LNS_fixed_advance_pc
+        .2byte  4
+        .byte   3, 1, 1
+        .byte   9
+        .2byte  8
+        .byte   0, 1, 1                 # DW_LNE_end_sequence
+last:
+END
+    mips-linux-gnu-as -mips32 -o "$work/hand.o" "$work/hand.s" &&
+        mips-linux-gnu-ld -e main -T examples/firmware.ld -o "$work/image" "$work/hand.o" ||
+        fail "trace: a line table with fixed_advance_pc" "no object file"
+    sed 's/0x80000000/main/' "$work/names.cfg" > "$work/hand.cfg"
+    printf 'board-journal 1\nS 1 4\n' > "$work/hand.journal"
+    printf '%s\n' 'by_hand.s:10' 'by_hand.s:11' 'by_hand.s:11' > "$work/lines"
+    run_trace --instructions "$work/image" "$work/hand.cfg" "$work/hand.journal"
+    grep -o 'by_hand.*' "$work/out" | cmp -s - "$work/lines" &&
+        pass "trace: a line table with fixed_advance_pc" ||
+        fail "trace: a line table with fixed_advance_pc" "$(grep by_hand "$work/out")"
+fi
 
 if have python3 "the timelines"; then
     # What a timeline says, read by a parser: slices of a track don't overlap, and cover it.
