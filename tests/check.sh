@@ -90,6 +90,29 @@ check_script() {
     fi
 }
 
+# lay SCENE..: lays the files of scenes out whole, each in a folder of $laid (tests/scene).
+laid=$work/scenes
+lay() {
+    have python3 "the files of scenes" || { summary; exit; }
+    tests/scene --lay "$laid" "$board" "$@" || fail "the files of scenes" "they can't be laid out"
+}
+
+# count_in NAME COMMAND..: runs a test that counts what it has tried itself, and adds the verdicts to the file of verdicts.
+count_in() {
+    local name=$1 lines more
+    shift
+    lines=$("$@")
+    more=$(tail -n 1 <<< "$lines")
+    sed '$d' <<< "$lines"
+    if [[ "$more" =~ $closing ]]; then
+        passed=$((passed + BASH_REMATCH[1]))
+        failed=$((failed + BASH_REMATCH[2]))
+        skipped=$((skipped + BASH_REMATCH[3]))
+    else
+        fail "$name" "it ended without its closing line"
+    fi
+}
+
 # What this system says of an error: its text depends on the C library, so it is taken from a run of `cat`. The number
 # after it is Linux's.
 is_missing="$(LC_ALL=C cat "$work/nosuch" 2>&1 | sed 's/.*: //') (os error 2)"

@@ -29,9 +29,9 @@ if have python3 "the counts of instructions"; then
         example "$name"
         verdict "cover: the counts of $name" "$(tests/cover_counts "$board" "${files[@]}" 2>&1)"
     done
-    for name in runaway exceptions; do
-        "$board" asm "tests/tracing/$name/source.s" "$work/image" 2> "$work/err" || fail "cover: $name" "$(cat "$work/err")"
-        files=("$work/image" "tests/tracing/$name/config.cfg" "tests/tracing/$name/journal")
+    lay trace_runaway trace_exceptions
+    for name in trace_runaway trace_exceptions; do
+        files=("$laid/$name/image.elf" "$laid/$name/config.cfg" "$laid/$name/journal")
         verdict "cover: the counts of $name" "$(tests/cover_counts "$board" "${files[@]}" 2>&1)"
     done
     example deadlock/deadlock

@@ -1,8 +1,5 @@
 #!/bin/bash
-# The tests of `board debug`: tests/debug.sh PROGRAM. Each folder of tests/debugging that has `commands` is one:
-# `source.s`, which is assembled; `config.cfg`; `journal`; `commands`, what is read from standard input; and `answers`,
-# what is printed. The head of the source says why these are the answers; none of them is what the program once printed.
-# What no folder can say follows.
+# The tests of `board debug`: tests/debug.sh PROGRAM. Most are scenes (tests/scenes.sh); here is what no scene can say.
 . "$(dirname "$0")/check.sh"
 . tests/growths.sh
 
@@ -17,21 +14,7 @@ assembled() {
     "$board" asm "$2" "$work/image" 2> "$work/err" || fail "debug: $1" "$(cat "$work/err")"
 }
 
-for commands in tests/debugging/*/commands; do
-    folder=${commands%/commands}
-    name=$(basename "$folder")
-    assembled "$name" "$folder/source.s"
-    cp "$commands" "$work/in"
-    debug "$name" 0 "$folder/answers" "" "$work/image" "$folder/config.cfg" "$folder/journal"
-done
-
-# The examples: each that has commands prints its answers.
-for commands in examples/*/*.commands; do
-    name=${commands%.commands}
-    assembled "$name" "$name.s"
-    cp "$commands" "$work/in"
-    debug "$name" 0 "$name.answers" "" "$work/image" "$name.cfg" "$name.journal"
-done
+lay debug_five_words debug_long_run c_on_two_processors
 
 # The page of an example (whose answers tests/documents.sh compares) has the commands of its file.
 sed -n 's/^> //p' examples/fault/README.md > "$work/in"
@@ -39,8 +22,8 @@ verdict "the document" "$(cmp "$work/in" examples/fault/fault.commands 2>&1)"
 
 # Ten events of five words in a loop, of which the third is executed at 2 and 7. (The bytes of lines that only look like
 # commands are written out here, where they can be seen.)
-five=tests/debugging/five_words
-"$board" asm $five/source.s "$work/five"
+five=$laid/debug_five_words
+cp $five/image.elf "$work/five"
 config=$five/config.cfg
 journal=$five/journal
 printf '%b\n' 'quit ' ' quit' 'quit\r' 'quit\t' 'quit\0' '\0quit' '' ' ' '\t' '\r' '\0' 'next ' 'back\r' 'goto ' 'goto  1' \
@@ -53,17 +36,8 @@ debug "lines that are no commands" 0 "$work/wanted" "" "$work/five" $config $jou
 printf '%s\n' unknown 'at 3' unknown unknown 'pc 8000000c' '$29 80010000' > "$work/wanted"
 debug "long lines" 0 "$work/wanted" "" "$work/five" $config $journal
 
-# What is wrong with the three files is said as `run` says it, and no command is done.
+# What is wrong with the three files is said as `run` says it, and no command is done (so are the faults of scenes).
 printf 'goto 1\nregs 1\n' > "$work/in"
-for fault in tests/scenarios/*/fault; do
-    folder=${fault%/fault}
-    image=$folder/image.elf
-    if [ -e "$folder/source.s" ]; then
-        image=$work/image
-        assembled "$folder" "$folder/source.s"
-    fi
-    debug "fault of $(basename "$folder")" 1 "$work/nothing" "$(cat "$fault")" "$image" "$folder/config.cfg" "$folder/journal"
-done
 for missing in 5 6 7; do
     arguments=("$work/five" "$config" "$journal")
     for ((i = missing - 5; i < 3; i++)); do arguments[i]=$work/nosuch$i; done
@@ -167,7 +141,8 @@ shown() {
 # same NAME WANTED GOT: compares two files.
 same() {
     local wrong=""
-    cmp -s "$2" "$3" || wrong="; $(diff "$2" "$3" | head -n 5)"
+    [ -s "$2" ] || wrong="; nothing is wanted"
+    cmp -s "$2" "$3" || wrong="$wrong; $(diff "$2" "$3" | head -n 5)"
     verdict "debug: $1" "$wrong"
 }
 
@@ -199,8 +174,8 @@ as_run() {
 
 # Two tasks on two processors count under one lock, and wait for ticks; see the source. 900 runs, by a sequence of
 # numbers that look like random ones.
-assembled counters tests/debugging/counters/source.s
-config=tests/debugging/counters/config.cfg
+assembled counters tests/counters/source.s
+config=tests/counters/config.cfg
 number=1
 {
     echo 'board-journal 1'
@@ -272,37 +247,12 @@ stops_are "the stops of a watched count" - 80000063 5
 stops_are "the stops of a break and a watch" 80000008 80000063 5
 
 # Code of a C compiler on two processors.
-folder=tests/scenarios/c_on_two_processors
+folder=$laid/c_on_two_processors
 cp $folder/image.elf "$work/image"
 cp $folder/journal "$work/journal"
 config=$folder/config.cfg
 last=$(sed -n 's/^events //p' $folder/report)
 as_run "C on two processors" 11 80000000 80000001
-
-# The ends of the scenarios of `run`: their reports say where each processor is. After them no position is.
-mkdir "$work/scenes"
-wrong=$(tests/scenes "$work/scenes" 2>&1) || wrong=${wrong:-tests/scenes failed}
-verdict "debug: the scenes" "$wrong"
-for report in tests/scenarios/*/report tests/debugging/*/report "$work"/scenes/*/report; do
-    folder=${report%/report}
-    image=$folder/image.elf
-    if [ -e "$folder/source.s" ]; then
-        image=$work/image
-        assembled "$folder" "$folder/source.s"
-    fi
-    last=$(sed -n 's/^events //p' "$report")
-    { echo "goto $((last + 1))"; echo "goto $last"; for cpu in 1 2 3 4 5 6 7 8 9; do echo "regs $cpu"; done; } > "$work/in"
-    {
-        echo "past $last"
-        echo "at $last"
-        sed '/^console /,$d' "$report" | awk '
-            $1 == "cpu" { pc[$2] = $0 ~ / pc [0-9a-f]+$/ ? "pc " $NF : "none" }
-            END { for (cpu = 1; cpu <= 9; cpu++) print cpu in pc ? pc[cpu] : "none" }'
-    } > "$work/wanted"
-    timeout 60 "$board" debug "$image" "$folder/config.cfg" "$folder/journal" < "$work/in" 2> "$work/err" \
-        | grep -v '^\$\|^hi \|^lo ' > "$work/out"
-    check "debug: the end of $(basename "$folder")" 0 "$work/wanted" "" "${PIPESTATUS[0]}"
-done
 
 # The largest RAM, and its ends; in little more memory than a few copies of it take.
 sed 's/0x10000)/0x1000000)/' $five/config.cfg > "$work/large.cfg"
@@ -331,8 +281,8 @@ check "debug: 97 snapshots in 160,000 KiB" 0 "$work/wanted" "" $?
 
 # Moves over a long journal, far apart: without snapshots each would do 2,500,000 events. The limit is one of processor
 # seconds, so it doesn't depend on how busy the machine is.
-long=tests/debugging/long_run
-assembled "far moves" $long/source.s
+long=$laid/debug_long_run
+cp $long/image.elf "$work/image"
 awk 'BEGIN { for (i = 0; i < 5000; i++) print "goto " i * 2499997 % 5000001 }' > "$work/in"
 sed 's/goto/at/' "$work/in" > "$work/wanted"
 (ulimit -t 30; exec "$board" debug "$work/image" $long/config.cfg $long/journal) < "$work/in" > "$work/out" 2> "$work/err"

@@ -8,16 +8,7 @@ have python3 "the documents" || { summary; exit; }
 check_script "the walks" tests/walks
 check_script "the picture of the crates" tests/layers --check
 check_script "the links" tests/links
-lines=$(tests/documents "$board")
-more=$(tail -n 1 <<< "$lines")
-sed '$d' <<< "$lines"
-if [[ "$more" =~ $closing ]]; then
-    passed=$((passed + BASH_REMATCH[1]))
-    failed=$((failed + BASH_REMATCH[2]))
-    skipped=$((skipped + BASH_REMATCH[3]))
-else
-    fail "the commands of the documents" "$more"
-fi
+count_in "the commands of the documents" tests/documents "$board"
 
 # Which C library README.md says that the program of dist/ wants.
 wanted=$(gunzip -c dist/board.gz | grep -aoE 'GLIBC_[0-9]+(\.[0-9]+)+' | sort -V | tail -n 1)

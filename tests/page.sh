@@ -14,24 +14,27 @@ refused() {
     check "page: $1" 2 "$work/nothing" "$2" $?
 }
 
-# Runs of the examples and of tests/tracing: `names`, and of each an image, a configuration and a journal.
+# Runs of the examples, and of the scenes that have lines: `names`, and of each an image, a configuration and a journal.
 names=()
-for journal in examples/*/*.journal tests/tracing/*/journal; do
+# shown NAME IMAGE CONFIG JOURNAL: makes a page of a run.
+shown() {
+    page "$1" "$work/$1.html" "$2" "$3" "$4"
+    names+=("$1")
+    echo "$* $work/$1.html" >> "$work/pages"
+}
+for journal in examples/*/*.journal; do
     files=${journal%.journal}
     name=${files#examples/}
-    if [ "$files" = "$journal" ]; then
-        files=$(dirname "$journal")
-        name=$(basename "$files")
-        source=$files/source.s config=$files/config.cfg
-    else
-        source=$files.s config=$files.cfg
-    fi
-    [ -e "$source" ] && [ -e "$config" ] || continue
     name=${name//\//-}
-    "$board" asm "$source" "$work/$name.elf" 2> "$work/err" || { fail "page: $name" "$(cat "$work/err")"; continue; }
-    page "$name" "$work/$name.html" "$work/$name.elf" "$config" "$journal"
-    names+=("$name")
-    echo "$name $work/$name.elf $config $journal $work/$name.html" >> "$work/pages"
+    [ -e "$files.s" ] && [ -e "$files.cfg" ] || continue
+    "$board" asm "$files.s" "$work/$name.elf" 2> "$work/err" || { fail "page: $name" "$(cat "$work/err")"; continue; }
+    shown "$name" "$work/$name.elf" "$files.cfg" "$journal"
+done
+scenes=$(cd tests/scenes && printf '%s\n' */lines)
+# shellcheck disable=SC2086
+lay ${scenes//\/lines/}
+for name in ${scenes//\/lines/}; do
+    shown "$name" "$laid/$name/image.elf" "$laid/$name/config.cfg" "$laid/$name/journal"
 done
 
 lost=("$work/lost_update-racy.elf" examples/lost_update/racy.cfg examples/lost_update/racy.journal)

@@ -1,33 +1,7 @@
 #!/bin/bash
-# The tests of `board trace --races`: tests/races.sh PROGRAM. Each folder of tests/racing is a scene: `source.s`, which
-# is assembled; `config.cfg`; `journal`; and `races`, what is printed. There is one for each thing that orders, most
-# also without it. Each test runs the program, and wants some text of it.
+# The tests of `board trace --races`: tests/races.sh PROGRAM. Most are scenes (tests/scenes.sh), one for each thing that
+# orders, most also without it; here is what no scene can say, and what the model says of the scenes.
 . "$(dirname "$0")/check.sh"
-
-# races NAME TEXT-FILE SOURCE CONFIG JOURNAL ARGUMENTS..: `board trace --races` prints the file, and nothing else.
-races() {
-    "$board" asm "$3" "$work/image" 2> "$work/err" || fail "races: $1" "$(cat "$work/err")"
-    "$board" trace --races "$work/image" "$4" "$5" "${@:6}" < /dev/null > "$work/out" 2> "$work/err"
-    check "races: $1" 0 "$2" "" $?
-}
-
-for folder in tests/racing/*/; do
-    races "$(basename "$folder")" "$folder/races" "$folder/source.s" "$folder/config.cfg" "$folder/journal"
-done
-
-# lost NAME TEXT EXAMPLE ARGUMENTS..: the same of an example of a lost update.
-lost() {
-    printf '%s\n' "$2" > "$work/wanted"
-    races "$1" "$work/wanted" "examples/lost_update/$3.s" "examples/lost_update/$3.cfg" \
-        "examples/lost_update/$3.journal" "${@:4}"
-}
-
-told='race at count (80000070): event 2, task 1 at again (80000008), loads;'
-told="$told event 7, task 2 at again+0x8 (80000010), stores"
-lost "a lost update" "$told"$'\nraces: 1 word' racy
-lost "a lost update, up to its second store" "races: 0 words" racy --to 7
-lost "a lost update, in whatever form" "$told"$'\nraces: 1 word' racy --to 8 --format json --summary
-lost "a lost update that is repaired" "races: 0 words" repaired
 
 # How many words have a race in the other examples: in the one about a race, and in the one whose meter marks without a
 # lock what another task shows, a sample and, by its mistake, which one that is.
@@ -73,16 +47,17 @@ for ((i = 0; i < 131072; i++)); do
     echo "race at $address: event $((4 + 4 * i)), task 1 $where; event $((600004 + 4 * i)), task 2 $where"
 done > "$work/many.races"
 echo "races: 131072 words" >> "$work/many.races"
-program=$board
-printf '#!/bin/sh\nulimit -t 60\nexec "%s" "$@"\n' "$board" > "$work/in_time"
-chmod +x "$work/in_time"
-board=$work/in_time
-races "many words" "$work/many.races" "$work/many.s" "$work/many.cfg" "$work/many.journal"
-board=$program
+"$board" asm "$work/many.s" "$work/image"
+(ulimit -t 60; exec "$board" trace --races "$work/image" "$work/many.cfg" "$work/many.journal") \
+    < /dev/null > "$work/out" 2> "$work/err"
+check "races: many words" 0 "$work/many.races" "" $?
 
 if have python3 "the model"; then
     # The same scenes by the model, which asks of each pair of touches whether one comes before the other.
-    wrong=$(tests/model/races --scenes "$board" tests/racing/*/ 2>&1) && wrong=
+    names=$(cd tests/scenes && printf '%s\n' */races)
+    # shellcheck disable=SC2086
+    lay ${names//\/races/}
+    wrong=$(tests/model/races --scenes "$board" "$laid"/*/ 2>&1) && wrong=
     verdict "races: the scenes by the model" "$(head -n 3 <<< "$wrong")"
 fi
 

@@ -1,10 +1,5 @@
 #!/bin/bash
-# The tests of `board run`: tests/run.sh PROGRAM. Each folder of tests/scenarios is one: `source.s`, which is assembled,
-# or the object file `image.elf`; `config.cfg`; `journal`; and `report`, what `run` prints, or `fault`, what it says on
-# standard error with status 1; it warns where the journal steps a processor that isn't there. The head of the source
-# says what happens in it. Folders of tests/debugging that have a
-# report are some too, and so are the scenes of crates/rows_board that tests/scenes.reports names (tests/scenes makes
-# their folders); rows_board compares what is seen in registers and memory alone. What no folder can say follows.
+# The tests of `board run`: tests/run.sh PROGRAM. Most are scenes (tests/scenes.sh); here is what no scene can say.
 . "$(dirname "$0")/check.sh"
 . tests/growths.sh
 
@@ -13,44 +8,6 @@ run() {
     "$board" run "$5" "$6" "$7" < /dev/null > "$work/out" 2> "$work/err"
     check "run: $1" "$2" "$3" "$4" $?
 }
-
-# warned FOLDER: what `run` warns of there, if of anything: the first processor that is stepped and isn't there.
-warned() {
-    local count
-    count=$(sed -nE 's/^BOARD\(([0-9]+),.*/\1/p' "$1/config.cfg")
-    awk -v count="$count" '/^S / && ($2 < 1 || $2 > count) {
-        print "board: warning: the journal: it steps processor " $2 ", and the board has " count ": these steps do nothing"
-        exit
-    }' "$1/journal"
-}
-
-mkdir "$work/scenes"
-wrong=$(tests/scenes "$work/scenes" 2>&1) || wrong=${wrong:-tests/scenes failed}
-verdict "run: the scenes" "$wrong"
-for said in tests/scenarios/*/{report,fault} tests/debugging/*/report "$work"/scenes/*/report; do
-    folder=${said%/*}
-    name=$(basename "$folder")
-    image=$folder/image.elf
-    if [ -e "$folder/source.s" ]; then
-        image=$work/image
-        if ! "$board" asm "$folder/source.s" "$image" 2> "$work/err"; then
-            fail "run: $name" "$(cat "$work/err")"
-            continue
-        fi
-    fi
-    if [ "${said##*/}" = fault ]; then
-        run "$name" 1 "$work/nothing" "$(cat "$said")" "$image" "$folder/config.cfg" "$folder/journal"
-    else
-        run "$name" 0 "$said" "$(warned "$folder")" "$image" "$folder/config.cfg" "$folder/journal"
-    fi
-done
-
-# The examples in assembler: each prints its report. (tests/kit.sh has those in C.)
-for report in examples/*/*.report; do
-    name=${report%.report}
-    "$board" asm "$name.s" "$work/image" 2> "$work/err" || fail "run: $name" "$(cat "$work/err")"
-    run "$name" 0 "$report" "" "$work/image" "$name.cfg" "$name.journal"
-done
 
 # Processors that add to one word, fifty times each, under a spin lock: they step in turn, and nothing is lost.
 # added PROCESSORS EVENTS CONFIG WORD: the word at the end is WORD, a byte after the other, and all are idle.
@@ -71,8 +28,9 @@ added 2 10000 tests/locked/two.cfg "00 00 00 64"
 added 8 40000 tests/locked/eight.cfg "00 00 01 90"
 
 # The files are opened in the order of the arguments, before any is read.
-hello=tests/scenarios/hello
-"$board" asm $hello/source.s "$work/hello"
+lay hello many_steps_in_a_row
+hello=$laid/hello
+cp $hello/image.elf "$work/hello"
 for missing in 5 6 7; do
     arguments=("$work/hello" $hello/config.cfg $hello/journal)
     for ((i = missing - 5; i < 3; i++)); do arguments[i]=$work/nosuch$i; done
@@ -205,8 +163,8 @@ cp $hello/report "$work/wanted"
 refuse_each "run" 3 "board: out of memory" "$board" run "$work/hello" $hello/config.cfg $hello/journal
 
 # Where there is no memory for decoded instructions, many steps in a row go on without them.
-rows=tests/scenarios/many_steps_in_a_row
-"$board" asm $rows/source.s "$work/rows"
+rows=$laid/many_steps_in_a_row
+cp $rows/image.elf "$work/rows"
 cp $rows/report "$work/wanted"
 refuse_each "run, many steps in a row" 3 "board: out of memory" "$board" run "$work/rows" $rows/config.cfg $rows/journal
 

@@ -3,8 +3,9 @@
 # opened the number of a stream that is closed. It isn't taken for that stream: a command that needs one ends with
 # status 4, and no file gets what a stream should have.
 . "$(dirname "$0")/check.sh"
-five=tests/debugging/five_words
-"$board" asm $five/source.s "$work/image"
+lay debug_five_words
+five=$laid/debug_five_words
+cp $five/image.elf "$work/image"
 cp $five/config.cfg "$work/config"
 cp $five/journal "$work/journal"
 cp $five/source.s "$work/source"

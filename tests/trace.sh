@@ -1,9 +1,8 @@
 #!/bin/bash
-# The tests of `board trace`: tests/trace.sh PROGRAM. Each folder of tests/tracing is a scene: `source.s`, which is
-# assembled; `config.cfg`; `journal`; `trace`, what is printed; `summary`, what `--summary` prints; and in some
-# `instructions`, what `--instructions` prints. The head of the source says what happens in it. What no folder can say
-# follows. Each test runs the program, and wants some text of it.
+# The tests of `board trace`: tests/trace.sh PROGRAM. Most are scenes (tests/scenes.sh); here is what no scene can say.
+# Each test runs the program, and wants some text of it.
 . "$(dirname "$0")/check.sh"
+lay trace_handlers trace_spins trace_links trace_loads
 
 # run_trace ARGUMENTS..: runs `board trace`, which leaves $work/out and $work/err. The status is its own.
 run_trace() {
@@ -43,64 +42,31 @@ example() {
     files=("$work/image" "examples/$1.cfg" "examples/$1.journal")
 }
 
-# scene NAME: makes $work/image of a scene's source, and `files` what `board trace` reads of it.
+# scene NAME: `files` becomes what `board trace` reads of a scene that is laid out.
 scene() {
-    folder=tests/tracing/$1
-    assembled "$1" "$folder/source.s"
-    files=("$work/image" "$folder/config.cfg" "$folder/journal")
+    folder=$laid/$1
+    files=("$folder/image.elf" "$folder/config.cfg" "$folder/journal")
 }
 
-for folder in tests/tracing/*/; do
-    name=$(basename "$folder")
-    scene "$name"
-    trace "$name" "$folder/trace" "${files[@]}"
-    trace "$name, summary" "$folder/summary" --summary "${files[@]}"
-    [ -e "$folder/instructions" ] &&
-        trace "$name, instructions" "$folder/instructions" --instructions "${files[@]}"
-done
-
-# The summaries and the pictures of the examples, where they have them.
-for summary_file in examples/*/*.summary; do
-    name=${summary_file#examples/}
-    name=${name%.summary}
-    example "$name"
-    trace "$name, summary" "$summary_file" --summary "${files[@]}"
-    trace "$name, picture" "examples/$name.svg" --format svg "${files[@]}"
-done
-
-# told NAME PATTERN: some scene's `trace` has lines with the pattern, and the program prints these of that scene.
-told() {
-    local found
-    found=$(grep -lE -- "$2" tests/tracing/*/trace | head -n 1)
-    [ "$found" ] || { fail "trace: $1" "no scene has it"; return; }
-    scene "$(basename "$(dirname "$found")")"
-    grep -E -- "$2" "$found" > "$work/lines"
-    run_trace "${files[@]}"
-    has "$1" "$work/lines" "$2"
+# shown NAME PATTERN: some scene's lines, which tests/scenes.sh compares with those of the program, have the pattern.
+shown() {
+    verdict "trace: $1" "$(grep -qE -- "$2" tests/scenes/*/lines || echo "no scene has '$2'")"
 }
 
-# Every service call of the documents, every answer and every exception is in some scene's trace.
+# Every service call of the documents, every answer and every exception is in some scene's lines.
 for call in $(sed -nE 's/^\| [0-9]+ \| `([a-z_]+)` \|.*/\1/p' docs/KERNEL.md); do
-    told "$call" " $call\\("
+    shown "$call" " $call\\("
 done
 for answer in $(sed -nE 's/^\| (E_[A-Z]+) \|.*/\1/p' docs/KERNEL.md); do
-    told "$answer" " = $answer"
+    shown "$answer" " = $answer"
 done
 for exception in AdEL AdES IBE DBE Bp RI Ov Tr; do
-    told "$exception" " $exception: "
+    shown "$exception" " $exception: "
 done
-
-# Since when a task that waits is suspended, resumed, suspended again, and woken: after so many events, this line.
-scene suspended
-while read -r to line; do
-    echo "$line" > "$work/lines"
-    run_trace --summary --to "$to" "${files[@]}"
-    has "since when, after $to events" "$work/lines" '^task 1 '
-done < tests/tracing/suspended/since
 
 # From each position on, also while a line is pending: the lines of the whole, but for those that count events.
 counts=' (idle|stopped|no such processor), | (pending already|has no handler): '
-scene handlers
+scene trace_handlers
 run_trace "${files[@]}"
 tail -n +3 "$work/out" | grep -vE "$counts" > "$work/rest"
 wrong=
@@ -132,8 +98,8 @@ trace "no such processor" "$work/first" --cpu 9 "${files[@]}"
 trace "to past the end" "$work/whole" --to 18446744073709551615 "${files[@]}"
 
 # Who spins comes after the lines: of the processor that is asked for alone, and not where only loads are shown.
-scene spins
-{ head -n 2 "$folder/trace"; grep -E '^ *[0-9]+ 2 |^cpu 2 spins' "$folder/trace"; } > "$work/second"
+scene trace_spins
+{ head -n 2 "$folder/lines"; grep -E '^ *[0-9]+ 2 |^cpu 2 spins' "$folder/lines"; } > "$work/second"
 trace "one processor that spins" "$work/second" --cpu 2 "${files[@]}"
 run_trace --word 0x80000100 "${files[@]}"
 verdict "trace: loads, and not who spins" "$(grep -q ' lw ' "$work/out" || echo 'no loads'; grep ' spins ' "$work/out")"
@@ -163,9 +129,9 @@ of_words "one word" count '; count \(80000070\): '
 of_words "one word, by its address" 0x80000070 '; count \(80000070\): '
 example lost_update/repaired
 of_words "a word of LL and SC" count '; count \([0-9a-f]+\): '
-scene links
+scene trace_links
 of_words "a word whose links end" word '; word \(80000100\): '
-scene loads
+scene trace_loads
 of_words "bytes and halfwords of a word" word '; word(\+0x[0-3])? \([0-9a-f]+\): '
 
 # What is refused, and faults of files.

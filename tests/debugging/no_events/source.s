@@ -1,2 +1,0 @@
-# A journal without events: 0 is its only position, and no stop.
-_start: nop

@@ -1,2 +1,0 @@
-# What stands behind `quit` is not done.
-_start: nop

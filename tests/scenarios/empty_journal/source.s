@@ -1,6 +1,0 @@
-# An empty journal: its first line is missing.
-_start: addiu $v0, $0, 40
-        addiu $a0, $0, 72
-        syscall
-        addiu $v0, $0, 41
-        syscall

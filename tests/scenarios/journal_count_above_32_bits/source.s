@@ -1,6 +1,0 @@
-# A count of 2 to the 32nd.
-_start: addiu $v0, $0, 40
-        addiu $a0, $0, 72
-        syscall
-        addiu $v0, $0, 41
-        syscall

@@ -1,6 +1,0 @@
-# The last line has no newline.
-_start: addiu $v0, $0, 40
-        addiu $a0, $0, 72
-        syscall
-        addiu $v0, $0, 41
-        syscall

@@ -1,6 +1,0 @@
-# A processor above 255.
-_start: addiu $v0, $0, 40
-        addiu $a0, $0, 72
-        syscall
-        addiu $v0, $0, 41
-        syscall

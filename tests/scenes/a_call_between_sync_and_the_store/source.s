@@ -1,0 +1,18 @@
+# A service call between SYNC and the store, which doesn't release so.
+one:    lui $s0, %hi(word)
+        sw $0, %lo(word)($s0)
+        sync
+        addiu $v0, $0, 11
+        syscall                 # get_tid()
+        lui $s0, %hi(other)
+        sw $0, %lo(other)($s0)
+        addiu $v0, $0, 3
+        syscall                 # ext_tsk()
+        .align 8
+two:    lui $s0, %hi(other)
+        lw $t0, %lo(other)($s0)
+        sync
+        lui $s0, %hi(word)
+        lw $t0, %lo(word)($s0)
+        addiu $v0, $0, 3
+        syscall                 # ext_tsk()

@@ -1,0 +1,28 @@
+# fsnd_dtq into a full queue acquires nothing.
+one:    addiu $a0, $0, 1
+        addiu $a1, $0, 7
+        addiu $v0, $0, 33
+        syscall                 # snd_dtq(1, 7)
+        addiu $a0, $0, 1
+        addiu $a1, $0, 8
+        addiu $v0, $0, 33
+        syscall                 # snd_dtq(1, 8)
+        addiu $v0, $0, 3
+        syscall                 # ext_tsk()
+        .align 8
+two:    lui $s0, %hi(word)
+        sw $0, %lo(word)($s0)
+        addiu $a0, $0, 1
+        addiu $v0, $0, 37
+        syscall                 # rcv_dtq(1)
+        addiu $v0, $0, 3
+        syscall                 # ext_tsk()
+        .align 8
+three:  addiu $a0, $0, 1
+        addiu $a1, $0, 9
+        addiu $v0, $0, 36
+        syscall                 # fsnd_dtq(1, 9)
+        lui $s0, %hi(word)
+        sw $0, %lo(word)($s0)
+        addiu $v0, $0, 3
+        syscall                 # ext_tsk()

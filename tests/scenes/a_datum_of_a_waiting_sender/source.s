@@ -1,0 +1,24 @@
+# Who gets the datum before that of a waiting sender doesn't come after it.
+one:    addiu $a0, $0, 1
+        addiu $a1, $0, 7
+        addiu $v0, $0, 33
+        syscall                 # snd_dtq(1, 7)
+        addiu $v0, $0, 3
+        syscall                 # ext_tsk()
+        .align 8
+two:    addiu $a0, $0, 1
+        addiu $v0, $0, 37
+        syscall                 # rcv_dtq(1)
+        lui $s0, %hi(word)
+        sw $0, %lo(word)($s0)
+        addiu $v0, $0, 3
+        syscall                 # ext_tsk()
+        .align 8
+three:  lui $s0, %hi(word)
+        sw $0, %lo(word)($s0)
+        addiu $a0, $0, 1
+        addiu $a1, $0, 8
+        addiu $v0, $0, 33
+        syscall                 # snd_dtq(1, 8)
+        addiu $v0, $0, 3
+        syscall                 # ext_tsk()

@@ -1,0 +1,15 @@
+# A flag that a store without SYNC sets, and an acquiring load reads.
+one:    lui $s0, %hi(word)
+        sw $0, %lo(word)($s0)
+        lui $s0, %hi(other)
+        sw $0, %lo(other)($s0)
+        addiu $v0, $0, 3
+        syscall                 # ext_tsk()
+        .align 8
+two:    lui $s0, %hi(other)
+        lw $t0, %lo(other)($s0)
+        sync
+        lui $s0, %hi(word)
+        lw $t0, %lo(word)($s0)
+        addiu $v0, $0, 3
+        syscall                 # ext_tsk()

@@ -1,0 +1,16 @@
+# An acquiring load that comes before the release: the flag is no race, the word is.
+one:    lui $s0, %hi(word)
+        sw $0, %lo(word)($s0)
+        sync
+        lui $s0, %hi(other)
+        sw $0, %lo(other)($s0)
+        addiu $v0, $0, 3
+        syscall                 # ext_tsk()
+        .align 8
+two:    lui $s0, %hi(other)
+        lw $t0, %lo(other)($s0)
+        sync
+        lui $s0, %hi(word)
+        lw $t0, %lo(word)($s0)
+        addiu $v0, $0, 3
+        syscall                 # ext_tsk()

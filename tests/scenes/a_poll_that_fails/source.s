@@ -1,0 +1,13 @@
+# A poll that fails.
+one:    lui $s0, %hi(word)
+        sw $0, %lo(word)($s0)
+        addiu $v0, $0, 3
+        syscall
+        .align 8
+two:    addiu $a0, $0, 1
+        addiu $v0, $0, 26
+        syscall
+        lui $s0, %hi(word)
+        sw $0, %lo(word)($s0)
+        addiu $v0, $0, 3
+        syscall

@@ -1,0 +1,21 @@
+# A rendezvous: what each did before comes before what the other does after. The receiver came first.
+one:    lui $s0, %hi(word)
+        sw $0, %lo(word)($s0)
+        addiu $a0, $0, 1
+        addiu $a1, $0, 7
+        addiu $v0, $0, 33
+        syscall                 # snd_dtq(1, 7)
+        lui $s0, %hi(other)
+        sw $0, %lo(other)($s0)
+        addiu $v0, $0, 3
+        syscall                 # ext_tsk()
+        .align 8
+two:    lui $s0, %hi(other)
+        sw $0, %lo(other)($s0)
+        addiu $a0, $0, 1
+        addiu $v0, $0, 37
+        syscall                 # rcv_dtq(1)
+        lui $s0, %hi(word)
+        sw $0, %lo(word)($s0)
+        addiu $v0, $0, 3
+        syscall                 # ext_tsk()

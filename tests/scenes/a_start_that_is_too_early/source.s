@@ -1,0 +1,13 @@
+# A start that is too early.
+one:    addiu $a0, $0, 2
+        addiu $v0, $0, 1
+        syscall
+        lui $s0, %hi(word)
+        sw $0, %lo(word)($s0)
+        addiu $v0, $0, 3
+        syscall
+        .align 8
+two:    lui $s0, %hi(word)
+        sw $0, %lo(word)($s0)
+        addiu $v0, $0, 3
+        syscall

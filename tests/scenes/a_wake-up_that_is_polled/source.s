@@ -1,0 +1,16 @@
+# can_wup as a poll: it takes a wake-up back.
+one:    lui $s0, %hi(word)
+        sw $0, %lo(word)($s0)
+        addiu $a0, $0, 2
+        addiu $v0, $0, 18
+        syscall                 # wup_tsk(2)
+        addiu $v0, $0, 3
+        syscall                 # ext_tsk()
+        .align 8
+two:    addiu $a0, $0, 0
+        addiu $v0, $0, 19
+        syscall                 # can_wup(0)
+        lui $s0, %hi(word)
+        sw $0, %lo(word)($s0)
+        addiu $v0, $0, 3
+        syscall                 # ext_tsk()

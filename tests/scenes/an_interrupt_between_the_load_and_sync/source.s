@@ -1,0 +1,30 @@
+# An interrupt between the load and SYNC, and between SYNC and the store: handlers have trails of their own.
+one:    lui $s0, %hi(word)
+        sw $0, %lo(word)($s0)
+        sync
+        lui $s0, %hi(other)
+        sw $0, %lo(other)($s0)
+        addiu $v0, $0, 3
+        syscall                 # ext_tsk()
+        .align 8
+two:    lui $s0, %hi(other)
+        lw $t0, %lo(other)($s0)
+        sync
+        lui $s0, %hi(word)
+        lw $t0, %lo(word)($s0)
+        addiu $v0, $0, 3
+        syscall                 # ext_tsk()
+        .align 8
+first:  lui $s0, %hi(lock)
+        sw $0, %lo(lock)($s0)
+        lui $s0, %hi(lock)
+        lw $t0, %lo(lock)($s0)
+        addiu $v0, $0, 58
+        syscall                 # ret_int()
+        .align 8
+second: lui $s0, %hi(node)
+        sw $0, %lo(node)($s0)
+        lui $s0, %hi(node)
+        lw $t0, %lo(node)($s0)
+        addiu $v0, $0, 58
+        syscall                 # ret_int()

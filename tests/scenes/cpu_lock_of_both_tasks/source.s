@@ -1,0 +1,18 @@
+# CPU lock of both tasks.
+one:    addiu $v0, $0, 14
+        syscall
+        lui $s0, %hi(word)
+        sw $0, %lo(word)($s0)
+        addiu $v0, $0, 15
+        syscall
+        addiu $v0, $0, 3
+        syscall
+        .align 8
+two:    addiu $v0, $0, 14
+        syscall
+        lui $s0, %hi(word)
+        sw $0, %lo(word)($s0)
+        addiu $v0, $0, 15
+        syscall
+        addiu $v0, $0, 3
+        syscall

@@ -1,0 +1,10 @@
+# Other words.
+one:    lui $s0, %hi(word)
+        sw $0, %lo(word)($s0)
+        addiu $v0, $0, 3
+        syscall
+        .align 8
+two:    lui $s0, %hi(other)
+        sw $0, %lo(other)($s0)
+        addiu $v0, $0, 3
+        syscall
