@@ -21,7 +21,7 @@ demo: unpack
 # All tests that need no toolchain, on the program of dist/: 'N passed, M failed, K skipped'. What needs a tool that is
 # missing is skipped, and says so.
 check: unpack
-	tests/commands --without-toolchain $(BOARD)
+	tests/gate/commands --without-toolchain $(BOARD)
 
 # Unpacks the program of dist/ to build/board.
 unpack:
@@ -37,11 +37,11 @@ board:
 	mkdir -p build
 	rm -f $(BOARD)
 	cp crates/brd_cli/out/brd_cli $(BOARD)
-	tests/dist --check $(BOARD)
+	tests/gate/dist --check $(BOARD)
 
 # Puts the program that `make board` or `make test` left at build/board into dist/.
 dist:
-	tests/dist --write $(BOARD)
+	tests/gate/dist --write $(BOARD)
 
 # The whole gate: every proof, the wrong bodies of must-fail/, all tests and the command-line tests.
 test:
@@ -50,8 +50,8 @@ test:
 # Every wrong body on a scratch copy: those of wrong/ too, which the prover has to refuse, and those of by-test/, of
 # which a test has to fail. Each of the two ends in 'N refused .., M let through'.
 attack:
-	tests/attack $(CRATES)
-	tests/attack_tests $(CRATES)
+	tests/gate/attack $(CRATES)
+	tests/gate/attack_tests $(CRATES)
 
 # Random boards beside a model in Python, which shares nothing with the program: BOARDS of them, from the seed SEED on.
 compare: $(BOARD)
@@ -64,18 +64,18 @@ qemu: $(BOARD)
 # Random and spoiled inputs of every command, also with memory refused or a stream that fails: INPUTS of them, from the
 # seed SEED on. Those that end wrongly are kept in build/fuzz.
 fuzz: $(BOARD)
-	tests/fuzz $(BOARD) --count $(INPUTS) --seed $(SEED) --counts
+	tests/programs/fuzz $(BOARD) --count $(INPUTS) --seed $(SEED) --counts
 
 # Real code on the board: the tests of zlib, LZ4 and cJSON, from Debian's source packages.
 firmware: $(BOARD)
-	tests/firmware $(BOARD)
+	tests/programs/firmware $(BOARD)
 
 $(BOARD):
 	$(MAKE) demo
 
-# The whole gate, and then the processor minutes of each part, which tests/gate.table gets too if all passed.
+# The whole gate, and then the processor minutes of each part, which tests/gate/gate.table gets too if all passed.
 gate-times:
-	tests/gate_time --write
+	tests/gate/gate_time --write
 
 # Speed, on this machine: millions of events a second, and of other units.
 bench:
@@ -92,9 +92,9 @@ bench:
 	cd crates/bench_elf && rt run >/dev/null
 	crates/bench_elf/out/bench_elf time
 	$(MAKE) board
-	tests/debug_speed $(BOARD)
-	tests/race_speed $(BOARD)
-	tests/speed_qemu $(BOARD)
+	tests/programs/debug_speed $(BOARD)
+	tests/programs/race_speed $(BOARD)
+	tests/programs/speed_qemu $(BOARD)
 
 clean:
 	rm -rf build crates/*/out

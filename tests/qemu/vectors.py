@@ -74,8 +74,8 @@ class Vector:
         return [values[image.K1], values["hi"], values["lo"], *(values[register] for register in range(1, 32))]
 
 
-def codes(path=os.path.join(os.path.dirname(os.path.abspath(__file__)), "..", "encodings.table")):
-    """The rows of tests/encodings.table: name, word, bits that must be zero, bits that are ignored."""
+def codes(path=os.path.join(os.path.dirname(os.path.abspath(__file__)), "..", "data", "encodings.table")):
+    """The rows of tests/data/encodings.table: name, word, bits that must be zero, bits that are ignored."""
     with open(path, encoding="ascii") as file:
         rows = [line.rstrip("\n").split("|") for line in file if not line.startswith("#")]
     return {name: tuple(int(number, 16) for number in numbers) for name, *numbers in rows if name not in NOT_IN_QEMU}
@@ -418,7 +418,7 @@ class Vectors:
                     self.add(f"{name}, bit {bit}", [code ^ 1 << bit, 0], {1: image.FINISH},
                              row="hint of a jump" if name in ("jr", "jalr") and bit < 10 else None)
 
-    def reserved(self, path=os.path.join(os.path.dirname(os.path.abspath(__file__)), "..", "reserved.words")):
+    def reserved(self, path=os.path.join(os.path.dirname(os.path.abspath(__file__)), "..", "data", "reserved.words")):
         with open(path, encoding="ascii") as file:
             words = [int(line, 16) for line in file if line.strip()]
         for code in words:

@@ -1,0 +1,18 @@
+#!/bin/bash
+# The documents: the commands that they show, a test for each document; their links; the ways through the code and the
+# picture of the crates of docs/ARCHITECTURE.md.
+# tests/programs/documents.sh PROGRAM
+. "$(dirname "$0")/check.sh"
+
+have python3 "the documents" || { summary; exit; }
+check_script "the walks" tests/programs/walks
+check_script "the picture of the crates" tests/programs/layers --check
+check_script "the links" tests/programs/links
+count_in "the commands of the documents" tests/programs/documents "$board"
+
+# Which C library README.md says that the program of dist/ wants.
+wanted=$(gunzip -c dist/board.gz | grep -aoE 'GLIBC_[0-9]+(\.[0-9]+)+' | sort -V | tail -n 1)
+grep -qF "GNU C library ${wanted#GLIBC_} or later" README.md && wanted=
+verdict "the C library in README.md" "${wanted:+the program wants $wanted}"
+
+summary

@@ -1,0 +1,358 @@
+#!/bin/bash
+# The tests of `board explore` and `board shrink`: tests/programs/explore.sh PROGRAM. examples/explore/cases has
+# searches, a line each, and says what its fields are. What no line of it can say follows.
+. "$(dirname "$0")/check.sh"
+. tests/programs/growths.sh
+examples=examples/explore
+
+# assembled SOURCE: makes an object file of one of the examples, once, and `image` its name.
+assembled() {
+    image=$work/$1.elf
+    [ -f "$image" ] || "$board" asm "$examples/$1" "$image" || fail "explore: $1" "it isn't assembled"
+}
+
+# explores ARGUMENT..: runs `board explore`, which leaves $work/out and $work/err. The status is its own.
+explores() {
+    "$board" explore "$@" < /dev/null > "$work/out" 2> "$work/err"
+}
+
+# events JOURNAL: how many it has.
+events() {
+    awk 'NR > 1 { n += $NF } END { print n + 0 }' "$1"
+}
+
+# is_found: what is wrong with a search that should have found a schedule, of which the status is given.
+is_found() {
+    [ "$1" = 1 ] || echo -n "; status $1, wanted 1"
+    [ "$(cat "$work/err")" = "board: a schedule fails" ] || echo -n "; standard error is '$(head -c 300 "$work/err")'"
+    grep -q '^fails after ' "$work/out" && grep -qE '^ +0  ' "$work/out" || echo -n "; it doesn't say what happens: $(head -c 300 "$work/out")"
+}
+
+# is_none NUMBER BOUNDS STATUS: what is wrong with a search that should have tried so many schedules, and found none.
+is_none() {
+    local thing=schedules
+    [ "$1" != 1 ] || thing=schedule
+    [ "$3" = 0 ] || echo -n "; status $3, wanted 0"
+    [ ! -s "$work/err" ] || echo -n "; standard error is '$(head -c 300 "$work/err")'"
+    [ "$(cat "$work/out")" = "none of $1 $thing fails: $2" ] || echo -n "; it says '$(head -c 300 "$work/out")'"
+}
+
+# bounds OPTION..: how the bounds of options are told.
+bounds() {
+    local -A number=([events]=1000 [preemptions]=1 [ticks]=0 [raises]=0)
+    local told="at most" name
+    while [ $# -gt 0 ]; do
+        case $1 in
+        --events | --preemptions | --ticks | --raises) number[${1#--}]=$2 ;;
+        esac
+        shift
+    done
+    for name in events preemptions ticks raises; do
+        [ "${number[$name]}" != 1 ] || told="$told ${number[$name]} ${name%s}"
+        [ "${number[$name]}" = 1 ] || told="$told ${number[$name]} $name"
+        case $name in events | preemptions) told="$told," ;; ticks) told="$told and" ;; esac
+    done
+    echo "$told"
+}
+
+# shown HOW CONFIG JOURNAL: what is wrong with a journal's last board, which should show something: a byte of memory,
+# an exception, a deadlock, the console.
+shown() {
+    local files=("$image" "$2" "$3")
+    case $1 in
+    '') ;;
+    exception) "$board" trace --summary "${files[@]}" | grep -q 'last exception at event' || echo -n "; no exception" ;;
+    deadlock) "$board" trace --summary "${files[@]}" | grep -q '^deadlock: ' || echo -n "; no deadlock" ;;
+    console*) [ "$("$board" run "${files[@]}" | tail -n 1)" = "${1#console }" ] || echo -n "; another console" ;;
+    *=*) printf '%s\n' "goto $(events "$3")" "mem ${1%=*}" | "$board" debug "${files[@]}" | tail -n 1 | grep -qx "${1#*=}" ||
+        echo -n "; another byte than $1" ;;
+    *) echo -n "; the table says '$1'" ;;
+    esac
+}
+
+# left_of: how many events `board shrink` says that it has left.
+left_of() {
+    sed -n '1s/^\([0-9]*\) of [0-9]* events are left.*/\1/p' "$work/out"
+}
+
+# switches_of JOURNAL: how often a step in a journal is of another processor than the last step before it.
+switches_of() {
+    awk '$1 == "S" { if (last != "" && last != $2) count++; last = $2 } END { print count + 0 }' "$1"
+}
+
+# shrinks NAME CONFIG JOURNAL OPTION..: what `board shrink` leaves of a journal: no more events, with no more switches,
+# which still fail, and of which no more are left then. (Where they fail only at the fair end, the journal that is kept
+# has that, too.)
+shrinks() {
+    local name=$1 config=$2 journal=$3 wrong="" before left turns then
+    shift 3
+    "$board" shrink "$image" "$config" "$journal" "$@" --out "$work/left" > "$work/out" 2> "$work/err" ||
+        wrong="$wrong; status $?; $(head -c 300 "$work/err")"
+    before=$(events "$journal")
+    left=$(left_of)
+    [ "${left:-99999}" -le "$before" ] || wrong="$wrong; of $before events it says '$(head -n 1 "$work/out")'"
+    turns=$(sed -n "1s/^.* events are left, with \([0-9]*\) of $(switches_of "$journal") switches\$/\1/p" "$work/out")
+    [ "${turns:-99999}" -le "$(switches_of "$journal")" ] || wrong="$wrong; of the switches it says '$(head -n 1 "$work/out")'"
+    grep -q "fails after $left event" "$work/out" || wrong="$wrong; it says '$(head -n 2 "$work/out")'"
+    grep -q ' and the fair end: ' "$work/out" || {
+        [ "$(events "$work/left")" = "$left" ] || wrong="$wrong; $left events are left, and $(events "$work/left") are kept"
+        [ "$(switches_of "$work/left")" = "$turns" ] ||
+            wrong="$wrong; with $turns switches, and $(switches_of "$work/left") are kept"
+    }
+    "$board" shrink "$image" "$config" "$work/left" "$@" > "$work/out" 2> "$work/err" ||
+        wrong="$wrong; what is left doesn't fail"
+    [ "$(left_of)" -le "$left" ] || wrong="$wrong; $left events are left, and then $(left_of)"
+    then=$(sed -n '1s/^.*, with \([0-9]*\) of [0-9]* switches$/\1/p' "$work/out")
+    [ "${then:-99999}" -le "$(switches_of "$work/left")" ] || wrong="$wrong; then $then switches are left"
+    verdict "shrink: $name" "$wrong"
+}
+
+# without WORDS OPTION..: the options but for those that only `explore` has, in `options`.
+without() {
+    options=()
+    while [ $# -gt 0 ]; do
+        case $1 in
+        --shortest) ;;
+        --events | --preemptions | --ticks | --raises | --lines | --shard | --remember) shift ;;
+        *) options+=("$1") ;;
+        esac
+        shift
+    done
+}
+
+# finds NAME CONFIG PREEMPTIONS EVENTS SHOWN OPTION..: a schedule is found, with so many preemptions and none with fewer,
+# of so many events where a number is given. Its journal leads to the failure, and so does what is left of it.
+finds() {
+    local name=$1 config=$2 preemptions=$3 count=$4 how=$5 wrong fewer=()
+    shift 5
+    rm -f "$work/found"
+    explores "$image" "$config" "$@" --out "$work/found"
+    wrong=$(is_found $?)
+    [ -z "$count" ] || [ "$(events "$work/found")" = "$count" ] || wrong="$wrong; $(events "$work/found") events, not $count"
+    grep -qE "^fails after ($(events "$work/found") events?|[0-9]+ events? and the fair end): " "$work/out" ||
+        wrong="$wrong; it says '$(head -n 1 "$work/out")', and the journal has $(events "$work/found") events"
+    wrong="$wrong$(shown "$how" "$config" "$work/found")"
+    while [ $# -gt 0 ]; do
+        if [ "$1" = --preemptions ]; then shift; else fewer+=("$1"); fi
+        shift
+    done
+    explores "$image" "$config" "${fewer[@]}" --preemptions "$preemptions"
+    [ $? = 1 ] || wrong="$wrong; with $preemptions preemptions it isn't found"
+    if [ "$preemptions" -gt 0 ]; then
+        explores "$image" "$config" "${fewer[@]}" --preemptions $((preemptions - 1)) ||
+            wrong="$wrong; with one preemption fewer: status $?"
+    fi
+    verdict "explore: $name" "$wrong"
+    without "${fewer[@]}"
+    shrinks "$name" "$config" "$work/found" "${options[@]}"
+}
+
+while IFS='|' read -r source config words told how; do
+    case $source in '#'* | '') continue ;; esac
+    assembled "$source"
+    read -ra given <<< "$words"
+    read -ra answer <<< "$told"
+    if [ "${answer[0]}" = found ]; then
+        finds "$source $words" "$examples/$config" "${answer[1]}" "${answer[2]:-}" "$how" "${given[@]}"
+    else
+        explores "$image" "$examples/$config" "${given[@]}"
+        verdict "explore: $source $words" "$(is_none "${answer[1]}" "$(bounds "${given[@]}")" $?)"
+    fi
+done < $examples/cases
+
+# ---- The same board in the other byte order: as many schedules, and the words are those of its own order.
+
+for source in peterson.s peterson_right.s; do
+    { echo '        .byteorder little'; cat $examples/$source; } > "$work/little.s"
+    "$board" asm "$work/little.s" "$work/little"
+    explores "$work/little" $examples/peterson.cfg --word inside=0..1 --events 50 --preemptions 2 --out "$work/found"
+    got=$?
+    if [ $source = peterson.s ]; then
+        wrong=$(is_found $got)
+        grep -qx 'board-journal 2 little' "$work/found" || wrong="$wrong; its journal is $(head -n 1 "$work/found")"
+    else
+        wrong=$(is_none 836 "at most 50 events, 2 preemptions, 0 ticks and 0 raises" $got)
+    fi
+    verdict "explore: $source, little-endian" "$wrong"
+done
+
+# ---- What is looked for where nothing is said, and by an address
+
+assembled deadlock.s
+explores "$image" $examples/deadlock.cfg
+wrong=$(is_found $?)
+grep -q '^fails after .* events: a deadlock: ' "$work/out" || wrong="$wrong; it says $(head -n 1 "$work/out")"
+verdict "explore: a deadlock, by itself" "$wrong"
+assembled seqlock.s
+explores "$image" $examples/seqlock.cfg --events 40
+verdict "explore: an exception, by itself" "$(is_found $?)"
+assembled lost_update.s
+explores "$image" $examples/lost_update.cfg
+verdict "explore: no exception, no deadlock" \
+    "$(is_none 12 "at most 1000 events, 1 preemption, 0 ticks and 0 raises" $?)"
+explores "$image" $examples/lost_update.cfg --word 0x80000000=2
+verdict "explore: a word by its address" "$(is_found $?)"
+explores "$image" $examples/lost_update.cfg --word 0x7fffffff=0
+verdict "explore: a word that isn't there" "$(is_found $?)"
+explores "$image" $examples/lost_update.cfg --word count=0..2,0x80000000=1..2 --out "$work/found"
+got=$?
+verdict "explore: what fails at once" "$([ $got = 1 ] || echo "status $got")$([ "$(events "$work/found")" = 0 ] || echo "; $(events "$work/found") events")"
+assembled handoff_right.s
+explores "$image" $examples/handoff.cfg --console '\x41\x42' --events 40
+verdict "explore: a console by its bytes" "$([ $? = 0 ] || head -c 300 "$work/out" "$work/err")"
+explores "$image" $examples/handoff.cfg --console 'AB\n' --events 40
+verdict "explore: a console with a newline more" "$(is_found $?)"
+explores "$image" $examples/handoff.cfg --console 'A\\' --events 40
+verdict "explore: a console with a backslash" "$(is_found $?)"
+
+# ---- Large searches: a million events in a row, and no more memory than a few boards take
+
+printf 'main: b main\nnop\n' > "$work/loop.s"
+"$board" asm "$work/loop.s" "$work/loop"
+explores "$work/loop" $examples/lost_update.cfg --events 1000000 --preemptions 0
+verdict "explore: a million events" "$(is_none 2 "at most 1000000 events, 0 preemptions, 0 ticks and 0 raises" $?)"
+explores "$work/loop" $examples/lost_update.cfg --events 0 --ends
+verdict "explore: no events" "$(is_none 1 "at most 0 events, 1 preemption, 0 ticks and 0 raises" $?)"
+explores "$work/loop" $examples/lost_update.cfg --events 0 --ends --fair 1
+got=$?
+verdict "explore: no events, and a fair end" "$([ $got = 1 ] || echo "status $got")"
+assembled lost_update_right.s
+sed 's/0x10000)/0x1000000)/' $examples/lost_update.cfg > "$work/large.cfg"
+(ulimit -v 400000; exec "$board" explore "$image" "$work/large.cfg" --word count=2) < /dev/null > "$work/out" 2> "$work/err"
+verdict "explore: 16 MiB of RAM in 400,000 KiB" \
+    "$(is_none 16 "at most 1000 events, 1 preemption, 0 ticks and 0 raises" $?)"
+(ulimit -v 40000; exec "$board" explore "$image" "$work/large.cfg" --word count=2) < /dev/null > "$work/out" 2> "$work/err"
+check "explore: 16 MiB of RAM in 40,000 KiB" 3 "$work/nothing" "board: out of memory" $?
+
+# ---- States that are remembered: the same answer, and fewer schedules
+
+# remembers MIB LEAST MOST: what is wrong with searches that may remember so much, and have to try so many schedules.
+remembers() {
+    local told
+    assembled peterson_right.s
+    explores "$image" $examples/peterson.cfg --word inside=0..1 --events 50 --preemptions 2 --remember "$1" ||
+        echo -n "; status $?"
+    told=$(sed -n 's/^none of \([0-9]*\) schedules\{0,1\} fails: .*/\1/p' "$work/out")
+    [ "${told:-0}" -ge "$2" ] && [ "$told" -le "$3" ] || echo -n "; it says $(head -c 300 "$work/out")"
+    assembled peterson.s
+    explores "$image" $examples/peterson.cfg --word inside=0..1 --events 50 --preemptions 2 --remember "$1" --shortest \
+        --out "$work/found"
+    is_found $?
+    shown 8000000f=02 $examples/peterson.cfg "$work/found"
+    [ "$(events "$work/found")" = 33 ] || echo -n "; $(events "$work/found") events"
+}
+verdict "explore: no states are remembered" "$(remembers 0 836 836)"
+verdict "explore: 1 MiB of states is remembered" "$(remembers 1 1 835)"
+verdict "explore: 64 MiB of states are remembered" "$(remembers 64 1 400)"
+
+# ---- Shards: together they try what the whole search does, all of them the first schedule; one of them finds
+
+shard_bounds="at most 50 events, 2 preemptions, 0 ticks and 0 raises"
+for of in 1 2 5; do
+    wrong=
+    total=1
+    found=0
+    for number in $(seq $of); do
+        assembled peterson_right.s
+        explores "$image" $examples/peterson.cfg --word inside=0..1 --events 50 --preemptions 2 --shard "$number/$of" ||
+            wrong="$wrong; shard $number: status $?"
+        tried=$(sed -n 's/^none of \([0-9]*\) schedules\{0,1\} fails: .*/\1/p' "$work/out")
+        [ $of = 1 ] || grep -qF "$shard_bounds, shard $number of $of" "$work/out" || wrong="$wrong; it says $(cat "$work/out")"
+        total=$((total + ${tried:-0} - 1))
+        assembled peterson.s
+        explores "$image" $examples/peterson.cfg --word inside=0..1 --events 50 --preemptions 2 --shard "$number/$of"
+        [ $? = 0 ] || found=$((found + 1))
+    done
+    [ $total = 836 ] || wrong="$wrong; $total schedules"
+    [ $found -gt 0 ] || wrong="$wrong; no shard finds what the whole search finds"
+    verdict "explore: $of shards" "$wrong"
+done
+
+# ---- Options that have no meaning
+
+assembled lost_update.s
+files=("$image" $examples/lost_update.cfg)
+# refuses WHAT OPTION..: a line with status 2.
+refuses() {
+    local what=$1
+    shift
+    explores "${files[@]}" "$@"
+    check "explore: $*" 2 "$work/nothing" "board: the search: $what" $?
+}
+word="--word has what words should be, as count=2 (at the end) or inside=0..1 (always), with commas between them; a place is a symbol, or 0x and a hexadecimal address"
+for wrong in count count= count=1.. count=..1 count=1.2 'count=1,' ',count=1' count=-1 count=4294967296 0x=1 \
+    0x100000000=1 count=1=2 ''; do
+    refuses "$word" --word "$wrong"
+done
+refuses "--word names a symbol that the object file doesn't have" --word nothing=1
+refuses "--events is a number from 0 to 1,000,000" --events 1000001
+refuses "--fair is a number of rounds from 0 to 20,000" --fair 20001
+refuses "--remember is a number of MiB from 0 to 4,096" --remember 4097
+refuses "--raises says how often lines may be raised, and --lines which" --raises 1
+for wrong in 32 x '1,,2' '1,' ',1' 01 ''; do
+    refuses "--lines has interrupt lines from 0 to 31 with commas between them, as 3,4" --raises 1 --lines "$wrong"
+done
+for wrong in 1 0/1 2/1 1/0 /1 1/ 1/1/1 01/2 a/b ''; do
+    refuses "--shard is K/M, shard K of M, with K from 1 to M" --shard "$wrong"
+done
+# shellcheck disable=SC1003
+for wrong in '\' '\q' '\x4' '\xzz'; do
+    refuses '--console has a text, in which \n, \r, \t, \\ and \xHH stand for a byte' --console "$wrong"
+done
+for option in --events --preemptions --ticks --raises --fair --remember; do
+    for wrong in x -1 1.5 4294967296; do
+        explores "${files[@]}" $option $wrong
+        got=$?
+        verdict "explore: $option $wrong" "$([ $got = 2 ] && [ ! -s "$work/out" ] || echo "status $got")"
+    done
+done
+
+# ---- shrink: of what doesn't fail, and of a long journal
+
+explores "${files[@]}" --word count=2 --out "$work/found"
+"$board" shrink "${files[@]}" "$work/found" --deadlock > "$work/out" 2> "$work/err"
+check "shrink: what doesn't fail" 1 "$work/nothing" "board: the journal: nothing of what is looked for fails" $?
+"$board" journal 2 4000 --turn 3 --tick-every 7 > "$work/journal"
+assembled deadlock.s
+"$board" journal 2 200 --turn 5 --tick-every 7 > "$work/journal"
+shrinks "a long journal" $examples/deadlock.cfg "$work/journal" --deadlock
+left=$(events "$work/left")
+verdict "shrink: a deadlock needs 17 steps" "$([ "$left" = 17 ] || echo "$left are left")"
+turns=$(switches_of "$work/left")
+verdict "shrink: a deadlock needs 2 switches" "$([ "$turns" = 2 ] || echo "$turns are left")"
+"$board" shrink "$image" $examples/deadlock.cfg "$work/found" --word nothing=1 > "$work/out" 2> "$work/err"
+check "shrink: a symbol that isn't there" 2 "$work/nothing" \
+    "board: the search: --word names a symbol that the object file doesn't have" $?
+
+# ---- Files
+
+"$board" explore "$work/nosuch" $examples/deadlock.cfg > "$work/out" 2> "$work/err"
+check "explore: no object file" 4 "$work/nothing" "board: can't open $work/nosuch: $is_missing" $?
+if [ -e /dev/full ]; then
+    "$board" explore "$image" $examples/deadlock.cfg > /dev/full 2> "$work/err"
+    got=$?
+    verdict "explore: a full output" "$([ $got = 4 ] || echo "status $got")"
+    explores "$image" $examples/deadlock.cfg --out /dev/full
+    got=$?
+    verdict "explore: a journal that can't be written" "$([ $got = 4 ] || echo "status $got")"
+fi
+
+# ---- Refused memory
+
+# (A search that may remember states remembers fewer where a growth is refused, and says another number of schedules.)
+assembled lost_update_right.s
+: > "$work/in"
+explores "$image" $examples/lost_update.cfg --word count=2
+cp "$work/out" "$work/wanted"
+refuse_each explore 3 "board: out of memory" "$board" explore "$image" $examples/lost_update.cfg --word count=2
+assembled lost_update.s
+"$board" shrink "$image" $examples/lost_update.cfg "$work/found" --word count=2 > "$work/wanted"
+refuse_each shrink 3 "board: out of memory" "$board" shrink "$image" $examples/lost_update.cfg "$work/found" --word count=2
+
+# ---- Random boards beside the model
+
+if have python3 "searches beside the model"; then
+    check_script "searches beside the model" tests/model/searches "$board" --boards 60
+fi
+
+summary

@@ -1,0 +1,92 @@
+#!/bin/bash
+# The tests of the pages that `board trace --format html` makes: tests/programs/page.sh PROGRAM. What a browser shows of
+# them is tested in a headless Chromium, driven by Python: tests/programs/pages has how. Where one of these is missing,
+# that is skipped.
+. "$(dirname "$0")/check.sh"
+
+# page NAME OUTPUT ARGUMENT..: makes a page.
+page() {
+    "$board" trace --format html "${@:3}" < /dev/null > "$2" 2> "$work/err" || fail "page: $1" "$(cat "$work/err")"
+}
+
+# refused NAME ERROR ARGUMENT..: no page is made, which one line of an error says.
+refused() {
+    "$board" trace --format html "${@:3}" < /dev/null > "$work/out" 2> "$work/err"
+    check "page: $1" 2 "$work/nothing" "$2" $?
+}
+
+# Runs of the examples, and of the scenes that have lines: `names`, and of each an image, a configuration and a journal.
+names=()
+# shown NAME IMAGE CONFIG JOURNAL: makes a page of a run.
+shown() {
+    page "$1" "$work/$1.html" "$2" "$3" "$4"
+    names+=("$1")
+    echo "$* $work/$1.html" >> "$work/pages"
+}
+for journal in examples/*/*.journal; do
+    files=${journal%.journal}
+    name=${files#examples/}
+    name=${name//\//-}
+    [ -e "$files.s" ] && [ -e "$files.cfg" ] || continue
+    "$board" asm "$files.s" "$work/$name.elf" 2> "$work/err" || { fail "page: $name" "$(cat "$work/err")"; continue; }
+    shown "$name" "$work/$name.elf" "$files.cfg" "$journal"
+done
+scenes=$(cd tests/scenes && printf '%s\n' */lines)
+# shellcheck disable=SC2086
+lay ${scenes//\/lines/}
+for name in ${scenes//\/lines/}; do
+    shown "$name" "$laid/$name/image.elf" "$laid/$name/config.cfg" "$laid/$name/journal"
+done
+
+lost=("$work/lost_update-racy.elf" examples/lost_update/racy.cfg examples/lost_update/racy.journal)
+page "a part" "$work/part.html" --from 5 --to 20 "${lost[@]}"
+
+# Its limits: 100,000 events, and 8 MiB.
+cat > "$work/long.journal" << 'END'
+board-journal 1
+S 1 100001
+END
+too_much="board: the trace: it is more than a page can show: choose fewer events by --from and --to"
+refused "more than 100,000 events" "$too_much" "${lost[@]:0:2}" "$work/long.journal"
+page "100,000 events" "$work/long.html" --to 100000 "${lost[@]:0:2}" "$work/long.journal"
+cat > "$work/wide.cfg" << 'END'
+BOARD(1, 0x10000);
+CRE_TSK(1, {TA_ACT, 1, main, 1, 256, NULL});
+CRE_TSK(2, {TA_ACT, 2, main, 1, 256, NULL});
+END
+{
+    echo "main:   lui \$at, 0xffff"
+    printf '        addiu $%d, $at, -1\n' 5 6 7 8 9 10 11 12 13 14 15 16 17 18 19 20 21 22 23 24 25 26 27 28 29 30 31
+    echo "again:  addiu \$a0, \$0, 0"
+    echo "        addiu \$v0, \$0, 10         # rot_rdq"
+    echo "        syscall"
+    echo "        b       again"
+    echo "        nop"
+} > "$work/wide.s"
+"$board" asm "$work/wide.s" "$work/wide.elf"
+refused "more than 8 MiB" "$too_much" --to 100000 "$work/wide.elf" "$work/wide.cfg" "$work/long.journal"
+page "the beginning of that" "$work/wide.html" --to 5000 "$work/wide.elf" "$work/wide.cfg" "$work/long.journal"
+cmp -s <("$board" trace --format html --cpu 1 --instructions "${lost[@]}") "$work/lost_update-racy.html" ||
+    fail "page: --cpu and --instructions" "they change the page"
+
+# The texts of an image whose names would be markup or script, if they became a part of the page.
+hostile=("$work/hostile.elf" "$work/hostile.cfg" "$work/hostile.journal")
+tests/programs/pages/hostile "$board" "${hostile[@]}" > "$work/out" 2>&1 ||
+    fail "page: hostile names" "$(cat "$work/out")"
+page "hostile names" "$work/hostile.html" "${hostile[@]}"
+
+if have python3 "page: its data"; then
+    check_script "page: its data" tests/programs/pages/data "$work"/*.html
+    check_script "page: the program has the files of page/" page/make --check
+fi
+chromium=$(command -v chromium || command -v chromium-browser || command -v google-chrome)
+if [ -z "$chromium" ] || ! command -v python3 > /dev/null; then
+    skip "pages in a browser" chromium
+else
+    while read -r word name wrong; do
+        name=${name%:}
+        if [ "$word" = passed ]; then pass "page: $name in a browser"; else fail "page: $name in a browser" "$wrong"; fi
+    done < <(tests/programs/pages/compare "$chromium" "$board" < "$work/pages" 2>&1)
+    check_script "page: moves in a browser" tests/programs/pages/moves "$chromium" "$work"
+fi
+summary

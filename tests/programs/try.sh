@@ -1,0 +1,163 @@
+#!/bin/bash
+# The tests of `try`: tests/programs/try.sh PROGRAM.
+. "$(dirname "$0")/check.sh"
+. tests/programs/growths.sh
+
+# tries NAME STATUS ERROR ARGUMENT..: runs it, and compares what it prints with $work/wanted, and standard error with
+# one line, or nothing.
+tries() {
+    "$board" try "${@:4}" < /dev/null > "$work/out" 2> "$work/err"
+    check "try: $1" "$2" "$work/wanted" "$3" $?
+}
+
+# tells NAME PATTERN ARGUMENT..: runs it, and looks for a line of its output that is this extended regular expression.
+tells() {
+    local got wrong=
+    "$board" try "${@:3}" < /dev/null > "$work/out" 2> "$work/err"
+    got=$?
+    [ $got = 0 ] || wrong="status $got"
+    [ -s "$work/err" ] && wrong="$wrong; $(cat "$work/err")"
+    grep -qxE -- "$2" "$work/out" || wrong="$wrong; no line is '$2': $(cat "$work/out")"
+    verdict "try: $1" "$wrong"
+}
+
+cat > "$work/wanted" << 'END'
+Hi
+stopped: ext_ker at done+0x4 after 25 steps
+$v0 29  $s0 8000002b  $sp 80010000
+END
+tries "a source" 0 "" examples/hello/hello.s
+"$board" asm examples/hello/hello.s "$work/hello.elf"
+tries "an object file" 0 "" "$work/hello.elf"
+"$board" try - < examples/hello/hello.s > "$work/out" 2> "$work/err"
+check "try: standard input" 0 "$work/wanted" "" $?
+{ echo '.byteorder little'; cat examples/hello/hello.s; } > "$work/little.s"
+tries "a little-endian source" 0 "" "$work/little.s"
+echo "board-journal 2 little" > "$work/wanted-line"
+"$board" try --keep "$work/little" "$work/little.s" > "$work/out" 2> "$work/err"
+head -n 1 "$work/little.journal" > "$work/out"
+check "try: a little-endian journal" 0 "$work/wanted-line" "" 0
+
+# What it ran is kept as `run` and `trace` take it.
+tries "what is kept" 0 "" --keep "$work/kept" --page "$work/page.html" examples/hello/hello.s
+cat > "$work/wanted.cfg" << 'END'
+BOARD(1, 0x00010000);
+CLASS(TCL_1) {
+    CRE_TSK(1, {TA_ACT, 1, 0x80000000, 1, 4096, NULL});
+}
+END
+printf 'board-journal 2 big\nS 1 25\n' > "$work/wanted.journal"
+wrong=
+for kind in cfg journal; do
+    cmp -s "$work/wanted.$kind" "$work/kept.$kind" || wrong="$wrong; kept.$kind: $(cat "$work/kept.$kind")"
+done
+kept=("$work/hello.elf" "$work/kept.cfg" "$work/kept.journal")
+"$board" trace --format html "${kept[@]}" | cmp -s - "$work/page.html" || wrong="$wrong; the page isn't that of trace"
+"$board" run "${kept[@]}" | sed -n '/^console/,$p' > "$work/out"
+printf 'console 3\nHi\n\n' | cmp -s - "$work/out" || wrong="$wrong; run has another console: $(cat "$work/out")"
+verdict "try: the files that are kept" "$wrong"
+
+# Where tasks begin, what they are given, and who takes which turn: each writes its number and ends by ext_tsk.
+cat > "$work/tasks.s" << 'END'
+        break
+main:   addiu   $s0, $a0, 0x30
+        move    $a0, $s0
+        addiu   $v0, $0, 40
+        syscall
+        addiu   $v0, $0, 3
+        syscall
+END
+tells "a task begins at main" "stopped: every task has ended, after 6 steps" "$work/tasks.s"
+tells "a task is given its processor's number" "1" "$work/tasks.s"
+tells "turns of three processors" "123" --cpus 3 "$work/tasks.s"
+tells "steps of three processors" "stopped: every task has ended, after 18 steps" --cpus 3 "$work/tasks.s"
+# shellcheck disable=SC2016
+tells "registers of three tasks" 'task 3: \$v0 3  \$a0 33  \$s0 33  \$sp [0-9a-f]{8}' --cpus 3 "$work/tasks.s"
+tells "eight processors" "12345678" --cpus 8 "$work/tasks.s"
+tells "as many steps as are wanted" "stopped: no end after 4 steps" --steps 4 "$work/tasks.s"
+tells "one step" "stopped: no end after 1 step" --steps 1 "$work/tasks.s"
+tells "no step" "stopped: no end after 0 steps" --steps 0 "$work/tasks.s"
+tells "ticks are among the events" "stopped: no end after 2 steps" --steps 4 --tick-every 2 "$work/tasks.s"
+
+# What goes wrong, in the words of `trace --summary`.
+printf 'main: b main\n nop\n' > "$work/spin.s"
+tells "a task that spins" "stopped: no end after 10000 steps" "$work/spin.s"
+tells "where it spins" "task 1 ready since the start, at main(\+0x4)? \(8000000[04]\)" "$work/spin.s"
+tells "that it spins" "cpu 1 spins since the start at main \(80000000\): 2 instructions that change nothing" "$work/spin.s"
+# shellcheck disable=SC2016
+printf 'main: lw $t0, 0($0)\n' > "$work/fault.s"
+tells "an exception" \
+    " *last exception at event 0, of task 1 at main .*: DBE: load from 00000000, outside RAM" "$work/fault.s"
+# shellcheck disable=SC2016
+printf 'main: addiu $t0, $0, 5\n' > "$work/off.s"
+tells "a run off the end" \
+    "task 1 has run off the end of the program: nothing of it lies at [0-9a-f]{8}" "$work/off.s"
+cat > "$work/waits.s" << 'END'
+main:   addiu   $v0, $0, 16
+        syscall
+        b       main
+        nop
+END
+tells "a task that waits" "task 1 waiting since event 1, .*, slp_tsk\\(\\) waits for a wake-up" "$work/waits.s"
+
+# Mistakes: the first is told as `asm` tells it, and then those behind it, each once, 20 at most.
+cat > "$work/mistakes.s" << 'END'
+        .equ    five, 5
+main:   addiu   $t0, $t0
+        b       nowhere
+        nop
+here:   li      $t1, five
+        b       here
+        nop
+here:   nop
+        addiu   $t0, $t0, 70000
+END
+"$board" try "$work/mistakes.s" > "$work/out" 2> "$work/told"
+wrong=$(differs 1 "$work/nothing" $?)
+# Where the lines of those that were told are mended, the next one is told as `asm` tells it.
+: > "$work/wanted"
+for mending in '' '2s/addiu.*/nop/' '5s/li.*/nop/' '8s/here:/     /' '3s/b .*/nop/'; do
+    [ -z "$mending" ] || sed -i "$mending" "$work/mistakes.s"
+    "$board" asm "$work/mistakes.s" "$work/mistakes.elf" 2>> "$work/wanted"
+done
+[ "$(wc -l < "$work/wanted")" = 5 ] || wrong="$wrong; asm tells $(cat "$work/wanted")"
+cmp -s "$work/told" "$work/wanted" || wrong="$wrong; told: $(cat "$work/told")"
+verdict "try: mistakes in five lines" "$wrong"
+for ((line = 1; line <= 30; line++)); do echo "x$line: addiu \$t0, \$t0"; done > "$work/many.s"
+"$board" try "$work/many.s" > "$work/out" 2> "$work/err"
+wrong=$(differs 1 "$work/nothing" $?)
+[ "$(wc -l < "$work/err")" = 20 ] || wrong="$wrong; $(wc -l < "$work/err") are told"
+verdict "try: twenty mistakes of thirty" "$wrong"
+# Refusals.
+: > "$work/wanted"
+tries "no processor" 2 "board: CPUS is 1 to 8" --cpus 0 examples/hello/hello.s
+tries "nine processors" 2 "board: CPUS is 1 to 8" --cpus 9 examples/hello/hello.s
+tries "too many turns" 2 "board: the journal needs more than 4194304 runs" \
+    --steps 4194305 --cpus 2 examples/hello/hello.s
+tries "no such file" 4 "board: can't open $work/nosuch: $is_missing" "$work/nosuch"
+tries "a folder" 4 "board: can't read the source: $is_directory" /
+printf '\177ELF' > "$work/damaged.elf"
+"$board" run "$work/damaged.elf" examples/hello/hello.cfg examples/hello/hello.journal 2> "$work/first"
+tries "a damaged object file" 1 "$(cat "$work/first")" "$work/damaged.elf"
+"$board" try examples/hello/hello.s > /dev/full 2> "$work/err"
+got=$?
+cp "$work/wanted" "$work/out"
+check "try: output that can't be written" 4 "$work/wanted" "board: can't write the output: $is_full" "$got"
+rm -f "$work/unkept.cfg"
+"$board" try --keep "$work/unkept" examples/hello/hello.s > /dev/full 2> "$work/err"
+[ -e "$work/unkept.cfg" ] && wrong="the configuration is there" || wrong=
+verdict "try: nothing is kept where output can't be written" "$wrong"
+"$board" try examples/hello/hello.s > "$work/wanted"
+tries "a folder that isn't there" 4 "board: can't open $work/nosuch/kept.cfg: $is_missing" \
+    --keep "$work/nosuch/kept" examples/hello/hello.s
+"$board" try --steps 100001 "$work/spin.s" > "$work/wanted"
+tries "a page that would be too long" 2 \
+    "board: the trace: it is more than a page can show: choose fewer events by --steps" \
+    --steps 100001 --page "$work/long.html" "$work/spin.s"
+
+# With each growth refused in turn.
+cp "$work/tasks.s" "$work/in"
+"$board" try --cpus 2 --keep "$work/grown" "$work/tasks.s" > "$work/wanted"
+refuse_each "try" 3 "board: out of memory" "$board" try --cpus 2 --keep "$work/grown" -
+
+summary

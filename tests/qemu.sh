@@ -1,7 +1,0 @@
-#!/bin/bash
-# The instructions beside the answers of QEMU that are kept: tests/qemu.sh PROGRAM.
-. "$(dirname "$0")/check.sh"
-if have python3 "the instructions beside QEMU's answers"; then
-    check_script "the instructions beside QEMU's answers" tests/qemu/compare "$board"
-fi
-summary
