@@ -6,10 +6,14 @@
 # A program is firmware.c, its configuration firmware.cfg, and journals with what the console has to show after each:
 # NAME.journal, NAME.console. docs/C.md goes through all of it.
 #
-#   make                builds build/firmware.elf and build/firmware.cfg
+#   make                builds build/firmware.elf and build/firmware.cfg, and says what the board doesn't take
 #   make test           runs each journal, and compares the console; lost output is a failure, too. EXPECT: what else is;
 #                       STRICT=1: an exception, a refused call whose answer nobody looks at, a data race, a store below a
 #                       stack and a board that is on in the end are; REPORT=junit.xml: writes that too
+#   make ci             as a build server does: each journal with STRICT=1, its races and its stacks as tests of their
+#                       own, and what all journals together execute of the project's files; leaves build/ci/tests.xml
+#                       (JUnit) and build/ci/coverage.info (lcov), or in REPORTS in the place of build/ci. COVERAGE=80:
+#                       fails if fewer than 80 of a hundred lines are executed
 #   make accept         takes the consoles as they are for right, where no output was lost
 #   make run            shows the report of JOURNAL (firmware.journal)
 #   make debug          debugs JOURNAL with the names of C
@@ -17,10 +21,12 @@
 #   make trace          shows what happens under JOURNAL, with files and lines of C; TRACEFLAGS: `board trace`'s options
 #   make races          shows the data races of JOURNAL, and fails where there is one
 #   make page           leaves JOURNAL as a page for a browser, build/firmware.html
-#   make cover          leaves which lines JOURNAL executed, build/firmware.info, for genhtml
+#   make cover          leaves which lines of the project all journals, or JOURNAL=.., execute, build/firmware.info
 #   make stacks         shows how deep each stack became under JOURNAL, and fails where something was stored below one
-#   make hunt           does the events of JOURNAL in TRIES other orders, and keeps the first that fails
-#   make explore        searches all schedules within bounds for one under which the test of JOURNAL fails
+#   make hunt           does the events of JOURNAL in TRIES other orders, and keeps the first that fails; TIME=60: in as
+#                       many as there are seconds for
+#   make explore        searches all schedules within bounds for one under which the test of JOURNAL fails; TIME=60:
+#                       with more and more preemptions, and says after so many seconds what is known
 #   make shrink         leaves events out of the schedule that was found, as long as it fails
 #   make clean
 #
@@ -40,6 +46,11 @@ HANDLER_STACK ?= 1024
 STACK_CHECK ?=
 ORDER ?= big
 JOURNAL ?= $(PROGRAM).journal
+# (GNU time takes a variable of this name from the environment.)
+ifeq ($(origin TIME),environment)
+TIME =
+endif
+TIME ?=
 TRIES ?= 200
 SEED ?= 1
 EXPECT ?= console
@@ -47,8 +58,9 @@ MOVE ?= raises
 JOBS ?= $(shell nproc 2> /dev/null || echo 1)
 STRICT ?=
 REPORT ?=
+COVERAGE ?=
 EVENTS ?= 100000
-PREEMPTIONS ?= 1
+PREEMPTIONS ?=
 TICKS ?=
 RAISES ?=
 RAISED ?=
@@ -58,6 +70,7 @@ GDB ?= gdb-multiarch
 GDBFLAGS ?=
 TRACEFLAGS ?=
 BUILD ?= build
+REPORTS ?= $(BUILD)/ci
 
 BOARD ?= $(SDK)/../build/board
 export CROSS ?= mips-linux-gnu-
@@ -113,17 +126,21 @@ CONFIGURATION = $(BUILD)/$(PROGRAM).cfg
 # Its tests: of the only program all journals are.
 journals = $(if $(word 2,$(PROGRAMS)),$(wildcard $1.journal $1.*.journal),$(wildcard *.journal))
 
-.PHONY: all test accept run debug gdb trace races page cover stacks hunt explore shrink clean FORCE
+.PHONY: all test ci accept run debug gdb trace races page cover stacks hunt explore shrink clean FORCE
 .DELETE_ON_ERROR:
 .SECONDARY:
 
-all: $(foreach it,$(PROGRAMS),$(BUILD)/$(it).elf $(BUILD)/$(it).cfg)
+all: $(foreach it,$(PROGRAMS),$(BUILD)/$(it)/judged)
 
 # The libraries come twice: before the kit's objects, whose functions are weak, and after those, which may use them.
 define program
 $(BUILD)/$1.elf: $(call objects,$1) $(KIT_OBJECTS) $(filter-out -%,$(LIBS)) $(SDK)/board.ld \
     $(if $(filter 1,$(LIBC)),$(LIBRARY)/libc.a)
 	$$(LINK) -o $$@ $(call objects,$1) $(LIBS) $(KIT_OBJECTS) --start-group $(ARCHIVES) --end-group
+
+# Whether the board takes both.
+$(BUILD)/$1/judged: $(BUILD)/$1.elf $(BUILD)/$1.cfg
+	@$(SDK)/judge '$$(BOARD)' $$^ $1.cfg && { [ ! -x '$$(BOARD)' ] || touch $$@; }
 
 $(BUILD)/$1/start.o: $(SDK)/lib/start.S $(BUILD)/$1.cfg $(BUILD)/flags
 	$$(ASSEMBLE) -I$(BUILD)/$1 -c -o $$@ $$<
@@ -176,6 +193,11 @@ test: all
 	@$(if $(REPORT),rm -f '$(REPORT)')
 	@$(call tests,$(if $(STRICT),--strict) --expect '$(EXPECT)' $(if $(REPORT),--junit '$(REPORT)') --jobs '$(JOBS)')
 
+ci: all
+	@rm -rf '$(REPORTS)'
+	@status=0; $(foreach it,$(PROGRAMS),$(SDK)/ci --expect '$(EXPECT)' --coverage '$(COVERAGE)' --jobs '$(JOBS)' \
+	    '$(REPORTS)' $(BUILD) $(BOARD) $(BUILD)/$(it).elf $(BUILD)/$(it).cfg $(call journals,$(it)) || status=1;) exit $$status
+
 accept: all
 	@$(call tests,--accept --jobs '$(JOBS)')
 
@@ -190,9 +212,9 @@ gdb: all
 	@$(SDK)/ordered $(IMAGE) $(JOURNAL) > $(BUILD)/debug.journal
 	@GDB='$(GDB)' $(SDK)/gdb $(BOARD) $(IMAGE) $(CONFIGURATION) $(BUILD)/debug.journal $(GDBFLAGS)
 
-# What `board trace` says of JOURNAL, which is taken for the program's byte order.
+# What `board trace` says of JOURNAL, which is taken for the program's byte order, with names and lines of C.
 traced = $(SDK)/ordered $(IMAGE) $(JOURNAL) > $(BUILD)/trace.journal && \
-    $(BOARD) trace $1 $(IMAGE) $(CONFIGURATION) $(BUILD)/trace.journal
+    $(SDK)/named $(IMAGE) $(CONFIGURATION) $(BOARD) trace $1 $(IMAGE) $(CONFIGURATION) $(BUILD)/trace.journal
 
 trace: all
 	@$(call traced,$(TRACEFLAGS))
@@ -205,22 +227,27 @@ page: all
 	@$(call traced,--format html $(TRACEFLAGS)) > $(BUILD)/$(PROGRAM).html
 	@echo "$(BUILD)/$(PROGRAM).html"
 
+# Of all journals of PROGRAM, or of the one that the command line names.
 cover: all
-	@$(call traced,--format lcov) > $(BUILD)/$(PROGRAM).info
-	@echo "$(BUILD)/$(PROGRAM).info"
+	@rm -f $(BUILD)/$(PROGRAM).info
+	@$(SDK)/ci --only-coverage $(BUILD)/$(PROGRAM).info $(BUILD) $(BOARD) $(IMAGE) $(CONFIGURATION) \
+	    $(if $(filter file,$(origin JOURNAL)),$(call journals,$(PROGRAM)),$(JOURNAL))
 
 stacks: all
 	@$(call traced,--stacks) | tee $(BUILD)/stacks
 	@grep -qx 'stack overflow: none' $(BUILD)/stacks
 
+# With TIME alone, as many as there is time for.
+tries = $(if $(and $(TIME),$(filter file,$(origin TRIES))),1000000,$(TRIES))
+
 hunt: all
-	@$(SDK)/hunt $(BOARD) $(IMAGE) $(CONFIGURATION) $(JOURNAL) $(BUILD)/hunt.journal --tries '$(TRIES)' \
-	    --seed '$(SEED)' --expect '$(EXPECT)' --move '$(MOVE)' --jobs '$(JOBS)'
+	@$(SDK)/hunt $(BOARD) $(IMAGE) $(CONFIGURATION) $(JOURNAL) $(BUILD)/hunt.journal --tries '$(tries)' \
+	    --time '$(TIME)' --seed '$(SEED)' --expect '$(EXPECT)' --move '$(MOVE)' --jobs '$(JOBS)'
 
 explore: all
 	@$(SDK)/explore $(BOARD) $(IMAGE) $(CONFIGURATION) $(JOURNAL) $(BUILD)/explore.journal --events '$(EVENTS)' \
 	    --preemptions '$(PREEMPTIONS)' --ticks '$(TICKS)' --raises '$(RAISES)' --lines '$(RAISED)' \
-	    --fair '$(FAIR)' --look '$(LOOK)'
+	    --fair '$(FAIR)' --look '$(LOOK)' --time '$(TIME)'
 
 shrink: all
 	@$(SDK)/explore --shrink $(BOARD) $(IMAGE) $(CONFIGURATION) $(JOURNAL) $(BUILD)/explore.journal \

@@ -41,8 +41,8 @@ int vsnprintf(char *text, SIZE size, const char *format, va_list arguments) __at
 #define BOARD_ONCE(...) BOARD_SAME(BOARD_SAME(BOARD_SAME(__VA_ARGS__)))
 #define BOARD_SAME(...) __VA_ARGS__
 
-/* Where the condition doesn't hold, writes the place and the condition, and turns the board off. In a handler neither
- * is possible: there an exception stops the handler's processor, and `make test` and its relatives say where it was. */
+/* If the condition doesn't hold, an exception ends the task at once, or stops the processor of the handler; nothing is
+ * written. `make test` and its relatives fail then, and say which condition it was, whose and where. */
 #define assert(condition) ((condition) ? (void)0 : board_stop(__FILE__, __LINE__, #condition))
 
 void *memcpy(void *to, const void *from, SIZE size);

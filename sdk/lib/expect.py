@@ -66,7 +66,7 @@ def faults(program, journal, report, summary, words):
         raced = races(program, journal)
         found += raced[:SHOWN] + ([f"races: {len(raced)} words"] if len(raced) > SHOWN else [])
     found += filter(None, (fault_by(it, journal, report) for it in words if it not in WORDS))
-    return [program.objects.named(it) for it in found]
+    return [program.shown.told(it) for it in found]
 
 
 def hints(program, journal, report, words, path):
@@ -78,4 +78,4 @@ def hints(program, journal, report, words, path):
     found = [] if "stacks" in words else [f"{it} (make stacks{more})" for it in overflows(program, journal)]
     raced = [] if "races" in words else races(program, journal)
     found += [f"{len(raced)} word{'s have' if len(raced) > 1 else ' has'} a race (make races{more})"] if raced else []
-    return [program.objects.named(it) for it in found]
+    return [program.shown.told(it) for it in found]

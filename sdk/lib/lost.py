@@ -127,4 +127,4 @@ def faults(program, journal, summary=None):
     lines = [f"lost output: {count} character{'s' if count > 1 else ''} of {' '.join(it.who)}, "
              f"{where(program, journal, it)}, first at event {it.event}: put_chr = {it.answer}, "
              f"{WHY.get(it.answer, 'it is refused')}" for it, count in list(found.values())[:LINES]]
-    return [program.objects.named(it) for it in lines]
+    return [program.shown.told(it) for it in lines]

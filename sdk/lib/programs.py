@@ -5,6 +5,7 @@ import shutil
 import subprocess
 import sys
 import tempfile
+import shown
 
 CROSS = os.environ.get("CROSS", "mips-linux-gnu-")
 # A number as it is written after a name: decimal, or hexadecimal with 0x.
@@ -16,6 +17,8 @@ CALLS = {"sem": "semaphore", "flg": "flag", "dtq": "queue", "spn": "lock", "tsk"
          "act": "task", "pri": "task"}
 NO_ID = ("dly_tsk", "slp_tsk", "tslp_tsk", "ext_tsk")
 NAMED = re.compile(rf"\b({'|'.join(WORDS)}) (\d+)\b|\b(\w+_({'|'.join(CALLS)}))\((\d+)\b")
+# The line of a trace where an assertion doesn't hold (stop.c).
+ASSERTION = re.compile(r"(?m)^ *(\d+) (\d) +(task|handler) (\d+) +board_stop(?:\+0x[0-9a-f]+)? +Bp: ")
 # The label in start.S where a task's function returns to.
 RETURNED = re.compile(r"returned_from_(\w+)\.(\d+)")
 # Service calls and the like are compiled into their callers, so a place in these is told as the caller's.
@@ -152,6 +155,15 @@ class Objects:
         with open(path, encoding="latin-1") as file:
             return file.read()
 
+    def name(self, word, number):
+        """That of a task or another object, or nothing."""
+        return self.names.get((WORDS[word], int(number)))
+
+    def executing(self):
+        """What executes and has a name: tasks and handlers, with their numbers."""
+        kinds = {"task": "task", "line": "handler"}
+        return [(kinds[kind], number) for kind, number in self.names if kind in kinds]
+
     def named(self, text):
         """A text of `board`, with the names beside the numbers: `task 1 (GREETER)`, `wai_sem(PRESSED)`."""
         return NAMED.sub(self.one_named, text)
@@ -159,7 +171,7 @@ class Objects:
     def one_named(self, found):
         word, number, call, ending, argument = found.groups()
         if word:
-            name = self.names.get((WORDS[word], int(number)))
+            name = self.name(word, number)
             return f"{found[0]} ({name})" if name else found[0]
         name = self.names.get((CALLS[ending], int(argument))) if call not in NO_ID else None
         return f"{call}({name}" if name else found[0]
@@ -238,6 +250,7 @@ class Program:
         with open(image, "rb") as file:
             self.is_little = file.read(6)[5:] == b"\1"
         self.names_found = None
+        self.shown = shown.Shown(self.names, self.objects)
 
     def names(self):
         if self.names_found is None:
@@ -279,7 +292,7 @@ class Program:
             found = debugger.bytes_at(address, 4 * count)
             return [int.from_bytes(found[4 * it:4 * it + 4], order) for it in range(count)]
 
-        why, position = self.why(debugger, words(place[0], 8), report), None
+        why, position = self.why(debugger, words(place[0], 6), report), None
         if why and report.stopped() and debugger.answer(f"break {self.names().place('board_trap')[0]:08x}") == "ok":
             debugger.answer("goto 0")
             moved = debugger.answer("next")
@@ -288,7 +301,7 @@ class Program:
         return why, position
 
     def why(self, debugger, words, report):
-        taken, file, line, why, place, task, processor, stack = words
+        taken, why, place, task, processor, stack = words
         if not taken:
             return None
         handlers = [it[len("handler_stack_"):] for it, at in self.names().places.items()
@@ -296,15 +309,32 @@ class Program:
         who = f"task {task}, processor {processor}" if task else f"handler of line {handlers[0]}" if handlers else "?"
         if not task and len(report.stopped()) == 1:
             who += f", processor {report.stopped()[0].split()[1]}"
-        text = debugger.text_at(why)
-        if file:
-            return f"{debugger.text_at(file)}:{line}: this doesn't hold: {text} ({who})"
-        return f"{text} {place:08x} ({who})"
+        return f"{debugger.text_at(why)} {place:08x} ({who})"
+
+    def assertion(self, journal, summary=None):
+        """The first assertion that doesn't hold: what it says, and whose it is; and the position after it. Each is
+        nothing if all hold. `summary` is that of the journal, if it is known."""
+        if "last exception at" not in (self.traced(journal, "--summary") if summary is None else summary):
+            return None, None
+        found = ASSERTION.search(self.traced(journal))
+        if not found:
+            return None, None
+        event, cpu, kind, number = found.groups()
+        debugger = Debugger(self.board, self.image, self.config, journal)
+        debugger.answer(f"goto {event}")
+        registers = dict(it.split() for it in debugger.lines(f"regs {cpu}"))
+        file, line, condition = (int(registers.get(f"${it}", "0"), 16) for it in (4, 5, 6))
+        who = f"handler of line {number}" if kind == "handler" else f"task {number}"
+        text = f"{debugger.text_at(file)}:{line}: this doesn't hold: {debugger.text_at(condition)}"
+        debugger.close()
+        return f"{text} ({who}, processor {cpu})", int(event) + 1
 
     def explained(self, journal, report, console=b""):
-        """What tells why: an assertion that a handler made, or for which the console had no room; the summary of `board
+        """What tells why: an assertion that doesn't hold, or how a handler has stopped itself; the summary of `board
         trace` where the program has that, else the report; the functions in C of the addresses that were shown."""
-        why, position = self.stop(journal, report)
+        why, position = self.assertion(journal)
+        if why is None:
+            why, position = self.stop(journal, report)
         found = [why] if why and why.encode() not in console else []
         running = report.running()
         if running:
@@ -316,7 +346,7 @@ class Program:
             found.append(report.text.rstrip("\n"))
         text = "\n".join(found)
         shown = re.findall(r"\b80[0-9a-f]{6}\b", console.decode(errors="replace") + text)
-        return self.objects.named(text) + \
+        return self.shown.text(text) + \
             "".join(f"\n{it} is {self.place_told(it)}" for it in sorted(set(shown))[:20])
 
     def place_told(self, address):
@@ -327,6 +357,20 @@ class Program:
             return self.names().told(address)
         task = self.objects.named(f"task {returned[2]}")
         return f"where {task} ends: {returned[1]} has returned"
+
+
+def cut(journal, position):
+    """Leaves out the events of a journal from a position on."""
+    with open(journal, encoding="latin-1") as file:
+        first, *lines = file.read().split("\n")
+    kept = []
+    for line in filter(None, lines):
+        *words, count = line.split(" ")
+        if position > 0:
+            kept.append(" ".join([*words, str(min(int(count), position))]))
+        position -= int(count)
+    with open(journal, "w", encoding="latin-1") as file:
+        file.write("\n".join([first, *kept, ""]))
 
 
 def difference(wanted, got):

@@ -1,13 +1,11 @@
-/* What is done where an assertion doesn't hold, a stack has no room, or a format is wrong. */
+/* What is done if an assertion doesn't hold, a stack has no room, or a format is wrong. */
 #include "format.h"
 
 /* Why the program was stopped, and by whom. It is kept in RAM, since a handler can't write to the console, and a full
  * console takes nothing; sdk/test and its relatives read it there. Who comes first keeps it. */
 struct stopped {
     volatile UINT taken;
-    const char *file;                   /* of an assertion; NULL where it is a stack or a format */
-    INT line;
-    const char *why;                    /* the condition, or what is wrong */
+    const char *why;                    /* what is wrong */
     const void *place;                  /* the function without room, or who called printf */
     ID task;                            /* 0: a handler */
     ID processor;
@@ -66,44 +64,44 @@ static void stop(const struct stopped *why)
     ID task = 0;
     ID processor = 0;
     if (compare_and_swap(&board_stopped.taken, 0, 1)) {
-        board_stopped.file = why->file;
-        board_stopped.line = why->line;
         board_stopped.why = why->why;
         board_stopped.place = why->place;
         board_stopped.stack = why->stack;
     }
     if (!is_task(&task, &processor))
         board_trap();
-    if (board_stopped.why == why->why && board_stopped.line == why->line) {
+    if (board_stopped.why == why->why) {
         board_stopped.task = task;
         board_stopped.processor = processor;
     }
-    if (why->file != NULL)
-        say("%s:%d: this doesn't hold: %s (task %d, processor %d)\n", why->file, why->line, why->why, task, processor);
-    else
-        say("%s %08x (task %d, processor %d)\n", why->why, (UINT)why->place, task, processor);
+    say("%s %08x (task %d, processor %d)\n", why->why, (UINT)why->place, task, processor);
     ext_ker();
     board_trap();
 }
 
-void board_stop(const char *file, INT line, const char *condition)
+/* An exception at once, so that neither a search nor another processor goes on with steps of a report. sdk/test and its
+ * relatives find the registers as they are here, and print what they say. */
+__attribute__((no_instrument_function)) void board_stop(const char *file, INT line, const char *condition)
 {
-    struct stopped why = { 1, file, line, condition, NULL, 0, 0, stack_of_caller() };
-    stop(&why);
+    register const char *a0 __asm__("$4") = file;
+    register INT a1 __asm__("$5") = line;
+    register const char *a2 __asm__("$6") = condition;
+    __asm__ volatile("break" : : "r"(a0), "r"(a1), "r"(a2) : "memory");
+    __builtin_unreachable();
 }
 
 /* Called by stack.S, on another stack. */
 void board_overflow(const void *function, const void *stack) __attribute__((noreturn));
 void board_overflow(const void *function, const void *stack)
 {
-    struct stopped why = { 1, NULL, 0, "the stack has no room for the function at", function, 0, 0, stack };
+    struct stopped why = { 1, "the stack has no room for the function at", function, 0, 0, stack };
     stop(&why);
 }
 
 void board_no_conversion(char letter, const void *caller)
 {
     static char text[] = "the kit's printf has no conversion % , called before";
-    struct stopped why = { 1, NULL, 0, text, caller, 0, 0, stack_of_caller() };
+    struct stopped why = { 1, text, caller, 0, 0, stack_of_caller() };
     for (INT i = 0; text[i] != '\0'; i++)
         if (text[i] == '%')
             text[i + 1] = letter;

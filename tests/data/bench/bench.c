@@ -28,7 +28,8 @@ struct work {
     char text[16];
 };
 
-struct work works[PROCESSORS];
+/* On pages without code: QEMU translates anew what lies on a page that is written. */
+struct work works[PROCESSORS] __attribute__((aligned(4096)));
 static volatile UINT ended;
 
 static UW drawn(struct work *it)
