@@ -12,7 +12,7 @@ SEED = 1
 # How many inputs `make fuzz` tries, from the seed SEED on.
 INPUTS = 5000
 
-.PHONY: unpack demo check board dist test attack compare qemu fuzz firmware gate-times bench clean
+.PHONY: unpack demo check board dist test attack compare qemu fuzz firmware gate-times bench bench-parts clean
 
 # Runs the examples on the program of dist/.
 demo: unpack
@@ -77,8 +77,15 @@ $(BOARD):
 gate-times:
 	tests/gate/gate_time --write
 
-# Speed, on this machine: millions of events a second, and of other units.
-bench:
+# Speed, on this machine, of the program of dist/: of `debug` and of races in millions of events a second, of `run` beside
+# QEMU, in millions of instructions.
+bench: unpack
+	tests/programs/debug_speed $(BOARD)
+	tests/programs/race_speed $(BOARD)
+	tests/programs/speed_qemu $(BOARD)
+
+# The same of parts of the program, which want Rattle's `rt` and half an hour of proofs on a fresh clone.
+bench-parts:
 	cd crates/bench_board && rt run >/dev/null
 	crates/bench_board/out/bench_board 100000000
 	cd crates/bench_repeat && rt run >/dev/null
@@ -91,10 +98,6 @@ bench:
 	crates/bench_asm/out/bench_asm time
 	cd crates/bench_elf && rt run >/dev/null
 	crates/bench_elf/out/bench_elf time
-	$(MAKE) board
-	tests/programs/debug_speed $(BOARD)
-	tests/programs/race_speed $(BOARD)
-	tests/programs/speed_qemu $(BOARD)
 
 clean:
 	rm -rf build crates/*/out

@@ -142,6 +142,10 @@ if [ "$(mips-linux-gnu-gcc -dumpversion)" = 12 ]; then
 else
     skip "kit: the benchmark that is kept" "GCC 12 for MIPS"
 fi
+# (tests/programs/speed_qemu says why.)
+verdict "kit: the benchmark's data on pages without code" "$(mips-linux-gnu-nm tests/data/bench/bench.elf | awk '
+    { at[$3] = $1; if (tolower($2) ~ /[tw]/ && $1 > last) last = $1 }
+    END { if (at["works"] !~ /000$/ || last >= at["works"]) print "code up to " last ", data from " at["works"] }')"
 tests/data/bench/program.py 1 3 > "$work/one.cfg"
 printf 'board-journal 1\nS 1 200000\n' > "$work/one.journal"
 "$board" run tests/data/bench/bench.elf "$work/one.cfg" "$work/one.journal" 2>&1 | grep '^3 rounds' > "$work/wanted"
