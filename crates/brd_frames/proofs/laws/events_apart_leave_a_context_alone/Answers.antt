@@ -1,0 +1,8 @@
+use Rattle.brd_frames.proofs.FrameLemmas.{frame, frames}
+use Rattle.brd_frames.proofs.laws.events_apart_leave_a_context_alone.Goals as goal
+
+pub returns-clause-event : goal.returns-clause-event
+returns-clause-event c = frame
+
+pub returns-clause-events : goal.returns-clause-events
+returns-clause-events c = frames

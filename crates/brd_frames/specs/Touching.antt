@@ -1,0 +1,129 @@
+-- Which bytes of RAM an event touches: it fetches, loads or stores them. And which changes of RAM are clear of them.
+use Rattle.std.specs.Prelude.{◌≡◌, ℕ, ◌+◌, ◌-◌, ◌≤◌, nat_le, nat_lt, Bool, true, false, ◌&&◌, ◌||◌, if◌then◌else◌}
+use Rattle.std.specs.Prelude.{List, [], ◌∷◌, length, slice_index, slice_set, Option, None, Some, is_some, Result, Ok, Err}
+use Rattle.brd_base.specs.Space.{base}
+use Rattle.brd_isa.specs.declared.instruction.{Insn.Insn, LoadOp.LoadOp, StoreOp.StoreOp}
+use Rattle.brd_mem.specs.Memory.{Memory}
+use Rattle.brd_exec.specs.declared.outcome.ExceptionCode.{ExceptionCode}
+use Rattle.brd_exec.specs.State.{State}
+use Rattle.brd_exec.specs.Unaligned.{aligned}
+use Rattle.brd_exec.specs.Action.{Action, action}
+use Rattle.brd_exec.specs.Step.{next_instruction}
+use Rattle.brd_kernel.specs.Kernel.{deliverable, context_on}
+use Rattle.brd_board.specs.declared.event.Event.{Event}
+use Rattle.brd_board.specs.declared.event.Event.TheVariants.{Step, Tick, Raise}
+use Rattle.brd_board.specs.Board.{BoardState, Happened, happens, after}
+
+-- Instructions.
+
+-- an address is one of this many, from the first one on
+abbrev pub is_among : ℕ → ℕ → ℕ → Bool
+is_among first count address = nat_le first address && nat_lt address (first + count)
+
+-- the addresses from which a load loads; of a part of an unaligned word it is the aligned word
+abbrev pub loads_at : LoadOp → ℕ → ℕ → Bool
+loads_at LoadOp.Lb address = is_among address 1
+loads_at LoadOp.Lh address = is_among address 2
+loads_at LoadOp.Lwl address = is_among (aligned address) 4
+loads_at LoadOp.Lw address = is_among address 4
+loads_at LoadOp.Lbu address = is_among address 1
+loads_at LoadOp.Lhu address = is_among address 2
+loads_at LoadOp.Lwr address = is_among (aligned address) 4
+
+-- the addresses to which a store stores; with a part of an unaligned word it is the aligned word
+abbrev pub stores_at : StoreOp → ℕ → ℕ → Bool
+stores_at StoreOp.Sb address = is_among address 1
+stores_at StoreOp.Sh address = is_among address 2
+stores_at StoreOp.Swl address = is_among (aligned address) 4
+stores_at StoreOp.Sw address = is_among address 4
+stores_at StoreOp.Swr address = is_among (aligned address) 4
+
+-- the addresses from which an instruction loads, or to which it stores
+abbrev pub accesses : Action → ℕ → Bool
+accesses (Action.Local after) address = false
+accesses (Action.MayStop outcome) address = false
+accesses (Action.Loads op rt at) address = loads_at op at address
+accesses (Action.Stores op rt at) address = stores_at op at address
+accesses (Action.LoadsLinked rt at) address = is_among at 4 address
+accesses (Action.StoresIfLinked rt at) address = is_among at 4 address
+
+abbrev pub accesses_next : State → ℕ → Result Insn ExceptionCode → Bool
+accesses_next s address (Ok insn) = accesses (action insn s) address
+accesses_next s address (Err code) = false
+
+-- whether the next instruction of a context touches an address: its word is fetched there, or it accesses it
+unfoldable pub touches : State → Memory → ℕ → Bool
+touches s memory address = is_among s.pc 4 address || accesses_next s address (next_instruction s memory)
+
+-- Events.
+
+-- the context in which an event executes an instruction, if it does
+unfoldable pub executing : BoardState → Event → Option State
+executing b (Step cpu) =
+    if b.kernel.off || is_some (deliverable b.kernel cpu) then None else context_on b.kernel cpu
+executing b Tick = None
+executing b (Raise line) = None
+
+abbrev pub touched_in : Option State → Memory → ℕ → Bool
+touched_in None memory address = false
+touched_in (Some s) memory address = touches s memory address
+
+-- whether an event touches an address
+abbrev pub is_touched : BoardState → Event → ℕ → Bool
+is_touched b event address = touched_in (executing b event) b.memory address
+
+-- Changes of RAM's bytes.
+
+abbrev pub Change : Type 0
+Change = List ℕ → List ℕ
+
+-- the memory, and the board, after a change
+abbrev pub changed : Memory → Change → Memory
+changed memory change = record memory { bytes = change memory.bytes }
+
+abbrev pub with_change : BoardState → Change → BoardState
+with_change b change = record b { memory = changed b.memory change }
+
+abbrev pub happened_changed : Happened → Change → Happened
+happened_changed done change = record done { board = with_change done.board change }
+
+-- A change leaves a place of RAM alone: its byte stays, whatever it is; and whatever is put there, the change does the
+-- same elsewhere.
+pub record LeavesAlone (change : Change) (at : ℕ) : Type 0 where
+  pub keeps : (bytes : List ℕ) → slice_index (change bytes) at ≡ slice_index bytes at
+  pub ignores : (bytes : List ℕ) (byte : ℕ) → change (slice_set bytes at byte) ≡ slice_set (change bytes) at byte
+
+-- A change is clear of these addresses: there are as many bytes after it, and it leaves alone each of RAM's places that
+-- has one of the addresses.
+pub record IsClearOf (change : Change) (touched : ℕ → Bool) : Type 0 where
+  pub size : (bytes : List ℕ) → length (change bytes) ≡ length bytes
+  pub alone : (address : ℕ) → base ≤ address → touched address ≡ true → LeavesAlone change (address - base)
+
+-- a change is clear of each of these events, where it happens
+abbrev pub AreClear : BoardState → List Event → Change → Type 0
+AreClear b [] change = Unit {0}
+AreClear b (event ∷ events) change =
+    IsClearOf change (is_touched b event) × AreClear (happens b event).board events change
+
+-- An event does the same after a change that is clear of what it touches; and the change may as well come after it.
+abbrev pub FootprintLaw : Type 0
+FootprintLaw =
+    (b : BoardState) (event : Event) (change : Change) → IsClearOf change (is_touched b event) →
+    happens (with_change b change) event ≡ happened_changed (happens b event) change
+
+abbrev pub FootprintsLaw : Type 0
+FootprintsLaw =
+    (b : BoardState) (events : List Event) (change : Change) → AreClear b events change →
+    after (with_change b change) events ≡ with_change (after b events) change
+
+-- bytes that are put from a place on
+abbrev pub put_at : ℕ → List ℕ → Change
+put_at at [] bytes = bytes
+put_at at (byte ∷ more) bytes = slice_set (put_at (at + 1) more bytes) at byte
+
+-- Bytes that are put elsewhere are a change that is clear of addresses.
+abbrev pub ClearLaw : Type 0
+ClearLaw =
+    (first : ℕ) (bytes : List ℕ) (touched : ℕ → Bool) → base ≤ first →
+    ((address : ℕ) → is_among first (length bytes) address ≡ true → touched address ≡ false) →
+    IsClearOf (put_at (first - base) bytes) touched
