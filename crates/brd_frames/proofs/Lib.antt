@@ -4,3 +4,8 @@ pub mod ServiceLemmas
 pub mod CallLemmas
 pub mod StepLemmas
 pub mod FrameLemmas
+pub mod DeedLemmas
+pub mod FootprintLemmas
+pub mod RoomLemmas
+pub mod GoingLemmas
+pub mod StoreLemmas

@@ -1,3 +1,5 @@
 pub mod Steady
 pub mod Agents
 pub mod Apart
+pub mod Touching
+pub mod Going

@@ -3,7 +3,7 @@ use Rattle.std.specs.Prelude.{◌≡◌, ℕ, ◌+◌, ◌-◌, ◌≤◌, nat_l
 use Rattle.std.specs.Prelude.{List, [], ◌∷◌, length, slice_index, slice_set, Option, None, Some, is_some, Result, Ok, Err}
 use Rattle.brd_base.specs.Space.{base}
 use Rattle.brd_isa.specs.declared.instruction.{Insn.Insn, LoadOp.LoadOp, StoreOp.StoreOp}
-use Rattle.brd_mem.specs.Memory.{Memory}
+use Rattle.brd_mem.specs.Memory.{Memory, size_of, byte_at}
 use Rattle.brd_exec.specs.declared.outcome.ExceptionCode.{ExceptionCode}
 use Rattle.brd_exec.specs.State.{State}
 use Rattle.brd_exec.specs.Unaligned.{aligned}
@@ -55,6 +55,30 @@ accesses_next s address (Err code) = false
 unfoldable pub touches : State → Memory → ℕ → Bool
 touches s memory address = is_among s.pc 4 address || accesses_next s address (next_instruction s memory)
 
+-- the addresses to which an instruction stores
+abbrev pub stores_by : Action → ℕ → Bool
+stores_by (Action.Local after) address = false
+stores_by (Action.MayStop outcome) address = false
+stores_by (Action.Loads op rt at) address = false
+stores_by (Action.Stores op rt at) address = stores_at op at address
+stores_by (Action.LoadsLinked rt at) address = false
+stores_by (Action.StoresIfLinked rt at) address = is_among at 4 address
+
+abbrev pub stores_next : State → ℕ → Result Insn ExceptionCode → Bool
+stores_next s address (Ok insn) = stores_by (action insn s) address
+stores_next s address (Err code) = false
+
+-- whether the next instruction of a context stores to an address (an SC, if its processor is linked)
+unfoldable pub stores : State → Memory → ℕ → Bool
+stores s memory address = stores_next s address (next_instruction s memory)
+
+-- Two memories agree on some addresses: they have one size and one byte order, and there the same bytes.
+pub record Agree (touched : ℕ → Bool) (one two : Memory) : Type 0 where
+  pub order : two.order ≡ one.order
+  pub size : size_of two ≡ size_of one
+  pub bytes : (address : ℕ) → base ≤ address → touched address ≡ true →
+      slice_index two.bytes (address - base) ≡ slice_index one.bytes (address - base)
+
 -- Events.
 
 -- the context in which an event executes an instruction, if it does
@@ -68,9 +92,23 @@ abbrev pub touched_in : Option State → Memory → ℕ → Bool
 touched_in None memory address = false
 touched_in (Some s) memory address = touches s memory address
 
+abbrev pub stored_in : Option State → Memory → ℕ → Bool
+stored_in None memory address = false
+stored_in (Some s) memory address = stores s memory address
+
 -- whether an event touches an address
 abbrev pub is_touched : BoardState → Event → ℕ → Bool
 is_touched b event address = touched_in (executing b event) b.memory address
+
+-- whether it stores to one
+abbrev pub is_stored : BoardState → Event → ℕ → Bool
+is_stored b event address = stored_in (executing b event) b.memory address
+
+-- An event leaves the bytes to which it doesn't store.
+abbrev pub StoreLaw : Type 0
+StoreLaw =
+    (b : BoardState) (event : Event) (address : ℕ) → is_stored b event address ≡ false →
+    byte_at (happens b event).board.memory address ≡ byte_at b.memory address
 
 -- Changes of RAM's bytes.
 
