@@ -1,11 +1,11 @@
 -- What a SYSCALL leaves where contexts in the kernel are other ones.
 use Rattle.std.proofs.Common.{◌≡◌, ℕ, Bool, true, false, List, refl, sym, ap, subst, ◌∙◌}
-use Rattle.std.specs.Prelude.{if◌then◌else◌, ◌==◌, not, ◌&&◌, [], ◌∷◌, find, slice_index, slice_index_or, slice_set, Option, None, Some, is_some, is_ok, unwrap_or, Result, Ok, Err}
+use Rattle.std.specs.Prelude.{if◌then◌else◌, ◌==◌, ◌&&◌, [], ◌∷◌, find, slice_set, Option, None, Some, is_some, is_ok, unwrap_or, Result, Ok, Err}
 use Rattle.std.specs.Option.{option_map}
 use Rattle.std.proofs.lemmas.Bool.{false≢true}
 use Rattle.std.proofs.lemmas.List.{set-get_or}
 use Rattle.brd_exec.specs.State.{State, read, advanced}
-use Rattle.brd_tasks.specs.Tasks.{TaskTable, no_context, context_at}
+use Rattle.brd_tasks.specs.Tasks.{no_context}
 use Rattle.brd_kernel.specs.declared.processor.Processor.{Processor}
 use Rattle.brd_kernel.specs.declared.processor.Executor.{Executor}
 use Rattle.brd_kernel.specs.declared.processor.Executor.TheVariants as executor
@@ -16,16 +16,15 @@ use Rattle.brd_kernel.specs.declared.call.Ercd.TheVariants.{Id, Par, Iluse, Obj,
 use Rattle.brd_kernel.specs.declared.call.Reply.{Reply}
 use Rattle.brd_kernel.specs.declared.call.Reply.TheVariants.{Answer, Silent, Again}
 use Rattle.brd_kernel.specs.Answer.{code_of}
-use Rattle.brd_kernel.specs.Kernel.{KernelState, processor_at, running_in, running_on, executor_by, executor_in, executor_on, context_of, with_context_of, context_on, handler_context_at}
+use Rattle.brd_kernel.specs.Kernel.{KernelState, processor_at, running_in, executor_by, executor_in, executor_on, context_of, with_context_of, context_on}
 use Rattle.brd_kernel.specs.Row.{Row, Served, refused, served_object, served, or_refused}
-use Rattle.brd_kernel.specs.Services.{is_held_elsewhere, ter_tsk, caller_on, serve_by, serve_of, comes_again}
+use Rattle.brd_kernel.specs.Services.{is_held_elsewhere, ter_tsk, caller_on, serve_by, comes_again}
 use Rattle.brd_sysgate.specs.declared.gate.Caller.{Caller}
 use Rattle.brd_sysgate.specs.declared.gate.Caller.TheVariants as caller
 use Rattle.brd_sysgate.specs.declared.place.Place.{Place}
 use Rattle.brd_sysgate.specs.declared.place.Place.TheVariants as place
-use Rattle.brd_sysgate.specs.declared.place.Asked.{Asked}
-use Rattle.brd_sysgate.specs.Gate.{Service, table, a0, may_call, row_of, asked, arguments_of, allowed, read_of, written, caller_by, caller_in, caller_of, served_call, changed_in, with_changed_context, replied, is_again, called_for, called_in, called}
-use Rattle.brd_frames.proofs.TableLemmas.{Contexts, t-with, At, Unsteady, Restarted}
+use Rattle.brd_sysgate.specs.Gate.{Service, table, may_call, arguments_of, allowed, read_of, written, caller_by, caller_in, caller_of, served_call, changed_in, with_changed_context, replied, is_again, called_for, called_in, called}
+use Rattle.brd_frames.proofs.TableLemmas.{Contexts, At, Unsteady, Restarted}
 use Rattle.brd_frames.proofs.KernelLemmas.{k-with}
 use Rattle.brd_frames.proofs.ServiceLemmas.{AtExecutor, r-with, StaysBy, Stays, Alike, Frees, serve-alike}
 
@@ -230,6 +229,18 @@ returns-at f g k cpu (executor.Task id) s c on at asks is =
     (subst (λ x. may_call x it.from (read s 4) ≡ true) by.calls it.may)
     (subst (λ x. fits it.from x ≡ true) is it.fit))
 
+-- who calls ext_tsk is the task that executes
+pub exits-task : (k : KernelState) (cpu : ℕ) (who : Executor) (next s : State) (c : Call) (id : ℕ) → executor_on k cpu ≡ Some who →
+    read_of s (caller_of k cpu) ≡ Ok c → c ≡ call.ExtTsk → caller_on (with_context_of k cpu who next) cpu ≡ id →
+    executor_on k cpu ≡ Some (executor.Task id)
+exits-task k cpu executor.Handler next s c id on asks is same =
+    let it = let-read s (caller_of k cpu) c asks in
+    absurd (handler-exits it.from (read s 4)
+    (subst (λ x. may_call x it.from (read s 4) ≡ true) (handler-calls (processor_at k cpu) (caller_on k cpu) on) it.may)
+    (subst (λ x. fits it.from x ≡ true) is it.fit))
+exits-task k cpu (executor.Task at) next s c id on asks is same =
+    on ∙ ap (λ x. Some (executor.Task x)) (sym (ap (λ x. unwrap_or x 0) (task-calls (processor_at k cpu) 0 at on).runs) ∙ same)
+
 -- Whether a call is refused doesn't depend on contexts.
 
 ok-refused : (test : Bool) (code : Ercd) (one two : Result Served Ercd) → is_ok one ≡ is_ok two →
@@ -251,6 +262,12 @@ terminates-with : (f g : Contexts) (k : KernelState) (cpu by id : ℕ) →
     is_ok (served (ter_tsk k cpu by id)) ≡ is_ok (served (ter_tsk (k-with f g k) cpu by id))
 unfolding is_held_elsewhere
 terminates-with f g k cpu by id = ok-row (ter_tsk k cpu by id) _ (λ task. refl)
+
+pub terminates-put : (k : KernelState) (cpu : ℕ) (who : Executor) (s : State) (id : ℕ) →
+    is_ok (served (ter_tsk k cpu (caller_on k cpu) id))
+    ≡ is_ok (served (ter_tsk (with_context_of k cpu who s) cpu (caller_on (with_context_of k cpu who s) cpu) id))
+terminates-put k cpu executor.Handler s id = terminates-with (λ xs. xs) (λ xs. slice_set xs cpu s) k cpu (caller_on k cpu) id
+terminates-put k cpu (executor.Task at) s id = terminates-with (λ xs. slice_set xs at s) (λ xs. xs) k cpu (caller_on k cpu) id
 
 -- What has to be left alone over a call of a processor: tasks that aren't steady, who executes, and whom its ter_tsk
 -- starts anew.

@@ -1,7 +1,7 @@
 -- What an instruction does, told without the memory that it leaves: which bytes it puts where. It depends on the bytes
 -- alone that the instruction touches.
-use Rattle.std.proofs.Common.{◌≡◌, ℕ, ◌+◌, ◌-◌, ◌*◌, ◌/◌, ◌%◌, ◌^◌, ◌<◌, ◌≤◌, Bool, true, false, List, [], ◌∷◌, ◌++◌, length, take, drop, get_or, refl, sym, ap, subst, ◌∙◌, arith, length-take, length-drop}
-use Rattle.std.specs.Prelude.{◌==◌, nat_le, nat_lt, ◌&&◌, ◌||◌, if◌then◌else◌, slice_index, slice_set, Option, None, Some, Result, Ok, Err, is_ok}
+use Rattle.std.proofs.Common.{◌≡◌, ℕ, ◌+◌, ◌-◌, ◌%◌, ◌^◌, ◌<◌, ◌≤◌, Bool, true, false, List, [], ◌∷◌, length, drop, get_or, refl, sym, ap, subst, ◌∙◌, arith, length-drop}
+use Rattle.std.specs.Prelude.{◌==◌, nat_le, nat_lt, ◌||◌, if◌then◌else◌, slice_index, Result, Ok, Err}
 use Rattle.std.proofs.lemmas.Bool.{false≢true, and_from, le-leb, lt-ltb}
 use Rattle.std.proofs.lemmas.Bool.Decides.{nat_tests}
 use Rattle.std.proofs.lemmas.List.{get_or-take, get_or-drop, ext_get_or, length-take-le}
@@ -11,15 +11,15 @@ use Rattle.brd_word.specs.Words.{bytes_of_half, half_of_bytes, bytes_of_word, wo
 use Rattle.brd_word.proofs.BytesLemmas.{four_of-word, two_of-half}
 use Rattle.brd_isa.specs.declared.instruction.{Insn.Insn, LoadOp.LoadOp, StoreOp.StoreOp}
 use Rattle.brd_mem.specs.declared.fault.Exc.{Exc}
-use Rattle.brd_mem.specs.Memory.{Memory, size_of, contains, bytes_at, with_bytes, byte_from, half_at, word_at, put_byte, put_half, put_word}
-use Rattle.brd_mem.specs.Access.{place_of, at_place, fetched, loaded8, loaded16, loaded32, stored32}
+use Rattle.brd_mem.specs.Memory.{Memory, size_of, contains, bytes_at, with_bytes, word_at}
+use Rattle.brd_mem.specs.Access.{place_of, at_place, fetched, loaded8, loaded16, loaded32}
 use Rattle.brd_link.specs.LinkSet.{LinkSet, is_linked, without, with_link, after_store}
-use Rattle.brd_exec.specs.declared.outcome.{ExceptionCode.ExceptionCode, Outcome.Outcome, Stop.Stop}
+use Rattle.brd_exec.specs.declared.outcome.{ExceptionCode.ExceptionCode, Stop.Stop}
 use Rattle.brd_exec.specs.State.{State, read, advanced, with_register}
 use Rattle.brd_exec.specs.Exception.{code_of}
-use Rattle.brd_exec.specs.Unaligned.{aligned, aligned_place, bytes_above, left_loaded, right_loaded, left_stored, right_stored, if_inside, part_loaded, part_stored}
+use Rattle.brd_exec.specs.Unaligned.{aligned, aligned_place, bytes_above, left_loaded, right_loaded, left_stored, right_stored, if_inside}
 use Rattle.brd_exec.specs.Action.{Action, with_word, action}
-use Rattle.brd_exec.specs.Step.{Effect, raises, unless_stopped, with_code, extended, load_gives, store_gives, stores, loads_linked, stores_if_linked, done, meaning, of_fetch, next_instruction, of_next, effect, Ran, ended, ran}
+use Rattle.brd_exec.specs.Step.{Effect, unless_stopped, with_code, extended, load_gives, store_gives, stores, loads_linked, stores_if_linked, done, of_fetch, next_instruction, of_next}
 use Rattle.brd_frames.specs.Touching.{is_among, loads_at, stores_at, accesses, accesses_next, touches, Agree}
 
 pub agree-less : (more less : ℕ → Bool) (one two : Memory) → ((address : ℕ) → less address ≡ true → more address ≡ true) →

@@ -1,6 +1,6 @@
 -- An event does the same after a change of RAM that is clear of what it touches.
-use Rattle.std.proofs.Common.{◌≡◌, ℕ, ◌+◌, ◌-◌, ◌<◌, ◌≤◌, Bool, true, false, List, [], ◌∷◌, ◌++◌, length, take, drop, get_or, refl, sym, ap, subst, ◌∙◌, arith, length-append, append_assoc}
-use Rattle.std.specs.Prelude.{zero, suc, ◌==◌, nat_lt, ◌&&◌, ◌||◌, if◌then◌else◌, slice_index, slice_set, Option, None, Some, is_some, Result, Ok, Err}
+use Rattle.std.proofs.Common.{◌≡◌, ℕ, ◌+◌, ◌-◌, ◌<◌, ◌≤◌, Bool, true, false, List, [], ◌∷◌, ◌++◌, length, take, drop, refl, sym, ap, subst, ◌∙◌, arith, append_assoc}
+use Rattle.std.specs.Prelude.{suc, nat_lt, ◌||◌, if◌then◌else◌, slice_index, slice_set, Option, None, Some, is_some, Result, Ok, Err}
 use Rattle.std.specs.Option.{option_map}
 use Rattle.std.proofs.lemmas.Bool.{false≢true}
 use Rattle.std.proofs.lemmas.List.{append-nil, take-append-drop, set-append_left, set_split, take-take, drop_all, length-take-le, get_or-set_other, set_comm, length-set}
@@ -9,24 +9,23 @@ use Rattle.brd_isa.specs.declared.instruction.{Insn.Insn, StoreOp.StoreOp}
 use Rattle.brd_mem.specs.declared.fault.Exc.{Exc}
 use Rattle.brd_mem.specs.Memory.{Memory, size_of, with_bytes}
 use Rattle.brd_mem.specs.Access.{loaded32}
-use Rattle.brd_link.specs.LinkSet.{LinkSet, is_linked, without}
+use Rattle.brd_link.specs.LinkSet.{LinkSet, is_linked}
 use Rattle.brd_exec.specs.declared.outcome.{ExceptionCode.ExceptionCode, Outcome.Outcome, Stop.Stop}
 use Rattle.brd_exec.specs.declared.outcome.Outcome.TheVariants.{Done, Syscall, Exception}
 use Rattle.brd_exec.specs.State.{State, read}
 use Rattle.brd_exec.specs.Action.{Action, with_word, action}
 use Rattle.brd_exec.specs.Step.{Effect, with_code, load_gives, next_instruction, of_next, effect, Ran, ended, ran}
-use Rattle.brd_time.specs.Time.{last_count, advanced}
+use Rattle.brd_time.specs.Time.{last_count}
 use Rattle.brd_kernel.specs.declared.processor.Processor.{Processor}
 use Rattle.brd_kernel.specs.declared.processor.Executor.{Executor}
-use Rattle.brd_kernel.specs.Kernel.{KernelState, processor_at, executor_on, context_of, context_on, deliverable, line_at, with_pending}
-use Rattle.brd_kernel.specs.Waits.{ticked_on}
-use Rattle.brd_board.specs.Executing.{Executed, executed_by, executed_in}
+use Rattle.brd_kernel.specs.Kernel.{processor_at, executor_on, context_of, context_on, deliverable, line_at}
+use Rattle.brd_board.specs.Executing.{executed_by, executed_in}
 use Rattle.brd_board.specs.declared.event.Event.{Event}
 use Rattle.brd_board.specs.declared.event.Event.TheVariants.{Step, Tick, Raise}
 use Rattle.brd_board.specs.declared.event.Report.TheVariants as report
-use Rattle.brd_board.specs.Board.{BoardState, Happened, reported, then_dispatched, with_executed, instruction_done, executes_in, accepts_or_executes, stepped_in, stepped, happens_on, happens, after}
-use Rattle.brd_frames.specs.Touching.{is_among, stores_at, accesses, accesses_next, touches, stores_by, stores_next, stores, Agree, executing, touched_in, is_touched, Change, changed, with_change, happened_changed, LeavesAlone, IsClearOf, AreClear, put_at}
-use Rattle.brd_frames.proofs.DeedLemmas.{Lies, puts, puts-lie, first_stored, Deed, Goes, Stops, applied, deed_next, deed-next-is, deed-next-same, next-same, accesses-same, quiet, storing, linking, storing_if, deed, or-left, or-right, among}
+use Rattle.brd_board.specs.Board.{BoardState, Happened, reported, with_executed, instruction_done, executes_in, accepts_or_executes, stepped_in, happens_on, happens, after}
+use Rattle.brd_frames.specs.Touching.{is_among, stores_at, accesses, accesses_next, touches, stores_by, stores_next, Agree, executing, touched_in, is_touched, Change, changed, with_change, happened_changed, LeavesAlone, IsClearOf, AreClear, put_at}
+use Rattle.brd_frames.proofs.DeedLemmas.{Lies, puts, puts-lie, first_stored, Deed, Goes, Stops, applied, deed_next, deed-next-is, deed-next-same, next-same, accesses-same, quiet, storing, linking, storing_if, deed, or-right, among}
 
 -- Bytes that are put.
 

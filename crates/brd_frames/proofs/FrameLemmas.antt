@@ -1,14 +1,14 @@
 -- An event does the same where the contexts of agents that it is apart from are other ones.
-use Rattle.std.proofs.Common.{◌≡◌, ◌≢◌, ℕ, Bool, true, false, List, [], ◌∷◌, refl, sym, ap, subst, ◌∙◌}
-use Rattle.std.specs.Prelude.{if◌then◌else◌, not, ◌==◌, nat_lt, slice_index_or, slice_set, Option, None, Some, is_some, is_ok, Result, Ok, Err}
+use Rattle.std.proofs.Common.{◌≡◌, ℕ, Bool, true, false, List, [], ◌∷◌, refl, sym, ap, subst, ◌∙◌}
+use Rattle.std.specs.Prelude.{if◌then◌else◌, not, nat_lt, slice_set, Option, None, Some, is_some, is_ok, Ok}
 use Rattle.std.specs.Option.{option_map}
-use Rattle.std.proofs.lemmas.Bool.{false≢true, true≢false, cases_eq}
+use Rattle.std.proofs.lemmas.Bool.{true≢false}
 use Rattle.std.proofs.lemmas.List.{get_or-set_other, set_comm}
 use Rattle.brd_exec.specs.State.{State}
 use Rattle.brd_exec.specs.Step.{Ran, ran}
 use Rattle.brd_exec.specs.declared.outcome.Outcome.{Outcome}
 use Rattle.brd_exec.specs.declared.outcome.Outcome.TheVariants.{Done, Syscall, Exception}
-use Rattle.brd_link.specs.LinkSet.{LinkSet, without, without_all}
+use Rattle.brd_link.specs.LinkSet.{without, without_all}
 use Rattle.brd_tasks.specs.declared.task.Task.{Task}
 use Rattle.brd_tasks.specs.declared.task.Request.{Request}
 use Rattle.brd_tasks.specs.Tasks.{task_at, no_context}
@@ -18,25 +18,25 @@ use Rattle.brd_kernel.specs.declared.processor.Executor.{Executor}
 use Rattle.brd_kernel.specs.declared.processor.Executor.TheVariants as executor
 use Rattle.brd_kernel.specs.declared.call.Call.TheVariants as call
 use Rattle.brd_kernel.specs.Kernel.{KernelState, processor_at, executor_on, context_of, with_context_of, context_on, deliverable, handles, accepted_line, entry_of, line_at, with_pending, accepts}
-use Rattle.brd_kernel.specs.Waits.{ended_by_fault, ticked_on}
-use Rattle.brd_kernel.specs.Dispatch.{dispatched, changed_processors}
+use Rattle.brd_kernel.specs.Waits.{ticked_on}
+use Rattle.brd_kernel.specs.Dispatch.{changed_processors}
 use Rattle.brd_kernel.specs.Row.{served}
 use Rattle.brd_kernel.specs.Services.{ter_tsk, caller_on}
-use Rattle.brd_sysgate.specs.Gate.{caller_of, read_of, called}
-use Rattle.brd_board.specs.Executing.{Executed, executed_by, executed_in, executed}
+use Rattle.brd_sysgate.specs.Gate.{caller_of, read_of}
+use Rattle.brd_board.specs.Executing.{executed_by, executed_in}
 use Rattle.brd_board.specs.declared.event.Event.{Event}
 use Rattle.brd_board.specs.declared.event.Event.TheVariants.{Step, Tick, Raise}
 use Rattle.brd_board.specs.declared.event.Report.{Report}
 use Rattle.brd_board.specs.declared.event.Report.TheVariants as report
-use Rattle.brd_board.specs.Board.{BoardState, Happened, reported, dispatched_board, then_dispatched, with_executed, with_call, with_fault, instruction_done, executes_in, accepts_or_executes, stepped_in, stepped, tick_passed, line_raised, happens_on, happens, after, registers_of}
+use Rattle.brd_board.specs.Board.{BoardState, Happened, reported, then_dispatched, with_executed, with_call, with_fault, instruction_done, executes_in, accepts_or_executes, stepped_in, happens_on, happens, after}
 use Rattle.brd_frames.specs.Steady.{is_steady_task}
 use Rattle.brd_frames.specs.Agents as agents
 use Rattle.brd_frames.specs.Agents.{Agent, agent_by, agent_on, with_context_in, with_agent, happened_with}
-use Rattle.brd_frames.specs.Apart.{is_steady, Calls, Terminates, Restarts, Executes, IsApart, AreApart}
-use Rattle.brd_frames.proofs.TableLemmas.{Contexts, t-with, At, Unsteady, Restarted}
+use Rattle.brd_frames.specs.Apart.{is_steady, Restarts, Executes, IsApart, AreApart}
+use Rattle.brd_frames.proofs.TableLemmas.{Contexts, At, Unsteady, Restarted}
 use Rattle.brd_frames.proofs.KernelLemmas.{k-with, ticked-with, fault-with, dispatched-with}
 use Rattle.brd_frames.proofs.ServiceLemmas.{AtExecutor}
-use Rattle.brd_frames.proofs.CallLemmas.{CallFrees, context-with, put-with, put-same, put-executor, put-unsteady, called-with}
+use Rattle.brd_frames.proofs.CallLemmas.{CallFrees, context-with, put-with, put-same, called-with}
 use Rattle.brd_frames.proofs.StepLemmas.{left_by, step-calls, syscall-keeps, deliverable-accepts}
 
 -- the board, and what has happened, with other contexts

@@ -1,24 +1,22 @@
 -- What an agent's instruction does on a processor, and over memories that agree on what it touches.
-use Rattle.std.proofs.Common.{◌≡◌, ℕ, ◌+◌, ◌-◌, ◌<◌, ◌≤◌, Bool, true, false, List, [], ◌∷◌, length, refl, sym, ap, subst, ◌∙◌, arith}
-use Rattle.std.specs.Prelude.{if◌then◌else◌, Option, None, Some, IfSome, Result, Ok, Err, unwrap_or}
+use Rattle.std.proofs.Common.{◌≡◌, ℕ, ◌-◌, Bool, true, false, List, [], refl, sym, ap, subst, ◌∙◌}
+use Rattle.std.specs.Prelude.{Option, None, Some, IsSome, Result, Ok, Err}
 use Rattle.std.proofs.lemmas.Bool.{false≢true}
 use Rattle.brd_base.specs.Space.{base}
 use Rattle.brd_isa.specs.declared.instruction.{Insn.Insn, StoreOp.StoreOp}
 use Rattle.brd_mem.specs.declared.fault.Exc.{Exc}
 use Rattle.brd_mem.specs.Memory.{Memory, with_bytes}
-use Rattle.brd_link.specs.LinkSet.{LinkSet, after_store}
+use Rattle.brd_link.specs.LinkSet.{LinkSet}
 use Rattle.brd_exec.specs.declared.outcome.{ExceptionCode.ExceptionCode, Outcome.Outcome, Stop.Stop}
 use Rattle.brd_exec.specs.declared.outcome.Outcome.TheVariants.{Done, Syscall, Exception}
 use Rattle.brd_exec.specs.State.{State, read, advanced}
-use Rattle.brd_exec.specs.Exception.{code_of}
 use Rattle.brd_exec.specs.Action.{Action, with_word, action}
 use Rattle.brd_exec.specs.Step.{Effect, unless_stopped, with_code, load_gives, store_gives, stores as storing_to, done, of_next, next_instruction, effect, Ran, ended, ran}
 use Rattle.brd_kernel.specs.declared.processor.Executor.{Executor}
 use Rattle.brd_kernel.specs.declared.processor.Executor.TheVariants as executor
-use Rattle.brd_kernel.specs.Kernel.{KernelState, executor_on, context_of, with_context_of, deliverable}
+use Rattle.brd_kernel.specs.Kernel.{KernelState, context_of, with_context_of}
 use Rattle.brd_board.specs.Executing.{executed_by}
 use Rattle.brd_board.specs.declared.event.Event.TheVariants.{Step}
-use Rattle.brd_board.specs.declared.event.Report.{Report}
 use Rattle.brd_board.specs.declared.event.Report.TheVariants as report
 use Rattle.brd_board.specs.Board.{BoardState, Happened, reported, with_executed, instruction_done, happens}
 use Rattle.brd_board.specs.Batch.{GoesOn}
@@ -246,3 +244,12 @@ goes-puts s memory gone is =
       again = λ other agree.
           ap (goes_next s other) (next-same s memory other agree) ∙ it.again other (accesses-same s memory other agree);
     }
+
+-- as it is said
+is-there : (it : Option Gone) → Went it → IsSome it
+is-there it went = subst IsSome (sym went.1) refl
+
+pub goes-there : (b : BoardState) (cpu address : ℕ) (who : Agent) → IsNext b cpu who → (happens b (Step cpu)).report ≡ report.Ran address →
+    is_plain_next (context_in b.kernel who) (next_instruction (context_in b.kernel who) b.memory) ≡ true →
+    IsSome (goes (context_in b.kernel who) b.memory)
+goes-there b cpu address who next told plain = is-there (goes (context_in b.kernel who) b.memory) (goes-plain b cpu address who next told plain)

@@ -1,7 +1,6 @@
 -- What ends waits and tasks, what time and dispatch make of a kernel, where contexts in it are other ones.
 use Rattle.std.proofs.Common.{◌≡◌, ℕ, ◌+◌, Bool, true, false, List, refl, sym, ap, subst, ◌∙◌}
 use Rattle.std.specs.Prelude.{zero, suc, if◌then◌else◌, [], ◌∷◌, slice_index_or, slice_set, Option, None, Some, is_some}
-use Rattle.brd_exec.specs.State.{State}
 use Rattle.brd_tasks.specs.declared.status.WaitReason.{WaitReason}
 use Rattle.brd_tasks.specs.declared.status.WaitReason.TheVariants as reason
 use Rattle.brd_tasks.specs.declared.status.WaitKind.{WaitKind}
@@ -9,13 +8,13 @@ use Rattle.brd_tasks.specs.declared.status.WaitKind.TheVariants as kind
 use Rattle.brd_tasks.specs.declared.task.Task.{Task}
 use Rattle.brd_tasks.specs.declared.task.Request.{Request}
 use Rattle.brd_tasks.specs.Tasks.{TaskTable, task_at, patched, where_there, without_activation, noted, ended, ready_on}
-use Rattle.brd_time.specs.Time.{Time, with_due, advanced, due_from}
+use Rattle.brd_time.specs.Time.{Time, with_due, due_from}
 use Rattle.brd_kernel.specs.declared.processor.Processor.{Processor}
 use Rattle.brd_kernel.specs.Kernel.{KernelState, with_tasks, with_processor, processor_at, unmarked}
-use Rattle.brd_kernel.specs.Waits.{Change, changed_of, changed_for, leaving, unlisted_from, unlisted, reason_of, released_in, broken_off, ended_in, answer_by, timed_out, all_timed_out, ticked_on, faulted_task, faulted_in, ended_by_fault}
+use Rattle.brd_kernel.specs.Waits.{Change, changed_of, changed_for, leaving, unlisted, reason_of, released_in, broken_off, ended_in, answer_by, timed_out, all_timed_out, ticked_on, faulted_task, faulted_in, ended_by_fault}
 use Rattle.brd_kernel.specs.Dispatch.{dispatched_one, dispatched_from, dispatched}
-use Rattle.brd_kernel.proofs.WaitLemmas.{OnlyLists, unlisted-only}
-use Rattle.brd_frames.proofs.TableLemmas.{Contexts, t-with, At, Unsteady, Restarted, noted-with, ended-with, released-with, released-free}
+use Rattle.brd_kernel.proofs.WaitLemmas.{unlisted-only}
+use Rattle.brd_frames.proofs.TableLemmas.{Contexts, t-with, Unsteady, Restarted, noted-with, ended-with, released-with, released-free}
 
 -- the kernel with other contexts of tasks and of handlers
 abbrev pub k-with : Contexts → Contexts → KernelState → KernelState

@@ -9,3 +9,6 @@ pub mod FootprintLemmas
 pub mod RoomLemmas
 pub mod GoingLemmas
 pub mod StoreLemmas
+pub mod CommuteLemmas
+pub mod LinkLemmas
+pub mod EndLemmas

@@ -1,11 +1,10 @@
 -- No event changes how many contexts there are.
-use Rattle.std.proofs.Common.{◌≡◌, ℕ, ◌%◌, ◌^◌, Bool, true, false, List, [], ◌∷◌, ◌++◌, length, length-set, refl, sym, ap, subst, ◌∙◌}
-use Rattle.std.specs.Prelude.{if◌then◌else◌, ◌==◌, nat_lt, slice_index_or, slice_set, Option, None, Some, is_some, Result, Ok, Err}
+use Rattle.std.proofs.Common.{◌≡◌, ℕ, Bool, true, false, List, [], ◌∷◌, length, length-set, refl, ap, ◌∙◌}
+use Rattle.std.specs.Prelude.{if◌then◌else◌, nat_lt, Option, None, Some, is_some}
 use Rattle.brd_exec.specs.State.{State}
 use Rattle.brd_exec.specs.Step.{Ran, ran}
 use Rattle.brd_exec.specs.declared.outcome.Outcome.{Outcome}
 use Rattle.brd_exec.specs.declared.outcome.Outcome.TheVariants.{Done, Syscall, Exception}
-use Rattle.brd_link.specs.LinkSet.{without}
 use Rattle.brd_tasks.specs.declared.status.Status.{Status}
 use Rattle.brd_tasks.specs.declared.status.WaitReason.{WaitReason}
 use Rattle.brd_tasks.specs.declared.status.WaitReason.TheVariants as reason
@@ -14,8 +13,8 @@ use Rattle.brd_tasks.specs.declared.status.WaitKind.TheVariants as kind
 use Rattle.brd_tasks.specs.declared.task.Task.{Task}
 use Rattle.brd_tasks.specs.declared.task.Request.{Request}
 use Rattle.brd_tasks.specs.Status.{waiting_of, is_dormant, released, blocked, suspended, resumed}
-use Rattle.brd_tasks.specs.Tasks.{TaskTable, task_at, opening_of, started, processor_of, placed, patched, where_there, starts, activated, ended_by, ended, put_into, through, answered, context_at, released_to, released_with, changed, noted, turned, with_priority, on_processor, with_wakeup, without_activation}
-use Rattle.brd_time.specs.Time.{Time, with_due, last_count, advanced, due_from}
+use Rattle.brd_tasks.specs.Tasks.{TaskTable, task_at, opening_of, processor_of, where_there, starts, activated, ended_by, ended, put_into, through, answered, context_at, released_to, released_with, changed, noted, with_priority, on_processor, with_wakeup, without_activation}
+use Rattle.brd_time.specs.Time.{Time, last_count, advanced, due_from}
 use Rattle.brd_objects.specs.declared.flag.Flag.{Flag}
 use Rattle.brd_objects.specs.declared.semaphore.Semaphore.{Semaphore}
 use Rattle.brd_objects.specs.declared.sent.Sent.{Sent}
@@ -30,17 +29,16 @@ use Rattle.brd_kernel.specs.declared.processor.Executor.{Executor}
 use Rattle.brd_kernel.specs.declared.processor.Executor.TheVariants as executor
 use Rattle.brd_kernel.specs.declared.call.Call.{Call}
 use Rattle.brd_kernel.specs.Answer.{e_ok}
-use Rattle.brd_kernel.specs.Kernel.{KernelState, processor_at, with_tasks, with_processor, unmarked, executor_on, context_of, with_context_of, deliverable, handles, accepted_line, entry_of, line_at, with_pending}
-use Rattle.brd_kernel.specs.Waits.{can_wait, with_wait, released_in, reason_of, unlisted, broken_off, ended_in, reordered_in, answer_by, timed_out, all_timed_out, ticked_on, faulted_task, faulted_in, ended_by_fault, Change, changed_of, changed_for, leaving, moving}
-use Rattle.brd_kernel.specs.Services.{unmarked_on, handler_ended, with_released, with_all_released_in, with_satisfied_of, with_satisfied_released, handed_over, with_priority_in, serve_of, caller_on}
-use Rattle.brd_kernel.proofs.WalkLemmas.{Lacks, No-one, lacked, awaiting, Fact, Law, May, serve-leaves}
-use Rattle.brd_kernel.proofs.who_runs.RunningCallLemmas.{known_of, MayServe}
+use Rattle.brd_kernel.specs.Kernel.{KernelState, processor_at, with_tasks, executor_on, context_of, with_context_of, deliverable, handles, entry_of, line_at}
+use Rattle.brd_kernel.specs.Waits.{can_wait, with_wait, released_in, reason_of, unlisted, broken_off, ended_in, answer_by, timed_out, all_timed_out, ticked_on, faulted_task, faulted_in, Change, changed_of, changed_for, leaving, moving}
+use Rattle.brd_kernel.specs.Services.{unmarked_on, with_released, with_all_released_in, with_satisfied_of, handed_over, caller_on}
+use Rattle.brd_kernel.proofs.WalkLemmas.{Lacks, No-one, lacked, awaiting, Fact, Law, serve-leaves}
+use Rattle.brd_kernel.proofs.who_runs.RunningCallLemmas.{known_of}
 use Rattle.brd_sysgate.specs.Gate.{called}
-use Rattle.brd_board.specs.Executing.{Executed, executed_by, executed_in}
+use Rattle.brd_board.specs.Executing.{executed_by, executed_in}
 use Rattle.brd_board.specs.declared.event.Event.{Event}
 use Rattle.brd_board.specs.declared.event.Event.TheVariants.{Step, Tick, Raise}
-use Rattle.brd_board.specs.declared.event.Report.TheVariants as report
-use Rattle.brd_board.specs.Board.{BoardState, Happened, reported, with_executed, with_call, with_fault, instruction_done, executes_in, accepts_or_executes, stepped_in, stepped, happens_on, happens}
+use Rattle.brd_board.specs.Board.{BoardState, Happened, with_executed, instruction_done, executes_in, accepts_or_executes, stepped_in, happens_on, happens}
 use Rattle.brd_board.proofs.CallingLemmas as calling
 
 -- as many contexts of tasks as before

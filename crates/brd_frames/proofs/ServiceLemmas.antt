@@ -1,14 +1,13 @@
 -- What a service call leaves and answers where contexts in the kernel are other ones: the same, with the other contexts.
-use Rattle.std.proofs.Common.{◌≡◌, ℕ, ◌%◌, ◌^◌, Bool, true, false, List, refl, sym, ap, subst, ◌∙◌}
-use Rattle.std.specs.Prelude.{if◌then◌else◌, ◌==◌, not, ◌&&◌, ◌||◌, [], ◌∷◌, ◌++◌, slice_index_or, slice_set, Option, None, Some, is_some, is_ok, Result, Ok, Err}
-use Rattle.std.proofs.lemmas.Bool.{false≢true}
+use Rattle.std.proofs.Common.{◌≡◌, ℕ, Bool, true, false, List, refl, sym, ap, ◌∙◌}
+use Rattle.std.specs.Prelude.{if◌then◌else◌, ◌==◌, [], ◌∷◌, slice_index_or, Option, None, Some, is_ok, Result, Ok, Err}
 use Rattle.brd_tasks.specs.declared.status.WaitReason.{WaitReason}
 use Rattle.brd_tasks.specs.declared.status.WaitReason.TheVariants as reason
 use Rattle.brd_tasks.specs.declared.status.WaitKind.TheVariants as kind
 use Rattle.brd_tasks.specs.declared.task.Task.{Task}
 use Rattle.brd_tasks.specs.declared.task.Request.TheVariants.{Assigned, On}
 use Rattle.brd_tasks.specs.Status.{waiting_of, blocked, suspended, resumed}
-use Rattle.brd_tasks.specs.Tasks.{TaskTable, task_at, activated, through, changed, with_priority, on_processor, noted, with_wakeup, without_activation, turned, activations_of, wakeups_of, no_context}
+use Rattle.brd_tasks.specs.Tasks.{TaskTable, task_at, through, changed, with_priority, on_processor, with_wakeup, without_activation, activations_of, wakeups_of, no_context}
 use Rattle.brd_time.specs.Time.{with_due}
 use Rattle.brd_objects.specs.declared.semaphore.Semaphore.{Semaphore}
 use Rattle.brd_objects.specs.declared.flag.Flag.{Flag}
@@ -17,9 +16,9 @@ use Rattle.brd_objects.specs.declared.sent.Sent.{Sent}
 use Rattle.brd_objects.specs.declared.sent.Sent.TheVariants.{Handed, Stored, Full}
 use Rattle.brd_objects.specs.declared.sent.Received.{Received}
 use Rattle.brd_objects.specs.Table.{object_at, object_changed}
-use Rattle.brd_objects.specs.Semaphores.{returned, first_waiter, has_one, taken, semaphore_awaited}
-use Rattle.brd_objects.specs.Flags.{joined, masked, pattern_for, taken_for, flag_awaited, all_released, with_all_released}
-use Rattle.brd_objects.specs.DataQueues.{DataQueueState, sent, outcome, forced, forced_outcome, received, receipt, awaited_by_sender, awaited_by_receiver}
+use Rattle.brd_objects.specs.Semaphores.{returned, first_waiter, has_one}
+use Rattle.brd_objects.specs.Flags.{joined, pattern_for, all_released, with_all_released}
+use Rattle.brd_objects.specs.DataQueues.{DataQueueState, sent, outcome, forced, forced_outcome, received, receipt}
 use Rattle.brd_kernel.specs.declared.processor.Processor.{Processor}
 use Rattle.brd_kernel.specs.declared.processor.Spin.{Spin}
 use Rattle.brd_kernel.specs.declared.processor.Executor.{Executor}
@@ -27,18 +26,18 @@ use Rattle.brd_kernel.specs.declared.processor.Executor.TheVariants as executor
 use Rattle.brd_kernel.specs.declared.call.Call.{Call}
 use Rattle.brd_kernel.specs.declared.call.Call.TheVariants as call
 use Rattle.brd_kernel.specs.declared.call.Ercd.{Ercd}
-use Rattle.brd_kernel.specs.declared.call.Ercd.TheVariants.{Id, Par, Iluse, Obj, Qovr, Rlwai, Tmout}
+use Rattle.brd_kernel.specs.declared.call.Ercd.TheVariants.{Id, Par, Iluse, Obj, Qovr, Rlwai}
 use Rattle.brd_kernel.specs.declared.call.Reply.{Reply}
 use Rattle.brd_kernel.specs.declared.call.Reply.TheVariants.{Answer, Silent, Again}
 use Rattle.brd_kernel.specs.Answer.{e_ok, code_of}
-use Rattle.brd_kernel.specs.Kernel.{KernelState, processor_at, with_tasks, with_processor, unmarked, holding, letting_go, executor_by, executor_in, executor_on}
-use Rattle.brd_kernel.specs.Waits.{is_bad_timeout, due_after, due_by, can_wait, with_wait, released_in, broken_off, ended_in, reordered_in}
-use Rattle.brd_kernel.specs.Row.{Row, Served, refused, served_object, served, ok, ok_with, ok_count, silent, again, or_refused}
+use Rattle.brd_kernel.specs.Kernel.{KernelState, processor_at, with_tasks, with_processor, holding, letting_go, executor_in, executor_on}
+use Rattle.brd_kernel.specs.Waits.{due_after, due_by, can_wait, with_wait, released_in, ended_in, reordered_in}
+use Rattle.brd_kernel.specs.Row.{Row, Served, refused, served_object, served, ok, silent}
 use Rattle.brd_kernel.specs.Services.{named, act_tsk, can_act, ext_tsk, ter_tsk, chg_pri, get_pri, mact_tsk, mig_tsk, get_pid, rot_rdq, irot_rdq, get_tid, mark_dsp, mark_cpu, tslp_tsk, wup_tsk, can_wup, rel_wai, sus_tsk, rsm_tsk, dly_tsk, sig_sem, twai_sem, set_flg, clr_flg, twai_flg, tsnd_dtq, fsnd_dtq, trcv_dtq, put_chr, ext_ker, ret_int, loc_spn, try_spn, unl_spn}
-use Rattle.brd_kernel.specs.Services.{is_held_elsewhere, is_no_processor, is_asleep, want_of, or_waits, callers_priority, priority_or_initial, priority_or_callers, with_released, with_all_released_in, with_satisfied_of, with_satisfied_released, handed_over, with_priority_in, flag_got, queue_sent, queue_received, unmarked_on, handler_ended, is_taken, lock_taken_by, lock_taken, lock_given_by, lock_given, serve_by}
+use Rattle.brd_kernel.specs.Services.{is_held_elsewhere, is_no_processor, is_asleep, want_of, or_waits, priority_or_initial, with_released, with_all_released_in, with_satisfied_of, handed_over, with_priority_in, flag_got, queue_sent, queue_received, unmarked_on, is_taken, lock_taken_by, lock_given_by, serve_by}
 use Rattle.brd_kernel.proofs.SameLemmas.{Same, same-ended, same-broken, same-reordered, same-satisfied, same-released, same-handed}
 use Rattle.brd_kernel.proofs.WalkLemmas.{in_semaphore, in_flag, in_senders, in_receivers}
-use Rattle.brd_frames.proofs.TableLemmas.{Contexts, t-with, At, Unsteady, Restarted, through-with, changed-with, noted-with, activated-with, released-with, released-free}
+use Rattle.brd_frames.proofs.TableLemmas.{Contexts, t-with, At, Unsteady, Restarted, through-with, changed-with, noted-with, activated-with, released-free}
 use Rattle.brd_frames.proofs.KernelLemmas.{k-with, set-same-some, changed_for-with, released_in-with, broken-with, ended_in-with}
 
 -- the contexts of who executes on a processor are left alone

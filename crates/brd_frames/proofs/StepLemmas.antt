@@ -1,12 +1,11 @@
 -- What a step reports, and how it goes by what is so on the board.
-use Rattle.std.proofs.Common.{◌≡◌, ℕ, Bool, true, false, refl, sym, ap, subst, ◌∙◌}
-use Rattle.std.specs.Prelude.{if◌then◌else◌, Option, None, Some, slice_index_or}
-use Rattle.std.proofs.lemmas.Bool.{false≢true}
+use Rattle.std.proofs.Common.{◌≡◌, ℕ, Bool, true, false, refl, ap, subst, ◌∙◌}
+use Rattle.std.specs.Prelude.{if◌then◌else◌, Option, None, Some}
 use Rattle.brd_exec.specs.State.{State}
 use Rattle.brd_exec.specs.Step.{Ran, ran}
 use Rattle.brd_exec.specs.Kept.{KeepsUnlessDone}
 use Rattle.brd_exec.specs.declared.outcome.Outcome.{Outcome}
-use Rattle.brd_exec.specs.declared.outcome.Outcome.TheVariants.{Done, Syscall, Exception}
+use Rattle.brd_exec.specs.declared.outcome.Outcome.TheVariants.{Syscall}
 use Rattle.brd_exec.proofs.KeptLemmas.{keeps-ran}
 use Rattle.brd_kernel.specs.declared.processor.Processor.{Processor}
 use Rattle.brd_kernel.specs.declared.processor.Executor.{Executor}
@@ -21,7 +20,7 @@ isnt-stopped true by who is = let wrong : ⊥ = cc in absurd wrong
 isnt-stopped false by who is = refl
 
 -- who executes does so on a processor that is there, and isn't stopped
-executes-on : (found : Option Processor) (who : Executor) → executor_in found ≡ Some who →
+pub executes-on : (found : Option Processor) (who : Executor) → executor_in found ≡ Some who →
     (p : Processor) × (found ≡ Some p) × (p.stopped ≡ false)
 executes-on None who is = let wrong : ⊥ = cc in absurd wrong
 executes-on (Some p) who is = (p, refl, isnt-stopped p.stopped (executor_by p.running p.handling) who is)

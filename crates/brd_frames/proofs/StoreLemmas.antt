@@ -1,16 +1,15 @@
 -- An event leaves the bytes to which it doesn't store.
-use Rattle.std.proofs.Common.{◌≡◌, ℕ, ◌+◌, ◌-◌, ◌<◌, ◌≤◌, Bool, true, false, List, [], ◌∷◌, length, refl, sym, ap, subst, ◌∙◌, arith}
-use Rattle.std.specs.Prelude.{nat_le, ◌&&◌, ◌||◌, if◌then◌else◌, nat_lt, slice_index, Option, None, Some, is_some, Result, Ok, Err}
-use Rattle.std.specs.Option.{option_map}
+use Rattle.std.proofs.Common.{◌≡◌, ℕ, ◌+◌, ◌-◌, ◌≤◌, Bool, true, false, length, refl, sym, ap, subst, ◌∙◌, arith}
+use Rattle.std.specs.Prelude.{if◌then◌else◌, nat_lt, slice_index, Option, None, Some, is_some}
 use Rattle.std.proofs.lemmas.Bool.{false≢true}
 use Rattle.std.proofs.lemmas.Bool.Decides.{nat_tests}
 use Rattle.brd_base.specs.Space.{base}
-use Rattle.brd_mem.specs.Memory.{Memory, size_of, contains, with_bytes, byte_from, byte_at}
+use Rattle.brd_mem.specs.Memory.{Memory, size_of, contains, byte_from, byte_at}
 use Rattle.brd_link.specs.LinkSet.{LinkSet}
 use Rattle.brd_exec.specs.declared.outcome.{Outcome.Outcome, Stop.Stop}
 use Rattle.brd_exec.specs.declared.outcome.Outcome.TheVariants.{Done, Syscall, Exception}
 use Rattle.brd_exec.specs.State.{State}
-use Rattle.brd_exec.specs.Step.{Effect, next_instruction, effect, Ran, ended, ran}
+use Rattle.brd_exec.specs.Step.{next_instruction, effect, Ran, ended, ran}
 use Rattle.brd_time.specs.Time.{last_count}
 use Rattle.brd_kernel.specs.declared.processor.Processor.{Processor}
 use Rattle.brd_kernel.specs.declared.processor.Executor.{Executor}
@@ -20,9 +19,9 @@ use Rattle.brd_board.specs.declared.event.Event.{Event}
 use Rattle.brd_board.specs.declared.event.Event.TheVariants.{Step, Tick, Raise}
 use Rattle.brd_board.specs.declared.event.Report.TheVariants as report
 use Rattle.brd_board.specs.Board.{BoardState, Happened, reported, with_executed, instruction_done, executes_in, accepts_or_executes, stepped_in, happens_on, happens}
-use Rattle.brd_frames.specs.Touching.{stores_next, stores, executing, stored_in, is_stored, Change, changed, put_at}
+use Rattle.brd_frames.specs.Touching.{stores_next, stores, stored_in, is_stored, changed, put_at}
 use Rattle.brd_frames.proofs.DeedLemmas.{get-bytes, Deed, Goes, Stops, applied, deed_next, deed-next-is}
-use Rattle.brd_frames.proofs.FootprintLemmas.{with-bytes-is, DeedPuts, deed-next-puts, put-keeps, put-length, Outside, executing-is}
+use Rattle.brd_frames.proofs.FootprintLemmas.{with-bytes-is, DeedPuts, deed-next-puts, put-keeps, put-length, executing-is}
 
 byte-by : (inside : Bool) (one two : ℕ) → (inside ≡ true → two ≡ one) → (if inside then Some two else None) ≡ (if inside then Some one else None)
 byte-by true one two same = ap Some (same refl)
@@ -116,7 +115,7 @@ unfolding happens
 stores-keep b event address none = off-keeps b event address b.kernel.off refl none
 
 -- Where the byte at an address is the same, so is the byte at its place.
-byte-place : (inside other : Bool) (one two : ℕ) → other ≡ inside → inside ≡ true →
+pub byte-place : (inside other : Bool) (one two : ℕ) → other ≡ inside → inside ≡ true →
     (if other then Some two else None) ≡ (if inside then Some one else None) → two ≡ one
 byte-place true true one two is there same = cc
 byte-place true false one two is there same = absurd (false≢true is)

@@ -1,14 +1,14 @@
 -- What the operations of the task table make of it where the contexts in it are other ones.
-use Rattle.std.proofs.Common.{◌≡◌, ℕ, Bool, true, false, List, refl, sym, ap, subst, ◌∙◌, ◌⊎◌, inl, inr}
+use Rattle.std.proofs.Common.{◌≡◌, ℕ, Bool, true, false, List, refl, sym, ap, ◌∙◌, ◌⊎◌, inl, inr}
 use Rattle.std.specs.Prelude.{zero, suc, if◌then◌else◌, [], ◌∷◌, slice_index_or, slice_set, Option, None, Some}
-use Rattle.std.proofs.lemmas.Bool.{false≢true, true≢false}
+use Rattle.std.proofs.lemmas.Bool.{false≢true}
 use Rattle.brd_exec.specs.State.{State}
 use Rattle.brd_tasks.specs.declared.status.Status.{Status}
 use Rattle.brd_tasks.specs.declared.status.Status.TheVariants as status
 use Rattle.brd_tasks.specs.declared.task.Task.{Task}
 use Rattle.brd_tasks.specs.declared.task.Request.{Request}
 use Rattle.brd_tasks.specs.Status.{is_dormant, released}
-use Rattle.brd_tasks.specs.Tasks.{TaskTable, task_at, no_context, context_at, with_context, opening_of, started, processor_of, placed, patched, where_there, starts, activated, ended_by, ended, put_into, through, answered, released_to, released_with, changed, noted, turned}
+use Rattle.brd_tasks.specs.Tasks.{TaskTable, task_at, no_context, context_at, opening_of, started, processor_of, placed, patched, where_there, starts, activated, ended_by, ended, put_into, through, answered, released_to, released_with, changed, noted}
 use Rattle.brd_frames.specs.Steady.{is_steady_status, is_steady_task}
 
 -- a change of all contexts, by their list

@@ -1,8 +1,7 @@
 -- What an agent's next instruction does, whichever processor does it: all instructions but LL and SC, of which the links
 -- of the processors tell what they do.
-use Rattle.std.specs.Prelude.{◌≡◌, ℕ, Bool, true, false, not, Option, None, Some, IsSome, is_some, Result, Ok, Err}
-use Rattle.std.specs.Option.{option_map}
-use Rattle.brd_isa.specs.declared.instruction.{Insn.Insn, StoreOp.StoreOp}
+use Rattle.std.specs.Prelude.{◌≡◌, ℕ, Bool, true, false, Option, None, Some, IsSome, Result, Ok, Err}
+use Rattle.brd_isa.specs.declared.instruction.{Insn.Insn}
 use Rattle.brd_mem.specs.declared.fault.Exc.{Exc}
 use Rattle.brd_mem.specs.Memory.{Memory}
 use Rattle.brd_link.specs.LinkSet.{LinkSet, after_store}
@@ -10,12 +9,10 @@ use Rattle.brd_exec.specs.declared.outcome.{ExceptionCode.ExceptionCode, Stop.St
 use Rattle.brd_exec.specs.State.{State, read, advanced}
 use Rattle.brd_exec.specs.Action.{Action, with_word, action}
 use Rattle.brd_exec.specs.Step.{with_code, load_gives, store_gives, next_instruction}
-use Rattle.brd_kernel.specs.Kernel.{KernelState, executor_on}
 use Rattle.brd_kernel.specs.declared.processor.Executor.{Executor}
-use Rattle.brd_board.specs.declared.event.Event.{Event}
 use Rattle.brd_board.specs.declared.event.Event.TheVariants.{Step}
 use Rattle.brd_board.specs.declared.event.Report.TheVariants as report
-use Rattle.brd_board.specs.Board.{BoardState, Happened, reported, happens}
+use Rattle.brd_board.specs.Board.{BoardState, reported, happens}
 use Rattle.brd_board.specs.Batch.{GoesOn}
 use Rattle.brd_frames.specs.Agents.{Agent, agent_by, context_in, with_context_in}
 
