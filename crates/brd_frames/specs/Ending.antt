@@ -17,8 +17,8 @@ is_live (Some task) = not (is_dormant task.status)
 abbrev pub is_live_at : BoardState → ℕ → Bool
 is_live_at b id = is_live (task_at b.kernel.tasks id)
 
--- A task that isn't dormant becomes dormant only by an instruction of its own (ext_tsk, or one that raises an exception),
--- or by another one's ter_tsk of it.
+-- A task that isn't dormant becomes dormant only by an instruction of its own (ext_tsk, or one that raises an
+-- exception), or by another one's ter_tsk of it.
 abbrev pub EndLaw : Type 0
 EndLaw =
     (b : BoardState) (event : Event) (id : ℕ) → (Executes b event (agents.Task id) → ⊥) → (Terminates b event id → ⊥) →

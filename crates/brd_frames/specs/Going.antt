@@ -1,5 +1,5 @@
--- What an agent's next instruction does, whichever processor does it: all instructions but LL and SC, of which the links
--- of the processors tell what they do.
+-- What an agent's next instruction does, whichever processor does it: all but an LL and an SC, which are about the link
+-- of a processor.
 use Rattle.std.specs.Prelude.{◌≡◌, ℕ, Bool, true, false, Option, None, Some, IsSome, Result, Ok, Err}
 use Rattle.brd_isa.specs.declared.instruction.{Insn.Insn}
 use Rattle.brd_mem.specs.declared.fault.Exc.{Exc}
@@ -58,8 +58,8 @@ abbrev pub with_gone : BoardState → Agent → LinkSet → Gone → BoardState
 with_gone b who links gone =
     record b { kernel = with_context_in b.kernel who gone.context; memory = gone.memory; links = links }
 
--- An agent's next instruction is a processor's next step: the board is on, the agent executes there, and no interrupt is
--- deliverable.
+-- An agent's next instruction is a processor's next step: the board is on, the agent executes there, and no interrupt
+-- is deliverable.
 pub record IsNext (b : BoardState) (cpu : ℕ) (who : Agent) : Type 0 where
   pub executor : Executor
   pub is : agent_by cpu executor ≡ who

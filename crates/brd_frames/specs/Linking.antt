@@ -38,8 +38,8 @@ OwnLaw =
     is_plain_next (context_in b.kernel who) (next_instruction (context_in b.kernel who) b.memory) ≡ true →
     AreSameOf cpu b.links (happens b (Step cpu)).board.links
 
--- Whatever the links of other processors than the one that steps are, an event reports the same and does the same to all
--- but links; and the link of each processor follows from its own link before the event.
+-- Whatever the links of other processors than the one that steps are, an event reports the same and does the same to
+-- all but links; and the link of each processor follows from its own link before the event.
 abbrev pub LinkLaw : Type 0
 LinkLaw =
     (b : BoardState) (event : Event) (links : LinkSet) → ((cpu : ℕ) → event ≡ Step cpu → AreSameOf cpu b.links links) →

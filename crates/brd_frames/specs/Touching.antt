@@ -1,6 +1,7 @@
 -- Which bytes of RAM an event touches: it fetches, loads or stores them. And which changes of RAM are clear of them.
 use Rattle.std.specs.Prelude.{◌≡◌, ℕ, ◌+◌, ◌-◌, ◌≤◌, nat_le, nat_lt, Bool, true, false, ◌&&◌, ◌||◌, if◌then◌else◌}
-use Rattle.std.specs.Prelude.{List, [], ◌∷◌, length, slice_index, slice_set, Option, None, Some, is_some, Result, Ok, Err}
+use Rattle.std.specs.Prelude.{List, [], ◌∷◌, length, slice_index, slice_set, Option, None, Some, is_some, Result, Ok}
+use Rattle.std.specs.Prelude.{Err}
 use Rattle.brd_base.specs.Space.{base}
 use Rattle.brd_isa.specs.declared.instruction.{Insn.Insn, LoadOp.LoadOp, StoreOp.StoreOp}
 use Rattle.brd_mem.specs.Memory.{Memory, size_of, byte_at}

@@ -15,7 +15,7 @@ pub fn events_apart_leave_a_context_alone()
 {}
 
 /// Only ter_tsk ends another one: a task that isn't dormant becomes dormant only by an instruction of its own or by
-/// another one's ter_tsk of it; and nothing writes an agent's context but the agent, a start of it and the end of a wait.
+/// another one's ter_tsk of it. The context of an agent stays over each event that is apart from it.
 pub fn only_ter_tsk_ends_another()
     ensures ends { EndLaw }
     ensures context { ContextLaw }
@@ -57,8 +57,8 @@ pub fn local_instructions_may_come_later()
     ensures { LocalsLaw }
 {}
 
-/// An instruction of an agent, which may load and store, and events that are independent of it come to the same board in
-/// either order, and the events report the same.
+/// An instruction of an agent, which may load and store, and events that are independent of it come to the same board
+/// in either order, and the events report the same.
 pub fn independent_events_change_places()
     ensures event { IndependentLaw }
     ensures events { IndependentsLaw }
