@@ -2,7 +2,10 @@
 use Rattle.std.proofs.Common.{◌≡◌, ℕ, ◌+◌, ◌-◌, ◌*◌, ◌/◌, ◌%◌, ◌<◌, ◌≤◌, Bool, true, false, ◌&&◌, if◌then◌else◌, List, refl, sym, ap, subst, ◌∙◌, is_some, arith}
 use Rattle.std.specs.Prelude.{zero, suc, ◌==◌, nat_le, nat_lt, slice_index, Option, None, Some, Result, Ok, Err}
 use Rattle.brd_isa.specs.declared.instruction.{Insn.Insn, RegisterOp.RegisterOp, ImmediateOp.ImmediateOp, LinkedOp.LinkedOp}
-use Rattle.brd_isa.specs.Local.{is_local, is_local_register_op, is_local_immediate_op}
+use Rattle.brd_isa.specs.declared.shape.Flow.{Flow}
+use Rattle.brd_isa.specs.Shapes.{register_flow, immediate_flow, jump_flow, branch_flow, is_jump_calling}
+use Rattle.brd_isa.specs.Shapes.{is_regimm_branch_calling}
+use Rattle.brd_isa.specs.Local.{goes_on, is_local}
 use Rattle.std.proofs.lemmas.Bool.{and_from, eq-eqb, le-leb}
 use Rattle.std.proofs.lemmas.Bool.Decides.{nat_tests}
 use Rattle.std.proofs.lemmas.List.FromFn.{get_or-map-range_with_len}
@@ -23,13 +26,13 @@ use Rattle.brd_exec.specs.Lent.{word_in, lent_insn, lent_word, lent_step, lent_o
 use Rattle.brd_exec.proofs.LocalLemmas.{local-meaning}
 
 local-register : (op : RegisterOp) (s : State) (register old a b : ℕ) →
-    is_some (local_context (sets s register (register_gives op old a b))) ≡ is_local_register_op op
+    is_some (local_context (sets s register (register_gives op old a b))) ≡ goes_on (register_flow op)
 local-register RegisterOp.Add s register old a b = refl
 local-register RegisterOp.Sub s register old a b = refl
 local-register op s register old a b = refl
 
 local-immediate : (op : ImmediateOp) (s : State) (register a immediate : ℕ) →
-    is_some (local_context (sets s register (immediate_gives op a immediate))) ≡ is_local_immediate_op op
+    is_some (local_context (sets s register (immediate_gives op a immediate))) ≡ goes_on (immediate_flow op)
 local-immediate ImmediateOp.Addi s register a immediate = refl
 local-immediate op s register a immediate = refl
 
@@ -37,8 +40,24 @@ local-linked : (op : LinkedOp) (rt address : ℕ) → is_some (local_context (li
 local-linked LinkedOp.Ll rt address = refl
 local-linked LinkedOp.Sc rt address = refl
 
+-- a jump leads on, whatever it writes and wherever it leads
+local-jump : (calls : Bool) → true ≡ goes_on (jump_flow calls)
+local-jump true = refl
+local-jump false = refl
+
+local-branch : (calls : Bool) → true ≡ goes_on (branch_flow calls)
+local-branch true = refl
+local-branch false = refl
+
+local-target : (returns : Bool) → true ≡ goes_on (if returns then Flow.Return else Flow.Jump)
+local-target true = refl
+local-target false = refl
+
 pub local-table : (insn : Insn) (s : State) → is_some (local_meaning insn s) ≡ is_local insn
 local-table (Insn.ThreeRegisters op rd rs rt) s = local-register op s rd (read s rd) (read s rs) (read s rt)
+local-table (Insn.JumpRegister rs) s = local-target (rs == 31)
+local-table (Insn.Jump op index) s = local-jump (is_jump_calling op)
+local-table (Insn.BranchRegimm op rs offset) s = local-branch (is_regimm_branch_calling op)
 local-table (Insn.WithImmediate op rt rs immediate) s = local-immediate op s rt (read s rs) immediate
 local-table (Insn.Linked op rt base offset) s = local-linked op rt (address_of s base offset)
 local-table insn s = refl

@@ -4,6 +4,7 @@ use Rattle.std.specs.Prelude.{Bool, true, false, ◌&&◌, if◌then◌else◌, 
 use Rattle.std.proofs.lemmas.Bool.{false≢true}
 use Rattle.brd_isa.specs.declared.instruction.{Insn.Insn, LinkedOp.LinkedOp}
 use Rattle.brd_isa.specs.Decoding.{decoded}
+use Rattle.brd_isa.specs.Shapes.{linked_transfer, does_store}
 use Rattle.brd_mem.specs.Memory.{Memory}
 use Rattle.brd_mem.specs.declared.fault.Exc.{Exc}
 use Rattle.brd_mem.specs.Access.{fetched, loaded32}
@@ -15,7 +16,7 @@ use Rattle.brd_exec.specs.Values.{Given, register_gives, immediate_gives}
 use Rattle.brd_exec.specs.Action.{Action, with_word, sets, linked, action}
 use Rattle.brd_exec.specs.Exception.{code_of}
 use Rattle.brd_exec.specs.Step.{Effect, unless_stopped, loads_linked, load_gives, with_code, done, has_slot, of_word, of_fetch, of_next, next_instruction, effect, ended, ran}
-use Rattle.brd_exec.specs.Storing.{is_conditional, is_store, is_store_word, is_store_fetched, may_store}
+use Rattle.brd_exec.specs.Storing.{is_store, is_store_word, is_store_fetched, may_store}
 
 -- an action that is a store
 abbrev is_storing : Action → Bool
@@ -30,37 +31,15 @@ storing-sets : (s : State) (register : ℕ) (given : Given) → is_storing (sets
 storing-sets s register (Given.Always word) = refl
 storing-sets s register (Given.MayRaise given) = refl
 
-storing-linked : (op : LinkedOp) (rt address : ℕ) → is_storing (linked op rt address) ≡ is_conditional op
+storing-linked : (op : LinkedOp) (rt address : ℕ) → is_storing (linked op rt address) ≡ does_store (linked_transfer op)
 storing-linked LinkedOp.Ll rt address = refl
 storing-linked LinkedOp.Sc rt address = refl
 
 storing-action : (insn : Insn) (s : State) → is_storing (action insn s) ≡ is_store insn
-storing-action (Insn.Shift op rd rt sa) s = refl
-storing-action (Insn.ShiftVariable op rd rt rs) s = refl
 storing-action (Insn.ThreeRegisters op rd rs rt) s = storing-sets s rd (register_gives op (read s rd) (read s rs) (read s rt))
-storing-action (Insn.Multiply rd rs rt) s = refl
-storing-action (Insn.JumpRegister rs) s = refl
-storing-action (Insn.JumpLinkRegister rd rs) s = refl
-storing-action (Insn.Syscall code) s = refl
-storing-action (Insn.Break code) s = refl
-storing-action Insn.Sync s = refl
-storing-action (Insn.MoveFrom op rd) s = refl
-storing-action (Insn.MoveTo op rs) s = refl
-storing-action (Insn.Product op rs rt) s = refl
-storing-action (Insn.Accumulate op rs rt) s = refl
-storing-action (Insn.Count op rd rs) s = refl
-storing-action (Insn.Trap op rs rt code) s = refl
-storing-action (Insn.TrapImmediate op rs immediate) s = refl
-storing-action (Insn.Jump op index) s = refl
-storing-action (Insn.Branch op rs rt offset) s = refl
-storing-action (Insn.BranchZero op rs offset) s = refl
-storing-action (Insn.BranchRegimm op rs offset) s = refl
 storing-action (Insn.WithImmediate op rt rs immediate) s = storing-sets s rt (immediate_gives op (read s rs) immediate)
-storing-action (Insn.LoadUpper rt immediate) s = refl
-storing-action (Insn.Load op rt base offset) s = refl
-storing-action (Insn.Store op rt base offset) s = refl
 storing-action (Insn.Linked op rt base offset) s = storing-linked op rt (address_of s base offset)
-storing-action (Insn.Prefetch hint base offset) s = refl
+storing-action insn s = refl
 
 -- an effect on a context leaves memory
 abbrev KeepsMemory : State → Memory → Effect → Type 0

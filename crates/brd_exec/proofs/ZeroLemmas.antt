@@ -13,6 +13,7 @@ use Rattle.brd_link.specs.LinkSet.{LinkSet, is_linked}
 use Rattle.brd_exec.specs.declared.outcome.ExceptionCode.{ExceptionCode}
 use Rattle.brd_exec.specs.declared.outcome.Stop.{Stop}
 use Rattle.brd_exec.specs.State.{State, read, write, advanced, after_branch, return_address_of, with_return_address_if}
+use Rattle.brd_isa.specs.Shapes.{is_regimm_branch_calling}
 use Rattle.brd_exec.specs.Values as values
 use Rattle.brd_exec.specs.Values.{Given}
 use Rattle.brd_exec.specs.Action.{Action, with_word, sets, unless_trap, moved_to, linked, action}
@@ -95,8 +96,8 @@ zero-action (Insn.Jump op index) s zero = zero-call s _ zero
 zero-action (Insn.Branch op rs rt offset) s zero = zero-after_branch s _ _ offset zero
 zero-action (Insn.BranchZero op rs offset) s zero = zero-after_branch s _ _ offset zero
 zero-action (Insn.BranchRegimm op rs offset) s zero =
-    zero-after_branch (with_return_address_if s (values.is_regimm_branch_calling op)) (values.is_regimm_branch_likely op) (values.is_regimm_branch_taken op (read s rs)) offset
-    (zero-call s (values.is_regimm_branch_calling op) zero)
+    zero-after_branch (with_return_address_if s (is_regimm_branch_calling op)) (values.is_regimm_branch_likely op) (values.is_regimm_branch_taken op (read s rs)) offset
+    (zero-call s (is_regimm_branch_calling op) zero)
 zero-action (Insn.WithImmediate op rt rs immediate) s zero = zero-sets s rt _ zero
 zero-action (Insn.LoadUpper rt immediate) s zero = zero-write (advanced s) rt _ zero
 zero-action (Insn.Load op rt base offset) s zero = tt

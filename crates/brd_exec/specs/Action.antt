@@ -4,14 +4,14 @@
 use Rattle.std.specs.Prelude.{ℕ, ◌*◌, ◌%◌, ◌^◌, Bool, if◌then◌else◌, Option, Some, None, Result, Ok, Err}
 use Rattle.brd_isa.specs.declared.instruction.{Insn.Insn, MoveFromOp.MoveFromOp, MoveToOp.MoveToOp}
 use Rattle.brd_isa.specs.declared.instruction.{LoadOp.LoadOp, StoreOp.StoreOp, LinkedOp.LinkedOp}
+use Rattle.brd_isa.specs.Shapes.{is_jump_calling, is_regimm_branch_calling}
 use Rattle.brd_exec.specs.declared.outcome.{ExceptionCode.ExceptionCode, Stop.Stop}
 use Rattle.brd_exec.specs.State.{State, read, write, write_product, product_in, advanced, with_register, jumped}
 use Rattle.brd_exec.specs.State.{after_branch, return_address_of, with_return_address_if, jump_target, address_of}
 use Rattle.brd_exec.specs.Values.{Given, shift_gives, shift_variable_gives, register_gives, immediate_gives}
 use Rattle.brd_exec.specs.Values.{multiply_gives, product_gives, accumulate_gives, count_gives, traps, traps_immediate}
 use Rattle.brd_exec.specs.Values.{is_taken, is_likely, is_zero_branch_taken, is_zero_branch_likely}
-use Rattle.brd_exec.specs.Values.{is_regimm_branch_taken, is_regimm_branch_likely, is_regimm_branch_calling}
-use Rattle.brd_exec.specs.Values.{is_jump_calling}
+use Rattle.brd_exec.specs.Values.{is_regimm_branch_taken, is_regimm_branch_likely}
 
 pub data Action : Type 0 where
   Local : State → Action  -- leads to this context: a local instruction

@@ -9,6 +9,7 @@ pub mod Kept
 pub mod Went
 pub mod Lent
 pub mod Storing
+pub mod Accessed
 pub mod Effects
 pub use Rattle.brd_mem.specs.Memory
 pub use Rattle.brd_mem.specs.Access

@@ -8,7 +8,7 @@ use Rattle.brd_exec.specs.declared.outcome.ExceptionCode.{ExceptionCode}
 use Rattle.brd_isa.specs.declared.instruction.{ShiftOp.ShiftOp, ShiftVariableOp.ShiftVariableOp, RegisterOp.RegisterOp}
 use Rattle.brd_isa.specs.declared.instruction.{ImmediateOp.ImmediateOp, ProductOp.ProductOp, AccumulateOp.AccumulateOp}
 use Rattle.brd_isa.specs.declared.instruction.{CountOp.CountOp, TrapOp.TrapOp, TrapImmediateOp.TrapImmediateOp}
-use Rattle.brd_isa.specs.declared.instruction.{JumpOp.JumpOp, BranchOp.BranchOp, BranchZeroOp.BranchZeroOp}
+use Rattle.brd_isa.specs.declared.instruction.{BranchOp.BranchOp, BranchZeroOp.BranchZeroOp}
 use Rattle.brd_isa.specs.declared.instruction.BranchRegimmOp.{BranchRegimmOp}
 
 -- whether the sign bit is set
@@ -162,7 +162,7 @@ is_zero_branch_likely BranchZeroOp.Bgtz = false
 is_zero_branch_likely BranchZeroOp.Blezl = true
 is_zero_branch_likely BranchZeroOp.Bgtzl = true
 
--- whether `op rs, target` under REGIMM is taken, whether it is likely, and whether it writes the return address
+-- whether `op rs, target` under REGIMM is taken, and whether it is likely
 abbrev pub is_regimm_branch_taken : BranchRegimmOp → ℕ → Bool
 is_regimm_branch_taken BranchRegimmOp.Bltz a = is_negative a
 is_regimm_branch_taken BranchRegimmOp.Bgez a = not (is_negative a)
@@ -182,18 +182,3 @@ is_regimm_branch_likely BranchRegimmOp.Bltzal = false
 is_regimm_branch_likely BranchRegimmOp.Bgezal = false
 is_regimm_branch_likely BranchRegimmOp.Bltzall = true
 is_regimm_branch_likely BranchRegimmOp.Bgezall = true
-
-abbrev pub is_regimm_branch_calling : BranchRegimmOp → Bool
-is_regimm_branch_calling BranchRegimmOp.Bltz = false
-is_regimm_branch_calling BranchRegimmOp.Bgez = false
-is_regimm_branch_calling BranchRegimmOp.Bltzl = false
-is_regimm_branch_calling BranchRegimmOp.Bgezl = false
-is_regimm_branch_calling BranchRegimmOp.Bltzal = true
-is_regimm_branch_calling BranchRegimmOp.Bgezal = true
-is_regimm_branch_calling BranchRegimmOp.Bltzall = true
-is_regimm_branch_calling BranchRegimmOp.Bgezall = true
-
--- whether `op target` writes the return address
-abbrev pub is_jump_calling : JumpOp → Bool
-is_jump_calling JumpOp.J = false
-is_jump_calling JumpOp.Jal = true

@@ -1,6 +1,7 @@
 //! Branches and jumps. Each tests itself whether it is in a delay slot, so that no other instruction is tested for it.
 
 ghost use Rattle.std.specs.Prelude.{◌≡◌, if◌then◌else◌, Ok, Err};
+ghost use Rattle.brd_isa.specs.Shapes.{is_jump_calling, is_regimm_branch_calling};
 ghost use Rattle.brd_exec.specs.State.{
   read,
   write,
@@ -17,18 +18,19 @@ ghost use Rattle.brd_exec.specs.Values.{
   is_zero_branch_likely,
   is_regimm_branch_taken,
   is_regimm_branch_likely,
-  is_regimm_branch_calling,
-  is_jump_calling,
 };
 ghost use Rattle.brd_exec.specs.Effects.{Leads, unless_slot};
 
 use crate::context::Context;
 use crate::outcome::{ExceptionCode, Stop};
 use crate::value::{
-    is_branch_likely, is_branch_taken, is_regimm_branch_calling, is_regimm_branch_likely,
-    is_regimm_branch_taken, is_zero_branch_likely, is_zero_branch_taken,
+    is_branch_likely, is_branch_taken, is_regimm_branch_likely, is_regimm_branch_taken,
+    is_zero_branch_likely, is_zero_branch_taken,
 };
-use brd_isa::{BranchOp, BranchRegimmOp, BranchZeroOp, JumpIndex, JumpOp, Register};
+use brd_isa::{
+    BranchOp, BranchRegimmOp, BranchZeroOp, JumpIndex, JumpOp, Register, is_jump_calling,
+    is_regimm_branch_calling,
+};
 
 /// A branch or a jump raises RI in a delay slot.
 #[inline(always)]
@@ -77,7 +79,7 @@ pub fn jump(context: &mut Context, op: JumpOp, index: JumpIndex) -> Result<(), S
 {
     outside_slot(context)?;
     let target = context.jump_target(index);
-    context.write_return_address_if(op == JumpOp::Jal);
+    context.write_return_address_if(is_jump_calling(op));
     context.jump(target);
     Ok(())
 }

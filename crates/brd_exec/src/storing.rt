@@ -5,7 +5,7 @@ ghost use Rattle.brd_isa.specs.Decoding.{decoded};
 ghost use Rattle.brd_exec.specs.Storing.{is_store, is_store_word, may_store};
 
 use crate::context::Context;
-use brd_isa::{Insn, LinkedOp, decode};
+use brd_isa::{Insn, decode, shape_of};
 use brd_mem::Ram;
 
 /// Whether a context's next instruction is a store, also an SC. No other instruction changes memory
@@ -32,13 +32,13 @@ fn is_store_word(word: u32) -> bool
     }
 }
 
-/// Whether an instruction is a store.
+/// Whether an instruction is a store: an SC too.
 #[inline(always)]
-fn is_store(insn: Insn) -> bool
+pub fn is_store(insn: Insn) -> bool
     ensures { result ≡ is_store insn }
 {
-    matches!(
-        insn,
-        Insn::Store(_, _, _, _) | Insn::Linked(LinkedOp::Sc, _, _, _)
-    )
+    match shape_of(&insn).access {
+        Some(access) => access.transfer.does_store(),
+        None => false,
+    }
 }

@@ -28,7 +28,6 @@ ghost use Rattle.brd_exec.specs.Values.{
   is_zero_branch_likely,
   is_regimm_branch_taken,
   is_regimm_branch_likely,
-  is_regimm_branch_calling,
 };
 ghost use Rattle.brd_exec.specs.Effects.{result_of};
 
@@ -316,20 +315,6 @@ pub fn is_regimm_branch_likely(op: BranchRegimmOp) -> bool
         op,
         BranchRegimmOp::Bltzl
             | BranchRegimmOp::Bgezl
-            | BranchRegimmOp::Bltzall
-            | BranchRegimmOp::Bgezall
-    )
-}
-
-/// Whether `op rs, target` under REGIMM writes the return address.
-#[inline(always)]
-pub fn is_regimm_branch_calling(op: BranchRegimmOp) -> bool
-    ensures { result ≡ is_regimm_branch_calling op }
-{
-    matches!(
-        op,
-        BranchRegimmOp::Bltzal
-            | BranchRegimmOp::Bgezal
             | BranchRegimmOp::Bltzall
             | BranchRegimmOp::Bgezall
     )

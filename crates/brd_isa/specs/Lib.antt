@@ -4,4 +4,5 @@ pub mod Names
 pub mod Registers
 pub mod Table
 pub mod Decoding
+pub mod Shapes
 pub mod Local

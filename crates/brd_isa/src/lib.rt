@@ -13,6 +13,7 @@ pub mod laws;
 mod local;
 mod mnemonic;
 mod register;
+mod shape;
 mod word;
 
 pub use decoder::decode;
@@ -26,3 +27,7 @@ pub use instruction::{
 pub use local::is_local;
 pub use mnemonic::{MNEMONIC_NAMES, Mnemonic, is_same_name, mnemonic_name, mnemonic_named};
 pub use register::{register_name, register_named};
+pub use shape::{
+    AccessSize, Flow, MemoryAccess, Reads, Shape, Transfer, Writes, is_jump_calling,
+    is_regimm_branch_calling, shape_of,
+};

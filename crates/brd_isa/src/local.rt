@@ -1,9 +1,10 @@
 //! Which instructions are local.
 
 ghost use Rattle.std.specs.Prelude.{◌≡◌};
-ghost use Rattle.brd_isa.specs.Local.{is_local};
+ghost use Rattle.brd_isa.specs.Local.{goes_on, is_local};
 
-use crate::instruction::{ImmediateOp, Insn, RegisterOp};
+use crate::instruction::Insn;
+use crate::shape::{Flow, shape_of};
 
 /// Whether an instruction touches only registers, HI, LO and the program counter, and whatever these hold neither
 /// raises an exception nor calls the kernel. PREF and SYNC, which touch nothing, are local. Loads, stores, LL and SC,
@@ -12,16 +13,17 @@ use crate::instruction::{ImmediateOp, Insn, RegisterOp};
 pub fn is_local(insn: Insn) -> bool
     ensures { result ≡ is_local insn }
 {
-    match insn {
-        Insn::ThreeRegisters(op, _, _, _) => !matches!(op, RegisterOp::Add | RegisterOp::Sub),
-        Insn::WithImmediate(op, _, _, _) => !matches!(op, ImmediateOp::Addi),
-        Insn::Syscall(_)
-        | Insn::Break(_)
-        | Insn::Trap(_, _, _, _)
-        | Insn::TrapImmediate(_, _, _)
-        | Insn::Load(_, _, _, _)
-        | Insn::Store(_, _, _, _)
-        | Insn::Linked(_, _, _, _) => false,
-        _ => true,
-    }
+    let shape = shape_of(&insn);
+    shape.access.is_none() && goes_on(shape.flow)
+}
+
+/// Whether another instruction is executed after it, whatever the registers hold.
+#[inline(always)]
+fn goes_on(flow: Flow) -> bool
+    ensures { result ≡ goes_on flow }
+{
+    !matches!(
+        flow,
+        Flow::NextUnlessRaised | Flow::ServiceCall | Flow::Exception
+    )
 }
