@@ -1,4 +1,5 @@
 pub mod Executing
+pub mod Words
 pub mod Board
 pub mod Snapshot
 pub mod Setup

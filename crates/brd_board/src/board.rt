@@ -20,6 +20,7 @@ ghost use Rattle.brd_board.specs.Board.{
   task_of,
   spin_lock_of,
 };
+ghost use Rattle.brd_board.specs.Words.{word_from, word_at};
 ghost use Rattle.brd_board.specs.declared.event.Event.TheVariants.{Step};
 ghost use Rattle.brd_board.specs.Setup.{Boots};
 ghost use Rattle.brd_board.specs.Boot.{boot, booted_kernel, boot_words, words_config};
@@ -47,7 +48,7 @@ use brd_kernel::{Kernel, LineSetup, Spin, Standing, TaskId, TaskSetup, TaskView}
 use brd_link::Links;
 use brd_mem::{Image, Ram};
 use brd_sysgate::call;
-use brd_word::Order;
+use brd_word::{Order, word_of};
 use std::alloc::Global;
 use std::marker::Model;
 use steps::Code;
@@ -362,6 +363,30 @@ impl Board {
         ensures { result ≡ byte_at self.now.memory address }
     {
         self.ram.byte(address)
+    }
+
+    /// The word whose four bytes lie from an address on, where RAM has all of them.
+    #[tactic(auto, unfolding(crate::specs::Words::word_from))]
+    pub fn word(&self, address: u32) -> Option<u32>
+        ensures { result ≡ word_from self.now.memory address }
+    {
+        let bytes = [
+            self.memory(address)?,
+            self.memory(address.wrapping_add(1))?,
+            self.memory(address.wrapping_add(2))?,
+            self.memory(address.wrapping_add(3))?,
+        ];
+        Some(word_of(bytes, self.order()))
+    }
+
+    /// The aligned word at an address, where RAM has it: what is fetched there, and what LW loads.
+    pub fn aligned_word(&self, address: u32) -> Option<u32>
+        ensures { result ≡ word_at self.now.memory address }
+    {
+        match self.ram.load32(address) {
+            Ok(word) => Some(word),
+            Err(_) => None,
+        }
     }
 
     /// In which order the bytes of halfwords and words lie in its memory.

@@ -2,7 +2,6 @@
 //! start.
 
 ghost use Rattle.std.specs.Prelude.{◌≡◌, ◌≤◌, ◌<◌, ◌+◌, All, IfOk};
-ghost use Rattle.brd_mem.specs.Image.{symbol_value};
 ghost use Rattle.brd_mem.specs.Memory.{size_of};
 ghost use Rattle.brd_config.specs.Configuration.{IsTask};
 ghost use Rattle.brd_tasks.specs.Ready.{IsSetup};
@@ -15,7 +14,7 @@ use bitflags::Flags;
 use brd_base::{BASE, List};
 use brd_config::{HandlerConfig, Operand, Stack, TaskAttributes, TaskConfig};
 use brd_kernel::{Handler, Kernel, LineSetup, TaskSetup};
-use brd_mem::{Ram, Symbol};
+use brd_mem::{Ram, Symbol, symbol_value};
 use std::alloc::Global;
 
 /// Where a task's stack lies.
@@ -38,18 +37,6 @@ pub struct Placed {
     pub setup: TaskSetup,
     /// Where the next stack that the configuration leaves open ends.
     pub free: u32,
-}
-
-/// The value of the symbol of a name, where there is one.
-fn symbol_value(symbols: &[Symbol], name: &[u8]) -> Option<u32>
-    ensures { result ≡ symbol_value symbols.now name.now }
-{
-    for symbol in symbols {
-        if name == symbol.name.as_slice() {
-            return Some(symbol.value);
-        }
-    }
-    None
 }
 
 /// A number as it stands, or the value of the symbol that is named.

@@ -1,6 +1,7 @@
 //! Images: what is loaded into memory before the board starts.
 
 ghost use Rattle.std.specs.Prelude.{◌≡◌, IfOk};
+ghost use Rattle.brd_mem.specs.Image.{symbol_value};
 
 use crate::words::bytes_of_words;
 use brd_base::{BASE, List, NoMemory};
@@ -80,4 +81,16 @@ impl Image {
             order: Order::Big,
         })
     }
+}
+
+/// The value of the symbol of a name, where there is one.
+pub fn symbol_value(symbols: &[Symbol], name: &[u8]) -> Option<u32>
+    ensures { result ≡ symbol_value symbols.now name.now }
+{
+    for symbol in symbols {
+        if name == symbol.name.as_slice() {
+            return Some(symbol.value);
+        }
+    }
+    None
 }

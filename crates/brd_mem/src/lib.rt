@@ -10,7 +10,7 @@ mod ram;
 mod words;
 
 pub use fault::{Exc, RamFault};
-pub use image::{Bytes, Image, Segment, Segments, Symbol, Symbols};
+pub use image::{Bytes, Image, Segment, Segments, Symbol, Symbols, symbol_value};
 pub use pages::{PAGE_SIZE, Page, Pages, SharedPage};
 pub use plain::is_plain;
 pub use ram::Ram;
