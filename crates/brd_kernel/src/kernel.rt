@@ -201,6 +201,7 @@ impl Kernel {
         ensures known { IfSome result (λ p. is_task_or_none (are_there self.now.tasks) p.running ≡ true) }
         ensures within { IfSome result (λ _. IsProcessor cpu) }
     {
+        // For the proof alone: what is always true of tasks.
         self.common.tasks.are_consistent();
         if (cpu as usize) < self.common.processors.len() {
             return self.common.processors[cpu as usize];
@@ -293,6 +294,7 @@ impl Kernel {
         ensures place { IfSome result (HasPlace self.now cpu) }
         ensures within { IfSome result (λ _. IsProcessor cpu) }
     {
+        // For the proof alone: what is always true of tasks.
         self.common.tasks.are_consistent();
         if (cpu as usize) < self.common.executing.len() {
             if let Some(id) = self.common.executing[cpu as usize] {
@@ -307,6 +309,7 @@ impl Kernel {
     pub fn context(&self, cpu: u8) -> Option<&Context>
         ensures { option_copied result ≡ context_on self.now cpu }
     {
+        // For the proof alone: what is always true of tasks.
         self.common.tasks.are_consistent();
         match self.executor(cpu)? {
             Executor::Handler => Some(&self.common.handler_contexts[cpu as usize]),
@@ -401,6 +404,7 @@ impl Kernel {
         ensures changed { (j : ℕ) → j < 8 →
             bit_at result j ≡ (if has_changed self.old (dispatched self.old) (j + 1) then 1 else 0) }
     {
+        // For the proof alone: what is always true of tasks.
         self.common.tasks.are_consistent();
         let mut changed = 0u8;
         for cpu in 0..9u8 {

@@ -127,6 +127,7 @@ impl<K: Race> Books<K> {
         ensures is { result ≡ length self.now }
         ensures first { (processors : ℕ) (cpu : ℕ) → cpu < 1 → IsOwn processors self.now cpu }
     {
+        // For the proof alone: that what is counted for processor 0, which there is not, is 0.
         let _ = self.first.count();
         9
     }

@@ -107,6 +107,7 @@ impl ReadyLists {
             priority_in id (rotated priority (slice_index_or self.old cpu []))
             ≡ priority_in id (slice_index_or self.old cpu []) }
     {
+        // For the proof alone: what is always true of rings.
         self.rings.are_apart();
         self.rings.rotate(number(cpu, priority));
     }
@@ -128,6 +129,7 @@ impl ReadyLists {
         requires there { priority_in id (slice_index_or self.old cpu []) ≡ Some priority }
         ensures { self.new ≡ slice_set self.old cpu (without id (slice_index_or self.old cpu [])) }
     {
+        // For the proof alone: what is always true of rings.
         self.rings.are_apart();
         let ring = number(cpu, priority);
         self.rings.leave(ring, id);

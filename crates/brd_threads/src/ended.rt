@@ -263,6 +263,7 @@ fn is_over<K: Race>(station: &Station<K>, met: bool) -> bool
     ensures taken { outers station.now.journal.events ≡ take station.now.taken station.now.script }
     ensures order { station.now.journal.order ≡ station.now.boot.memory.order }
 {
+    // For the proof alone: its contract says of which part of the script the journal has the entries.
     let _ = station.journal();
     station.board().is_off() || (met && station.is_done())
 }
