@@ -26,7 +26,7 @@ use Rattle.brd_board.specs.Executing.{executed_by, executed_in}
 use Rattle.brd_board.specs.declared.event.Event.{Event}
 use Rattle.brd_board.specs.declared.event.Event.TheVariants.{Step, Tick, Raise}
 use Rattle.brd_board.specs.Board.{BoardState, Happened, with_executed, happens, happens_on, stepped_in, accepts_or_executes, executes_in, instruction_done, standing_of}
-use Rattle.brd_happening.specs.Word as word
+use Rattle.brd_board.specs.Words as word
 use Rattle.brd_happening.specs.Found.{stands_for, found_where, found_on}
 use Rattle.brd_happening.specs.Before.{is_call, finds_call, found_in, may_release, waiters_in}
 use Rattle.brd_happening.specs.Release.{waiters_of, release_in}

@@ -1,4 +1,3 @@
-pub mod WordLemmas
 pub mod ReleaseLemmas
 pub mod CallLemmas
 pub mod TellingLemmas

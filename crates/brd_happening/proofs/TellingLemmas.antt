@@ -2,18 +2,19 @@
 use Rattle.std.proofs.Common.{◌≡◌, ℕ, suc, zero, List, [], ◌∷◌, refl, sym, ap, ◌∙◌}
 use Rattle.std.specs.Prelude.{◌*◌, ◌%◌, ◌^◌, Bool, true, false, ◌==◌, if◌then◌else◌, slice_index, slice_set, Option, None, Some, Result, Ok, Err}
 use Rattle.brd_isa.specs.declared.instruction.{Insn.Insn, LinkedOp.LinkedOp, MoveToOp.MoveToOp}
+use Rattle.brd_isa.specs.Shapes.{return_register, is_jump_calling, is_regimm_branch_calling, shape_of}
 use Rattle.brd_mem.specs.declared.fault.Exc.{Exc}
 use Rattle.brd_mem.specs.Memory.{Memory}
 use Rattle.brd_link.specs.LinkSet.{LinkSet}
 use Rattle.brd_exec.specs.declared.outcome.ExceptionCode.{ExceptionCode}
 use Rattle.brd_exec.specs.State.{State, read, write, advanced, with_register, jumped, after_branch, return_address_of, with_return_address_if, jump_target}
-use Rattle.brd_exec.specs.Values.{Given, shift_gives, shift_variable_gives, multiply_gives, count_gives, traps, traps_immediate, is_jump_calling, is_likely, is_taken}
-use Rattle.brd_exec.specs.Values.{is_zero_branch_likely, is_zero_branch_taken, is_regimm_branch_likely, is_regimm_branch_taken, is_regimm_branch_calling}
+use Rattle.brd_exec.specs.Values.{Given, shift_gives, shift_variable_gives, multiply_gives, count_gives, traps, traps_immediate, is_likely, is_taken}
+use Rattle.brd_exec.specs.Values.{is_zero_branch_likely, is_zero_branch_taken, is_regimm_branch_likely, is_regimm_branch_taken}
 use Rattle.brd_exec.specs.Action.{with_word, sets, unless_trap, moved_from}
 use Rattle.brd_exec.specs.Step.{Effect, unless_stopped, stores, loads_linked, stores_if_linked, done, meaning}
 use Rattle.brd_happening.specs.declared.found.Found.{Found}
 use Rattle.brd_happening.specs.declared.instruction.{Change.Change, Written.Written}
-use Rattle.brd_happening.specs.Instruction.{return_register, register_by, written_in, writes_hi, writes_lo, changed_if}
+use Rattle.brd_happening.specs.Instruction.{written_in, changed_if}
 use Rattle.brd_happening.specs.Telling.{with_written, with_change, TellsEffect}
 
 -- a word that was written, read there and written again
@@ -125,8 +126,8 @@ told-conditional cpu s memory links r address true (Ok stored) = set-told s r 1
 told-conditional cpu s memory links r address false (Ok stored) = set-told s r 0
 told-conditional cpu s memory links r address linked (Err exc) = tt
 
-to-effect : (insn : Insn) (found : Found) (held : Option ℕ) (register : Option ℕ) (effect : Effect) → register_by insn ≡ register →
-    writes_hi insn ≡ false → writes_lo insn ≡ false → TellsGoes found.context register effect → TellsEffect insn found held effect
+to-effect : (insn : Insn) (found : Found) (held : Option ℕ) (register : Option ℕ) (effect : Effect) → (shape_of insn).writes.register ≡ register →
+    (shape_of insn).writes.hi ≡ false → (shape_of insn).writes.lo ≡ false → TellsGoes found.context register effect → TellsEffect insn found held effect
 to-effect insn found held register (Effect.Goes after memory links) is hi lo tells =
     let s = found.context in
     record {
@@ -136,8 +137,8 @@ to-effect insn found held register (Effect.Goes after memory links) is hi lo tel
     }
 to-effect insn found held register (Effect.Stops stop links) is hi lo tells = tt
 
-set-effect : (insn : Insn) (found : Found) (held : Option ℕ) (memory : Memory) (links : LinkSet) (r word : ℕ) → register_by insn ≡ Some r →
-    writes_hi insn ≡ false → writes_lo insn ≡ false → TellsEffect insn found held (Effect.Goes (with_register found.context r word) memory links)
+set-effect : (insn : Insn) (found : Found) (held : Option ℕ) (memory : Memory) (links : LinkSet) (r word : ℕ) → (shape_of insn).writes.register ≡ Some r →
+    (shape_of insn).writes.hi ≡ false → (shape_of insn).writes.lo ≡ false → TellsEffect insn found held (Effect.Goes (with_register found.context r word) memory links)
 set-effect insn found held memory links r word is hi lo =
     to-effect insn found held (Some r) (Effect.Goes (with_register found.context r word) memory links) is hi lo (set-told found.context r word)
 

@@ -27,7 +27,7 @@ use Rattle.brd_board.specs.declared.event.Report.TheVariants as report
 use Rattle.brd_board.specs.declared.view.Fault.{Fault}
 use Rattle.brd_board.specs.Board.{BoardState, Happened, with_executed, happens, happens_on, stepped_in, accepts_or_executes, executes_in, instruction_done, registers_of}
 use Rattle.brd_happening.specs.declared.found.Found.{Found}
-use Rattle.brd_happening.specs.Word as word
+use Rattle.brd_board.specs.Words as word
 use Rattle.brd_happening.specs.Found.{stands_for, found_by, found_where, found_on}
 use Rattle.brd_happening.specs.Before.{before_of}
 use Rattle.brd_happening.specs.Happening.{is_told, instruction_from, exception_by, executed_in as executed_where, was_raised, what_of, happening_of}

@@ -1,9 +1,12 @@
 -- Why an instruction raised an exception, by the exception's code.
 use Rattle.std.specs.Prelude.{ℕ, ◌%◌, ◌==◌, if◌then◌else◌, Option, None, Some}
 use Rattle.brd_word.specs.Words.{sign_extended16}
-use Rattle.brd_isa.specs.declared.instruction.{Insn.Insn, LinkedOp.LinkedOp}
+use Rattle.brd_isa.specs.declared.instruction.Insn.{Insn}
+use Rattle.brd_isa.specs.declared.shape.MemoryAccess.{MemoryAccess}
+use Rattle.brd_isa.specs.Shapes.{shape_of, does_load}
 use Rattle.brd_exec.specs.declared.outcome.ExceptionCode.{ExceptionCode}
-use Rattle.brd_exec.specs.State.{State, read, address_of}
+use Rattle.brd_exec.specs.State.{State, read}
+use Rattle.brd_exec.specs.Accessed.{address_in}
 use Rattle.brd_happening.specs.declared.found.Found.{Found}
 use Rattle.brd_happening.specs.declared.cause.Cause.{Cause}
 use Rattle.brd_happening.specs.declared.cause.Cause.TheVariants.{Fetch, Load, Store, Break, NoInstruction, JumpInSlot}
@@ -19,19 +22,27 @@ reserved_cause insn None = Unknown
 reserved_cause None (Some word) = NoInstruction word
 reserved_cause (Some insn) (Some word) = JumpInSlot
 
--- What an instruction does that may raise an exception: the address that it names, its code, or the words that it adds,
--- subtracts or compares. An immediate has its sign extended.
+-- Of an instruction that accesses no memory: its code, or the words that it adds, subtracts or compares. An immediate
+-- has its sign extended.
+abbrev pub computing_cause : Insn → State → Cause
+computing_cause (Insn.Break code) s = Break code
+computing_cause (Insn.ThreeRegisters op rd rs rt) s = Operands (read s rs) (read s rt)
+computing_cause (Insn.WithImmediate op rt rs immediate) s = Operands (read s rs) (sign_extended16 immediate)
+computing_cause (Insn.Trap op rs rt code) s = Operands (read s rs) (read s rt)
+computing_cause (Insn.TrapImmediate op rs immediate) s = Operands (read s rs) (sign_extended16 immediate)
+computing_cause _ s = Unknown
+
+-- of an access to memory: the address that it names
+abbrev pub access_cause : MemoryAccess → State → Cause
+access_cause access s = if does_load access.transfer then Load (address_in s access) else Store (address_in s access)
+
+abbrev pub cause_with : Option MemoryAccess → Insn → State → Cause
+cause_with None insn s = computing_cause insn s
+cause_with (Some access) insn s = access_cause access s
+
+-- what an instruction does that may raise an exception
 abbrev pub cause_by : Insn → State → Cause
-cause_by (Insn.Load op rt base offset) s = Load (address_of s base offset)
-cause_by (Insn.Store op rt base offset) s = Store (address_of s base offset)
-cause_by (Insn.Linked LinkedOp.Ll rt base offset) s = Load (address_of s base offset)
-cause_by (Insn.Linked LinkedOp.Sc rt base offset) s = Store (address_of s base offset)
-cause_by (Insn.Break code) s = Break code
-cause_by (Insn.ThreeRegisters op rd rs rt) s = Operands (read s rs) (read s rt)
-cause_by (Insn.WithImmediate op rt rs immediate) s = Operands (read s rs) (sign_extended16 immediate)
-cause_by (Insn.Trap op rs rt code) s = Operands (read s rs) (read s rt)
-cause_by (Insn.TrapImmediate op rs immediate) s = Operands (read s rs) (sign_extended16 immediate)
-cause_by _ s = Unknown
+cause_by insn s = cause_with (shape_of insn).access insn s
 
 abbrev pub instruction_cause : Option Insn → State → Cause
 instruction_cause None s = Unknown

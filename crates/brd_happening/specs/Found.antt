@@ -7,8 +7,8 @@ use Rattle.brd_exec.specs.State.{State}
 use Rattle.brd_exec.specs.Unaligned.{aligned}
 use Rattle.brd_kernel.specs.declared.processor.Standing.{Standing}
 use Rattle.brd_board.specs.Board.{BoardState, standing_of, registers_of, linked_word_of}
+use Rattle.brd_board.specs.Words.{word_at}
 use Rattle.brd_happening.specs.declared.found.Found.{Found}
-use Rattle.brd_happening.specs.Word.{word_at}
 use Rattle.brd_happening.specs.Instruction.{address_by}
 
 abbrev pub stands_for : Option ℕ → Option Insn

@@ -1,4 +1,3 @@
-pub mod Word
 pub mod Instruction
 pub mod Cause
 pub mod Found

@@ -1,5 +1,5 @@
 -- What the happening of an instruction tells is all that the instruction has changed.
-use Rattle.std.specs.Prelude.{◌≡◌, ℕ, Bool, true, false, List, slice_set, Option, None, Some}
+use Rattle.std.specs.Prelude.{◌≡◌, ℕ, Bool, false, List, slice_set, Option, None, Some}
 use Rattle.brd_isa.specs.declared.instruction.Insn.{Insn}
 use Rattle.brd_mem.specs.Memory.{Memory}
 use Rattle.brd_exec.specs.State.{State}
@@ -7,8 +7,7 @@ use Rattle.brd_exec.specs.Step.{Effect}
 use Rattle.brd_happening.specs.declared.found.Found.{Found}
 use Rattle.brd_happening.specs.declared.instruction.{Change.Change, Written.Written, Instruction.Instruction}
 use Rattle.brd_happening.specs.declared.instruction.AccessKind.{AccessKind}
-use Rattle.brd_happening.specs.declared.instruction.AccessKind.TheVariants.{Loads, Stores, StoresIfLinked}
-use Rattle.brd_happening.specs.Instruction.{instruction_of, kind_of}
+use Rattle.brd_happening.specs.Instruction.{instruction_of, kind_of, has_stored}
 
 -- the registers with the one that was written
 abbrev pub with_written : List ℕ → Option Written → List ℕ
@@ -36,9 +35,7 @@ TellsEffect insn found held (Effect.Stops stop links) = Unit {0}
 
 abbrev pub is_stored : Option AccessKind → Bool
 is_stored None = false
-is_stored (Some Loads) = false
-is_stored (Some Stores) = true
-is_stored (Some (StoresIfLinked stored)) = stored
+is_stored (Some kind) = has_stored kind
 
 abbrev pub stores_by : Insn → Bool → Bool
 stores_by insn linked = is_stored (kind_of insn linked)

@@ -2,16 +2,18 @@
 
 ghost use Rattle.std.specs.Prelude.{◌≡◌};
 ghost use Rattle.brd_happening.specs.Cause.{
-  fetch_cause,
-  reserved_cause,
+  access_cause,
   cause_by,
-  instruction_cause,
   cause_of,
+  computing_cause,
+  fetch_cause,
+  instruction_cause,
+  reserved_cause,
 };
 
 use crate::found::Found;
 use brd_exec::{Context, ExceptionCode};
-use brd_isa::{Insn, LinkedOp, Register};
+use brd_isa::{Insn, MemoryAccess, Register, shape_of};
 use brd_word::sign16;
 
 /// Why an instruction raised an exception, beside the exception's code.
@@ -94,13 +96,28 @@ fn instruction_cause(insn: Option<Insn>, context: &Context) -> Cause
 fn cause_by(insn: &Insn, context: &Context) -> Cause
     ensures { result ≡ cause_by insn.now context.now }
 {
+    match shape_of(insn).access {
+        Some(access) => access_cause(access, context),
+        None => computing_cause(insn, context),
+    }
+}
+
+/// Of an access to memory.
+fn access_cause(access: MemoryAccess, context: &Context) -> Cause
+    ensures { result ≡ access_cause access context.now }
+{
+    let address = context.address(access.base, access.offset);
+    if access.transfer.does_load() {
+        return Cause::Load(address);
+    }
+    Cause::Store(address)
+}
+
+/// Of an instruction that accesses no memory.
+fn computing_cause(insn: &Insn, context: &Context) -> Cause
+    ensures { result ≡ computing_cause insn.now context.now }
+{
     let (one, other) = match *insn {
-        Insn::Load(_, _, base, offset) | Insn::Linked(LinkedOp::Ll, _, base, offset) => {
-            return Cause::Load(context.address(base, offset));
-        }
-        Insn::Store(_, _, base, offset) | Insn::Linked(LinkedOp::Sc, _, base, offset) => {
-            return Cause::Store(context.address(base, offset));
-        }
         Insn::Break(code) => return Cause::Break(code.code()),
         Insn::ThreeRegisters(_, _, rs, rt) | Insn::Trap(_, rs, rt, _) => {
             (context.read(rs), context.read(rt))

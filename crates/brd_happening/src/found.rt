@@ -1,7 +1,6 @@
 //! What a step finds of the instruction that it executes, before anything has changed.
 
 ghost use Rattle.std.specs.Prelude.{◌≡◌};
-ghost use Rattle.brd_happening.specs.Word.{word_at};
 ghost use Rattle.brd_happening.specs.Found.{
   stands_for,
   address_in,
@@ -15,7 +14,6 @@ use crate::instruction::address_by;
 use brd_board::{Board, Standing};
 use brd_exec::Context;
 use brd_isa::{Insn, decode};
-use brd_word::word_of;
 
 /// Who executes on a processor, his next instruction, and what lies in RAM for it.
 #[derive(Clone, Copy)]
@@ -53,7 +51,7 @@ impl Found {
     fn by(board: &Board, cpu: u8, who: Standing, context: &Context) -> Found
         ensures { result ≡ found_by board.now cpu who context.now }
     {
-        let word = word_at(board, context.pc());
+        let word = board.aligned_word(context.pc());
         let insn = stands_for(word);
         let address = address_in(&insn, context);
         let held = word_around(board, address);
@@ -97,7 +95,7 @@ pub(crate) fn word_around(board: &Board, address: Option<u32>) -> Option<u32>
     ensures { result ≡ word_around board.now.memory address }
 {
     match address {
-        Some(address) => word_at(board, address - address % 4),
+        Some(address) => board.aligned_word(address - address % 4),
         None => None,
     }
 }
@@ -110,18 +108,4 @@ fn is_link_to(link: Option<u32>, address: Option<u32>) -> bool
         (Some(link), Some(address)) => link == address,
         _ => false,
     }
-}
-
-/// The aligned word at an address, where RAM has it.
-fn word_at(board: &Board, address: u32) -> Option<u32>
-    ensures { result ≡ word_at board.now.memory address }
-{
-    if address % 4 != 0 {
-        return None;
-    }
-    let first = board.memory(address)?;
-    let second = board.memory(address + 1)?;
-    let third = board.memory(address + 2)?;
-    let last = board.memory(address + 3)?;
-    Some(word_of([first, second, third, last], board.order()))
 }

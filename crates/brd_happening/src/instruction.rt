@@ -1,30 +1,23 @@
 //! An instruction that was done: what it wrote, what of memory it loaded or stored, and where it jumped.
 
-ghost use Rattle.std.specs.Prelude.{◌≡◌, if◌then◌else◌, Some, None};
+ghost use Rattle.std.specs.Prelude.{◌≡◌};
 ghost use Rattle.brd_exec.specs.State.{target_of};
-ghost use Rattle.brd_exec.specs.Values.{
-  is_taken,
-  is_zero_branch_taken,
-  is_regimm_branch_taken,
-  is_regimm_branch_calling,
-};
 ghost use Rattle.brd_happening.specs.Instruction.{
-  address_by,
-  register_by,
-  written_in,
-  writes_hi,
-  writes_lo,
-  changed_if,
-  changed,
-  kind_of,
   access_by,
-  jump_by,
+  access_in,
+  address_by,
+  changed,
+  changed_if,
+  has_stored,
   instruction_of,
+  jump_by,
+  kind_in,
+  written_in,
 };
 
 use crate::found::Found;
-use brd_exec::{Context, is_below_zero};
-use brd_isa::{BranchOp, BranchRegimmOp, BranchZeroOp, Insn, JumpOp, LinkedOp, MoveToOp, Register};
+use brd_exec::{Context, is_branch_taken, is_regimm_branch_taken, is_zero_branch_taken};
+use brd_isa::{AccessSize, Insn, MemoryAccess, Register, Shape, Transfer, Writes, shape_of};
 use brd_word::sign16;
 
 /// A word before an event and after it.
@@ -56,11 +49,28 @@ pub enum AccessKind {
     StoresIfLinked(bool),
 }
 
+impl AccessKind {
+    /// Whether it has stored.
+    pub fn has_stored(self) -> bool
+        ensures { result ≡ has_stored self }
+    {
+        match self {
+            AccessKind::Loads => false,
+            AccessKind::Stores => true,
+            AccessKind::StoresIfLinked(stored) => stored,
+        }
+    }
+}
+
 /// A load or a store.
 #[derive(Clone, Copy)]
 pub struct Access {
     /// Which.
     pub kind: AccessKind,
+    /// Whether it is LL's or SC's.
+    pub links: bool,
+    /// How much of memory it takes.
+    pub size: AccessSize,
     /// The address that it names.
     pub address: u32,
     /// The aligned word that holds this address, where RAM has all of it.
@@ -102,17 +112,16 @@ impl Instruction {
         ensures { result ≡ instruction_of insn found.now after.now held }
     {
         let before = &found.context;
+        let Shape { writes, access, .. } = shape_of(&insn);
+        let Writes { register, hi, lo } = writes;
+        let word = changed(found.held, held);
         Instruction {
             insn,
             in_slot: before.slot(),
-            register: written_in(before, after, register_by(&insn)),
-            hi: changed_if(writes_hi(&insn), before.hi(), after.hi()),
-            lo: changed_if(writes_lo(&insn), before.lo(), after.lo()),
-            access: access_by(
-                kind_of(&insn, found.linked),
-                found.address,
-                changed(found.held, held),
-            ),
+            register: written_in(before, after, register),
+            hi: changed_if(hi, before.hi(), after.hi()),
+            lo: changed_if(lo, before.lo(), after.lo()),
+            access: access_by(access, found.linked, found.address, word),
             jump: jump_by(&insn, before),
         }
     }
@@ -122,57 +131,8 @@ impl Instruction {
 pub(crate) fn address_by(insn: &Insn, context: &Context) -> Option<u32>
     ensures { result ≡ address_by insn.now context.now }
 {
-    match *insn {
-        Insn::Load(_, _, base, offset)
-        | Insn::Store(_, _, base, offset)
-        | Insn::Linked(_, _, base, offset) => Some(context.address(base, offset)),
-        _ => None,
-    }
-}
-
-/// The register that an instruction writes.
-fn register_by(insn: &Insn) -> Option<Register>
-    ensures { result ≡ register_by insn.now }
-{
-    match *insn {
-        Insn::Shift(_, rd, _, _)
-        | Insn::ShiftVariable(_, rd, _, _)
-        | Insn::ThreeRegisters(_, rd, _, _)
-        | Insn::Multiply(rd, _, _)
-        | Insn::JumpLinkRegister(rd, _)
-        | Insn::MoveFrom(_, rd)
-        | Insn::Count(_, rd, _) => Some(rd),
-        Insn::Jump(op, _) => return_register(op == JumpOp::Jal),
-        Insn::BranchRegimm(op, _, _) => return_register(is_calling(op)),
-        Insn::WithImmediate(_, rt, _, _)
-        | Insn::LoadUpper(rt, _)
-        | Insn::Load(_, rt, _, _)
-        | Insn::Linked(_, rt, _, _) => Some(rt),
-        _ => None,
-    }
-}
-
-/// The register that takes the return address of a call.
-fn return_register(calls: bool) -> Option<Register>
-    ensures { result ≡ (if calls then Some 31 else None) }
-{
-    if calls {
-        return Some(Register::low(31));
-    }
-    None
-}
-
-/// Whether `op rs, target` under REGIMM is a call.
-fn is_calling(op: BranchRegimmOp) -> bool
-    ensures { result ≡ is_regimm_branch_calling op }
-{
-    matches!(
-        op,
-        BranchRegimmOp::Bltzal
-            | BranchRegimmOp::Bgezal
-            | BranchRegimmOp::Bltzall
-            | BranchRegimmOp::Bgezall
-    )
+    let access = shape_of(insn).access?;
+    Some(context.address(access.base, access.offset))
 }
 
 /// A register that was written, with its words; register 0 never is.
@@ -190,26 +150,6 @@ fn written_in(before: &Context, after: &Context, register: Option<Register>) -> 
             new: after.read(register),
         },
     })
-}
-
-/// Whether an instruction writes HI.
-fn writes_hi(insn: &Insn) -> bool
-    ensures { result ≡ writes_hi insn.now }
-{
-    matches!(
-        *insn,
-        Insn::Product(_, _, _) | Insn::Accumulate(_, _, _) | Insn::MoveTo(MoveToOp::Mthi, _)
-    )
-}
-
-/// Whether an instruction writes LO.
-fn writes_lo(insn: &Insn) -> bool
-    ensures { result ≡ writes_lo insn.now }
-{
-    matches!(
-        *insn,
-        Insn::Product(_, _, _) | Insn::Accumulate(_, _, _) | Insn::MoveTo(MoveToOp::Mtlo, _)
-    )
 }
 
 /// A word before and after, if it was written.
@@ -231,29 +171,42 @@ fn changed(old: Option<u32>, new: Option<u32>) -> Option<Change>
     Some(Change { old, new })
 }
 
-/// How an instruction accesses memory.
-fn kind_of(insn: &Insn, linked: bool) -> Option<AccessKind>
-    ensures { result ≡ kind_of insn.now linked }
+/// How an access goes; an SC stores where its processor is linked to the address.
+fn kind_in(transfer: Transfer, linked: bool) -> AccessKind
+    ensures { result ≡ kind_in transfer linked }
 {
-    match *insn {
-        Insn::Load(_, _, _, _) | Insn::Linked(LinkedOp::Ll, _, _, _) => Some(AccessKind::Loads),
-        Insn::Store(_, _, _, _) => Some(AccessKind::Stores),
-        Insn::Linked(LinkedOp::Sc, _, _, _) => Some(AccessKind::StoresIfLinked(linked)),
-        _ => None,
+    match transfer {
+        Transfer::Load | Transfer::LoadLinked => AccessKind::Loads,
+        Transfer::Store => AccessKind::Stores,
+        Transfer::StoreConditional => AccessKind::StoresIfLinked(linked),
     }
 }
 
 /// A load or a store, of an address.
-fn access_by(kind: Option<AccessKind>, address: Option<u32>, word: Option<Change>) -> Option<Access>
-    ensures { result ≡ access_by kind address word }
+fn access_by(
+    access: Option<MemoryAccess>,
+    linked: bool,
+    address: Option<u32>,
+    word: Option<Change>,
+) -> Option<Access>
+    ensures { result ≡ access_by access linked address word }
 {
-    let kind = kind?;
+    let access = access?;
     let address = address?;
-    Some(Access {
-        kind,
+    Some(access_in(access, linked, address, word))
+}
+
+/// An access, of an address.
+fn access_in(access: MemoryAccess, linked: bool, address: u32, word: Option<Change>) -> Access
+    ensures { result ≡ access_in access linked address word }
+{
+    Access {
+        kind: kind_in(access.transfer, linked),
+        links: access.transfer.is_linked(),
+        size: access.size,
         address,
         word,
-    })
+    }
 }
 
 /// A branch or a jump, with the registers before it.
@@ -265,7 +218,7 @@ fn jump_by(insn: &Insn, context: &Context) -> Option<Jump>
         Insn::Jump(_, index) => (context.jump_target(index), true),
         Insn::Branch(op, rs, rt, offset) => (
             target_of(context, offset),
-            is_taken(op, context.read(rs), context.read(rt)),
+            is_branch_taken(op, context, rs, rt),
         ),
         Insn::BranchZero(op, rs, offset) => (
             target_of(context, offset),
@@ -285,40 +238,4 @@ fn target_of(context: &Context, offset: u16) -> u32
     ensures { result ≡ target_of context.now offset }
 {
     context.npc().wrapping_add(sign16(offset).wrapping_mul(4))
-}
-
-/// Whether `op rs, rt, target` is taken.
-fn is_taken(op: BranchOp, one: u32, other: u32) -> bool
-    ensures { result ≡ is_taken op one other }
-{
-    match op {
-        BranchOp::Beq | BranchOp::Beql => one == other,
-        BranchOp::Bne | BranchOp::Bnel => one != other,
-    }
-}
-
-/// Whether `op rs, target` is taken.
-fn is_zero_branch_taken(op: BranchZeroOp, word: u32) -> bool
-    ensures { result ≡ is_zero_branch_taken op word }
-{
-    match op {
-        BranchZeroOp::Blez | BranchZeroOp::Blezl => is_below_zero(word) || word == 0,
-        BranchZeroOp::Bgtz | BranchZeroOp::Bgtzl => !is_below_zero(word) && word != 0,
-    }
-}
-
-/// Whether `op rs, target` under REGIMM is taken.
-fn is_regimm_branch_taken(op: BranchRegimmOp, word: u32) -> bool
-    ensures { result ≡ is_regimm_branch_taken op word }
-{
-    match op {
-        BranchRegimmOp::Bltz
-        | BranchRegimmOp::Bltzl
-        | BranchRegimmOp::Bltzal
-        | BranchRegimmOp::Bltzall => is_below_zero(word),
-        BranchRegimmOp::Bgez
-        | BranchRegimmOp::Bgezl
-        | BranchRegimmOp::Bgezal
-        | BranchRegimmOp::Bgezall => !is_below_zero(word),
-    }
 }
