@@ -152,7 +152,8 @@ fn cpus_shown(timeline: &Timeline) -> Cpus {
 fn mark_top(kind: MarkKind) -> u32 {
     match kind {
         MarkKind::Call => MARK_ROW + 30,
-        _ => MARK_ROW - 100,
+        MarkKind::Fault | MarkKind::Interrupt => MARK_ROW + 5,
+        MarkKind::Tick => MARK_ROW - 100,
     }
 }
 

@@ -10,15 +10,16 @@ use crate::timeline::{Mark, MarkKind, Timeline, label_or, mark_name};
 use brd_base::NoMemory;
 
 /// The shape of a kind, from the middle of the lane's upper edge on, in pixels, with how it is drawn: a triangle for a
-/// call, a cross for a fault, a diamond for an interrupt, and a line for a tick.
+/// call, a cross for a fault, a diamond for an interrupt, and a line for a tick. A cross and a diamond end above where
+/// letters of a label begin, so that they cover none.
 fn shape_of(kind: MarkKind) -> &'static str {
     match kind {
         MarkKind::Call => "l-3.5-6h7z\" fill=\"#000000",
         MarkKind::Fault => {
-            "m0 7.5l3.5-3.5 2.5 2.5-3.5 3.5 3.5 3.5-2.5 2.5-3.5-3.5-3.5 3.5-2.5-2.5 3.5-3.5-3.5-3.5\
-             2.5-2.5z\" stroke=\"#ffffff\" fill=\"#d55e00"
+            "m0-2.8l3.2-3.2 2.3 2.3-3.2 3.2 3.2 3.2-2.3 2.3-3.2-3.2-3.2 3.2-2.3-2.3 3.2-3.2-3.2-3.2 \
+             2.3-2.3z\" stroke=\"#ffffff\" fill=\"#d55e00"
         }
-        MarkKind::Interrupt => "m0 4l4 6l-4 6l-4-6z\" stroke=\"#ffffff\" fill=\"#000000",
+        MarkKind::Interrupt => "m0-6l4 5.5l-4 5.5l-4-5.5z\" stroke=\"#ffffff\" fill=\"#000000",
         MarkKind::Tick => "v20\" fill=\"none\" stroke-width=\"1.5\" stroke=\"#000000",
     }
 }
