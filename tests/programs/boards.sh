@@ -3,7 +3,7 @@
 # print what the model says.
 . "$(dirname "$0")/check.sh"
 if have python3 "random boards beside the model"; then
-    wrong=$(tests/model/compare "$board" 2>&1) && wrong=
+    wrong=$(tests/model/compare "$board" --boards 200 2>&1) && wrong=
     verdict "random boards beside the model" "$wrong"
 fi
 summary

@@ -8,6 +8,10 @@ unset MAKEFLAGS MAKELEVEL MFLAGS
 [ $# = 1 ] || { echo "use: $0 PROGRAM" >&2; exit 2; }
 board=$(realpath -- "$1") || exit 2
 cd "$(dirname "${BASH_SOURCE[0]}")/../.." || exit 2
+# (A shim in the place of Python, as pyenv has one, takes longer than most of what is tested.)
+case $(command -v python3) in
+    */shims/python3) PATH=$(dirname "$(python3 -c 'import sys; print(sys.executable)')"):$PATH ;;
+esac
 work=$(mktemp -d) || exit 2
 trap 'rm -rf "$work"' EXIT
 : > "$work/nothing"
@@ -74,8 +78,8 @@ have() {
     command -v "$1" > /dev/null || { skip "$2" "$1"; return 1; }
 }
 
-# check_script NAME COMMAND..: runs a test of its own, which prints one line for each thing that it tried. One that
-# can't be made here prints nothing but `wants TOOL`.
+# check_script NAME COMMAND..: runs a test of its own, whose status is 0 if it passed. One that can't be made here prints
+# nothing but `wants TOOL`.
 check_script() {
     local name=$1 said
     shift
@@ -84,7 +88,6 @@ check_script() {
             skip "$name" "${said#wants }"
         else
             pass "$name"
-            echo "$said"
         fi
     else
         fail "$name" "$said"

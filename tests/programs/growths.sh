@@ -33,7 +33,6 @@ refuse_each() {
     done
     [ "$n" -gt 5 ] || wrong="$wrong; only $((n - 1)) growths were refused"
     [ "$status" = 0 ] || wrong="$wrong; the run that nothing is refused to fails"
-    [ -n "$wrong" ] || echo "$name: $((n - 1)) growths"
     verdict "$name" "${wrong:0:2000}"
 }
 

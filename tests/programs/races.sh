@@ -63,7 +63,7 @@ if have python3 "the model"; then
 fi
 
 if have python3 "random boards beside the model"; then
-    wrong=$(tests/model/races "$board" 2>&1) && wrong=
+    wrong=$(tests/model/races "$board" --boards 200 2>&1) && wrong=
     verdict "races: random boards beside the model" "$(head -n 3 <<< "$wrong")"
 fi
 
