@@ -94,6 +94,35 @@ check_script() {
     fi
 }
 
+# keep_objects: from now on the compilers for MIPS keep the object files of the kit's own sources, sdk/lib/*.c: those of
+# the same command line are the same in each project.
+keep_objects() {
+    local tool real
+    mkdir -p "$work/bin" "$work/kept"
+    for tool in mips-linux-gnu-gcc clang; do
+        real=$(command -v $tool) || continue
+        cat > "$work/bin/$tool" << END
+#!/bin/sh
+for it; do :; done
+case \$it in */sdk/lib/*.c) ;; *) exec $real "\$@" ;; esac
+for it; do
+    [ "\$before" != -o ] || made=\$it
+    before=\$it
+done
+case \$made in */kit/*.o) ;; *) exec $real "\$@" ;; esac
+kept=\$(printf '%s\n' $tool "\$@" | md5sum)
+kept=$work/kept/\${kept%% *}
+[ ! -d "\$kept" ] || exec cp "\$kept"/* "\${made%/*}"
+$real "\$@" || exit
+new=\$(mktemp -d "$work/kept/new.XXXXXX")
+cp "\$made" "\${made%.o}.d" "\$new"
+mv -T "\$new" "\$kept" 2> /dev/null || rm -r "\$new"
+END
+        chmod +x "$work/bin/$tool"
+    done
+    PATH=$work/bin:$PATH
+}
+
 # lay SCENE..: lays the files of scenes out whole, each in a folder of $laid (tests/programs/scene).
 laid=$work/scenes
 lay() {

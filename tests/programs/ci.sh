@@ -6,6 +6,7 @@
 for tool in python3 make mips-linux-gnu-gcc; do
     have "$tool" "the recipes of docs/CI.md" || { summary; exit; }
 done
+keep_objects
 
 # lines_of TITLE: the shell lines of the recipe in the section of this title.
 lines_of() {

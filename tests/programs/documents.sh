@@ -8,6 +8,7 @@ have python3 "the documents" || { summary; exit; }
 check_script "the walks" tests/programs/walks
 check_script "the picture of the crates" tests/programs/layers --check
 check_script "the links" tests/programs/links
+keep_objects
 count_in "the commands of the documents" tests/programs/documents "$board"
 
 # Which C library README.md says that the program of dist/ wants.

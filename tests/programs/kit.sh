@@ -86,37 +86,13 @@ printf '%s\n' 'entry_board 0x10000' 'entry_task 4, go, 1024, NULL' 'entry_handle
 verdict "kit: configure.awk for start.S" "$(diff "$work/wanted" "$work/entries")"
 
 have make "programs in C" || { summary; exit; }
-
-# compiler NAME COMMAND..: makes $work/NAME, which compiles as the command does, but that it keeps the object files of the
-# kit's own sources: those of a command line are the same in each project.
-compiler() {
-    local name=$1
-    shift
-    mkdir "$work/$name.kept"
-    cat > "$work/$name" << END
-#!/bin/bash
-case \${!#} in
-    "$sdk"/lib/*.c) ;;
-    *) exec $* "\$@" ;;
-esac
-for ((it = 1; it < \$#; it++)); do [ "\${!it}" != -o ] || { next=\$((it + 1)) && made=\${!next}; }; done
-kept=$work/$name.kept/\$(md5sum <<< "\$*" | cut -c1-32)
-if [ -e "\$kept.d" ]; then
-    cp "\$kept.o" "\$made" && cp "\$kept.d" "\${made%.o}.d"
-else
-    $* "\$@" && cp "\$made" "\$kept.o" && cp "\${made%.o}.d" "\$kept.d"
-fi
-END
-    chmod +x "$work/$name"
-}
-compiler gcc mips-linux-gnu-gcc
-compiler clang clang --target=mips-linux-gnu
+keep_objects
 
 # project FOLDER ARGUMENT..: make in the folder of a project.
 project() {
     local folder=$1
     shift
-    make -s -C "$folder" SDK="$sdk" BOARD="$board" BUILD="$work/build" CC="$work/gcc" "$@"
+    make -s -C "$folder" SDK="$sdk" BOARD="$board" BUILD="$work/build" "$@"
 }
 
 # A journal in which two processors take turns of a few steps, and each gets interrupts.
@@ -139,7 +115,7 @@ else
     for folder in "${projects[@]}"; do
         for level in -O0 -Os; do
             says "$(basename "$folder"), Clang, $level" 0 "ok: firmware.journal" \
-                project "$folder" test CC="$work/clang" LD=ld.lld OPTIMIZE=$level
+                project "$folder" test CC="clang --target=mips-linux-gnu" LD=ld.lld OPTIMIZE=$level
         done
     done
 fi
@@ -596,8 +572,7 @@ sleep 1
 echo '#define NUMBER 8' > "$work/outside/number.h"
 says "a header that has changed" 2 "+Hello, number 1 of 24" project "$new" test SOURCES="firmware.c ../outside/twice.c"
 touch -d '+2 seconds' "$new/ids.h"
-make -C "$new" SDK="$sdk" BOARD="$board" BUILD="$work/build" CC="$work/gcc" SOURCES="firmware.c ../outside/twice.c" \
-    > "$work/said" 2>&1
+make -C "$new" SDK="$sdk" BOARD="$board" BUILD="$work/build" SOURCES="firmware.c ../outside/twice.c" > "$work/said" 2>&1
 verdict "kit: what a changed header builds" "$(
     grep -q ' firmware.c$' "$work/said" && ! grep -q 'twice\.c$\|print\.c$' "$work/said" || cat "$work/said")"
 printf 'int printf(const char *format, ...); int printf(const char *format, ...) { return put_chr(*format); }\n' |

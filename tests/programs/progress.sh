@@ -45,27 +45,20 @@ shows() {
     verdict "progress: $name" "$wrong"
 }
 
-# lasting COMMAND ARGUMENT..: makes the journal $work/long of so many events, $events, that the command takes 1.3 seconds
-# of processor time here, so that it lasts a second at least. (It is done on fewer events first.)
-lasting() {
-    local TIMEFORMAT=%U used
-    events=100000000
-    printf 'board-journal 1\nS 1 %s\n' $events > "$work/long"
-    used=$( { time "$board" "$@" < "$input" > "$work/plain" 2> "$work/err"; } 2>&1)
-    events=$(awk -v used="$used" -v events=$events 'BEGIN { printf "%d", events * 1.3 / (used > 0.01 ? used : 0.01) }')
-    printf 'board-journal 1\nS 1 %s\n' "$events" > "$work/long"
+# shows_long NAME COMMAND ARGUMENT..: runs a command on a terminal under the journal $work/long, which gets longer until it
+# takes so long that it is shown how far it is. Without a terminal nothing is shown, and the output is the same. What
+# `debug` reads leads to the journal's end.
+shows_long() {
+    local name=$1 wrong events
+    shift
+    for events in 100000000 300000000 800000000 2000000000 5000000000; do
+        printf 'board-journal 1\nS 1 %s\n' $events > "$work/long"
+        moves "goto $events" "regs 1"
+        wrong=$(on_terminal 0 never "$line$emptied" "$@")
+        [ "$(cat "$work/shown")" = "b''" ] || break
+    done
+    verdict "progress: $name" "$wrong$(without_terminal "$@")"
 }
-
-shows "a short run" 0 never "" run "${boot[@]}" "$work/short"
-lasting trace "${boot[@]}" "$work/long" --summary
-shows "a long trace" 0 never "$line$emptied" trace "${boot[@]}" "$work/long" --summary
-lasting run "${boot[@]}" "$work/long"
-shows "a long run" 0 never "$line$emptied" run "${boot[@]}" "$work/long"
-shows "Ctrl-C in a run" 130 shown "$line.*" run "${boot[@]}" "$work/endless"
-shows "Ctrl-C in a trace" 130 shown "$line.*" trace "${boot[@]}" "$work/endless"
-shows "Ctrl-C before a trace's first event" 130 shown "$line.*" trace "${boot[@]}" "$work/endless" --from 12000000000
-
-# ---- debug: each move for itself
 
 # moves COMMAND..: what `debug` reads.
 moves() {
@@ -73,14 +66,20 @@ moves() {
     input=$work/moves
 }
 
+shows "a short run" 0 never "" run "${boot[@]}" "$work/short"
+shows_long "a long trace" trace "${boot[@]}" "$work/long" --summary
+shows_long "a long run" run "${boot[@]}" "$work/long"
+shows "Ctrl-C in a run" 130 shown "$line.*" run "${boot[@]}" "$work/endless"
+shows "Ctrl-C in a trace" 130 shown "$line.*" trace "${boot[@]}" "$work/endless"
+shows "Ctrl-C before a trace's first event" 130 shown "$line.*" trace "${boot[@]}" "$work/endless" --from 12000000000
+
+# ---- debug: each move for itself
+
 moves "goto 30" "back" "goto 5" "next" "regs 1"
 shows "short moves" 0 never "" debug "${boot[@]}" "$work/short"
 moves "goto 30" "goto 5" "regs 1"
 shows "short moves of a long journal" 0 never "" debug "${boot[@]}" "$work/long"
-moves "goto 100000000"
-lasting debug "${boot[@]}" "$work/long"
-moves "goto $events" "regs 1"
-shows "a long move" 0 never "$line$emptied" debug "${boot[@]}" "$work/long"
+shows_long "a long move" debug "${boot[@]}" "$work/long"
 # answered PATTERN ANSWER..: what is wrong with moves on a terminal, which shows this; these are all answers.
 answered() {
     on_terminal 0 never "$1" debug "${boot[@]}" "$work/traced"

@@ -7,6 +7,7 @@ sdk=$PWD/sdk
 for tool in python3 make; do
     have "$tool" "what the kit shows" || { summary; exit; }
 done
+keep_objects
 
 # sdk/debian waits for another one. (This apt-get has a package.)
 mkdir -p "$work/kit/sdk" "$work/kit/build/debian" "$work/bin"
