@@ -5,8 +5,6 @@ import re
 import signal
 import tempfile
 import time
-from concurrent.futures import ProcessPoolExecutor
-from xml.etree import ElementTree
 import expect
 import lost
 import programs
@@ -90,6 +88,8 @@ def each(function, given, jobs):
     if jobs == 1 or len(given) == 1:
         yield from map(function, given)
     else:
+        # (to load this takes longer than many a test)
+        from concurrent.futures import ProcessPoolExecutor
         ignored = (signal.SIGINT, signal.SIG_IGN)
         with ProcessPoolExecutor(jobs, initializer=signal.signal, initargs=ignored) as pool:
             try:
@@ -106,6 +106,7 @@ def for_xml(text):
 
 def add_suite(path, name, tests):
     """Adds a suite to a file in the form of JUnit."""
+    from xml.etree import ElementTree
     suites = ElementTree.parse(path).getroot() if os.path.exists(path) else ElementTree.Element("testsuites")
     failed = sum(not it.is_right for it in tests)
     suite = ElementTree.SubElement(suites, "testsuite", name=for_xml(name), tests=str(len(tests)), failures=str(failed),
