@@ -10,7 +10,7 @@ use Rattle.brd_order.specs.declared.deed.Touch.{Touch}
 use Rattle.brd_deeds.specs.declared.past.{Trail.Trail}
 use Rattle.brd_deeds.specs.declared.past.Trail.TheVariants.{Nothing, Synced, Loaded}
 use Rattle.brd_deeds.specs.declared.log.{Doer.Doer, Log.Log}
-use Rattle.brd_deeds.specs.Touches.{size_by, is_linked, does_store, touch_at}
+use Rattle.brd_deeds.specs.Touches.{size_of, does_store, touch_at}
 use Rattle.brd_deeds.specs.Past.{trail_in, with_trail, touches, notes}
 use Rattle.brd_deeds.specs.Acts.{stores_releasing, loads_linked, begins_to_load, loads_acquiring}
 
@@ -59,9 +59,9 @@ accesses_by doer touch Loads linked synced log = loads doer touch linked log
 accesses_by doer touch Stores linked synced log = stores doer touch synced log
 accesses_by doer touch (StoresIfLinked stored) linked synced log = stores_if doer touch stored log
 
-abbrev pub accesses : Doer → Insn → Access → Log → Log
-accesses doer insn access log =
-    accesses_by doer (touch_at access.address (size_by insn) (does_store access.kind)) access.kind (is_linked insn)
+abbrev pub accesses : Doer → Access → Log → Log
+accesses doer access log =
+    accesses_by doer (touch_at access.address (size_of access.size) (does_store access.kind)) access.kind access.links
     (is_synced (trail_in log.past doer.strand)) (settled doer.strand log)
 
 -- An instruction: SYNC, an access, or one that stands in nobody's way.
@@ -70,12 +70,12 @@ abbrev pub is_sync : Insn → Bool
 is_sync Insn.Sync = true
 is_sync _ = false
 
-abbrev pub accesses_if : Doer → Insn → Option Access → Log → Log
-accesses_if doer insn None log = log
-accesses_if doer insn (Some access) log = accesses doer insn access log
+abbrev pub accesses_if : Doer → Option Access → Log → Log
+accesses_if doer None log = log
+accesses_if doer (Some access) log = accesses doer access log
 
 abbrev pub executes : Doer → Instruction → Log → Log
-executes doer it log = if is_sync it.insn then syncs doer log else accesses_if doer it.insn it.access log
+executes doer it log = if is_sync it.insn then syncs doer log else accesses_if doer it.access log
 
 -- the end of the run: no SYNC follows what the strands below a number have loaded
 unfoldable pub settles_below : ℕ → Log → Log

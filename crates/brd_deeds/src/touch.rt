@@ -1,31 +1,22 @@
 //! The touches of instructions.
 
 ghost use Rattle.std.specs.Prelude.{◌≡◌, ◌≤◌};
-ghost use Rattle.brd_deeds.specs.Touches.{does_store, is_linked, size_by, synchronizing, touch_at};
+ghost use Rattle.brd_deeds.specs.Touches.{does_store, size_of, synchronizing, touch_at};
 
 use brd_happening::AccessKind;
-use brd_isa::{Insn, LinkedOp, LoadOp, StoreOp};
+use brd_isa::AccessSize;
 use brd_order::Touch;
 
-/// How many bytes an instruction touches: all of the word, where it is a part of it that depends on the byte order.
-pub(crate) fn size_by(insn: &Insn) -> u8
-    ensures is { result ≡ size_by insn.now }
+/// How many bytes an access touches: all of the word, where it is a part of it that depends on the byte order.
+pub(crate) fn size_of(size: AccessSize) -> u8
+    ensures is { result ≡ size_of size }
     ensures few { result ≤ 4 }
 {
-    match *insn {
-        Insn::Load(LoadOp::Lb | LoadOp::Lbu, _, _, _) => 1,
-        Insn::Load(LoadOp::Lh | LoadOp::Lhu, _, _, _) => 2,
-        Insn::Store(StoreOp::Sb, _, _, _) => 1,
-        Insn::Store(StoreOp::Sh, _, _, _) => 2,
-        _ => 4,
+    match size {
+        AccessSize::Byte => 1,
+        AccessSize::Halfword => 2,
+        AccessSize::Word | AccessSize::LeftPart | AccessSize::RightPart => 4,
     }
-}
-
-/// Whether an instruction is LL or SC.
-pub(crate) fn is_linked(insn: &Insn) -> bool
-    ensures { result ≡ is_linked insn.now }
-{
-    matches!(*insn, Insn::Linked(LinkedOp::Ll | LinkedOp::Sc, _, _, _))
 }
 
 /// Whether an access is a store.

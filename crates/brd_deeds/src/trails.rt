@@ -19,7 +19,7 @@ ghost use Rattle.brd_deeds.specs.Trails.{
 
 use crate::log::{Doer, Done, Log};
 use crate::past::Trail;
-use crate::touch::{does_store, is_linked, size_by, touch_at};
+use crate::touch::{does_store, size_of, touch_at};
 use brd_base::NoMemory;
 use brd_happening::{Access, AccessKind, Instruction};
 use brd_isa::Insn;
@@ -131,13 +131,17 @@ impl Log {
     }
 
     /// A word is loaded or stored.
-    fn access(&mut self, doer: Doer, insn: &Insn, access: &Access) -> Result<(), NoMemory>
-        ensures { OnOk result (self.new ≡ accesses doer insn.now access.now self.old) }
+    fn access(&mut self, doer: Doer, access: &Access) -> Result<(), NoMemory>
+        ensures { OnOk result (self.new ≡ accesses doer access.now self.old) }
     {
-        let touch = touch_at(access.address, size_by(insn), does_store(access.kind));
+        let touch = touch_at(
+            access.address,
+            size_of(access.size),
+            does_store(access.kind),
+        );
         let synced = is_synced(self.past.trail(doer.strand));
         self.settle(doer.strand)?;
-        self.access_by(doer, touch, access.kind, is_linked(insn), synced)
+        self.access_by(doer, touch, access.kind, access.links, synced)
     }
 
     /// An instruction is done.
@@ -148,7 +152,7 @@ impl Log {
             return self.sync(doer);
         }
         match done.access {
-            Some(access) => self.access(doer, &done.insn, &access),
+            Some(access) => self.access(doer, &access),
             None => Ok(()),
         }
     }
