@@ -6,12 +6,12 @@ use Rattle.std.specs.Io.KnownBytes.{Appends}
 use Rattle.brd_inputs.specs.Start.{AreWithin, IsStart}
 use Rattle.brd_board.specs.declared.event.Event.{Event}
 use Rattle.brd_board.specs.Board.{BoardState}
-use Rattle.brd_trace.specs.declared.printer.{Manner.Manner, Printer.Printer}
-use Rattle.brd_trace.specs.Telling.{IsFirstLine, IsTrace, held_text}
-use Rattle.brd_trace.proofs.TraceLemmas.{trace_nothing, trace_on}
+use Rattle.brd_printer.specs.declared.printer.{Manner.Manner, Printer.Printer}
+use Rattle.brd_printer.specs.Telling.{IsFirstLine, IsTrace, held_text}
+use Rattle.brd_printer.proofs.TraceLemmas.{trace_nothing, trace_on}
 use Rattle.brd_timeline.specs.declared.timeline.Timeline.{Timeline}
 use Rattle.brd_timeline.specs.Events.{json_text}
-use Rattle.brd_trace.specs.Slices.{AreSlices}
+use Rattle.brd_recording.specs.Slices.{AreSlices}
 use Rattle.brd_journal.specs.declared.playback.Playback.{Playback}
 use Rattle.brd_journal.specs.Playing.{IsPlayed, board_at}
 use Rattle.brd_inputs.specs.declared.fault.CommandFault.TheVariants as fault
@@ -20,13 +20,13 @@ use Rattle.brd_command.specs.declared.trace_options.TraceFormat.{TraceFormat}
 use Rattle.brd_command.specs.declared.trace_options.TraceFormat.TheVariants.{Text, Json, Svg}
 use Rattle.brd_command.specs.TraceCommand.{EndsTracing, IsOfWriting, TraceEnds, WritesLines, WritesSummary, WritesTimeline, WritesText, WritesTold, WritesTrace, WritesWholeSummary}
 use Rattle.brd_command.specs.TraceCommand.{IsPart, IsMannerOf, IsShown, WritesForm, first_of, end_of, head, words_asked}
-use Rattle.brd_trace.specs.Summary.{IsEnd, IsSummary}
+use Rattle.brd_summary.specs.Summary.{IsEnd, IsSummary}
 use Rattle.brd_report.specs.Output.{Writes}
 use Rattle.brd_command.specs.TraceCommand.{EndsDrawing, IsPicture, TellsSpins, WritesAsked}
 use Rattle.brd_command.specs.TraceCommand.{EndsRacing, KeepsFromTracing, WritesAllRaces, WritesAllStacks, WritesOther, WritesShown}
 use Rattle.brd_command.specs.RacesCommand.{AreTooMany, WritesRaces}
 use Rattle.brd_command.specs.StacksCommand.{WritesStacks}
-use Rattle.brd_trace.specs.declared.names.Names.{Names}
+use Rattle.brd_names.specs.declared.names.Names.{Names}
 use Rattle.brd_inputs.specs.declared.trace_fault.TraceFault.{TraceFault}
 use Rattle.brd_inputs.specs.declared.fault.CommandFault.{CommandFault}
 use Rattle.brd_inputs.specs.declared.start.Start.{Start}
@@ -35,10 +35,10 @@ use Rattle.brd_report.proofs.OutputLemmas.{nothing_yet, one_more}
 use Rattle.brd_mem.specs.declared.image.Symbol.{Symbol}
 use Rattle.brd_inputs.specs.declared.trace_fault.TraceFault.{TraceFault}
 use Rattle.brd_inputs.specs.declared.trace_fault.TraceFault.TheVariants as trace
-use Rattle.brd_trace.specs.Words as words
-use Rattle.brd_trace.specs.Words.{words_of}
-use Rattle.brd_trace.specs.declared.words.WordsFault.{WordsFault}
-use Rattle.brd_trace.specs.declared.words.WordsFault.TheVariants as no
+use Rattle.brd_printer.specs.Words as words
+use Rattle.brd_printer.specs.Words.{words_of}
+use Rattle.brd_printer.specs.declared.words.WordsFault.{WordsFault}
+use Rattle.brd_printer.specs.declared.words.WordsFault.TheVariants as no
 use Rattle.brd_command.specs.TraceCommand.{IsOfWords, KeepsFromAsking, of_words}
 use Rattle.brd_command.proofs.RaceLemmas.{keeps}
 

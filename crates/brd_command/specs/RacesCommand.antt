@@ -14,8 +14,8 @@ use Rattle.brd_order.specs.declared.fault.OrderFault.TheVariants.{TooManyDeeds}
 use Rattle.brd_order.specs.Races.{AreRaces}
 use Rattle.brd_order.specs.Refusals.{MayRefuse}
 use Rattle.brd_deeds.specs.Deeds.{deeds_of_run}
-use Rattle.brd_trace.specs.declared.names.Names.{Names}
-use Rattle.brd_trace.specs.Races.{races_text}
+use Rattle.brd_names.specs.declared.names.Names.{Names}
+use Rattle.brd_names.specs.Races.{races_text}
 
 -- The races of the first events of a list, on a board with these data queues, were written: of all deeds of that run
 -- the first one of each word that has one.

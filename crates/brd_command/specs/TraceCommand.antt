@@ -15,18 +15,18 @@ use Rattle.brd_spins.specs.declared.spin.Spin.{Spin}
 use Rattle.brd_spins.specs.Since.{AreSpins}
 use Rattle.brd_spins.specs.Text.{spins_text}
 use Rattle.brd_page.specs.Page.{IsRunPage}
-use Rattle.brd_trace.specs.declared.names.Names.{Names}
-use Rattle.brd_trace.specs.declared.printer.{Manner.Manner, Printer.Printer}
-use Rattle.brd_trace.specs.Telling.{IsFirstLine, IsTrace, held_text}
-use Rattle.brd_trace.specs.Words.{words_of}
+use Rattle.brd_names.specs.declared.names.Names.{Names}
+use Rattle.brd_printer.specs.declared.printer.{Manner.Manner, Printer.Printer}
+use Rattle.brd_printer.specs.Telling.{IsFirstLine, IsTrace, held_text}
+use Rattle.brd_printer.specs.Words.{words_of}
 use Rattle.brd_trace.specs.declared.tracer.Tracer.{Tracer}
-use Rattle.brd_trace.specs.Slices.{AreSlices}
-use Rattle.brd_trace.specs.Recording.{IsNoted}
+use Rattle.brd_recording.specs.Slices.{AreSlices}
+use Rattle.brd_trace.specs.Recorded.{IsNoted}
 use Rattle.brd_trace.specs.Dated.{IsDated}
-use Rattle.brd_trace.specs.Summary.{IsEnd, IsSummary}
+use Rattle.brd_summary.specs.Summary.{IsEnd, IsSummary}
 use Rattle.brd_journal.specs.Playing.{IsPlayed}
-use Rattle.brd_trace.specs.declared.words.WordsFault.{WordsFault}
-use Rattle.brd_trace.specs.declared.words.WordsFault.TheVariants as no
+use Rattle.brd_printer.specs.declared.words.WordsFault.{WordsFault}
+use Rattle.brd_printer.specs.declared.words.WordsFault.TheVariants as no
 use Rattle.brd_report.specs.Output.{Writes}
 use Rattle.brd_inputs.specs.Start.{AreWithin, IsStart, KeepsFromStarting}
 use Rattle.brd_inputs.specs.declared.fault.CommandFault.{CommandFault}

@@ -11,8 +11,11 @@ use brd_gdb::{Monitor, Request};
 use brd_journal::{Journal, MOST_RUNS};
 use brd_listing::Places;
 use brd_mem::Image;
+use brd_names::{HEAD, Names};
+use brd_printer::{Manner, Options};
 use brd_progress::Progress;
-use brd_trace::{HEAD, Manner, Names, Options, Tracer};
+use brd_summary::{put_end, put_summary};
+use brd_trace::Tracer;
 use brd_verdicts::last_steps;
 use std::alloc::Global;
 
@@ -150,10 +153,10 @@ impl History {
         let mut tracer = self.tracer(alloc)?;
         traced.play(&mut tracer, traced.part.to, progress)?;
         let mut out = Vec::new(alloc);
-        tracer.put_end(alloc, &mut out)?;
+        put_end(&tracer, alloc, &mut out)?;
         let boot = self.boot.try_copy()?;
         let steps = last_steps(boot.try_copy()?, traced.journal, traced.part.to);
-        tracer.put_summary(alloc, traced.manner.names, &steps, &mut out)?;
+        put_summary(&tracer, alloc, traced.manner.names, &steps, &mut out)?;
         traced.put_spins(boot, &tracer.playback, None, &mut out)?;
         Ok(out)
     }

@@ -17,9 +17,9 @@ use brd_config::{Config, QueueConfig};
 use brd_deeds::Racing;
 use brd_inputs::{CommandFault, TraceFault};
 use brd_journal::Journal;
+use brd_names::{Names, put_races};
 use brd_order::{OrderFault, Race};
 use brd_progress::Progress;
-use brd_trace::{Names, put_races};
 use std::alloc::Global;
 use std::io::Write;
 

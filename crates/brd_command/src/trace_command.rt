@@ -23,10 +23,10 @@ ghost use Rattle.brd_command.specs.TraceCommand.{
 };
 ghost use Rattle.brd_board.specs.Board.{BoardState as BoardOf};
 ghost use Rattle.brd_journal.specs.Playing.{IsPlayed};
-ghost use Rattle.brd_trace.specs.Slices.{AreSlices};
-ghost use Rattle.brd_trace.specs.Recording.{begun_of};
-ghost use Rattle.brd_trace.specs.Telling.{IsTrace};
-ghost use Rattle.brd_trace.specs.Words.{Adds};
+ghost use Rattle.brd_recording.specs.Slices.{AreSlices};
+ghost use Rattle.brd_trace.specs.Recorded.{begun_of};
+ghost use Rattle.brd_printer.specs.Telling.{IsTrace};
+ghost use Rattle.brd_printer.specs.Words.{Adds};
 
 use crate::progress::PIECE;
 use crate::races_command::write_races;
@@ -40,11 +40,14 @@ use brd_journal::Journal;
 use brd_lines::Source;
 use brd_listing::Places;
 use brd_mem::Image;
+use brd_names::Names;
 use brd_page::{PageFault, page};
+use brd_printer::{Manner, Options, WordsFault, add_words};
 use brd_progress::Progress;
 use brd_report::write_whole;
+use brd_summary::{put_end, put_summary};
 use brd_timeline::{PictureFault, Timeline, json, svg};
-use brd_trace::{Manner, Names, Options, Tracer, WordsFault, add_words};
+use brd_trace::Tracer;
 use brd_verdicts::last_steps;
 use std::alloc::Global;
 use std::io::{Read, Write};
@@ -336,11 +339,11 @@ impl<'a> Traced<'a> {
         let mut tracer = tracer;
         self.play(&mut tracer, self.part.to, progress)?;
         let mut first = Vec::new(self.alloc);
-        tracer.put_end(self.alloc, &mut first)?;
+        put_end(&tracer, self.alloc, &mut first)?;
         let start = boot.try_copy()?;
         let steps = last_steps(start, self.journal, self.part.to);
         let mut rest = Vec::new(self.alloc);
-        tracer.put_summary(self.alloc, self.manner.names, &steps, &mut rest)?;
+        put_summary(&tracer, self.alloc, self.manner.names, &steps, &mut rest)?;
         self.put_spins(boot, &tracer.playback, None, &mut rest)?;
         match written(writer, &first) {
             Ok(()) => {}

@@ -5,7 +5,7 @@ ghost use Rattle.brd_board.specs.Board.{BoardState as BoardOf};
 ghost use Rattle.brd_journal.specs.Playing.{IsPlayed};
 ghost use Rattle.brd_listing.specs.Listing.{IsBehind};
 ghost use Rattle.brd_report.specs.Output.{Writes};
-ghost use Rattle.brd_trace.specs.Telling.{shown_by};
+ghost use Rattle.brd_printer.specs.Telling.{shown_by};
 ghost use Rattle.brd_command.specs.TraceCommand.{
   IsOfWriting,
   TellsSpins,
@@ -21,9 +21,10 @@ use brd_base::NoMemory;
 use brd_board::Board;
 use brd_inputs::CommandFault;
 use brd_journal::Playback;
+use brd_names::HEAD;
 use brd_progress::Progress;
 use brd_spins::{put_spins, spins};
-use brd_trace::{HEAD, Tracer};
+use brd_trace::Tracer;
 use std::io::Write;
 
 impl<'a> Traced<'a> {

@@ -17,8 +17,9 @@ use brd_inputs::{
     read_whole,
 };
 use brd_page::{PageFault, Part, page};
+use brd_printer::Options;
 use brd_report::write_whole;
-use brd_trace::{Options, Tracer};
+use brd_trace::Tracer;
 use brd_try::{TryOptions, try_object};
 use std::alloc::Global;
 use std::io::{Read, Write};

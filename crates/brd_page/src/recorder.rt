@@ -13,7 +13,8 @@ use brd_exec::Context;
 use brd_happening::{Before, Happening, Instruction, What};
 use brd_journal::Playback;
 use brd_listing::{Places, write_instruction};
-use brd_trace::{Manner, Tracer};
+use brd_printer::Manner;
+use brd_trace::Tracer;
 use std::alloc::Global;
 
 /// A board that plays a journal, and the data of what it has done.

@@ -13,8 +13,10 @@ use brd_base::NoMemory;
 use brd_journal::Journal;
 use brd_listing::Places;
 use brd_mem::Image;
+use brd_names::Names;
+use brd_printer::Manner;
 use brd_timeline::{PictureFault, svg};
-use brd_trace::{Manner, Names, Tracer};
+use brd_trace::Tracer;
 use std::alloc::Global;
 
 /// How many events a page shows at most.

@@ -28,16 +28,19 @@ use Rattle.brd_journal.specs.Still.{did_nothing, does_no_more}
 use Rattle.brd_journal.proofs.AfterLemmas.{after-append}
 use Rattle.brd_journal.proofs.PlayingLemmas.{run-at, run-board, rest-board}
 use Rattle.brd_journal.proofs.StillLemmas.{happens-leaves, raise-told}
-use Rattle.brd_trace.specs.declared.tasks.TaskSeen.{TaskSeen}
+use Rattle.brd_seen.specs.declared.tasks.TaskSeen.{TaskSeen}
 use Rattle.brd_trace.specs.declared.notes.LastFault.{LastFault}
 use Rattle.brd_trace.specs.declared.notes.Notes.{Notes}
-use Rattle.brd_trace.specs.Noted.{seen_of, seen_in, all_seen, tasks_of, IsSeen, Knows, KeepsKnown, may_change}
-use Rattle.brd_trace.specs.Dated.{Condition, condition_by, condition_of, Stays, IsSince, IsOff, RaisesAt, RaisesNone, IsLast, IsLastFault, IsDated, Same, Other, FollowsTask, Follows, KeepsFault, KeepsFaults}
-use Rattle.brd_trace.proofs.ThereLemmas.{still-there, same-tasks}
+use Rattle.brd_seen.specs.Seen.{seen_of, seen_in, all_seen, IsSeen}
+use Rattle.brd_names.specs.Standings.{tasks_of, may_change}
+use Rattle.brd_trace.specs.Noted.{Knows, KeepsKnown}
+use Rattle.brd_seen.specs.Conditions.{Condition, condition_by, condition_of, Same, Other, FollowsTask}
+use Rattle.brd_trace.specs.Dated.{Stays, IsSince, IsOff, RaisesAt, RaisesNone, IsLast, IsLastFault, IsDated, Follows, KeepsFault, KeepsFaults}
+use Rattle.brd_names.proofs.ThereLemmas.{still-there, same-tasks}
 use Rattle.brd_trace.proofs.NotedLemmas.{changes-none}
-use Rattle.brd_trace.proofs.AlikeLemmas.{Alike, alike-same, alike-then, unchanged}
-use Rattle.brd_trace.specs.Telling.{is_ran}
-use Rattle.brd_trace.proofs.RanLemmas.{ran_step}
+use Rattle.brd_names.proofs.AlikeLemmas.{Alike, alike-same, alike-then, unchanged}
+use Rattle.brd_printer.specs.Telling.{is_ran}
+use Rattle.brd_printer.proofs.RanLemmas.{ran_step}
 
 -- ---- one event
 

@@ -1,14 +1,5 @@
-pub mod LinksLemmas
-pub mod TraceLemmas
-pub mod RanLemmas
-pub mod PutLemmas
-pub mod WordsLemmas
-pub mod ThereLemmas
-pub mod AlikeLemmas
-pub mod NotedLemmas
 pub mod DatedLemmas
-pub mod SlicesLemmas
+pub mod KnownLemmas
+pub mod NotedLemmas
 pub mod RecordingLemmas
-pub mod FollowLemmas
-pub mod LoadedLemmas
-pub mod SummaryLemmas
+pub mod SlicesLemmas

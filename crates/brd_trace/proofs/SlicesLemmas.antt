@@ -14,20 +14,24 @@ use Rattle.brd_journal.specs.Playing.{board_at, AllGoOn}
 use Rattle.brd_journal.specs.Runs.{ComesBehind}
 use Rattle.brd_journal.specs.Still.{does_no_more}
 use Rattle.brd_timeline.specs.declared.timeline.Slice.{Slice}
-use Rattle.brd_trace.specs.declared.tasks.TaskSeen.{TaskSeen}
-use Rattle.brd_trace.specs.declared.recording.Doing.{Doing}
-use Rattle.brd_trace.specs.declared.recording.Open.{Open}
+use Rattle.brd_seen.specs.declared.tasks.TaskSeen.{TaskSeen}
+use Rattle.brd_recording.specs.declared.recording.Doing.{Doing}
+use Rattle.brd_recording.specs.declared.recording.Open.{Open}
 use Rattle.brd_trace.specs.declared.notes.Notes.{Notes}
-use Rattle.brd_trace.specs.Noted.{Knows, IsSeen, KeepsKnown, may_change, tasks_of, standings_of}
-use Rattle.brd_trace.specs.Dated.{condition_of}
-use Rattle.brd_trace.specs.Telling.{is_ran}
-use Rattle.brd_trace.specs.Lanes.{Lanes, lanes_of}
-use Rattle.brd_trace.specs.Slices.{Subject, Cpu, OfTask, off_doing, cpu_doing, task_doing, runs_in, doing_of, cpus_in}
-use Rattle.brd_trace.specs.Slices.{subjects_by, subjects_of, slices_in, IsSlice, Follow, AreOf}
-use Rattle.brd_trace.specs.Recording.{seen_doing, doings_in, open_at, IsOpen, IsLane, AreLanes, IsRecorded}
-use Rattle.brd_trace.specs.Recording.{BecomesSlice, AddsSlice, Closes, GoesOn, Turns, FollowsLane, SeesNotes, Records}
-use Rattle.brd_trace.proofs.ThereLemmas.{still-there, same-tasks}
-use Rattle.brd_trace.proofs.AlikeLemmas.{Alike, alike-tasks, alike-standings}
+use Rattle.brd_trace.specs.Noted.{Knows, KeepsKnown}
+use Rattle.brd_seen.specs.Seen.{IsSeen}
+use Rattle.brd_names.specs.Standings.{may_change, tasks_of, standings_of}
+use Rattle.brd_seen.specs.Conditions.{condition_of}
+use Rattle.brd_printer.specs.Telling.{is_ran}
+use Rattle.brd_recording.specs.Lanes.{Lanes, lanes_of}
+use Rattle.brd_recording.specs.Slices.{Subject, Cpu, OfTask, off_doing, cpu_doing, task_doing, doing_of, cpus_in}
+use Rattle.brd_names.specs.Standings.{runs_in}
+use Rattle.brd_recording.specs.Slices.{subjects_by, subjects_of, slices_in, IsSlice, Follow, AreOf}
+use Rattle.brd_recording.specs.Recording.{seen_doing, doings_in, open_at, IsOpen, IsLane, AreLanes, IsRecorded}
+use Rattle.brd_recording.specs.Recording.{BecomesSlice, AddsSlice, Closes, GoesOn, Turns, FollowsLane}
+use Rattle.brd_trace.specs.Recorded.{SeesNotes, Records}
+use Rattle.brd_names.proofs.ThereLemmas.{still-there, same-tasks}
+use Rattle.brd_names.proofs.AlikeLemmas.{Alike, alike-tasks, alike-standings}
 use Rattle.brd_trace.proofs.NotedLemmas.{changes-none}
 use Rattle.brd_trace.proofs.DatedLemmas.{AllQuiet, alike-to, alike-condition, seen-condition, board-next, quiet-one}
 use Rattle.brd_trace.proofs.DatedLemmas.{quiet-rest, quiet-batch, at-first, event-first}

@@ -2,33 +2,19 @@
 -- turned the board off, and the last exception of each processor.
 use Rattle.std.specs.Prelude.{◌≡◌, ◌≢◌, ◌⊎◌, ℕ, suc, ◌<◌, ◌≤◌, true, false, List, All, length, slice_get, slice_set}
 use Rattle.std.specs.Prelude.{slice_index_or, unwrap_or, if◌then◌else◌, Option, None, Some}
-use Rattle.std.specs.Option.{option_map}
-use Rattle.brd_tasks.specs.declared.status.TaskState.{TaskState}
-use Rattle.brd_tasks.specs.declared.status.WaitReason.{WaitReason}
-use Rattle.brd_tasks.specs.declared.task.TaskView.{TaskView}
 use Rattle.brd_kernel.specs.declared.processor.Standing.{Standing}
 use Rattle.brd_board.specs.declared.event.Event.{Event}
 use Rattle.brd_board.specs.declared.event.Event.TheVariants.{Step}
 use Rattle.brd_board.specs.declared.event.Report.{Report}
 use Rattle.brd_board.specs.declared.event.Report.TheVariants as report
-use Rattle.brd_board.specs.Board.{BoardState, task_of, standing_of, happens}
+use Rattle.brd_board.specs.Board.{BoardState, standing_of, happens}
 use Rattle.brd_journal.specs.Playing.{board_at}
-use Rattle.brd_trace.specs.declared.tasks.TaskSeen.{TaskSeen}
+use Rattle.brd_seen.specs.declared.tasks.TaskSeen.{TaskSeen}
 use Rattle.brd_trace.specs.declared.notes.LastFault.{LastFault}
 use Rattle.brd_trace.specs.declared.notes.Notes.{Notes}
+use Rattle.brd_seen.specs.Conditions.{condition_of, FollowsTask}
 
 -- ---- since when a task is in its state
-
--- a task's state, and what it waits for
-pub record Condition : Type 0 where
-  pub state : TaskState
-  pub waiting : Option WaitReason
-
-abbrev pub condition_by : TaskView → Condition
-condition_by view = record { state = view.state; waiting = view.waiting }
-
-abbrev pub condition_of : BoardState → ℕ → Option Condition
-condition_of board id = option_map condition_by (task_of board id)
 
 -- from a position on, before another one, no event changes the condition of a task
 abbrev pub Stays : BoardState → List Event → ℕ → ℕ → ℕ → Type 0
@@ -88,22 +74,6 @@ pub record IsDated (boot : BoardState) (events : List Event) (n : ℕ) (notes : 
       (cpu : ℕ) → 1 ≤ cpu → cpu ≤ 8 → IsLastFault boot events n cpu (slice_index_or notes.faults.items cpu None)
 
 -- ---- one event
-
--- A task as it was known, as it stands after the event of a position, and since when: in the same state, since the same
--- event;
-pub record Same (old new : TaskSeen) (since : Option ℕ) : Type 0 where
-  pub state : new.state ≡ old.state
-  pub waiting : new.waiting ≡ old.waiting
-  pub since_is : since ≡ old.since
-
--- or in another one, since this event
-pub record Other (position : ℕ) (old new : TaskSeen) (since : Option ℕ) : Type 0 where
-  pub apart : (new.state ≡ old.state) × (new.waiting ≡ old.waiting) → ⊥
-  pub since_is : since ≡ Some position
-
-pub record FollowsTask (position : ℕ) (old new : TaskSeen) : Type 0 where
-  pub id : new.id ≡ old.id
-  pub since : Same old new new.since ⊎ Other position old new new.since
 
 -- each task is followed, and when the board is turned off
 pub record Follows (board : BoardState) (position : ℕ) (old new : Notes) : Type 0 where

@@ -1,14 +1,3 @@
-pub mod Lines
-pub mod Concerns
-pub mod Links
-pub mod Effects
-pub mod Quiets
-pub mod Words
-pub mod Lanes
-pub mod Noted
 pub mod Dated
-pub mod Telling
-pub mod Races
-pub mod Summary
-pub mod Slices
-pub mod Recording
+pub mod Noted
+pub mod Recorded

@@ -2,16 +2,16 @@
 
 ghost use Rattle.std.specs.Prelude.{◌≡◌, IfOk, is_some};
 ghost use Rattle.std.specs.Option.{option_map};
-ghost use Rattle.brd_trace.specs.Lanes.{lanes_of};
+ghost use Rattle.brd_recording.specs.Lanes.{lanes_of};
 ghost use Rattle.brd_trace.specs.Noted.{KeepsKnown};
-ghost use Rattle.brd_trace.specs.Recording.{begun_of, BeginsIn, EndsIn, Records};
+ghost use Rattle.brd_trace.specs.Recorded.{begun_of, BeginsIn, Records};
+ghost use Rattle.brd_recording.specs.Recording.{EndsIn};
 
-use crate::locks::Locks;
 use crate::notes::{Notes, Scene};
-use crate::recording::{Known, Recording};
 use brd_base::NoMemory;
 use brd_board::Board;
 use brd_journal::Journal;
+use brd_recording::{Known, Locks, Recording};
 use brd_timeline::{MarkKind, Timeline};
 use std::alloc::Global;
 

@@ -19,29 +19,24 @@ ghost use Rattle.std.specs.Prelude.{
 };
 ghost use Rattle.brd_board.specs.declared.event.Event.{Event as EventOf};
 ghost use Rattle.std.specs.Option.{option_map};
-ghost use Rattle.brd_trace.specs.Lanes.{lanes_of};
-ghost use Rattle.brd_trace.specs.Recording.{begun_of, Records};
-ghost use Rattle.brd_trace.specs.Noted.{Knows, KeepsKnown, may_change, off_by, tasks_of};
+ghost use Rattle.brd_recording.specs.Lanes.{lanes_of};
+ghost use Rattle.brd_trace.specs.Recorded.{begun_of, Records};
+ghost use Rattle.brd_trace.specs.Noted.{Knows, KeepsKnown, off_by};
+ghost use Rattle.brd_names.specs.Standings.{may_change, tasks_of};
 ghost use Rattle.brd_trace.specs.Dated.{IsDated, Follows, KeepsFault, KeepsFaults};
 
-use crate::cause::Raised;
-use crate::losses::{LostRaises, note_loss};
-use crate::names::Names;
-use crate::quiet::{Quiet, Stretch};
-use crate::recording::Recording;
-use crate::refusals::Refusals;
-use crate::service::{EXT_TSK, SaidCall, TER_TSK};
-use crate::tasks::{Cause, Standings, TaskSeen, follow_tasks, task_seen, tasks_seen};
-use crate::text::put;
-use crate::units::Units;
 use brd_base::NoMemory;
 use brd_board::{Board, Report, Standing, TaskId};
 use brd_happening::{CallMade, Happening, Release, What};
+use brd_names::{Names, Quiet, Standings, Stretch, put};
+use brd_printer::Raised;
+use brd_recording::{LostRaises, Recording, Refusals, Units, note_loss};
+use brd_seen::{Cause, EXT_TSK, SaidCall, TER_TSK, TaskSeen, follow_tasks, task_seen, tasks_seen};
 use std::alloc::Global;
 
 /// The last exception of a processor.
 #[derive(Drop)]
-pub(crate) struct LastFault {
+pub struct LastFault {
     /// The position of its event.
     pub position: u64,
     /// Who raised it.
@@ -161,18 +156,18 @@ fn off_by(is_off: bool, position: u64) -> Option<u64>
 
 /// What is known of a board.
 #[derive(Drop)]
-pub(crate) struct Notes {
-    pub(crate) tasks: Vec<TaskSeen>,
-    pub(crate) standings: Standings,
-    pub(crate) off: Option<u64>,
+pub struct Notes {
+    pub tasks: Vec<TaskSeen>,
+    pub standings: Standings,
+    pub off: Option<u64>,
     /// By the processor's number.
-    pub(crate) faults: Vec<Option<LastFault>>,
-    pub(crate) refusals: Vec<Refusals>,
-    pub(crate) losses: Vec<LostRaises>,
-    pub(crate) units: Units,
+    pub faults: Vec<Option<LastFault>>,
+    pub refusals: Vec<Refusals>,
+    pub losses: Vec<LostRaises>,
+    pub units: Units,
     /// The processor that handles each line; 0 where none does.
-    pub(crate) handlers: [u8; 32],
-    pub(crate) recording: Option<Recording>,
+    pub handlers: [u8; 32],
+    pub recording: Option<Recording>,
 }
 
 impl Notes {

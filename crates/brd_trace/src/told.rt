@@ -2,17 +2,15 @@
 
 ghost use Rattle.brd_trace.specs.Noted.{KeepsKnown};
 
-use crate::answer::Answered;
-use crate::cause::Raised;
 use crate::notes::{Notes, Scene};
-use crate::refusals::{Refusals, note_refusal};
-use crate::service::{RET_INT, SaidCall};
-use crate::text::{put, put_named};
-use crate::units::Unit;
 use brd_base::NoMemory;
 use brd_board::TaskId;
 use brd_happening::{Answer, CallMade, Exception, Release, What};
 use brd_kernel::Call;
+use brd_names::{put, put_named};
+use brd_printer::Raised;
+use brd_recording::{Refusals, Unit, note_refusal};
+use brd_seen::{Answered, RET_INT, SaidCall};
 use brd_timeline::MarkKind;
 
 impl Notes {

@@ -25,14 +25,15 @@ ghost use Rattle.brd_board.specs.Board.{BoardState as BoardOf};
 ghost use Rattle.brd_journal.specs.Playing.{IsPlayed};
 ghost use Rattle.brd_journal.specs.Runs.{ComesBehind};
 ghost use Rattle.brd_listing.specs.Listing.{IsBehind};
-ghost use Rattle.brd_trace.specs.declared.printer.Manner.{Manner as MannerOf};
-ghost use Rattle.brd_trace.specs.Quiets.{quiet_of};
+ghost use Rattle.brd_printer.specs.declared.printer.Manner.{Manner as MannerOf};
+ghost use Rattle.brd_seen.specs.Quiets.{quiet_of};
 ghost use Rattle.brd_trace.specs.Noted.{KeepsKnown};
-ghost use Rattle.brd_trace.specs.Recording.{begun_of, IsNoted, IsTimeline};
+ghost use Rattle.brd_trace.specs.Recorded.{begun_of, IsNoted};
+ghost use Rattle.brd_recording.specs.Recording.{IsTimeline};
 ghost use Rattle.brd_trace.specs.Dated.{IsDated};
-ghost use Rattle.brd_trace.specs.Links.{ended_text, linked_on};
-ghost use Rattle.brd_trace.specs.Concerns.{does_other};
-ghost use Rattle.brd_trace.specs.Telling.{
+ghost use Rattle.brd_printer.specs.Links.{ended_text, linked_on};
+ghost use Rattle.brd_printer.specs.Concerns.{does_other};
+ghost use Rattle.brd_printer.specs.Telling.{
   held_text,
   with_held,
   held_quiet,
@@ -53,19 +54,16 @@ ghost use Rattle.brd_trace.specs.Telling.{
   TellsOther,
 };
 
-use crate::concerns::{chosen_standing, does_other};
-use crate::line::Heading;
-use crate::links::{Links, linked_on};
-use crate::names::Names;
 use crate::notes::{Notes, Scene};
 use crate::playback::next_of;
-use crate::printer::{Manner, Options, Printer};
-use crate::quiet::{Quiet, Stretch, quiet_of, tick_of};
-use crate::text::printable;
+use crate::source::put_source_of;
 use brd_base::NoMemory;
 use brd_board::{Board, Report, Standing};
 use brd_happening::{Before, Happening, Instruction, What};
 use brd_journal::{Journal, Moved, Playback, Run};
+use brd_names::{Heading, Names, Quiet, Stretch, printable};
+use brd_printer::{Links, Manner, Options, Printer, chosen_standing, does_other, linked_on};
+use brd_seen::{quiet_of, tick_of};
 use brd_timeline::Timeline;
 use std::alloc::Global;
 
@@ -79,7 +77,8 @@ pub struct Tracer {
     pub playback: Playback,
     /// What is shown, and what is held back.
     pub printer: Printer,
-    pub(crate) notes: Notes,
+    /// What is known of the board.
+    pub notes: Notes,
     /// Where the journal looks for the next event's run.
     near: usize,
 }
@@ -410,7 +409,7 @@ impl Tracer {
             told,
         };
         let mut what = self.notes.say(scene)?;
-        manner.names.put_source_of(alloc, told, &mut what)?;
+        put_source_of(alloc, manner.names, told, &mut what)?;
         let words = printable(alloc, what.as_slice())?;
         self.printer.put_said(
             alloc,

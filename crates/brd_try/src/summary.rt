@@ -6,9 +6,11 @@ use brd_board::{Board, TaskState, TaskView};
 use brd_journal::Journal;
 use brd_listing::Places;
 use brd_mem::{Image, Segment};
+use brd_names::Names;
+use brd_printer::{Manner, Options};
 use brd_spins::{put_spins, spins};
 use brd_text::hex_digits;
-use brd_trace::{Manner, Names, Options, Tracer};
+use brd_trace::Tracer;
 use brd_verdicts::last_steps;
 use std::alloc::Global;
 
@@ -58,7 +60,7 @@ fn put_summary(
         tracer.advance_far(alloc, manner, journal, len, &mut lines)?;
     }
     let steps = last_steps(first.try_copy()?, journal, len);
-    tracer.put_summary(alloc, manner.names, &steps, out)?;
+    brd_summary::put_summary(&tracer, alloc, manner.names, &steps, out)?;
     let spinning = spins(alloc, first, journal, &tracer.playback)?;
     put_spins(
         alloc,

@@ -3,9 +3,9 @@ use Rattle.std.specs.Prelude.{MatchResult, Ok}
 use Rattle.brd_board.specs.Board.{BoardState}
 use Rattle.brd_board.specs.declared.event.Event.{Event}
 use Rattle.brd_trace.specs.declared.tracer.Tracer.{Tracer}
-use Rattle.brd_trace.specs.declared.printer.{Manner.Manner}
-use Rattle.brd_trace.specs.Telling.{shown_by}
-use Rattle.brd_trace.specs.Recording.{IsNoted}
+use Rattle.brd_printer.specs.declared.printer.{Manner.Manner}
+use Rattle.brd_printer.specs.Telling.{shown_by}
+use Rattle.brd_trace.specs.Recorded.{IsNoted}
 use Rattle.brd_trace.specs.Dated.{IsDated}
 use Rattle.brd_journal.specs.declared.playback.Playback.{Playback}
 use Rattle.brd_command.specs.TraceCommand.{KeepsFromAsking, IsPart, IsOfWriting, WritesSummary, WritesText, WritesTimeline, EndsDrawing, IsKnown}

@@ -1,5 +1,5 @@
 use Rattle.std.proofs.Common.{◌≡◌, List, ℕ, ◌++◌, sym, ap, ◌∙◌, subst}
-use Rattle.brd_trace.specs.Telling.{IsTrace}
+use Rattle.brd_printer.specs.Telling.{IsTrace}
 use Rattle.brd_command.proofs.trace_command.Traced.advance.Goals as goal
 
 pub returns-clause-told : goal.returns-clause-told

@@ -3,7 +3,7 @@
 use Rattle.std.proofs.Common.{◌≡◌, ◌≤◌, ◌-◌}
 use Rattle.brd_board.specs.Board.{BoardState}
 use Rattle.brd_journal.specs.Playing.{IsPlayed}
-use Rattle.brd_trace.specs.Recording.{begun_of}
+use Rattle.brd_trace.specs.Recorded.{begun_of}
 use Rattle.brd_command.specs.TraceCommand.{IsFollowed, IsKnown}
 use Rattle.brd_command.proofs.trace_command.Traced.play.Given as goal
 

@@ -3,7 +3,7 @@ use Rattle.std.specs.Prelude.{Option, Some}
 use Rattle.brd_timeline.specs.declared.timeline.Timeline.{Timeline}
 use Rattle.brd_journal.specs.declared.playback.Playback.{Playback}
 use Rattle.brd_journal.specs.Playing.{IsPlayed}
-use Rattle.brd_trace.specs.Recording.{IsTimeline}
+use Rattle.brd_recording.specs.Recording.{IsTimeline}
 use Rattle.brd_command.specs.TraceCommand.{IsKnown}
 use Rattle.brd_command.proofs.trace_command.Traced.timeline.Goals as goal
 

@@ -1,5 +1,5 @@
 use Rattle.std.proofs.Common.{◌≡◌, ℕ, List, sym, subst, arith}
-use Rattle.brd_trace.specs.Telling.{IsTrace}
+use Rattle.brd_printer.specs.Telling.{IsTrace}
 use Rattle.brd_command.specs.TraceCommand.{WritesTold}
 use Rattle.brd_command.proofs.TraceLemmas.{told-first, told-more}
 use Rattle.brd_command.proofs.trace_command.Traced.write_events.Goals as goal

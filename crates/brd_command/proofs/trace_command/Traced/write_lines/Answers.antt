@@ -1,7 +1,7 @@
 use Rattle.std.proofs.Common.{ℕ, List, [], subst}
 use Rattle.std.specs.Io.KnownBytes.{Appends}
-use Rattle.brd_trace.specs.declared.printer.Printer.{Printer}
-use Rattle.brd_trace.specs.Telling.{shown_by}
+use Rattle.brd_printer.specs.declared.printer.Printer.{Printer}
+use Rattle.brd_printer.specs.Telling.{shown_by}
 use Rattle.brd_command.specs.TraceCommand.{head, WritesLines}
 use Rattle.brd_command.proofs.TraceLemmas.{begins, if-then, last-of, lines-behind}
 use Rattle.brd_command.proofs.trace_command.Traced.write_lines.Goals as goal

@@ -1,8 +1,8 @@
 use Rattle.std.proofs.Common.{◌≡◌, ℕ, List, ◌++◌, sym, ap, ◌∙◌, subst}
 use Rattle.brd_journal.specs.declared.playback.Playback.{Playback}
 use Rattle.brd_journal.specs.Playing.{IsPlayed}
-use Rattle.brd_trace.specs.declared.printer.Printer.{Printer}
-use Rattle.brd_trace.specs.Telling.{IsFirstLine, held_text, shown_by}
+use Rattle.brd_printer.specs.declared.printer.Printer.{Printer}
+use Rattle.brd_printer.specs.Telling.{IsFirstLine, held_text, shown_by}
 use Rattle.brd_command.specs.TraceCommand.{WritesTold}
 use Rattle.brd_command.proofs.TraceLemmas.{in-any, last-of, lines-of}
 use Rattle.brd_command.proofs.trace_command.Traced.write_stretch.Goals as goal

@@ -1,6 +1,6 @@
 use Rattle.std.proofs.Common.{◌≡◌, ℕ, List, ◌++◌, sym, ap, ◌∙◌, subst}
 use Rattle.std.specs.Prelude.{None}
-use Rattle.brd_trace.specs.Summary.{IsEnd, IsSummary}
+use Rattle.brd_summary.specs.Summary.{IsEnd, IsSummary}
 use Rattle.brd_board.specs.Board.{BoardState}
 use Rattle.brd_journal.specs.Playing.{IsPlayed}
 use Rattle.brd_verdicts.specs.Steps.{AreLastSteps}

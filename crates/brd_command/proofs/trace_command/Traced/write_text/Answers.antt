@@ -2,7 +2,7 @@ use Rattle.std.proofs.Common.{◌∙◌, sym, subst}
 use Rattle.brd_board.specs.Board.{BoardState}
 use Rattle.brd_journal.specs.Playing.{IsPlayed}
 use Rattle.brd_report.specs.Output.{Writes}
-use Rattle.brd_trace.specs.Telling.{shown_by}
+use Rattle.brd_printer.specs.Telling.{shown_by}
 use Rattle.brd_command.specs.TraceCommand.{TellsSpins}
 use Rattle.brd_command.proofs.TraceLemmas.{last-of, text-alone, text-spun}
 use Rattle.brd_command.proofs.trace_command.Traced.write_text.Goals as goal

@@ -1,10 +1,11 @@
 use Rattle.std.proofs.Common.{◌+◌, sym, ap, subst, ◌∙◌}
 use Rattle.std.specs.Prelude.{length, slice_index_or, unwrap_or}
 use Rattle.std.specs.Option.{option_map}
-use Rattle.brd_trace.specs.Lanes.{lanes_of}
-use Rattle.brd_trace.specs.Recording.{Records}
+use Rattle.brd_recording.specs.Lanes.{lanes_of}
+use Rattle.brd_trace.specs.Recorded.{Records}
 use Rattle.brd_trace.specs.Noted.{off_by}
-use Rattle.brd_trace.specs.Dated.{FollowsTask, KeepsFaults}
+use Rattle.brd_seen.specs.Conditions.{FollowsTask}
+use Rattle.brd_trace.specs.Dated.{KeepsFaults}
 use Rattle.brd_trace.proofs.DatedLemmas.{followed}
 use Rattle.brd_trace.proofs.RecordingLemmas.{records-same}
 use Rattle.brd_trace.proofs.notes.Notes.follow.Goals as goal

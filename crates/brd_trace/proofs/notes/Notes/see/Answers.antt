@@ -1,7 +1,7 @@
 use Rattle.std.proofs.Common.{Some, sym, ap, ◌∙◌}
 use Rattle.std.specs.Option.{option_map}
-use Rattle.brd_trace.specs.declared.recording.Recording.{Recording}
-use Rattle.brd_trace.specs.Lanes.{Lanes}
+use Rattle.brd_recording.specs.declared.recording.Recording.{Recording}
+use Rattle.brd_recording.specs.Lanes.{Lanes}
 use Rattle.brd_trace.proofs.notes.Notes.see.Goals as goal
 
 pub returns-in_ok-see_locks-in-Some-clause-begun : goal.returns-in_ok-see_locks-in-Some-clause-begun

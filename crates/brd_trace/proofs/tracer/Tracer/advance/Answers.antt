@@ -1,4 +1,4 @@
-use Rattle.brd_trace.proofs.TraceLemmas.{puts_nothing}
+use Rattle.brd_printer.proofs.TraceLemmas.{puts_nothing}
 use Rattle.brd_trace.proofs.tracer.Tracer.advance.Goals as goal
 
 pub returns-clause-played : goal.returns-clause-played

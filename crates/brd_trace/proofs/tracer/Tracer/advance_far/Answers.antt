@@ -1,5 +1,5 @@
 use Rattle.std.proofs.Common.{◌∙◌, refl, le_refl, arith}
-use Rattle.brd_trace.proofs.TraceLemmas.{puts_nothing, puts_on}
+use Rattle.brd_printer.proofs.TraceLemmas.{puts_nothing, puts_on}
 use Rattle.brd_trace.proofs.tracer.Tracer.advance_far.Goals as goal
 
 pub loop-self-init : goal.loop-self-init

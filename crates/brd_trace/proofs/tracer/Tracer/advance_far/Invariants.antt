@@ -3,8 +3,8 @@
 use Rattle.std.proofs.Common.{◌≡◌, ◌≤◌, ◌-◌}
 use Rattle.brd_board.specs.Board.{BoardState}
 use Rattle.brd_journal.specs.Playing.{IsPlayed}
-use Rattle.brd_trace.specs.Telling.{IsTrace}
-use Rattle.brd_trace.specs.Recording.{begun_of, IsNoted}
+use Rattle.brd_printer.specs.Telling.{IsTrace}
+use Rattle.brd_trace.specs.Recorded.{begun_of, IsNoted}
 use Rattle.brd_trace.specs.Dated.{IsDated}
 use Rattle.brd_listing.specs.Listing.{IsBehind}
 use Rattle.brd_trace.proofs.tracer.Tracer.advance_far.Given as goal

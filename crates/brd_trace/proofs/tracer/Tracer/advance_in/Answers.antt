@@ -7,14 +7,14 @@ use Rattle.brd_journal.specs.Playing.{AreStill, board_at, IsPlayed}
 use Rattle.brd_journal.specs.Still.{does_no_more}
 use Rattle.brd_journal.proofs.PlayingLemmas.{first-board}
 use Rattle.brd_journal.proofs.RestLemmas.{rest_some}
-use Rattle.brd_trace.specs.Links.{ended_by, ended_text, linked_on}
-use Rattle.brd_trace.specs.Telling.{is_ran, may_list, Tells}
-use Rattle.brd_trace.proofs.LinksLemmas.{concerns_by, ends_by}
-use Rattle.brd_trace.specs.Concerns.{concerns, does_other}
-use Rattle.brd_trace.proofs.RanLemmas.{passes_both, ran_hidden, told_ended, told_is}
-use Rattle.brd_trace.proofs.TraceLemmas.{puts_one, puts_hidden}
+use Rattle.brd_printer.specs.Links.{ended_by, ended_text, linked_on}
+use Rattle.brd_printer.specs.Telling.{is_ran, may_list, Tells}
+use Rattle.brd_printer.proofs.LinksLemmas.{concerns_by, ends_by}
+use Rattle.brd_printer.specs.Concerns.{concerns, does_other}
+use Rattle.brd_printer.proofs.RanLemmas.{passes_both, ran_hidden, told_ended, told_is}
+use Rattle.brd_printer.proofs.TraceLemmas.{puts_one, puts_hidden}
 use Rattle.brd_trace.specs.Dated.{IsDated}
-use Rattle.brd_trace.proofs.AlikeLemmas.{kept-known}
+use Rattle.brd_trace.proofs.KnownLemmas.{kept-known}
 use Rattle.brd_trace.proofs.NotedLemmas.{noted-on, noted-ran}
 use Rattle.brd_trace.proofs.DatedLemmas.{dated-on, dated-ran, kept-dated}
 use Rattle.brd_happening.specs.Happening.{processor_of}
@@ -22,8 +22,8 @@ use Rattle.brd_happening.specs.Before.{who_of}
 use Rattle.brd_board.specs.declared.event.Event.{Event}
 use Rattle.std.specs.Prelude.{None, unwrap_or}
 use Rattle.std.specs.Option.{option_map}
-use Rattle.brd_trace.specs.Lanes.{lanes_of}
-use Rattle.brd_trace.specs.Recording.{IsRecorded}
+use Rattle.brd_recording.specs.Lanes.{lanes_of}
+use Rattle.brd_recording.specs.Recording.{IsRecorded}
 use Rattle.brd_trace.proofs.SlicesLemmas.{recorded-on, recorded-ran}
 use Rattle.brd_trace.proofs.RecordingLemmas.{keeps-begun}
 use Rattle.brd_trace.proofs.tracer.Tracer.advance_in.Goals as goal

@@ -1,6 +1,6 @@
 use Rattle.std.proofs.Common.{◌∙◌}
 use Rattle.std.specs.Option.{option_map}
-use Rattle.brd_trace.specs.Lanes.{lanes_of}
+use Rattle.brd_recording.specs.Lanes.{lanes_of}
 use Rattle.brd_trace.proofs.RecordingLemmas.{timeline-is, begun-from}
 use Rattle.brd_trace.proofs.tracer.Tracer.into_timeline.Goals as goal
 

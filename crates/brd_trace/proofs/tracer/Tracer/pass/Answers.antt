@@ -1,13 +1,13 @@
 use Rattle.std.proofs.Common.{ℕ, ◌≡◌, [], false, sym, subst, arith}
 use Rattle.std.proofs.lemmas.Grind.{common_steps}
-use Rattle.brd_trace.specs.Telling.{IsTrace, may_list}
-use Rattle.brd_trace.proofs.RanLemmas.{all_hidden, none_done}
+use Rattle.brd_printer.specs.Telling.{IsTrace, may_list}
+use Rattle.brd_printer.proofs.RanLemmas.{all_hidden, none_done}
 use Rattle.brd_trace.specs.Dated.{IsDated}
 use Rattle.brd_trace.proofs.NotedLemmas.{noted-far}
 use Rattle.brd_trace.proofs.DatedLemmas.{dated-far}
 use Rattle.std.specs.Option.{option_map}
-use Rattle.brd_trace.specs.Lanes.{lanes_of}
-use Rattle.brd_trace.specs.Recording.{IsRecorded}
+use Rattle.brd_recording.specs.Lanes.{lanes_of}
+use Rattle.brd_recording.specs.Recording.{IsRecorded}
 use Rattle.brd_trace.proofs.SlicesLemmas.{recorded-far}
 use Rattle.brd_trace.proofs.tracer.Tracer.pass.Goals as goal
 

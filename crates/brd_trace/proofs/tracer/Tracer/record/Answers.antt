@@ -1,7 +1,7 @@
 use Rattle.std.proofs.Common.{ℕ, sym, ap, subst}
 use Rattle.std.specs.Option.{option_map}
 use Rattle.brd_journal.specs.Playing.{board_at}
-use Rattle.brd_trace.specs.Lanes.{lanes_of}
+use Rattle.brd_recording.specs.Lanes.{lanes_of}
 use Rattle.brd_trace.specs.Noted.{Knows}
 use Rattle.brd_trace.proofs.RecordingLemmas.{recorded-begins, same-knows, begins-begun}
 use Rattle.brd_trace.proofs.tracer.Tracer.record.Goals as goal

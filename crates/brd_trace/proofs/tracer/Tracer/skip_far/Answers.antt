@@ -1,8 +1,8 @@
 use Rattle.std.proofs.Common.{sym, ap, subst}
 use Rattle.std.specs.Option.{option_map}
-use Rattle.brd_trace.specs.Lanes.{lanes_of}
+use Rattle.brd_recording.specs.Lanes.{lanes_of}
 use Rattle.brd_trace.specs.Noted.{Knows}
-use Rattle.brd_trace.specs.Recording.{IsRecorded}
+use Rattle.brd_recording.specs.Recording.{IsRecorded}
 use Rattle.brd_trace.proofs.tracer.Tracer.skip_far.Goals as goal
 
 pub returns-clause-noted : goal.returns-clause-noted

@@ -1,11 +1,11 @@
 use Rattle.std.proofs.Common.{rules, ◌≡◌, true, false, sym, ◌∙◌, subst, List, Bool}
 use Rattle.std.specs.Prelude.{Some, None}
 use Rattle.brd_listing.specs.Listing.{IsBehind}
-use Rattle.brd_trace.specs.Links.{ended_text, linked_on}
-use Rattle.brd_trace.specs.Concerns.{does_other}
-use Rattle.brd_trace.specs.Telling.{instruction_in, is_untold, TellsInstruction, TellsOther}
-use Rattle.brd_trace.specs.Quiets.{quiet_of}
-use Rattle.brd_trace.proofs.PutLemmas.{an_instruction, another, untold}
+use Rattle.brd_printer.specs.Links.{ended_text, linked_on}
+use Rattle.brd_printer.specs.Concerns.{does_other}
+use Rattle.brd_printer.specs.Telling.{instruction_in, is_untold, TellsInstruction, TellsOther}
+use Rattle.brd_seen.specs.Quiets.{quiet_of}
+use Rattle.brd_printer.proofs.PutLemmas.{an_instruction, another, untold}
 use Rattle.brd_trace.proofs.tracer.Tracer.tell.Goals as goal
 
 pub returns-in-Some-clause-told : goal.returns-in-Some-clause-told

@@ -1,6 +1,6 @@
 use Rattle.std.proofs.Common.{subst, sym}
 use Rattle.brd_listing.specs.Names.{IsPrintable}
-use Rattle.brd_trace.proofs.PutLemmas.{line_and_more}
+use Rattle.brd_printer.proofs.PutLemmas.{line_and_more}
 use Rattle.brd_trace.proofs.tracer.Tracer.tell_line.Goals as goal
 
 pub returns-clause-told : goal.returns-clause-told

@@ -1,7 +1,7 @@
 use Rattle.std.proofs.Common.{rules, ◌≡◌, sym, ◌∙◌}
 use Rattle.std.specs.Prelude.{Some, None}
-use Rattle.brd_trace.specs.Quiets.{quiet_of}
-use Rattle.brd_trace.proofs.PutLemmas.{quiet_events, other_line}
+use Rattle.brd_seen.specs.Quiets.{quiet_of}
+use Rattle.brd_printer.proofs.PutLemmas.{quiet_events, other_line}
 use Rattle.brd_trace.proofs.tracer.Tracer.tell_other.Goals as goal
 
 pub returns-in_default-clause-told : goal.returns-in_default-clause-told

@@ -1,0 +1,3 @@
+pub mod AlikeLemmas
+pub mod LoadedLemmas
+pub mod ThereLemmas

@@ -1,0 +1,77 @@
+-- Events that change nothing, of which those of one kind are one line, with how many they are.
+use Rattle.std.specs.Prelude.{ℕ, ◌+◌, ◌-◌, ◌^◌, ◌==◌, min, if◌then◌else◌, List, ◌++◌, codes, Option, Some, None}
+use Rattle.std.specs.Fmt.{decimal}
+use Rattle.brd_kernel.specs.declared.processor.Standing.{Standing}
+use Rattle.brd_names.specs.declared.line.Heading.{Heading}
+use Rattle.brd_names.specs.declared.stretch.{Quiet.Quiet, Stretch.Stretch}
+use Rattle.brd_names.specs.declared.stretch.Quiet.TheVariants.{Idle, Stopped, NoProcessor, Spins, Tick, TimeOver}
+use Rattle.brd_names.specs.declared.stretch.Quiet.TheVariants.{NoLine, Again, Off}
+use Rattle.brd_names.specs.contracts.stretch.QuietPartialEq.TheImpl as quiets
+use Rattle.brd_names.specs.Lines.{named_text, count_text, signed_text}
+
+-- ---- their line
+
+abbrev pub processor_of : Quiet → Option ℕ
+processor_of (Idle cpu) = Some cpu
+processor_of (Stopped cpu) = Some cpu
+processor_of (NoProcessor cpu) = Some cpu
+processor_of (Spins spin) = Some spin.cpu
+processor_of _ = None
+
+abbrev pub who_of : Quiet → Option Standing
+who_of (Spins spin) = Some (Standing.Task spin.task)
+who_of _ = None
+
+abbrev pub place_of : Quiet → Option ℕ
+place_of (Spins spin) = Some spin.place
+place_of _ = None
+
+abbrev pub heading_of : Stretch → Heading
+heading_of it = record {
+  position = it.position;
+  cpu = processor_of it.quiet;
+  who = who_of it.quiet;
+  place = place_of it.quiet;
+}
+
+abbrev pub steps_text : Stretch → List ℕ
+steps_text it = count_text it.count (codes "step")
+
+abbrev pub spins_text : Stretch → ℕ → List ℕ
+spins_text it lock =
+    codes "loc_spn(" ++ signed_text lock ++ named_text (codes "), spins for lock") lock ++ codes ", " ++ steps_text it
+
+abbrev pub raises_text : Stretch → ℕ → List ℕ → List ℕ
+raises_text it line what = named_text (codes "line") line ++ what ++ count_text it.count (codes "raise")
+
+abbrev pub late_text : Stretch → List ℕ
+late_text it = codes "time is over: " ++ count_text it.count (codes "tick") ++ codes " not counted"
+
+abbrev pub ticks_text : Stretch → List ℕ
+ticks_text it =
+    if it.count == 1 then named_text (codes "tick") it.tick
+    else named_text (codes "ticks") (it.tick - (it.count - 1)) ++ codes " to " ++ decimal it.tick
+
+abbrev pub stretch_text : Stretch → Quiet → List ℕ
+stretch_text it (Idle cpu) = codes "idle, " ++ steps_text it
+stretch_text it (Stopped cpu) = codes "stopped, " ++ steps_text it
+stretch_text it (NoProcessor cpu) = codes "no such processor, " ++ steps_text it
+stretch_text it (Spins spin) = spins_text it spin.lock
+stretch_text it Tick = ticks_text it
+stretch_text it TimeOver = late_text it
+stretch_text it (NoLine line) = raises_text it line (codes " has no handler: ")
+stretch_text it (Again line) = raises_text it line (codes " is pending already: ")
+stretch_text it Off = codes "off: " ++ count_text it.count (codes "event") ++ codes " left out"
+
+-- ---- those of one kind are one line
+
+abbrev pub joined : Stretch → Stretch → Option Stretch
+joined it more =
+    if quiets.ghosts.eq it.quiet more.quiet
+    then Some (record {
+      quiet = it.quiet;
+      position = it.position;
+      count = min (it.count + more.count) (2 ^ 64 - 1);
+      tick = more.tick;
+    })
+    else None

@@ -1,0 +1,5 @@
+pub mod Concerns
+pub mod Effects
+pub mod Links
+pub mod Telling
+pub mod Words
