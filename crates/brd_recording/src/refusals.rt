@@ -1,7 +1,7 @@
 //! Service calls that were answered with an error, by kind.
 
 use brd_base::NoMemory;
-use brd_names::{Names, put, put_count, put_named, put_number, put_signed};
+use brd_names::{Names, put, put_count, put_named, put_signed};
 use brd_seen::{SaidCall, error_name};
 use std::alloc::Global;
 
@@ -31,22 +31,37 @@ impl Refusals {
     /// Puts a line at the end: the call, its answer, how often it came, and where the first time.
     pub fn put(&self, alloc: Global, names: Names, out: &mut Vec<u8>) -> Result<(), NoMemory> {
         put(out, "refused: ")?;
+        self.put_call(alloc, out)?;
+        self.put_first(alloc, names, out)?;
+        self.put_others(alloc, out)?;
+        put(out, "\n")
+    }
+
+    /// Puts the call and its answer at the end.
+    fn put_call(&self, alloc: Global, out: &mut Vec<u8>) -> Result<(), NoMemory> {
         self.call.put(alloc, out)?;
         put(out, " = ")?;
         match error_name(self.code) {
-            Some(name) => put(out, name)?,
-            None => put_signed(alloc, out, self.code)?,
+            Some(name) => put(out, name),
+            None => put_signed(alloc, out, self.code),
         }
-        put(out, " at event ")?;
-        put_number(alloc, out, self.position)?;
+    }
+
+    /// Puts at the end when the first one was answered, and where it was made.
+    fn put_first(&self, alloc: Global, names: Names, out: &mut Vec<u8>) -> Result<(), NoMemory> {
+        put_named(alloc, out, " at event", self.position)?;
         put(out, ", at ")?;
-        names.put_both(out, self.place)?;
-        if self.count > 1 {
-            put(out, ", and ")?;
-            put_count(alloc, out, self.count - 1, "time")?;
-            put(out, " after it")?;
+        names.put_both(out, self.place)
+    }
+
+    /// Puts at the end how many came after the first one, if any did.
+    fn put_others(&self, alloc: Global, out: &mut Vec<u8>) -> Result<(), NoMemory> {
+        if self.count <= 1 {
+            return Ok(());
         }
-        put(out, "\n")
+        put(out, ", and ")?;
+        put_count(alloc, out, self.count - 1, "time")?;
+        put(out, " after it")
     }
 }
 

@@ -86,7 +86,7 @@ impl<'a> Scene<'a> {
     }
 
     /// The name and the cause of an exception.
-    fn fault_text(&self, place: u32) -> Result<Vec<u8>, NoMemory> {
+    pub(crate) fn fault_text(&self, place: u32) -> Result<Vec<u8>, NoMemory> {
         let mut what = Vec::new(self.alloc);
         if let What::Exception(exception) = self.told.what {
             let raised = Raised { place, exception };

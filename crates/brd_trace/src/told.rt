@@ -5,13 +5,13 @@ ghost use Rattle.brd_trace.specs.Noted.{KeepsKnown};
 use crate::notes::{Notes, Scene};
 use brd_base::NoMemory;
 use brd_board::TaskId;
-use brd_happening::{Answer, CallMade, Exception, Release, What};
+use brd_happening::{Answer, CallMade, Release, What};
 use brd_kernel::Call;
 use brd_names::{put, put_named};
-use brd_printer::Raised;
 use brd_recording::{Refusals, Unit, note_refusal};
 use brd_seen::{Answered, RET_INT, SaidCall};
 use brd_timeline::MarkKind;
+use std::alloc::Global;
 
 impl Notes {
     /// What is said of an event that is no instruction and does something.
@@ -20,7 +20,7 @@ impl Notes {
     {
         match it.told.what {
             What::Call(call) => self.say_call(it, &call),
-            What::Exception(exception) => self.say_exception(it, exception),
+            What::Exception(_) => self.say_exception(it),
             What::Raised(line) => self.say_raised(it, line),
             What::Accepted(line) => self.say_accepted(it, line),
             What::Tick(number) => self.say_tick(it, number),
@@ -38,33 +38,35 @@ impl Notes {
         Ok(what)
     }
 
+    /// A mark with what is said of a step, and then what the event changed.
+    fn with_mark(&mut self, it: Scene, kind: MarkKind, what: Vec<u8>) -> Result<Vec<u8>, NoMemory>
+        ensures { KeepsKnown self.old self.new }
+    {
+        self.mark(it.alloc, it.told.cpu, it.position, kind, what.as_slice())?;
+        self.with_changes(it, what)
+    }
+
     /// A service call: the call, its answer, and what it changed.
     fn say_call(&mut self, it: Scene, made: &CallMade) -> Result<Vec<u8>, NoMemory>
         ensures { KeepsKnown self.old self.new }
     {
         let call = SaidCall { asked: made.asked };
-        let mut what = Vec::new(it.alloc);
-        call.put(it.alloc, &mut what)?;
-        match made.answer {
+        let what = call_text(it.alloc, call, made.answer)?;
+        self.note_answer(it, call, made.answer)?;
+        self.with_mark(it, MarkKind::Call, what)
+    }
+
+    /// Notes a call that was answered in its own event.
+    fn note_answer(&mut self, it: Scene, call: SaidCall, answer: Answer) -> Result<(), NoMemory>
+        ensures { KeepsKnown self.old self.new }
+    {
+        match answer {
             Answer::Given { code, second } => {
                 let answered = Answered { call, code, second };
-                answered.put_answer(it.alloc, &mut what)?;
-                self.note(it.position, it.task(), answered, it.told.place.unwrap_or(0))?;
+                self.note(it.position, it.task(), answered, it.told.place.unwrap_or(0))
             }
-            Answer::Never if call.number() == RET_INT => put(
-                &mut what,
-                ", the interrupt is ended",
-            )?,
-            Answer::Never | Answer::Waits { .. } | Answer::Again => {}
+            Answer::Never | Answer::Waits { .. } | Answer::Again => Ok(()),
         }
-        self.mark(
-            it.alloc,
-            it.told.cpu,
-            it.position,
-            MarkKind::Call,
-            what.as_slice(),
-        )?;
-        self.with_changes(it, what)
     }
 
     /// Notes a call of a task, or of a handler, with its answer: those with an error are counted, and so are the units
@@ -140,42 +142,19 @@ impl Notes {
     }
 
     /// An exception: its cause, and what it ended.
-    fn say_exception(&mut self, it: Scene, exception: Exception) -> Result<Vec<u8>, NoMemory>
+    fn say_exception(&mut self, it: Scene) -> Result<Vec<u8>, NoMemory>
         ensures { KeepsKnown self.old self.new }
     {
-        let mut what = Vec::new(it.alloc);
-        let place = it.told.place.unwrap_or(0);
-        let raised = Raised { place, exception };
-        raised.put(it.alloc, it.names, &mut what)?;
-        self.mark(
-            it.alloc,
-            it.told.cpu,
-            it.position,
-            MarkKind::Fault,
-            what.as_slice(),
-        )?;
-        self.with_changes(it, what)
+        let what = it.fault_text(it.told.place.unwrap_or(0))?;
+        self.with_mark(it, MarkKind::Fault, what)
     }
 
     /// An interrupt that a processor accepts.
     fn say_accepted(&mut self, it: Scene, line: u8) -> Result<Vec<u8>, NoMemory>
         ensures { KeepsKnown self.old self.new }
     {
-        let mut what = Vec::new(it.alloc);
-        put_named(
-            it.alloc,
-            &mut what,
-            "accepts the interrupt of line",
-            u64::from(line),
-        )?;
-        self.mark(
-            it.alloc,
-            it.told.cpu,
-            it.position,
-            MarkKind::Interrupt,
-            what.as_slice(),
-        )?;
-        self.with_changes(it, what)
+        let what = named(it.alloc, "accepts the interrupt of line", u64::from(line))?;
+        self.with_mark(it, MarkKind::Interrupt, what)
     }
 
     /// A tick that releases somebody.
@@ -183,8 +162,7 @@ impl Notes {
         ensures { KeepsKnown self.old self.new }
     {
         self.record_tick(it.position, number)?;
-        let mut what = Vec::new(it.alloc);
-        put_named(it.alloc, &mut what, "tick", number)?;
+        let what = named(it.alloc, "tick", number)?;
         self.with_changes(it, what)
     }
 
@@ -192,13 +170,7 @@ impl Notes {
     fn say_raised(&mut self, it: Scene, line: u8) -> Result<Vec<u8>, NoMemory>
         ensures { KeepsKnown self.old self.new }
     {
-        let mut what = Vec::new(it.alloc);
-        put_named(
-            it.alloc,
-            &mut what,
-            "the interrupt of line",
-            u64::from(line),
-        )?;
+        let mut what = named(it.alloc, "the interrupt of line", u64::from(line))?;
         put(&mut what, " is raised")?;
         self.mark_raise(it.alloc, it.position, line, what.as_slice())?;
         Ok(what)
@@ -213,4 +185,36 @@ impl Notes {
             None => Ok(()),
         }
     }
+}
+
+/// A call and its answer.
+fn call_text(alloc: Global, call: SaidCall, answer: Answer) -> Result<Vec<u8>, NoMemory> {
+    let mut what = Vec::new(alloc);
+    call.put(alloc, &mut what)?;
+    put_answer(alloc, call, answer, &mut what)?;
+    Ok(what)
+}
+
+/// Puts the answer of a call at the end, if it has one, or that it has ended an interrupt.
+fn put_answer(
+    alloc: Global,
+    call: SaidCall,
+    answer: Answer,
+    what: &mut Vec<u8>,
+) -> Result<(), NoMemory> {
+    match answer {
+        Answer::Given { code, second } => {
+            let answered = Answered { call, code, second };
+            answered.put_answer(alloc, what)
+        }
+        Answer::Never if call.number() == RET_INT => put(what, ", the interrupt is ended"),
+        Answer::Never | Answer::Waits { .. } | Answer::Again => Ok(()),
+    }
+}
+
+/// Some words and a number.
+fn named(alloc: Global, words: &str, number: u64) -> Result<Vec<u8>, NoMemory> {
+    let mut what = Vec::new(alloc);
+    put_named(alloc, &mut what, words, number)?;
+    Ok(what)
 }
