@@ -12,7 +12,12 @@ SEED = 1
 # How many inputs `make fuzz` tries, from the seed SEED on.
 INPUTS = 5000
 
-.PHONY: unpack demo check board dist test attack compare qemu fuzz firmware gate-times bench bench-parts clean
+# Where `make install` puts the program and the kit for C, below DESTDIR, and the file that `make package` makes.
+PREFIX = /usr/local
+DESTDIR =
+PACKAGE = build/board.deb
+
+.PHONY: unpack demo check board dist test attack compare qemu fuzz firmware gate-times bench bench-parts install uninstall package clean
 
 # Runs the examples on the program of dist/.
 demo: unpack
@@ -98,6 +103,21 @@ bench-parts:
 	crates/bench_asm/out/bench_asm time
 	cd crates/bench_elf && rt run >/dev/null
 	crates/bench_elf/out/bench_elf time
+
+# Installs the program of build/board, that of dist/ if there is none, the kit for C, examples, documents, pages of the
+# manual, completions for bash and zsh, and files for pkg-config and CMake. It needs Python 3, and no toolchain.
+install:
+	[ -x $(BOARD) ] || $(MAKE) unpack
+	install/install $(BOARD) '$(PREFIX)' '$(DESTDIR)'
+
+# Removes all of it.
+uninstall:
+	install/uninstall '$(PREFIX)' '$(DESTDIR)'
+
+# The same as a package of Debian, for `dpkg -i`.
+package:
+	[ -x $(BOARD) ] || $(MAKE) unpack
+	install/package $(BOARD) '$(PACKAGE)'
 
 clean:
 	rm -rf build crates/*/out

@@ -18,6 +18,7 @@
 #   make run            shows the report of JOURNAL (firmware.journal)
 #   make debug          debugs JOURNAL with the names of C
 #   make gdb            debugs JOURNAL with GDB, forward and backward
+#   make gdb-server     leaves build/gdb-server, for `target remote | build/gdb-server` of a GDB that an editor starts
 #   make trace          shows what happens under JOURNAL, with files and lines of C; TRACEFLAGS: `board trace`'s options
 #   make races          shows the data races of JOURNAL, and fails where there is one
 #   make page           leaves JOURNAL as a page for a browser, build/firmware.html
@@ -72,7 +73,10 @@ TRACEFLAGS ?=
 BUILD ?= build
 REPORTS ?= $(BUILD)/ci
 
-BOARD ?= $(SDK)/../build/board
+# The program, and where the kit builds a C library: in a clone, or with an installed kit.
+IN_CLONE := $(wildcard $(SDK)/../Makefile)
+BOARD ?= $(SDK)/$(if $(IN_CLONE),../build/board,../../../bin/board)
+export KIT_BUILD ?= $(if $(IN_CLONE),$(SDK)/../build,$(or $(XDG_CACHE_HOME),$(HOME)/.cache)/board)
 export CROSS ?= mips-linux-gnu-
 CC = $(CROSS)gcc
 LD = $(CROSS)ld
@@ -94,17 +98,19 @@ MACHINE = $(ENDIAN) -march=mips32 -mabi=32 -msoft-float -mno-abicalls -fno-pic -
 SYSTEM = -U__linux__ -U__linux -Ulinux -U__gnu_linux__ -U__unix__ -U__unix -Uunix
 
 # The headers of the kit and of the compiler, and with LIBC those of the C library; never those of this system.
-LIBRARY = $(SDK)/../build/libc/$(ORDER)
+LIBRARY = $(KIT_BUILD)/libc/$(ORDER)
 COMPILERS := $(shell $(CC) -print-file-name=include)
 HEADERS = -nostdinc -isystem $(SDK)/include $(if $(filter 1,$(LIBC)),-isystem $(LIBRARY)/include) \
     -isystem $(COMPILERS) -isystem $(SDK)/include/plain
 DEPENDS = -MMD -MP
-COMPILE = $(CC) $(MACHINE) $(SYSTEM) $(if $(filter 1,$(LIBC)),-DBOARD_LIBC,-ffreestanding) -fno-stack-protector \
+FLAGS_OF_C = $(MACHINE) $(SYSTEM) $(if $(filter 1,$(LIBC)),-DBOARD_LIBC,-ffreestanding) -fno-stack-protector \
     -fno-asynchronous-unwind-tables -std=gnu11 -g $(OPTIMIZE) -Wall -Wextra \
-    $(if $(STACK_CHECK),-finstrument-functions) $(HEADERS) -I. $(CFLAGS)
-ASSEMBLE = $(CC) $(MACHINE) -g -DHANDLER_STACK=$(HANDLER_STACK) $(HEADERS) -I.
-LINK = $(LD) $(ENDIAN) -n -z noexecstack -e 0x80000000 -T $(SDK)/board.ld
-CONFIGURE = $(CC) -E -x c -undef $(HEADERS) -D__ASSEMBLER__ -include itron.h -I.
+    $(if $(STACK_CHECK),-finstrument-functions) $(HEADERS)
+COMPILE = $(CC) $(FLAGS_OF_C) -I. $(CFLAGS)
+FLAGS_OF_ASSEMBLER = $(MACHINE) -g $(HEADERS)
+ASSEMBLE = $(CC) $(FLAGS_OF_ASSEMBLER) -DHANDLER_STACK=$(HANDLER_STACK) -I.
+FLAGS_OF_LINKER = $(ENDIAN) -n -z noexecstack -e 0x80000000 -T $(SDK)/board.ld
+LINK = $(LD) $(FLAGS_OF_LINKER)
 
 KIT = $(BUILD)/kit
 OBJECTS = $(BUILD)/objects
@@ -115,7 +121,8 @@ KIT_OBJECTS = $(patsubst %,$(KIT)/%.o,stop format $(if $(filter 1,$(LIBC)),syste
 sources = $(or $(SOURCES_$1),$(if $(word 2,$(PROGRAMS)),$1.c,$(SOURCES)))
 object = $(OBJECTS)/$(patsubst /%,root/%,$(subst ../,up/,$1)).o
 objects = $(BUILD)/$1/start.o $(foreach it,$(call sources,$1),$(call object,$(it)))
-ARCHIVES = $(filter %.a -l% -L%,$(LIBS)) $(if $(filter 1,$(LIBC)),$(LIBRARY)/libc.a)
+NEEDED = $(if $(filter 1,$(LIBC)),$(LIBRARY)/libc.a)
+ARCHIVES = $(filter %.a -l% -L%,$(LIBS)) $(NEEDED)
 ALL_SOURCES = $(sort $(foreach it,$(PROGRAMS),$(call sources,$(it))))
 FLAGS = $(CURDIR) $(COMPILE) $(ASSEMBLE) $(LINK) $(LIBS) $(foreach it,$(PROGRAMS),$(it) $(call objects,$(it)))
 WRONG := $(filter-out %.c %.S %.s,$(ALL_SOURCES))
@@ -126,7 +133,7 @@ CONFIGURATION = $(BUILD)/$(PROGRAM).cfg
 # Its tests: of the only program all journals are.
 journals = $(if $(word 2,$(PROGRAMS)),$(wildcard $1.journal $1.*.journal),$(wildcard *.journal))
 
-.PHONY: all test ci accept run debug gdb trace races page cover stacks hunt explore shrink clean FORCE
+.PHONY: all test ci accept run debug gdb gdb-server settings trace races page cover stacks hunt explore shrink clean FORCE
 .DELETE_ON_ERROR:
 .SECONDARY:
 
@@ -135,7 +142,7 @@ all: $(foreach it,$(PROGRAMS),$(BUILD)/$(it)/judged)
 # The libraries come twice: before the kit's objects, whose functions are weak, and after those, which may use them.
 define program
 $(BUILD)/$1.elf: $(call objects,$1) $(KIT_OBJECTS) $(filter-out -%,$(LIBS)) $(SDK)/board.ld \
-    $(if $(filter 1,$(LIBC)),$(LIBRARY)/libc.a)
+    $(NEEDED)
 	$$(LINK) -o $$@ $(call objects,$1) $(LIBS) $(KIT_OBJECTS) --start-group $(ARCHIVES) --end-group
 
 # Whether the board takes both.
@@ -145,28 +152,20 @@ $(BUILD)/$1/judged: $(BUILD)/$1.elf $(BUILD)/$1.cfg
 $(BUILD)/$1/start.o: $(SDK)/lib/start.S $(BUILD)/$1.cfg $(BUILD)/flags
 	$$(ASSEMBLE) -I$(BUILD)/$1 -c -o $$@ $$<
 
-# The configuration's IDs by their names, tasks and handlers by their functions in C, and expressions by their values.
 # It makes entries.inc for start.S, too, and the list of the names.
-$(BUILD)/$1.cfg: $1.cfg $(SDK)/lib/configure.awk $(SDK)/lib/names.h $(BUILD)/flags
-	@mkdir -p $(BUILD)/$1
-	$$(CONFIGURE) -MMD -MP -MT $$@ -MF $(BUILD)/$1/configuration.d $$< > $(BUILD)/$1/lines.cfg
-	@$$(CONFIGURE) -P -include $(SDK)/lib/names.h $$< > $(BUILD)/$1/names
-	@awk -v main=$$< -v expressions=$(BUILD)/$1/values.c -f $(SDK)/lib/configure.awk $(BUILD)/$1/lines.cfg
-	@$$(COMPILE) -w -S -o $(BUILD)/$1/values $(BUILD)/$1/values.c
-	@awk '{ gsub("\t", ""); if (/^@@/) print }' $(BUILD)/$1/values > $(BUILD)/$1/values.found
-	awk -v main=$$< -v values=$(BUILD)/$1/values.found -v entries=$(BUILD)/$1/entries.inc \
-	    -f $(SDK)/lib/configure.awk $(BUILD)/$1/lines.cfg > $$@
+$(BUILD)/$1.cfg: $1.cfg $(SDK)/configure $(SDK)/lib/configure.awk $(SDK)/lib/names.h $(BUILD)/flags
+	$(SDK)/configure $$< $$@ $$(COMPILE)
 endef
 $(foreach it,$(PROGRAMS),$(eval $(call program,$(it))))
 
 define compiled
-$(call object,$1): $1 $(BUILD)/flags
+$(call object,$1): $1 $(BUILD)/flags | $(NEEDED)
 	@mkdir -p $$(@D)
 	$(if $(filter %.c,$1),$$(COMPILE),$$(ASSEMBLE)) $(if $(filter %.s,$1),,$$(DEPENDS)) -c -o $$@ $$<
 endef
 $(foreach it,$(ALL_SOURCES),$(eval $(call compiled,$(it))))
 
-$(KIT)/%.o: $(SDK)/lib/%.c $(BUILD)/flags
+$(KIT)/%.o: $(SDK)/lib/%.c $(BUILD)/flags | $(NEEDED)
 	$(COMPILE) $(DEPENDS) -c -o $@ $<
 
 $(KIT)/%.o: $(SDK)/lib/%.S $(BUILD)/flags
@@ -207,6 +206,19 @@ run: all
 debug: all
 	@$(SDK)/ordered $(IMAGE) $(JOURNAL) > $(BUILD)/debug.journal
 	@$(SDK)/debug $(BOARD) $(IMAGE) $(CONFIGURATION) $(BUILD)/debug.journal
+
+# For editors that start GDB by themselves: what GDB's `target remote |` is given.
+gdb-server: all
+	@$(SDK)/ordered $(IMAGE) $(JOURNAL) > $(BUILD)/debug.journal
+	@printf '%s\n' '#!/bin/sh' "cd '$(CURDIR)'" \
+	    "exec '$(BOARD)' gdb '$(IMAGE)' '$(CONFIGURATION)' '$(BUILD)/debug.journal'" > $(BUILD)/gdb-server
+	@chmod +x $(BUILD)/gdb-server
+	@echo $(BUILD)/gdb-server
+
+# For other tools that build (sdk/cmake), a line each: how the names of the tools begin, the flags of the compiler, of the
+# assembler and of the linker, the program, and the C library.
+settings:
+	@printf '%s\n' '$(CROSS)' '$(FLAGS_OF_C)' '$(FLAGS_OF_ASSEMBLER)' '$(FLAGS_OF_LINKER)' '$(BOARD)' '$(LIBRARY)'
 
 gdb: all
 	@$(SDK)/ordered $(IMAGE) $(JOURNAL) > $(BUILD)/debug.journal

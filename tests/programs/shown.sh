@@ -12,6 +12,7 @@ keep_objects
 # sdk/debian waits for another one. (This apt-get has a package.)
 mkdir -p "$work/kit/sdk" "$work/kit/build/debian" "$work/bin"
 cp sdk/debian "$work/kit/sdk"
+: > "$work/kit/Makefile"
 cat > "$work/bin/apt-get" << END
 #!/bin/sh
 case "\$*" in
