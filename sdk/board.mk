@@ -34,12 +34,15 @@
 # STACK_CHECK=1 with any of these: each function looks whether the stack has room for it. ORDER=little: the program is
 # little-endian, and its journals are taken for it. LIBC=1: with the C library that sdk/libc has built.
 #
+# DATA = frames.bin: files whose bytes are linked into the program as they are.
+#
 # A project of several programs names them, PROGRAMS = meter scale: each has its meter.cfg, its sources, SOURCES_meter
-# (meter.c if left out), and its tests, meter.journal and meter.*.journal. PROGRAM says which one is run, debugged or
-# hunted.
+# (meter.c if left out), its DATA_meter, and its tests, meter.journal and meter.*.journal. PROGRAM says which one is run,
+# debugged or hunted.
 PROGRAMS ?= firmware
 PROGRAM ?= $(firstword $(PROGRAMS))
 SOURCES ?= $(PROGRAM).c
+DATA ?=
 LIBS ?=
 LIBC ?=
 OPTIMIZE ?= -O2
@@ -83,6 +86,8 @@ LD = $(CROSS)ld
 
 ENDIAN_big = -EB
 ENDIAN_little = -EL
+EMULATION_big = elf32btsmip
+EMULATION_little = elf32ltsmip
 ENDIAN := $(or $(ENDIAN_$(ORDER)),$(error ORDER is big or little, and not '$(ORDER)'))
 $(if $(filter-out 1,$(LIBC)),$(error LIBC is 1 or nothing, and not '$(LIBC)'))
 $(if $(filter-out 1,$(STRICT)),$(error STRICT is 1 or nothing, and not '$(STRICT)'))
@@ -120,7 +125,8 @@ KIT_OBJECTS = $(patsubst %,$(KIT)/%.o,stop format $(if $(filter 1,$(LIBC)),syste
 # The sources of a program, and where the object file of a source is: below BUILD, wherever the source is.
 sources = $(or $(SOURCES_$1),$(if $(word 2,$(PROGRAMS)),$1.c,$(SOURCES)))
 object = $(OBJECTS)/$(patsubst /%,root/%,$(subst ../,up/,$1)).o
-objects = $(BUILD)/$1/start.o $(foreach it,$(call sources,$1),$(call object,$(it)))
+data = $(or $(DATA_$1),$(if $(word 2,$(PROGRAMS)),,$(DATA)))
+objects = $(BUILD)/$1/start.o $(foreach it,$(call sources,$1) $(call data,$1),$(call object,$(it)))
 NEEDED = $(if $(filter 1,$(LIBC)),$(LIBRARY)/libc.a)
 ARCHIVES = $(filter %.a -l% -L%,$(LIBS)) $(NEEDED)
 ALL_SOURCES = $(sort $(foreach it,$(PROGRAMS),$(call sources,$(it))))
@@ -164,6 +170,14 @@ $(call object,$1): $1 $(BUILD)/flags | $(NEEDED)
 	$(if $(filter %.c,$1),$$(COMPILE),$$(ASSEMBLE)) $(if $(filter %.s,$1),,$$(DEPENDS)) -c -o $$@ $$<
 endef
 $(foreach it,$(ALL_SOURCES),$(eval $(call compiled,$(it))))
+
+# The bytes of a file, from _binary_NAME_start to _binary_NAME_end.
+define bytes
+$(call object,$1): $1 $(BUILD)/flags
+	@mkdir -p $$(@D)
+	$$(LD) $(ENDIAN) -m $(EMULATION_$(ORDER)) -r -b binary -o $$@ $$<
+endef
+$(foreach it,$(sort $(foreach it,$(PROGRAMS),$(call data,$(it)))),$(eval $(call bytes,$(it))))
 
 $(KIT)/%.o: $(SDK)/lib/%.c $(BUILD)/flags | $(NEEDED)
 	$(COMPILE) $(DEPENDS) -c -o $@ $<

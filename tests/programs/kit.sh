@@ -105,7 +105,7 @@ awk 'BEGIN {
     }
     print "S 2 50000\nS 1 50000"
 }' > "$work/kit/shared/firmware.journal"
-projects=(examples/c_program examples/c_two_processors "$work"/kit/*)
+projects=(examples/c_program examples/c_protocol examples/c_two_processors "$work"/kit/*)
 what="programs in C, as Clang makes them"
 if ! have clang "$what" || ! have ld.lld "$what"; then
     :
@@ -591,6 +591,15 @@ printf 'int printf(const char *format, ...); int printf(const char *format, ...)
 project "$new" "$work/build/objects/up/outside/mine.c.o" SOURCES="firmware.c ../outside/mine.c"
 mips-linux-gnu-ar rc "$work/outside/libmine.a" "$work/build/objects/up/outside/mine.c.o"
 mistake "a library" 2 "+HHH" firmware.c '' test LIBS="$work/outside/libmine.a"
+mkdir "$new/data"
+printf 'abc' > "$new/data/x-y.bin"
+mistake "the bytes of a file" 2 "+Hello, number 1 of 6" firmware.c \
+    's/, times)/, 2 * (_binary_data_x_y_bin_end - _binary_data_x_y_bin_start))/
+        s/^void press/extern const char _binary_data_x_y_bin_start[], _binary_data_x_y_bin_end[];\n&/' \
+    test DATA=data/x-y.bin
+printf 'abcd' > "$new/data/x-y.bin"
+says "the bytes of a file that has changed" 2 "+Hello, number 1 of 8" project "$new" test DATA=data/x-y.bin
+rm -r "$new/data"
 mistake "a section of another name" 2 "mips-linux-gnu-ld: the program and the stacks of its tasks don't fit into RAM" \
     firmware.c '$a__attribute__((section(".mine,\\"aw\\",@nobits#"))) char pool[61400];' all
 mistake "a section .noinit" 2 "mips-linux-gnu-ld: the program and the stacks of its tasks don't fit into RAM" \
@@ -755,7 +764,7 @@ mem added|000000[0-9a-f]{2}
 mem added+3|[0-9a-f]{2}
 break adder|ok
 break firmware.c:0|no code begins at firmware\.c:0; the next line with code is firmware\.c:[0-9]+
-goto 0|at 0: line 3 is raised
+goto 0|at 0: line 3 \(TICKED\) is raised
 next|at [0-9]+: processor [12] in adder \(firmware\.c:[0-9]+\)
 regs 1|pc 80[0-9a-f]{6} [a-z_0-9]+ \([a-z]+\.[a-zS]+:[0-9]+\)
 watch nothing|the program has no variable 'nothing'

@@ -1,7 +1,7 @@
 #!/bin/bash
-# What the kit for C makes of what `board` prints, and what it judges by itself: tests/programs/shown.sh PROGRAM. Names of the
-# configuration, files and lines of C; assertions; searches and hunts that end when their time is over; a configuration
-# that the board doesn't take.
+# What the kit for C makes of what `board` prints, and what it judges by itself: tests/programs/shown.sh PROGRAM. Names of
+# the configuration, files and lines of C; assertions; searches and hunts that end when their time is over; a
+# configuration that the board doesn't take.
 . "$(dirname "$0")/check.sh"
 sdk=$PWD/sdk
 for tool in python3 make; do
@@ -104,6 +104,8 @@ for form in json svg html lcov callgrind; do
     # (In the name of a file the project's folder stands; `board` is called elsewhere.)
     verdict "what isn't text is as it was, $form" "$(cmp "$work/wanted" "$work/out")"
 done
+printf '%s\n' 'goto 2000' | make -s -C "$new" SDK="$sdk" BOARD="$board" BUILD="$work/build" debug > "$work/said" 2>&1
+has "names in the debugger" '^at 2000: line 3 \(BUTTON\) is raised$'
 says "a wrong option of a trace" 2 '^board: ' "$new" trace TRACEFLAGS="--from 9 --to 1"
 verdict "a trace that nobody reads any more" "$(
     make -s -C "$new" SDK="$sdk" BOARD="$board" BUILD="$work/build" trace 2>&1 > >(head -n 1 > "$work/out") |
