@@ -8,12 +8,18 @@ unset MAKEFLAGS MAKELEVEL MFLAGS
 [ $# = 1 ] || { echo "use: $0 PROGRAM" >&2; exit 2; }
 board=$(realpath -- "$1") || exit 2
 cd "$(dirname "${BASH_SOURCE[0]}")/../.." || exit 2
-# (A shim in the place of Python, as pyenv has one, takes longer than most of what is tested.)
-case $(command -v python3) in
-    */shims/python3) PATH=$(dirname "$(python3 -c 'import sys; print(sys.executable)')"):$PATH ;;
-esac
 work=$(mktemp -d) || exit 2
 trap 'rm -rf "$work"' EXIT
+# Python without what this machine adds to it (a shim, packages), which takes longer to load than most tests. The folder
+# of such a python3 is PLAIN_PYTHON.
+if [ -z "${PLAIN_PYTHON:-}" ] && command -v python3 > /dev/null; then
+    PLAIN_PYTHON=$work/plain
+    mkdir "$PLAIN_PYTHON"
+    printf '#!/bin/sh\nexec "%s" -S "$@"\n' "$(python3 -c 'import sys; print(sys.executable)')" > "$PLAIN_PYTHON/python3"
+    chmod +x "$PLAIN_PYTHON/python3"
+    PATH=$PLAIN_PYTHON:$PATH
+    export PLAIN_PYTHON
+fi
 : > "$work/nothing"
 passed=0
 failed=0

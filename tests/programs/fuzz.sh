@@ -66,6 +66,6 @@ END
     done
 fi
 
-wrong=$(tests/programs/fuzz "$board" --count 300 --samples "$work/samples" 2>&1) && wrong=
+wrong=$(tests/programs/fuzz "$board" --count 200 --samples "$work/samples" 2>&1) && wrong=
 verdict "random and spoiled inputs" "$wrong"
 summary

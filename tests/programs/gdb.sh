@@ -5,6 +5,7 @@
 . "$(dirname "$0")/check.sh"
 sdk=$PWD/sdk
 have gdb-multiarch "GDB on the board" || { summary; exit; }
+keep_objects
 ulimit -c 0
 
 # session NAME: runs GDB on $elf, $cfg and $journal. On standard input are its commands, each after '> ', and between

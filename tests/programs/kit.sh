@@ -113,7 +113,9 @@ elif ! clang --target=mips-linux-gnu -x c -c -o "$work/object" /dev/null 2> /dev
     skip "$what" "a Clang with MIPS"
 else
     for folder in "${projects[@]}"; do
-        for level in -O0 -Os; do
+        levels="-O0 -Os"
+        [[ "$folder" != examples/* ]] || levels=-Os
+        for level in $levels; do
             says "$(basename "$folder"), Clang, $level" 0 "ok: firmware.journal" \
                 project "$folder" test CC="clang --target=mips-linux-gnu" LD=ld.lld OPTIMIZE=$level
         done
