@@ -3,8 +3,8 @@
 use Rattle.std.specs.Prelude.{◌≡◌, ◌≢◌, ◌≤◌, ◌<◌, ◌+◌, ℕ, Bool, true, false, if◌then◌else◌}
 use Rattle.std.specs.Prelude.{List, [], ◌∷◌, length, replicate, slice_index, slice_get, Contains}
 use Rattle.std.specs.Prelude.{Option, None, Some}
-use Rattle.brd_isa.specs.declared.instruction.Insn.{Insn}
 use Rattle.brd_exec.specs.State.{State}
+use Rattle.brd_exec.specs.Storing.{is_store}
 use Rattle.brd_board.specs.declared.event.Event.TheVariants.{Step}
 use Rattle.brd_board.specs.Board.{BoardState, happens, after, registers_of, standing_of}
 use Rattle.brd_happening.specs.declared.call.{Answer.Answer, CallMade.CallMade}
@@ -12,16 +12,11 @@ use Rattle.brd_happening.specs.declared.call.Answer.TheVariants.{Again}
 use Rattle.brd_happening.specs.declared.happening.{What.What}
 use Rattle.brd_happening.specs.declared.happening.What.TheVariants as what
 use Rattle.brd_happening.specs.Happening.{happening_of}
-use Rattle.brd_happening.specs.Telling.{stores_by}
 use Rattle.brd_spins.specs.declared.turn.Turn.{Turn}
 use Rattle.brd_spins.specs.declared.turn.Turn.TheVariants.{Reads, Asks, Other}
 use Rattle.brd_spins.specs.declared.spin.SpinKind.{SpinKind}
 use Rattle.brd_spins.specs.declared.spin.SpinKind.TheVariants.{Loop, Lock}
 use Rattle.brd_spins.specs.declared.spin.Turning.{Turning}
-
--- an instruction that is told to store, at least where its processor is linked to the address
-abbrev pub may_store : Insn → Bool
-may_store insn = stores_by insn true
 
 abbrev pub turn_called : CallMade → Answer → Turn
 turn_called made Again = Asks (slice_index made.asked.arguments 0)
@@ -29,7 +24,7 @@ turn_called made _ = Other
 
 -- what a processor does in a step in which this happens
 abbrev pub turn_by : What → Turn
-turn_by (what.Instruction it) = if may_store it.insn then Other else Reads
+turn_by (what.Instruction it) = if is_store it.insn then Other else Reads
 turn_by (what.Call made) = turn_called made made.answer
 turn_by _ = Other
 

@@ -2,7 +2,6 @@
 
 ghost use Rattle.std.specs.Prelude.{◌≡◌, ◌++◌, OnOk};
 ghost use Rattle.std.specs.Fmt.{decimal};
-ghost use Rattle.brd_text.specs.Hex.{hex_of};
 ghost use Rattle.brd_spins.specs.Text.{
   begins_text,
   does_text,
@@ -19,7 +18,7 @@ use crate::spin::{Spin, SpinKind};
 use brd_base::NoMemory;
 use brd_listing::{nearest, write_place};
 use brd_mem::Symbol;
-use brd_text::hex_digits;
+use brd_text::{put, put_word};
 use std::alloc::Global;
 
 /// Puts a line for each processor that spins at the end, or for one of them alone: since when, where, and what it does.
@@ -139,7 +138,7 @@ fn put_place(symbols: &[Symbol], address: u32, out: &mut Vec<u8>) -> Result<(), 
         return Ok(());
     }
     put(out, " (")?;
-    out.extend_from_slice(&hex_digits(address))?;
+    put_word(out, address)?;
     put(out, ")")
 }
 
@@ -149,12 +148,4 @@ fn put_number(alloc: Global, number: u64, out: &mut Vec<u8>) -> Result<(), NoMem
 {
     let text = format!(in alloc; "{number}")?;
     put(out, text.as_str())
-}
-
-/// Puts a text at the end.
-fn put(out: &mut Vec<u8>, text: &str) -> Result<(), NoMemory>
-    ensures { OnOk result (out.new.items ≡ out.old.items ++ text.now) }
-{
-    out.extend_from_slice(text.as_bytes())?;
-    Ok(())
 }

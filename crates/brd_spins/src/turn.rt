@@ -3,12 +3,12 @@
 ghost use Rattle.std.specs.Prelude.{◌≡◌, IfOk, OnOk};
 ghost use Rattle.brd_board.specs.declared.event.Event.TheVariants.{Step};
 ghost use Rattle.brd_board.specs.Board.{happens};
-ghost use Rattle.brd_spins.specs.Spins.{may_store, turn_by, turn_called, turn_of};
+ghost use Rattle.brd_spins.specs.Spins.{turn_by, turn_called, turn_of};
 
 use brd_base::NoMemory;
 use brd_board::{Board, Event};
+use brd_exec::is_store;
 use brd_happening::{Answer, Before, CallMade, What};
-use brd_isa::{Insn, LinkedOp};
 use std::alloc::Global;
 
 /// What a processor does in a step.
@@ -38,7 +38,7 @@ fn turn_by(what: What) -> Turn
     ensures { result ≡ turn_by what }
 {
     match what {
-        What::Instruction(instruction) if !may_store(&instruction.insn) => Turn::Reads,
+        What::Instruction(instruction) if !is_store(instruction.insn) => Turn::Reads,
         What::Call(made) => turn_called(made),
         _ => Turn::Other,
     }
@@ -52,14 +52,4 @@ fn turn_called(made: CallMade) -> Turn
         Answer::Again => Turn::Asks(made.asked.arguments[0]),
         _ => Turn::Other,
     }
-}
-
-/// Whether an instruction may store.
-fn may_store(insn: &Insn) -> bool
-    ensures { result ≡ may_store insn.now }
-{
-    matches!(
-        *insn,
-        Insn::Store(_, _, _, _) | Insn::Linked(LinkedOp::Sc, _, _, _)
-    )
 }

@@ -2,18 +2,20 @@
 use Rattle.std.specs.Prelude.{◌++◌, ◌+◌, ◌==◌, ◌||◌, ℕ, Bool, true, false, if◌then◌else◌, List, [], ◌∷◌, Option, None, Some}
 use Rattle.std.specs.List.{cons_option}
 use Rattle.brd_isa.specs.declared.instruction.Insn.{Insn}
+use Rattle.brd_isa.specs.declared.shape.MemoryAccess.{MemoryAccess}
+use Rattle.brd_isa.specs.Shapes.{shape_of}
 use Rattle.brd_exec.specs.State.{read}
 use Rattle.brd_kernel.specs.declared.processor.Standing.{Standing}
 use Rattle.brd_board.specs.declared.event.Event.{Event}
 use Rattle.brd_board.specs.Board.{BoardState, happens}
 use Rattle.brd_happening.specs.declared.before.Before.{Before}
 use Rattle.brd_happening.specs.declared.found.Found.{Found}
-use Rattle.brd_happening.specs.declared.instruction.{Access.Access, AccessKind.AccessKind, Instruction.Instruction, Written.Written}
-use Rattle.brd_happening.specs.declared.instruction.AccessKind.TheVariants.{Loads, Stores, StoresIfLinked}
+use Rattle.brd_happening.specs.declared.instruction.{Access.Access, Instruction.Instruction, Written.Written}
 use Rattle.brd_happening.specs.declared.happening.{What.What, Happening.Happening}
 use Rattle.brd_happening.specs.declared.happening.What.TheVariants as what
 use Rattle.brd_happening.specs.Before.{before_of}
 use Rattle.brd_happening.specs.Happening.{happening_from}
+use Rattle.brd_happening.specs.Instruction.{has_stored}
 use Rattle.brd_depth.specs.declared.point.{Point.Point, Store.Store}
 
 -- a task's strand is its ID, a handler's 256 and its line
@@ -45,21 +47,18 @@ is_from_itself (Insn.WithImmediate op rt rs immediate) = rs == 29
 is_from_itself (Insn.ThreeRegisters op rd rs rt) = (rs == 29) || (rt == 29)
 is_from_itself _ = false
 
-abbrev pub does_store : AccessKind → Bool
-does_store Loads = false
-does_store Stores = true
-does_store (StoresIfLinked stored) = stored
-
 -- an instruction names an address by $sp
+abbrev pub is_based : Option MemoryAccess → Bool
+is_based None = false
+is_based (Some access) = access.base == 29
+
 abbrev pub is_by_pointer : Insn → Bool
-is_by_pointer (Insn.Store op rt base offset) = base == 29
-is_by_pointer (Insn.Linked op rt base offset) = base == 29
-is_by_pointer _ = false
+is_by_pointer insn = is_based (shape_of insn).access
 
 abbrev pub store_by : Insn → Option Access → Option Store
 store_by insn None = None
 store_by insn (Some access) =
-    if does_store access.kind then Some (record { address = access.address; by_pointer = is_by_pointer insn }) else None
+    if has_stored access.kind then Some (record { address = access.address; by_pointer = is_by_pointer insn }) else None
 
 -- an instruction was done
 abbrev pub moves : ℕ → ℕ → Found → Instruction → Point

@@ -2,7 +2,6 @@
 
 ghost use Rattle.std.specs.Prelude.{◌≡◌, ◌++◌, ◌<◌, ◌^◌, [], IfOk, OnOk};
 ghost use Rattle.std.specs.List.{cons_option};
-ghost use Rattle.brd_mem.specs.Image.{symbol_value};
 ghost use Rattle.brd_board.specs.Setup as setup;
 ghost use Rattle.brd_stacks.specs.Laid.{
   found,
@@ -20,7 +19,7 @@ ghost use Rattle.brd_stacks.specs.Laid.{
 use brd_base::{BASE, List, NoMemory};
 use brd_config::{Config, HandlerConfig, Operand, Stack as Place, TaskConfig};
 use brd_depth::Stack;
-use brd_mem::Symbol;
+use brd_mem::{Symbol, symbol_value};
 use std::alloc::Global;
 
 /// Where a task's stack lies.
@@ -161,18 +160,6 @@ fn value_of(symbols: &[Symbol], operand: &Operand) -> Option<u32>
         Operand::Number(number) => Some(*number),
         Operand::Name(name) => symbol_value(symbols, name.as_slice()),
     }
-}
-
-/// The value of the symbol of a name, where there is one.
-fn symbol_value(symbols: &[Symbol], name: &[u8]) -> Option<u32>
-    ensures { result ≡ symbol_value symbols.now name.now }
-{
-    for symbol in symbols {
-        if name == symbol.name.as_slice() {
-            return Some(symbol.value);
-        }
-    }
-    None
 }
 
 /// A name and a number behind it.

@@ -3,7 +3,6 @@
 ghost use Rattle.std.specs.Prelude.{◌≡◌};
 ghost use Rattle.brd_stacks.specs.Points.{
   after_by,
-  does_store,
   is_by_pointer,
   is_from_itself,
   moves,
@@ -16,8 +15,8 @@ ghost use Rattle.brd_stacks.specs.Points.{
 
 use brd_board::Standing;
 use brd_depth::{Point, Store};
-use brd_happening::{Access, AccessKind, Before, Found, Happening, Instruction, What, Written};
-use brd_isa::{Insn, Register};
+use brd_happening::{Access, Before, Found, Happening, Instruction, What, Written};
+use brd_isa::{Insn, Register, shape_of};
 
 /// The number of $sp.
 const POINTER: u8 = 29;
@@ -116,7 +115,7 @@ fn store_by(insn: &Insn, access: Option<Access>) -> Option<Store>
     ensures { result ≡ store_by insn.now access }
 {
     match access {
-        Some(access) if does_store(access.kind) => Some(Store {
+        Some(access) if access.kind.has_stored() => Some(Store {
             address: access.address,
             by_pointer: is_by_pointer(insn),
         }),
@@ -124,23 +123,12 @@ fn store_by(insn: &Insn, access: Option<Access>) -> Option<Store>
     }
 }
 
-/// Whether an access stored.
-fn does_store(kind: AccessKind) -> bool
-    ensures { result ≡ does_store kind }
-{
-    match kind {
-        AccessKind::Loads => false,
-        AccessKind::Stores => true,
-        AccessKind::StoresIfLinked(stored) => stored,
-    }
-}
-
 /// Whether an instruction names an address by $sp.
 fn is_by_pointer(insn: &Insn) -> bool
     ensures { result ≡ is_by_pointer insn.now }
 {
-    match *insn {
-        Insn::Store(_, _, base, _) | Insn::Linked(_, _, base, _) => base.number() == POINTER,
-        _ => false,
+    match shape_of(insn).access {
+        Some(access) => access.base.number() == POINTER,
+        None => false,
     }
 }

@@ -2,7 +2,6 @@
 
 ghost use Rattle.std.specs.Prelude.{◌≡◌, ◌++◌, OnOk};
 ghost use Rattle.std.specs.Fmt.{decimal};
-ghost use Rattle.brd_text.specs.Hex.{hex_of};
 ghost use Rattle.brd_stacks.specs.Text.{
   below_text,
   fall_text,
@@ -24,7 +23,7 @@ use brd_base::NoMemory;
 use brd_depth::{Point, Stack, Track, has_overflow};
 use brd_listing::{nearest, write_place};
 use brd_mem::Symbol;
-use brd_text::hex_digits;
+use brd_text::{put, put_word};
 use std::alloc::Global;
 
 /// Puts a line for each stack at the end: how much of it was used, and where. Then one for each stack below which
@@ -171,7 +170,7 @@ fn put_below(alloc: Global, stack: Stack, point: Point, out: &mut Vec<u8>) -> Re
         return Ok(());
     };
     put(out, ", stores to ")?;
-    put_word(store.address, out)?;
+    put_word(out, store.address)?;
     put(out, ", ")?;
     put_number(
         alloc,
@@ -204,7 +203,7 @@ fn put_place(symbols: &[Symbol], address: u32, out: &mut Vec<u8>) -> Result<(), 
         return Ok(());
     }
     put(out, " (")?;
-    put_word(address, out)?;
+    put_word(out, address)?;
     put(out, ")")
 }
 
@@ -233,20 +232,4 @@ fn put_number(alloc: Global, number: u64, out: &mut Vec<u8>) -> Result<(), NoMem
 {
     let text = format!(in alloc; "{number}")?;
     put(out, text.as_str())
-}
-
-/// Puts a word at the end, as eight hexadecimal digits.
-fn put_word(word: u32, out: &mut Vec<u8>) -> Result<(), NoMemory>
-    ensures { OnOk result (out.new.items ≡ out.old.items ++ hex_of word) }
-{
-    out.extend_from_slice(&hex_digits(word))?;
-    Ok(())
-}
-
-/// Puts a text at the end.
-fn put(out: &mut Vec<u8>, text: &str) -> Result<(), NoMemory>
-    ensures { OnOk result (out.new.items ≡ out.old.items ++ text.now) }
-{
-    out.extend_from_slice(text.as_bytes())?;
-    Ok(())
 }
