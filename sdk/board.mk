@@ -39,6 +39,10 @@
 # A project of several programs names them, PROGRAMS = meter scale: each has its meter.cfg, its sources, SOURCES_meter
 # (meter.c if left out), its DATA_meter, and its tests, meter.journal and meter.*.journal. PROGRAM says which one is run,
 # debugged or hunted.
+
+# What others call so in the environment, as GNU time its format, isn't meant for this.
+$(foreach it,TIME DATA COVERAGE REPORTS,$(if $(filter environment,$(origin $(it))),$(eval override undefine $(it))))
+
 PROGRAMS ?= firmware
 PROGRAM ?= $(firstword $(PROGRAMS))
 SOURCES ?= $(PROGRAM).c
@@ -50,10 +54,6 @@ HANDLER_STACK ?= 1024
 STACK_CHECK ?=
 ORDER ?= big
 JOURNAL ?= $(PROGRAM).journal
-# (GNU time takes a variable of this name from the environment.)
-ifeq ($(origin TIME),environment)
-TIME =
-endif
 TIME ?=
 TRIES ?= 200
 SEED ?= 1

@@ -137,6 +137,8 @@ failed() {
         grep -q "<testsuite name=\"$3\" tests=\"2\" failures=\"2\"" "$several/build/ci/tests.xml" || echo "; no $3")"
     cp "$work/one.c" "$several/one.c"
 }
+TIME=%e DATA=/data COVERAGE=100 REPORTS=/reports judged "with other meanings of its words in the environment" 0 \
+    "$(passed one; echo "$part"; passed two; echo "$whole")"
 failed "a refused call" '^  chg_pri\(99, 1\) = E_NOEXS at event .*: nobody looks at the answer$' one \
     's/^    }$/    }\n    chg_pri(99, 1);/'
 failed "a race" '^  race at shared .*handler 3 \(BUTTON\) at press.*one\.c:[0-9]+\), ' "one races" \
