@@ -131,10 +131,9 @@ for folder in "${projects[@]}"; do
     for level in $levels; do
         says "$name, $level" 0 "ok: firmware.journal" project "$folder" test OPTIMIZE=$level
     done
-    says "$name, with STACK_CHECK" 0 "ok: firmware.journal" project "$folder" test OPTIMIZE=-O0 STACK_CHECK=1
-    for level in -O0 -O2; do
-        says "$name, little-endian, $level" 0 "ok: firmware.journal" project "$folder" test OPTIMIZE=$level ORDER=little
-    done
+    says "$name, little-endian, -O0, with STACK_CHECK" 0 "ok: firmware.journal" \
+        project "$folder" test OPTIMIZE=-O0 ORDER=little STACK_CHECK=1
+    says "$name, little-endian, -O2" 0 "ok: firmware.journal" project "$folder" test OPTIMIZE=-O2 ORDER=little
 done
 
 says "another byte order" 2 "*" project examples/c_program ORDER=middle
@@ -228,7 +227,7 @@ says "orders of two processors" 0 "ok: 5 orders, from seed 7 on, with the consol
 
 # On one processor lines are raised earlier: between which instructions, that makes the orders. Without that there is one.
 for level in -O0 -O2; do
-    says "orders of interrupts, $level" 0 "*" project "$interrupted" hunt OPTIMIZE=$level TRIES=100
+    says "orders of interrupts, $level" 0 "*" project "$interrupted" hunt OPTIMIZE=$level TRIES=30
     says "a race with a handler, $level" 2 "\\+3[0-9]" project "$interrupted" hunt OPTIMIZE=$level CFLAGS=-DRACE
 done
 verdict "kit: the order of a race with a handler" "$(
