@@ -5,7 +5,8 @@ use Rattle.std.specs.Option.{option_map}
 use Rattle.std.proofs.lemmas.Bool.{false≢true}
 use Rattle.std.proofs.lemmas.List.{set-get_or}
 use Rattle.brd_exec.specs.State.{State, read, advanced}
-use Rattle.brd_tasks.specs.Tasks.{no_context}
+use Rattle.brd_tasks.specs.declared.task.Task.{Task}
+use Rattle.brd_tasks.specs.Tasks.{task_at, no_context}
 use Rattle.brd_kernel.specs.declared.processor.Processor.{Processor}
 use Rattle.brd_kernel.specs.declared.processor.Executor.{Executor}
 use Rattle.brd_kernel.specs.declared.processor.Executor.TheVariants as executor
@@ -18,12 +19,13 @@ use Rattle.brd_kernel.specs.declared.call.Reply.TheVariants.{Answer, Silent, Aga
 use Rattle.brd_kernel.specs.Answer.{code_of}
 use Rattle.brd_kernel.specs.Kernel.{KernelState, processor_at, running_in, executor_by, executor_in, executor_on, context_of, with_context_of, context_on}
 use Rattle.brd_kernel.specs.Row.{Row, Served, refused, served_object, served, or_refused}
-use Rattle.brd_kernel.specs.Services.{is_held_elsewhere, ter_tsk, caller_on, serve_by, comes_again}
+use Rattle.brd_kernel.specs.Services.{is_held_elsewhere, is_no_processor, named, act_tsk, mact_tsk, ter_tsk, caller_on, serve_by, comes_again}
 use Rattle.brd_sysgate.specs.declared.gate.Caller.{Caller}
 use Rattle.brd_sysgate.specs.declared.gate.Caller.TheVariants as caller
 use Rattle.brd_sysgate.specs.declared.place.Place.{Place}
 use Rattle.brd_sysgate.specs.declared.place.Place.TheVariants as place
 use Rattle.brd_sysgate.specs.Gate.{Service, table, may_call, arguments_of, allowed, read_of, written, caller_by, caller_in, caller_of, served_call, changed_in, with_changed_context, replied, is_again, called_for, called_in, called}
+use Rattle.brd_frames.specs.Apart.{starts}
 use Rattle.brd_frames.proofs.TableLemmas.{Contexts, At, Unsteady, Restarted}
 use Rattle.brd_frames.proofs.KernelLemmas.{k-with}
 use Rattle.brd_frames.proofs.ServiceLemmas.{AtExecutor, r-with, StaysBy, Stays, Alike, Frees, serve-alike}
@@ -42,7 +44,7 @@ put-with f g k cpu executor.Handler s at =
 put-with f g k cpu (executor.Task id) s at =
     ap (λ contexts. record (k-with f g k) { tasks = record k.tasks { contexts = contexts } }) (sym (at.writes k.tasks.contexts s))
 
-changed-with : (f g : Contexts) (change : State → State) (k : KernelState) (cpu : ℕ) (who : Option Executor) → AtExecutor f g cpu who →
+pub changed-with : (f g : Contexts) (change : State → State) (k : KernelState) (cpu : ℕ) (who : Option Executor) → AtExecutor f g cpu who →
     changed_in change (k-with f g k) cpu who ≡ k-with f g (changed_in change k cpu who)
 changed-with f g change k cpu None at = refl
 changed-with f g change k cpu (Some who) at =
@@ -263,19 +265,37 @@ terminates-with : (f g : Contexts) (k : KernelState) (cpu by id : ℕ) →
 unfolding is_held_elsewhere
 terminates-with f g k cpu by id = ok-row (ter_tsk k cpu by id) _ (λ task. refl)
 
+-- of a call that starts a task
+pub starts-with : (f g : Contexts) (k : KernelState) (cpu by id : ℕ) (c : Call) (task : Task) → starts c by id task ≡ true →
+    is_ok (serve_by k cpu by c) ≡ is_ok (serve_by (k-with f g k) cpu by c)
+unfolding is_no_processor
+starts-with f g k cpu by id (call.ActTsk t) task is = ok-row (act_tsk k (named by t)) _ (λ task. refl)
+starts-with f g k cpu by id (call.IactTsk t) task is = ok-row (act_tsk k t) _ (λ task. refl)
+starts-with f g k cpu by id (call.MactTsk t to) task is = ok-row (mact_tsk k (named by t) to) _ (λ task. refl)
+starts-with f g k cpu by id (call.ImactTsk t to) task is = ok-row (mact_tsk k t to) _ (λ task. refl)
+starts-with f g k cpu by id (call.TerTsk t) task is = terminates-with f g k cpu by t
+starts-with f g k cpu by id _ task is = absurd (false≢true is)
+
+pub starts-put : (k : KernelState) (cpu : ℕ) (who : Executor) (s : State) (id : ℕ) (c : Call) (task : Task) →
+    starts c (caller_on k cpu) id task ≡ true →
+    is_ok (serve_by k cpu (caller_on k cpu) c)
+    ≡ is_ok (serve_by (with_context_of k cpu who s) cpu (caller_on (with_context_of k cpu who s) cpu) c)
+starts-put k cpu executor.Handler s id c task is = starts-with (λ xs. xs) (λ xs. slice_set xs cpu s) k cpu (caller_on k cpu) id c task is
+starts-put k cpu (executor.Task at) s id c task is = starts-with (λ xs. slice_set xs at s) (λ xs. xs) k cpu (caller_on k cpu) id c task is
+
 pub terminates-put : (k : KernelState) (cpu : ℕ) (who : Executor) (s : State) (id : ℕ) →
     is_ok (served (ter_tsk k cpu (caller_on k cpu) id))
     ≡ is_ok (served (ter_tsk (with_context_of k cpu who s) cpu (caller_on (with_context_of k cpu who s) cpu) id))
 terminates-put k cpu executor.Handler s id = terminates-with (λ xs. xs) (λ xs. slice_set xs cpu s) k cpu (caller_on k cpu) id
 terminates-put k cpu (executor.Task at) s id = terminates-with (λ xs. slice_set xs at s) (λ xs. xs) k cpu (caller_on k cpu) id
 
--- What has to be left alone over a call of a processor: tasks that aren't steady, who executes, and whom its ter_tsk
--- starts anew.
+-- What has to be left alone over a call of a processor: tasks that wait, who executes, and whom the call starts.
 pub record CallFrees (f g : Contexts) (k : KernelState) (cpu : ℕ) : Type 0 where
   pub unsteady : Unsteady f k.tasks
   pub executes : AtExecutor f g cpu (executor_on k cpu)
-  pub ends : (s : State) (id : ℕ) → context_on k cpu ≡ Some s → read_of s (caller_of k cpu) ≡ Ok (call.TerTsk id) →
-      is_ok (served (ter_tsk k cpu (caller_on k cpu) id)) ≡ true → Restarted f k.tasks id
+  pub starts : (s : State) (c : Call) (id : ℕ) (task : Task) → context_on k cpu ≡ Some s → read_of s (caller_of k cpu) ≡ Ok c →
+      task_at k.tasks id ≡ Some task → starts c (caller_on k cpu) id task ≡ true →
+      is_ok (serve_by k cpu (caller_on k cpu) c) ≡ true → At f id
 
 -- in the kernel in which the context has gone on
 
@@ -283,14 +303,14 @@ caller-put : (k : KernelState) (cpu : ℕ) (who : Executor) (s : State) → call
 caller-put k cpu executor.Handler s = refl
 caller-put k cpu (executor.Task id) s = refl
 
-ends-put : (f g : Contexts) (k : KernelState) (cpu : ℕ) (who : Executor) (s : State) (id : ℕ) →
-    (is_ok (served (ter_tsk k cpu (caller_on k cpu) id)) ≡ true → Restarted f k.tasks id) →
-    is_ok (served (ter_tsk (with_context_of k cpu who s) cpu (caller_on (with_context_of k cpu who s) cpu) id)) ≡ true →
-    Restarted f (with_context_of k cpu who s).tasks id
-ends-put f g k cpu executor.Handler s id ends is =
-    ends (terminates-with (λ xs. xs) (λ xs. slice_set xs cpu s) k cpu (caller_on k cpu) id ∙ is)
-ends-put f g k cpu (executor.Task at) s id ends is =
-    ends (terminates-with (λ xs. slice_set xs at s) (λ xs. xs) k cpu (caller_on k cpu) id ∙ is)
+starts-there : (f : Contexts) (k : KernelState) (cpu : ℕ) (who : Executor) (s : State) (id : ℕ) (c : Call) (task : Task) →
+    (task_at k.tasks id ≡ Some task → starts c (caller_on k cpu) id task ≡ true → is_ok (serve_by k cpu (caller_on k cpu) c) ≡ true → At f id) →
+    task_at (with_context_of k cpu who s).tasks id ≡ Some task → starts c (caller_on (with_context_of k cpu who s) cpu) id task ≡ true →
+    is_ok (serve_by (with_context_of k cpu who s) cpu (caller_on (with_context_of k cpu who s) cpu) c) ≡ true → At f id
+starts-there f k cpu executor.Handler s id c task at there is serves =
+    at there is (starts-put k cpu executor.Handler s id c task is ∙ serves)
+starts-there f k cpu (executor.Task own) s id c task at there is serves =
+    at there is (starts-put k cpu (executor.Task own) s id c task is ∙ serves)
 
 again-with : (f g : Contexts) (k : KernelState) (c : Call) → comes_again (k-with f g k) c ≡ comes_again k c
 again-with f g k (call.LocSpn l) = refl
@@ -320,7 +340,7 @@ served-with f g k cpu who s (Ok c) free on there asks =
       unsteady = put-unsteady f k cpu who next free.unsteady;
       exits = λ is. subst (λ x. At f x) (sym (caller-put k cpu who next)) (exits-at f g k cpu who s c on at asks is);
       returns = returns-at f g k cpu who s c on at asks;
-      ends = λ id is serves. ends-put f g k cpu who next id (free.ends s id there (asks ∙ ap (λ x. Ok x) is)) serves;
+      starts = λ id task. starts-there f k cpu who next id c task (free.starts s c id task there asks);
     } in
     replied-alike f g now cpu (serve_by now cpu (caller_on now cpu) c) _ (serve-alike f g now cpu (caller_on now cpu) c frees) here
 

@@ -22,7 +22,7 @@ use Rattle.brd_board.proofs.BatchLemmas.{local-steps-go}
 use Rattle.brd_board.proofs.FormLemmas as form
 use Rattle.brd_frames.specs.Agents as agents
 use Rattle.brd_frames.specs.Agents.{Agent, agent_by, context_in, with_context_in, with_agent, happened_with}
-use Rattle.brd_frames.specs.Apart.{IsApart, AreApart}
+use Rattle.brd_frames.specs.Apart.{is_steady, Starts, Executes, IsApart, AreApart}
 use Rattle.brd_frames.specs.Touching.{is_among, touches, is_touched, is_stored, Agree, Change, changed, with_change, happened_changed, IsClearOf, put_at}
 use Rattle.brd_frames.specs.Going.{Gone, goes, links_after, with_gone, IsNext}
 use Rattle.brd_frames.specs.Commuting.{agent_goes, IsIndependent, AreIndependent, IsUnlinked, EndsNoLink}
@@ -76,40 +76,38 @@ context-kept b event who apart =
 
 -- What an event is apart from doesn't depend on bytes that it doesn't touch.
 
-apart-changed : (b : BoardState) (event : Event) (who : Agent) (change : Change) → IsClearOf change (is_touched b event) →
+pub apart-changed : (b : BoardState) (event : Event) (who : Agent) (change : Change) → IsClearOf change (is_touched b event) →
     IsApart b event who → IsApart (with_change b change) event who
 apart-changed b event who change clear apart = record {
   steady = apart.steady;
   elsewhere = λ it. apart.elsewhere (record { cpu = it.cpu; steps = it.steps; executes = it.executes; uninterrupted = it.uninterrupted });
   lasting = λ it. apart.lasting (record {
     id = it.id;
+    cpu = it.cpu;
+    call = it.call;
     task = it.task;
-    request = it.request;
     is = it.is;
-    there = it.there;
-    queued = it.queued;
-    ends = record {
-      cpu = it.ends.cpu;
-      steps = it.ends.steps;
-      calls = record {
-        context = it.ends.calls.context;
-        address = it.ends.calls.address;
-        executes = it.ends.calls.executes;
-        steps = ap (λ (e : Event). (happens b e).report) (sym it.ends.steps)
-            ∙ sym (ap (λ (done : Happened). done.report) (footprint b event change clear))
-            ∙ ap (λ (e : Event). (happens (with_change b change) e).report) it.ends.steps
-            ∙ it.ends.calls.steps;
-        asks = it.ends.calls.asks;
-      };
-      serves = it.ends.serves;
+    steps = it.steps;
+    calls = record {
+      context = it.calls.context;
+      address = it.calls.address;
+      executes = it.calls.executes;
+      steps = ap (λ (e : Event). (happens b e).report) (sym it.steps)
+          ∙ sym (ap (λ (done : Happened). done.report) (footprint b event change clear))
+          ∙ ap (λ (e : Event). (happens (with_change b change) e).report) it.steps
+          ∙ it.calls.steps;
+      asks = it.calls.asks;
     };
+    there = it.there;
+    starts = it.starts;
+    serves = it.serves;
   });
 }
 
 -- An instruction, and an event that is independent of it.
 
 -- the board after an instruction: another context, and a change of bytes
-gone-board : (b : BoardState) (who : Agent) (gone : Gone) (change : Change) → gone.memory ≡ changed b.memory change →
+pub gone-board : (b : BoardState) (who : Agent) (gone : Gone) (change : Change) → gone.memory ≡ changed b.memory change →
     with_gone b who b.links gone ≡ with_agent (with_change b change) who gone.context
 gone-board b who gone change is = ap (λ memory. record b { kernel = with_context_in b.kernel who gone.context; memory = memory }) is
 
@@ -129,7 +127,7 @@ place-kept one two address from size same = elim (cases_lt (address - base) (siz
       get_or_past two.bytes (address - base) 0 (omega (arith, past, size)) ∙ sym (get_or_past one.bytes (address - base) 0 past)
 ]
 
-agree-after : (b : BoardState) (event : Event) (touched : ℕ → Bool) →
+pub agree-after : (b : BoardState) (event : Event) (touched : ℕ → Bool) →
     ((address : ℕ) → touched address ≡ true → is_stored b event address ≡ false) → Agree touched b.memory (happens b event).board.memory
 agree-after b event touched unwritten = record {
   order = (form.form-happens b event).1;
@@ -138,7 +136,7 @@ agree-after b event touched unwritten = record {
       (stores-keep b event address (unwritten address is));
 }
 
-some-gone : (b new : BoardState) (who : Agent) (found : Option Gone) → option_map (with_gone b who b.links) found ≡ Some new →
+pub some-gone : (b new : BoardState) (who : Agent) (found : Option Gone) → option_map (with_gone b who b.links) found ≡ Some new →
     (gone : Gone) × (found ≡ Some gone) × (new ≡ with_gone b who b.links gone)
 some-gone b new who None is = let wrong : ⊥ = cc in absurd wrong
 some-gone b new who (Some gone) is = (gone, refl, cc)
@@ -148,9 +146,9 @@ abbrev Both : BoardState → BoardState → Event → Agent → Type 0
 Both b new event who =
     (agent_goes (happens b event).board who ≡ Some (happens new event).board) × ((happens new event).report ≡ (happens b event).report)
 
-stored-in : {stored : ℕ → Bool} {memory : Memory} {first : ℕ} {bytes : List ℕ} → PutsAt stored memory first bytes → (address : ℕ) →
+pub stored-at : {stored : ℕ → Bool} {memory : Memory} {first : ℕ} {bytes : List ℕ} → PutsAt stored memory first bytes → (address : ℕ) →
     is_among first (length bytes) address ≡ true → stored address ≡ true
-stored-in {first = first} {bytes = bytes} puts address is =
+stored-at {first = first} {bytes = bytes} puts address is =
     puts.at address (grind (arith, nat_tests, is)) (grind (arith, nat_tests, is))
 
 gone-swaps : (b : BoardState) (event : Event) (who : Agent) (gone : Gone) → IsIndependent b event who →
@@ -163,7 +161,7 @@ gone-swaps b event who gone free is =
     let fits : at + length put.bytes ≤ size_of b.memory = omega (arith, put.puts.from, put.puts.to) in
     let clear : IsClearOf change (is_touched b event) =
     put-clear put.first put.bytes (is_touched b event) put.puts.from
-    (λ address is. free.unread address (stored-in put.puts address is)) in
+    (λ address is. free.unread address (stored-at put.puts address is)) in
     let new : with_gone b who b.links gone ≡ with_agent (with_change b change) who gone.context =
     gone-board b who gone change (put.is ∙ with-bytes-is b.memory at put.bytes fits) in
     let done : Happened = happens b event in

@@ -64,7 +64,7 @@ Lives id t = is_live (task_at t id) ≡ true
 
 -- Tables.
 
-set-cases : {X : Type 0} (xs : List X) (i j : ℕ) (x d : X) →
+pub set-cases : {X : Type 0} (xs : List X) (i j : ℕ) (x d : X) →
     ((i ≡ j) × (slice_index_or (slice_set xs i x) j d ≡ x)) ⊎ (slice_index_or (slice_set xs i x) j d ≡ slice_index_or xs j d)
 set-cases [] i j x d = inr refl
 set-cases (y ∷ ys) zero zero x d = inl (refl, refl)

@@ -24,7 +24,7 @@ use Rattle.brd_board.specs.declared.event.Event.{Event}
 use Rattle.brd_board.specs.declared.event.Event.TheVariants.{Step, Tick, Raise}
 use Rattle.brd_board.specs.declared.event.Report.TheVariants as report
 use Rattle.brd_board.specs.Board.{BoardState, Happened, reported, with_executed, instruction_done, executes_in, accepts_or_executes, stepped_in, happens_on, happens, after}
-use Rattle.brd_frames.specs.Touching.{is_among, stores_at, accesses, accesses_next, touches, stores_by, stores_next, Agree, executing, touched_in, is_touched, Change, changed, with_change, happened_changed, LeavesAlone, IsClearOf, AreClear, put_at}
+use Rattle.brd_frames.specs.Touching.{is_among, stores_at, accesses, accesses_next, touches, stores_by, stores_next, stores, Agree, executing, touched_in, is_touched, Change, changed, with_change, happened_changed, LeavesAlone, IsClearOf, AreClear, put_at}
 use Rattle.brd_frames.proofs.DeedLemmas.{Lies, puts, puts-lie, first_stored, Deed, Goes, Stops, applied, deed_next, deed-next-is, deed-next-same, next-same, accesses-same, quiet, storing, linking, storing_if, deed, or-right, among}
 
 -- Bytes that are put.
@@ -55,7 +55,7 @@ put-is xs at (byte ∷ bytes) fits =
     ∙ ap (λ all. slice_set all at byte) (put-is xs (at + 1) bytes (omega (arith, fits)))
 
 -- a change that leaves the places alone may as well come first
-put-change : (change : Change) (at : ℕ) (bytes xs : List ℕ) → ((i : ℕ) → i < length bytes → LeavesAlone change (at + i)) →
+pub put-change : (change : Change) (at : ℕ) (bytes xs : List ℕ) → ((i : ℕ) → i < length bytes → LeavesAlone change (at + i)) →
     change (put_at at bytes xs) ≡ put_at at bytes (change xs)
 put-change change at [] xs alone = refl
 put-change change at (byte ∷ bytes) xs alone =
@@ -164,6 +164,10 @@ stores-accesses-next : (s : State) (address : ℕ) (next : Result Insn Exception
     accesses_next s address next ≡ true
 stores-accesses-next s address (Ok insn) is = stores-accesses (action insn s) address is
 stores-accesses-next s address (Err code) is = is
+
+pub stores-touches : (s : State) (memory : Memory) (address : ℕ) → stores s memory address ≡ true → touches s memory address ≡ true
+unfolding stores touches
+stores-touches s memory address is = or-right (is_among s.pc 4 address) _ (stores-accesses-next s address (next_instruction s memory) is)
 
 clear-stores : (change : Change) (s : State) (memory : Memory) → IsClearOf change (touches s memory) →
     IsClearOf change (λ address. stores_next s address (next_instruction s memory))

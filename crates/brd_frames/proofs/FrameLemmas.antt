@@ -1,8 +1,8 @@
 -- An event does the same where the contexts of agents that it is apart from are other ones.
 use Rattle.std.proofs.Common.{◌≡◌, ℕ, Bool, true, false, List, [], ◌∷◌, refl, sym, ap, subst, ◌∙◌}
-use Rattle.std.specs.Prelude.{if◌then◌else◌, not, nat_lt, slice_set, Option, None, Some, is_some, is_ok, Ok}
+use Rattle.std.specs.Prelude.{if◌then◌else◌, not, ◌||◌, nat_lt, slice_set, Option, None, Some, is_some, is_ok, Ok}
 use Rattle.std.specs.Option.{option_map}
-use Rattle.std.proofs.lemmas.Bool.{true≢false}
+use Rattle.std.proofs.lemmas.Bool.{true≢false, false≢true}
 use Rattle.std.proofs.lemmas.List.{get_or-set_other, set_comm}
 use Rattle.brd_exec.specs.State.{State}
 use Rattle.brd_exec.specs.Step.{Ran, ran}
@@ -10,18 +10,16 @@ use Rattle.brd_exec.specs.declared.outcome.Outcome.{Outcome}
 use Rattle.brd_exec.specs.declared.outcome.Outcome.TheVariants.{Done, Syscall, Exception}
 use Rattle.brd_link.specs.LinkSet.{without, without_all}
 use Rattle.brd_tasks.specs.declared.task.Task.{Task}
-use Rattle.brd_tasks.specs.declared.task.Request.{Request}
 use Rattle.brd_tasks.specs.Tasks.{task_at, no_context}
 use Rattle.brd_time.specs.Time.{last_count, advanced}
 use Rattle.brd_kernel.specs.declared.processor.Processor.{Processor}
 use Rattle.brd_kernel.specs.declared.processor.Executor.{Executor}
 use Rattle.brd_kernel.specs.declared.processor.Executor.TheVariants as executor
-use Rattle.brd_kernel.specs.declared.call.Call.TheVariants as call
+use Rattle.brd_kernel.specs.declared.call.Call.{Call}
 use Rattle.brd_kernel.specs.Kernel.{KernelState, processor_at, executor_on, context_of, with_context_of, context_on, deliverable, handles, accepted_line, entry_of, line_at, with_pending, accepts}
 use Rattle.brd_kernel.specs.Waits.{ticked_on}
 use Rattle.brd_kernel.specs.Dispatch.{changed_processors}
-use Rattle.brd_kernel.specs.Row.{served}
-use Rattle.brd_kernel.specs.Services.{ter_tsk, caller_on}
+use Rattle.brd_kernel.specs.Services.{caller_on, serve_by}
 use Rattle.brd_sysgate.specs.Gate.{caller_of, read_of}
 use Rattle.brd_board.specs.Executing.{executed_by, executed_in}
 use Rattle.brd_board.specs.declared.event.Event.{Event}
@@ -29,11 +27,11 @@ use Rattle.brd_board.specs.declared.event.Event.TheVariants.{Step, Tick, Raise}
 use Rattle.brd_board.specs.declared.event.Report.{Report}
 use Rattle.brd_board.specs.declared.event.Report.TheVariants as report
 use Rattle.brd_board.specs.Board.{BoardState, Happened, reported, then_dispatched, with_executed, with_call, with_fault, instruction_done, executes_in, accepts_or_executes, stepped_in, happens_on, happens, after}
-use Rattle.brd_frames.specs.Steady.{is_steady_task}
+use Rattle.brd_frames.specs.Steady.{is_waiting_task}
 use Rattle.brd_frames.specs.Agents as agents
 use Rattle.brd_frames.specs.Agents.{Agent, agent_by, agent_on, with_context_in, with_agent, happened_with}
-use Rattle.brd_frames.specs.Apart.{is_steady, Restarts, Executes, IsApart, AreApart}
-use Rattle.brd_frames.proofs.TableLemmas.{Contexts, At, Unsteady, Restarted}
+use Rattle.brd_frames.specs.Apart.{is_handling, is_steady, Calls, starts, Starts, Executes, IsApart, AreApart}
+use Rattle.brd_frames.proofs.TableLemmas.{Contexts, At, Unsteady}
 use Rattle.brd_frames.proofs.KernelLemmas.{k-with, ticked-with, fault-with, dispatched-with}
 use Rattle.brd_frames.proofs.ServiceLemmas.{AtExecutor}
 use Rattle.brd_frames.proofs.CallLemmas.{CallFrees, context-with, put-with, put-same, called-with}
@@ -66,15 +64,16 @@ done-with f g b cpu address (Exception code epc bd) free =
     (report.Faulted address)) (fault-with f g b.kernel cpu)
     ∙ dispatched-board-with f g (with_fault b cpu (record { code = code; epc = epc; bd = bd })) (report.Faulted address)
 
--- what has to be left alone over a step: tasks that aren't steady, the handler of a processor that accepts an interrupt,
--- who executes, and whom its ter_tsk starts anew
+-- what has to be left alone over a step: tasks that wait, the handler of a processor that accepts an interrupt, who
+-- executes, and whom its call starts
 record StepFrees (f g : Contexts) (b : BoardState) (cpu : ℕ) : Type 0 where
   unsteady : Unsteady f b.kernel.tasks
   accepting : accepts (processor_at b.kernel cpu) ≡ true → At g cpu
   executes : deliverable b.kernel cpu ≡ None → AtExecutor f g cpu (executor_on b.kernel cpu)
-  ends : (who : Executor) (id : ℕ) → executor_on b.kernel cpu ≡ Some who → deliverable b.kernel cpu ≡ None →
-      (left_by b cpu who).outcome ≡ Syscall → read_of (context_of b.kernel cpu who) (caller_of b.kernel cpu) ≡ Ok (call.TerTsk id) →
-      is_ok (served (ter_tsk b.kernel cpu (caller_on b.kernel cpu) id)) ≡ true → Restarted f b.kernel.tasks id
+  starts : (who : Executor) (c : Call) (id : ℕ) (task : Task) → executor_on b.kernel cpu ≡ Some who → deliverable b.kernel cpu ≡ None →
+      (left_by b cpu who).outcome ≡ Syscall → read_of (context_of b.kernel cpu who) (caller_of b.kernel cpu) ≡ Ok c →
+      task_at b.kernel.tasks id ≡ Some task → starts c (caller_on b.kernel cpu) id task ≡ true →
+      is_ok (serve_by b.kernel cpu (caller_on b.kernel cpu) c) ≡ true → At f id
 
 context-is : (k : KernelState) (cpu : ℕ) (who : Executor) (s : State) → executor_on k cpu ≡ Some who → context_on k cpu ≡ Some s →
     s ≡ context_of k cpu who
@@ -87,9 +86,9 @@ call-frees : (f g : Contexts) (b : BoardState) (cpu : ℕ) (who : Executor) → 
 call-frees f g b cpu who free on none calls = record {
   unsteady = free.unsteady;
   executes = free.executes none;
-  ends = λ s id there asks serves.
-      free.ends who id on none calls
-      (subst (λ c. read_of c (caller_of b.kernel cpu) ≡ Ok (call.TerTsk id)) (context-is b.kernel cpu who s on there) asks) serves;
+  starts = λ s c id task there asks.
+      free.starts who c id task on none calls
+      (subst (λ x. read_of x (caller_of b.kernel cpu) ≡ Ok c) (context-is b.kernel cpu who s on there) asks);
 }
 
 executed-with : (f g : Contexts) (b : BoardState) (cpu : ℕ) (who : Executor) → StepFrees f g b cpu → executor_on b.kernel cpu ≡ Some who →
@@ -200,7 +199,7 @@ at-all : (id : ℕ) → At (λ xs. xs) id
 at-all id = record { reads = λ xs. refl; writes = λ xs s. refl }
 
 -- an agent that executes is apart from another
-task-at : (at cpu : ℕ) (s : State) (by : Option Executor) → (by ≡ Some (executor.Task at) → ⊥) →
+pub task-at : (at cpu : ℕ) (s : State) (by : Option Executor) → (by ≡ Some (executor.Task at) → ⊥) →
     AtExecutor (λ xs. slice_set xs at s) (λ xs. xs) cpu by
 task-at at cpu s None apart = tt
 task-at at cpu s (Some executor.Handler) apart = at-all cpu
@@ -212,46 +211,45 @@ handler-at at cpu s None apart = tt
 handler-at at cpu s (Some executor.Handler) apart = at-other at cpu s (apart refl)
 handler-at at cpu s (Some (executor.Task id)) apart = at-all id
 
-restarts : (b : BoardState) (cpu at : ℕ) (who : Executor) (task : Task) (request : Request) → b.kernel.off ≡ false →
+starts-so : (b : BoardState) (cpu at : ℕ) (who : Executor) (c : Call) (task : Task) → b.kernel.off ≡ false →
     executor_on b.kernel cpu ≡ Some who → deliverable b.kernel cpu ≡ None → (left_by b cpu who).outcome ≡ Syscall →
-    read_of (context_of b.kernel cpu who) (caller_of b.kernel cpu) ≡ Ok (call.TerTsk at) →
-    is_ok (served (ter_tsk b.kernel cpu (caller_on b.kernel cpu) at)) ≡ true →
-    task_at b.kernel.tasks at ≡ Some task → task.activation ≡ Some request → Restarts b (Step cpu) (agents.Task at)
-restarts b cpu at who task request off on none calls asks serves there queued = record {
+    read_of (context_of b.kernel cpu who) (caller_of b.kernel cpu) ≡ Ok c → task_at b.kernel.tasks at ≡ Some task →
+    starts c (caller_on b.kernel cpu) at task ≡ true → is_ok (serve_by b.kernel cpu (caller_on b.kernel cpu) c) ≡ true →
+    Starts b (Step cpu) (agents.Task at)
+starts-so b cpu at who c task off on none calls asks there is serves = record {
   id = at;
+  cpu = cpu;
+  call = c;
   task = task;
-  request = request;
   is = refl;
-  there = there;
-  queued = queued;
-  ends = record {
-    cpu = cpu;
-    steps = refl;
-    calls = record {
-      context = context_of b.kernel cpu who;
-      address = (context_of b.kernel cpu who).pc;
-      executes = ap (option_map (context_of b.kernel cpu)) on;
-      steps = step-calls b cpu who off on none calls;
-      asks = asks;
-    };
-    serves = serves;
+  steps = refl;
+  calls = record {
+    context = context_of b.kernel cpu who;
+    address = (context_of b.kernel cpu who).pc;
+    executes = ap (option_map (context_of b.kernel cpu)) on;
+    steps = step-calls b cpu who off on none calls;
+    asks = asks;
   };
+  there = there;
+  starts = is;
+  serves = serves;
 }
 
 unsteady-apart : (k : KernelState) (at : ℕ) (s : State) → is_steady k (agents.Task at) ≡ true → Unsteady (λ xs. slice_set xs at s) k.tasks
 unsteady-apart k at s steady id is =
-    at-other at id s (λ same. true≢false (sym steady ∙ sym (ap (λ x. is_steady_task (task_at k.tasks x)) same) ∙ is))
+    at-other at id s (λ same. true≢false (sym steady ∙ ap not (sym (ap (λ x. is_waiting_task (task_at k.tasks x)) same) ∙ is)))
 
-restarted-apart : (b : BoardState) (cpu at id : ℕ) (who : Executor) (s : State) → (Restarts b (Step cpu) (agents.Task at) → ⊥) →
-    b.kernel.off ≡ false → executor_on b.kernel cpu ≡ Some who → deliverable b.kernel cpu ≡ None → (left_by b cpu who).outcome ≡ Syscall →
-    read_of (context_of b.kernel cpu who) (caller_of b.kernel cpu) ≡ Ok (call.TerTsk id) →
-    is_ok (served (ter_tsk b.kernel cpu (caller_on b.kernel cpu) id)) ≡ true → Restarted (λ xs. slice_set xs at s) b.kernel.tasks id
-restarted-apart b cpu at id who s never off on none calls asks serves task request there queued =
+started-apart : (b : BoardState) (cpu at : ℕ) (s : State) (who : Executor) (c : Call) (id : ℕ) (task : Task) →
+    (Starts b (Step cpu) (agents.Task at) → ⊥) → b.kernel.off ≡ false → executor_on b.kernel cpu ≡ Some who →
+    deliverable b.kernel cpu ≡ None → (left_by b cpu who).outcome ≡ Syscall →
+    read_of (context_of b.kernel cpu who) (caller_of b.kernel cpu) ≡ Ok c → task_at b.kernel.tasks id ≡ Some task →
+    starts c (caller_on b.kernel cpu) id task ≡ true → is_ok (serve_by b.kernel cpu (caller_on b.kernel cpu) c) ≡ true →
+    At (λ xs. slice_set xs at s) id
+started-apart b cpu at s who c id task never off on none calls asks there is serves =
     at-other at id s (λ same.
-    never (restarts b cpu at who task request off on none calls
-    (subst (λ x. read_of (context_of b.kernel cpu who) (caller_of b.kernel cpu) ≡ Ok (call.TerTsk x)) same asks)
-    (subst (λ x. is_ok (served (ter_tsk b.kernel cpu (caller_on b.kernel cpu) x)) ≡ true) same serves)
-    (subst (λ x. task_at b.kernel.tasks x ≡ Some task) same there) queued))
+    never (starts-so b cpu at who c task off on none calls asks
+    (subst (λ x. task_at b.kernel.tasks x ≡ Some task) same there)
+    (subst (λ x. starts c (caller_on b.kernel cpu) x task ≡ true) same is) serves))
 
 -- who executes an instruction does so in the event
 executes-so : (b : BoardState) (cpu : ℕ) (by : Executor) (who : Agent) → executor_on b.kernel cpu ≡ Some by → deliverable b.kernel cpu ≡ None →
@@ -270,14 +268,19 @@ task-frees b (Step cpu) at s apart off = record {
   accepting = λ accepts. at-all cpu;
   executes = λ none. task-at at cpu s (executor_on b.kernel cpu)
       (λ on. apart.elsewhere (executes-so b cpu (executor.Task at) (agents.Task at) on none refl));
-  ends = λ who id on none calls asks serves. restarted-apart b cpu at id who s apart.lasting off on none calls asks serves;
+  starts = λ who c id task. started-apart b cpu at s who c id task apart.lasting off;
 }
 task-frees b Tick at s apart off = unsteady-apart b.kernel at s apart.steady
 task-frees b (Raise line) at s apart off = tt
 
+pub handling-accepts : (found : Option Processor) → is_handling found ≡ true → accepts found ≡ true → ⊥
+handling-accepts None works accepting = false≢true works
+handling-accepts (Some p) works accepting =
+    true≢false (sym accepting ∙ ap (λ test. not (test || p.locked || p.stopped)) works)
+
 handler-steady : (k : KernelState) (at cpu : ℕ) → is_steady k (agents.Handler at) ≡ true → accepts (processor_at k cpu) ≡ true → cpu ≡ at → ⊥
 handler-steady k at cpu steady is same =
-    true≢false (sym steady ∙ ap not (sym (ap (λ x. accepts (processor_at k x)) same) ∙ is))
+    handling-accepts (processor_at k at) steady (sym (ap (λ x. accepts (processor_at k x)) same) ∙ is)
 
 handler-frees : (b : BoardState) (event : Event) (at : ℕ) (s : State) → IsApart b event (agents.Handler at) → b.kernel.off ≡ false →
     EventFrees (λ xs. xs) (λ xs. slice_set xs at s) b event
@@ -286,7 +289,7 @@ handler-frees b (Step cpu) at s apart off = record {
   accepting = λ accepts. at-other at cpu s (handler-steady b.kernel at cpu apart.steady accepts);
   executes = λ none. handler-at at cpu s (executor_on b.kernel cpu)
       (λ on same. apart.elsewhere (executes-so b cpu executor.Handler (agents.Handler at) on none (ap agents.Handler same)));
-  ends = λ who id on none calls asks serves task request there queued. at-all id;
+  starts = λ who c id task on none calls asks there is serves. at-all id;
 }
 handler-frees b Tick at s apart off = λ id is. at-all id
 handler-frees b (Raise line) at s apart off = tt

@@ -34,7 +34,7 @@ changed_for-with f g change k (Some reason.Sleep) = refl
 changed_for-with f g change k (Some reason.Delay) = refl
 changed_for-with f g change k (Some (reason.On what object)) = of-with f g change k what
 
-unlisted-with : (f g : Contexts) (k : KernelState) (id : ℕ) → unlisted (k-with f g k) id ≡ k-with f g (unlisted k id)
+pub unlisted-with : (f g : Contexts) (k : KernelState) (id : ℕ) → unlisted (k-with f g k) id ≡ k-with f g (unlisted k id)
 unlisted-with f g k id = changed_for-with f g (leaving id) k (reason_of k id)
 
 -- Waits.

@@ -12,3 +12,5 @@ pub mod StoreLemmas
 pub mod CommuteLemmas
 pub mod LinkLemmas
 pub mod EndLemmas
+pub mod StartLemmas
+pub mod SteadyLemmas

@@ -1,12 +1,13 @@
 -- What a service call leaves and answers where contexts in the kernel are other ones: the same, with the other contexts.
 use Rattle.std.proofs.Common.{◌≡◌, ℕ, Bool, true, false, List, refl, sym, ap, ◌∙◌}
-use Rattle.std.specs.Prelude.{if◌then◌else◌, ◌==◌, [], ◌∷◌, slice_index_or, Option, None, Some, is_ok, Result, Ok, Err}
+use Rattle.std.specs.Prelude.{if◌then◌else◌, ◌==◌, ◌&&◌, is_some, [], ◌∷◌, slice_index_or, Option, None, Some, is_ok, Result, Ok, Err}
+use Rattle.std.proofs.lemmas.Bool.{and_from, eq-eqb}
 use Rattle.brd_tasks.specs.declared.status.WaitReason.{WaitReason}
 use Rattle.brd_tasks.specs.declared.status.WaitReason.TheVariants as reason
 use Rattle.brd_tasks.specs.declared.status.WaitKind.TheVariants as kind
 use Rattle.brd_tasks.specs.declared.task.Task.{Task}
 use Rattle.brd_tasks.specs.declared.task.Request.TheVariants.{Assigned, On}
-use Rattle.brd_tasks.specs.Status.{waiting_of, blocked, suspended, resumed}
+use Rattle.brd_tasks.specs.Status.{is_dormant, waiting_of, blocked, suspended, resumed}
 use Rattle.brd_tasks.specs.Tasks.{TaskTable, task_at, through, changed, with_priority, on_processor, with_wakeup, without_activation, activations_of, wakeups_of, no_context}
 use Rattle.brd_time.specs.Time.{with_due}
 use Rattle.brd_objects.specs.declared.semaphore.Semaphore.{Semaphore}
@@ -37,6 +38,7 @@ use Rattle.brd_kernel.specs.Services.{named, act_tsk, can_act, ext_tsk, ter_tsk,
 use Rattle.brd_kernel.specs.Services.{is_held_elsewhere, is_no_processor, is_asleep, want_of, or_waits, priority_or_initial, with_released, with_all_released_in, with_satisfied_of, handed_over, with_priority_in, flag_got, queue_sent, queue_received, unmarked_on, is_taken, lock_taken_by, lock_given_by, serve_by}
 use Rattle.brd_kernel.proofs.SameLemmas.{Same, same-ended, same-broken, same-reordered, same-satisfied, same-released, same-handed}
 use Rattle.brd_kernel.proofs.WalkLemmas.{in_semaphore, in_flag, in_senders, in_receivers}
+use Rattle.brd_frames.specs.Apart.{starts}
 use Rattle.brd_frames.proofs.TableLemmas.{Contexts, t-with, At, Unsteady, Restarted, through-with, changed-with, noted-with, activated-with, released-free}
 use Rattle.brd_frames.proofs.KernelLemmas.{k-with, set-same-some, changed_for-with, released_in-with, broken-with, ended_in-with}
 
@@ -241,21 +243,31 @@ was-received f g k cpu caller id timeout (Some it) free =
     answers _ _ e_ok (Some it.datum) (released-if-with f g new it.sender free) (executor-same cpu (same-released new it.sender))
 was-received f g k cpu caller id timeout None free = or-waits f g k cpu caller (reason.On kind.Datum id) timeout (in_receivers k caller id)
 
--- What has to be left alone where a call is served: tasks that aren't steady, and by the call the caller, the handler
--- or who is started anew.
+-- What has to be left alone where a call is served: tasks that wait, and by the call the caller, the handler or whom it
+-- starts.
 pub record Frees (f g : Contexts) (k : KernelState) (cpu caller : ℕ) (c : Call) : Type 0 where
   pub unsteady : Unsteady f k.tasks
   pub exits : c ≡ call.ExtTsk → At f caller
   pub returns : c ≡ call.RetInt → At g cpu
-  pub ends : (id : ℕ) → c ≡ call.TerTsk id → is_ok (served (ter_tsk k cpu caller id)) ≡ true → Restarted f k.tasks id
+  pub starts : (id : ℕ) (task : Task) → task_at k.tasks id ≡ Some task → starts c caller id task ≡ true →
+      is_ok (serve_by k cpu caller c) ≡ true → At f id
+
+same-number : (n : ℕ) (test : Bool) → test ≡ true → (n == n && test) ≡ true
+same-number n test is = and_from (n == n) test (eq-eqb n n refl) is
 
 pub serve-alike : (f g : Contexts) (k : KernelState) (cpu caller : ℕ) (c : Call) → Frees f g k cpu caller c →
     Alike f g k cpu (serve_by k cpu caller c) (serve_by (k-with f g k) cpu caller c)
 unfolding is_held_elsewhere is_no_processor
 serve-alike f g k cpu caller (call.ActTsk t) free =
-    row (act_tsk k (named caller t)) _ (λ task passed. tasks f g k cpu _ _ (activated-with f k.tasks (named caller t) Assigned free.unsteady))
+    row (act_tsk k (named caller t)) _ (λ task passed.
+    tasks f g k cpu _ _ (activated-with f k.tasks (named caller t) Assigned (λ here there dormant.
+    free.starts (named caller t) here there (same-number (named caller t) (is_dormant here.status) dormant)
+    (ap is_ok (passed-does (act_tsk k (named caller t)) task passed)))))
 serve-alike f g k cpu caller (call.IactTsk t) free =
-    row (act_tsk k t) _ (λ task passed. tasks f g k cpu _ _ (activated-with f k.tasks t Assigned free.unsteady))
+    row (act_tsk k t) _ (λ task passed.
+    tasks f g k cpu _ _ (activated-with f k.tasks t Assigned (λ here there dormant.
+    free.starts t here there (same-number t (is_dormant here.status) dormant)
+    (ap is_ok (passed-does (act_tsk k t) task passed)))))
 serve-alike f g k cpu caller (call.CanAct t) free =
     row (can_act k (named caller t)) _ (λ (task : Task) passed.
     answers _ _ (activations_of task.activation) None
@@ -268,7 +280,9 @@ serve-alike f g k cpu caller call.ExtTsk free =
 serve-alike f g k cpu caller (call.TerTsk t) free =
     row (ter_tsk k cpu caller t) _ (λ task passed.
     answers _ _ e_ok None
-    (ended_in-with f g k t (free.ends t refl (ap is_ok (passed-does (ter_tsk k cpu caller t) task passed))))
+    (ended_in-with f g k t (λ here request there queued.
+    free.starts t here there (same-number t (is_some here.activation) (ap is_some queued))
+    (ap is_ok (passed-does (ter_tsk k cpu caller t) task passed))))
     (executor-same cpu (same-ended k t)))
 serve-alike f g k cpu caller (call.ChgPri t priority) free =
     row (chg_pri k (named caller t) priority) _ (λ (task : Task) passed.
@@ -279,9 +293,15 @@ serve-alike f g k cpu caller (call.ChgPri t priority) free =
 serve-alike f g k cpu caller (call.GetPri t) free =
     row (get_pri k (named caller t)) _ (λ (task : Task) passed. answers _ _ e_ok (Some task.priority) refl refl)
 serve-alike f g k cpu caller (call.MactTsk t to) free =
-    row (mact_tsk k (named caller t) to) _ (λ task passed. tasks f g k cpu _ _ (activated-with f k.tasks (named caller t) (On to) free.unsteady))
+    row (mact_tsk k (named caller t) to) _ (λ task passed.
+    tasks f g k cpu _ _ (activated-with f k.tasks (named caller t) (On to) (λ here there dormant.
+    free.starts (named caller t) here there (same-number (named caller t) (is_dormant here.status) dormant)
+    (ap is_ok (passed-does (mact_tsk k (named caller t) to) task passed)))))
 serve-alike f g k cpu caller (call.ImactTsk t to) free =
-    row (mact_tsk k t to) _ (λ task passed. tasks f g k cpu _ _ (activated-with f k.tasks t (On to) free.unsteady))
+    row (mact_tsk k t to) _ (λ task passed.
+    tasks f g k cpu _ _ (activated-with f k.tasks t (On to) (λ here there dormant.
+    free.starts t here there (same-number t (is_dormant here.status) dormant)
+    (ap is_ok (passed-does (mact_tsk k t to) task passed)))))
 serve-alike f g k cpu caller (call.MigTsk t to) free =
     row (mig_tsk k cpu (named caller t) to) _ (λ task passed. tasks f g k cpu _ _ (changed-with f (on_processor to) k.tasks (named caller t)))
 serve-alike f g k cpu caller call.GetPid free = row (get_pid k cpu) _ (λ x passed. answers _ _ e_ok (Some cpu) refl refl)

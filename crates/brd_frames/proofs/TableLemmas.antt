@@ -7,9 +7,9 @@ use Rattle.brd_tasks.specs.declared.status.Status.{Status}
 use Rattle.brd_tasks.specs.declared.status.Status.TheVariants as status
 use Rattle.brd_tasks.specs.declared.task.Task.{Task}
 use Rattle.brd_tasks.specs.declared.task.Request.{Request}
-use Rattle.brd_tasks.specs.Status.{is_dormant, released}
+use Rattle.brd_tasks.specs.Status.{is_dormant, is_waiting, released}
 use Rattle.brd_tasks.specs.Tasks.{TaskTable, task_at, no_context, context_at, opening_of, started, processor_of, placed, patched, where_there, starts, activated, ended_by, ended, put_into, through, answered, released_to, released_with, changed, noted}
-use Rattle.brd_frames.specs.Steady.{is_steady_status, is_steady_task}
+use Rattle.brd_frames.specs.Steady.{is_waiting_task}
 
 -- a change of all contexts, by their list
 abbrev pub Contexts : Type 0
@@ -24,9 +24,9 @@ pub record At (f : Contexts) (id : ℕ) : Type 0 where
   pub reads : (xs : List State) → slice_index_or (f xs) id no_context ≡ slice_index_or xs id no_context
   pub writes : (xs : List State) (s : State) → f (slice_set xs id s) ≡ slice_set (f xs) id s
 
--- it leaves alone each task that isn't steady
+-- it leaves alone each task that waits
 abbrev pub Unsteady : Contexts → TaskTable → Type 0
-Unsteady f t = (id : ℕ) → is_steady_task (task_at t id) ≡ false → At f id
+Unsteady f t = (id : ℕ) → is_waiting_task (task_at t id) ≡ true → At f id
 
 -- What doesn't touch contexts.
 
@@ -78,13 +78,6 @@ activated_by t id request task =
     if is_dormant task.status then starts t id (processor_of request task) task
     else patched t id (record task { activation = Some request })
 
-dormant-unsteady : (s : Status) → is_dormant s ≡ true → is_steady_status s ≡ false
-dormant-unsteady status.Dormant is = refl
-dormant-unsteady status.Ready is = absurd (false≢true is)
-dormant-unsteady (status.Waiting reason) is = refl
-dormant-unsteady status.Suspended is = absurd (false≢true is)
-dormant-unsteady (status.WaitingSuspended reason) is = refl
-
 t-activated-if : (f : Contexts) (t : TaskTable) (id : ℕ) (request : Request) (task : Task) (dormant : Bool) →
     (dormant ≡ true → At f id) →
     (if dormant then starts (t-with f t) id (processor_of request task) task
@@ -94,16 +87,19 @@ t-activated-if : (f : Contexts) (t : TaskTable) (id : ℕ) (request : Request) (
 t-activated-if f t id request task true at = starts-with f t id (processor_of request task) task (at refl)
 t-activated-if f t id request task false at = refl
 
+-- a task is dormant, and contexts may be changed only if its own is left alone
+abbrev pub Started : Contexts → TaskTable → ℕ → Type 0
+Started f t id = (task : Task) → task_at t id ≡ Some task → is_dormant task.status ≡ true → At f id
+
 t-activated : (f : Contexts) (t : TaskTable) (id : ℕ) (request : Request) (row : Option Task) →
-    (is_steady_task row ≡ false → At f id) →
+    ((task : Task) → row ≡ Some task → is_dormant task.status ≡ true → At f id) →
     where_there (t-with f t) row (activated_by (t-with f t) id request) ≡ t-with f (where_there t row (activated_by t id request))
 t-activated f t id request None at = refl
-t-activated f t id request (Some task) at =
-    t-activated-if f t id request task (is_dormant task.status) (λ is. at (dormant-unsteady task.status is))
+t-activated f t id request (Some task) at = t-activated-if f t id request task (is_dormant task.status) (at task refl)
 
-pub activated-with : (f : Contexts) (t : TaskTable) (id : ℕ) (request : Request) → Unsteady f t →
+pub activated-with : (f : Contexts) (t : TaskTable) (id : ℕ) (request : Request) → Started f t id →
     activated (t-with f t) id request ≡ t-with f (activated t id request)
-activated-with f t id request free = t-activated f t id request (task_at t id) (free id)
+activated-with f t id request at = t-activated f t id request (task_at t id) at
 
 t-ended-by : (f : Contexts) (t : TaskTable) (id : ℕ) (task : Task) (queued : Option Request) →
     ((request : Request) → queued ≡ Some request → At f id) →
@@ -135,26 +131,26 @@ t-released-to f t id answer second task (Some to) at =
     ap (λ s. record new { contexts = slice_set (f t.contexts) id (answered s answer second) }) (here.reads t.contexts)
     ∙ ap (λ contexts. record new { contexts = contexts }) (sym (here.writes t.contexts (answered (context_at t id) answer second)))
 
-released-unsteady : (s to : Status) → released s ≡ Some to → is_steady_status s ≡ false
-released-unsteady status.Dormant to is = let wrong : ⊥ = cc in absurd wrong
-released-unsteady status.Ready to is = let wrong : ⊥ = cc in absurd wrong
-released-unsteady (status.Waiting reason) to is = refl
-released-unsteady status.Suspended to is = let wrong : ⊥ = cc in absurd wrong
-released-unsteady (status.WaitingSuspended reason) to is = refl
+released-waits : (s to : Status) → released s ≡ Some to → is_waiting s ≡ true
+released-waits status.Dormant to is = let wrong : ⊥ = cc in absurd wrong
+released-waits status.Ready to is = let wrong : ⊥ = cc in absurd wrong
+released-waits (status.Waiting reason) to is = refl
+released-waits status.Suspended to is = let wrong : ⊥ = cc in absurd wrong
+released-waits (status.WaitingSuspended reason) to is = refl
 
 t-released : (f : Contexts) (t : TaskTable) (id answer : ℕ) (second : Option ℕ) (row : Option Task) →
-    (is_steady_task row ≡ false → At f id) →
+    (is_waiting_task row ≡ true → At f id) →
     where_there (t-with f t) row (λ task. released_to (t-with f t) id answer second task (released task.status))
     ≡ t-with f (where_there t row (λ task. released_to t id answer second task (released task.status)))
 t-released f t id answer second None at = refl
 t-released f t id answer second (Some task) at =
-    t-released-to f t id answer second task (released task.status) (λ to is. at (released-unsteady task.status to is))
+    t-released-to f t id answer second task (released task.status) (λ to is. at (released-waits task.status to is))
 
 pub released-with : (f : Contexts) (t : TaskTable) (id answer : ℕ) (second : Option ℕ) → Unsteady f t →
     released_with (t-with f t) id answer second ≡ t-with f (released_with t id answer second)
 released-with f t id answer second free = t-released f t id answer second (task_at t id) (free id)
 
--- Whoever is released is steady then, and the others are as they were.
+-- Whoever is released waits no more, and the others are as they were.
 
 pub set-either : {X : Type 0} (xs : List X) (i j : ℕ) (x d : X) →
     (slice_index_or (slice_set xs i x) j d ≡ x) ⊎ (slice_index_or (slice_set xs i x) j d ≡ slice_index_or xs j d)
@@ -164,34 +160,34 @@ set-either (y ∷ ys) zero (suc j) x d = inr refl
 set-either (y ∷ ys) (suc i) zero x d = inr refl
 set-either (y ∷ ys) (suc i) (suc j) x d = set-either ys i j x d
 
-released-steady : (s to : Status) → released s ≡ Some to → is_steady_status to ≡ true
-released-steady status.Dormant to is = let wrong : ⊥ = cc in absurd wrong
-released-steady status.Ready to is = let wrong : ⊥ = cc in absurd wrong
-released-steady (status.Waiting reason) to is = let same : status.Ready ≡ to = cc in ap is_steady_status (sym same)
-released-steady status.Suspended to is = let wrong : ⊥ = cc in absurd wrong
-released-steady (status.WaitingSuspended reason) to is = let same : status.Suspended ≡ to = cc in ap is_steady_status (sym same)
+released-rests : (s to : Status) → released s ≡ Some to → is_waiting to ≡ false
+released-rests status.Dormant to is = let wrong : ⊥ = cc in absurd wrong
+released-rests status.Ready to is = let wrong : ⊥ = cc in absurd wrong
+released-rests (status.Waiting reason) to is = let same : status.Ready ≡ to = cc in ap is_waiting (sym same)
+released-rests status.Suspended to is = let wrong : ⊥ = cc in absurd wrong
+released-rests (status.WaitingSuspended reason) to is = let same : status.Suspended ≡ to = cc in ap is_waiting (sym same)
 
-steady-set : (rows : List (Option Task)) (id other : ℕ) (task : Task) → is_steady_status task.status ≡ true →
-    is_steady_task (slice_index_or (slice_set rows id (Some task)) other None) ≡ false →
-    is_steady_task (slice_index_or rows other None) ≡ false
-steady-set rows id other task steady is = elim (set-either rows id other (Some task) None) [
-  | inl new ↦ absurd (false≢true (sym is ∙ ap is_steady_task new ∙ steady))
-  | inr old ↦ sym (ap is_steady_task old) ∙ is
+waiting-set : (rows : List (Option Task)) (id other : ℕ) (task : Task) → is_waiting task.status ≡ false →
+    is_waiting_task (slice_index_or (slice_set rows id (Some task)) other None) ≡ true →
+    is_waiting_task (slice_index_or rows other None) ≡ true
+waiting-set rows id other task rests is = elim (set-either rows id other (Some task) None) [
+  | inl new ↦ absurd (false≢true (sym rests ∙ sym (ap is_waiting_task new) ∙ is))
+  | inr old ↦ sym (ap is_waiting_task old) ∙ is
 ]
 
 released-to-unsteady : (t : TaskTable) (id answer other : ℕ) (second : Option ℕ) (task : Task) (to : Option Status) →
-    ((s : Status) → to ≡ Some s → is_steady_status s ≡ true) →
-    is_steady_task (task_at (released_to t id answer second task to) other) ≡ false → is_steady_task (task_at t other) ≡ false
-released-to-unsteady t id answer other second task None steady is = is
-released-to-unsteady t id answer other second task (Some to) steady is =
-    steady-set t.rows id other (record task { status = to }) (steady to refl) is
+    ((s : Status) → to ≡ Some s → is_waiting s ≡ false) →
+    is_waiting_task (task_at (released_to t id answer second task to) other) ≡ true → is_waiting_task (task_at t other) ≡ true
+released-to-unsteady t id answer other second task None rests is = is
+released-to-unsteady t id answer other second task (Some to) rests is =
+    waiting-set t.rows id other (record task { status = to }) (rests to refl) is
 
 released-row-unsteady : (t : TaskTable) (id answer other : ℕ) (second : Option ℕ) (row : Option Task) →
-    is_steady_task (task_at (where_there t row (λ task. released_to t id answer second task (released task.status))) other) ≡ false →
-    is_steady_task (task_at t other) ≡ false
+    is_waiting_task (task_at (where_there t row (λ task. released_to t id answer second task (released task.status))) other) ≡ true →
+    is_waiting_task (task_at t other) ≡ true
 released-row-unsteady t id answer other second None is = is
 released-row-unsteady t id answer other second (Some task) is =
-    released-to-unsteady t id answer other second task (released task.status) (λ to so. released-steady task.status to so) is
+    released-to-unsteady t id answer other second task (released task.status) (λ to so. released-rests task.status to so) is
 
 pub released-free : (f : Contexts) (t : TaskTable) (id answer : ℕ) (second : Option ℕ) → Unsteady f t →
     Unsteady f (released_with t id answer second)

@@ -4,6 +4,8 @@ use Rattle.std.specs.Prelude.{List, [], ◌∷◌, length, slice_index, slice_se
 use Rattle.std.specs.Prelude.{Err}
 use Rattle.brd_base.specs.Space.{base}
 use Rattle.brd_isa.specs.declared.instruction.{Insn.Insn, LoadOp.LoadOp, StoreOp.StoreOp}
+use Rattle.brd_isa.specs.declared.shape.AccessSize.{AccessSize}
+use Rattle.brd_isa.specs.Shapes.{load_size, store_size}
 use Rattle.brd_mem.specs.Memory.{Memory, size_of, byte_at}
 use Rattle.brd_exec.specs.declared.outcome.ExceptionCode.{ExceptionCode}
 use Rattle.brd_exec.specs.State.{State}
@@ -21,23 +23,20 @@ use Rattle.brd_board.specs.Board.{BoardState, Happened, happens, after}
 abbrev pub is_among : ℕ → ℕ → ℕ → Bool
 is_among first count address = nat_le first address && nat_lt address (first + count)
 
--- the addresses from which a load loads; of a part of an unaligned word it is the aligned word
-abbrev pub loads_at : LoadOp → ℕ → ℕ → Bool
-loads_at LoadOp.Lb address = is_among address 1
-loads_at LoadOp.Lh address = is_among address 2
-loads_at LoadOp.Lwl address = is_among (aligned address) 4
-loads_at LoadOp.Lw address = is_among address 4
-loads_at LoadOp.Lbu address = is_among address 1
-loads_at LoadOp.Lhu address = is_among address 2
-loads_at LoadOp.Lwr address = is_among (aligned address) 4
+-- the addresses of an access of a size; of a part of an unaligned word all of the aligned word that holds it
+abbrev pub covers : AccessSize → ℕ → ℕ → Bool
+covers AccessSize.Byte address = is_among address 1
+covers AccessSize.Halfword address = is_among address 2
+covers AccessSize.Word address = is_among address 4
+covers AccessSize.LeftPart address = is_among (aligned address) 4
+covers AccessSize.RightPart address = is_among (aligned address) 4
 
--- the addresses to which a store stores; with a part of an unaligned word it is the aligned word
+-- the addresses from which a load loads, and to which a store stores
+abbrev pub loads_at : LoadOp → ℕ → ℕ → Bool
+loads_at op = covers (load_size op)
+
 abbrev pub stores_at : StoreOp → ℕ → ℕ → Bool
-stores_at StoreOp.Sb address = is_among address 1
-stores_at StoreOp.Sh address = is_among address 2
-stores_at StoreOp.Swl address = is_among (aligned address) 4
-stores_at StoreOp.Sw address = is_among address 4
-stores_at StoreOp.Swr address = is_among (aligned address) 4
+stores_at op = covers (store_size op)
 
 -- the addresses from which an instruction loads, or to which it stores
 abbrev pub accesses : Action → ℕ → Bool

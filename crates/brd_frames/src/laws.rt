@@ -1,6 +1,6 @@
 //! What an event reads and writes of a board, and which events may change places: laws of the definitions alone.
 
-ghost use Rattle.brd_frames.specs.Apart.{FrameLaw, FramesLaw};
+ghost use Rattle.brd_frames.specs.Apart.{FrameLaw, FramesLaw, StartLaw, SteadyLaw};
 ghost use Rattle.brd_frames.specs.Touching.{StoreLaw, FootprintLaw, FootprintsLaw, ClearLaw};
 ghost use Rattle.brd_frames.specs.Going.{ProcessorLaw, GoesLaw};
 ghost use Rattle.brd_frames.specs.Linking.{OthersLaw, OwnLaw, LinkLaw};
@@ -12,6 +12,10 @@ ghost use Rattle.brd_frames.specs.Commuting.{LocalsLaw, IndependentLaw, Independ
 pub fn events_apart_leave_a_context_alone()
     ensures event { FrameLaw }
     ensures events { FramesLaw }
+    // What starts a task writes its context anew.
+    ensures start { StartLaw }
+    // An agent that an event is apart from is steady after it, too.
+    ensures steady { SteadyLaw }
 {}
 
 /// Only ter_tsk ends another one: a task that isn't dormant becomes dormant only by an instruction of its own or by
