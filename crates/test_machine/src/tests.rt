@@ -7,5 +7,6 @@ mod exec;
 mod kernel;
 mod objects;
 mod ready;
+mod shapes;
 mod sysgate;
 mod tasks;
