@@ -1,8 +1,7 @@
 -- Where a debugger stops: at breaks, where watched bytes change, where instructions read or write bytes, where a
 -- processor that is stepped comes out of a range, and at exceptions (own choice).
-use Rattle.std.specs.Prelude.{◌≡◌, ◌≢◌, ◌⊎◌, ℕ, ◌<◌, ◌≤◌, ◌==◌, nat_lt, nat_le, Bool, true, false, not, ◌&&◌, ◌||◌, List}
-use Rattle.std.specs.Prelude.{[], slice_get, Option}
-use Rattle.std.specs.Prelude.{Some, None, Contains}
+use Rattle.std.specs.Prelude.{◌≡◌, ◌≢◌, ◌⊎◌, ℕ, ◌<◌, ◌≤◌, ◌==◌, nat_lt, nat_le, Bool, true, false, not, ◌&&◌, ◌||◌}
+use Rattle.std.specs.Prelude.{List, [], slice_get, Option, Some, None, Contains}
 use Rattle.brd_mem.specs.Memory.{Memory, byte_at}
 use Rattle.brd_board.specs.declared.event.Event.{Event}
 use Rattle.brd_board.specs.declared.event.Event.TheVariants.{Step, Tick, Raise}
@@ -50,8 +49,8 @@ is_who (Standing.Task id) (Some (Standing.Task other)) = id == other
 is_who (Standing.Handler line) (Some (Standing.Handler other)) = line == other
 is_who who standing = false
 
--- The processor of who was executed on another one: of a task the one to which it is assigned by now (a service call may
--- have moved it, as mig_tsk does), of a handler the same.
+-- The processor of who was executed on another one: of a task the one to which it is assigned by now (a service call
+-- may have moved it, as mig_tsk does), of a handler the same.
 abbrev pub assigned_or : ℕ → Option TaskView → ℕ
 assigned_or cpu None = cpu
 assigned_or cpu (Some task) = task.cpu

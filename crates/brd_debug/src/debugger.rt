@@ -144,8 +144,8 @@ impl Debugger {
         self.stops.watches.add(address, MOST_ADDRESSES)
     }
 
-    /// Stops from now on where an instruction reads the byte at this address, unless 512 others are set. Answers whether
-    /// that is set now.
+    /// Stops from now on where an instruction reads the byte at this address, unless 512 others are set. Answers
+    /// whether that is set now.
     pub fn stop_at_read(&mut self, address: u32) -> bool
         ensures is { self.new ≡ record self.old {
           stops = record self.old.stops { reads = marked_within most_addresses self.old.stops.reads address };

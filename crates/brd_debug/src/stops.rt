@@ -166,8 +166,8 @@ impl Stops {
         is_done(touches, report)
     }
 
-    /// Whether an event, seen from the board before it, is a step whose instruction reads or writes a byte where that is
-    /// a stop.
+    /// Whether an event, seen from the board before it, is a step whose instruction reads or writes a byte where that
+    /// is a stop.
     #[inline(always)]
     pub fn touches(&self, board: &Board, event: Event) -> bool
         ensures { result ≡ touches self.now.reads self.now.accesses board.now event }
@@ -235,8 +235,8 @@ impl Stops {
         is_fault(self.faults, report)
     }
 
-    /// Whether an event with this report, between two boards, changed a watched byte, or read or wrote one where that is
-    /// a stop.
+    /// Whether an event with this report, between two boards, changed a watched byte, or read or wrote one where that
+    /// is a stop.
     pub fn are_touched(&self, before: &Board, event: Event, report: Report, after: &Board) -> bool
         ensures { Decides result (Differs self.now.watches before.now.memory after.now.memory
             ⊎ (is_done (touches self.now.reads self.now.accesses before.now event) report ≡ true)) }
