@@ -9,11 +9,12 @@ use Rattle.std.specs.declared.io.ErrorKind.TheVariants.{OutOfMemory, UnexpectedE
 use Rattle.std.proofs.lemmas.Bool.{cases_Bool}
 use Rattle.brd_gdb.specs.declared.request.Request.{Request}
 use Rattle.brd_gdb.specs.declared.request.Request.TheVariants.{StartNoAckMode, Detach, Kill, KillProcess}
-use Rattle.brd_stub.specs.Answers.{Answers}
+use Rattle.brd_gdb.specs.declared.request.Request.TheVariants.{Forward, BackwardContinue, BackwardStep, Monitor}
+use Rattle.brd_stub.specs.Answers.{Shows}
 use Rattle.brd_stub.specs.declared.session.Session.{Session}
 use Rattle.brd_command.specs.DebugLine.{line_size}
 use Rattle.brd_command.specs.GdbCommand.{EndsServing, IsCutOff, ServesCutShort, ServesFirst, ServesGdb, ServesToEnd, StopsServing}
-use Rattle.brd_command.specs.Serving.{AddsAnswer, AnswersPacket, HasServed, IsReady, Serves, accepted}
+use Rattle.brd_command.specs.Serving.{AddsAnswer, AnswersPacket, HasServed, IsReady, IsShown, Serves, accepted}
 use Rattle.brd_command.specs.Serving.HasServed.{one_more as one_more_served}
 use Rattle.brd_command.specs.Lines.{CountsByte, KeepsFromTaking, TakesByte}
 use Rattle.brd_command.specs.declared.gdb_server.Server.{Server}
@@ -34,11 +35,17 @@ by_session Kill s after bytes no_mode no_detach no_process no_kill adds = absurd
 by_session KillProcess s after bytes no_mode no_detach no_process no_kill adds = absurd (no_process refl)
 by_session other s after bytes no_mode no_detach no_process no_kill adds = (adds, refl)
 
--- what is shown on the console is no part of what a session's answer is held to
-pub shown_otherwise : (s : Session) (request : Request) (console other reply : List ℕ) (next : Session)
-    → Answers s request console reply next → Answers s request other reply next
-shown_otherwise s request console other reply next it =
-    record { reads = it.reads; moves = it.moves; tells = it.tells; says = it.says; short = it.short }
+-- what is shown of a move is the session's text
+pub shows-so : (request : Request) (s : Session) (said text : List ℕ) → Shows request s said →
+    IsShown request said text → Shows request s text
+shows-so (Forward how) s said text shows is = is ∙ shows
+shows-so BackwardContinue s said text shows is = is ∙ shows
+shows-so BackwardStep s said text shows is = is ∙ shows
+shows-so other s said text shows is = tt
+
+pub shown-so : (request : Request) (said text : List ℕ) → text ≡ said → IsShown request said text
+shown-so (Monitor command) said text same = tt
+shown-so other said text same = same
 
 -- The answers to the bytes of a text, but for those of what is left of it, were written.
 abbrev pub IsServed : Server → List ℕ → Option (List ℕ) → ℕ → Server → Option (List ℕ) → Option (List ℕ) → Type 0

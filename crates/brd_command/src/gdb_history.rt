@@ -1,6 +1,7 @@
 //! What has happened up to the position of a session with GDB: the last lines of its trace, and its summary.
 
-ghost use Rattle.std.specs.Prelude.{◌≡◌, ◌≤◌, length, IfOk};
+ghost use Rattle.std.specs.Prelude.{◌≡◌, ◌≤◌, ◌++◌, length, IfOk};
+ghost use Rattle.brd_command.specs.Serving.{IsShown};
 
 use crate::trace_command::{Part, Traced, lines_of};
 use crate::trace_options::TraceFormat;
@@ -30,7 +31,8 @@ const ROUNDS: u32 = 16;
 
 /// What is added to the session's list of commands.
 const HELP: &[u8] =
-    b"trace N: the last N lines of what `board trace` shows up to this position, at most 4096\nsummary: what `board trace --summary` shows of it\n";
+    b"trace N: the last N lines of what `board trace` shows up to this position, at most 4096\n\
+    summary: what `board trace --summary` shows of it\n";
 
 /// A board to which nothing has happened yet, what it was made of, and what is to happen to it.
 pub struct History {
@@ -78,13 +80,28 @@ impl History {
         position: u64,
         said: &[u8],
         progress: &mut P,
-    ) -> Result<Vec<u8>, NoMemory> {
+    ) -> Result<Vec<u8>, NoMemory>
+        ensures { IfOk result (λ text. IsShown request said.now text.items) }
+    {
         match request {
-            Request::Monitor(Monitor::Trace(lines)) => {
-                self.last_lines(alloc, position, lines, progress)
-            }
-            Request::Monitor(Monitor::Summary) => self.summary(alloc, position, progress),
-            Request::Monitor(Monitor::Help) => joined(alloc, said, HELP),
+            Request::Monitor(command) => self.monitor(alloc, command, position, said, progress),
+            _ => joined(alloc, b"", said),
+        }
+    }
+
+    /// The same for a command of the user.
+    fn monitor<P: Progress>(
+        &self,
+        alloc: Global,
+        command: Monitor,
+        position: u64,
+        said: &[u8],
+        progress: &mut P,
+    ) -> Result<Vec<u8>, NoMemory> {
+        match command {
+            Monitor::Trace(lines) => self.last_lines(alloc, position, lines, progress),
+            Monitor::Summary => self.summary(alloc, position, progress),
+            Monitor::Help => joined(alloc, said, HELP),
             _ => joined(alloc, said, b""),
         }
     }
@@ -295,7 +312,9 @@ fn start_of_last(text: &[u8], lines: u64) -> usize {
 }
 
 /// Two texts, the one behind the other.
-fn joined(alloc: Global, first: &[u8], second: &[u8]) -> Result<Vec<u8>, NoMemory> {
+fn joined(alloc: Global, first: &[u8], second: &[u8]) -> Result<Vec<u8>, NoMemory>
+    ensures { IfOk result (λ text. text.items ≡ first.now ++ second.now) }
+{
     let mut out = Vec::new(alloc);
     out.extend_from_slice(first)?;
     out.extend_from_slice(second)?;

@@ -1,7 +1,8 @@
 -- Both halves of what is said of an answer.
 use Rattle.std.specs.Prelude.{◌≡◌, Option, Some, None, IfNone, Result, Ok, Err, IfOk}
 
-pub if-both : {A E : Type 0} (P Q : A → Type 0) (R : A → Type 0) → ((a : A) → P a → Q a → R a) → (r : Result A E) → IfOk r P → IfOk r Q → IfOk r R
+pub if-both : {A E : Type 0} (P Q : A → Type 0) (R : A → Type 0) → ((a : A) → P a → Q a → R a) → (r : Result A E) →
+    IfOk r P → IfOk r Q → IfOk r R
 if-both P Q R both (Ok a) first second = both a first second
 if-both P Q R both (Err e) first second = first
 
@@ -20,8 +21,9 @@ pub if-all : {A E : Type 0} (P : Type 0) → P → (r : Result A E) → IfOk r (
 if-all P is (Ok a) = is
 if-all P is (Err e) = tt
 
--- five things that are said of an answer
-pub if-five : {A E : Type 0} (P Q S T U R : A → Type 0) → ((a : A) → P a → Q a → S a → T a → U a → R a) → (r : Result A E) → IfOk r P → IfOk r Q →
-    IfOk r S → IfOk r T → IfOk r U → IfOk r R
-if-five P Q S T U R all (Ok a) first second third fourth fifth = all a first second third fourth fifth
-if-five P Q S T U R all (Err e) first second third fourth fifth = first
+-- four things that are said of an answer
+pub if-four : {A E : Type 0} (P Q S T R : A → Type 0) → ((a : A) → P a → Q a → S a → T a → R a) → (r : Result A E) →
+    IfOk r P → IfOk r Q →
+    IfOk r S → IfOk r T → IfOk r R
+if-four P Q S T R all (Ok a) first second third fourth = all a first second third fourth
+if-four P Q S T R all (Err e) first second third fourth = first

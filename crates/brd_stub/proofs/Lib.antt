@@ -2,3 +2,9 @@ mod ReadingLemmas
 mod AnswerLemmas
 mod MovingLemmas
 mod SizeLemmas
+mod PointLemmas
+mod MarkedLemmas
+mod HeldLemmas
+mod HitLemmas
+mod SetLemmas
+mod SessionLemmas

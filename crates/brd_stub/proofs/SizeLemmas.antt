@@ -1,13 +1,13 @@
 -- How long replies are.
 use Rattle.std.proofs.Common.{◌≡◌, ℕ, ◌+◌, ◌*◌, ◌≤◌, List, [], ◌∷◌, ◌++◌, length, refl, ap, ◌∙◌, arith, length-append}
 use Rattle.std.proofs.lemmas.List.{length-replicate}
-use Rattle.std.specs.Prelude.{Option, Some, None, min}
+use Rattle.std.specs.Prelude.{Option, Some, None}
 use Rattle.brd_word.specs.declared.order.Order.{Order}
 use Rattle.brd_word.specs.declared.order.Order.TheVariants.{Big, Little}
 use Rattle.brd_exec.specs.State.{State}
 use Rattle.brd_mem.specs.Memory.{Memory}
 use Rattle.brd_gdb.specs.Hexes.{hexed}
-use Rattle.brd_stub.specs.Registers.{word_text, words_text, unavailable_text, word_or_unavailable, registers_text}
+use Rattle.brd_stub.specs.Registers.{word_text, words_text, word_or_unavailable, registers_text}
 use Rattle.brd_stub.specs.Reading.{bytes_text, IsMemoryText}
 
 hexed-size : (bytes : List ℕ) → length (hexed bytes) ≡ 2 * length bytes

@@ -1,65 +1,123 @@
 -- What a session answers, and what becomes of it.
-use Rattle.std.specs.Prelude.{◌≡◌, ◌⊎◌, ℕ, ◌≤◌, List, [], length, Option, Some, None, true, codes}
+use Rattle.std.specs.Prelude.{◌≡◌, ℕ, ◌≤◌, nat_le, true, if◌then◌else◌, is_some, List, [], length}
+use Rattle.std.specs.Prelude.{Option, Some, None, codes}
 use Rattle.brd_board.specs.declared.event.Event.{Event}
 use Rattle.brd_board.specs.Board.{BoardState, registers_of}
 use Rattle.brd_debug.specs.declared.stops.Stepper.{Stepper}
-use Rattle.brd_debug.specs.Debugger.{DebuggerState, shown}
+use Rattle.brd_debug.specs.Debugger.{shown}
 use Rattle.brd_debug.specs.Stops.{no_stops}
 use Rattle.brd_gdb.specs.Receiving.{packet_size}
+use Rattle.brd_gdb.specs.declared.request.PointKind.{PointKind}
+use Rattle.brd_gdb.specs.declared.request.ThreadId.{ThreadId}
 use Rattle.brd_gdb.specs.declared.request.Monitor.TheVariants.{Goto}
 use Rattle.brd_gdb.specs.declared.request.Request.{Request}
 use Rattle.brd_gdb.specs.declared.request.Request.TheVariants as request
 use Rattle.brd_stub.specs.declared.session.Session.{Session}
-use Rattle.brd_stub.specs.declared.halt.Told.{Told}
+use Rattle.brd_stub.specs.declared.points.Point.{Point}
+use Rattle.brd_stub.specs.declared.halt.Reason.{Reason}
+use Rattle.brd_stub.specs.declared.halt.Told.TheVariants as told
 use Rattle.brd_stub.specs.Registers.{context_or_rest, registers_text, register_text}
 use Rattle.brd_stub.specs.Reading.{IsMemoryText}
-use Rattle.brd_stub.specs.Moving.{IsSameButStops, stepping, stepping_back, GoesForward, GoesBack}
-use Rattle.brd_stub.specs.Stepping.{stepped_by}
-use Rattle.brd_stub.specs.Selecting.{beginning, stepping_of}
-use Rattle.brd_stub.specs.Halting.{halt_text, fitting}
+use Rattle.brd_stub.specs.Points.{may_set, with_point, without_point}
+use Rattle.brd_stub.specs.Moving.{stepping, of_all, moved_to, Ended, GoesForward, GoesBack}
+use Rattle.brd_stub.specs.Stepping.{processor_of, stepped_by}
+use Rattle.brd_stub.specs.Selecting.{beginning, stepping_of, chosen_by, selected_by, asked_by}
+use Rattle.brd_stub.specs.Halting.{halt_text, current_text, fitting, done_text, note_text}
 
 -- What is replied to a request that reads a board: the registers of a processor, or memory. A write is refused.
 abbrev pub Reads : BoardState → ℕ → Request → List ℕ → Type 0
-Reads board thread request.ReadRegisters reply = reply ≡ registers_text board.memory.order (context_or_rest (registers_of board thread))
+Reads board thread request.ReadRegisters reply = reply ≡ registers_text board.memory.order (context_or_rest
+    (registers_of board thread))
 Reads board thread (request.ReadRegister number) reply =
     reply ≡ register_text board.memory.order (context_or_rest (registers_of board thread)) number
 Reads board thread (request.ReadMemory address length) reply = IsMemoryText board.memory address length reply
 Reads board thread request.Write reply = reply ≡ codes "E01"
 Reads board thread other reply = Unit {0}
 
--- What becomes of a debugger by a request: a move goes on or back, and what isn't one changes at
--- most its stops. `cpu` is the processor that steps where none is named, and `it` is what was told last.
-abbrev pub Moves : ℕ → Told → Request → DebuggerState → DebuggerState → Type 0
-Moves cpu it (request.Forward how) d next = GoesForward it (stepping (stepped_by (shown d) cpu how) d) next
-Moves cpu it request.BackwardContinue d next = GoesBack it (stepping_back None d) next
-Moves cpu it request.BackwardStep d next = GoesBack it (stepping_back (Some (Stepper.Each cpu)) d) next
-Moves cpu it (request.Monitor (Goto position)) d next = (next ≡ d) ⊎ (next ≡ record d { position = position })
-Moves cpu it other d next = IsSameButStops d next
+-- a session that a move has left as it has ended: the processor on which it has stopped is chosen
+abbrev pub at_stop : Session → Ended → Session
+at_stop s e = record s {
+  debugger = e.debugger;
+  told = e.stop.told;
+  halt = e.stop.halt;
+  selection = chosen_by e.stop.halt.thread s.selection;
+}
 
--- What is replied to a move: why it has ended.
-abbrev pub Tells : Request → Session → List ℕ → Type 0
-Tells (request.Forward how) next reply = reply ≡ fitting (halt_text next.halt)
-Tells request.BackwardContinue next reply = reply ≡ fitting (halt_text next.halt)
-Tells request.BackwardStep next reply = reply ≡ fitting (halt_text next.halt)
-Tells other next reply = Unit {0}
+abbrev pub Stops : (Ended → Type 0) → Session → Session → Type 0
+Stops Goes s next = (e : Ended) × Goes e × (next ≡ at_stop s e)
 
--- `?` asks for that once more.
-abbrev pub Says : Session → Request → List ℕ → Type 0
-Says s request.StopReason reply = reply ≡ fitting (halt_text s.halt)
-Says s other reply = Unit {0}
+-- a session that is to go to a position, which has to be one of the journal
+abbrev pub gone_to : Session → ℕ → Session
+gone_to s position = record s {
+  debugger = if nat_le position (length s.debugger.events) then moved_to s.debugger position else s.debugger;
+  told = told.Nothing;
+}
 
--- What a session answers to a request, and what it is then: it reads the board at its position, moves as it is asked and
--- tells why it has stopped, and its reply fits a packet.
-pub record Answers (s : Session) (request : Request) (console reply : List ℕ) (next : Session) : Type 0 where
+-- the processor of a thread, and of any that of the last stop
+abbrev pub thread_named : Session → ThreadId → Option ℕ
+thread_named s thread = processor_of (shown s.debugger) thread s.halt.thread
+
+abbrev pub point : PointKind → ℕ → ℕ → Point
+point kind address length = record { kind = kind; address = address; length = length }
+
+-- What becomes of a session by a request. What is read, and all else, changes nothing.
+abbrev pub Becomes : Session → Request → Session → Type 0
+Becomes s (request.Forward how) next =
+    Stops (GoesForward s.points (stepping_of s.selection) s.told
+    (stepping s.points (stepped_by (shown s.debugger) (stepping_of s.selection) how) s.debugger)) s next
+Becomes s request.BackwardContinue next =
+    Stops (GoesBack s.points (stepping_of s.selection) s.told (stepping s.points (of_all None) s.debugger)) s next
+Becomes s request.BackwardStep next =
+    Stops (GoesBack s.points (stepping_of s.selection) s.told
+    (stepping s.points (of_all (Some (Stepper.Each (stepping_of s.selection)))) s.debugger)) s next
+Becomes s (request.Monitor (Goto position)) next = next ≡ gone_to s position
+Becomes s (request.SetThread moves thread) next =
+    next ≡ record s { selection = selected_by moves (thread_named s thread) thread s.selection }
+Becomes s (request.IsAlive thread) next =
+    next ≡ record s { selection = asked_by (shown s.debugger) thread s.selection }
+Becomes s (request.SetPoint kind address length) next =
+    next ≡ record s { points = with_point s.points (point kind address length) }
+Becomes s (request.ClearPoint kind address length) next =
+    next ≡ record s { points = without_point s.points (point kind address length) }
+Becomes s other next = next ≡ s
+
+-- What is replied: to a move, and to `?`, why it has ended, and to `qC` on which processor; to what changes something
+-- else, whether that was done.
+abbrev pub Says : Session → Request → Session → List ℕ → Type 0
+Says s (request.Forward how) next reply = reply ≡ fitting (halt_text next.halt)
+Says s request.BackwardContinue next reply = reply ≡ fitting (halt_text next.halt)
+Says s request.BackwardStep next reply = reply ≡ fitting (halt_text next.halt)
+Says s request.StopReason next reply = reply ≡ fitting (halt_text s.halt)
+Says s request.CurrentThread next reply = reply ≡ fitting (current_text s.halt.thread)
+Says s (request.SetThread moves thread) next reply = reply ≡ done_text (is_some (thread_named s thread))
+Says s (request.IsAlive thread) next reply = reply ≡ done_text (is_some (processor_of (shown s.debugger) thread 1))
+Says s (request.SetPoint kind address length) next reply =
+    reply ≡ done_text (may_set s.points (point kind address length))
+Says s (request.ClearPoint kind address length) next reply = reply ≡ done_text true
+Says s other next reply = Unit {0}
+
+-- What GDB's console shows of a move. What it shows of other requests isn't laid down.
+abbrev pub console_text : Session → List ℕ
+console_text s = note_text s.halt.reason (shown s.debugger)
+
+abbrev pub Shows : Request → Session → List ℕ → Type 0
+Shows (request.Forward how) next console = console ≡ console_text next
+Shows request.BackwardContinue next console = console ≡ console_text next
+Shows request.BackwardStep next console = console ≡ console_text next
+Shows other next console = Unit {0}
+
+-- What a session answers to a request, and what it is then: it reads the board at its position, moves as it is asked
+-- and tells why it has stopped, and its reply fits a packet.
+pub record Answers (s : Session) (request : Request) (reply : List ℕ) (next : Session) : Type 0 where
   pub reads : Reads (shown s.debugger) s.selection.reading request reply
-  pub moves : Moves (stepping_of s.selection) s.told request s.debugger next.debugger
-  pub tells : Tells request next reply
-  pub says : Says s request reply
+  pub becomes : Becomes s request next
+  pub says : Says s request next reply
   pub short : length reply ≤ packet_size
 
--- A session begins before the first event, with no point, and reads the registers of processor 1.
+-- A session begins before the first event, with no point, and reads and steps processor 1.
 pub record Begins (boot : BoardState) (events : List Event) (s : Session) : Type 0 where
-  pub debugger : s.debugger
-      ≡ record { boot = boot; events = events; position = 0; stops = record no_stops { faults = true } }
-  pub points : s.points.items ≡ []
+  pub debugger : s.debugger ≡ record { boot = boot; events = events; position = 0; stops = no_stops }
+  pub points : s.points ≡ []
+  pub told : s.told ≡ told.Nothing
+  pub halt : s.halt ≡ record { thread = 1; reason = Reason.Done }
   pub selection : s.selection ≡ beginning

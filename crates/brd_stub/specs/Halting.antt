@@ -1,12 +1,14 @@
 -- How GDB is told why the board stands where it is (GDB manual, "Stop Reply Packets").
-use Rattle.std.specs.Prelude.{ℕ, List, [], ◌∷◌, ◌++◌, take, codes}
+use Rattle.std.specs.Prelude.{if◌then◌else◌, is_some, ℕ, Bool, true, false, List, [], ◌∷◌, ◌++◌, take, codes}
 use Rattle.brd_exec.specs.declared.outcome.ExceptionCode.{ExceptionCode}
+use Rattle.brd_board.specs.Board.{BoardState, registers_of}
 use Rattle.brd_text.specs.Hex.{hex_of}
 use Rattle.brd_gdb.specs.Hexes.{hexed}
 use Rattle.brd_gdb.specs.Receiving.{packet_size}
 use Rattle.brd_gdb.specs.declared.request.PointKind.{PointKind}
 use Rattle.brd_stub.specs.declared.halt.Reason.{Reason}
 use Rattle.brd_stub.specs.declared.halt.Halt.{Halt}
+use Rattle.brd_stub.specs.Reasons.{executing}
 
 -- The signal of an exception, by its number in GDB's protocol: of address errors SIGBUS, of bus errors SIGSEGV, of a
 -- reserved instruction SIGILL, of an overflow SIGFPE, of a breakpoint and a trap SIGTRAP (own choice).
@@ -58,6 +60,31 @@ processor_text cpu = codes "thread:" ++ hexed (cpu ∷ []) ++ codes ";"
 abbrev pub halt_text : Halt → List ℕ
 halt_text it = signal_text it.reason ++ processor_text it.thread ++ reason_text it.reason
 
+-- which processor that is (GDB manual, "General Query Packets", qC)
+abbrev pub current_text : ℕ → List ℕ
+current_text cpu = codes "QC" ++ hexed (cpu ∷ [])
+
 -- the front of a reply that a packet has room for
 abbrev pub fitting : List ℕ → List ℕ
 fitting reply = take packet_size reply
+
+-- that a request is done, or refused
+abbrev pub done_text : Bool → List ℕ
+done_text true = codes "OK"
+done_text false = codes "E01"
+
+-- what a board does at the end of a journal (own choice)
+abbrev pub end_text : BoardState → List ℕ
+end_text b =
+    if b.kernel.off then codes "The journal ends here: the board is off.\n"
+    else (if is_some (registers_of b (executing b 1)) then codes "The journal ends here.\n"
+    else codes "The journal ends here: no processor executes anything.\n")
+
+-- what GDB's console shows where a move has ended for a reason
+abbrev pub note_text : Reason → BoardState → List ℕ
+note_text Reason.Done b = []
+note_text (Reason.Break kind) b = []
+note_text (Reason.Exception code) b = []
+note_text (Reason.Watch kind address) b = []
+note_text Reason.Begin b = []
+note_text Reason.End b = end_text b

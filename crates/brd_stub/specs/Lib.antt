@@ -1,5 +1,8 @@
 pub mod Registers
 pub mod Reading
+pub mod Points
+pub mod Hits
+pub mod Reasons
 pub mod Halting
 pub mod Stepping
 pub mod Selecting

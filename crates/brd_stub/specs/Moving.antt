@@ -1,25 +1,30 @@
 -- Where a move of a session ends.
-use Rattle.std.specs.Prelude.{◌≡◌, ℕ, ◌+◌, ◌-◌, ◌==◌, min, Bool, true, false, not, ◌&&◌, ◌||◌, if◌then◌else◌, length}
+use Rattle.std.specs.Prelude.{◌≡◌, ℕ, ◌+◌, ◌-◌, ◌==◌, min, Bool, true, false, not, ◌&&◌, ◌||◌, if◌then◌else◌, List}
+use Rattle.std.specs.Prelude.{length}
 use Rattle.std.specs.Prelude.{Option, Some, None}
 use Rattle.brd_debug.specs.declared.stops.Stepper.{Stepper}
 use Rattle.brd_debug.specs.declared.look.Look.{Look}
-use Rattle.brd_debug.specs.Debugger.{DebuggerState, SeesAhead}
-use Rattle.brd_debug.specs.Stops.{IsStop, IsLeast, IsGreatest}
+use Rattle.brd_debug.specs.Debugger.{DebuggerState, SeesAhead, shown}
+use Rattle.brd_debug.specs.Stops.{IsStop, IsLeast, IsGreatest, stepped_on}
+use Rattle.brd_stub.specs.declared.points.Point.{Point}
+use Rattle.brd_stub.specs.declared.halt.Reason.{Reason}
+use Rattle.brd_stub.specs.declared.halt.Stop.{Stop}
 use Rattle.brd_stub.specs.declared.halt.Told.{Told}
 use Rattle.brd_stub.specs.declared.halt.Told.TheVariants as told
 use Rattle.brd_stub.specs.declared.stepping.Stepped.{Stepped}
+use Rattle.brd_stub.specs.Points.{stops_for}
+use Rattle.brd_stub.specs.Reasons.{thread_of, executing, watched, hides_break, hides_exception, hides_watch}
+use Rattle.brd_stub.specs.Reasons.{told_ahead, reason_for}
 
--- the debugger, while a move steps a processor, or none
-abbrev pub stepping : Stepped → DebuggerState → DebuggerState
-stepping it d = record d { stops = record d.stops { stepper = it.stepper; only = it.only } }
+-- The debugger, while a move steps a processor, or none: it stops at the points that are set, at exceptions, and where
+-- that processor is stepped, and nowhere else.
+abbrev pub stepping : List Point → Stepped → DebuggerState → DebuggerState
+stepping points it d =
+    record d { stops = stops_for points it }
 
--- the same on a move back, on which no processor moves alone
-abbrev pub stepping_back : Option Stepper → DebuggerState → DebuggerState
-stepping_back stepper d = record d { stops = record d.stops { stepper = stepper; only = None } }
-
--- nothing but the stops of a debugger has changed
-abbrev pub IsSameButStops : DebuggerState → DebuggerState → Type 0
-IsSameButStops d next = (next.boot ≡ d.boot) × (next.events ≡ d.events) × (next.position ≡ d.position)
+-- a processor that is stepped, or none, while others move too
+abbrev pub of_all : Option Stepper → Stepped
+of_all stepper = record { stepper = stepper; only = None }
 
 -- the debugger at another position
 abbrev pub moved_to : DebuggerState → ℕ → DebuggerState
@@ -41,28 +46,6 @@ IsNext d found = IsLeast (IsStopOf d) (d.position + 1) (length d.events) found
 abbrev pub IsLast : DebuggerState → Option ℕ → Type 0
 IsLast d found = IsGreatest (IsStopOf d) 0 d.position found
 
--- Of an event that comes next a break is told first, then an exception, then a watch; and each is told once.
-abbrev pub hides_break : Told → Bool
-hides_break told.Nothing = false
-hides_break told.WatchBehind = false
-hides_break told.Break = true
-hides_break told.Exception = true
-hides_break told.Watch = true
-
-abbrev pub hides_exception : Told → Bool
-hides_exception told.Nothing = false
-hides_exception told.WatchBehind = false
-hides_exception told.Break = false
-hides_exception told.Exception = true
-hides_exception told.Watch = true
-
-abbrev pub hides_watch : Told → Bool
-hides_watch told.Nothing = false
-hides_watch told.WatchBehind = false
-hides_watch told.Break = false
-hides_watch told.Exception = false
-hides_watch told.Watch = true
-
 -- a move stops before the next event, of which this was told
 abbrev pub shows : Told → Look → Bool
 shows it look =
@@ -73,46 +56,81 @@ shows it look =
 abbrev pub stops : Told → Look → Bool
 stops it look = shows it look || look.stepped
 
+-- How a move has ended: the debugger; why, and on which processor; and what was told of the event there.
+pub record Ended : Type 0 where
+  pub debugger : DebuggerState
+  pub stop : Stop
+
+abbrev pub ended : DebuggerState → ℕ → Reason → Told → Ended
+ended d thread reason it =
+    record { debugger = d; stop = record { halt = record { thread = thread; reason = reason }; told = it } }
+
+-- The processor of who is stepped, or where nobody is, the one that a move would step.
+abbrev pub thread_at : DebuggerState → ℕ → ℕ
+thread_at d last = stepped_on d.stops.stepper (shown d) last
+
+-- a step is done
+abbrev pub step_done : ℕ → DebuggerState → Ended
+step_done last d = ended d (thread_at d last) Reason.Done told.Nothing
+
+-- the journal has begun or ended there: told on that processor, or on one that executes somebody
+abbrev pub stands_there : ℕ → Reason → DebuggerState → Ended
+stands_there last reason d = ended d (executing (shown d) (thread_at d last)) reason told.Nothing
+
+-- what comes next is told, and why: on the processor whose step it is
+abbrev pub stands_before : List Point → ℕ → Told → Look → DebuggerState → Ended
+stands_before points last it look d =
+    ended d (thread_of look.event last) (reason_for (told_ahead it look) points (shown d) look) (told_ahead it look)
+
 -- Where a move forward stands that has come to a stop: before its event, but after one that is a stop of the processor
 -- that is stepped alone. (At the journal's end there is no event.)
-abbrev pub stand : Told → Option Look → DebuggerState → DebuggerState
-stand it None d = d
-stand it (Some look) d = if shows it look then d else after_next d
+abbrev pub stand : List Point → ℕ → Told → Option Look → DebuggerState → Ended
+stand points last it None d = stands_there last Reason.Done d
+stand points last it (Some look) d =
+    if shows it look then stands_before points last it look d else step_done last (after_next d)
 
 -- it stands so at a stop of which nothing was told
-pub record StandsAhead (d next : DebuggerState) : Type 0 where
+pub record StandsAhead (points : List Point) (last : ℕ) (d : DebuggerState) (e : Ended) : Type 0 where
   pub look : Option Look
   pub sees : SeesAhead d look
-  pub stands : next ≡ stand told.Nothing look d
+  pub stands : e ≡ stand points last told.Nothing look d
 
 -- a move forward ends at its own position, which is a stop of which something wasn't told
-pub record StopsHere (it : Told) (d next : DebuggerState) : Type 0 where
+pub record StopsHere (points : List Point) (last : ℕ) (it : Told) (d : DebuggerState) (e : Ended) : Type 0 where
   pub stop : IsStopOf d d.position
   pub look : Look
   pub sees : SeesAhead d (Some look)
   pub untold : stops it look ≡ true
-  pub stands : next ≡ stand it (Some look) d
+  pub stands : e ≡ stand points last it (Some look) d
 
 -- all that stops it at its own position was told
 abbrev pub PassesOn : Told → DebuggerState → Type 0
 PassesOn it d = IsStopOf d d.position → (look : Look) × SeesAhead d (Some look) × (stops it look ≡ false)
 
 -- It ends at the first stop after its position; and where there is none, at the journal's end.
-pub data GoesOn (d next : DebuggerState) : Type 0 where
-  ahead : (found : ℕ) → IsNext d (Some found) → StandsAhead (moved_to d found) next → GoesOn d next
-  end : IsNext d None → next ≡ moved_to d (length d.events) → GoesOn d next
+pub data GoesOn (points : List Point) (last : ℕ) (d : DebuggerState) (e : Ended) : Type 0 where
+  ahead : (found : ℕ) → IsNext d (Some found) → StandsAhead points last (moved_to d found) e → GoesOn points last d e
+  end : IsNext d None → e ≡ stands_there last Reason.End (moved_to d (length d.events)) → GoesOn points last d e
 
 -- A move forward ends at its position, where that is a stop of which something wasn't told; or else at the first stop
 -- after it.
-pub data GoesForward (it : Told) (d next : DebuggerState) : Type 0 where
-  here : StopsHere it d next → GoesForward it d next
-  on : PassesOn it d → GoesOn d next → GoesForward it d next
+pub data GoesForward (points : List Point) (last : ℕ) (it : Told) (d : DebuggerState) (e : Ended) : Type 0 where
+  here : StopsHere points last it d e → GoesForward points last it d e
+  on : PassesOn it d → GoesOn points last d e → GoesForward points last it d e
+
+-- After an event whose watch is told a move back stands, and else before it.
+abbrev pub stands_behind : List Point → ℕ → Look → DebuggerState → Ended
+stands_behind points last look d =
+    ended (after_next d) (thread_of look.event last) (watched points (shown d) look) told.WatchBehind
 
 -- Where a move back stands that has come to a stop: before its event, but after one that touches a watched byte, unless
--- that was told.
-abbrev pub stand_behind : Bool → Option Look → DebuggerState → DebuggerState
-stand_behind is_told None d = d
-stand_behind is_told (Some look) d = if look.touches && not is_told then after_next d else d
+-- that was told. Where it is neither a break nor an exception, a step is done.
+abbrev pub stand_behind : List Point → ℕ → Bool → Option Look → DebuggerState → Ended
+stand_behind points last is_told None d = stands_there last Reason.Done d
+stand_behind points last is_told (Some look) d =
+    if look.touches && not is_told then stands_behind points last look d
+    else (if look.breaks || look.faults then stands_before points last told.Nothing look d
+    else step_done last d)
 
 -- it goes back further where that was told, and the event is no other stop
 abbrev pub passes : Bool → Option Look → Bool
@@ -120,33 +138,35 @@ passes is_told None = false
 passes is_told (Some look) = is_told && (not look.breaks && (not look.faults && not look.stepped))
 
 -- it stands so at a stop of which nothing was told
-pub record StandsBehind (d next : DebuggerState) : Type 0 where
+pub record StandsBehind (points : List Point) (last : ℕ) (d : DebuggerState) (e : Ended) : Type 0 where
   pub look : Option Look
   pub sees : SeesAhead d look
-  pub stands : next ≡ stand_behind false look d
+  pub stands : e ≡ stand_behind points last false look d
 
 -- It ends at the last stop before its position; and where there is none, at the journal's beginning.
-pub data EndsBehind (d next : DebuggerState) : Type 0 where
-  last : (found : ℕ) → IsLast d (Some found) → StandsBehind (moved_to d found) next → EndsBehind d next
-  none : IsLast d None → next ≡ moved_to d 0 → EndsBehind d next
+pub data EndsBehind (points : List Point) (last : ℕ) (d : DebuggerState) (e : Ended) : Type 0 where
+  back : (found : ℕ) → IsLast d (Some found) → StandsBehind points last (moved_to d found) e →
+      EndsBehind points last d e
+  none : IsLast d None → e ≡ stands_there last Reason.Begin (moved_to d 0) → EndsBehind points last d e
 
 -- What a move back does that has come to a stop, the watch of which was told or not.
-pub record StopsBehind (is_told : Bool) (d next : DebuggerState) : Type 0 where
+pub record StopsBehind (points : List Point) (last : ℕ) (is_told : Bool) (d : DebuggerState) (e : Ended) : Type 0 where
   pub look : Option Look
   pub sees : SeesAhead d look
-  pub stands : passes is_told look ≡ false → next ≡ stand_behind is_told look d
-  pub further : passes is_told look ≡ true → EndsBehind d next
+  pub stands : passes is_told look ≡ false → e ≡ stand_behind points last is_told look d
+  pub further : passes is_told look ≡ true → EndsBehind points last d e
 
 -- the watch of the event before a position was told
 abbrev pub is_told_behind : Told → ℕ → Bool
-is_told_behind told.WatchBehind back = back == 1
-is_told_behind told.Nothing back = false
-is_told_behind told.Break back = false
-is_told_behind told.Exception back = false
-is_told_behind told.Watch back = false
+is_told_behind told.WatchBehind events = events == 1
+is_told_behind told.Nothing events = false
+is_told_behind told.Break events = false
+is_told_behind told.Exception events = false
+is_told_behind told.Watch events = false
 
 -- A move back ends at the last stop before its position; or, where that was told, at the one before that.
-pub data GoesBack (it : Told) (d next : DebuggerState) : Type 0 where
+pub data GoesBack (points : List Point) (last : ℕ) (it : Told) (d : DebuggerState) (e : Ended) : Type 0 where
   back_to : (found : ℕ) → IsLast d (Some found) →
-      StopsBehind (is_told_behind it (d.position - found)) (moved_to d found) next → GoesBack it d next
-  to_begin : IsLast d None → next ≡ moved_to d 0 → GoesBack it d next
+      StopsBehind points last (is_told_behind it (d.position - found)) (moved_to d found) e →
+      GoesBack points last it d e
+  to_begin : IsLast d None → e ≡ stands_there last Reason.Begin (moved_to d 0) → GoesBack points last it d e

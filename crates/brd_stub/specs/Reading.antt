@@ -1,5 +1,5 @@
 -- Memory as GDB reads it.
-use Rattle.std.specs.Prelude.{◌≡◌, ℕ, ◌+◌, ◌%◌, ◌^◌, ◌<◌, ◌≤◌, min, if◌then◌else◌, List, [], ◌∷◌, length, codes, slice_index}
+use Rattle.std.specs.Prelude.{◌≡◌, ℕ, ◌+◌, ◌%◌, ◌^◌, ◌<◌, ◌≤◌, min, List, [], ◌∷◌, length, codes, slice_index}
 use Rattle.std.specs.Prelude.{Some, None}
 use Rattle.brd_mem.specs.Memory.{Memory, byte_at}
 use Rattle.brd_gdb.specs.Hexes.{hexed}

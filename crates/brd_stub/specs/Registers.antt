@@ -1,7 +1,7 @@
--- The registers of a processor as GDB reads them, by their numbers in its target description of MIPS: 0 to 31 the general
--- ones, 32 the status, 33 LO, 34 HI, 35 the bad address, 36 the cause, 37 the program counter. The board has no status,
--- bad address and cause; `x` stands for a digit that can't be read (GDB manual, "Packets", g). Own choice: a processor on
--- which nobody executes reads as 0, since GDB 13 ends where it can't read a program counter.
+-- The registers of a processor as GDB reads them, by their numbers in its target description of MIPS: 0 to 31 the
+-- general ones, 32 the status, 33 LO, 34 HI, 35 the bad address, 36 the cause, 37 the program counter. The board has no
+-- status, bad address and cause; `x` stands for a digit that can't be read (GDB manual, "Packets", g). Own choice: a
+-- processor on which nobody executes reads as 0, since GDB 13 ends where it can't read a program counter.
 use Rattle.std.specs.Prelude.{ℕ, ◌*◌, ◌==◌, nat_lt, if◌then◌else◌, List, [], ◌∷◌, ◌++◌, replicate, Option, Some, None}
 use Rattle.brd_word.specs.declared.order.Order.{Order}
 use Rattle.brd_word.specs.Words.{bytes_of_word}

@@ -2,7 +2,7 @@
 -- selected. A move steps the thread that it names itself, or that `Hc` names; where `Hc` names none, the one that was
 -- chosen last (own choice): by `Hg`, by a stop in it, or by `T`. GDB 13 asks by `T` whether a thread is still there
 -- where it comes back to it after it has stepped another one over a break, and says so by no other packet.
-use Rattle.std.specs.Prelude.{ℕ, Option, Some, None}
+use Rattle.std.specs.Prelude.{ℕ, Bool, true, false, Option, Some, None}
 use Rattle.brd_board.specs.Board.{BoardState}
 use Rattle.brd_gdb.specs.declared.request.ThreadId.{ThreadId}
 use Rattle.brd_gdb.specs.declared.request.ThreadId.TheVariants as thread
@@ -33,3 +33,9 @@ named_by thread cpu it = record it { named = name_of thread cpu }
 -- `T` has asked for a thread
 abbrev pub asked_by : BoardState → ThreadId → Selection → Selection
 asked_by b thread it = record it { chosen = processor_for b thread it.chosen }
+
+-- `Hc`, or `Hg`, has selected a processor, where there is one
+abbrev pub selected_by : Bool → Option ℕ → ThreadId → Selection → Selection
+selected_by moves None thread it = it
+selected_by true (Some cpu) thread it = named_by thread cpu it
+selected_by false (Some cpu) thread it = chosen_by cpu it

@@ -25,8 +25,8 @@ or_other (Some cpu) other = cpu
 abbrev pub processor_for : BoardState → ThreadId → ℕ → ℕ
 processor_for b thread other = or_other (processor_of b thread other) other
 
--- Whom a processor executes is to come out of a range, or go on elsewhere if he is outside. Where it executes nobody, its
--- next instruction is waited for.
+-- Whom a processor executes is to come out of a range, or go on elsewhere if he is outside. Where it executes nobody,
+-- its next instruction is waited for.
 abbrev pub stepper_in : ℕ → Option Standing → Option State → ℕ → ℕ → Stepper
 stepper_in cpu (Some who) (Some s) start end =
     if nat_le start s.pc && nat_lt s.pc end then Stepper.Until cpu who start end

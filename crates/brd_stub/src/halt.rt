@@ -12,14 +12,20 @@ ghost use Rattle.brd_stub.specs.Halting.{
   processor_text,
   halt_text,
 };
-ghost use Rattle.brd_stub.specs.Moving.{
+ghost use Rattle.brd_stub.specs.Moving.{shows, stops, passes, is_told_behind};
+ghost use Rattle.brd_stub.specs.Reasons.{
+  thread_of,
+  break_of,
+  exception_of,
+  touched_by,
+  or_touched,
+  watched,
   hides_break,
   hides_exception,
   hides_watch,
-  shows,
-  stops,
-  passes,
-  is_told_behind,
+  told_ahead,
+  reason_for,
+  changed,
 };
 
 use crate::points::{Point, changed, kind_at, touched};
@@ -70,6 +76,15 @@ pub struct Halt {
     pub thread: u8,
     /// Why.
     pub reason: Reason,
+}
+
+/// How a move has ended.
+#[derive(Clone, Copy, PartialEq, Eq)]
+pub struct Stop {
+    /// Why, and on which processor.
+    pub halt: Halt,
+    /// What was told.
+    pub told: Told,
 }
 
 /// Whether a break of the next event was told.
@@ -136,7 +151,9 @@ pub fn is_told_behind(told: Told, back: u64) -> bool
 }
 
 /// What is told of the next event, of which this was told.
-pub fn told_ahead(told: Told, look: &Look) -> Told {
+pub fn told_ahead(told: Told, look: &Look) -> Told
+    ensures { result ≡ told_ahead told look.now }
+{
     if look.breaks && !hides_break(told) {
         return Told::Break;
     }
@@ -147,56 +164,72 @@ pub fn told_ahead(told: Told, look: &Look) -> Told {
 }
 
 /// The processor whose step an event is; of another event a processor that is given.
-pub fn thread_of(event: Event, other: u8) -> u8 {
+pub fn thread_of(event: Event, other: u8) -> u8
+    ensures { result ≡ thread_of event other }
+{
     match event {
         Event::Step(cpu) => cpu,
         Event::Tick | Event::Raise(_) => other,
     }
 }
 
-/// Why a move stops before the next event, of which this was told.
-pub fn reason_ahead(points: &[Point], board: &Board, look: &Look, told: Told) -> Reason {
-    match told_ahead(told, look) {
+/// Why a move stops before the next event, of which this is told.
+pub fn reason_for(told: Told, points: &[Point], board: &Board, look: &Look) -> Reason
+    ensures { result ≡ reason_for told points.now board.now look.now }
+{
+    match told {
         Told::Break => Reason::Break(break_of(points, look.report)),
-        Told::Exception => exception_of(look),
+        Told::Exception => exception_of(look.event, &look.board),
         Told::Nothing | Told::Watch | Told::WatchBehind => watched(points, board, look),
     }
 }
 
 /// Which watched byte an event changes, reads or writes, by the board before it.
-pub fn watched(points: &[Point], board: &Board, look: &Look) -> Reason {
-    if let Some(address) = changed(points, board, &look.board) {
-        return Reason::Watch(PointKind::WriteWatch, address);
-    }
-    let Event::Step(cpu) = look.event else {
-        return Reason::Done;
-    };
-    match touched(points, read_on(board, cpu), written_on(board, cpu)) {
+pub fn watched(points: &[Point], board: &Board, look: &Look) -> Reason
+    ensures { result ≡ watched points.now board.now look.now }
+{
+    match watch_of(points, board, look) {
         Some(point) => Reason::Watch(point.kind, point.address),
         None => Reason::Done,
     }
 }
 
+/// The watch that an event meets, by the board before it.
+fn watch_of(points: &[Point], board: &Board, look: &Look) -> Option<Point>
+    ensures { result
+        ≡ or_touched (changed points.now board.now.memory look.now.board.memory)
+        (touched_by points.now board.now look.now.event) }
+{
+    if let Some(point) = changed(points, board, &look.board) {
+        return Some(point);
+    }
+    let Event::Step(cpu) = look.event else {
+        return None;
+    };
+    touched(points, read_on(board, cpu), written_on(board, cpu))
+}
+
 /// The kind of the break at the instruction that an event executes.
-fn break_of(points: &[Point], report: Report) -> PointKind {
+fn break_of(points: &[Point], report: Report) -> PointKind
+    ensures { result ≡ break_of points.now report }
+{
     let found = match report {
         Report::Ran(address) | Report::Called(address) | Report::Faulted(address) => {
             kind_at(points, address)
         }
         _ => None,
     };
-    match found {
-        Some(kind) => kind,
-        None => PointKind::SoftwareBreak,
-    }
+    found.unwrap_or(PointKind::SoftwareBreak)
 }
 
-/// Which exception an event raises.
-fn exception_of(look: &Look) -> Reason {
-    let Event::Step(cpu) = look.event else {
+/// Which exception an event has raised that has left a board.
+fn exception_of(event: Event, after: &Board) -> Reason
+    ensures { result ≡ exception_of event after.now }
+{
+    let Event::Step(cpu) = event else {
         return Reason::Done;
     };
-    match look.board.last_fault(cpu) {
+    match after.last_fault(cpu) {
         Some(fault) => Reason::Exception(fault.code),
         None => Reason::Done,
     }

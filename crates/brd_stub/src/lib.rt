@@ -1,10 +1,13 @@
 //! What a debugger of the board answers to each request of GDB.
 //!
-//! `specs/Registers.antt` and `specs/Reading.antt` say what is read of the board, `specs/Moving.antt` where a move ends.
+//! `specs/Registers.antt` and `specs/Reading.antt` say what is read of the board, `specs/Hits.antt` and
+//! `specs/Moving.antt` where a move ends, `specs/Reasons.antt` why, and whose thread that is, and
+//! `specs/Selecting.antt` which threads requests are of.
 #![tactic(auto)]
 
 mod answer;
 mod halt;
+pub mod laws;
 mod memory;
 mod monitor;
 mod moves;

@@ -11,8 +11,8 @@ use std::alloc::Global;
 /// How many bytes of memory an answer has at most: half of those of a packet.
 const MOST_READ: u32 = 8_192;
 
-/// What is answered to a request for memory: the bytes from an address on, as far as RAM has them, and an error where it
-/// doesn't have the first.
+/// What is answered to a request for memory: the bytes from an address on, as far as RAM has them, and an error where
+/// it doesn't have the first.
 pub fn show_memory(
     alloc: Global,
     board: &Board,

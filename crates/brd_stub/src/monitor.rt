@@ -14,7 +14,8 @@ use std::alloc::Global;
 
 /// What `help` prints.
 const HELP: &[u8] =
-    b"goto N: goes to position N\nwhere: the position, and whose step comes\ntasks: the tasks and their states\nobjects: who waits for what\nconsole: what was written to the console\nhelp: these commands\n";
+    b"goto N: goes to position N\nwhere: the position, and whose step comes\ntasks: the tasks and their states\n\
+    objects: who waits for what\nconsole: what was written to the console\nhelp: these commands\n";
 
 impl Session {
     /// Answers a command that shows something.

@@ -1,14 +1,15 @@
-//! Moves: on to the next stop, back to the last one, and to a position.
+//! Moves: on to the next stop, and back to the last one.
 
-ghost use Rattle.std.specs.Prelude.{◌≡◌, ◌⊎◌, ◌≤◌, length, Some, OnOk, IfOk, IfSome, IfNone};
-ghost use Rattle.brd_gdb.specs.Receiving.{packet_size};
-ghost use Rattle.brd_stub.specs.Halting.{halt_text, fitting};
+ghost use Rattle.std.specs.Prelude.{◌≡◌, ◌≤◌, length, Some, OnOk, IfOk, IfSome, IfNone};
+ghost use Rattle.brd_stub.specs.declared.halt.Reason.TheVariants as reason;
 ghost use Rattle.brd_stub.specs.Moving.{
-  stepping,
-  stepping_back,
   moved_to,
   after_next,
+  step_done,
+  stands_there,
+  stands_before,
   stand,
+  stands_behind,
   stand_behind,
   StopsHere,
   PassesOn,
@@ -21,312 +22,313 @@ ghost use Rattle.brd_stub.specs.Moving.{
   GoesBack,
 };
 
-use crate::answer::Answer;
 use crate::halt::{
-    Halt, Reason, Told, is_told_behind, passes, reason_ahead, shows, stops, thread_of, told_ahead,
-    watched,
+    Halt, Reason, Stop, Told, is_told_behind, passes, reason_for, shows, stops, thread_of,
+    told_ahead, watched,
 };
-use crate::session::Session;
-use crate::stepping::Stepped;
-use crate::telling::{halt_text, short, text};
+use crate::points::Point;
 use crate::threads::executing;
 use brd_base::NoMemory;
-use brd_board::{Board, Standing};
-use brd_debug::{DebugFault, Look, Stepper, stepped_on};
+use brd_debug::{Debugger, Look, stepped_on};
 use brd_progress::Progress;
-use std::alloc::Global;
 
-impl Session {
-    /// Goes on to the next stop, and tells it.
-    pub(crate) fn go_on<P: Progress>(
-        &mut self,
-        alloc: Global,
-        stepped: Stepped,
-        progress: &mut P,
-    ) -> Result<Answer, NoMemory>
-        ensures goes { IfOk result
-            (λ _. GoesForward self.old.told (stepping stepped self.old.debugger) self.new.debugger) }
-        ensures tells { IfOk result (λ answer. answer.reply.items ≡ fitting (halt_text self.new.halt)) }
-        ensures short { IfOk result (λ answer. length answer.reply.items ≤ packet_size) }
-    {
-        self.debugger.set_stepper(stepped.stepper);
-        self.debugger.set_only(stepped.only);
-        self.halt = self.forward(progress)?;
-        self.stopped(alloc)
+/// What a move begins with.
+#[derive(Clone, Copy)]
+pub struct Origin<'a> {
+    /// The points that are set.
+    pub points: &'a [Point],
+    /// The processor that steps where none is named.
+    pub thread: u8,
+    /// What was told last.
+    pub told: Told,
+}
+
+/// Goes on to the first stop: at its position, of what wasn't told yet; else after it; else to the end.
+pub fn forward<P: Progress>(
+    debugger: &mut Debugger,
+    origin: Origin<'_>,
+    progress: &mut P,
+) -> Result<Stop, NoMemory>
+    ensures { IfOk result (λ stop.
+        GoesForward origin.entry.points.now origin.entry.thread origin.entry.told debugger.old
+        (record { debugger = debugger.new; stop = stop })) }
+{
+    match stop_here(debugger, origin)? {
+        Some(stop) => Ok(stop),
+        None => search_ahead(debugger, origin, progress),
     }
+}
 
-    /// Goes back to the last stop, and tells it.
-    pub(crate) fn go_back<P: Progress>(
-        &mut self,
-        alloc: Global,
-        stepper: Option<Stepper>,
-        progress: &mut P,
-    ) -> Result<Answer, NoMemory>
-        ensures goes { IfOk result
-            (λ _. GoesBack self.old.told (stepping_back stepper self.old.debugger) self.new.debugger) }
-        ensures tells { IfOk result (λ answer. answer.reply.items ≡ fitting (halt_text self.new.halt)) }
-        ensures short { IfOk result (λ answer. length answer.reply.items ≤ packet_size) }
-    {
-        self.debugger.set_stepper(stepper);
-        self.debugger.set_only(None);
-        self.halt = self.backward(progress)?;
-        self.stopped(alloc)
+/// Stops at its position, where that is a stop of which something wasn't told yet; None where it isn't.
+fn stop_here(debugger: &mut Debugger, origin: Origin<'_>) -> Result<Option<Stop>, NoMemory>
+    ensures some { IfOk result (λ found. IfSome found (λ stop.
+        StopsHere origin.entry.points.now origin.entry.thread origin.entry.told debugger.old
+        (record { debugger = debugger.new; stop = stop }))) }
+    ensures none { IfOk result (λ found. IfNone found
+        (PassesOn origin.entry.told debugger.old × (debugger.new ≡ debugger.old))) }
+{
+    let Some(look) = debugger.stop_here()? else {
+        return Ok(None);
+    };
+    if !stops(origin.told, &look) {
+        return Ok(None);
     }
+    let stop = stand(debugger, origin, &look)?;
+    Ok(Some(stop))
+}
 
-    /// Goes to a position, and says so on GDB's console.
-    pub(crate) fn go_to<P: Progress>(
-        &mut self,
-        alloc: Global,
-        position: u64,
-        progress: &mut P,
-    ) -> Result<Answer, NoMemory>
-        ensures goes { IfOk result (λ _. (self.new.debugger ≡ self.old.debugger)
-            ⊎ (self.new.debugger ≡ moved_to self.old.debugger position)) }
-        ensures short { IfOk result (λ answer. length answer.reply.items ≤ packet_size) }
-    {
-        let console = match self.debugger.goto_telling(position, progress) {
-            Ok(()) => format!(in alloc; "at {position}\n")?,
-            Err(DebugFault::Past { len }) => format!(in alloc; "past {len}\n")?,
-            Err(DebugFault::NoMemory) => return Err(NoMemory),
-        };
-        self.told = Told::Nothing;
-        Ok(Answer {
-            console: text(alloc, console.as_bytes())?,
-            reply: text(alloc, b"OK")?,
-        })
+/// Goes on to the first stop after its position, else to the end.
+fn search_ahead<P: Progress>(
+    debugger: &mut Debugger,
+    origin: Origin<'_>,
+    progress: &mut P,
+) -> Result<Stop, NoMemory>
+    ensures { IfOk result (λ stop.
+        GoesOn origin.entry.points.now origin.entry.thread debugger.old
+        (record { debugger = debugger.new; stop = stop })) }
+{
+    match debugger.next_stop_telling(progress)? {
+        None => end(debugger, origin, progress),
+        Some(_) => stop_ahead(debugger, origin),
     }
+}
 
-    /// What is answered to a move: why the board stands where it is, and at the end of the journal what it does there.
-    fn stopped(&mut self, alloc: Global) -> Result<Answer, NoMemory>
-        ensures same { self.new.debugger ≡ self.old.debugger }
-        ensures tells { IfOk result (λ answer. answer.reply.items ≡ fitting (halt_text self.new.halt)) }
-        ensures short { IfOk result (λ answer. length answer.reply.items ≤ packet_size) }
-    {
-        self.selection = self.selection.choosing(self.halt.thread);
-        let console = if self.halt.reason == Reason::End {
-            text(alloc, end_text(self.debugger.show()))?
-        } else {
-            Vec::new(alloc)
-        };
-        let reply = halt_text(alloc, self.halt)?;
-        Ok(Answer {
-            console,
-            reply: short(reply),
-        })
+/// Goes to the end.
+fn end<P: Progress>(
+    debugger: &mut Debugger,
+    origin: Origin<'_>,
+    progress: &mut P,
+) -> Result<Stop, NoMemory>
+    ensures { IfOk result (λ stop.
+        record { debugger = debugger.new; stop = stop }
+        ≡ stands_there origin.entry.thread reason.End (moved_to debugger.old (length debugger.old.events))) }
+{
+    let len = debugger.len();
+    show_at(debugger, len, progress)?;
+    Ok(stop_there(debugger, origin, Reason::End))
+}
+
+/// Stops at its position, to which it has come, so that nothing was told of it.
+fn stop_ahead(debugger: &mut Debugger, origin: Origin<'_>) -> Result<Stop, NoMemory>
+    ensures { IfOk result (λ stop.
+        StandsAhead origin.entry.points.now origin.entry.thread debugger.old
+        (record { debugger = debugger.new; stop = stop })) }
+{
+    let untold = Origin {
+        told: Told::Nothing,
+        ..origin
+    };
+    match debugger.look()? {
+        Some(look) => stand(debugger, untold, &look),
+        None => Ok(stop_there(debugger, untold, Reason::Done)),
     }
+}
 
-    /// Goes on to the first stop: at its position, of what wasn't told yet; else after it; else to the end.
-    fn forward<P: Progress>(&mut self, progress: &mut P) -> Result<Halt, NoMemory>
-        ensures { IfOk result (λ _. GoesForward self.old.told self.old.debugger self.new.debugger) }
-    {
-        match self.halt_here()? {
-            Some(halt) => Ok(halt),
-            None => self.search_ahead(progress),
-        }
+/// Stops before the event of its position, or after it where that is a stop of the processor that is stepped alone.
+fn stand(debugger: &mut Debugger, origin: Origin<'_>, look: &Look) -> Result<Stop, NoMemory>
+    ensures { IfOk result (λ stop.
+        record { debugger = debugger.new; stop = stop }
+        ≡ stand origin.entry.points.now origin.entry.thread origin.entry.told (Some look.now) debugger.old) }
+{
+    if shows(origin.told, look) {
+        return Ok(stop_before(debugger, origin, look));
     }
+    show_next(debugger)?;
+    Ok(step_done(debugger, origin))
+}
 
-    /// Stops at its position, where that is a stop of which something wasn't told yet; None where it isn't.
-    fn halt_here(&mut self) -> Result<Option<Halt>, NoMemory>
-        ensures some { IfOk result (λ found. IfSome found
-            (λ _. StopsHere self.old.told self.old.debugger self.new.debugger)) }
-        ensures none { IfOk result (λ found. IfNone found
-            (PassesOn self.old.told self.old.debugger × (self.new.debugger ≡ self.old.debugger))) }
-    {
-        let Some(look) = self.debugger.stop_here()? else {
-            return Ok(None);
-        };
-        if !stops(self.told, &look) {
-            return Ok(None);
-        }
-        let halt = self.stand(self.told, &look)?;
-        Ok(Some(halt))
+/// That what comes next is told, and why.
+fn stop_before(debugger: &Debugger, origin: Origin<'_>, look: &Look) -> Stop
+    ensures { record { debugger = debugger.now; stop = result }
+        ≡ stands_before origin.entry.points.now origin.entry.thread origin.entry.told look.now debugger.now }
+{
+    let told = told_ahead(origin.told, look);
+    Stop {
+        halt: Halt {
+            thread: thread_of(look.event, origin.thread),
+            reason: reason_for(told, origin.points, debugger.show(), look),
+        },
+        told,
     }
+}
 
-    /// Goes on to the first stop after its position, else to the end.
-    fn search_ahead<P: Progress>(&mut self, progress: &mut P) -> Result<Halt, NoMemory>
-        ensures { IfOk result (λ _. GoesOn self.old.debugger self.new.debugger) }
-    {
-        match self.debugger.next_stop_telling(progress)? {
-            None => self.end(progress),
-            Some(_) => self.halt_there(),
-        }
-    }
-
-    /// Goes to the end.
-    fn end<P: Progress>(&mut self, progress: &mut P) -> Result<Halt, NoMemory>
-        ensures { IfOk result (λ _.
-            self.new.debugger ≡ moved_to self.old.debugger (length self.old.debugger.events)) }
-    {
-        let end = self.debugger.len();
-        self.show_at(end, progress)?;
-        Ok(self.standing(Reason::End))
-    }
-
-    /// Stops at its position, to which it has come, so that nothing was told of it.
-    fn halt_there(&mut self) -> Result<Halt, NoMemory>
-        ensures { IfOk result (λ _. StandsAhead self.old.debugger self.new.debugger) }
-    {
-        match self.debugger.look()? {
-            Some(look) => self.stand(Told::Nothing, &look),
-            None => Ok(self.standing(Reason::Done)),
-        }
-    }
-
-    /// Stops before the event of its position, or after it where that is a stop of the processor that is stepped alone.
-    fn stand(&mut self, told: Told, look: &Look) -> Result<Halt, NoMemory>
-        ensures { IfOk result (λ _. self.new.debugger ≡ stand told (Some look.now) self.old.debugger) }
-    {
-        if !shows(told, look) {
-            self.told = Told::Nothing;
-            self.show_next()?;
-            return Ok(self.step_done());
-        }
-        self.told = told_ahead(told, look);
-        Ok(Halt {
-            thread: thread_of(look.event, self.halt.thread),
-            reason: reason_ahead(&self.points, self.debugger.show(), look, told),
-        })
-    }
-
-    /// That a step is done, where the board stands after it.
-    fn step_done(&self) -> Halt {
-        Halt {
-            thread: stepped_on(
-                self.debugger.stepper(),
-                self.debugger.show(),
-                self.halt.thread,
-            ),
+/// That a step is done.
+fn step_done(debugger: &Debugger, origin: Origin<'_>) -> Stop
+    ensures { record { debugger = debugger.now; stop = result } ≡ step_done origin.entry.thread debugger.now }
+{
+    Stop {
+        halt: Halt {
+            thread: stepped_on(debugger.stepper(), debugger.show(), origin.thread),
             reason: Reason::Done,
-        }
+        },
+        told: Told::Nothing,
     }
+}
 
-    /// Goes back to the last stop, but for what was told of the last event, else to the beginning.
-    fn backward<P: Progress>(&mut self, progress: &mut P) -> Result<Halt, NoMemory>
-        ensures { IfOk result (λ _. GoesBack self.old.told self.old.debugger self.new.debugger) }
-    {
-        let told = self.told;
-        let from = self.debugger.position();
-        match self.debugger.last_stop_telling(progress)? {
-            None => self.begin(progress),
-            Some(found) => self.halt_or_back(is_told_behind(told, from - found), progress),
-        }
-    }
-
-    /// Stops at its position, to which it has come from behind; but where the watch there was told already, and it is no
-    /// other stop, it goes back further.
-    fn halt_or_back<P: Progress>(
-        &mut self,
-        is_told: bool,
-        progress: &mut P,
-    ) -> Result<Halt, NoMemory>
-        ensures { IfOk result (λ _. StopsBehind is_told self.old.debugger self.new.debugger) }
-    {
-        match self.debugger.look()? {
-            None => Ok(self.standing(Reason::Done)),
-            Some(look) => {
-                if passes(is_told, &look) {
-                    return self.search_behind(progress);
-                }
-                self.stand_behind(is_told, &look)
-            }
-        }
-    }
-
-    /// Goes back to the last stop, of which nothing was told, else to the beginning.
-    fn search_behind<P: Progress>(&mut self, progress: &mut P) -> Result<Halt, NoMemory>
-        ensures { IfOk result (λ _. EndsBehind self.old.debugger self.new.debugger) }
-    {
-        match self.debugger.last_stop_telling(progress)? {
-            None => self.begin(progress),
-            Some(_) => self.halt_back(),
-        }
-    }
-
-    /// Stops at its position, to which it has come from behind, and of which nothing was told.
-    fn halt_back(&mut self) -> Result<Halt, NoMemory>
-        ensures { IfOk result (λ _. StandsBehind self.old.debugger self.new.debugger) }
-    {
-        match self.debugger.look()? {
-            None => Ok(self.standing(Reason::Done)),
-            Some(look) => self.stand_behind(false, &look),
-        }
-    }
-
-    /// Goes to the beginning.
-    fn begin<P: Progress>(&mut self, progress: &mut P) -> Result<Halt, NoMemory>
-        ensures { IfOk result (λ _. self.new.debugger ≡ moved_to self.old.debugger 0) }
-    {
-        self.show_at(0, progress)?;
-        Ok(self.standing(Reason::Begin))
-    }
-
-    /// Stops before the event of its position, or after it where a watch is told.
-    fn stand_behind(&mut self, is_told: bool, look: &Look) -> Result<Halt, NoMemory>
-        ensures { IfOk result (λ _. self.new.debugger ≡ stand_behind is_told (Some look.now) self.old.debugger) }
-    {
-        let thread = thread_of(look.event, self.halt.thread);
-        if look.touches && !is_told {
-            self.told = Told::WatchBehind;
-            let reason = watched(&self.points, self.debugger.show(), look);
-            self.show_next()?;
-            return Ok(Halt { thread, reason });
-        }
-        if !look.breaks && !look.faults {
-            self.told = Told::Nothing;
-            return Ok(self.step_done());
-        }
-        self.told = told_ahead(Told::Nothing, look);
-        Ok(Halt {
-            thread,
-            reason: reason_ahead(&self.points, self.debugger.show(), look, Told::Nothing),
-        })
-    }
-
-    /// Goes to the position after its own, if there is one.
-    fn show_next(&mut self) -> Result<(), NoMemory>
-        ensures { OnOk result (self.new.debugger ≡ after_next self.old.debugger) }
-    {
-        let position = self.debugger.position();
-        let len = self.debugger.len();
-        match self.debugger.goto((position + 1).min(len)) {
-            Ok(()) => Ok(()),
-            Err(_) => Err(NoMemory),
-        }
-    }
-
-    /// Goes to a position.
-    fn show_at<P: Progress>(&mut self, position: u64, progress: &mut P) -> Result<(), NoMemory>
-        requires { position ≤ length self.old.debugger.events }
-        ensures { OnOk result (self.new.debugger ≡ moved_to self.old.debugger position) }
-    {
-        self.told = Told::Nothing;
-        match self.debugger.goto_telling(position, progress) {
-            Ok(()) => Ok(()),
-            Err(_) => Err(NoMemory),
-        }
-    }
-
-    /// That it stands where it is for a reason, on the processor of the last stop, or on one that executes.
-    fn standing(&self, reason: Reason) -> Halt {
-        Halt {
-            thread: executing(self.debugger.show(), self.halt.thread),
+/// That it stands where it is for a reason, on the processor that is stepped, or on one that executes somebody.
+fn stop_there(debugger: &Debugger, origin: Origin<'_>, reason: Reason) -> Stop
+    ensures { record { debugger = debugger.now; stop = result } ≡ stands_there origin.entry.thread reason debugger.now }
+{
+    let board = debugger.show();
+    let thread = stepped_on(debugger.stepper(), board, origin.thread);
+    Stop {
+        halt: Halt {
+            thread: executing(board, thread),
             reason,
+        },
+        told: Told::Nothing,
+    }
+}
+
+/// Goes back to the last stop, but for what was told of the last event, else to the beginning.
+pub fn backward<P: Progress>(
+    debugger: &mut Debugger,
+    origin: Origin<'_>,
+    progress: &mut P,
+) -> Result<Stop, NoMemory>
+    ensures { IfOk result (λ stop.
+        GoesBack origin.entry.points.now origin.entry.thread origin.entry.told debugger.old
+        (record { debugger = debugger.new; stop = stop })) }
+{
+    let from = debugger.position();
+    match debugger.last_stop_telling(progress)? {
+        None => begin(debugger, origin, progress),
+        Some(found) => {
+            let is_told = is_told_behind(origin.told, from - found);
+            stop_or_back(debugger, origin, is_told, progress)
         }
     }
 }
 
-/// What a board does at the end of a journal.
-fn end_text(board: &Board) -> &'static [u8] {
-    if board.is_off() {
-        return b"The journal ends here: the board is off.\n";
-    }
-    for cpu in 1..9u8 {
-        match board.standing(cpu) {
-            Some(Standing::Task(_)) | Some(Standing::Handler(_)) => {
-                return b"The journal ends here.\n";
+/// Stops at its position, to which it has come from behind; but where the watch there was told already, and it is no
+/// other stop, it goes back further.
+fn stop_or_back<P: Progress>(
+    debugger: &mut Debugger,
+    origin: Origin<'_>,
+    is_told: bool,
+    progress: &mut P,
+) -> Result<Stop, NoMemory>
+    ensures { IfOk result (λ stop.
+        StopsBehind origin.entry.points.now origin.entry.thread is_told debugger.old
+        (record { debugger = debugger.new; stop = stop })) }
+{
+    match debugger.look()? {
+        None => Ok(stop_there(debugger, origin, Reason::Done)),
+        Some(look) => {
+            if passes(is_told, &look) {
+                return search_behind(debugger, origin, progress);
             }
-            _ => {}
+            stand_behind(debugger, origin, is_told, &look)
         }
     }
-    b"The journal ends here: no processor executes anything.\n"
+}
+
+/// Goes back to the last stop, of which nothing was told, else to the beginning.
+fn search_behind<P: Progress>(
+    debugger: &mut Debugger,
+    origin: Origin<'_>,
+    progress: &mut P,
+) -> Result<Stop, NoMemory>
+    ensures { IfOk result (λ stop.
+        EndsBehind origin.entry.points.now origin.entry.thread debugger.old
+        (record { debugger = debugger.new; stop = stop })) }
+{
+    match debugger.last_stop_telling(progress)? {
+        None => begin(debugger, origin, progress),
+        Some(_) => stop_behind(debugger, origin),
+    }
+}
+
+/// Stops at its position, to which it has come from behind, and of which nothing was told.
+fn stop_behind(debugger: &mut Debugger, origin: Origin<'_>) -> Result<Stop, NoMemory>
+    ensures { IfOk result (λ stop.
+        StandsBehind origin.entry.points.now origin.entry.thread debugger.old
+        (record { debugger = debugger.new; stop = stop })) }
+{
+    match debugger.look()? {
+        None => Ok(stop_there(debugger, origin, Reason::Done)),
+        Some(look) => stand_behind(debugger, origin, false, &look),
+    }
+}
+
+/// Goes to the beginning.
+fn begin<P: Progress>(
+    debugger: &mut Debugger,
+    origin: Origin<'_>,
+    progress: &mut P,
+) -> Result<Stop, NoMemory>
+    ensures { IfOk result (λ stop.
+        record { debugger = debugger.new; stop = stop }
+        ≡ stands_there origin.entry.thread reason.Begin (moved_to debugger.old 0)) }
+{
+    show_at(debugger, 0, progress)?;
+    Ok(stop_there(debugger, origin, Reason::Begin))
+}
+
+/// Stops before the event of its position, or after it where a watch is told.
+fn stand_behind(
+    debugger: &mut Debugger,
+    origin: Origin<'_>,
+    is_told: bool,
+    look: &Look,
+) -> Result<Stop, NoMemory>
+    ensures { IfOk result (λ stop.
+        record { debugger = debugger.new; stop = stop }
+        ≡ stand_behind origin.entry.points.now origin.entry.thread is_told (Some look.now) debugger.old) }
+{
+    if look.touches && !is_told {
+        return stop_after(debugger, origin, look);
+    }
+    if look.breaks || look.faults {
+        let untold = Origin {
+            told: Told::Nothing,
+            ..origin
+        };
+        return Ok(stop_before(debugger, untold, look));
+    }
+    Ok(step_done(debugger, origin))
+}
+
+/// Stops after the event of its position, the watch of which is told.
+fn stop_after(debugger: &mut Debugger, origin: Origin<'_>, look: &Look) -> Result<Stop, NoMemory>
+    ensures { IfOk result (λ stop.
+        record { debugger = debugger.new; stop = stop }
+        ≡ stands_behind origin.entry.points.now origin.entry.thread look.now debugger.old) }
+{
+    let halt = Halt {
+        thread: thread_of(look.event, origin.thread),
+        reason: watched(origin.points, debugger.show(), look),
+    };
+    show_next(debugger)?;
+    Ok(Stop {
+        halt,
+        told: Told::WatchBehind,
+    })
+}
+
+/// Goes to the position after its own, if there is one.
+fn show_next(debugger: &mut Debugger) -> Result<(), NoMemory>
+    ensures { OnOk result (debugger.new ≡ after_next debugger.old) }
+{
+    let position = debugger.position();
+    let len = debugger.len();
+    match debugger.goto((position + 1).min(len)) {
+        Ok(()) => Ok(()),
+        Err(_) => Err(NoMemory),
+    }
+}
+
+/// Goes to a position.
+fn show_at<P: Progress>(
+    debugger: &mut Debugger,
+    position: u64,
+    progress: &mut P,
+) -> Result<(), NoMemory>
+    requires { position ≤ length debugger.old.events }
+    ensures { OnOk result (debugger.new ≡ moved_to debugger.old position) }
+{
+    match debugger.goto_telling(position, progress) {
+        Ok(()) => Ok(()),
+        Err(_) => Err(NoMemory),
+    }
 }

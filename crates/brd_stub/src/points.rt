@@ -1,11 +1,29 @@
 //! Points at which GDB wants to stop.
 
-ghost use Rattle.brd_stub.specs.Moving.{IsSameButStops};
+ghost use Rattle.std.specs.Prelude.{◌≡◌, [], ◌∷◌, IfOk, OnOk};
+ghost use Rattle.brd_stub.specs.Points.{
+  is_kind,
+  is_break,
+  is_point,
+  is_set,
+  AreSet,
+  count,
+  fits,
+  may_set,
+  with_point,
+  without_point,
+  add_bytes,
+  with_stops,
+  stops_of,
+};
+ghost use Rattle.brd_stub.specs.Reasons.{kind_at, is_other, differ, changed, meets, touches_point, touched};
 
 use brd_base::NoMemory;
 use brd_board::Board;
 use brd_debug::{Debugger, Span};
 use brd_gdb::PointKind;
+use std::alloc::Global;
+use std::marker::Model;
 
 /// How many points of a kind there are at most (own choice).
 const MOST_POINTS: usize = 64;
@@ -14,7 +32,7 @@ const MOST_POINTS: usize = 64;
 const MOST_WATCHED: u32 = 8;
 
 /// A point.
-#[derive(Clone, Copy, PartialEq, Eq)]
+#[derive(Clone, Copy)]
 pub struct Point {
     /// What it stops at.
     pub kind: PointKind,
@@ -24,54 +42,144 @@ pub struct Point {
     pub length: u32,
 }
 
-/// What becomes of a request to set a point.
-#[derive(Clone, Copy, PartialEq, Eq)]
-pub enum Setting {
-    /// It is set.
-    Set,
-    /// It is refused: there are too many, or its length isn't one of a watch.
-    Refused,
+/// The points that are set: at most 64 of each kind, of which the watches have 1 to 8 bytes.
+#[derive(Drop)]
+pub struct Points {
+    points: Vec<Point>,
 }
 
-/// Sets a point, unless there are 64 others of its kind.
-pub fn set_point(points: &mut Vec<Point>, point: Point) -> Result<Setting, NoMemory> {
-    match point.kind {
-        PointKind::WriteWatch | PointKind::ReadWatch | PointKind::AccessWatch => {
-            if point.length == 0 || point.length > MOST_WATCHED {
-                return Ok(Setting::Refused);
-            }
+impl Model for Points {
+    ghost use Rattle.std.specs.Prelude.{List};
+    ghost use Rattle.brd_stub.specs.declared.points.Point.{Point as PointOf};
+    ghost use Rattle.brd_stub.specs.Points.{AreSet};
+
+    ghost Value = { List PointOf };
+
+    ghost view = { λ it. it.points.items };
+
+    ghost invariant = { λ it. AreSet it.points.items };
+}
+
+impl Points {
+    /// No points.
+    pub fn new(alloc: Global) -> Points
+        ensures { result ≡ [] }
+    {
+        Points {
+            points: Vec::new(alloc),
         }
-        PointKind::SoftwareBreak | PointKind::HardwareBreak => {}
     }
-    if points.contains(&point) {
-        return Ok(Setting::Set);
+
+    /// The points, in the order in which they were set.
+    pub fn as_slice(&self) -> &[Point]
+        ensures is { result.now ≡ self.now }
+        ensures set { AreSet self.now }
+    {
+        self.points.as_slice()
     }
-    if count(points, point.kind) >= MOST_POINTS {
-        return Ok(Setting::Refused);
+
+    /// Sets a point that isn't set, unless there are 64 others of its kind, or it has too many bytes or none. Answers
+    /// whether it is set now.
+    pub fn set(&mut self, point: Point) -> Result<bool, NoMemory>
+        ensures set { IfOk result (λ set. set ≡ may_set self.old point) }
+        ensures points { OnOk result (self.new ≡ with_point self.old point) }
+    {
+        if !fits(point) {
+            return Ok(false);
+        }
+        if is_set(&self.points, point) {
+            return Ok(true);
+        }
+        if count(point.kind, &self.points) >= MOST_POINTS {
+            return Ok(false);
+        }
+        self.points.push(point)?;
+        Ok(true)
     }
-    points.push(point)?;
-    Ok(Setting::Set)
+
+    /// Takes a point away, if it is set.
+    pub fn clear(&mut self, point: Point)
+        ensures { self.new ≡ without_point self.old point }
+    {
+        remove(&mut self.points, point);
+    }
+}
+
+/// Removes a point, if it is there.
+fn remove(points: &mut Vec<Point>, point: Point)
+    ensures { points.new.items ≡ without_point points.old.items point }
+{
+    points.retain(|other| !is_point(*other, point));
+}
+
+/// Whether it isn't a watch of no bytes, or of too many.
+fn fits(point: Point) -> bool
+    ensures { result ≡ fits point }
+{
+    is_break(point.kind) || 0 < point.length && point.length <= MOST_WATCHED
+}
+
+/// Whether a point is set.
+fn is_set(points: &[Point], point: Point) -> bool
+    ensures { result ≡ is_set points.now point }
+{
+    for other in points {
+        if is_point(*other, point) {
+            return true;
+        }
+    }
+    false
 }
 
 /// How many points of a kind there are.
-fn count(points: &[Point], kind: PointKind) -> usize {
-    let mut count = 0;
+fn count(kind: PointKind, points: &[Point]) -> usize
+    ensures { result ≡ count kind points.now }
+{
+    let mut found = 0;
     for point in points {
-        if point.kind == kind {
-            count += 1;
+        if is_kind(point.kind, kind) {
+            found += 1;
         }
     }
-    count
+    found
 }
 
-/// Takes a point away, if it is set.
-pub fn clear_point(points: &mut Vec<Point>, point: Point) {
-    points.retain(|other| *other != point);
+/// Whether two points are the same.
+fn is_point(point: Point, other: Point) -> bool
+    ensures { result ≡ is_point point other }
+{
+    is_kind(point.kind, other.kind)
+        && point.address == other.address
+        && point.length == other.length
+}
+
+/// Whether two kinds are the same.
+fn is_kind(kind: PointKind, other: PointKind) -> bool
+    ensures { result ≡ is_kind kind other }
+{
+    matches!(
+        (kind, other),
+        (PointKind::SoftwareBreak, PointKind::SoftwareBreak)
+            | (PointKind::HardwareBreak, PointKind::HardwareBreak)
+            | (PointKind::WriteWatch, PointKind::WriteWatch)
+            | (PointKind::ReadWatch, PointKind::ReadWatch)
+            | (PointKind::AccessWatch, PointKind::AccessWatch)
+    )
+}
+
+/// Whether points of this kind are breaks.
+fn is_break(kind: PointKind) -> bool
+    ensures { result ≡ is_break kind }
+{
+    match kind {
+        PointKind::SoftwareBreak | PointKind::HardwareBreak => true,
+        PointKind::WriteWatch | PointKind::ReadWatch | PointKind::AccessWatch => false,
+    }
 }
 
 /// Lets a debugger stop at points, and at exceptions.
 pub fn load(debugger: &mut Debugger, points: &[Point])
-    ensures { IsSameButStops debugger.old debugger.new }
+    ensures { debugger.new ≡ record debugger.old { stops = stops_of points.now } }
 {
     debugger.clear_stops();
     debugger.set_faults(true);
@@ -82,30 +190,55 @@ pub fn load(debugger: &mut Debugger, points: &[Point])
 
 /// Lets a debugger stop at a point too.
 fn add(debugger: &mut Debugger, point: Point)
-    ensures { IsSameButStops debugger.old debugger.new }
+    ensures { debugger.new ≡ record debugger.old { stops = with_stops debugger.old.stops (point ∷ []) } }
 {
-    if is_break(point.kind) {
-        let _ = debugger.stop_at(point.address);
-        return;
-    }
-    for i in 0..point.length {
-        watch(debugger, point.kind, point.address.wrapping_add(i));
+    match point.kind {
+        PointKind::SoftwareBreak | PointKind::HardwareBreak => {
+            let _ = debugger.stop_at(point.address);
+        }
+        PointKind::WriteWatch => watch_bytes(debugger, point.address, point.length),
+        PointKind::ReadWatch => watch_reads(debugger, point.address, point.length),
+        PointKind::AccessWatch => watch_accesses(debugger, point.address, point.length),
     }
 }
 
-/// Lets a debugger stop where a byte changes, or is read or written, as a watch's kind says.
-fn watch(debugger: &mut Debugger, kind: PointKind, address: u32)
-    ensures { IsSameButStops debugger.old debugger.new }
+/// Lets a debugger stop where one of so many bytes from an address on changes.
+fn watch_bytes(debugger: &mut Debugger, address: u32, length: u32)
+    ensures { debugger.new ≡ record debugger.old {
+      stops = record debugger.old.stops { watches = add_bytes debugger.old.stops.watches address 0 length };
+    } }
 {
-    let _ = match kind {
-        PointKind::ReadWatch => debugger.stop_at_read(address),
-        PointKind::AccessWatch => debugger.stop_at_access(address),
-        _ => debugger.watch_byte(address),
-    };
+    for i in 0..length {
+        let _ = debugger.watch_byte(address.wrapping_add(i));
+    }
 }
 
-/// The kind of the break at an address, if there is one.
-pub fn kind_at(points: &[Point], address: u32) -> Option<PointKind> {
+/// Lets a debugger stop where one of them is read.
+fn watch_reads(debugger: &mut Debugger, address: u32, length: u32)
+    ensures { debugger.new ≡ record debugger.old {
+      stops = record debugger.old.stops { reads = add_bytes debugger.old.stops.reads address 0 length };
+    } }
+{
+    for i in 0..length {
+        let _ = debugger.stop_at_read(address.wrapping_add(i));
+    }
+}
+
+/// Lets a debugger stop where one of them is read or written.
+fn watch_accesses(debugger: &mut Debugger, address: u32, length: u32)
+    ensures { debugger.new ≡ record debugger.old {
+      stops = record debugger.old.stops { accesses = add_bytes debugger.old.stops.accesses address 0 length };
+    } }
+{
+    for i in 0..length {
+        let _ = debugger.stop_at_access(address.wrapping_add(i));
+    }
+}
+
+/// The kind of the first break at an address, if there is one.
+pub fn kind_at(points: &[Point], address: u32) -> Option<PointKind>
+    ensures { result ≡ kind_at points.now address }
+{
     for point in points {
         if point.address == address && is_break(point.kind) {
             return Some(point.kind);
@@ -114,34 +247,48 @@ pub fn kind_at(points: &[Point], address: u32) -> Option<PointKind> {
     None
 }
 
-/// Whether points of this kind are breaks.
-fn is_break(kind: PointKind) -> bool {
-    kind == PointKind::SoftwareBreak || kind == PointKind::HardwareBreak
-}
-
-/// The address of the first watch of which a byte differs between two boards.
-pub fn changed(points: &[Point], before: &Board, after: &Board) -> Option<u32> {
+/// The first watch of which a byte differs between two boards.
+pub fn changed(points: &[Point], before: &Board, after: &Board) -> Option<Point>
+    ensures { result ≡ changed points.now before.now.memory after.now.memory }
+{
     for point in points {
-        if point.kind == PointKind::WriteWatch && differ(*point, before, after) {
-            return Some(point.address);
+        if is_kind(PointKind::WriteWatch, point.kind)
+            && differ(before, after, point.address, point.length)
+        {
+            return Some(*point);
         }
     }
     None
 }
 
-/// Whether a byte of a point differs between two boards.
-fn differ(point: Point, before: &Board, after: &Board) -> bool {
-    for i in 0..point.length {
-        let address = point.address.wrapping_add(i);
-        if before.memory(address) != after.memory(address) {
+/// Whether one of so many bytes from an address on differs between two boards.
+fn differ(before: &Board, after: &Board, address: u32, length: u32) -> bool
+    ensures { result ≡ differ before.now.memory after.now.memory address 0 length }
+{
+    for i in 0..length {
+        let place = address.wrapping_add(i);
+        if is_other(before.memory(place), after.memory(place)) {
             return true;
         }
     }
     false
 }
 
+/// Whether a byte is another one.
+fn is_other(before: Option<u8>, after: Option<u8>) -> bool
+    ensures { result ≡ is_other before after }
+{
+    match (before, after) {
+        (None, None) => false,
+        (Some(old), Some(new)) => old != new,
+        _ => true,
+    }
+}
+
 /// The first watch of reads, or of reads and writes, of which a byte is so touched.
-pub fn touched(points: &[Point], read: Option<Span>, written: Option<Span>) -> Option<Point> {
+pub fn touched(points: &[Point], read: Option<Span>, written: Option<Span>) -> Option<Point>
+    ensures { result ≡ touched points.now read written }
+{
     for point in points {
         if touches(*point, read, written) {
             return Some(*point);
@@ -151,16 +298,20 @@ pub fn touched(points: &[Point], read: Option<Span>, written: Option<Span>) -> O
 }
 
 /// Whether a byte of a watch is read, or written, as its kind says.
-fn touches(point: Point, read: Option<Span>, written: Option<Span>) -> bool {
+fn touches(point: Point, read: Option<Span>, written: Option<Span>) -> bool
+    ensures { result ≡ touches_point point.kind point read written }
+{
     match point.kind {
         PointKind::ReadWatch => meets(point, read),
         PointKind::AccessWatch => meets(point, read) || meets(point, written),
-        _ => false,
+        PointKind::WriteWatch | PointKind::SoftwareBreak | PointKind::HardwareBreak => false,
     }
 }
 
 /// Whether a point has one of these bytes.
-fn meets(point: Point, span: Option<Span>) -> bool {
+fn meets(point: Point, span: Option<Span>) -> bool
+    ensures { result ≡ meets point span }
+{
     match span {
         Some(span) => {
             point.address.wrapping_sub(span.first) < span.count

@@ -1,23 +1,38 @@
 //! A session with GDB.
 
-ghost use Rattle.std.specs.Prelude.{◌≡◌, ◌≤◌, length, IfOk};
+ghost use Rattle.std.specs.Prelude.{◌≡◌, ◌≤◌, length, is_some, true, false, IfOk};
 ghost use Rattle.brd_gdb.specs.Receiving.{packet_size};
 ghost use Rattle.brd_debug.specs.Debugger.{shown};
-ghost use Rattle.brd_stub.specs.Answers.{Answers, Begins, Reads, Moves, Tells, Says};
-ghost use Rattle.brd_stub.specs.Stepping.{processor_for, stepper_on, stepped_by};
-ghost use Rattle.brd_stub.specs.Selecting.{stepping_of};
-ghost use Rattle.brd_stub.specs.Moving.{IsSameButStops};
+ghost use Rattle.brd_stub.specs.Answers.{
+  Answers,
+  Begins,
+  Reads,
+  Becomes,
+  Says,
+  Shows,
+  console_text,
+  Stops,
+  at_stop,
+  gone_to,
+  thread_named,
+};
+ghost use Rattle.brd_stub.specs.Halting.{halt_text, current_text, fitting, done_text, end_text, note_text};
+ghost use Rattle.brd_stub.specs.Moving.{stepping, of_all, GoesForward, GoesBack};
+ghost use Rattle.brd_stub.specs.Points.{may_set, with_point, without_point};
+ghost use Rattle.brd_stub.specs.Selecting.{stepping_of, selected_by, asked_by};
+ghost use Rattle.brd_stub.specs.Stepping.{processor_of, processor_for, stepper_on, stepped_by};
 
 use crate::answer::Answer;
-use crate::halt::{Halt, Reason, Told};
-use crate::points::{Point, Setting, clear_point, load, set_point};
+use crate::halt::{Halt, Reason, Stop, Told};
+use crate::moves::{Origin, backward, forward};
+use crate::points::{Point, Points, load};
 use crate::selection::Selection;
 use crate::stepping::{Stepped, stepper_on};
-use crate::telling::{plain, text};
-use crate::threads::processor_of;
+use crate::telling::{current_text, halt_text, plain, short, text};
+use crate::threads::{executing, processor_of};
 use brd_base::NoMemory;
 use brd_board::Board;
-use brd_debug::{Debugger, Stepper};
+use brd_debug::{DebugFault, Debugger, Stepper};
 use brd_gdb::{Monitor, Move, Request, ThreadId};
 use brd_journal::Journal;
 use brd_progress::Progress;
@@ -28,7 +43,7 @@ pub struct Session {
     /// The debugger.
     pub debugger: Debugger,
     /// The points at which GDB wants to stop.
-    pub points: Vec<Point>,
+    pub points: Points,
     /// What was told last.
     pub told: Told,
     /// Why the board stands where it is.
@@ -56,11 +71,9 @@ impl Session {
         requires orders { boot.memory.order ≡ journal.order }
         ensures { IfOk result (Begins boot journal.events) }
     {
-        let mut debugger = Debugger::new(alloc, boot, journal)?;
-        debugger.set_faults(true);
         Ok(Session {
-            debugger,
-            points: Vec::new(alloc),
+            debugger: Debugger::new(alloc, boot, journal)?,
+            points: Points::new(alloc),
             told: Told::Nothing,
             halt: Halt {
                 thread: 1,
@@ -77,8 +90,8 @@ impl Session {
         request: Request,
         progress: &mut P,
     ) -> Result<Answer, NoMemory>
-        ensures { IfOk result
-            (λ answer. Answers self.old request answer.console.items answer.reply.items self.new) }
+        ensures answers { IfOk result (λ answer. Answers self.old request answer.reply.items self.new) }
+        ensures shows { IfOk result (λ answer. Shows request self.new answer.console.items) }
     {
         self.answered(alloc, request, progress)
     }
@@ -92,9 +105,9 @@ impl Session {
     ) -> Result<Answer, NoMemory>
         ensures reads { IfOk result (λ answer.
             Reads (shown self.old.debugger) self.old.selection.reading request answer.reply.items) }
-        ensures moves { IfOk result (λ _. Moves (stepping_of self.old.selection) self.old.told request self.old.debugger self.new.debugger) }
-        ensures tells { IfOk result (λ answer. Tells request self.new answer.reply.items) }
-        ensures says { IfOk result (λ answer. Says self.old request answer.reply.items) }
+        ensures becomes { IfOk result (λ _. Becomes self.old request self.new) }
+        ensures says { IfOk result (λ answer. Says self.old request self.new answer.reply.items) }
+        ensures shows { IfOk result (λ answer. Shows request self.new answer.console.items) }
         ensures short { IfOk result (λ answer. length answer.reply.items ≤ packet_size) }
     {
         match request {
@@ -133,12 +146,12 @@ impl Session {
                     length,
                 },
             ),
+            Request::IsAlive(thread) => self.ask(alloc, thread),
+            Request::StopReason => self.tell_stop(alloc),
+            Request::CurrentThread => self.tell_thread(alloc),
             Request::Monitor(command) => self.show_monitor(alloc, command),
             other => {
                 let reply = self.tell(alloc, other)?;
-                if let Request::IsAlive(thread) = other {
-                    self.selection = self.selection.asking(self.debugger.show(), thread);
-                }
                 Ok(plain(alloc, reply))
             }
         }
@@ -194,7 +207,12 @@ impl Session {
         moves: bool,
         thread: ThreadId,
     ) -> Result<Answer, NoMemory>
-        ensures same { self.new.debugger ≡ self.old.debugger }
+        ensures becomes { IfOk result (λ _. self.new
+            ≡ record self.old {
+              selection = selected_by moves (thread_named self.old thread) thread self.old.selection;
+            }) }
+        ensures says { IfOk result (λ answer.
+            answer.reply.items ≡ done_text (is_some (thread_named self.old thread))) }
         ensures short { IfOk result (λ answer. length answer.reply.items ≤ packet_size) }
     {
         let Some(cpu) = processor_of(self.debugger.show(), thread, self.halt.thread) else {
@@ -210,31 +228,196 @@ impl Session {
 
     /// Sets a point.
     fn set(&mut self, alloc: Global, point: Point) -> Result<Answer, NoMemory>
-        ensures same { IsSameButStops self.old.debugger self.new.debugger }
+        ensures becomes { IfOk result (λ _. self.new
+            ≡ record self.old { points = with_point self.old.points point }) }
+        ensures says { IfOk result (λ answer. answer.reply.items ≡ done_text (may_set self.old.points point)) }
         ensures short { IfOk result (λ answer. length answer.reply.items ≤ packet_size) }
     {
-        match set_point(&mut self.points, point)? {
-            Setting::Set => {
-                load(&mut self.debugger, &self.points);
-                okay(alloc)
-            }
-            Setting::Refused => error(alloc),
+        if !self.points.set(point)? {
+            return error(alloc);
         }
+        okay(alloc)
     }
 
     /// Takes a point away.
     fn clear(&mut self, alloc: Global, point: Point) -> Result<Answer, NoMemory>
-        ensures same { IsSameButStops self.old.debugger self.new.debugger }
+        ensures becomes { IfOk result (λ _. self.new
+            ≡ record self.old { points = without_point self.old.points point }) }
+        ensures says { IfOk result (λ answer. answer.reply.items ≡ done_text true) }
         ensures short { IfOk result (λ answer. length answer.reply.items ≤ packet_size) }
     {
-        clear_point(&mut self.points, point);
-        load(&mut self.debugger, &self.points);
+        self.points.clear(point);
         okay(alloc)
+    }
+
+    /// Answers whether there is a thread, which is chosen then.
+    fn ask(&mut self, alloc: Global, thread: ThreadId) -> Result<Answer, NoMemory>
+        ensures becomes { IfOk result (λ _. self.new
+            ≡ record self.old { selection = asked_by (shown self.old.debugger) thread self.old.selection }) }
+        ensures says { IfOk result (λ answer.
+            answer.reply.items ≡ done_text (is_some (processor_of (shown self.old.debugger) thread 1))) }
+        ensures short { IfOk result (λ answer. length answer.reply.items ≤ packet_size) }
+    {
+        let board = self.debugger.show();
+        self.selection = self.selection.asking(board, thread);
+        match processor_of(self.debugger.show(), thread, 1) {
+            Some(_) => okay(alloc),
+            None => error(alloc),
+        }
+    }
+
+    /// Lets the debugger stop at the points that are set, at exceptions, and where this is stepped.
+    fn prepare(&mut self, stepped: Stepped)
+        ensures { self.new ≡ record self.old { debugger = stepping self.old.points stepped self.old.debugger } }
+    {
+        load(&mut self.debugger, self.points.as_slice());
+        self.debugger.set_stepper(stepped.stepper);
+        self.debugger.set_only(stepped.only);
+    }
+
+    /// Goes on to the next stop, and tells it.
+    fn go_on<P: Progress>(
+        &mut self,
+        alloc: Global,
+        stepped: Stepped,
+        progress: &mut P,
+    ) -> Result<Answer, NoMemory>
+        ensures becomes { IfOk result (λ _. Stops
+            (GoesForward self.old.points (stepping_of self.old.selection) self.old.told
+            (stepping self.old.points stepped self.old.debugger)) self.old self.new) }
+        ensures says { IfOk result (λ answer. answer.reply.items ≡ fitting (halt_text self.new.halt)) }
+        ensures shows { IfOk result (λ answer. answer.console.items ≡ console_text self.new) }
+        ensures short { IfOk result (λ answer. length answer.reply.items ≤ packet_size) }
+    {
+        self.prepare(stepped);
+        let origin = Origin {
+            points: self.points.as_slice(),
+            thread: self.selection.stepping(),
+            told: self.told,
+        };
+        let stop = forward(&mut self.debugger, origin, progress)?;
+        self.stopped(alloc, stop)
+    }
+
+    /// Goes back to the last stop, and tells it.
+    fn go_back<P: Progress>(
+        &mut self,
+        alloc: Global,
+        stepper: Option<Stepper>,
+        progress: &mut P,
+    ) -> Result<Answer, NoMemory>
+        ensures becomes { IfOk result (λ _. Stops
+            (GoesBack self.old.points (stepping_of self.old.selection) self.old.told
+            (stepping self.old.points (of_all stepper) self.old.debugger)) self.old self.new) }
+        ensures says { IfOk result (λ answer. answer.reply.items ≡ fitting (halt_text self.new.halt)) }
+        ensures shows { IfOk result (λ answer. answer.console.items ≡ console_text self.new) }
+        ensures short { IfOk result (λ answer. length answer.reply.items ≤ packet_size) }
+    {
+        self.prepare(Stepped {
+            stepper,
+            only: None,
+        });
+        let origin = Origin {
+            points: self.points.as_slice(),
+            thread: self.selection.stepping(),
+            told: self.told,
+        };
+        let stop = backward(&mut self.debugger, origin, progress)?;
+        self.stopped(alloc, stop)
+    }
+
+    /// Tells why the board stands where it is.
+    fn tell_stop(&self, alloc: Global) -> Result<Answer, NoMemory>
+        ensures says { IfOk result (λ answer. answer.reply.items ≡ fitting (halt_text self.now.halt)) }
+        ensures short { IfOk result (λ answer. length answer.reply.items ≤ packet_size) }
+    {
+        let reply = halt_text(alloc, self.halt)?;
+        Ok(plain(alloc, short(reply)))
+    }
+
+    /// Tells on which processor it stands there.
+    fn tell_thread(&self, alloc: Global) -> Result<Answer, NoMemory>
+        ensures says { IfOk result (λ answer.
+            answer.reply.items ≡ fitting (current_text self.now.halt.thread)) }
+        ensures short { IfOk result (λ answer. length answer.reply.items ≤ packet_size) }
+    {
+        let reply = current_text(alloc, self.halt.thread)?;
+        Ok(plain(alloc, short(reply)))
+    }
+
+    /// Keeps how a move has ended, and tells why the board stands where it is, and at the end of the journal what it
+    /// does there.
+    fn stopped(&mut self, alloc: Global, stop: Stop) -> Result<Answer, NoMemory>
+        ensures becomes { self.new ≡ at_stop self.old (record { debugger = self.old.debugger; stop = stop }) }
+        ensures says { IfOk result (λ answer. answer.reply.items ≡ fitting (halt_text self.new.halt)) }
+        ensures shows { IfOk result (λ answer. answer.console.items ≡ console_text self.new) }
+        ensures short { IfOk result (λ answer. length answer.reply.items ≤ packet_size) }
+    {
+        self.halt = stop.halt;
+        self.told = stop.told;
+        self.selection = self.selection.choosing(stop.halt.thread);
+        let console = text(alloc, note_text(self.debugger.show(), stop.halt.reason))?;
+        let reply = halt_text(alloc, stop.halt)?;
+        Ok(Answer {
+            console,
+            reply: short(reply),
+        })
+    }
+
+    /// Goes to a position, and says so on GDB's console.
+    fn go_to<P: Progress>(
+        &mut self,
+        alloc: Global,
+        position: u64,
+        progress: &mut P,
+    ) -> Result<Answer, NoMemory>
+        ensures becomes { IfOk result (λ _. self.new ≡ gone_to self.old position) }
+        ensures says { IfOk result (λ answer. answer.reply.items ≡ done_text true) }
+        ensures short { IfOk result (λ answer. length answer.reply.items ≤ packet_size) }
+    {
+        let console = match self.debugger.goto_telling(position, progress) {
+            Ok(()) => format!(in alloc; "at {position}\n")?,
+            Err(DebugFault::Past { len }) => format!(in alloc; "past {len}\n")?,
+            Err(DebugFault::NoMemory) => return Err(NoMemory),
+        };
+        self.told = Told::Nothing;
+        Ok(Answer {
+            console: text(alloc, console.as_bytes())?,
+            reply: text(alloc, b"OK")?,
+        })
+    }
+}
+
+/// What GDB's console shows where a move has ended for a reason.
+fn note_text(board: &Board, reason: Reason) -> &'static [u8]
+    ensures { result.now ≡ note_text reason board.now }
+{
+    match reason {
+        Reason::End => end_text(board),
+        Reason::Done
+        | Reason::Break(_)
+        | Reason::Exception(_)
+        | Reason::Watch(_, _)
+        | Reason::Begin => b"",
+    }
+}
+
+/// What a board does at the end of a journal.
+fn end_text(board: &Board) -> &'static [u8]
+    ensures { result.now ≡ end_text board.now }
+{
+    if board.is_off() {
+        b"The journal ends here: the board is off.\n"
+    } else if board.registers(executing(board, 1)).is_some() {
+        b"The journal ends here.\n"
+    } else {
+        b"The journal ends here: no processor executes anything.\n"
     }
 }
 
 /// The answer that all went well.
-pub fn okay(alloc: Global) -> Result<Answer, NoMemory>
+fn okay(alloc: Global) -> Result<Answer, NoMemory>
+    ensures says { IfOk result (λ answer. answer.reply.items ≡ done_text true) }
     ensures short { IfOk result (λ answer. length answer.reply.items ≤ packet_size) }
 {
     let reply = text(alloc, b"OK")?;
@@ -242,7 +425,8 @@ pub fn okay(alloc: Global) -> Result<Answer, NoMemory>
 }
 
 /// The answer that a request is refused.
-pub fn error(alloc: Global) -> Result<Answer, NoMemory>
+fn error(alloc: Global) -> Result<Answer, NoMemory>
+    ensures says { IfOk result (λ answer. answer.reply.items ≡ done_text false) }
     ensures short { IfOk result (λ answer. length answer.reply.items ≤ packet_size) }
 {
     let reply = text(alloc, b"E01")?;

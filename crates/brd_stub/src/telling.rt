@@ -4,8 +4,8 @@ ghost use Rattle.std.specs.Prelude.{◌≡◌, ◌≤◌, length, IfOk};
 ghost use Rattle.brd_board.specs.Board.{registers_of};
 ghost use Rattle.brd_debug.specs.Debugger.{shown};
 ghost use Rattle.brd_gdb.specs.Receiving.{packet_size};
-ghost use Rattle.brd_stub.specs.Answers.{Reads, Says};
-ghost use Rattle.brd_stub.specs.Halting.{halt_text, fitting};
+ghost use Rattle.brd_stub.specs.Answers.{Reads};
+ghost use Rattle.brd_stub.specs.Halting.{halt_text, current_text, fitting};
 ghost use Rattle.brd_stub.specs.Reading.{IsMemoryText};
 ghost use Rattle.brd_stub.specs.Registers.{context_or_rest, registers_text, register_text};
 
@@ -22,14 +22,14 @@ use std::alloc::Global;
 
 /// What a session can do, by the names of GDB's protocol.
 const SUPPORTED: &[u8] =
-    b"PacketSize=4000;QStartNoAckMode+;vContSupported+;swbreak+;hwbreak+;ReverseStep+;ReverseContinue+;qXfer:features:read+;qXfer:threads:read+";
+    b"PacketSize=4000;QStartNoAckMode+;vContSupported+;swbreak+;hwbreak+;ReverseStep+;ReverseContinue+;\
+    qXfer:features:read+;qXfer:threads:read+";
 
 impl Session {
     /// What is replied to a request that changes nothing.
     pub(crate) fn tell(&self, alloc: Global, request: Request) -> Result<Vec<u8>, NoMemory>
         ensures reads { IfOk result
             (λ reply. Reads (shown self.now.debugger) self.now.selection.reading request reply.items) }
-        ensures says { IfOk result (λ reply. Says self.now request reply.items) }
         ensures short { IfOk result (λ reply. length reply.items ≤ packet_size) }
     {
         let board = self.debugger.show();
@@ -38,10 +38,6 @@ impl Session {
             Request::ReadRegister(number) => register(alloc, board, self.selection.reading, number),
             Request::ReadMemory { address, length } => memory(alloc, board, address, length),
             Request::Write => text(alloc, b"E01"),
-            Request::StopReason => {
-                let reply = halt_text(alloc, self.halt)?;
-                Ok(short(reply))
-            }
             other => {
                 let reply = self.say(alloc, other)?;
                 Ok(short(reply))
@@ -56,8 +52,6 @@ impl Session {
             Request::Supported => text(alloc, SUPPORTED),
             Request::StartNoAckMode | Request::Detach | Request::Kill | Request::KillProcess =>
                 text(alloc, b"OK"),
-            Request::IsAlive(thread) => alive(alloc, board, thread),
-            Request::CurrentThread => current(alloc, self.halt.thread),
             Request::FirstThreads => thread_list(alloc, board),
             Request::OtherThreads => text(alloc, b"l"),
             Request::ThreadInfo(thread) => info(alloc, board, thread, self.selection.reading),
@@ -113,7 +107,8 @@ fn registers(alloc: Global, board: &Board, cpu: u8) -> Result<Vec<u8>, NoMemory>
 /// One register of a processor.
 fn register(alloc: Global, board: &Board, cpu: u8, number: u32) -> Result<Vec<u8>, NoMemory>
     ensures is { IfOk result
-        (λ reply. reply.items ≡ register_text board.now.memory.order (context_or_rest (registers_of board.now cpu)) number) }
+        (λ reply. reply.items ≡ register_text board.now.memory.order (context_or_rest (registers_of board.now cpu))
+        number) }
     ensures short { IfOk result (λ reply. length reply.items ≤ packet_size) }
 {
     let mut reply = Vec::new(alloc);
@@ -138,16 +133,10 @@ pub fn halt_text(alloc: Global, halt: Halt) -> Result<Vec<u8>, NoMemory>
     Ok(reply)
 }
 
-/// Whether there is a thread.
-fn alive(alloc: Global, board: &Board, thread: ThreadId) -> Result<Vec<u8>, NoMemory> {
-    match processor_of(board, thread, 1) {
-        Some(_) => text(alloc, b"OK"),
-        None => text(alloc, b"E01"),
-    }
-}
-
 /// The thread of the last stop.
-fn current(alloc: Global, thread: u8) -> Result<Vec<u8>, NoMemory> {
+pub fn current_text(alloc: Global, thread: u8) -> Result<Vec<u8>, NoMemory>
+    ensures { IfOk result (λ reply. reply.items ≡ current_text thread) }
+{
     let mut reply = Vec::new(alloc);
     reply.extend_from_slice(b"QC")?;
     show_thread(&mut reply, thread)?;

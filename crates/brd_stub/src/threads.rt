@@ -1,13 +1,14 @@
 //! Threads, which are the board's processors.
 
-ghost use Rattle.std.specs.Prelude.{◌≡◌, is_some};
+ghost use Rattle.std.specs.Prelude.{◌≡◌, [], ◌∷◌, ◌++◌, is_some, OnOk};
 ghost use Rattle.brd_board.specs.Board.{standing_of};
+ghost use Rattle.brd_gdb.specs.Hexes.{hexed};
 ghost use Rattle.brd_stub.specs.Stepping.{processor_of};
+ghost use Rattle.brd_stub.specs.Reasons.{executing};
 
 use brd_base::NoMemory;
 use brd_board::{Board, Standing, TaskState};
-use brd_gdb::ThreadId;
-use brd_text::hex_digits;
+use brd_gdb::{ThreadId, put_hex};
 use std::alloc::Global;
 
 /// Whether there is a processor of this number.
@@ -33,7 +34,9 @@ pub fn processor_of(board: &Board, thread: ThreadId, other: u8) -> Option<u8>
 }
 
 /// A processor on which somebody executes: this one, else the first; this one where there is none.
-pub fn executing(board: &Board, cpu: u8) -> u8 {
+pub fn executing(board: &Board, cpu: u8) -> u8
+    ensures { result ≡ executing board.now cpu }
+{
     if board.registers(cpu).is_some() {
         return cpu;
     }
@@ -46,9 +49,10 @@ pub fn executing(board: &Board, cpu: u8) -> u8 {
 }
 
 /// Puts a thread's number at the end.
-pub fn show_thread(out: &mut Vec<u8>, thread: u8) -> Result<(), NoMemory> {
-    out.extend_from_slice(&hex_digits(thread as u32)[6..])?;
-    Ok(())
+pub fn show_thread(out: &mut Vec<u8>, thread: u8) -> Result<(), NoMemory>
+    ensures { OnOk result (out.new.items ≡ out.old.items ++ hexed (thread ∷ [])) }
+{
+    put_hex(out, &[thread])
 }
 
 /// The numbers of all threads, with commas between them.

@@ -1,7 +1,14 @@
-use Rattle.brd_stub.proofs.AnswerLemmas.{if-five}
+use Rattle.brd_stub.proofs.AnswerLemmas.{if-four}
 use Rattle.brd_stub.proofs.session.Session.answer.Goals as goal
 
-pub returns : goal.returns
-returns g c =
-    if-five _ _ _ _ _ _ (λ a reads moves tells says short. record { reads = reads; moves = moves; tells = tells; says = says; short = short })
-    c.answered.result c.answered.ensures.reads c.answered.ensures.moves c.answered.ensures.tells c.answered.ensures.says c.answered.ensures.short
+pub returns-clause-answers : goal.returns-clause-answers
+returns-clause-answers g c =
+    if-four _ _ _ _ _ (λ a reads becomes says short. record {
+      reads = reads;
+      becomes = becomes;
+      says = says;
+      short =
+          short;
+    })
+    c.answered.result c.answered.ensures.reads c.answered.ensures.becomes c.answered.ensures.says
+    c.answered.ensures.short

@@ -1,12 +1,12 @@
-use Rattle.std.proofs.Common.{◌∙◌, ap, sym, subst}
-use Rattle.brd_debug.specs.Debugger.{DebuggerState}
-use Rattle.brd_stub.specs.Moving.{GoesForward, stepping}
+use Rattle.brd_stub.specs.Moving.{stepping, GoesForward}
 use Rattle.brd_stub.proofs.AnswerLemmas.{if-all}
+use Rattle.brd_stub.proofs.SessionLemmas.{move-ends}
 use Rattle.brd_stub.proofs.session.Session.go_on.Goals as goal
 
-pub returns-clause-goes : goal.returns-clause-goes
-returns-clause-goes g c =
-    if-all _ (subst (GoesForward c.args.self.now.told (stepping c.args.stepped c.args.self.now.debugger)) (sym c.stopped.ensures.same)
-    (subst (λ (d : DebuggerState). GoesForward c.args.self.now.told d c.forward.new.self.debugger)
-    (c.set_only.ensures ∙ ap (λ (d : DebuggerState). record d { stops = record d.stops { only = c.args.stepped.only } }) c.set_stepper.ensures)
-    c.in_ok-self.ensures)) c.stopped.result
+pub returns-clause-becomes : goal.returns-clause-becomes
+returns-clause-becomes g c =
+    if-all _ (move-ends GoesForward c.args.self.now c.prepare.new.self c.stopped.new.self
+    (stepping c.args.self.now.points c.args.stepped c.args.self.now.debugger)
+    (record { debugger = c.forward.new.debugger; stop = c.in_ok-stop.stop }) c.as_slice.result.now c.stepping.result
+    c.prepare.ensures c.as_slice.ensures.is c.stepping.ensures c.in_ok-stop.ensures c.stopped.ensures.becomes)
+    c.stopped.result

@@ -1,0 +1,43 @@
+-- What becomes of a session by a move, and what is shown where it ends.
+use Rattle.std.proofs.Common.{◌≡◌, ℕ, List, subst, sym, ap, ◌∙◌}
+use Rattle.std.specs.Prelude.{Bool, false, if◌then◌else◌, is_some, Option, codes}
+use Rattle.std.proofs.lemmas.Bool.{cond-false}
+use Rattle.brd_exec.specs.State.{State}
+use Rattle.brd_board.specs.Board.{BoardState, registers_of}
+use Rattle.brd_debug.specs.Debugger.{DebuggerState}
+use Rattle.brd_stub.specs.declared.points.Point.{Point}
+use Rattle.brd_stub.specs.declared.halt.Told.{Told}
+use Rattle.brd_stub.specs.declared.session.Session.{Session}
+use Rattle.brd_stub.specs.Reasons.{executing}
+use Rattle.brd_stub.specs.Halting.{end_text}
+use Rattle.brd_stub.specs.Selecting.{stepping_of}
+use Rattle.brd_stub.specs.Moving.{Ended}
+use Rattle.brd_stub.specs.Answers.{at_stop, Stops}
+
+-- a move of a session whose debugger was prepared for it
+pub move-ends : (Goes : List Point → ℕ → Told → DebuggerState → Ended → Type 0) (s mid next : Session)
+    (d : DebuggerState) (e : Ended) (points : List Point) (cpu : ℕ) → mid ≡ record s { debugger = d } →
+    points ≡ mid.points → cpu ≡ stepping_of mid.selection → Goes points cpu mid.told mid.debugger e →
+    next ≡ at_stop (record mid { debugger = e.debugger }) e →
+    Stops (Goes s.points (stepping_of s.selection) s.told d) s next
+move-ends Goes s mid next d e points cpu is same on goes becomes = (
+  e,
+  subst (λ (x : Session). Goes x.points (stepping_of x.selection) x.told x.debugger e) is
+      (subst (λ (c : ℕ). Goes mid.points c mid.told mid.debugger e) on
+      (subst (λ (p : List Point). Goes p cpu mid.told mid.debugger e) same goes)),
+  becomes ∙ ap (λ (x : Session). at_stop (record x { debugger = e.debugger }) e) is,
+)
+
+-- what is shown at the journal's end of a board that is on
+pub shown-at-end : (b : BoardState) (off test : Bool) (cpu : ℕ) (context : Option State) → off ≡ b.kernel.off →
+    off ≡ false → cpu ≡ executing b 1 → context ≡ registers_of b cpu → test ≡ is_some context →
+    (if test then codes "The journal ends here.\n"
+    else codes "The journal ends here: no processor executes anything.\n")
+    ≡ end_text b
+shown-at-end b off test cpu context is on same has some =
+    ap (λ (t : Bool). if t then codes "The journal ends here.\n"
+    else codes "The journal ends here: no processor executes anything.\n")
+    (some ∙ ap (λ (c : Option State). is_some c) (has ∙ ap (registers_of b) same))
+    ∙ sym (cond-false b.kernel.off (codes "The journal ends here: the board is off.\n")
+    (if is_some (registers_of b (executing b 1)) then codes "The journal ends here.\n"
+    else codes "The journal ends here: no processor executes anything.\n") (sym is ∙ on))

@@ -1,0 +1,13 @@
+use Rattle.std.proofs.Common.{subst}
+use Rattle.std.specs.Prelude.{Some}
+use Rattle.brd_debug.specs.Debugger.{SeesAhead}
+use Rattle.brd_stub.proofs.AnswerLemmas.{if-then}
+use Rattle.brd_stub.proofs.moves.stop_ahead.Goals as goal
+
+pub returns-in-Some : goal.returns-in-Some
+returns-in-Some c =
+    if-then _ _ (λ stop does. record {
+      look = Some c.in-Some.look;
+      sees = subst (SeesAhead c.args.debugger.now) c.in-Some.is c.in_ok-look.ensures;
+      stands = does;
+    }) c.stand.result c.stand.ensures

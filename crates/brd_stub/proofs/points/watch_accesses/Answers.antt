@@ -1,0 +1,16 @@
+use Rattle.std.proofs.Common.{ℕ, List, refl, ap}
+use Rattle.brd_debug.specs.declared.stops.Stops.{Stops}
+use Rattle.brd_debug.specs.Debugger.{DebuggerState}
+use Rattle.brd_stub.proofs.PointLemmas.{same-marks, next-bytes}
+use Rattle.brd_stub.proofs.points.watch_accesses.Goals as goal
+
+pub loop-i-preserved : goal.loop-i-preserved
+loop-i-preserved c = record {
+  same = same-marks (λ (s : Stops) (m : List ℕ). record s { accesses = m }) (λ (s : Stops). s.accesses)
+      (λ (s : Stops) (a b : List ℕ). refl) (λ (s : Stops) (a : List ℕ). refl) c.args.debugger.now c.loop-i.debugger
+      c.stop_at_access.new.self _ c.loop-i.invariant.same c.stop_at_access.ensures.is;
+  bytes = next-bytes (λ (s : Stops). s.accesses) c.loop-i.debugger c.stop_at_access.new.self
+      c.args.debugger.now.stops.accesses
+      c.args.address c.loop-i.i c.args.length c.loop-i-test.true
+      (ap (λ (d : DebuggerState). d.stops.accesses) c.stop_at_access.ensures.is) c.loop-i.invariant.bytes;
+}
