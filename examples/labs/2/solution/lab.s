@@ -2,12 +2,13 @@
         .equ    ext_tsk, 3
         .equ    put_chr, 40
         .equ    ext_ker, 41
+        .equ    first, 48
 
-# Task 1: writes 48, 49 and so on into its cells. The character is what the second cell has.
+# Task 1: writes `first`, `first`+1 and so on into its four cells. The character is what the second cell has.
 fill:   lui     $t0, %hi(cells)
         addiu   $t0, $t0, %lo(cells)
         addu    $t1, $0, $0
-cell:   addiu   $t2, $t1, 48
+cell:   addiu   $t2, $t1, first
         sw      $t2, 0($t0)
         addiu   $t1, $t1, 1
         addiu   $t3, $0, 4
@@ -44,8 +45,9 @@ divide: teq     $t1, $0, 7              # so compilers guard a division
         mflo    $a0                     # in the slot
 
 # Task 4: the sum of two readings, which have no sign; its upper bits are the character.
-add:    lui     $t0, 0x7000
-        lui     $t1, 0x6000
+add:    lui     $t2, %hi(readings)
+        lw      $t0, %lo(readings)($t2)
+        lw      $t1, %lo(readings+4)($t2)
         addu    $t0, $t0, $t1
         b       tell
         srl     $a0, $t0, 26            # in the slot
@@ -70,4 +72,5 @@ off:    addiu   $v0, $0, ext_ker
         .align  2
 cells:  .word   0, 0, 0, 0
 values: .word   50, 51, 52, 0
+readings: .word 0x70000000, 0x60000000
 record: .byte   1, 0, 0, 0, 50
