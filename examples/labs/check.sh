@@ -1,6 +1,6 @@
 # shellcheck shell=bash
 # What the checkers of the labs share: each examples/labs/N/check reads this file, looks at what a student has made in a
-# folder, prints a line for each thing that is missing, and ends with `summary`.
+# folder, prints a line for each thing that is missing, and ends with `summary`. docs/LABS.md says how one is made.
 # $lab is the lab's folder, $given the student's, $work a folder for files.
 #
 #   --seed N       draws the data by N. Without it they are others each time, and the last line says by which N

@@ -45,7 +45,7 @@ edited() {
 }
 
 use="[--seed N] [--seconds N] [--points FILE] FOLDER, where your lab.s of lab"
-for lab in 1 2 3; do
+for lab in 1 2 3 4; do
     solved $lab
     looked "the solution" $lab 0 <<< "lab $lab: nothing is missing"
     for seed in 0 999999999; do
@@ -92,7 +92,7 @@ verdict "points: a beginning" "$(grep -qx 'lab 3: 6 of 15 points' "$work/out" ||
 rm "$work/mine/lab.s"
 examples/labs/3/check --points "$work/points" "$work/mine" > "$work/out" 2> "$work/err"
 verdict "points: no source" "$(grep -qx 'lab 3: 0 of 15 points' "$work/out" || tail -n 2 "$work/out")"
-for lab in 1 2 3; do
+for lab in 1 2 3 4; do
     sed -nE '/^#/d; s/^.*(missing|none_fails) "?([a-z_]+)[". ].*/\2/p' examples/labs/$lab/check | grep -vxE 'all|end|data' | sort -u > "$work/parts"
     sed -nE "s/^$lab ([a-z_]+).*/\1/p" examples/labs/teachers/points | sort -u > "$work/worth"
     verdict "points: the parts of lab $lab" "$(diff "$work/parts" "$work/worth")"
@@ -302,4 +302,35 @@ done
 solved 3
 rm "$work/mine/found"
 refused "no events" 3 "found: 'load N' and 'store N' should be events of lost.journal"
+
+# Lab 4.
+begun 4
+looked "the beginning" 4 1 << 'END'
+with the letters ckxf and room for 1 it should write these, and writes 'ccffffffffffffffffffffffffffffffffffffff'
+    trace --summary: refused: psnd_dtq(1, 0x0000006b) = E_TMOUT at event 12, at send+0xc (80000014), and 2 times after it
+    trace --summary: refused: prcv_dtq(1) = E_TMOUT at event 33, at consumer+0x8 (80000030), and 142 times after it
+a schedule of lab.s fails: fails after 7 events and the fair end: the console isn't the wanted text
+    event 0  processor 2 goes on at consumer
+END
+solved 4
+edited 's/^( *)\.equ( *)snd_dtq, 33/\1.equ\2snd_dtq, 34/'
+refused "a producer that doesn't wait" 4 "a schedule of lab.s fails: fails after "
+solved 4
+edited 's/^( *)\.equ( *)snd_dtq, 33/\1.equ\2snd_dtq, 36/'
+refused "the oldest datum given up" 4 "a schedule of lab.s fails: fails after "
+solved 4
+edited 's/^consumer: (.*)/consumer: lui   $s0, %hi(items)\n        addiu   $s0, $s0, %lo(items)\ntake:   \1/; s/ b       consumer/ b       take/'
+edited 's/^( *)beqz    \$v1, end/        lw      $v1, 0($s0)\n        addiu   $s0, $s0, 4\n&/'
+looked "a consumer that loads the letters itself" 4 1 <<< "the consumer should load none of the items itself"
+solved 4
+edited 's/^consumer: (.*)/consumer: lui   $s0, %hi(items)\n        addiu   $s0, $s0, %lo(items)\ntake:   lw      $v1, 0($s0)\n        addiu   $s0, $s0, 4\n        b       took\n        nop\n        \1/'
+edited 's/ b       consumer/ b       take/; s/^( *)beqz    \$v1, end/took:   beqz    $v1, end/'
+refused "no data queue" 4 "each letter and the 0 should come through the data queue, in their order; these did: "
+solved 4
+edited 's/^consumer: .*/&\n        addiu   $t0, $0, 97/; s/^( *)move    \$a0, \$v1 .*/        move    $a0, $t0/; s/^( *)nop$/        addiu   $t0, $t0, 1/'
+refused "letters that aren't received" 4 "with the letters "
+solved 4
+edited 's/snd_dtq, 33/snd_dtq, 34/; s/rcv_dtq, 37/rcv_dtq, 38/; s/^( *)bnez    \$a1, send/        bnez    $v0, again\n        nop\n&/'
+edited 's/^( *)addiu   \$v0, \$0, snd_dtq/again:  addiu   $v0, $0, snd_dtq/; s/^( *)beqz    \$v1, end/        bnez    $v0, consumer\n        nop\n&/'
+looked "calls that are asked for again" 4 0 <<< "lab 4: nothing is missing"
 summary
