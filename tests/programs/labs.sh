@@ -333,4 +333,74 @@ solved 4
 edited 's/snd_dtq, 33/snd_dtq, 34/; s/rcv_dtq, 37/rcv_dtq, 38/; s/^( *)bnez    \$a1, send/        bnez    $v0, again\n        nop\n&/'
 edited 's/^( *)addiu   \$v0, \$0, snd_dtq/again:  addiu   $v0, $0, snd_dtq/; s/^( *)beqz    \$v1, end/        bnez    $v0, consumer\n        nop\n&/'
 looked "calls that are asked for again" 4 0 <<< "lab 4: nothing is missing"
+
+# The table of COURSE.md, "What to write instead": each right column is assembled, and does what the left one says.
+# instead LEFT: the lines of the right column of the row that begins so.
+instead() {
+    awk -v left="| \`$1\`" 'index($0, left) == 1 { sub(/ \|$/, ""); sub(/.* \| /, ""); print }' docs/COURSE.md |
+        sed 's/<br>/\n/g' | tr -d '\140'
+}
+
+# written SHOWN T0 T1 T2 LEFT: what is written of SHOWN, a register or a word, or where LEFT is a branch of whether it is
+# taken, by a program that has these values in $t0 to $t2, and then the right column.
+written() {
+    {
+        printf 'main: '
+        for it in "0 $2" "1 $3" "2 $4"; do printf ' addiu $t%s, $0, %s\n' ${it% *} "${it#* }"; done
+        instead "$5"
+        case $1 in
+            taken) printf ' b show\n addu $a0, $0, $0\nthere: addiu $a0, $0, 1\n' ;;
+            name) printf ' lui $a0, %%hi(name)\n b show\n lw $a0, %%lo(name)($a0)\n' ;;
+            *) printf ' addu $a0, $0, %s\n' "$1" ;;
+        esac
+        printf 'show: jal put_number\n nop\n addiu $v0, $0, 41\n syscall\n'
+        sed -n '/^put_number/,/^text/p' examples/labs/from_mars.s | grep -v '^text'
+        printf ' .equ put_chr, 40\n .align 2\nname: .word 1234, 5678\n'
+    } > "$work/instead.s"
+    "$board" try "$work/instead.s" 2> "$work/err" | head -n 1
+}
+
+rows=0
+while read -r left; do
+    { echo "name: there: main:"; instead "$left"; echo " nop"; } > "$work/instead.s"
+    "$board" asm "$work/instead.s" "$work/instead.elf" 2> "$work/err"
+    verdict "instead of $left: it is assembled" "$(cat "$work/err")"
+    rows=$((rows + 1))
+done < <(sed -n '/^## What to write instead/,$p' docs/COURSE.md | sed -nE 's/^\| `([^`]*)`[^|]* \| `.*/\1/p')
+verdict "instead: the rows of the table" "$([ $rows -gt 20 ] || echo "there are $rows")"
+while IFS='|' read -r left shown values wanted; do
+    # shellcheck disable=SC2086
+    got=$(written "$shown" $values "$left")
+    verdict "instead of $left, with $values" "$([ "$got" = "$wanted" ] || echo "$shown is $got, not $wanted")"
+done << 'END'
+li $t0, 5|$t0|7 7 7|5
+li $t0, 0x12345678|$t0|7 7 7|305419896
+li $t0, 'A'|$t0|7 7 7|65
+lw $t0, name|$t0|7 7 7|1234
+lw $t0, name($t1)|$t0|7 4 7|5678
+sw $t0, name|name|77 7 7|77
+add $t0, $t0, 1|$t0|41 7 7|42
+sub $t0, $t0, 1|$t0|41 7 7|40
+mul $t0, $t1, 10|$t0|7 -21 7|-210
+div $t0, $t1, $t2|$t0|7 -23 5|-4
+rem $t0, $t1, $t2|$t0|7 -23 5|-3
+not $t0, $t1|$t0|7 5 7|-6
+neg $t0, $t1|$t0|7 5 7|-5
+seq $t0, $t1, $t2|$t0|7 5 5|1
+seq $t0, $t1, $t2|$t0|7 5 6|0
+beq $t0, 5, there|taken|5 7 7|1
+beq $t0, 5, there|taken|6 7 7|0
+blt $t0, $t1, there|taken|-1 1 7|1
+blt $t0, $t1, there|taken|3 3 7|0
+blt $t0, $t1, there|taken|1 -1 7|0
+bge $t0, $t1, there|taken|-1 1 7|0
+bge $t0, $t1, there|taken|3 3 7|1
+bge $t0, $t1, there|taken|1 -1 7|1
+bgt $t0, $t1, there|taken|-1 1 7|0
+bgt $t0, $t1, there|taken|3 3 7|0
+bgt $t0, $t1, there|taken|1 -1 7|1
+ble $t0, $t1, there|taken|-1 1 7|1
+ble $t0, $t1, there|taken|3 3 7|1
+ble $t0, $t1, there|taken|1 -1 7|0
+END
 summary
