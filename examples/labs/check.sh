@@ -125,6 +125,17 @@ ran() {
         "$work/trace" | sed -E 's/, task [0-9]+ dormant.*//')
 }
 
+# address_of LABEL: the address of a label in eight digits, if the word there was loaded or stored in the last run.
+address_of() {
+    limited 10 trace --word "$1" "${last[@]}" | sed -nE 's/.*\((8[0-9a-f]{7})\): .*/\1/p' | head -n 1 | grep .
+}
+
+# words_from ADDRESS COUNT: the addresses of so many words, as --word wants them.
+words_from() {
+    local it
+    for ((it = 0; it < $2; it++)); do printf '0x%08x,' $((16#$1 + 4 * it)); done | sed 's/,$//'
+}
+
 # hint: what `board trace --summary` says of the last run beside exceptions: who waits for whom, who spins, which calls
 # were refused; where there is nothing of that and the board is on, where its tasks are. Two lines, once a run.
 hint() {

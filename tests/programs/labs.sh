@@ -88,7 +88,7 @@ begun 3
 printf '3 %s\n' "lost 1" "found 2" "both 4" "all_schedules 8" > "$work/points"
 echo "2 both 100" >> "$work/points"
 examples/labs/3/check --seed 7 --points "$work/points" "$work/mine" > "$work/out" 2> "$work/err"
-verdict "points: a beginning" "$(grep -qx 'lab 3: 6 of 15 points' "$work/out" || tail -n 2 "$work/out")"
+verdict "points: a beginning" "$(grep -qx 'lab 3: 2 of 15 points' "$work/out" || tail -n 2 "$work/out")"
 rm "$work/mine/lab.s"
 examples/labs/3/check --points "$work/points" "$work/mine" > "$work/out" 2> "$work/err"
 verdict "points: no source" "$(grep -qx 'lab 3: 0 of 15 points' "$work/out" || tail -n 2 "$work/out")"
@@ -168,6 +168,10 @@ for show in 'sll $0, $0, 0' 'addiu $t9, $t9, 1' 'move $t0, $t0' 'lw $t9, -4($sp)
     looked "for show: $show" 1 1 <<< "3 $spare more+0x14 done+0x4 print+0x24; all but 2 can be filled"
 done
 solved 1
+edited '/ bnez /{N; s/^(.*)\n(.*)$/\2\n\1\n        nop/}; s/more/check_more/; s/done/check_done/; s/last/check_last/'
+looked "labels as the checker's own" 1 1 \
+    <<< "3 $spare check_more+0x14 check_done+0x4 print+0x24; all but 2 can be filled"
+solved 1
 edited 's/^sum:/add_up:/; s/jal( *)sum/jal\1add_up/'
 refused "another name" 1 "lab.s with another main behind it, which calls sum and print: board: the source: line "
 
@@ -237,6 +241,7 @@ looked "the beginning" 3 1 << 'END'
 there is no lost.journal, which board explore keeps by --out
 the repair should be by ll and sc, on both processors: on processor 1 no sc has stored
 the repair should be by ll and sc, on both processors: on processor 2 no sc has stored
+with 5 seats the seller on processor 1 should sell some: it tries twice, and of its stores 1 take one away
 a schedule of lab.s fails: fails after 64 events: the console isn't the wanted text
     event 0  processor 2 goes on at seller
     event 3  processor 2 stops before beq $t0, $zero, 0x8000001c at try+0x4; processor 1 goes on at seller
@@ -259,11 +264,11 @@ solved 3
 edited 's/^seller: .*/&\n        bnez    $a0, give\n        nop/; s/\$s1, \$0, 2 /$s1, $0, 4 /'
 edited '0,/^( *)addiu( *)\$a0, \$0, done/s//give:   addiu   $a0, $0, done/'
 looked "one seller does all" 3 1 << 'END'
-with 3 seats the seller on processor 1 should sell some: it tries twice, and has stored to them 3 times
-with 3 seats the seller on processor 2 should sell some: it tries twice, and has stored to them 0 times
+with 3 seats the seller on processor 1 should sell some: it tries twice, and of its stores 3 take one away
+with 3 seats the seller on processor 2 should sell some: it tries twice, and of its stores 0 take one away
 the repair should be by ll and sc, on both processors: on processor 2 no sc has stored
-with 5 seats the seller on processor 1 should sell some: it tries twice, and has stored to them 4 times
-with 5 seats the seller on processor 2 should sell some: it tries twice, and has stored to them 0 times
+with 5 seats the seller on processor 1 should sell some: it tries twice, and of its stores 4 take one away
+with 5 seats the seller on processor 2 should sell some: it tries twice, and of its stores 0 take one away
 END
 # A lock by ll and sc is right, too; and tell may wait in a loop. Such programs have many schedules.
 solved 3
@@ -322,6 +327,8 @@ solved 4
 edited 's/^consumer: (.*)/consumer: lui   $s0, %hi(items)\n        addiu   $s0, $s0, %lo(items)\ntake:   \1/; s/ b       consumer/ b       take/'
 edited 's/^( *)beqz    \$v1, end/        lw      $v1, 0($s0)\n        addiu   $s0, $s0, 4\n&/'
 looked "a consumer that loads the letters itself" 4 1 <<< "the consumer should load none of the items itself"
+edited 's/^items: .*/letters:\n&/; s/(hi|lo)\(items\)/\1(letters)/'
+looked "a consumer that loads the letters by another name" 4 1 <<< "the consumer should load none of the items itself"
 solved 4
 edited 's/^consumer: (.*)/consumer: lui   $s0, %hi(items)\n        addiu   $s0, $s0, %lo(items)\ntake:   lw      $v1, 0($s0)\n        addiu   $s0, $s0, 4\n        b       took\n        nop\n        \1/'
 edited 's/ b       consumer/ b       take/; s/^( *)beqz    \$v1, end/took:   beqz    $v1, end/'
