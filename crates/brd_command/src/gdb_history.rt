@@ -17,7 +17,7 @@ use brd_printer::{Manner, Options};
 use brd_progress::Progress;
 use brd_summary::{put_end, put_summary};
 use brd_trace::Tracer;
-use brd_verdicts::last_steps;
+use brd_verdicts::findings_of;
 use std::alloc::Global;
 
 /// How many lines of a trace are shown at most (own choice).
@@ -172,8 +172,8 @@ impl History {
         let mut out = Vec::new(alloc);
         put_end(&tracer, alloc, &mut out)?;
         let boot = self.boot.try_copy()?;
-        let steps = last_steps(boot.try_copy()?, traced.journal, traced.part.to);
-        put_summary(&tracer, alloc, traced.manner.names, &steps, &mut out)?;
+        let found = findings_of(alloc, boot.try_copy()?, traced.journal, traced.part.to)?;
+        put_summary(&tracer, alloc, traced.manner.names, &found, &mut out)?;
         traced.put_spins(boot, &tracer.playback, None, &mut out)?;
         Ok(out)
     }

@@ -48,7 +48,7 @@ use brd_report::write_whole;
 use brd_summary::{put_end, put_summary};
 use brd_timeline::{PictureFault, Timeline, json, svg};
 use brd_trace::Tracer;
-use brd_verdicts::last_steps;
+use brd_verdicts::findings_of;
 use std::alloc::Global;
 use std::io::{Read, Write};
 
@@ -341,9 +341,9 @@ impl<'a> Traced<'a> {
         let mut first = Vec::new(self.alloc);
         put_end(&tracer, self.alloc, &mut first)?;
         let start = boot.try_copy()?;
-        let steps = last_steps(start, self.journal, self.part.to);
+        let found = findings_of(self.alloc, start, self.journal, self.part.to)?;
         let mut rest = Vec::new(self.alloc);
-        put_summary(&tracer, self.alloc, self.manner.names, &steps, &mut rest)?;
+        put_summary(&tracer, self.alloc, self.manner.names, &found, &mut rest)?;
         self.put_spins(boot, &tracer.playback, None, &mut rest)?;
         match written(writer, &first) {
             Ok(()) => {}

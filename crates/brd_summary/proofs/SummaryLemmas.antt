@@ -18,7 +18,8 @@ use Rattle.brd_seen.specs.Seen.{view_of, IsSeen}
 use Rattle.brd_names.specs.Standings.{tasks_of}
 use Rattle.brd_trace.specs.Noted.{Knows}
 use Rattle.brd_trace.specs.Dated.{IsSince, IsDated}
-use Rattle.brd_summary.specs.Summary.{standing_lines, IsKnownProcessor, IsProcessor, IsTaskLine, IsTask, AreTexts}
+use Rattle.brd_summary.specs.Summary.{standing_lines, IsKnownProcessor, IsProcessor, IsTaskLine, IsTask}
+use Rattle.brd_summary.specs.Texts.{AreTexts}
 use Rattle.brd_verdicts.specs.Steps.{AreLastSteps}
 
 pub texts-snoc : {X : Type 0} (IsOf : X → List ℕ → Type 0) (xs : List X) (x : X) (t u : List ℕ) → AreTexts IsOf xs t →
@@ -171,3 +172,17 @@ module _ (names : Names) (boot : BoardState) (events : List Event) (n : ℕ) (no
   tasks-are text are =
       subst (λ (ids : List ℕ). AreTexts (IsTask names boot events n) ids text) noted.those
       (task-texts notes.tasks.items text are noted.tasks dated.since)
+
+pub texts-on : {X : Type 0} (IsOf : X → List ℕ → Type 0) (xs : List X) (i : ℕ) (a b c : List ℕ) (d : X) →
+    i < length xs → IsBehind (AreTexts IsOf (take i xs)) a b → IsBehind (IsOf (slice_index_or xs i d)) b c →
+    IsBehind (AreTexts IsOf (take (i + 1) xs)) a c
+texts-on IsOf xs i a b c d less are one =
+    let next : suc i ≡ i + 1 = omega arith in
+    let more : take (i + 1) xs ≡ take i xs ++ slice_index_or xs i d ∷ [] =
+    ap (λ (n : ℕ). take n xs) (sym next) ∙ take-suc xs i d less in
+    record {
+      text = are.text ++ one.text;
+      is_it = subst (λ ys. AreTexts IsOf ys (are.text ++ one.text)) (sym more)
+          (texts-snoc IsOf (take i xs) (slice_index_or xs i d) are.text one.text are.is_it one.is_it);
+      behind = one.behind ∙ ap (λ (t : List ℕ). t ++ one.text) are.behind ∙ append_assoc a are.text one.text;
+    }

@@ -1,5 +1,5 @@
 -- What a summary says of how a board stands after the events of a journal.
-use Rattle.std.specs.Prelude.{◌≡◌, ◌⊎◌, ℕ, List, [], ◌∷◌, ◌++◌, codes, slice_index_or, Option, None, Some}
+use Rattle.std.specs.Prelude.{◌≡◌, ◌⊎◌, ℕ, List, [], ◌++◌, codes, slice_index_or, take, Option, None, Some}
 use Rattle.std.specs.Option.{option_map}
 use Rattle.std.specs.List.{range_with_len}
 use Rattle.std.specs.Fmt.{decimal}
@@ -22,6 +22,9 @@ use Rattle.brd_names.specs.Standings.{tasks_of, standing_text}
 use Rattle.brd_trace.specs.Dated.{IsSince, IsOff, IsLastFault}
 use Rattle.brd_verdicts.specs.Deadlock.{IsDeadlocked}
 use Rattle.brd_verdicts.specs.Steps.{IsLastStep}
+use Rattle.brd_verdicts.specs.Accounts.{accounts_of_run}
+use Rattle.brd_summary.specs.Findings.{AreFindings}
+use Rattle.brd_summary.specs.Texts.{AreTexts}
 use Rattle.brd_names.specs.Waits.{state_text, wait_text}
 
 -- ---- the first line
@@ -127,12 +130,6 @@ pub record IsTask (names : Names) (boot : BoardState) (events : List Event) (n i
 
 -- ---- all of it
 
--- a text is such texts of each of these, one after the other
-abbrev pub AreTexts : {X : Type 0} → (X → List ℕ → Type 0) → List X → List ℕ → Type 0
-AreTexts IsOf [] text = text ≡ []
-AreTexts IsOf (x ∷ xs) text =
-    (first : List ℕ) × (rest : List ℕ) × IsOf x first × AreTexts IsOf xs rest × (text ≡ first ++ rest)
-
 -- a line where a board is deadlocked, and none where it isn't
 abbrev pub IsDeadlock : BoardState → List ℕ → Type 0
 IsDeadlock board text =
@@ -140,14 +137,17 @@ IsDeadlock board text =
     × (text ≡ codes "deadlock: no task is ready, and no tick and no pending interrupt releases one that waits\n"))
     ⊎ ((IsDeadlocked board → ⊥) × (text ≡ []))
 
--- the processors, then the tasks, by rising number, whether the board is deadlocked; and more
+-- The processors, then the tasks, by rising number, whether the board is deadlocked, which tasks wait for each other,
+-- which calls were refused, and which raises had no effect.
 pub record IsSummary (names : Names) (boot : BoardState) (events : List Event) (n : ℕ) (text : List ℕ)
     : Type 0 where
   pub processors : List ℕ
   pub tasks : List ℕ
   pub deadlock : List ℕ
-  pub rest : List ℕ
+  pub findings : List ℕ
   pub are_processors : AreTexts (IsProcessor names boot events n) (range_with_len 1 8) processors
   pub are_tasks : AreTexts (IsTask names boot events n) (tasks_of (board_at boot events n)) tasks
   pub is_deadlock : IsDeadlock (board_at boot events n) deadlock
-  pub is : text ≡ processors ++ tasks ++ deadlock ++ rest
+  pub are_findings :
+      AreFindings names (accounts_of_run boot (take n events)) (board_at boot events n) findings
+  pub is : text ≡ processors ++ tasks ++ deadlock ++ findings

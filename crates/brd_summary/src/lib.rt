@@ -2,6 +2,7 @@
 //! deadlocked, which tasks wait for each other, which calls were refused, and which raises had no effect.
 #![tactic(auto)]
 
+mod findings;
 mod summary;
 
 pub use summary::{put_end, put_summary};

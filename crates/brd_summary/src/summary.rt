@@ -1,6 +1,7 @@
 //! What stands at the end.
 
-ghost use Rattle.std.specs.Prelude.{◌≡◌, ◌++◌, ◌<◌, List as ListOf, IfOk, None, OnOk, Some, codes, slice_index_or};
+ghost use Rattle.std.specs.Prelude.{◌≡◌, ◌++◌, ◌<◌, List as ListOf, IfOk, None, OnOk, Some, codes};
+ghost use Rattle.std.specs.Prelude.{slice_index_or, take};
 ghost use Rattle.std.specs.List.{range_with_len};
 ghost use Rattle.brd_board.specs.declared.event.Event.{Event as EventOf};
 ghost use Rattle.brd_board.specs.Board.{BoardState as BoardOf};
@@ -9,7 +10,9 @@ ghost use Rattle.brd_listing.specs.Listing.{IsBehind};
 ghost use Rattle.brd_timeline.specs.Ends.{EndsWith};
 ghost use Rattle.brd_trace.specs.Dated.{IsDated};
 ghost use Rattle.brd_trace.specs.Recorded.{IsNoted};
+ghost use Rattle.brd_verdicts.specs.Accounts.{accounts_of_run};
 ghost use Rattle.brd_verdicts.specs.Steps.{AreLastSteps};
+ghost use Rattle.brd_summary.specs.Texts.{AreTexts};
 ghost use Rattle.brd_summary.specs.Summary.{
   end_text,
   off_text,
@@ -21,7 +24,6 @@ ghost use Rattle.brd_summary.specs.Summary.{
   since_text,
   step_text,
   task_text,
-  AreTexts,
   IsDeadlock,
   IsEnd,
   IsKnownProcessor,
@@ -30,37 +32,38 @@ ghost use Rattle.brd_summary.specs.Summary.{
   IsWait,
 };
 
+use crate::findings::put_findings;
 use brd_base::NoMemory;
 use brd_board::{Standing, TaskState};
 use brd_names::{Names, put, put_named, put_number, put_standing, put_wait, put_who, state_name};
 use brd_seen::TaskSeen;
 use brd_trace::{LastFault, Tracer};
-use brd_verdicts::is_deadlocked;
+use brd_verdicts::{Findings, is_deadlocked};
 use std::alloc::Global;
 
-/// Puts at the end what stands after the events that were played: what each processor does, its last step, as it is
-/// given by the processor's number, and its last exception, what each task is, whether the board is deadlocked, which
-/// tasks wait for each other, which calls were refused, and which raises had no effect. `put_end` says what comes
-/// before it.
+/// Puts at the end what stands after the events that were played: what each processor does, its last step and its last
+/// exception, what each task is, whether the board is deadlocked, which tasks wait for each other, which calls were
+/// refused, and which raises had no effect. It is given what was found of this run. `put_end` says what comes before
+/// it.
 pub fn put_summary(
     tracer: &Tracer,
     alloc: Global,
     names: Names,
-    steps: &[Option<u64>; 9],
+    found: &Findings,
     out: &mut Vec<u8>,
 ) -> Result<(), NoMemory>
     ensures { (boot : BoardOf) (events : ListOf EventOf) → IsPlayed boot events tracer.now.playback
         → IsNoted boot events tracer.now.playback.at tracer.now.notes
         → IsDated boot events tracer.now.playback.at tracer.now.notes
-        → AreLastSteps boot events tracer.now.playback.at steps.now
+        → AreLastSteps boot events tracer.now.playback.at found.now.steps
+        → found.now.accounts ≡ accounts_of_run boot (take tracer.now.playback.at events)
         → IfOk result (λ _. IsBehind
         (IsSummary names.entry boot events tracer.now.playback.at) out.old.items out.new.items) }
 {
-    put_processors(tracer, alloc, names, steps, out)?;
+    put_processors(tracer, alloc, names, &found.steps, out)?;
     put_tasks(tracer, alloc, names, out)?;
     put_deadlock(tracer, out)?;
-    let rest = rest_of(tracer, alloc, names)?;
-    out.extend_from_slice(rest.as_slice())?;
+    put_findings(alloc, names, &found.accounts, &tracer.playback.board, out)?;
     Ok(())
 }
 
@@ -76,33 +79,6 @@ fn put_deadlock(tracer: &Tracer, out: &mut Vec<u8>) -> Result<(), NoMemory>
         out,
         "deadlock: no task is ready, and no tick and no pending interrupt releases one that waits\n",
     )
-}
-
-/// Which tasks wait for each other, how many calls were refused, and how many raises had no effect.
-fn rest_of(tracer: &Tracer, alloc: Global, names: Names) -> Result<Vec<u8>, NoMemory> {
-    let mut out = Vec::new(alloc);
-    if tracer.notes.off.is_none() {
-        let tasks = tracer.notes.tasks.as_slice();
-        tracer.notes.units.put_circle(alloc, &mut out, tasks)?;
-    }
-    put_counts(tracer, alloc, names, &mut out)?;
-    Ok(out)
-}
-
-/// Puts at the end how many calls were refused, and how many raises had no effect.
-fn put_counts(
-    tracer: &Tracer,
-    alloc: Global,
-    names: Names,
-    out: &mut Vec<u8>,
-) -> Result<(), NoMemory> {
-    for refusals in tracer.notes.refusals.as_slice() {
-        refusals.put(alloc, names, out)?;
-    }
-    for lost in tracer.notes.losses.as_slice() {
-        lost.put(alloc, out)?;
-    }
-    Ok(())
 }
 
 /// Puts a line at the end: how many events there were, the tick, and where the board went off.

@@ -30,7 +30,7 @@ use brd_board::{Board, Report, Standing, TaskId};
 use brd_happening::{CallMade, Happening, Release, What};
 use brd_names::{Names, Quiet, Standings, Stretch, put};
 use brd_printer::Raised;
-use brd_recording::{LostRaises, Recording, Refusals, Units, note_loss};
+use brd_recording::Recording;
 use brd_seen::{Cause, EXT_TSK, SaidCall, TER_TSK, TaskSeen, follow_tasks, task_seen, tasks_seen};
 use std::alloc::Global;
 
@@ -162,9 +162,6 @@ pub struct Notes {
     pub off: Option<u64>,
     /// By the processor's number.
     pub faults: Vec<Option<LastFault>>,
-    pub refusals: Vec<Refusals>,
-    pub losses: Vec<LostRaises>,
-    pub units: Units,
     /// The processor that handles each line; 0 where none does.
     pub handlers: [u8; 32],
     pub recording: Option<Recording>,
@@ -182,9 +179,6 @@ impl Notes {
             standings: Standings::of(board),
             off: off_by(board.is_off(), 0),
             faults: no_faults(alloc)?,
-            refusals: Vec::new(alloc),
-            losses: Vec::new(alloc),
-            units: Units::new(alloc),
             handlers,
             recording: None,
         })
@@ -270,28 +264,14 @@ impl Notes {
         Ok(())
     }
 
-    /// Counts events that did nothing, if they are raises; a tick is recorded.
+    /// Records events that released nobody, if they are ticks.
     pub(crate) fn note_quiet(&mut self, it: Stretch) -> Result<(), NoMemory>
         ensures { KeepsKnown self.old self.new }
     {
-        let (line, pending) = match it.quiet {
-            Quiet::Again(line) => (line, true),
-            Quiet::NoLine(line) => (line, false),
-            Quiet::Tick => return self.record_tick(it.position, it.tick),
-            _ => return Ok(()),
-        };
-        if it.count == 0 {
-            return Ok(());
+        match it.quiet {
+            Quiet::Tick => self.record_tick(it.position, it.tick),
+            _ => Ok(()),
         }
-        note_loss(
-            &mut self.losses,
-            LostRaises {
-                line,
-                pending,
-                count: it.count,
-                position: it.position,
-            },
-        )
     }
 
     /// Puts at the end what the event changed of tasks and processors.
@@ -320,8 +300,8 @@ impl Notes {
             };
             let release = it.release_of(old.id);
             old.put_change(it.alloc, what, now, cause, release)?;
-            if let Some(release) = release {
-                self.note_release(it, i, old.place, &release, cause.ticks)?;
+            if release.is_some() && cause.ticks {
+                self.mark_release(it.alloc, i, it.position)?;
             }
         }
         Ok(())

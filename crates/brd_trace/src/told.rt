@@ -4,11 +4,8 @@ ghost use Rattle.brd_trace.specs.Noted.{KeepsKnown};
 
 use crate::notes::{Notes, Scene};
 use brd_base::NoMemory;
-use brd_board::TaskId;
-use brd_happening::{Answer, CallMade, Release, What};
-use brd_kernel::Call;
+use brd_happening::{Answer, CallMade, What};
 use brd_names::{put, put_named};
-use brd_recording::{Refusals, Unit, note_refusal};
 use brd_seen::{Answered, RET_INT, SaidCall};
 use brd_timeline::MarkKind;
 use std::alloc::Global;
@@ -52,93 +49,7 @@ impl Notes {
     {
         let call = SaidCall { asked: made.asked };
         let what = call_text(it.alloc, call, made.answer)?;
-        self.note_answer(it, call, made.answer)?;
         self.with_mark(it, MarkKind::Call, what)
-    }
-
-    /// Notes a call that was answered in its own event.
-    fn note_answer(&mut self, it: Scene, call: SaidCall, answer: Answer) -> Result<(), NoMemory>
-        ensures { KeepsKnown self.old self.new }
-    {
-        match answer {
-            Answer::Given { code, second } => {
-                let answered = Answered { call, code, second };
-                self.note(it.position, it.task(), answered, it.told.place.unwrap_or(0))
-            }
-            Answer::Never | Answer::Waits { .. } | Answer::Again => Ok(()),
-        }
-    }
-
-    /// Notes a call of a task, or of a handler, with its answer: those with an error are counted, and so are the units
-    /// of semaphores that tasks have.
-    fn note(
-        &mut self,
-        position: u64,
-        task: Option<TaskId>,
-        answered: Answered,
-        place: u32,
-    ) -> Result<(), NoMemory>
-        ensures { KeepsKnown self.old self.new }
-    {
-        if !answered.is_error() {
-            return self.note_units(position, task, answered);
-        }
-        note_refusal(
-            &mut self.refusals,
-            Refusals {
-                call: answered.call,
-                code: answered.code,
-                count: 1,
-                position,
-                place,
-            },
-        )
-    }
-
-    /// Notes that a task was released, by its place in the list of tasks, and where it waited.
-    pub(crate) fn note_release(
-        &mut self,
-        it: Scene,
-        task: usize,
-        place: u32,
-        release: &Release,
-        ticks: bool,
-    ) -> Result<(), NoMemory>
-        ensures { KeepsKnown self.old self.new }
-    {
-        self.note(
-            it.position,
-            Some(release.task),
-            Answered::of(release),
-            place,
-        )?;
-        if !ticks {
-            return Ok(());
-        }
-        self.mark_release(it.alloc, task, it.position)
-    }
-
-    /// Notes who has units of semaphores after a call that was no error.
-    fn note_units(
-        &mut self,
-        position: u64,
-        task: Option<TaskId>,
-        answered: Answered,
-    ) -> Result<(), NoMemory>
-        ensures { KeepsKnown self.old self.new }
-    {
-        if answered.code != 0 {
-            return Ok(());
-        }
-        match (answered.call.call(), task) {
-            (Some(Call::SigSem(semaphore)), _) => self.units.give(semaphore, task),
-            (Some(Call::TwaiSem(semaphore, _)), Some(task)) => self.units.take(Unit {
-                semaphore,
-                task,
-                position,
-            }),
-            _ => Ok(()),
-        }
     }
 
     /// An exception: its cause, and what it ended.

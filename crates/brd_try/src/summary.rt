@@ -11,7 +11,7 @@ use brd_printer::{Manner, Options};
 use brd_spins::{put_spins, spins};
 use brd_text::hex_digits;
 use brd_trace::Tracer;
-use brd_verdicts::last_steps;
+use brd_verdicts::findings_of;
 use std::alloc::Global;
 
 /// What stands at the end of a journal, as a summary of its trace tells it, and which tasks have run off the end of
@@ -59,8 +59,8 @@ fn put_summary(
         let mut lines = Vec::new(alloc);
         tracer.advance_far(alloc, manner, journal, len, &mut lines)?;
     }
-    let steps = last_steps(first.try_copy()?, journal, len);
-    brd_summary::put_summary(&tracer, alloc, manner.names, &steps, out)?;
+    let found = findings_of(alloc, first.try_copy()?, journal, len)?;
+    brd_summary::put_summary(&tracer, alloc, manner.names, &found, out)?;
     let spinning = spins(alloc, first, journal, &tracer.playback)?;
     put_spins(
         alloc,

@@ -1,2 +1,5 @@
-mod DeadlockLemmas
-mod StepsLemmas
+pub mod AccountsLemmas
+pub mod ChangedLemmas
+pub mod CircleLemmas
+pub mod DeadlockLemmas
+pub mod StepsLemmas

@@ -1,2 +1,10 @@
+pub mod Accounts
+pub mod Again
+pub mod Answers
+pub mod Changed
+pub mod Circle
 pub mod Deadlock
+pub mod Losses
+pub mod Refusals
 pub mod Steps
+pub mod Units

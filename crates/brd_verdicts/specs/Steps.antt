@@ -1,16 +1,16 @@
 -- The last step of each processor that did something.
-use Rattle.std.specs.Prelude.{◌≡◌, ◌<◌, ◌≤◌, ℕ, suc, false, List, length, slice_get, slice_index_or, slice_set, Option}
-use Rattle.std.specs.Prelude.{None, Some}
+use Rattle.std.specs.Prelude.{◌≡◌, ◌<◌, ◌≤◌, ℕ, suc, false, List, length, slice_get, slice_index_or, slice_set, take}
+use Rattle.std.specs.Prelude.{Option, None, Some}
 use Rattle.brd_board.specs.declared.event.Event.{Event}
 use Rattle.brd_board.specs.declared.event.Event.TheVariants.{Step, Tick, Raise}
 use Rattle.brd_board.specs.Board.{BoardState, happens}
 use Rattle.brd_journal.specs.Playing.{board_at, IsPlayed}
 use Rattle.brd_journal.specs.Still.{did_nothing}
 use Rattle.brd_verdicts.specs.declared.steps.Following.{Following}
+use Rattle.brd_verdicts.specs.Accounts.{accounts_of_run}
 
 -- The event of a position is a step of a processor that does something. (One of a processor that isn't there, has
--- nobody
--- to execute or is stopped does nothing, nor one of a board that is off.)
+-- nobody to execute or is stopped does nothing, nor one of a board that is off.)
 pub record StepsAt (boot : BoardState) (events : List Event) (cpu position : ℕ) : Type 0 where
   pub step : slice_get events position ≡ Some (Step cpu)
   pub does : did_nothing (happens (board_at boot events position) (Step cpu)).report ≡ false
@@ -36,8 +36,9 @@ kept (Step cpu) position steps = slice_set steps cpu (Some position)
 kept Tick position steps = steps
 kept (Raise line) position steps = steps
 
--- a board has played the first events of a list, and the last steps up to there are known
+-- a board has played the first events of a list, and what is found up to there is known
 pub record AreFollowed (boot : BoardState) (events : List Event) (following : Following) : Type 0 where
   pub played : IsPlayed boot events following.playback
   pub nine : length following.steps ≡ 9
   pub steps : AreLastSteps boot events following.playback.at following.steps
+  pub accounts : following.accounts ≡ accounts_of_run boot (take following.playback.at events)

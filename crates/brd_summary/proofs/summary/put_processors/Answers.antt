@@ -2,7 +2,8 @@ use Rattle.std.proofs.Common.{◌≡◌, ◌-◌, ℕ, [], arith, refl, sym, sub
 use Rattle.std.proofs.lemmas.List.{append-nil}
 use Rattle.std.specs.List.{range_with_len}
 use Rattle.brd_listing.specs.Listing.{IsBehind}
-use Rattle.brd_summary.specs.Summary.{AreTexts, IsKnownProcessor}
+use Rattle.brd_summary.specs.Summary.{IsKnownProcessor}
+use Rattle.brd_summary.specs.Texts.{AreTexts}
 use Rattle.brd_summary.proofs.SummaryLemmas.{numbers-on}
 use Rattle.brd_summary.proofs.summary.put_processors.Goals as goal
 

@@ -1,8 +1,9 @@
-use Rattle.std.proofs.Common.{◌≡◌, ℕ, List, ◌++◌, sym, ap, ◌∙◌, subst}
+use Rattle.std.proofs.Common.{◌≡◌, ℕ, List, ◌++◌, sym, ap, ◌∙◌, subst, take}
 use Rattle.std.specs.Prelude.{None}
 use Rattle.brd_summary.specs.Summary.{IsEnd, IsSummary}
 use Rattle.brd_board.specs.Board.{BoardState}
 use Rattle.brd_journal.specs.Playing.{IsPlayed}
+use Rattle.brd_verdicts.specs.Accounts.{accounts_of_run}
 use Rattle.brd_verdicts.specs.Steps.{AreLastSteps}
 use Rattle.brd_command.specs.TraceCommand.{TellsSpins}
 use Rattle.brd_command.proofs.TraceLemmas.{summary-last}
@@ -27,10 +28,14 @@ returns g c =
     let follows = c.in_ok-play.ensures.follows boot c.requires.follows in
     let end = c.in_ok-put_end.ensures.end boot events follows.played follows.dated in
     let same : c.in_ok-start.start ≡ boot = c.in_ok-start.ensures ∙ c.in_ok-boot.ensures in
-    let stepped : AreLastSteps boot events c.play.new.tracer.playback.at c.last_steps-steps.result =
-    subst (λ (n : ℕ). AreLastSteps boot events n c.last_steps-steps.result) (sym at)
-    (subst (λ (b : BoardState). AreLastSteps b events to c.last_steps-steps.result) same c.last_steps-steps.ensures) in
-    let more = c.in_ok-put_summary.ensures boot events follows.played follows.noted follows.dated stepped in
+    let found = c.in_ok-found.found in
+    let stepped : AreLastSteps boot events c.play.new.tracer.playback.at found.steps =
+    subst (λ (n : ℕ). AreLastSteps boot events n found.steps) (sym at)
+    (subst (λ (b : BoardState). AreLastSteps b events to found.steps) same c.in_ok-found.ensures.steps) in
+    let counted : found.accounts ≡ accounts_of_run boot (take c.play.new.tracer.playback.at events) =
+    c.in_ok-found.ensures.accounts ∙ ap (λ (b : BoardState). accounts_of_run b (take to events)) same
+    ∙ ap (λ (n : ℕ). accounts_of_run boot (take n events)) (sym at) in
+    let more = c.in_ok-put_summary.ensures boot events follows.played follows.noted follows.dated stepped counted in
     let last = c.in_ok-put_spins.ensures in
     let first = end.behind ∙ ap (λ (them : List ℕ). them ++ end.text) c.new-first.ensures.items in
     let rest = more.behind ∙ ap (λ (them : List ℕ). them ++ more.text) c.new-rest.ensures.items in

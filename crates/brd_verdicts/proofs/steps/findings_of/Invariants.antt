@@ -1,7 +1,7 @@
--- The last steps up to here are known.
+-- What is found up to here is known.
 use Rattle.std.proofs.Common.{◌≤◌, ◌-◌}
 use Rattle.brd_verdicts.specs.Steps.{AreFollowed}
-use Rattle.brd_verdicts.proofs.steps.last_steps.Given as goal
+use Rattle.brd_verdicts.proofs.steps.findings_of.Given as goal
 
 abbrev pub invariant-loop-following : goal.invariant-loop-following
 invariant-loop-following l = record {

@@ -1,0 +1,172 @@
+//! Raises of interrupt lines that had no effect, counted by line.
+
+ghost use Rattle.std.specs.Prelude.{◌≡◌, ◌==◌, [], slice_index_or, slice_set, OnOk};
+ghost use Rattle.std.specs.List.{position};
+ghost use Rattle.brd_verdicts.specs.Losses.{lost_if, lost_in, lost_with, more_lost};
+ghost use Rattle.brd_verdicts.specs.Changed.{changed_at};
+ghost use Rattle.brd_verdicts.specs.Again.{lost_again};
+
+use brd_base::NoMemory;
+use brd_happening::{What, Why};
+use std::alloc::Global;
+use std::marker::Model;
+
+/// Raises of a line that had no effect.
+#[derive(Clone, Copy)]
+pub struct LostRaises {
+    /// The line.
+    pub line: u8,
+    /// Whether it was pending; else nobody handles it.
+    pub pending: bool,
+    /// The position of the first one.
+    pub position: u64,
+    /// How many there were.
+    pub count: u64,
+}
+
+/// Raises that had no effect, each line once. Contracts see them as their list.
+#[derive(Drop)]
+pub struct Losses {
+    lines: Vec<LostRaises>,
+}
+
+impl Model for Losses {
+    ghost use Rattle.std.specs.Prelude.{List as Items};
+    ghost use Rattle.brd_verdicts.specs.declared.losses.LostRaises.{LostRaises};
+
+    ghost Value = { Items LostRaises };
+
+    ghost view = { λ losses. losses.lines.items };
+}
+
+impl Losses {
+    /// None.
+    pub(crate) fn new(alloc: Global) -> Losses
+        ensures { result ≡ [] }
+    {
+        Losses {
+            lines: Vec::new(alloc),
+        }
+    }
+
+    /// The lines, in the order of their first such raises.
+    pub fn as_slice(&self) -> &[LostRaises]
+        ensures { result.now ≡ self.now }
+    {
+        self.lines.as_slice()
+    }
+
+    /// Counts raises, if there are some.
+    pub(crate) fn count(&mut self, new: Option<LostRaises>) -> Result<(), NoMemory>
+        ensures { OnOk result (self.new ≡ lost_if new self.old) }
+    {
+        match new {
+            Some(new) => self.count_some(new),
+            None => Ok(()),
+        }
+    }
+
+    /// Counts raises.
+    fn count_some(&mut self, new: LostRaises) -> Result<(), NoMemory>
+        ensures { OnOk result (self.new ≡ lost_with new self.old) }
+    {
+        let at = place_of(self.lines.as_slice(), new);
+        count_at(&mut self.lines, new, at)
+    }
+}
+
+/// Counts raises whose line is at a place.
+fn count_at(lines: &mut Vec<LostRaises>, new: LostRaises, at: Option<usize>) -> Result<(), NoMemory>
+    ensures { OnOk result (lines.new.items ≡ changed_at (more_lost new.count) new at lines.old.items) }
+{
+    match at {
+        None => {
+            lines.push(new)?;
+            Ok(())
+        }
+        Some(at) => {
+            let old = line_at(lines.as_slice(), at, new);
+            put_at(lines, at, more_lost(new.count, old));
+            Ok(())
+        }
+    }
+}
+
+/// What is at a place, or something else where there is nothing.
+fn line_at(lines: &[LostRaises], at: usize, or: LostRaises) -> LostRaises
+    ensures { result ≡ slice_index_or lines.now at or }
+{
+    lines.get(at).copied().unwrap_or(or)
+}
+
+/// Puts something at a place, where there is that.
+fn put_at(lines: &mut Vec<LostRaises>, at: usize, line: LostRaises)
+    ensures { lines.new.items ≡ slice_set lines.old.items at line }
+{
+    if at < lines.len() {
+        lines[at] = line;
+    }
+}
+
+/// The same line, with so many more.
+fn more_lost(count: u64, line: LostRaises) -> LostRaises
+    ensures { result ≡ more_lost count line }
+{
+    LostRaises {
+        count: line.count.saturating_add(count),
+        ..line
+    }
+}
+
+/// Where among these the same line is.
+fn place_of(lines: &[LostRaises], new: LostRaises) -> Option<usize>
+    ensures { result ≡ position (λ old. old.line == new.line) lines.now }
+{
+    lines.iter().position(|old| old.line == new.line)
+}
+
+/// The raise of an event of a position that had no effect.
+pub(crate) fn lost_in(position: u64, what: What) -> Option<LostRaises>
+    ensures { result ≡ lost_in position what }
+{
+    match what {
+        What::Lost(line) => Some(LostRaises {
+            line,
+            pending: true,
+            position,
+            count: 1,
+        }),
+        What::Nothing(Why::NoHandler(line)) => Some(LostRaises {
+            line,
+            pending: false,
+            position,
+            count: 1,
+        }),
+        _ => None,
+    }
+}
+
+/// The same raise so many times more, from a position on, after one in which this happened: none of these has an
+/// effect.
+pub(crate) fn lost_again(position: u64, count: u64, what: What) -> Option<LostRaises>
+    ensures { result ≡ lost_again position count what }
+{
+    if count == 0 {
+        return None;
+    }
+    match what {
+        What::Raised(line) | What::Lost(line) => Some(LostRaises {
+            line,
+            pending: true,
+            position,
+            count,
+        }),
+        What::Nothing(Why::NoHandler(line)) => Some(LostRaises {
+            line,
+            pending: false,
+            position,
+            count,
+        }),
+        _ => None,
+    }
+}
