@@ -14,7 +14,7 @@ returns c =
     let out = c.args.out.now.items in
     on_ok_weaker c.put_more_holders.result
     (λ is.
-      two-behind out c.put_holder.new.out.items c.put_more_holders.new.out.items (holder_text (codes ", which task") first)
-      (flat_map (holder_text (codes " and task")) more) c.in_ok-put_holder.ensures is
-      ∙ ap (λ (us : List Unit). out ++ holders_text us) (sym c.in-Some.ensures.cases.0))
+    two-behind out c.put_holder.new.out.items c.put_more_holders.new.out.items (holder_text (codes ", which task") first)
+    (flat_map (holder_text (codes " and task")) more) c.in_ok-put_holder.ensures is
+    ∙ ap (λ (us : List Unit). out ++ holders_text us) (sym c.in-Some.ensures.cases.0))
     c.put_more_holders.ensures

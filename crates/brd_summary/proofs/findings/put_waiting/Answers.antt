@@ -20,9 +20,9 @@ returns c =
     let held = filter (is_of wait) c.args.units.now in
     on_ok_weaker c.put_holders.result
     (λ is.
-      two-behind out two c.put_holders.new.out.items (task ++ semaphore) (holders_text held)
-      (two-behind out one two task semaphore
-        (c.in_ok-put_named.ensures ∙ ap (λ (n : ℕ). out ++ named_text (codes "task") n) c.from.ensures)
-        (c.in_ok-put_named-2.ensures ∙ ap (λ (n : ℕ). one ++ named_text (codes " waits for semaphore") n) c.from-2.ensures))
-      (is ∙ ap (λ (us : List Unit). two ++ holders_text us) (c.as_slice.ensures ∙ c.in_ok-held.ensures)))
+    two-behind out two c.put_holders.new.out.items (task ++ semaphore) (holders_text held)
+    (two-behind out one two task semaphore
+    (c.in_ok-put_named.ensures ∙ ap (λ (n : ℕ). out ++ named_text (codes "task") n) c.from.ensures)
+    (c.in_ok-put_named-2.ensures ∙ ap (λ (n : ℕ). one ++ named_text (codes " waits for semaphore") n) c.from-2.ensures))
+    (is ∙ ap (λ (us : List Unit). two ++ holders_text us) (c.as_slice.ensures ∙ c.in_ok-held.ensures)))
     c.put_holders.ensures

@@ -22,10 +22,10 @@ returns c =
     let t3 = t2 ++ flat_map (next_text units) more in
     on_ok_weaker c.put-2.result
     (λ is.
-      two-behind a e f t3 (codes "\n")
-      (two-behind a d e t2 (flat_map (next_text units) more)
-        (two-behind a b d t1 (wait_text units first) c.in_ok-put.ensures.is c.in_ok-put_waiting.ensures)
-        c.in_ok-put_more_waits.ensures)
-      is
-      ∙ ap (λ (ws : List Wait). a ++ circle_text units ws) (sym c.in-Some.ensures.cases.0))
+    two-behind a e f t3 (codes "\n")
+    (two-behind a d e t2 (flat_map (next_text units) more)
+    (two-behind a b d t1 (wait_text units first) c.in_ok-put.ensures.is c.in_ok-put_waiting.ensures)
+    c.in_ok-put_more_waits.ensures)
+    is
+    ∙ ap (λ (ws : List Wait). a ++ circle_text units ws) (sym c.in-Some.ensures.cases.0))
     c.put-2.ensures.is
