@@ -5,9 +5,9 @@ use Rattle.brd_mem.specs.declared.image.Symbol.{Symbol}
 use Rattle.brd_config.specs.declared.config.Config.{Config}
 use Rattle.brd_board.specs.declared.event.Event.{Event}
 use Rattle.brd_board.specs.Board.{BoardState}
-use Rattle.brd_depth.specs.declared.stack.Stack.{Stack}
-use Rattle.brd_depth.specs.declared.track.Track.{Track}
-use Rattle.brd_depth.specs.Depths.{AreFollowed, IsSoonest, some_overflow}
+use Rattle.brd_stacks.specs.declared.stack.Stack.{Stack}
+use Rattle.brd_stacks.specs.declared.track.Track.{Track}
+use Rattle.brd_stacks.specs.Depths.{AreFollowed, IsSoonest, some_overflow}
 use Rattle.brd_stacks.specs.Laid.{stacks_of}
 use Rattle.brd_stacks.specs.Points.{points_from}
 use Rattle.brd_stacks.specs.Text.{stacks_text}

@@ -2,8 +2,8 @@
 
 ghost use Rattle.std.specs.Prelude.{◌≡◌, ◌≤◌, ◌⊎◌, length, true, false, MatchResult, List as ListOf, OnOk};
 ghost use Rattle.brd_board.specs.Board.{BoardState as BoardOf};
-ghost use Rattle.brd_depth.specs.declared.stack.Stack.{Stack as StackOf};
-ghost use Rattle.brd_depth.specs.Depths.{some_overflow};
+ghost use Rattle.brd_stacks.specs.declared.stack.Stack.{Stack as StackOf};
+ghost use Rattle.brd_stacks.specs.Depths.{some_overflow};
 ghost use Rattle.brd_stacks.specs.Following.{IsFollowed};
 ghost use Rattle.brd_command.specs.StacksCommand.{WritesStacks};
 ghost use Rattle.brd_command.specs.TraceCommand.{IsOfWriting};

@@ -21,9 +21,9 @@ use Rattle.brd_happening.specs.declared.found.Found.{Found}
 use Rattle.brd_happening.specs.declared.happening.{What.What, Happening.Happening}
 use Rattle.brd_happening.specs.Before.{before_of}
 use Rattle.brd_happening.specs.Happening.{happening_from, no_such}
-use Rattle.brd_depth.specs.declared.point.Point.{Point}
-use Rattle.brd_depth.specs.declared.track.Track.{Track}
-use Rattle.brd_depth.specs.Depths.{Follows, OverflowOf, some_overflow}
+use Rattle.brd_stacks.specs.declared.stack.Point.{Point}
+use Rattle.brd_stacks.specs.declared.track.Track.{Track}
+use Rattle.brd_stacks.specs.Depths.{Follows, OverflowOf, some_overflow}
 use Rattle.brd_stacks.specs.Points.{point_by, point_at, point_if, point_of, points_in, points_from, strand_of}
 
 -- before anything has happened no store below a stack is told

@@ -6,7 +6,7 @@ use Rattle.std.proofs.lemmas.List.{drop_more}
 use Rattle.brd_mem.specs.declared.image.Symbol.{Symbol}
 use Rattle.brd_config.specs.declared.objects.TaskConfig.{TaskConfig}
 use Rattle.brd_config.specs.declared.objects.HandlerConfig.{HandlerConfig}
-use Rattle.brd_depth.specs.declared.stack.Stack.{Stack}
+use Rattle.brd_stacks.specs.declared.stack.Stack.{Stack}
 use Rattle.brd_stacks.specs.Laid.{free_by, handler_stack, handler_stacks, place_of, task_stack, task_stacks}
 
 cons-append : {A : Type 0} (o : Option A) (more : List A) → cons_option o more ≡ cons_option o [] ++ more

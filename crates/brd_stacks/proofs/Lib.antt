@@ -1,2 +1,3 @@
-mod LaidLemmas
-mod FollowingLemmas
+pub mod FollowingLemmas
+pub mod LaidLemmas
+pub mod TrackLemmas

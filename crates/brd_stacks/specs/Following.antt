@@ -4,8 +4,8 @@ use Rattle.std.specs.Prelude.{List, take}
 use Rattle.brd_board.specs.declared.event.Event.{Event}
 use Rattle.brd_board.specs.Board.{BoardState}
 use Rattle.brd_journal.specs.Playing.{IsPlayed}
-use Rattle.brd_depth.specs.declared.stack.Stack.{Stack}
-use Rattle.brd_depth.specs.Depths.{AreFollowed, IsSoonest}
+use Rattle.brd_stacks.specs.declared.stack.Stack.{Stack}
+use Rattle.brd_stacks.specs.Depths.{AreFollowed, IsSoonest}
 use Rattle.brd_stacks.specs.declared.following.Following.{Following}
 use Rattle.brd_stacks.specs.Points.{points_from}
 

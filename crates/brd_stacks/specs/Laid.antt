@@ -11,7 +11,7 @@ use Rattle.brd_config.specs.declared.objects.HandlerConfig.{HandlerConfig}
 use Rattle.brd_board.specs.declared.boot.BootFault.{BootFault}
 use Rattle.brd_board.specs.declared.setup.Region.{Region}
 use Rattle.brd_board.specs.Setup.{region_of}
-use Rattle.brd_depth.specs.declared.stack.Stack.{Stack}
+use Rattle.brd_stacks.specs.declared.stack.Stack.{Stack}
 use Rattle.brd_stacks.specs.declared.laid.Laid.{Laid}
 
 abbrev pub found : {A : Type 0} → Result A BootFault → Option A

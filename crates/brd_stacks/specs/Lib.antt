@@ -1,4 +1,7 @@
+pub mod Depths
+pub mod Following
 pub mod Laid
 pub mod Points
-pub mod Following
+pub mod Strands
 pub mod Text
+pub mod Tracks

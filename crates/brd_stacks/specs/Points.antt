@@ -16,7 +16,7 @@ use Rattle.brd_happening.specs.declared.happening.What.TheVariants as what
 use Rattle.brd_happening.specs.Before.{before_of}
 use Rattle.brd_happening.specs.Happening.{happening_from}
 use Rattle.brd_happening.specs.Instruction.{has_stored}
-use Rattle.brd_depth.specs.declared.point.{Point.Point, Store.Store}
+use Rattle.brd_stacks.specs.declared.stack.{Point.Point, Store.Store}
 
 -- a task's strand is its ID, a handler's 256 and its line
 abbrev pub strand_of : Standing → Option ℕ

@@ -7,10 +7,10 @@ use Rattle.brd_mem.specs.declared.image.Symbol.{Symbol}
 use Rattle.brd_text.specs.Hex.{hex_of}
 use Rattle.brd_listing.specs.Places as places
 use Rattle.brd_listing.specs.Places.{nearest_of}
-use Rattle.brd_depth.specs.declared.point.{Point.Point, Store.Store}
-use Rattle.brd_depth.specs.declared.stack.Stack.{Stack}
-use Rattle.brd_depth.specs.declared.track.Track.{Track}
-use Rattle.brd_depth.specs.Depths.{some_overflow}
+use Rattle.brd_stacks.specs.declared.stack.{Point.Point, Store.Store}
+use Rattle.brd_stacks.specs.declared.stack.Stack.{Stack}
+use Rattle.brd_stacks.specs.declared.track.Track.{Track}
+use Rattle.brd_stacks.specs.Depths.{some_overflow}
 
 abbrev pub named_text : List ℕ → ℕ → List ℕ
 named_text name n = name ++ codes " " ++ decimal n

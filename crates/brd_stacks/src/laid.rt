@@ -16,9 +16,9 @@ ghost use Rattle.brd_stacks.specs.Laid.{
   task_stacks,
 };
 
+use crate::stack::Stack;
 use brd_base::{BASE, List, NoMemory};
 use brd_config::{Config, HandlerConfig, Operand, Stack as Place, TaskConfig};
-use brd_depth::Stack;
 use brd_mem::{Symbol, symbol_value};
 use std::alloc::Global;
 

@@ -13,8 +13,8 @@ ghost use Rattle.brd_stacks.specs.Points.{
   strand_of,
 };
 
+use crate::stack::{Point, Store};
 use brd_board::Standing;
-use brd_depth::{Point, Store};
 use brd_happening::{Access, Before, Found, Happening, Instruction, What, Written};
 use brd_isa::{Insn, Register, shape_of};
 

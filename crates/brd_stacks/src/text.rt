@@ -19,8 +19,9 @@ ghost use Rattle.brd_stacks.specs.Text.{
   used_by,
 };
 
+use crate::stack::{Point, Stack};
+use crate::track::{Track, has_overflow};
 use brd_base::NoMemory;
-use brd_depth::{Point, Stack, Track, has_overflow};
 use brd_listing::{nearest, write_place};
 use brd_mem::Symbol;
 use brd_text::{put, put_word};

@@ -2,8 +2,8 @@
 use Rattle.std.proofs.Common.{◌≡◌, ◌≤◌, ◌-◌, List}
 use Rattle.std.specs.Prelude.{false}
 use Rattle.brd_board.specs.Board.{BoardState}
-use Rattle.brd_depth.specs.declared.stack.Stack.{Stack}
-use Rattle.brd_depth.specs.Depths.{some_overflow}
+use Rattle.brd_stacks.specs.declared.stack.Stack.{Stack}
+use Rattle.brd_stacks.specs.Depths.{some_overflow}
 use Rattle.brd_stacks.specs.Following.{IsFollowed}
 use Rattle.brd_command.proofs.stacks_command.play.Given as goal
 

@@ -1,10 +1,10 @@
 use Rattle.std.proofs.Common.{◌≡◌, List, ℕ, ◌++◌, take, ap, ◌∙◌, subst}
 use Rattle.std.specs.Io.KnownBytes.{Appends}
 use Rattle.brd_mem.specs.declared.image.Symbol.{Symbol}
-use Rattle.brd_depth.specs.declared.point.Point.{Point}
-use Rattle.brd_depth.specs.declared.stack.Stack.{Stack}
-use Rattle.brd_depth.specs.declared.track.Track.{Track}
-use Rattle.brd_depth.specs.Depths.{AreFollowed, IsSoonest}
+use Rattle.brd_stacks.specs.declared.stack.Point.{Point}
+use Rattle.brd_stacks.specs.declared.stack.Stack.{Stack}
+use Rattle.brd_stacks.specs.declared.track.Track.{Track}
+use Rattle.brd_stacks.specs.Depths.{AreFollowed, IsSoonest}
 use Rattle.brd_stacks.specs.Laid.{stacks_of}
 use Rattle.brd_stacks.specs.Points.{points_from}
 use Rattle.brd_stacks.specs.Text.{stacks_text}

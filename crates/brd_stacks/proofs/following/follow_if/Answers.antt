@@ -2,8 +2,8 @@ use Rattle.std.proofs.Common.{◌++◌, [], sym, subst}
 use Rattle.std.specs.Prelude.{Option}
 use Rattle.std.specs.List.{cons_option}
 use Rattle.std.proofs.lemmas.List.{append-nil}
-use Rattle.brd_depth.specs.declared.point.Point.{Point}
-use Rattle.brd_depth.specs.Depths.{AreFollowed, IsSoonest}
+use Rattle.brd_stacks.specs.declared.stack.Point.{Point}
+use Rattle.brd_stacks.specs.Depths.{AreFollowed, IsSoonest}
 use Rattle.brd_stacks.proofs.following.follow_if.Goals as goal
 
 pub returns-in-Some-clause-followed : goal.returns-in-Some-clause-followed

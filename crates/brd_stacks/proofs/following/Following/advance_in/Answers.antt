@@ -3,8 +3,8 @@ use Rattle.std.specs.List.{cons_option}
 use Rattle.brd_board.specs.Board.{happens}
 use Rattle.brd_journal.specs.Still.{does_no_more}
 use Rattle.brd_journal.proofs.PlayingLemmas.{first-board}
-use Rattle.brd_depth.specs.declared.point.Point.{Point}
-use Rattle.brd_depth.specs.Depths.{AreFollowed, IsSoonest}
+use Rattle.brd_stacks.specs.declared.stack.Point.{Point}
+use Rattle.brd_stacks.specs.Depths.{AreFollowed, IsSoonest}
 use Rattle.brd_stacks.specs.Points.{points_in, points_from}
 use Rattle.brd_stacks.proofs.FollowingLemmas.{points-on, points-told}
 use Rattle.brd_stacks.proofs.following.Following.advance_in.Goals as goal

@@ -1,9 +1,9 @@
 -- What is told of a stack, as it is kept.
 use Rattle.std.specs.Prelude.{false, if◌then◌else◌, Option, None, Some}
-use Rattle.brd_depth.specs.declared.point.Point.{Point}
-use Rattle.brd_depth.specs.declared.stack.Stack.{Stack}
-use Rattle.brd_depth.specs.declared.track.Track.{Track}
-use Rattle.brd_depth.specs.Points.{deeper, overflows_when, stands_after}
+use Rattle.brd_stacks.specs.declared.stack.Point.{Point}
+use Rattle.brd_stacks.specs.declared.stack.Stack.{Stack}
+use Rattle.brd_stacks.specs.declared.track.Track.{Track}
+use Rattle.brd_stacks.specs.Strands.{deeper, overflows_when, stands_after}
 
 abbrev pub started : Stack → Track
 started stack = record { stack = stack; stands = false; deepest = None; overflow = None }

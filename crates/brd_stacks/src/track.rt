@@ -1,14 +1,13 @@
 //! What is told of a stack.
 
 ghost use Rattle.std.specs.Prelude.{◌≡◌, ◌++◌, ◌∷◌, [], false, List as ListOf, map, IfOk};
-ghost use Rattle.brd_depth.specs.declared.point.Point.{Point as PointOf};
-ghost use Rattle.brd_depth.specs.declared.stack.Stack.{Stack as StackOf};
-ghost use Rattle.brd_depth.specs.Points.{deeper, overflows_when, stands_after, stores_below};
-ghost use Rattle.brd_depth.specs.Depths.{AreFollowed, IsSoonest, some_overflow};
-ghost use Rattle.brd_depth.specs.Tracks.{deepest_after, overflow_after, started, taken};
+ghost use Rattle.brd_stacks.specs.declared.stack.Point.{Point as PointOf};
+ghost use Rattle.brd_stacks.specs.declared.stack.Stack.{Stack as StackOf};
+ghost use Rattle.brd_stacks.specs.Strands.{deeper, overflows_when, stands_after, stores_below};
+ghost use Rattle.brd_stacks.specs.Depths.{AreFollowed, IsSoonest, some_overflow};
+ghost use Rattle.brd_stacks.specs.Tracks.{deepest_after, overflow_after, started, taken};
 
-use crate::point::Point;
-use crate::stack::Stack;
+use crate::stack::{Point, Stack};
 use brd_base::NoMemory;
 use std::alloc::Global;
 

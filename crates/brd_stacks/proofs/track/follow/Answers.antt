@@ -1,7 +1,7 @@
 use Rattle.std.proofs.Common.{ap, ◌∙◌, map, arith}
-use Rattle.brd_depth.specs.Tracks.{taken}
-use Rattle.brd_depth.proofs.TrackLemmas.{followed-more, soonest-more, written-back}
-use Rattle.brd_depth.proofs.track.follow.Goals as goal
+use Rattle.brd_stacks.specs.Tracks.{taken}
+use Rattle.brd_stacks.proofs.TrackLemmas.{followed-more, soonest-more, written-back}
+use Rattle.brd_stacks.proofs.track.follow.Goals as goal
 
 pub returns-clause-followed : goal.returns-clause-followed
 returns-clause-followed c = λ stacks points followed. followed-more stacks points c.args.point _ _

@@ -7,12 +7,12 @@ use Rattle.std.proofs.lemmas.Bool.Decides.{nat_tests}
 use Rattle.std.proofs.lemmas.Option.{slice_get_within}
 use Rattle.std.proofs.lemmas.List.{take-append-le, length-map, append-nil}
 use Rattle.std.proofs.Math.Seq.{drop-length, take-length, take-append_seam}
-use Rattle.brd_depth.specs.declared.point.Point.{Point}
-use Rattle.brd_depth.specs.declared.stack.Stack.{Stack}
-use Rattle.brd_depth.specs.declared.track.Track.{Track}
-use Rattle.brd_depth.specs.Points.{deeper, less_than, lies_in, overflows_when, stands_after, stands_from, stands_on}
-use Rattle.brd_depth.specs.Depths.{Lies, IsDeepest, DeepestOf, Overflows, IsFirst, OverflowOf, Follows, AreFollowed, IsSoonest, some_overflow}
-use Rattle.brd_depth.specs.Tracks.{overflow_by, started, taken}
+use Rattle.brd_stacks.specs.declared.stack.Point.{Point}
+use Rattle.brd_stacks.specs.declared.stack.Stack.{Stack}
+use Rattle.brd_stacks.specs.declared.track.Track.{Track}
+use Rattle.brd_stacks.specs.Strands.{deeper, less_than, lies_in, overflows_when, stands_after, stands_from, stands_on}
+use Rattle.brd_stacks.specs.Depths.{Lies, IsDeepest, DeepestOf, Overflows, IsFirst, OverflowOf, Follows, AreFollowed, IsSoonest, some_overflow}
+use Rattle.brd_stacks.specs.Tracks.{overflow_by, started, taken}
 
 of-some : {A : Type 0} (x y : A) → Some x ≡ Some y → x ≡ y
 of-some x y e = cc

@@ -1,8 +1,8 @@
 -- What a point of a run is to a stack: whether its strand stands on it, and whether it is a store below it.
 use Rattle.std.specs.Prelude.{ℕ, ◌==◌, ◌&&◌, ◌||◌, nat_le, nat_lt, Bool, true, false, if◌then◌else◌, List, [], ◌∷◌}
 use Rattle.std.specs.Prelude.{Option, None, Some}
-use Rattle.brd_depth.specs.declared.point.{Point.Point, Store.Store}
-use Rattle.brd_depth.specs.declared.stack.Stack.{Stack}
+use Rattle.brd_stacks.specs.declared.stack.{Point.Point, Store.Store}
+use Rattle.brd_stacks.specs.declared.stack.Stack.{Stack}
 
 -- a stack pointer lies in a stack, or at its end, where nothing is on it
 abbrev pub is_inside : Stack → ℕ → Bool

@@ -2,10 +2,10 @@
 use Rattle.std.specs.Prelude.{◌≡◌, ◌<◌, ◌≤◌, ℕ, suc, length, ◌||◌, Bool, true, false, List, [], ◌∷◌, map, take}
 use Rattle.std.specs.Prelude.{Option, None, Some, is_some}
 use Rattle.std.specs.List.{slice_get, AllByRecursion}
-use Rattle.brd_depth.specs.declared.point.Point.{Point}
-use Rattle.brd_depth.specs.declared.stack.Stack.{Stack}
-use Rattle.brd_depth.specs.declared.track.Track.{Track}
-use Rattle.brd_depth.specs.Points.{lies_in, overflows_when, stands_on}
+use Rattle.brd_stacks.specs.declared.stack.Point.{Point}
+use Rattle.brd_stacks.specs.declared.stack.Stack.{Stack}
+use Rattle.brd_stacks.specs.declared.track.Track.{Track}
+use Rattle.brd_stacks.specs.Strands.{lies_in, overflows_when, stands_on}
 
 -- the point at a place of the list is of the stack's strand, and leaves its stack pointer in the stack
 pub record Lies (stack : Stack) (points : List Point) (k : ℕ) (point : Point) : Type 0 where

@@ -1,3 +1,0 @@
-pub mod Points
-pub mod Depths
-pub mod Tracks
