@@ -1,8 +1,7 @@
 -- Where a schedule fails, one does on which no step is left out.
 use Rattle.std.proofs.Common.{◌≡◌, ℕ, zero, suc, ◌+◌, ◌-◌, ◌<◌, ◌≤◌, List, [], ◌∷◌, ◌++◌, length, refl, sym, ap, subst, ◌∙◌, arith, ◌⊎◌, inl, inr, length-append}
 use Rattle.std.specs.Prelude.{Bool, true, false, not, ◌&&◌, ◌||◌, nat_lt, ◌==◌, Option, None, Some, if◌then◌else◌, is_some}
-use Rattle.std.specs.List.{list_any}
-use Rattle.std.proofs.lemmas.Bool.{cases_Bool, false≢true, and_parts, and_from, not-true}
+use Rattle.std.proofs.lemmas.Bool.{cases_Bool, false≢true, and_parts, and_from}
 use Rattle.std.proofs.lemmas.Bool.Decides.{nat_tests}
 use Rattle.std.proofs.lemmas.List.{append_assoc}
 use Rattle.brd_board.specs.declared.event.Event.{Event}
@@ -11,13 +10,13 @@ use Rattle.brd_board.specs.Board.{BoardState, happens, registers_of}
 use Rattle.brd_explore.specs.declared.asleep.Asleep.{Asleep}
 use Rattle.brd_explore.specs.declared.wanted.Wanted.{Wanted}
 use Rattle.brd_explore.specs.Failures.{is_value}
-use Rattle.brd_explore.specs.Schedules.{Place, does, preempts, affords, affords_one, one_if, spent, is_left, next, place_after, IsAmong, IsWithin}
-use Rattle.brd_explore.specs.Sleeping.{has_run, are_apart, code_at, apart_from, is_kept, asleep_if, falls_asleep, asleep_after, Spot, awake, next_spot, sleeps, is_strange, executes, is_left_out}
+use Rattle.brd_explore.specs.Schedules.{Place, IsRicher, does, stepper, is_last, preempts, affords, affords_one, one_if, spent, is_left, next, place_after, IsAmong, IsWithin}
+use Rattle.brd_explore.specs.Sleeping.{has_run, are_apart, code_at, apart_from, is_kept, asleep_if, falls_asleep, asleep_after, Spot, awake, next_spot, sleeps, executes, is_left_out}
 use Rattle.brd_explore.specs.Searching.{FailsAt, NoneFails, Leads, NoneGoes}
 use Rattle.brd_explore.proofs.CommuteLemmas.{Sleeps, sleeps-steps, falls, sleeps-other, sleeps-alike, sleeper-executes, run-does}
 use Rattle.brd_explore.proofs.LessLemmas.{left-after}
-use Rattle.brd_explore.proofs.PathLemmas.{leads-on}
-use Rattle.brd_explore.proofs.RichLemmas.{IsRicher, or-second, or-more, rich-leads, rich-fails}
+use Rattle.brd_explore.proofs.PathLemmas.{leads-on, leads-within, leads-after}
+use Rattle.brd_explore.proofs.RichLemmas.{or-second, or-more, rich-leads, rich-fails}
 use Rattle.brd_explore.proofs.SearchLemmas.{does-or, after-doing, after-nothing}
 
 -- Only the events that do something matter.
@@ -120,8 +119,9 @@ record Naps (among : List Event) (a : Asleep) (from here : Place) (done : List E
   events : other.left.events ≡ suc here.left.events
   ticks : other.left.ticks ≡ here.left.ticks
   raises : other.left.raises ≡ here.left.raises
+  owed : other.left.owed ≡ here.left.owed
   preemptions : here.left.preemptions ≤ other.left.preemptions
-  last : (here.last ≡ a.cpu) ⊎ ((here.last ≡ other.last) × (0 < length qs))
+  last : (here.last ≡ Some a.cpu) ⊎ ((here.last ≡ other.last) × (0 < length qs))
 
 abbrev NapsIf : List Event → Place → Place → List Event → Option Asleep → Type 0
 NapsIf among from here done None = Unit {0}
@@ -129,23 +129,24 @@ NapsIf among from here done (Some a) = Naps among a from here done
 
 -- what is spent on a step
 
-step-left : (p : Place) (cpu : ℕ) → 0 < p.left.events → (nat_lt 0 p.left.preemptions || not (preempts p.board p.last cpu)) ≡ true → is_left p (Step cpu) ≡ true
+step-left : (p : Place) (cpu : ℕ) → 0 < p.left.events → (nat_lt 0 p.left.preemptions || not (preempts p.last cpu)) ≡ true → is_left p (Step cpu) ≡ true
 unfolding affords
 step-left p cpu some one =
     let more : nat_lt 0 p.left.events ≡ true = grind (arith, nat_tests, some) in
-    and_from (nat_lt 0 p.left.events) (affords_one p.left p.board p.last (Step cpu)) more one
+    and_from (nat_lt 0 p.left.events) (affords_one p.left p.last (Step cpu)) more one
 
-left-step : (p : Place) (cpu : ℕ) → is_left p (Step cpu) ≡ true → (nat_lt 0 p.left.preemptions || not (preempts p.board p.last cpu)) ≡ true
+left-step : (p : Place) (cpu : ℕ) → is_left p (Step cpu) ≡ true → (nat_lt 0 p.left.preemptions || not (preempts p.last cpu)) ≡ true
 unfolding affords
-left-step p cpu is = (and_parts (nat_lt 0 p.left.events) (affords_one p.left p.board p.last (Step cpu)) is).1
+left-step p cpu is = (and_parts (nat_lt 0 p.left.events) (affords_one p.left p.last (Step cpu)) is).1
 
-spent-preemptions : (p : Place) (cpu : ℕ) → (next p (Step cpu)).left.preemptions ≡ p.left.preemptions - one_if (preempts p.board p.last cpu)
+spent-preemptions : (p : Place) (cpu : ℕ) → (next p (Step cpu)).left.preemptions ≡ p.left.preemptions - one_if (preempts p.last cpu)
 unfolding spent
 spent-preemptions p cpu = refl
 
 spent-rest : (p : Place) (cpu : ℕ) → ((next p (Step cpu)).left.ticks ≡ p.left.ticks) × ((next p (Step cpu)).left.raises ≡ p.left.raises)
+    × ((next p (Step cpu)).left.owed ≡ p.left.owed)
 unfolding spent
-spent-rest p cpu = (refl, refl)
+spent-rest p cpu = (refl, refl, refl)
 
 first-or : (a b : Bool) → (a || not true) ≡ true → (a || b) ≡ true
 first-or true b is = refl
@@ -154,6 +155,11 @@ first-or false b is = absurd (false≢true is)
 one-most : (b : Bool) → one_if b ≤ 1
 one-most true = omega arith
 one-most false = omega arith
+
+-- a processor that sleeps is one that is preempted
+sleeper-last : (a : Asleep) (before b : BoardState) (cpu : ℕ) (last : Option ℕ) → a.cpu ≡ cpu → Sleeps a before b → stepper b last (Step cpu) ≡ Some a.cpu
+sleeper-last a before b cpu last same s =
+    ap (λ x. if x then Some cpu else None) (subst (λ n. is_some (registers_of b n) ≡ true) same (sleeper-executes a before b s)) ∙ ap Some (sym same)
 
 -- he falls asleep
 naps-first : (among : List Event) (a : Asleep) (from here : Place) (done : List Event) (cpu : ℕ) → Leads among from done here →
@@ -176,49 +182,41 @@ naps-first among a from here done cpu led is run one left =
       events = left-after here (Step cpu) left;
       ticks = sym rest.0;
       raises = sym rest.1;
+      owed = sym rest.2;
       preemptions = omega (arith, spent-preemptions here cpu);
-      last = inl (sym so.0);
+      last = inl (sleeper-last a here.board (happens here.board (Step cpu)).board cpu here.last so.0 so.1);
     }
 
 -- what a step of another processor takes at both places
 
-preempts-sleeper : (a : Asleep) (before b : BoardState) (cpu : ℕ) → Sleeps a before b → (cpu ≡ a.cpu → ⊥) → preempts b a.cpu cpu ≡ true
-unfolding preempts
-preempts-sleeper a before b cpu s never = and_from (not (cpu == a.cpu)) (is_some (registers_of b a.cpu))
-    (elim (cases_Bool (cpu == a.cpu)) [
-      | inl same ↦ absurd (never (grind (arith, nat_tests, same)))
-      | inr other ↦ ap not other
-    ])
-    (sleeper-executes a before b s)
-
-preempts-alike : (a : Asleep) (before b : BoardState) (last cpu : ℕ) → Sleeps a before b → preempts b last cpu ≡ preempts before last cpu
-unfolding preempts
-preempts-alike a before b last cpu s = ap (λ x. not (cpu == last) && x) (sleeps-alike a before b last s)
+preempts-other : (x cpu : ℕ) → (cpu ≡ x → ⊥) → preempts (Some x) cpu ≡ true
+preempts-other x cpu never = elim (cases_Bool (x == cpu)) [
+  | inl same ↦ absurd (never (grind (arith, nat_tests, same)))
+  | inr other ↦ ap not other
+]
 
 -- so the other place has as many preemptions left for it, and after it
 record Affords (here other : Place) (cpu : ℕ) : Type 0 where
   left : is_left other (Step cpu) ≡ true
   after : (next here (Step cpu)).left.preemptions ≤ (next other (Step cpu)).left.preemptions
 
-affords-first : (a : Asleep) (here other : Place) (cpu : ℕ) → Sleeps a other.board here.board → (cpu ≡ a.cpu → ⊥) → here.last ≡ a.cpu →
+affords-first : (a : Asleep) (here other : Place) (cpu : ℕ) → (cpu ≡ a.cpu → ⊥) → here.last ≡ Some a.cpu →
     0 < other.left.events → here.left.preemptions ≤ other.left.preemptions → is_left here (Step cpu) ≡ true → Affords here other cpu
-affords-first a here other cpu s never last some more left =
-    let yes : preempts here.board here.last cpu ≡ true =
-    ap (λ n. preempts here.board n cpu) last ∙ preempts-sleeper a other.board here.board cpu s never in
+affords-first a here other cpu never last some more left =
+    let yes : preempts here.last cpu ≡ true = ap (λ n. preempts n cpu) last ∙ preempts-other a.cpu cpu never in
     let has : (nat_lt 0 here.left.preemptions || not true) ≡ true = ap (λ x. nat_lt 0 here.left.preemptions || not x) (sym yes) ∙ left-step here cpu left in
     record {
-      left = step-left other cpu some (or-more here.left.preemptions other.left.preemptions (not (preempts other.board other.last cpu)) more
-          (first-or (nat_lt 0 here.left.preemptions) (not (preempts other.board other.last cpu)) has));
-      after = omega (arith, spent-preemptions here cpu, spent-preemptions other cpu, ap one_if yes, one-most (preempts other.board other.last cpu), more);
+      left = step-left other cpu some (or-more here.left.preemptions other.left.preemptions (not (preempts other.last cpu)) more
+          (first-or (nat_lt 0 here.left.preemptions) (not (preempts other.last cpu)) has));
+      after = omega (arith, spent-preemptions here cpu, spent-preemptions other cpu, ap one_if yes, one-most (preempts other.last cpu), more);
     }
 
-affords-next : (a : Asleep) (here other : Place) (cpu : ℕ) → Sleeps a other.board here.board → here.last ≡ other.last → 0 < other.left.events →
+affords-next : (here other : Place) (cpu : ℕ) → here.last ≡ other.last → 0 < other.left.events →
     here.left.preemptions ≤ other.left.preemptions → is_left here (Step cpu) ≡ true → Affords here other cpu
-affords-next a here other cpu s last some more left =
-    let same : preempts here.board here.last cpu ≡ preempts other.board other.last cpu =
-    preempts-alike a other.board here.board here.last cpu s ∙ ap (λ n. preempts other.board n cpu) last in
+affords-next here other cpu last some more left =
+    let same : preempts here.last cpu ≡ preempts other.last cpu = ap (λ n. preempts n cpu) last in
     record {
-      left = step-left other cpu some (or-more here.left.preemptions other.left.preemptions (not (preempts other.board other.last cpu)) more
+      left = step-left other cpu some (or-more here.left.preemptions other.left.preemptions (not (preempts other.last cpu)) more
           (ap (λ x. nat_lt 0 here.left.preemptions || not x) (sym same) ∙ left-step here cpu left));
       after = omega (arith, spent-preemptions here cpu, spent-preemptions other cpu, ap one_if same, more);
     }
@@ -226,8 +224,8 @@ affords-next a here other cpu s last some more left =
 affords-step : (among : List Event) (a : Asleep) (from here : Place) (done : List Event) (cpu : ℕ) (n : Naps among a from here done) → (cpu ≡ a.cpu → ⊥) →
     is_left here (Step cpu) ≡ true → Affords here n.other cpu
 affords-step among a from here done cpu n never left = elim n.last [
-  | inl first ↦ affords-first a here n.other cpu n.sleeping never first (omega (arith, n.events)) n.preemptions left
-  | inr later ↦ affords-next a here n.other cpu n.sleeping later.0 (omega (arith, n.events)) n.preemptions left
+  | inl first ↦ affords-first a here n.other cpu never first (omega (arith, n.events)) n.preemptions left
+  | inr later ↦ affords-next here n.other cpu later.0 (omega (arith, n.events)) n.preemptions left
 ]
 
 -- he sleeps on
@@ -254,8 +252,13 @@ naps-on among a from here done cpu n never apart run code one left =
       events = omega (arith, left-after here (Step cpu) left, left-after n.other (Step cpu) can.left, n.events);
       ticks = others.0 ∙ n.ticks ∙ sym rest.0;
       raises = others.1 ∙ n.raises ∙ sym rest.1;
+      owed = others.2 ∙ n.owed ∙ sym rest.2;
       preemptions = can.after;
-      last = inr (refl, omega (arith, length-append n.qs (Step cpu ∷ [])));
+      last = inr (
+        ap (λ x. if x then Some cpu else None)
+            (sleeps-alike a (happens n.other.board (Step cpu)).board (happens here.board (Step cpu)).board cpu both.1),
+        omega (arith, length-append n.qs (Step cpu ∷ [])),
+      );
     }
 
 -- who sleeps after an event
@@ -317,118 +320,122 @@ naps-next among from here done (Raise line) asleep led n one left = tt
 record Earlier (wanted : Wanted) (among : List Event) (from : Place) (es : List Event) : Type 0 where
   events : List Event
   to : Place
-  less : switches 0 from.last events < switches 0 from.last es
+  less : switches 0 0 events < switches 0 0 es
   leads : Leads among from events to
-  fails : FailsAt wanted among to
+  fails : FailsAt wanted to
 
-self-step : (b : BoardState) (cpu : ℕ) → preempts b cpu cpu ≡ false
-unfolding preempts
-self-step b cpu = let same : (cpu == cpu) ≡ true = grind (arith, nat_tests) in ap (λ x. not x && is_some (registers_of b cpu)) same
+-- to go on is free
+self-step : (goes : Bool) (cpu : ℕ) → preempts (if goes then Some cpu else None) cpu ≡ false
+self-step true cpu = let same : (cpu == cpu) ≡ true = grind (arith, nat_tests) in ap not same
+self-step false cpu = refl
 
 earlier : (wanted : Wanted) (among : List Event) (a : Asleep) (from here to : Place) (done rest : List Event) → wanted.rounds ≡ 0 →
-    list_any is_strange among ≡ false → Naps among a from here done → (here.last ≡ a.cpu → ⊥) → is_left here (Step a.cpu) ≡ true →
-    does here.board (Step a.cpu) ≡ true → Leads among (next here (Step a.cpu)) rest to → FailsAt wanted among to →
+    Naps among a from here done → (here.last ≡ Some a.cpu → ⊥) → is_left here (Step a.cpu) ≡ true →
+    does here.board (Step a.cpu) ≡ true → Leads among (next here (Step a.cpu)) rest to → FailsAt wanted to →
     Earlier wanted among from (done ++ Step a.cpu ∷ rest)
-earlier wanted among a from here to done rest zero' known n never left did leads fails = elim n.last [
+earlier wanted among a from here to done rest zero' n never left did leads fails = elim n.last [
   | inl first ↦ absurd (never first)
   | inr later ↦
       let x = a.cpu in
-      let can = affords-next a here n.other x n.sleeping later.0 (omega (arith, n.events)) n.preemptions left in
+      let can = affords-next here n.other x later.0 (omega (arith, n.events)) n.preemptions left in
       let steps = sleeps-steps a n.other.board here.board n.sleeping in
       let third : Place = next n.other (Step x) in
       let same : third.board ≡ here.board = steps.1 in
       let events : third.left.events ≡ here.left.events = omega (arith, left-after n.other (Step x) can.left, n.events) in
-      let free : preempts third.board third.last x ≡ false = self-step third.board x in
+      let free : preempts third.last x ≡ false = self-step (is_some (registers_of third.board x)) x in
       let again : is_left third (Step x) ≡ true = step-left third x (omega (arith, events, left-after here (Step x) left))
-      (or-second (nat_lt 0 third.left.preemptions) (not (preempts third.board third.last x)) (ap not free)) in
+      (or-second (nat_lt 0 third.left.preemptions) (not (preempts third.last x)) (ap not free)) in
       let one = spent-rest here x in
       let two = spent-rest n.other x in
       let three = spent-rest third x in
       let rich : IsRicher (next third (Step x)) (next here (Step x)) = record {
         board = ap (λ b. (happens b (Step x)).board) same;
-        last = refl;
-        events = inl (omega (arith, left-after third (Step x) again, left-after here (Step x) left, events));
-        ticks = three.0 ∙ two.0 ∙ n.ticks ∙ sym one.0;
-        raises = three.1 ∙ two.1 ∙ n.raises ∙ sym one.1;
+        last = ap (λ b. stepper (happens b (Step x)).board None (Step x)) same;
+        events = omega (arith, left-after third (Step x) again, left-after here (Step x) left, events);
+        ticks = omega (arith, three.0, two.0, n.ticks, one.0);
+        raises = omega (arith, three.1, two.1, n.raises, one.1);
+        owed = three.2 ∙ two.2 ∙ n.owed ∙ sym one.2;
         preemptions = omega (arith, can.after, spent-preemptions third x, ap one_if free);
       } in
       let there = rich-leads among (next third (Step x)) (next here (Step x)) to rest rich leads in
       record {
         events = n.pre ++ (n.qs ++ Step x ∷ Step x ∷ rest);
         to = there.0;
-        less = subst (λ es. switches 0 from.last (n.pre ++ (n.qs ++ Step x ∷ Step x ∷ rest)) < switches 0 from.last (es ++ Step x ∷ rest)) (sym n.split)
-            (moved-less x rest n.qs 0 from.last n.pre n.all later.1);
+        less = subst (λ es. switches 0 0 (n.pre ++ (n.qs ++ Step x ∷ Step x ∷ rest)) < switches 0 0 (es ++ Step x ∷ rest)) (sym n.split)
+            (moved-less x rest n.qs 0 0 n.pre n.all later.1);
         leads = leads-both among from n.first there.0 n.pre (n.qs ++ Step x ∷ Step x ∷ rest) n.before
             (leads-both among n.first n.other there.0 n.qs (Step x ∷ Step x ∷ rest) n.leads
             (n.one, can.left, run-does n.other.board x steps.0, (n.one, again, ap (λ b. does b (Step x)) same ∙ did, there.1)));
-        fails = rich-fails wanted among there.0 to zero' known there.2 fails;
+        fails = rich-fails wanted there.0 to zero' there.2 fails;
       }
 ]
 
 -- what of a step tells that it is left out
-record LeftOut (wanted : Wanted) (among : List Event) (spot : Spot) (cpu : ℕ) : Type 0 where
+record LeftOut (wanted : Wanted) (spot : Spot) (cpu : ℕ) : Type 0 where
   asleep : sleeps spot.asleep cpu ≡ true
-  last : not (spot.place.last == cpu) ≡ true
+  last : not (is_last spot.place.last cpu) ≡ true
   rounds : wanted.rounds ≡ 0
-  known : list_any is_strange among ≡ false
 
-left-out : (wanted : Wanted) (among : List Event) (spot : Spot) (cpu : ℕ) → is_left_out wanted among spot (Step cpu) ≡ true → LeftOut wanted among spot cpu
+left-out : (wanted : Wanted) (spot : Spot) (cpu : ℕ) → is_left_out wanted spot (Step cpu) ≡ true → LeftOut wanted spot cpu
 unfolding is_left_out
-left-out wanted among spot cpu is =
-    let one = and_parts (sleeps spot.asleep cpu && not (spot.place.last == cpu) && executes spot.place.board cpu && wanted.rounds == 0) (not (list_any is_strange among)) is in
-    let two = and_parts (sleeps spot.asleep cpu && not (spot.place.last == cpu) && executes spot.place.board cpu) (wanted.rounds == 0) one.0 in
-    let three = and_parts (sleeps spot.asleep cpu && not (spot.place.last == cpu)) (executes spot.place.board cpu) two.0 in
-    let four = and_parts (sleeps spot.asleep cpu) (not (spot.place.last == cpu)) three.0 in
+left-out wanted spot cpu is =
+    let two = and_parts (sleeps spot.asleep cpu && not (is_last spot.place.last cpu) && executes spot.place.board cpu) (wanted.rounds == 0) is in
+    let three = and_parts (sleeps spot.asleep cpu && not (is_last spot.place.last cpu)) (executes spot.place.board cpu) two.0 in
+    let four = and_parts (sleeps spot.asleep cpu) (not (is_last spot.place.last cpu)) three.0 in
     record {
       asleep = four.0;
       last = four.1;
       rounds = grind (arith, nat_tests, two.1);
-      known = not-true (list_any is_strange among) one.1;
     }
 
+-- it isn't the one that is preempted
+not-last : (last : Option ℕ) (x cpu : ℕ) → not (is_last last cpu) ≡ true → x ≡ cpu → last ≡ Some x → ⊥
+not-last last x cpu isnt same is =
+    let here : (x == cpu) ≡ true = grind (arith, nat_tests, same) in
+    false≢true (sym (ap (λ l. not (is_last l cpu)) is ∙ ap not here) ∙ isnt)
+
 out-asleep : (wanted : Wanted) (among : List Event) (from here to : Place) (asleep : Option Asleep) (done rest : List Event) (cpu : ℕ) →
-    LeftOut wanted among (record { place = here; asleep = asleep }) cpu → NapsIf among from here done asleep → is_left here (Step cpu) ≡ true →
-    does here.board (Step cpu) ≡ true → Leads among (next here (Step cpu)) rest to → FailsAt wanted among to →
+    LeftOut wanted (record { place = here; asleep = asleep }) cpu → NapsIf among from here done asleep → is_left here (Step cpu) ≡ true →
+    does here.board (Step cpu) ≡ true → Leads among (next here (Step cpu)) rest to → FailsAt wanted to →
     Earlier wanted among from (done ++ Step cpu ∷ rest)
 out-asleep wanted among from here to None done rest cpu out n left did leads fails = absurd (false≢true out.asleep)
 out-asleep wanted among from here to (Some a) done rest cpu out n left did leads fails =
     let is : a.cpu ≡ cpu = grind (arith, nat_tests, out.asleep) in
     subst (λ x. Earlier wanted among from (done ++ Step x ∷ rest)) is
-    (earlier wanted among a from here to done rest out.rounds out.known n
-    (λ last. unequal here.last cpu out.last (sym (last ∙ is)))
+    (earlier wanted among a from here to done rest out.rounds n (not-last here.last a.cpu cpu out.last is)
     (subst (λ x. is_left here (Step x) ≡ true) (sym is) left)
     (subst (λ x. does here.board (Step x) ≡ true) (sym is) did)
     (subst (λ x. Leads among (next here (Step x)) rest to) (sym is) leads) fails)
 
-out-event : (wanted : Wanted) (among : List Event) (from to : Place) (spot : Spot) (done rest : List Event) (e : Event) → is_left_out wanted among spot e ≡ true →
+out-event : (wanted : Wanted) (among : List Event) (from to : Place) (spot : Spot) (done rest : List Event) (e : Event) → is_left_out wanted spot e ≡ true →
     NapsIf among from spot.place done spot.asleep → is_left spot.place e ≡ true → does spot.place.board e ≡ true →
-    Leads among (next spot.place e) rest to → FailsAt wanted among to → Earlier wanted among from (done ++ e ∷ rest)
+    Leads among (next spot.place e) rest to → FailsAt wanted to → Earlier wanted among from (done ++ e ∷ rest)
 unfolding is_left_out
 out-event wanted among from to spot done rest (Step cpu) out n left did leads fails =
-    out-asleep wanted among from spot.place to spot.asleep done rest cpu (left-out wanted among spot cpu out) n left did leads fails
+    out-asleep wanted among from spot.place to spot.asleep done rest cpu (left-out wanted spot cpu out) n left did leads fails
 out-event wanted among from to spot done rest Tick out n left did leads fails = absurd (false≢true out)
 out-event wanted among from to spot done rest (Raise line) out n left did leads fails = absurd (false≢true out)
 
 -- along a schedule that fails, to its end or to a step that is left out
 walk : (wanted : Wanted) (among : List Event) (from : Place) (n : ℕ) →
-    ((es : List Event) (to : Place) → switches 0 from.last es < n → Leads among from es to → FailsAt wanted among to → ⊥) →
+    ((es : List Event) (to : Place) → switches 0 0 es < n → Leads among from es to → FailsAt wanted to → ⊥) →
     (rest done : List Event) (spot : Spot) (to : Place) → Leads among from done spot.place → NapsIf among from spot.place done spot.asleep →
-    switches 0 from.last (done ++ rest) < suc n → Leads among spot.place rest to → FailsAt wanted among to → NoneGoes wanted among spot → ⊥
+    switches 0 0 (done ++ rest) < suc n → Leads among spot.place rest to → FailsAt wanted to → NoneGoes wanted among spot → ⊥
 walk wanted among from n others [] done spot to led naps less leads fails none = none [] to leads fails
-walk wanted among from n others (e ∷ rest) done spot to led naps less leads fails none = elim (cases_Bool (is_left_out wanted among spot e)) [
+walk wanted among from n others (e ∷ rest) done spot to led naps less leads fails none = elim (cases_Bool (is_left_out wanted spot e)) [
   | inl out ↦
       let found = out-event wanted among from to spot done rest e out naps leads.1 leads.2 leads.3 fails in
       others found.events found.to (omega (arith, found.less, less)) found.leads found.fails
   | inr tried ↦ walk wanted among from n others rest (done ++ e ∷ []) (next_spot spot e) to
       (leads-on among from done spot.place e led leads.0 leads.1 leads.2)
       (naps-next among from spot.place done e spot.asleep led naps leads.0 leads.1)
-      (subst (λ es. switches 0 from.last es < suc n) (sym (append_assoc done (e ∷ []) rest)) less)
+      (subst (λ es. switches 0 0 es < suc n) (sym (append_assoc done (e ∷ []) rest)) less)
       leads.3 fails
       (λ es there leads' fails'. none (e ∷ es) there (leads.0, leads.1, leads.2, tried, leads') fails')
 ]
 
 none-at_all : (wanted : Wanted) (among : List Event) (from : Place) → NoneGoes wanted among (awake from) → (n : ℕ) (es : List Event) (to : Place) →
-    switches 0 from.last es < n → Leads among from es to → FailsAt wanted among to → ⊥
+    switches 0 0 es < n → Leads among from es to → FailsAt wanted to → ⊥
 none-at_all wanted among from none zero es to less leads fails = absurd (omega (arith, less))
 none-at_all wanted among from none (suc n) es to less leads fails =
     walk wanted among from n (none-at_all wanted among from none n) es [] (awake from) to refl tt less leads fails none
@@ -436,4 +443,14 @@ none-at_all wanted among from none (suc n) es to less leads fails =
 pub none-awake : (wanted : Wanted) (among : List Event) (from : Place) → NoneGoes wanted among (awake from) → NoneFails wanted among from
 none-awake wanted among from none events within fails =
     let real = really among from events within in
-    none-at_all wanted among from none (suc (switches 0 from.last real.0)) real.0 (place_after from events) (omega arith) real.1 fails
+    none-at_all wanted among from none (suc (switches 0 0 real.0)) real.0 (place_after from events) (omega arith) real.1 fails
+
+-- Where none fails with more left, none does with less.
+pub larger : (wanted : Wanted) (among : List Event) (rich poor : Place) → wanted.rounds ≡ 0 → IsRicher rich poor →
+    NoneFails wanted among rich → NoneFails wanted among poor
+larger wanted among rich poor fair r none events within fails =
+    let real = really among poor events within in
+    let there = rich-leads among rich poor (place_after poor events) real.0 r real.1 in
+    none real.0 (leads-within among rich real.0 there.0 there.1)
+    (subst (FailsAt wanted) (sym (leads-after among rich real.0 there.0 there.1))
+    (rich-fails wanted there.0 (place_after poor events) fair there.2 fails))

@@ -1,6 +1,6 @@
 -- What the turns of a search come to.
 use Rattle.std.proofs.Common.{◌≡◌, ℕ, List, [], ◌∷◌, ◌++◌, take, refl, sym, ap, subst, ◌∙◌, arith}
-use Rattle.std.specs.Prelude.{Bool, true, false, All, ◌&&◌, Option, None}
+use Rattle.std.specs.Prelude.{Bool, true, false, All, Option, None}
 use Rattle.std.proofs.lemmas.Bool.{false≢true}
 use Rattle.std.proofs.lemmas.List.Elements.{All-push}
 use Rattle.brd_board.specs.declared.event.Event.{Event}
@@ -8,7 +8,7 @@ use Rattle.brd_explore.specs.declared.search.Search.{Search}
 use Rattle.brd_explore.specs.declared.search.Saved.{Saved}
 use Rattle.brd_explore.specs.declared.wanted.Wanted.{Wanted}
 use Rattle.brd_explore.specs.Schedules.{Place}
-use Rattle.brd_explore.specs.Failures.{fails_now}
+use Rattle.brd_explore.specs.Failures.{fails_at}
 use Rattle.brd_explore.specs.Searching.{place_of, place_of_saved, spot_of, NoneLeft, NoneFails, NoneGoes, Leads, AreOnPath, IsOnPath, AreAlike, IsSized, Takes, Tries, HasGone, HasStayed, HasGoneBack, LeavesOut, LeadsOn, Finds, Answers, ended_by}
 use Rattle.brd_explore.specs.Sleeping.{awake}
 use Rattle.brd_explore.proofs.AwakeLemmas.{none-awake}
@@ -33,14 +33,7 @@ pub stayed-of : (among : List Event) (s t : Search) (at : ℕ) (done : Bool) →
 stayed-of among s t at true is tries = absurd (false≢true (sym is))
 stayed-of among s t at false is tries = tries
 
-pub both-true : (a b : Bool) → (a && b) ≡ true → (a ≡ true) × (b ≡ true)
-both-true true b is = (refl, is)
-both-true false b is = absurd (false≢true is)
-
-pub not-both : (a b : Bool) → (a && b) ≡ false → a ≡ true → b ≡ true → ⊥
-not-both a b is one other = false≢true (sym is ∙ ap (λ x. x && b) one ∙ other)
-
--- the end of a schedule was judged before going back, which shows in the board alone
+-- a schedule was counted before going back
 pub back-same : (s t u : Search) → t.saved.items ≡ s.saved.items → t.path.items ≡ s.path.items → HasGoneBack t u → HasGoneBack s u
 back-same s t u saved path back = record {
   f = back.f;
@@ -65,18 +58,17 @@ begins-on : (among : List Event) (from : Place) (s : Search) → Begins from s �
 begins-on among from s begins = record {
   here = subst (λ es. Leads among from es (place_of s)) (sym begins.path) (sym begins.place);
   saved = subst (AreOnPath among from s.path.items 0) (sym begins.saved) (omega arith);
-  tried = λ fresh k less below left. absurd (omega (arith, less, begins.at));
 }
 
-none-begins : (wanted : Wanted) (among : List Event) (from : Place) (s : Search) → Begins from s → fails_now wanted from.board ≡ false →
+none-begins : (wanted : Wanted) (among : List Event) (from : Place) (s : Search) → Begins from s → fails_at wanted from.board from.left ≡ false →
     NoneLeft wanted among s → NoneFails wanted among from
 none-begins wanted among from s begins fine none =
-    let fine' : fails_now wanted s.board ≡ false = ap (λ (p : Place). fails_now wanted p.board) begins.place ∙ fine in
+    let fine' : fails_at wanted s.board s.left ≡ false = ap (λ (p : Place). fails_at wanted p.board p.left) begins.place ∙ fine in
     let same : spot_of s ≡ awake from = λ i. record { place = begins.place i; asleep = begins.awake i } in
-    none-awake wanted among from (subst (NoneGoes wanted among) same (none-from wanted among s none.here begins.at begins.fresh fine'))
+    none-awake wanted among from (subst (NoneGoes wanted among) same (none-from wanted among s none.here begins.at fine'))
 
 pub finds : (wanted : Wanted) (among : List Event) (from : Place) (s t : Search) (found : Bool) (schedule : Option (List Event)) → Begins from s →
-    fails_now wanted from.board ≡ false → LeavesOut wanted among s t (ended_by found) →
+    fails_at wanted from.board from.left ≡ false → LeavesOut wanted among s t (ended_by found) →
     ((f : Place) → IsOnPath among f s → LeadsOn wanted among f t (ended_by found)) → Finds t found schedule → Answers wanted among from schedule
 finds wanted among from s t true schedule begins fine out on is = subst (Answers wanted among from) (sym is) (on from (begins-on among from s begins))
 finds wanted among from s t false schedule begins fine out on is = subst (Answers wanted among from) (sym is) (none-begins wanted among from s begins fine out)

@@ -13,7 +13,7 @@ use Rattle.brd_explore.specs.declared.known.Known.{Known}
 use Rattle.brd_explore.specs.declared.wanted.Wanted.{Wanted}
 use Rattle.brd_explore.specs.Schedules.{Place, is_left, event_at}
 use Rattle.brd_explore.specs.Sleeping.{is_left_out}
-use Rattle.brd_explore.specs.Failures.{fails_now}
+use Rattle.brd_explore.specs.Failures.{fails_at}
 use Rattle.brd_explore.specs.Searching.{NoneGoes, NoneHere, IsTooMuch, HasGone, HasStayed, HasPassed, HasGoneBack, KeepsRest, IsOnPath, LeavesOut, LeadsOn, HasLess, turns_left, place_of, spot_of}
 use Rattle.brd_explore.specs.Knowing.{spot_of_kept, AreDone, AreOver, ArePending, IsKeptOf, IsPending, Knows, KnowsOn, Leaves, Notes}
 use Rattle.brd_explore.proofs.FindLemmas.{back-same}
@@ -33,7 +33,7 @@ back-length s t back = omega (arith, ap length back.saved, length-append t.saved
 -- one pending place
 
 pending-gone : (wanted : Wanted) (among : List Event) (s t : Search) (at : ℕ) (k : Kept) → s.at ≤ at → at < length among →
-    is_left (place_of s) (event_at among at) ≡ true → IsTooMuch among (place_of s) s.at at → HasGone among s at t → fails_now wanted t.board ≡ false →
+    is_left (place_of s) (event_at among at) ≡ true → IsTooMuch among (place_of s) s.at at → HasGone among s at t → fails_at wanted t.board t.left ≡ false →
     IsPending wanted among s k → IsPending wanted among t k
 pending-gone wanted among s t at k on below left much gone fine (inl none) = inl none
 pending-gone wanted among s t at k on below left much gone fine (inr if) = inr (
@@ -50,7 +50,7 @@ pending-stayed wanted among s t at k on much stayed (inr if) = inr (
 )
 
 pending-passed : (wanted : Wanted) (among : List Event) (s t : Search) (at : ℕ) (k : Kept) → s.at ≤ at → at < length among →
-    is_left (place_of s) (event_at among at) ≡ true → IsTooMuch among (place_of s) s.at at → is_left_out wanted among (spot_of s) (event_at among at) ≡ true →
+    is_left (place_of s) (event_at among at) ≡ true → IsTooMuch among (place_of s) s.at at → is_left_out wanted (spot_of s) (event_at among at) ≡ true →
     HasPassed s at t → IsPending wanted among s k → IsPending wanted among t k
 pending-passed wanted among s t at k on below left much out passed (inl none) = inl none
 pending-passed wanted among s t at k on below left much out passed (inr if) = inr (
@@ -71,17 +71,17 @@ pending-back wanted among s t k here back (inr if) = elim (cases_lt (length t.sa
   | inr low ↦ inr (low, λ none. if.1 (leaves-back wanted among k.height s t low here back none))
 ]
 
-pending-noted : (wanted : Wanted) (among : List Event) (t : Search) (k : Kept) → t.at ≡ 0 → t.fresh ≡ true → fails_now wanted t.board ≡ false →
+pending-noted : (wanted : Wanted) (among : List Event) (t : Search) (k : Kept) → t.at ≡ 0 → fails_at wanted t.board t.left ≡ false →
     IsKeptOf t k → IsPending wanted among t k
-pending-noted wanted among t k at fresh fine is = inr (
+pending-noted wanted among t k at fine is = inr (
   omega (arith, is.1),
-  λ none. subst (NoneGoes wanted among) (sym is.0) (none-from wanted among t none.here at fresh fine),
+  λ none. subst (NoneGoes wanted among) (sym is.0) (none-from wanted among t none.here at fine),
 )
 
 -- all that is known
 
 pub knows-gone : (wanted : Wanted) (among : List Event) (s t : Search) (known : Known) (at : ℕ) → s.at ≤ at → at < length among →
-    is_left (place_of s) (event_at among at) ≡ true → IsTooMuch among (place_of s) s.at at → HasGone among s at t → fails_now wanted t.board ≡ false →
+    is_left (place_of s) (event_at among at) ≡ true → IsTooMuch among (place_of s) s.at at → HasGone among s at t → fails_at wanted t.board t.left ≡ false →
     Knows wanted among s known → Knows wanted among t known
 knows-gone wanted among s t known at on below left much gone fine knows = record {
   done = knows.done;
@@ -98,7 +98,7 @@ knows-stayed wanted among s t known at on much stayed knows = record {
 }
 
 pub knows-passed : (wanted : Wanted) (among : List Event) (s t : Search) (known : Known) (at : ℕ) → s.at ≤ at → at < length among →
-    is_left (place_of s) (event_at among at) ≡ true → IsTooMuch among (place_of s) s.at at → is_left_out wanted among (spot_of s) (event_at among at) ≡ true →
+    is_left (place_of s) (event_at among at) ≡ true → IsTooMuch among (place_of s) s.at at → is_left_out wanted (spot_of s) (event_at among at) ≡ true →
     HasPassed s at t → Knows wanted among s known → Knows wanted among t known
 knows-passed wanted among s t known at on below left much out passed knows = record {
   done = knows.done;
@@ -114,18 +114,18 @@ done-same wanted among old new same done = subst (All (λ slot. IfSome slot (λ 
 pub pending-none : (wanted : Wanted) (among : List Event) (s : Search) (known : Known) → known.pending.items ≡ [] → ArePending wanted among s known
 pending-none wanted among s known none = subst (All (IsPending wanted among s)) (sym none) (All-nil (IsPending wanted among s))
 
-pending-more : (wanted : Wanted) (among : List Event) (t : Search) (old new : Known) → t.at ≡ 0 → t.fresh ≡ true → fails_now wanted t.board ≡ false →
+pending-more : (wanted : Wanted) (among : List Event) (t : Search) (old new : Known) → t.at ≡ 0 → fails_at wanted t.board t.left ≡ false →
     Notes t old new → ArePending wanted among t old → ArePending wanted among t new
-pending-more wanted among t old new at fresh fine (inl same) pending = subst (All (IsPending wanted among t)) (sym same) pending
-pending-more wanted among t old new at fresh fine (inr more) pending = subst (All (IsPending wanted among t)) (sym more.1)
-    (All-push (IsPending wanted among t) old.pending.items more.0 pending (pending-noted wanted among t more.0 at fresh fine more.2))
+pending-more wanted among t old new at fine (inl same) pending = subst (All (IsPending wanted among t)) (sym same) pending
+pending-more wanted among t old new at fine (inr more) pending = subst (All (IsPending wanted among t)) (sym more.1)
+    (All-push (IsPending wanted among t) old.pending.items more.0 pending (pending-noted wanted among t more.0 at fine more.2))
 
 -- what is known after it was asked of a place to which the search has just come
-pub knows-more : (wanted : Wanted) (among : List Event) (t : Search) (old new : Known) → t.at ≡ 0 → t.fresh ≡ true → fails_now wanted t.board ≡ false →
+pub knows-more : (wanted : Wanted) (among : List Event) (t : Search) (old new : Known) → t.at ≡ 0 → fails_at wanted t.board t.left ≡ false →
     (AreDone wanted among old → AreDone wanted among new) → Notes t old new → Knows wanted among t old → Knows wanted among t new
-knows-more wanted among t old new at fresh fine done notes knows = record {
+knows-more wanted among t old new at fine done notes knows = record {
   done = done knows.done;
-  pending = pending-more wanted among t old new at fresh fine notes knows.pending;
+  pending = pending-more wanted among t old new at fine notes knows.pending;
 }
 
 -- the pending places are over whose height is that of the stack, where nothing is left
@@ -154,7 +154,7 @@ leaves-out wanted among s t turn.Over here leaves = leaves-over wanted among s h
 -- after having gone on to a place that is known
 
 pub leaves-out-gone : (wanted : Wanted) (among : List Event) (s t u : Search) (at : ℕ) (end : Turn) → s.at ≤ at → at < length among →
-    is_left (place_of s) (event_at among at) ≡ true → IsTooMuch among (place_of s) s.at at → HasGone among s at t → fails_now wanted t.board ≡ false →
+    is_left (place_of s) (event_at among at) ≡ true → IsTooMuch among (place_of s) s.at at → HasGone among s at t → fails_at wanted t.board t.left ≡ false →
     LeavesOut wanted among t u end → LeavesOut wanted among s u end
 leaves-out-gone wanted among s t u at turn.On on below left much gone fine out =
     λ none. leaves-gone wanted among 0 s t at (omega arith) on below left much gone fine (out none)
@@ -178,7 +178,7 @@ less-both among s t u turn.On first second = omega (arith, first, second)
 less-both among s t u turn.Found first second = tt
 less-both among s t u turn.Over first second = tt
 
--- the end of a schedule was judged before it left
+-- a schedule was counted before it left
 pub leaves-same : (s t u : Search) (end : Turn) → t.saved.items ≡ s.saved.items → t.path.items ≡ s.path.items → Leaves t u end → Leaves s u end
 leaves-same s t u turn.On saved path leaves = back-same s t u saved path leaves
 leaves-same s t u turn.Found saved path leaves = leaves

@@ -1,11 +1,10 @@
 -- A search that goes on has fewer turns left.
 use Rattle.std.proofs.Common.{◌≡◌, ℕ, zero, suc, ◌+◌, ◌-◌, ◌*◌, ◌<◌, ◌≤◌, List, [], ◌∷◌, ◌++◌, length, refl, sym, ap, subst, ◌∙◌, arith, inl, inr}
-use Rattle.std.specs.Prelude.{true, nat_lt}
+use Rattle.std.specs.Prelude.{true, nat_lt, Option}
 use Rattle.std.proofs.lemmas.Bool.{ltb-true, and_parts}
 use Rattle.std.proofs.Math.Nat.{suc-mul, mul-le-mul_right}
 use Rattle.brd_board.specs.declared.event.Event.{Event}
 use Rattle.brd_board.specs.declared.event.Event.TheVariants.{Step, Tick, Raise}
-use Rattle.brd_board.specs.Board.{BoardState}
 use Rattle.brd_explore.specs.declared.bounds.Bounds.{Bounds}
 use Rattle.brd_explore.specs.declared.search.Search.{Search}
 use Rattle.brd_explore.specs.declared.search.Saved.{Saved}
@@ -14,18 +13,18 @@ use Rattle.brd_explore.specs.Searching.{place_of, most_turns, most_saved, turns_
 
 -- something is left for an event, so one event fewer is left after it
 
-some-left : (left : Bounds) (b : BoardState) (last : ℕ) (event : Event) → affords left b last event ≡ true → 0 < left.events
+some-left : (left : Bounds) (last : Option ℕ) (event : Event) → affords left last event ≡ true → 0 < left.events
 unfolding affords
-some-left left b last event is = ltb-true 0 left.events (and_parts (nat_lt 0 left.events) (affords_one left b last event) is).0
+some-left left last event is = ltb-true 0 left.events (and_parts (nat_lt 0 left.events) (affords_one left last event) is).0
 
-one-fewer : (left : Bounds) (b : BoardState) (last : ℕ) (event : Event) → (spent left b last event).events ≡ left.events - 1
+one-fewer : (left : Bounds) (last : Option ℕ) (event : Event) → (spent left last event).events ≡ left.events - 1
 unfolding spent
-one-fewer left b last (Step cpu) = refl
-one-fewer left b last Tick = refl
-one-fewer left b last (Raise line) = refl
+one-fewer left last (Step cpu) = refl
+one-fewer left last Tick = refl
+one-fewer left last (Raise line) = refl
 
-pub left-after : (p : Place) (event : Event) → is_left p event ≡ true → p.left.events ≡ suc (spent p.left p.board p.last event).events
-left-after p event is = omega (arith, some-left p.left p.board p.last event is, one-fewer p.left p.board p.last event)
+pub left-after : (p : Place) (event : Event) → is_left p event ≡ true → p.left.events ≡ suc (spent p.left p.last event).events
+left-after p event is = omega (arith, some-left p.left p.last event is, one-fewer p.left p.last event)
 
 -- turns that are left at a place
 
@@ -59,7 +58,7 @@ Events p = p.left.events
 
 gone-place : (among : List Event) (s t : Search) (at left : ℕ) → s.left.events ≡ suc left → HasGone among s at t → t.left.events ≡ left
 gone-place among s t at left is gone =
-    let here : t.left.events ≡ s.left.events - 1 = ap Events gone.place ∙ one-fewer s.left s.board s.last (event_at among at) in
+    let here : t.left.events ≡ s.left.events - 1 = ap Events gone.place ∙ one-fewer s.left s.last (event_at among at) in
     omega (arith, here, is)
 
 kept-less : (among : List Event) (s t : Search) (at left : ℕ) → s.at ≤ at → at < length among → s.left.events ≡ suc left → KeepsRest among s at t →
@@ -80,7 +79,7 @@ kept-less among s t at left on below is (inr more) =
 pub less-gone : (among : List Event) (s t : Search) (at : ℕ) → s.at ≤ at → at < length among → is_left (place_of s) (event_at among at) ≡ true →
     HasGone among s at t → turns_left among t < turns_left among s
 less-gone among s t at on below left gone =
-    let after = (spent s.left s.board s.last (event_at among at)).events in
+    let after = (spent s.left s.last (event_at among at)).events in
     let is : s.left.events ≡ suc after = left-after (place_of s) (event_at among at) left in
     let less = kept-less among s t at after on below is gone.saved in
     let here : most_turns (length among) t.left.events t.at ≡ most_turns (length among) after 0 =
@@ -91,7 +90,7 @@ less-gone among s t at on below left gone =
 less-later : (among : List Event) (s t : Search) (at : ℕ) → s.at ≤ at → at < length among → is_left (place_of s) (event_at among at) ≡ true →
     place_of t ≡ place_of s → t.at ≡ at + 1 → t.saved.items ≡ s.saved.items → turns_left among t < turns_left among s
 less-later among s t at on below left place later kept =
-    let after = (spent s.left s.board s.last (event_at among at)).events in
+    let after = (spent s.left s.last (event_at among at)).events in
     let is : s.left.events ≡ suc after = left-after (place_of s) (event_at among at) left in
     let here : most_turns (length among) t.left.events t.at ≡ most_turns (length among) (suc after) (at + 1) =
     ap (λ k. most_turns (length among) k t.at) (ap Events place ∙ is) ∙ ap (most_turns (length among) (suc after)) later in

@@ -1,15 +1,15 @@
 -- The path of a search leads to where it is.
 use Rattle.std.proofs.Common.{◌≡◌, ℕ, ◌+◌, ◌<◌, ◌≤◌, List, [], ◌∷◌, ◌++◌, length, take, refl, sym, ap, subst, ◌∙◌, arith, inl, inr}
 use Rattle.std.specs.Prelude.{true, false, if◌then◌else◌}
-use Rattle.std.proofs.lemmas.Bool.{cases_lt, false≢true}
+use Rattle.std.proofs.lemmas.Bool.{false≢true}
 use Rattle.std.proofs.lemmas.List.{length-take-le, take_all, take-take, take-append-le, length-append}
 use Rattle.brd_board.specs.declared.event.Event.{Event}
 use Rattle.brd_explore.specs.declared.search.Search.{Search}
 use Rattle.brd_explore.specs.declared.search.Saved.{Saved}
 use Rattle.brd_explore.specs.declared.wanted.Wanted.{Wanted}
-use Rattle.brd_explore.specs.Schedules.{Place, does, is_left, next, place_after, event_at, IsAmong, IsWithin, IsEnd}
-use Rattle.brd_explore.specs.Failures.{fails_now, fails_at_end}
-use Rattle.brd_explore.specs.Searching.{FailsAt, IsFound, IsTooMuch, place_of, place_of_saved, Leads, AreOnPath, IsOnPath, HasGone, HasStayed, HasPassed, HasGoneBack, KeepsRest}
+use Rattle.brd_explore.specs.Schedules.{Place, does, is_left, next, place_after, event_at, IsAmong, IsWithin}
+use Rattle.brd_explore.specs.Failures.{fails_at}
+use Rattle.brd_explore.specs.Searching.{FailsAt, IsFound, place_of, place_of_saved, Leads, AreOnPath, IsOnPath, HasGone, HasStayed, HasPassed, HasGoneBack, KeepsRest}
 use Rattle.brd_explore.proofs.LessLemmas.{left-after}
 
 -- what leads to a place is within the bounds
@@ -105,36 +105,18 @@ on-gone among from s t at below left on gone = record {
   here = leads-gone among from s t at below left on gone;
   saved = subst (λ es. AreOnPath among from es 0 t.saved.items) (sym gone.path)
       (on-more among from s.path.items (event_at among at ∷ []) 0 t.saved.items (on-kept among from s t at on gone.saved));
-  tried = λ fresh k less below left. absurd (omega (arith, less, gone.at));
 }
 
-tried-stayed : (among : List Event) (from : Place) (s t : Search) (at : ℕ) → s.at ≤ at → IsTooMuch among (place_of s) s.at at →
-    IsOnPath among from s → HasStayed among s at t → s.fresh ≡ true → (k : ℕ) → k < at + 1 → k < length among →
-    is_left (place_of s) (event_at among k) ≡ true → does s.board (event_at among k) ≡ false
-tried-stayed among from s t at before much on stayed fresh k less below left = elim (cases_lt k s.at) [
-  | inl lt ↦ on.tried fresh k lt below left
-  | inr ge ↦ elim (cases_lt k at) [
-    | inl lt ↦ absurd (false≢true (sym (much k ge lt) ∙ left))
-    | inr more ↦ let same : at ≡ k = omega (arith, more, less) in subst (λ n. does s.board (event_at among n) ≡ false) same stayed.did
-  ]
-]
-
-pub on-stayed : (among : List Event) (from : Place) (s t : Search) (at : ℕ) → s.at ≤ at → IsTooMuch among (place_of s) s.at at →
-    IsOnPath among from s → HasStayed among s at t → IsOnPath among from t
-on-stayed among from s t at before much on stayed = record {
+pub on-stayed : (among : List Event) (from : Place) (s t : Search) (at : ℕ) → IsOnPath among from s → HasStayed among s at t → IsOnPath among from t
+on-stayed among from s t at on stayed = record {
   here = subst (Leads among from t.path.items) (sym stayed.place) (subst (λ es. Leads among from es (place_of s)) (sym stayed.path) on.here);
   saved = subst (λ es. AreOnPath among from es 0 t.saved.items) (sym stayed.path) (subst (AreOnPath among from s.path.items 0) (sym stayed.saved) on.saved);
-  tried = λ fresh k less below left.
-      ap (λ (p : Place). does p.board (event_at among k)) stayed.place
-      ∙ tried-stayed among from s t at before much on stayed (sym stayed.fresh ∙ fresh) k (omega (arith, less, stayed.at)) below
-      (subst (λ (p : Place). is_left p (event_at among k) ≡ true) stayed.place left);
 }
 
 pub on-passed : (among : List Event) (from : Place) (s t : Search) (at : ℕ) → IsOnPath among from s → HasPassed s at t → IsOnPath among from t
 on-passed among from s t at on passed = record {
   here = subst (Leads among from t.path.items) (sym passed.place) (subst (λ es. Leads among from es (place_of s)) (sym passed.path) on.here);
   saved = subst (λ es. AreOnPath among from es 0 t.saved.items) (sym passed.path) (subst (AreOnPath among from s.path.items 0) (sym passed.saved) on.saved);
-  tried = λ fresh k less below left. absurd (false≢true (sym passed.fresh ∙ fresh));
 }
 
 pub on-back-gone : (among : List Event) (from : Place) (s t : Search) → IsOnPath among from s → HasGoneBack s t → IsOnPath among from t
@@ -144,34 +126,18 @@ on-back-gone among from s t on back =
       here = subst (Leads among from t.path.items) (sym back.place)
           (subst (λ es. Leads among from es (place_of_saved back.f)) (sym back.path) (last-on among from s.path.items 0 t.saved.items back.f saved).1);
       saved = subst (λ es. AreOnPath among from es 0 t.saved.items) (sym back.path) (on-back among from s.path.items 0 t.saved.items back.f saved);
-      tried = λ fresh k less below left. absurd (false≢true (sym back.fresh ∙ fresh));
     }
 
 -- what is found
 
 pub found-here : (wanted : Wanted) (among : List Event) (from : Place) (es : List Event) (to : Place) → Leads among from es to →
-    FailsAt wanted among to → IsFound wanted among from es
+    FailsAt wanted to → IsFound wanted among from es
 found-here wanted among from es to leads fails = record {
   within = leads-within among from es to leads;
   few = leads-few among from es to leads;
-  fails = subst (FailsAt wanted among) (sym (leads-after among from es to leads)) fails;
+  fails = subst (FailsAt wanted) (sym (leads-after among from es to leads)) fails;
 }
 
-pub found-now : (wanted : Wanted) (among : List Event) (from : Place) (t : Search) → IsOnPath among from t → fails_now wanted t.board ≡ true →
-    IsFound wanted among from t.path.items
-found-now wanted among from t on fails = found-here wanted among from t.path.items (place_of t) on.here (inl fails)
-
--- what was tried at an end, and what is too much there
-end-here : (among : List Event) (from : Place) (s : Search) → IsOnPath among from s → s.fresh ≡ true →
-    IsTooMuch among (place_of s) s.at (length among) → IsEnd among (place_of s)
-end-here among from s on fresh much k below left = elim (cases_lt k s.at) [
-  | inl lt ↦ on.tried fresh k lt below left
-  | inr ge ↦ absurd (false≢true (sym (much k ge below) ∙ left))
-]
-
-pub found-end : (wanted : Wanted) (among : List Event) (from : Place) (s : Search) (path : List Event) → IsOnPath among from s →
-    IsTooMuch among (place_of s) s.at (length among) → s.fresh ≡ true → fails_at_end wanted s.board ≡ true → path ≡ s.path.items →
-    IsFound wanted among from path
-found-end wanted among from s path on much fresh fails same =
-    subst (IsFound wanted among from) (sym same)
-    (found-here wanted among from s.path.items (place_of s) on.here (inr (end-here among from s on fresh much, fails)))
+pub found-now : (wanted : Wanted) (among : List Event) (from : Place) (t : Search) → IsOnPath among from t →
+    fails_at wanted t.board t.left ≡ true → IsFound wanted among from t.path.items
+found-now wanted among from t on fails = found-here wanted among from t.path.items (place_of t) on.here fails

@@ -1,21 +1,18 @@
 -- What a search leaves out doesn't fail.
 use Rattle.std.proofs.Common.{◌≡◌, ℕ, ◌+◌, ◌<◌, ◌≤◌, List, [], ◌∷◌, ◌++◌, length, drop, refl, sym, ap, subst, ◌∙◌, arith, ◌⊎◌, inl, inr}
-use Rattle.std.specs.List.{list_any}
-use Rattle.std.specs.Prelude.{not, ◌==◌, ◌&&◌, true, false, All, Some, if◌then◌else◌}
-use Rattle.std.proofs.lemmas.Bool.{cases_lt, cases_Bool, and_parts, false≢true}
+use Rattle.std.specs.Prelude.{true, false, All, Some, if◌then◌else◌}
+use Rattle.std.proofs.lemmas.Bool.{cases_lt, cases_Bool, false≢true}
 use Rattle.std.proofs.lemmas.List.{drop_all, drop-append-le}
 use Rattle.std.proofs.lemmas.List.Elements.{All-nil, All-push, All-pop}
 use Rattle.brd_board.specs.declared.event.Event.{Event}
-use Rattle.brd_board.specs.declared.event.Event.TheVariants.{Step, Tick, Raise}
 use Rattle.brd_board.specs.Board.{BoardState}
 use Rattle.brd_explore.specs.declared.search.Search.{Search}
 use Rattle.brd_explore.specs.declared.search.Saved.{Saved}
 use Rattle.brd_explore.specs.declared.wanted.Wanted.{Wanted}
-use Rattle.brd_explore.specs.Schedules.{Place, does, is_left, next, place_after, event_at, IsEnd}
-use Rattle.brd_explore.specs.Failures.{fails_now, fails_at_end}
-use Rattle.brd_explore.specs.Sleeping.{Spot, next_spot, sleeps, executes, is_strange, is_left_out}
+use Rattle.brd_explore.specs.Schedules.{Place, does, is_left, next, place_after, event_at}
+use Rattle.brd_explore.specs.Failures.{fails_at}
+use Rattle.brd_explore.specs.Sleeping.{Spot, next_spot, is_left_out}
 use Rattle.brd_explore.specs.Searching.{FailsAt, NoneGoes, NoneGoesBy, NoneGoesFrom, IsTooMuch, place_of, spot_of, spot_of_saved, NoneHere, NoneLeftFrom, NoneLeft, HasGone, HasStayed, HasPassed, HasGoneBack, KeepsRest}
-use Rattle.brd_explore.proofs.CommuteLemmas.{executes-does}
 
 -- whichever way a test of an event goes
 pub does-or : (b : BoardState) (e : Event) → (does b e ≡ true) ⊎ (does b e ≡ false)
@@ -28,8 +25,8 @@ pub after-nothing : (p : Place) (e : Event) (es : List Event) → does p.board e
 after-nothing p e es none = ap (λ test. if test then place_after (next p e) es else place_after p es) none
 
 -- Where the place doesn't fail, and no schedule that begins with one of the events fails, none does.
-pub none-goes : (wanted : Wanted) (among : List Event) (spot : Spot) → NoneGoesFrom wanted among spot 0 → (FailsAt wanted among spot.place → ⊥) → NoneGoes wanted among spot
-none-goes wanted among spot begins here [] to leads fails = here (subst (FailsAt wanted among) (sym leads) fails)
+pub none-goes : (wanted : Wanted) (among : List Event) (spot : Spot) → NoneGoesFrom wanted among spot 0 → (FailsAt wanted spot.place → ⊥) → NoneGoes wanted among spot
+none-goes wanted among spot begins here [] to leads fails = here (subst (FailsAt wanted) (sym leads) fails)
 none-goes wanted among spot begins here (e ∷ es) to leads fails =
     let one = leads.0 in
     let none : NoneGoesBy wanted among spot e = subst (NoneGoesBy wanted among spot) one.is (begins one.at (omega arith) one.within) in
@@ -52,28 +49,11 @@ none-more wanted among spot from at on much here rest k above below = elim (case
 
 -- what is left after going on, and before it
 
-pub out-does : (wanted : Wanted) (among : List Event) (spot : Spot) (e : Event) → is_left_out wanted among spot e ≡ true → does spot.place.board e ≡ true
-unfolding is_left_out
-out-does wanted among spot (Step cpu) is =
-    let one = and_parts (sleeps spot.asleep cpu && not (spot.place.last == cpu) && executes spot.place.board cpu && wanted.rounds == 0) (not (list_any is_strange among)) is in
-    let two = and_parts (sleeps spot.asleep cpu && not (spot.place.last == cpu) && executes spot.place.board cpu) (wanted.rounds == 0) one.0 in
-    executes-does spot.place.board cpu (and_parts (sleeps spot.asleep cpu && not (spot.place.last == cpu)) (executes spot.place.board cpu) two.0).1
-out-does wanted among spot Tick is = absurd (false≢true is)
-out-does wanted among spot (Raise line) is = absurd (false≢true is)
-
-end-left : (wanted : Wanted) (among : List Event) (s : Search) (at : ℕ) → s.at ≤ at → at < length among → is_left (place_of s) (event_at among at) ≡ true →
-    does s.board (event_at among at) ≡ true → IsEnd among (place_of s) → ⊥
-end-left wanted among s at on below left did is = false≢true (sym (is at below left) ∙ did)
-
-pub failing : (wanted : Wanted) (among : List Event) (t : Search) → NoneHere wanted among t → t.fresh ≡ true → fails_now wanted t.board ≡ false → FailsAt wanted among (place_of t) → ⊥
-failing wanted among t none fresh fine (inl now) = false≢true (sym fine ∙ now)
-failing wanted among t none fresh fine (inr last) = none.«end» fresh last.0 last.1
-
 -- no schedule fails from a place that a search has just come to, and from where it has nothing left
-pub none-from : (wanted : Wanted) (among : List Event) (t : Search) → NoneHere wanted among t → t.at ≡ 0 → t.fresh ≡ true → fails_now wanted t.board ≡ false →
+pub none-from : (wanted : Wanted) (among : List Event) (t : Search) → NoneHere wanted among t → t.at ≡ 0 → fails_at wanted t.board t.left ≡ false →
     NoneGoes wanted among (spot_of t)
-none-from wanted among t none at fresh fine =
-    none-goes wanted among (spot_of t) (subst (NoneGoesFrom wanted among (spot_of t)) at none.here) (failing wanted among t none fresh fine)
+none-from wanted among t none at fine =
+    none-goes wanted among (spot_of t) (subst (NoneGoesFrom wanted among (spot_of t)) at none) (λ fails. false≢true (sym fine ∙ fails))
 
 -- a saved place from which nothing fails
 abbrev IsFine : Wanted → List Event → Saved → Type 0
@@ -95,18 +75,15 @@ kept-rest wanted among height s t at low (inr more) all =
     (subst (λ spot. NoneGoesFrom wanted among spot (at + 1)) same (subst (NoneGoesFrom wanted among (spot_of_saved more.0)) more.3 parts.1), parts.0)
 
 pub leaves-gone : (wanted : Wanted) (among : List Event) (height : ℕ) (s t : Search) (at : ℕ) → height ≤ length s.saved.items → s.at ≤ at → at < length among →
-    is_left (place_of s) (event_at among at) ≡ true → IsTooMuch among (place_of s) s.at at → HasGone among s at t → fails_now wanted t.board ≡ false →
+    is_left (place_of s) (event_at among at) ≡ true → IsTooMuch among (place_of s) s.at at → HasGone among s at t → fails_at wanted t.board t.left ≡ false →
     NoneLeftFrom wanted among height t → NoneLeftFrom wanted among height s
 leaves-gone wanted among height s t at low on below left much gone fine none =
-    let there : NoneGoes wanted among (spot_of t) = none-from wanted among t none.here gone.at gone.fresh fine in
+    let there : NoneGoes wanted among (spot_of t) = none-from wanted among t none.here gone.at fine in
     let same : spot_of t ≡ next_spot (spot_of s) (event_at among at) = λ i. record { place = gone.place i; asleep = gone.asleep i } in
     let begins : NoneGoesBy wanted among (spot_of s) (event_at among at) = λ did is tried. subst (NoneGoes wanted among) same there in
     let kept = kept-rest wanted among height s t at low gone.saved none.saved in
     record {
-      here = record {
-        here = none-more wanted among (spot_of s) s.at at on much begins kept.0;
-        «end» = λ fresh is bad. end-left wanted among s at on below left gone.did is;
-      };
+      here = none-more wanted among (spot_of s) s.at at on much begins kept.0;
       saved = kept.1;
     }
 
@@ -120,44 +97,29 @@ from-stayed wanted among s t at place asleep is none =
 pub leaves-stayed : (wanted : Wanted) (among : List Event) (height : ℕ) (s t : Search) (at : ℕ) → s.at ≤ at → IsTooMuch among (place_of s) s.at at →
     HasStayed among s at t → NoneLeftFrom wanted among height t → NoneLeftFrom wanted among height s
 leaves-stayed wanted among height s t at on much stayed none = record {
-  here = record {
-    here = none-more wanted among (spot_of s) s.at at on much (λ did left tried. absurd (false≢true (sym stayed.did ∙ did)))
-        (from-stayed wanted among s t at stayed.place stayed.asleep stayed.at none.here.here);
-    «end» = λ fresh is bad. none.here.«end» (stayed.fresh ∙ fresh) (subst (IsEnd among) (sym stayed.place) is)
-        (ap (λ (p : Place). fails_at_end wanted p.board) stayed.place ∙ bad);
-  };
+  here = none-more wanted among (spot_of s) s.at at on much (λ did left tried. absurd (false≢true (sym stayed.did ∙ did)))
+      (from-stayed wanted among s t at stayed.place stayed.asleep stayed.at none.here);
   saved = subst (λ fs. All (IsFine wanted among) (drop height fs)) stayed.saved none.saved;
 }
 
 -- it has left an event out, which would have done something
 pub leaves-passed : (wanted : Wanted) (among : List Event) (height : ℕ) (s t : Search) (at : ℕ) → s.at ≤ at → at < length among →
-    is_left (place_of s) (event_at among at) ≡ true → IsTooMuch among (place_of s) s.at at → is_left_out wanted among (spot_of s) (event_at among at) ≡ true →
+    is_left (place_of s) (event_at among at) ≡ true → IsTooMuch among (place_of s) s.at at → is_left_out wanted (spot_of s) (event_at among at) ≡ true →
     HasPassed s at t → NoneLeftFrom wanted among height t → NoneLeftFrom wanted among height s
 leaves-passed wanted among height s t at on below left much out passed none = record {
-  here = record {
-    here = none-more wanted among (spot_of s) s.at at on much (λ did is tried. absurd (false≢true (sym tried ∙ out)))
-        (from-stayed wanted among s t at passed.place passed.asleep passed.at none.here.here);
-    «end» = λ fresh is bad. end-left wanted among s at on below left (out-does wanted among (spot_of s) (event_at among at) out) is;
-  };
+  here = none-more wanted among (spot_of s) s.at at on much (λ did is tried. absurd (false≢true (sym tried ∙ out)))
+      (from-stayed wanted among s t at passed.place passed.asleep passed.at none.here);
   saved = subst (λ fs. All (IsFine wanted among) (drop height fs)) passed.saved none.saved;
 }
 
 -- where nothing is left
-
-pub none-judged : (wanted : Wanted) (among : List Event) (s : Search) → IsTooMuch among (place_of s) s.at (length among) →
-    (s.fresh ≡ true → fails_at_end wanted s.board ≡ true → ⊥) → NoneHere wanted among s
-none-judged wanted among s much fine = record {
-  here = none-too_much wanted among (spot_of s) s.at much;
-  «end» = λ fresh is bad. fine fresh bad;
-}
+pub none-over : (wanted : Wanted) (among : List Event) (s : Search) → IsTooMuch among (place_of s) s.at (length among) → NoneHere wanted among s
+none-over wanted among s much = none-too_much wanted among (spot_of s) s.at much
 
 -- and so it is where no schedule fails
 pub none-known : (wanted : Wanted) (among : List Event) (s : Search) → NoneGoes wanted among (spot_of s) → NoneHere wanted among s
-none-known wanted among s none = record {
-  here = λ k above below did left tried es to leads fails.
-      none (event_at among k ∷ es) to (record { at = k; within = below; is = refl }, left, did, tried, leads) fails;
-  «end» = λ fresh is bad. none [] (place_of s) refl (inr (is, bad));
-}
+none-known wanted among s none k above below did left tried es to leads fails =
+    none (event_at among k ∷ es) to (record { at = k; within = below; is = refl }, left, did, tried, leads) fails
 
 -- all the saved places are below
 pub none-below : (wanted : Wanted) (among : List Event) (height : ℕ) (s : Search) → NoneHere wanted among s → length s.saved.items ≤ height →
@@ -175,7 +137,7 @@ leaves-back wanted among height s t low here back none =
       here = here;
       saved = subst (All (IsFine wanted among)) (sym (ap (drop height) back.saved ∙ drop-append-le height t.saved.items (back.f ∷ []) low))
           (All-push (IsFine wanted among) (drop height t.saved.items) back.f none.saved
-          (subst (NoneGoesFrom wanted among (spot_of_saved back.f)) back.at (subst (λ spot. NoneGoesFrom wanted among spot t.at) same none.here.here)));
+          (subst (NoneGoesFrom wanted among (spot_of_saved back.f)) back.at (subst (λ spot. NoneGoesFrom wanted among spot t.at) same none.here)));
     }
 
 pub leaves-over : (wanted : Wanted) (among : List Event) (s : Search) → NoneHere wanted among s → s.saved.items ≡ [] → NoneLeft wanted among s

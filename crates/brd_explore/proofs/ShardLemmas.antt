@@ -12,11 +12,11 @@ use Rattle.brd_journal.specs.Still.{did_nothing}
 use Rattle.brd_explore.specs.declared.shard.Shard.{Shard}
 use Rattle.brd_explore.specs.declared.search.Search.{Search}
 use Rattle.brd_explore.specs.declared.wanted.Wanted.{Wanted}
-use Rattle.brd_explore.specs.Schedules.{Place, does, is_left, next, one_if, event_at, IsWithin, IsEnd}
-use Rattle.brd_explore.specs.Failures.{fails_now, fails_at_end}
+use Rattle.brd_explore.specs.Schedules.{Place, does, is_left, next, one_if, event_at, IsWithin}
+use Rattle.brd_explore.specs.Failures.{fails_at}
 use Rattle.brd_explore.specs.Searching.{FailsAt, Fails, IsFound, NoneFails, NoneGoes, NoneBegins, NoneLeft, Leads, AreOnPath, IsOnPath, Takes, IsSame, IsSized, Finds, LeavesOut, LeadsOn, ended_by, place_of, spot_of}
 use Rattle.brd_explore.specs.Shards.{may_come, ways, branches, IsOnBranch, IsInShard, NoneFailsInShard, AnswersInShard}
-use Rattle.brd_explore.specs.Sharing.{IsFirst, NoneOnBranches, BeginsHere, SearchesFrom, SearchesBranch, SearchesBranches, SearchesShard, SearchesWay, SoFar, IsOnTrunk, EndsTrunk, GoesOn, PathFails, HasComeAlong}
+use Rattle.brd_explore.specs.Sharing.{IsFirst, NoneOnBranches, BeginsHere, SearchesFrom, SearchesBranch, SearchesBranches, SearchesShard, SearchesWay, SoFar, IsOnTrunk, GoesOn, PathFails, HasComeAlong}
 use Rattle.brd_explore.specs.Sleeping.{awake}
 use Rattle.brd_explore.proofs.AwakeLemmas.{none-awake}
 use Rattle.brd_explore.proofs.SearchLemmas.{does-or, after-doing, after-nothing, none-from}
@@ -70,20 +70,15 @@ comes-of p e left did = ap (λ x. x && does p.board e) left ∙ did
 
 -- Where none of a shard's branches fails, and none of its schedules that goes on along the trunk, none of the shard does.
 pub none-in-shard : (wanted : Wanted) (shard : Shard) (among : List Event) (p : Place) (before first : ℕ) → IsFirst among p first →
-    fails_now wanted p.board ≡ false → NoneOnBranches wanted shard among p before (length among) →
+    fails_at wanted p.board p.left ≡ false → NoneOnBranches wanted shard among p before (length among) →
     NoneFailsInShard wanted shard among (next p (event_at among first)) (before + branches among p) → NoneFailsInShard wanted shard among p before
-none-in-shard wanted shard among p before first is fine branch trunk [] within ours fails = elim fails [
-  | inl now ↦ false≢true (sym fine ∙ now)
-  | inr last ↦
-      let parts = and_parts (is_left p (event_at among first)) (does p.board (event_at among first)) is.comes in
-      false≢true (sym (last.0 first is.within parts.0) ∙ parts.1)
-]
+none-in-shard wanted shard among p before first is fine branch trunk [] within ours fails = false≢true (sym fine ∙ fails)
 none-in-shard wanted shard among p before first is fine branch trunk (e ∷ es) within ours fails = elim (does-or p.board e) [
   | inl did ↦
       let w = within.0 did in
       let o = ours.0 did in
       let at = o.0 in
-      let there : Fails wanted among (next p e) es = subst (FailsAt wanted among) (after-doing p e es did) fails in
+      let there : Fails wanted (next p e) es = subst (FailsAt wanted) (after-doing p e es did) fails in
       let comes : may_come p (event_at among at) ≡ true = subst (λ x. may_come p x ≡ true) (sym o.2) (comes-of p e w.1 did) in
       elim o.3 [
         | inl on ↦
@@ -94,35 +89,20 @@ none-in-shard wanted shard among p before first is fine branch trunk (e ∷ es) 
             none did w.1 es w.2 there
       ]
   | inr not ↦ none-in-shard wanted shard among p before first is fine branch trunk es (within.1 not) (ours.1 not)
-      (subst (FailsAt wanted among) (after-nothing p e es not) fails)
+      (subst (FailsAt wanted) (after-nothing p e es not) fails)
 ]
 
--- where no event may come, the end of the trunk is all
+-- where no event may come, the place is all
 pub none-at-end : (wanted : Wanted) (shard : Shard) (among : List Event) (p : Place) (before : ℕ) → ways among p (length among) ≡ 0 →
-    fails_now wanted p.board ≡ false → fails_at_end wanted p.board ≡ false → NoneFailsInShard wanted shard among p before
-none-at-end wanted shard among p before none fine well [] within ours fails = elim fails [
-  | inl now ↦ false≢true (sym fine ∙ now)
-  | inr last ↦ false≢true (sym well ∙ last.1)
-]
-none-at-end wanted shard among p before none fine well (e ∷ es) within ours fails = elim (does-or p.board e) [
+    fails_at wanted p.board p.left ≡ false → NoneFailsInShard wanted shard among p before
+none-at-end wanted shard among p before none fine [] within ours fails = false≢true (sym fine ∙ fails)
+none-at-end wanted shard among p before none fine (e ∷ es) within ours fails = elim (does-or p.board e) [
   | inl did ↦
       let w = within.0 did in
       let comes : may_come p (event_at among w.0.at) ≡ true = subst (λ x. may_come p x ≡ true) (sym w.0.is) (comes-of p e w.1 did) in
       absurd (omega (arith, ways-on among p (suc w.0.at) (length among) (omega (arith, w.0.within)), ways-more among p w.0.at comes, none))
-  | inr not ↦ none-at-end wanted shard among p before none fine well es (within.1 not) (ours.1 not)
-      (subst (FailsAt wanted among) (after-nothing p e es not) fails)
-]
-
--- an end, where none may come
-pub end-of-trunk : (among : List Event) (p : Place) → ways among p (length among) ≡ 0 → IsEnd among p
-end-of-trunk among p none k below left = elim (does-or p.board (event_at among k)) [
-  | inl did ↦ absurd (omega (
-    arith,
-    ways-on among p (suc k) (length among) (omega (arith, below)),
-    ways-more among p k (comes-of p (event_at among k) left did),
-    none,
-  ))
-  | inr not ↦ not
+  | inr not ↦ none-at-end wanted shard among p before none fine es (within.1 not) (ours.1 not)
+      (subst (FailsAt wanted) (after-nothing p e es not) fails)
 ]
 
 -- Each schedule within the bounds is in a shard.
@@ -203,7 +183,6 @@ branch-on among from s t at below comes on place path none nothing =
           (subst (λ es. Leads among from es (next (place_of s) (event_at among at))) (sym path)
           (leads-on among from s.path.items (place_of s) (event_at among at) on.here (record { at = at; within = below; is = refl }) parts.0 parts.1));
       saved = subst (AreOnPath among from t.path.items 0) (sym nothing) (omega arith);
-      tried = λ fresh k less below left. absurd (omega (arith, less, none));
     }
 
 -- a search that begins here leaves nothing out that fails
@@ -213,24 +192,16 @@ none-begun wanted among s begins none =
     none-awake wanted among (place_of s) (subst (NoneGoes wanted among) same none)
 
 -- a search that begins here, and has nothing left
-pub none-here : (wanted : Wanted) (among : List Event) (s : Search) → BeginsHere s → fails_now wanted s.board ≡ false → NoneLeft wanted among s →
+pub none-here : (wanted : Wanted) (among : List Event) (s : Search) → BeginsHere s → fails_at wanted s.board s.left ≡ false → NoneLeft wanted among s →
     NoneFails wanted among (place_of s)
 none-here wanted among s begins fine none =
-    none-begun wanted among s begins (none-from wanted among s none.here begins.at begins.fresh fine)
+    none-begun wanted among s begins (none-from wanted among s none.here begins.at fine)
 
-pub searched-from : (wanted : Wanted) (among : List Event) (s t : Search) (found : Bool) → BeginsHere s → fails_now wanted s.board ≡ false →
+pub searched-from : (wanted : Wanted) (among : List Event) (s t : Search) (found : Bool) → BeginsHere s → fails_at wanted s.board s.left ≡ false →
     LeavesOut wanted among s t (ended_by found) → ((f : Place) → IsOnPath among f s → LeadsOn wanted among f t (ended_by found)) →
     SearchesFrom wanted among s t found
 searched-from wanted among s t true begins fine out on = λ from is. on from is
 searched-from wanted among s t false begins fine out on = none-here wanted among s begins fine out
-
--- the end of the trunk fails, or not
-pub trunk-found : (wanted : Wanted) (among : List Event) (from : Place) (s : Search) (path : List Event) → IsOnPath among from s →
-    ways among (place_of s) (length among) ≡ 0 → fails_at_end wanted s.board ≡ true → path ≡ s.path.items →
-    IsFound wanted among from path
-trunk-found wanted among from s path on none fails same =
-    subst (IsFound wanted among from) (sym same)
-    (found-here wanted among from s.path.items (place_of s) on.here (inr (end-of-trunk among (place_of s) none, fails)))
 
 -- the number of the branches so far
 
@@ -296,10 +267,6 @@ pub same-on : (among : List Event) (from : Place) (s t : Search) → IsSame s t 
 same-on among from s t same on = record {
   here = subst (Leads among from t.path.items) (sym same.place) (subst (λ es. Leads among from es (place_of s)) (sym same.path) on.here);
   saved = subst (λ es. AreOnPath among from es 0 t.saved.items) (sym same.path) (subst (AreOnPath among from s.path.items 0) (sym same.saved) on.saved);
-  tried = λ fresh k less below left.
-      ap (λ (p : Place). does p.board (event_at among k)) same.place
-      ∙ on.tried (sym same.fresh ∙ fresh) k (omega (arith, less, same.at)) below
-      (subst (λ (p : Place). is_left p (event_at among k) ≡ true) same.place left);
 }
 
 -- the branches that leave a place, one after the other
@@ -341,7 +308,7 @@ so-more wanted shard among s number at t number' u next false is so way = record
 
 -- what the search of a branch came to
 
-pub searched-run : {E : Type 0} (wanted : Wanted) (among : List Event) (s t : Search) (r : Result Bool E) → BeginsHere s → fails_now wanted s.board ≡ false →
+pub searched-run : {E : Type 0} (wanted : Wanted) (among : List Event) (s t : Search) (r : Result Bool E) → BeginsHere s → fails_at wanted s.board s.left ≡ false →
     IfOk r (λ found. LeavesOut wanted among s t (ended_by found)) →
     ((f : Place) → IsOnPath among f s → IfOk r (λ found. LeadsOn wanted among f t (ended_by found))) → IfOk r (SearchesFrom wanted among s t)
 searched-run wanted among s t (Ok found) begins fine out on = searched-from wanted among s t found begins fine out on
@@ -367,16 +334,6 @@ branch-none wanted among at s b t w u v done false is comes place takes woken se
     let there = branch-place s b (event_at among at) done place comes t takes in
     (same, λ did left. subst (NoneFails wanted among) (woken ∙ there.0) searched)
 
-pub trunk-judged : {E : Type 0} (wanted : Wanted) (among : List Event) (s t : Search) (r : Result Bool E) → IsOnTrunk wanted s →
-    ways among (place_of s) (length among) ≡ 0 → IfOk r (λ fails. fails ≡ (s.fresh && fails_at_end wanted s.board)) → t.path.items ≡ s.path.items →
-    IfOk r (EndsTrunk wanted among s t)
-trunk-judged wanted among s t (Err error) trunk over is path = tt
-trunk-judged wanted among s t (Ok true) trunk over is path = λ from on.
-    trunk-found wanted among from s t.path.items on over
-    (sym (is ∙ ap (λ fresh. fresh && fails_at_end wanted s.board) trunk.fresh)) path
-trunk-judged wanted among s t (Ok false) trunk over is path = λ shard before.
-    none-at-end wanted shard among (place_of s) before over trunk.fine (sym (is ∙ ap (λ fresh. fresh && fails_at_end wanted s.board) trunk.fresh))
-
 -- a step along the trunk
 
 trunk-saved : (s b t : Search) → IsSame s b → s.saved.items ≡ [] → t.saved.items ≡ b.saved.items → t.saved.items ≡ []
@@ -384,7 +341,7 @@ trunk-saved s b t same none saved = saved ∙ same.saved ∙ none
 
 pub trunk-goes : (wanted : Wanted) (shard : Shard) (among : List Event) (first : ℕ) (s b t : Search) (number number' : ℕ) (found done : Bool) → found ≡ false →
     IsOnTrunk wanted s → IsFirst among (place_of s) first → SearchesBranches wanted shard among s number b number' found →
-    Takes b (event_at among first) t done → t.saved.items ≡ b.saved.items → fails_now wanted t.board ≡ false → IsSized t →
+    Takes b (event_at among first) t done → t.saved.items ≡ b.saved.items → fails_at wanted t.board t.left ≡ false → IsSized t →
     GoesOn wanted shard among s number t number'
 trunk-goes wanted shard among first s b t number number' true done is trunk one searched takes saved fine sized = absurd (false≢true (sym is))
 trunk-goes wanted shard among first s b t number number' false done is trunk one searched takes saved fine sized =
@@ -406,7 +363,7 @@ trunk-goes wanted shard among first s b t number number' false done is trunk one
 
 pub trunk-fails : (wanted : Wanted) (shard : Shard) (among : List Event) (first : ℕ) (s b t : Search) (number number' : ℕ) (found done : Bool) → found ≡ false →
     IsOnTrunk wanted s → IsFirst among (place_of s) first → SearchesBranches wanted shard among s number b number' found →
-    Takes b (event_at among first) t done → t.saved.items ≡ b.saved.items → fails_now wanted t.board ≡ true → PathFails wanted among s t
+    Takes b (event_at among first) t done → t.saved.items ≡ b.saved.items → fails_at wanted t.board t.left ≡ true → PathFails wanted among s t
 trunk-fails wanted shard among first s b t number number' true done is trunk one searched takes saved bad = absurd (false≢true (sym is))
 trunk-fails wanted shard among first s b t number number' false done is trunk one searched takes saved bad = λ from on.
     let there = branch-place s b (event_at among first) done searched.0.place one.comes t takes in
@@ -443,7 +400,6 @@ finds-in-shard wanted shard among from s t true schedule place path begins searc
     (searched from (record {
       here = subst (λ es. Leads among from es (place_of s)) (sym path) (sym place);
       saved = subst (AreOnPath among from s.path.items 0) (sym begins.saved) (omega arith);
-      tried = λ fresh k less below left. absurd (omega (arith, less, begins.at));
     }))
 finds-in-shard wanted shard among from s t false schedule place path begins searched is =
     subst (AnswersInShard wanted shard among from) (sym is) (subst (λ p. NoneFailsInShard wanted shard among p 0) place searched)

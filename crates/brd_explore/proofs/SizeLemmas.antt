@@ -1,6 +1,6 @@
 -- Boards that a search keeps are of one size and order.
 use Rattle.std.proofs.Common.{◌≡◌, ℕ, zero, suc, List, [], ◌∷◌, ◌++◌, refl, sym, ap, subst, ◌∙◌}
-use Rattle.std.specs.Prelude.{Bool, true, false, not, All, if◌then◌else◌}
+use Rattle.std.specs.Prelude.{Bool, true, false, not, All, Option, if◌then◌else◌}
 use Rattle.std.proofs.lemmas.List.Elements.{All-push, All-weaker}
 use Rattle.brd_board.specs.declared.event.Event.{Event}
 use Rattle.brd_board.specs.declared.event.Report.{Report}
@@ -69,7 +69,7 @@ sized-put s t b before done sized alike is was saved spare =
           (subst (λ x. AreAlike x t.board) (sym was) here);
     }
 
-pub same-place : (a b : BoardState) (l m : Bounds) (x y : ℕ) → a ≡ b → l ≡ m → x ≡ y →
+pub same-place : (a b : BoardState) (l m : Bounds) (x y : Option ℕ) → a ≡ b → l ≡ m → x ≡ y →
     ◌≡◌ {A = Place} (record { board = a; left = l; last = x }) (record { board = b; left = m; last = y })
 same-place a b l m x y board left last = cc
 

@@ -11,6 +11,7 @@ use Rattle.brd_board.specs.declared.event.Event.{Event}
 use Rattle.brd_board.specs.declared.event.Event.TheVariants.{Step}
 use Rattle.brd_board.specs.Board.{BoardState, after, fault_of, task_of}
 use Rattle.brd_explore.specs.Schedules.{does}
+use Rattle.brd_explore.specs.declared.bounds.Bounds.{Bounds}
 use Rattle.brd_explore.specs.declared.wanted.Failure.{Failure}
 use Rattle.brd_explore.specs.declared.wanted.Failure.TheVariants as failure
 use Rattle.brd_explore.specs.declared.wanted.Wanted.{Wanted}
@@ -93,6 +94,24 @@ fails_at_last b failure.On = not b.kernel.off
 unfoldable pub fails_now : Wanted → BoardState → Bool
 fails_now wanted b = list_any (fails_by_now b) wanted.failures
 
+-- Some failure of last boards is one that a board shows.
+abbrev pub lacks : Wanted → BoardState → Bool
+lacks wanted b = list_any (fails_at_last b) wanted.failures
+
+-- A board is at rest: it is off, or nobody goes and no wait ends by a tick.
+unfoldable pub is_at_rest : BoardState → Bool
+is_at_rest b = b.kernel.off || (nobody_goes b && not (some_are_due b))
+
+-- A schedule comes to an end where the board is off, or is at rest and no raise is owed any more, whatever is left of
+-- the bounds. (A program that is right only after its interrupt isn't told wrong before it.)
+unfoldable pub is_end : BoardState → Bounds → Bool
+is_end b left = b.kernel.off || (left.owed == 0 && is_at_rest b)
+
+-- It is cut short where it has come to no end, and no event is left, or nobody goes, and no tick is left for a wait that
+-- would end by one.
+unfoldable pub is_cut : BoardState → Bounds → Bool
+is_cut b left = not (is_end b left) && (left.events == 0 || (left.ticks == 0 && nobody_goes b && some_are_due b))
+
 -- The fair end: a number of rounds of the same events. (Whoever asks for it makes a round in which every processor has
 -- its turn, and time passes.)
 abbrev pub rounds : ℕ → List Event → BoardState → BoardState
@@ -102,30 +121,33 @@ rounds (suc n) round b = after (rounds n round b) round
 unfoldable pub ended : Wanted → BoardState → BoardState
 ended wanted b = rounds wanted.rounds wanted.round b
 
--- A board is at rest: it is off, or nobody goes and no wait ends by a tick.
-abbrev pub is_at_rest : BoardState → Bool
-is_at_rest b = b.kernel.off || (not (some_are_due b) && nobody_goes b)
+-- Where a board goes on to the fair end, the board there shows a failure, or one of a last board.
+unfoldable pub fails_fairly : Wanted → BoardState → Bool
+fails_fairly wanted b = fails_now wanted (ended wanted b) || lacks wanted (ended wanted b)
 
--- An end is judged by what a last board may lack where there is a fair end, or where the board is at rest. (Else the
--- bounds may have cut the schedule short, and what it lacks says nothing.)
-unfoldable pub is_judged : Wanted → BoardState → Bool
-is_judged wanted b = nat_lt 0 wanted.rounds || is_at_rest b
+-- A schedule that is cut short goes on to a fair end, if there is one, and no raise is owed.
+unfoldable pub goes_fairly : Wanted → BoardState → Bounds → Bool
+goes_fairly wanted b left = nat_lt 0 wanted.rounds && left.owed == 0 && is_cut b left
 
--- Where a schedule's last board goes on to its fair end, the board there shows a failure, or one of a last board.
-unfoldable pub fails_at_end : Wanted → BoardState → Bool
-fails_at_end wanted b =
-    fails_now wanted (ended wanted b)
-    || (list_any (fails_at_last (ended wanted b)) wanted.failures && is_judged wanted (ended wanted b))
+-- A schedule fails where it has led to a board, with so much left of the bounds: the board shows a failure; or this is
+-- an end, and the board shows one of a last board; or it goes on to a fair end, which fails.
+unfoldable pub fails_at : Wanted → BoardState → Bounds → Bool
+fails_at wanted b left =
+    fails_now wanted b || (is_end b left && lacks wanted b) || (goes_fairly wanted b left && fails_fairly wanted b)
 
 -- the first of some failures of which this is so
 abbrev pub first_so : (Failure → Bool) → List Failure → Option Failure
 first_so is [] = None
 first_so is (one ∷ others) = if is one then Some one else first_so is others
 
--- Which failure a list's last board shows: the first of those that it shows; if it shows none, the first that the end
--- shows to which it goes on, and if that shows none, the first that this end shows as a last board.
+-- the board by which the end of a list is judged: its last one, if that is at rest, else the one after the fair end
+unfoldable pub last_of : Wanted → BoardState → BoardState
+last_of wanted b = if is_at_rest b then b else ended wanted b
+
+-- Which failure a list's last board shows: the first of those that it shows; if it shows none, the first that the board
+-- shows by which the end is judged, and if that shows none, the first that this one shows as a last board.
 unfoldable pub shown_failure : Wanted → BoardState → Option Failure
 shown_failure wanted b =
     option_or (first_so (fails_by_now b) wanted.failures)
-    (option_or (first_so (fails_by_now (ended wanted b)) wanted.failures)
-    (first_so (fails_at_last (ended wanted b)) wanted.failures))
+    (option_or (first_so (fails_by_now (last_of wanted b)) wanted.failures)
+    (first_so (fails_at_last (last_of wanted b)) wanted.failures))

@@ -1,7 +1,6 @@
 -- What a search knows of places. (Contracts of private functions alone name this.)
-use Rattle.std.specs.Prelude.{◌≡◌, ◌⊎◌, ℕ, ◌≤◌, nat_le, ◌==◌, Bool, not, ◌&&◌, ◌||◌, List, [], ◌∷◌, ◌++◌}
+use Rattle.std.specs.Prelude.{◌≡◌, ◌⊎◌, ℕ, ◌≤◌, nat_le, ◌==◌, Bool, ◌&&◌, ◌||◌, List, [], ◌∷◌, ◌++◌}
 use Rattle.std.specs.Prelude.{length, All, IfSome}
-use Rattle.std.specs.List.{list_any}
 use Rattle.brd_board.specs.declared.event.Event.{Event}
 use Rattle.brd_explore.specs.declared.bounds.Bounds.{Bounds}
 use Rattle.brd_explore.specs.declared.wanted.Wanted.{Wanted}
@@ -10,22 +9,28 @@ use Rattle.brd_explore.specs.declared.search.Turn.{Turn}
 use Rattle.brd_explore.specs.declared.search.Turn.TheVariants as turn
 use Rattle.brd_explore.specs.declared.known.Kept.{Kept}
 use Rattle.brd_explore.specs.declared.known.Known.{Known}
-use Rattle.brd_explore.specs.Sleeping.{Spot, is_strange}
+use Rattle.brd_explore.specs.Sleeping.{Spot}
 use Rattle.brd_explore.specs.Searching.{HasGoneBack, NoneGoes, NoneLeftFrom, spot_of}
 
--- A place with more left may answer for one with less: no end goes on to a fair end, so that one that is judged is at
--- rest, where no step does anything, whatever is left for it.
-abbrev pub may_have_more : Wanted → List Event → Bool
-may_have_more wanted among = wanted.rounds == 0 && not (list_any is_strange among)
+-- A place with more left may answer for one with less if nothing goes on to a fair end: then what fails at a place
+-- doesn't depend on what is left for it, but for the raises that are owed.
+abbrev pub may_have_more : Wanted → Bool
+may_have_more wanted = wanted.rounds == 0
 
--- As much is left of one as of another, or more if it may be: of preemptions, and where no tick and no raise is left, of
--- events.
+-- no less is left of one than of another
+abbrev pub is_more : Bounds → Bounds → Bool
+is_more one other =
+    nat_le other.events one.events && nat_le other.preemptions one.preemptions && nat_le other.ticks one.ticks
+    && nat_le other.raises one.raises
+
+abbrev pub is_as_much : Bounds → Bounds → Bool
+is_as_much one other =
+    one.events == other.events && one.preemptions == other.preemptions && one.ticks == other.ticks
+    && one.raises == other.raises
+
+-- As much is left of one as of another, or more if it may be; as many raises are owed.
 unfoldable pub is_enough : Bool → Bounds → Bounds → Bool
-is_enough more one other =
-    one.ticks == other.ticks && one.raises == other.raises
-    && (one.events == other.events && one.preemptions == other.preemptions
-    || more && nat_le other.preemptions one.preemptions
-    && (one.events == other.events || nat_le other.events one.events && one.ticks == 0 && one.raises == 0))
+is_enough more one other = one.owed == other.owed && (is_as_much one other || more && is_more one other)
 
 abbrev pub spot_of_kept : Kept → Spot
 spot_of_kept k = record { place = record { board = k.board; left = k.left; last = k.last }; asleep = k.asleep }

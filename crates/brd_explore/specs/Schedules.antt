@@ -1,6 +1,6 @@
 -- Schedules of a board within bounds: which event may come, and what each takes of the bounds.
-use Rattle.std.specs.Prelude.{◌≡◌, ℕ, ◌-◌, ◌<◌, nat_lt, ◌==◌, Bool, true, false, not, ◌&&◌, ◌||◌, if◌then◌else◌, List}
-use Rattle.std.specs.Prelude.{[], ◌∷◌, length, slice_index_or, is_some}
+use Rattle.std.specs.Prelude.{◌≡◌, ℕ, ◌-◌, ◌<◌, ◌≤◌, nat_lt, ◌==◌, Bool, true, false, not, ◌&&◌, ◌||◌, if◌then◌else◌, List}
+use Rattle.std.specs.Prelude.{[], ◌∷◌, length, slice_index_or, Option, Some, None, is_some}
 use Rattle.brd_board.specs.declared.event.Event.{Event}
 use Rattle.brd_board.specs.declared.event.Event.TheVariants.{Step, Tick, Raise}
 use Rattle.brd_board.specs.Board.{BoardState, happens, registers_of}
@@ -11,58 +11,64 @@ use Rattle.brd_explore.specs.declared.bounds.Bounds.{Bounds}
 unfoldable pub does : BoardState → Event → Bool
 does b event = not (did_nothing (happens b event).report)
 
--- A step of a processor preempts another one, the one that stepped last, if somebody executes there. Leaving a
--- processor that can't go on is free (Musuvathi and Qadeer, Iterative Context Bounding, 2007); so is leaving one on
--- which nobody executes, though an interrupt is about to be accepted there (own choice).
-unfoldable pub preempts : BoardState → ℕ → ℕ → Bool
-preempts b last cpu = not (cpu == last) && is_some (registers_of b last)
+-- Which processor a step of another one would preempt, after an event that has led to a board: the one that has stepped
+-- last, if somebody executed there right after its step. Ticks and raises are nobody's steps. To leave a processor that
+-- can't go on is free (Musuvathi and Qadeer, Iterative Context Bounding, 2007); so is leaving one on which nobody
+-- executes, though an interrupt is about to be accepted there (own choice).
+abbrev pub stepper : BoardState → Option ℕ → Event → Option ℕ
+stepper b last (Step cpu) = if is_some (registers_of b cpu) then Some cpu else None
+stepper b last Tick = last
+stepper b last (Raise line) = last
+
+abbrev pub is_last : Option ℕ → ℕ → Bool
+is_last None cpu = false
+is_last (Some last) cpu = last == cpu
+
+abbrev pub preempts : Option ℕ → ℕ → Bool
+preempts None cpu = false
+preempts (Some last) cpu = not (last == cpu)
 
 -- Something is left of the bounds for an event: an event, and a preemption where it preempts, a tick or a raise.
-abbrev pub affords_one : Bounds → BoardState → ℕ → Event → Bool
-affords_one left b last (Step cpu) = nat_lt 0 left.preemptions || not (preempts b last cpu)
-affords_one left b last Tick = nat_lt 0 left.ticks
-affords_one left b last (Raise line) = nat_lt 0 left.raises
+abbrev pub affords_one : Bounds → Option ℕ → Event → Bool
+affords_one left last (Step cpu) = nat_lt 0 left.preemptions || not (preempts last cpu)
+affords_one left last Tick = nat_lt 0 left.ticks
+affords_one left last (Raise line) = nat_lt 0 left.raises
 
-unfoldable pub affords : Bounds → BoardState → ℕ → Event → Bool
-affords left b last event = nat_lt 0 left.events && affords_one left b last event
+unfoldable pub affords : Bounds → Option ℕ → Event → Bool
+affords left last event = nat_lt 0 left.events && affords_one left last event
 
 -- what is left after it
 abbrev pub one_if : Bool → ℕ
 one_if true = 1
 one_if false = 0
 
-unfoldable pub spent : Bounds → BoardState → ℕ → Event → Bounds
-spent left b last (Step cpu) =
-    record left { events = left.events - 1; preemptions = left.preemptions - one_if (preempts b last cpu) }
-spent left b last Tick = record left { events = left.events - 1; ticks = left.ticks - 1 }
-spent left b last (Raise line) = record left { events = left.events - 1; raises = left.raises - 1 }
+unfoldable pub spent : Bounds → Option ℕ → Event → Bounds
+spent left last (Step cpu) =
+    record left { events = left.events - 1; preemptions = left.preemptions - one_if (preempts last cpu) }
+spent left last Tick = record left { events = left.events - 1; ticks = left.ticks - 1 }
+spent left last (Raise line) =
+    record left { events = left.events - 1; raises = left.raises - 1; owed = left.owed - 1 }
 
--- who has stepped last: ticks and raises are nobody's steps
-abbrev pub stepper : ℕ → Event → ℕ
-stepper last (Step cpu) = cpu
-stepper last Tick = last
-stepper last (Raise line) = last
-
--- A place on a schedule: the board, what is left of the bounds, and which processor has stepped last (0: none has).
+-- A place on a schedule: the board, what is left of the bounds, and which processor a step of another one preempts.
 pub record Place : Type 0 where
   pub board : BoardState
   pub left : Bounds
-  pub last : ℕ
+  pub last : Option ℕ
 
 -- where a schedule begins
 abbrev pub start : BoardState → Bounds → Place
-start b bounds = record { board = b; left = bounds; last = 0 }
+start b bounds = record { board = b; left = bounds; last = None }
 
 abbrev pub is_left : Place → Event → Bool
-is_left p event = affords p.left p.board p.last event
+is_left p event = affords p.left p.last event
 
 -- the place after an event that does something
 abbrev pub next : Place → Event → Place
 next p event =
     record {
       board = (happens p.board event).board;
-      left = spent p.left p.board p.last event;
-      last = stepper p.last event;
+      left = spent p.left p.last event;
+      last = stepper (happens p.board event).board p.last event;
     }
 
 -- The place after a list of events. An event that does nothing is nobody's, and takes nothing of the bounds.
@@ -87,7 +93,12 @@ IsWithin among p (event ∷ events) =
     (does p.board event ≡ true → IsAmong among event × (is_left p event ≡ true) × IsWithin among (next p event) events)
     × (does p.board event ≡ false → IsWithin among p events)
 
--- A place is an end where nothing more can come: each event that may come does nothing, or nothing is left for it.
-abbrev pub IsEnd : List Event → Place → Type 0
-IsEnd among p =
-    (k : ℕ) → k < length among → is_left p (event_at among k) ≡ true → does p.board (event_at among k) ≡ false
+-- Of the same place no less is left, and as many raises are owed.
+pub record IsRicher (rich poor : Place) : Type 0 where
+  pub board : rich.board ≡ poor.board
+  pub last : rich.last ≡ poor.last
+  pub events : poor.left.events ≤ rich.left.events
+  pub preemptions : poor.left.preemptions ≤ rich.left.preemptions
+  pub ticks : poor.left.ticks ≤ rich.left.ticks
+  pub raises : poor.left.raises ≤ rich.left.raises
+  pub owed : rich.left.owed ≡ poor.left.owed

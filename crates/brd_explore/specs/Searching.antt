@@ -9,27 +9,27 @@ use Rattle.brd_explore.specs.declared.search.Search.{Search}
 use Rattle.brd_explore.specs.declared.search.Saved.{Saved}
 use Rattle.brd_explore.specs.declared.search.Turn.{Turn}
 use Rattle.brd_explore.specs.declared.search.Turn.TheVariants as turn
-use Rattle.brd_explore.specs.Schedules.{Place, does, is_left, next, place_after, event_at, IsAmong, IsWithin, IsEnd}
-use Rattle.brd_explore.specs.Failures.{fails_now, fails_at_end}
+use Rattle.brd_explore.specs.Schedules.{Place, does, is_left, next, place_after, event_at, IsAmong, IsWithin}
+use Rattle.brd_explore.specs.Failures.{fails_at}
 use Rattle.brd_explore.specs.Sleeping.{Spot, next_spot, asleep_after, is_left_out}
 
--- At a place a schedule fails: its board shows a failure, or the place is an end, and the end shows one.
-abbrev pub FailsAt : Wanted → List Event → Place → Type 0
-FailsAt wanted among p = (fails_now wanted p.board ≡ true) ⊎ (IsEnd among p × (fails_at_end wanted p.board ≡ true))
+-- At a place a schedule fails.
+abbrev pub FailsAt : Wanted → Place → Type 0
+FailsAt wanted p = fails_at wanted p.board p.left ≡ true
 
 -- A schedule fails.
-abbrev pub Fails : Wanted → List Event → Place → List Event → Type 0
-Fails wanted among p events = FailsAt wanted among (place_after p events)
+abbrev pub Fails : Wanted → Place → List Event → Type 0
+Fails wanted p events = FailsAt wanted (place_after p events)
 
 -- A schedule that was found: it is within the bounds, has no more events than they leave, and fails.
 pub record IsFound (wanted : Wanted) (among : List Event) (from : Place) (events : List Event) : Type 0 where
   pub within : IsWithin among from events
   pub few : length events ≤ from.left.events
-  pub fails : Fails wanted among from events
+  pub fails : Fails wanted from events
 
 -- no schedule from a place fails
 abbrev pub NoneFails : Wanted → List Event → Place → Type 0
-NoneFails wanted among p = (events : List Event) → IsWithin among p events → Fails wanted among p events → ⊥
+NoneFails wanted among p = (events : List Event) → IsWithin among p events → Fails wanted p events → ⊥
 
 -- none that begins with an event that does something
 abbrev pub NoneBegins : Wanted → List Event → Place → Event → Type 0
@@ -41,18 +41,18 @@ abbrev pub LeadsAwake : Wanted → List Event → Spot → List Event → Place 
 LeadsAwake wanted among spot [] to = spot.place ≡ to
 LeadsAwake wanted among spot (event ∷ events) to =
     IsAmong among event × (is_left spot.place event ≡ true) × (does spot.place.board event ≡ true)
-    × (is_left_out wanted among spot event ≡ false) × LeadsAwake wanted among (next_spot spot event) events to
+    × (is_left_out wanted spot event ≡ false) × LeadsAwake wanted among (next_spot spot event) events to
 
 -- no schedule from a spot fails on which nothing is left out
 abbrev pub NoneGoes : Wanted → List Event → Spot → Type 0
 NoneGoes wanted among spot =
-    (events : List Event) (to : Place) → LeadsAwake wanted among spot events to → FailsAt wanted among to → ⊥
+    (events : List Event) (to : Place) → LeadsAwake wanted among spot events to → FailsAt wanted to → ⊥
 
 -- none that begins with an event that does something
 abbrev pub NoneGoesBy : Wanted → List Event → Spot → Event → Type 0
 NoneGoesBy wanted among spot event =
     does spot.place.board event ≡ true → is_left spot.place event ≡ true →
-    is_left_out wanted among spot event ≡ false → NoneGoes wanted among (next_spot spot event)
+    is_left_out wanted spot event ≡ false → NoneGoes wanted among (next_spot spot event)
 
 -- none that begins with one of the events from an index on
 abbrev pub NoneGoesFrom : Wanted → List Event → Spot → ℕ → Type 0
@@ -77,10 +77,8 @@ abbrev pub spot_of_saved : Saved → Spot
 spot_of_saved s = record { place = place_of_saved s; asleep = s.asleep }
 
 -- what a search hasn't looked at yet from where it is doesn't fail
-pub record NoneHere (wanted : Wanted) (among : List Event) (s : Search) : Type 0 where
-  pub here : NoneGoesFrom wanted among (spot_of s) s.at
-  -- where no event has come here yet, this may be an end
-  pub «end» : s.fresh ≡ true → IsEnd among (place_of s) → fails_at_end wanted s.board ≡ true → ⊥
+abbrev pub NoneHere : Wanted → List Event → Search → Type 0
+NoneHere wanted among s = NoneGoesFrom wanted among (spot_of s) s.at
 
 -- nor does it from the saved places, but for the first ones
 pub record NoneLeftFrom (wanted : Wanted) (among : List Event) (height : ℕ) (s : Search) : Type 0 where
@@ -102,12 +100,10 @@ AreOnPath among from path len [] = len ≤ length path
 AreOnPath among from path len (f ∷ fs) =
     (len ≤ f.len) × Leads among from (take f.len path) (place_of_saved f) × AreOnPath among from path f.len fs
 
--- The path of a search leads to where it is, and what was tried there has done nothing if nothing has come yet.
+-- The path of a search leads to where it is.
 pub record IsOnPath (among : List Event) (from : Place) (s : Search) : Type 0 where
   pub here : Leads among from s.path.items (place_of s)
   pub saved : AreOnPath among from s.path.items 0 s.saved.items
-  pub tried : s.fresh ≡ true → (k : ℕ) → k < s.at → k < length among → is_left (place_of s) (event_at among k) ≡ true →
-      does s.board (event_at among k) ≡ false
 
 -- boards of one size and order, which can be copied to each other
 pub record AreAlike (a b : BoardState) : Type 0 where

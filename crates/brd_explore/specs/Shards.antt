@@ -41,7 +41,7 @@ IsInShard shard among p before (event ∷ events) =
 abbrev pub NoneFailsInShard : Wanted → Shard → List Event → Place → ℕ → Type 0
 NoneFailsInShard wanted shard among p before =
     (events : List Event) → IsWithin among p events → IsInShard shard among p before events →
-    Fails wanted among p events → ⊥
+    Fails wanted p events → ⊥
 
 -- What the search of a shard answers is so: the schedule is one that was found, or none of the shard fails.
 abbrev pub AnswersInShard : Wanted → Shard → List Event → Place → Option (List Event) → Type 0

@@ -7,7 +7,7 @@ use Rattle.brd_explore.specs.declared.search.Turn.TheVariants as turn
 use Rattle.brd_explore.specs.declared.shard.Shard.{Shard}
 use Rattle.brd_explore.specs.declared.wanted.Wanted.{Wanted}
 use Rattle.brd_explore.specs.Schedules.{Place, event_at}
-use Rattle.brd_explore.specs.Failures.{fails_now}
+use Rattle.brd_explore.specs.Failures.{fails_at}
 use Rattle.brd_explore.specs.Searching.{IsFound, IsOnPath, IsSame, IsSized, NoneBegins, NoneFails, place_of}
 use Rattle.brd_explore.specs.Shards.{branches, may_come, ways, IsOnBranch, NoneFailsInShard}
 
@@ -16,7 +16,7 @@ pub record IsOnTrunk (wanted : Wanted) (s : Search) : Type 0 where
   pub at : s.at ≡ 0
   pub fresh : s.fresh ≡ true
   pub saved : s.saved.items ≡ []
-  pub fine : fails_now wanted s.board ≡ false
+  pub fine : fails_at wanted s.board s.left ≡ false
   pub sized : IsSized s
 
 -- an event is the first one that may come
@@ -71,12 +71,6 @@ GoesAlong wanted shard among s number t number' turn.On = GoesOn wanted shard am
 GoesAlong wanted shard among s number t number' turn.Found = PathFails wanted among s t
 GoesAlong wanted shard among s number t number' turn.Over =
     (before : ℕ) → NoneFailsInShard wanted shard among (place_of s) before
-
--- what the end of the trunk came to
-abbrev pub EndsTrunk : Wanted → List Event → Search → Search → Bool → Type 0
-EndsTrunk wanted among s t true = PathFails wanted among s t
-EndsTrunk wanted among s t false =
-    (shard : Shard) (before : ℕ) → NoneFailsInShard wanted shard among (place_of s) before
 
 -- what the whole search of a shard came to
 abbrev pub SearchesShard : Wanted → Shard → List Event → Search → Search → Bool → Type 0

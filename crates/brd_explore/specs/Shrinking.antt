@@ -1,14 +1,16 @@
 -- What is left of a list of events that fails.
-use Rattle.std.specs.Prelude.{◌≡◌, ◌⊎◌, ℕ, ◌+◌, ◌<◌, Bool, false, ◌||◌, List, [], ◌∷◌, ◌++◌, length, take, drop}
+use Rattle.std.specs.Prelude.{◌≡◌, ◌⊎◌, ℕ, ◌+◌, ◌<◌, Bool, false, nat_lt, ◌||◌, ◌&&◌, if◌then◌else◌, List, [], ◌∷◌, ◌++◌, length, take, drop}
 use Rattle.brd_board.specs.declared.event.Event.{Event}
 use Rattle.brd_board.specs.Board.{BoardState, after}
 use Rattle.brd_explore.specs.declared.wanted.Wanted.{Wanted}
-use Rattle.brd_explore.specs.Failures.{fails_now, fails_at_end}
+use Rattle.brd_explore.specs.Failures.{fails_now, is_at_rest, lacks, fails_fairly}
 
--- A list of events fails: the board after it shows a failure, or the end of the list does. (Unlike a schedule within
--- bounds, a list may end where more could come; where there is no fair end, its last board is the end.)
+-- A list of events fails: the board after it shows a failure; or it is at rest, and shows one of a last board; or it
+-- goes on to a fair end, if there is one, which fails. (Unlike a schedule within bounds, a list owes no raises, and may
+-- end where more could come.)
 unfoldable pub fails_after : Wanted → BoardState → Bool
-fails_after wanted b = fails_now wanted b || fails_at_end wanted b
+fails_after wanted b =
+    fails_now wanted b || (if is_at_rest b then lacks wanted b else (nat_lt 0 wanted.rounds && fails_fairly wanted b))
 
 abbrev pub is_failing : Wanted → BoardState → List Event → Bool
 is_failing wanted b events = fails_after wanted (after b events)

@@ -4,9 +4,8 @@
 -- execute one instruction after the other, and leave that instruction's word as it was: all of these could as well come
 -- before it. So where another processor has stepped last, its next step is left out: the schedule on which it executes
 -- that instruction just before this step comes to the same board, with the same events, and preempts no more often.
-use Rattle.std.specs.Prelude.{ℕ, ◌+◌, ◌%◌, ◌==◌, nat_le, Bool, true, false, not, ◌&&◌, if◌then◌else◌, List}
+use Rattle.std.specs.Prelude.{ℕ, ◌+◌, ◌%◌, ◌==◌, Bool, true, false, not, ◌&&◌, if◌then◌else◌}
 use Rattle.std.specs.Prelude.{Option, Some, None, is_some}
-use Rattle.std.specs.List.{list_any}
 use Rattle.brd_isa.specs.declared.instruction.Insn.{Insn}
 use Rattle.brd_isa.specs.Decoding.{decoded}
 use Rattle.brd_isa.specs.Local.{is_local}
@@ -22,7 +21,7 @@ use Rattle.brd_board.specs.Board.{BoardState, Happened, happens, registers_of, s
 use Rattle.brd_explore.specs.declared.asleep.Asleep.{Asleep}
 use Rattle.brd_explore.specs.declared.wanted.Wanted.{Wanted}
 use Rattle.brd_explore.specs.Failures.{word_in, is_value}
-use Rattle.brd_explore.specs.Schedules.{Place, next}
+use Rattle.brd_explore.specs.Schedules.{Place, is_last, next}
 
 -- an instruction was executed, and went on
 abbrev pub has_run : Report → Bool
@@ -123,21 +122,14 @@ abbrev pub sleeps : Option Asleep → ℕ → Bool
 sleeps None cpu = false
 sleeps (Some asleep) cpu = asleep.cpu == cpu
 
--- a step of a processor that isn't there
-abbrev pub is_strange : Event → Bool
-is_strange (Step cpu) = nat_le 9 cpu
-is_strange Tick = false
-is_strange (Raise line) = false
-
 -- somebody executes on a processor of a board that is on
 abbrev pub executes : BoardState → ℕ → Bool
 executes b cpu = not b.kernel.off && is_some (registers_of b cpu)
 
 -- A step is left out whose processor sleeps, and wasn't the last one to step. (Where the end of a schedule goes on to a
 -- fair end, every step is tried.)
-unfoldable pub is_left_out : Wanted → List Event → Spot → Event → Bool
-is_left_out wanted among spot (Step cpu) =
-    sleeps spot.asleep cpu && not (spot.place.last == cpu) && executes spot.place.board cpu && wanted.rounds == 0
-    && not (list_any is_strange among)
-is_left_out wanted among spot Tick = false
-is_left_out wanted among spot (Raise line) = false
+unfoldable pub is_left_out : Wanted → Spot → Event → Bool
+is_left_out wanted spot (Step cpu) =
+    sleeps spot.asleep cpu && not (is_last spot.place.last cpu) && executes spot.place.board cpu && wanted.rounds == 0
+is_left_out wanted spot Tick = false
+is_left_out wanted spot (Raise line) = false

@@ -1,7 +1,6 @@
 //! Who sleeps: whose next step a search leaves out.
 
 ghost use Rattle.std.specs.Prelude.{◌≡◌};
-ghost use Rattle.std.specs.List.{list_any};
 ghost use Rattle.brd_board.specs.Board.{happens, standing_of};
 ghost use Rattle.brd_explore.specs.Sleeping.{
   apart_from,
@@ -13,7 +12,6 @@ ghost use Rattle.brd_explore.specs.Sleeping.{
   falls_asleep,
   has_run,
   is_kept,
-  is_strange,
   sleeps,
   task_in,
 };
@@ -173,27 +171,5 @@ pub(crate) fn sleeps(asleep: Option<Asleep>, cpu: u8) -> bool
     match asleep {
         Some(asleep) => asleep.cpu == cpu,
         None => false,
-    }
-}
-
-/// Whether some event is a step of a processor that isn't there.
-pub(crate) fn some_are_strange(among: &[Event]) -> bool
-    ensures { result ≡ list_any is_strange among.now }
-{
-    for event in among {
-        if is_strange(*event) {
-            return true;
-        }
-    }
-    false
-}
-
-/// Whether an event is a step of a processor that isn't there.
-fn is_strange(event: Event) -> bool
-    ensures { result ≡ is_strange event }
-{
-    match event {
-        Event::Step(cpu) => cpu >= 9,
-        Event::Tick | Event::Raise(_) => false,
     }
 }

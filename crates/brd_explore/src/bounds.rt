@@ -1,8 +1,9 @@
 //! What bounds leave for a schedule's next event.
 
-ghost use Rattle.std.specs.Prelude.{◌≡◌, true};
+ghost use Rattle.std.specs.Prelude.{◌≡◌, true, if◌then◌else◌, is_some, None, Some};
+ghost use Rattle.brd_board.specs.Board.{registers_of};
 ghost use Rattle.brd_journal.specs.Still.{did_nothing};
-ghost use Rattle.brd_explore.specs.Schedules.{preempts, affords, spent, stepper};
+ghost use Rattle.brd_explore.specs.Schedules.{affords, is_last, preempts, spent, stepper};
 
 use brd_board::{Board, Event, Report};
 
@@ -17,19 +18,21 @@ pub struct Bounds {
     pub ticks: u32,
     /// Interrupt lines that are raised.
     pub raises: u32,
+    /// How many raises have to come before a board at rest is an end.
+    pub owed: u32,
 }
 
 impl Bounds {
-    /// Whether an event may come next: something is left for it. The last step was this processor's.
+    /// Whether an event may come next: something is left for it. A step of another processor than `last` preempts it.
     #[tactic(auto, unfolding(crate::specs::Schedules::affords))]
-    pub(crate) fn affords(&self, board: &Board, last: u8, event: Event) -> bool
-        ensures { result ≡ affords self.now board.now last event }
+    pub(crate) fn affords(&self, last: Option<u8>, event: Event) -> bool
+        ensures { result ≡ affords self.now last event }
     {
         if self.events == 0 {
             return false;
         }
         match event {
-            Event::Step(cpu) => self.preemptions > 0 || !preempts(board, last, cpu),
+            Event::Step(cpu) => self.preemptions > 0 || !preempts(last, cpu),
             Event::Tick => self.ticks > 0,
             Event::Raise(_) => self.raises > 0,
         }
@@ -37,8 +40,8 @@ impl Bounds {
 
     /// What is left after an event for which something was left.
     #[tactic(auto, unfolding(crate::specs::Schedules::spent))]
-    pub(crate) fn spent(&self, board: &Board, last: u8, event: Event) -> Bounds
-        ensures { result ≡ spent self.now board.now last event }
+    pub(crate) fn spent(&self, last: Option<u8>, event: Event) -> Bounds
+        ensures { result ≡ spent self.now last event }
     {
         let events = self.events.saturating_sub(1);
         match event {
@@ -47,7 +50,7 @@ impl Bounds {
                     events,
                     preemptions: self
                         .preemptions
-                        .saturating_sub(u32::from(preempts(board, last, cpu))),
+                        .saturating_sub(u32::from(preempts(last, cpu))),
                     ..*self
                 }
             }
@@ -62,6 +65,7 @@ impl Bounds {
                 Bounds {
                     events,
                     raises: self.raises.saturating_sub(1),
+                    owed: self.owed.saturating_sub(1),
                     ..*self
                 }
             }
@@ -69,26 +73,49 @@ impl Bounds {
     }
 }
 
-/// Whether a step of a processor leaves another one, on which somebody executes.
-#[tactic(auto, unfolding(crate::specs::Schedules::preempts))]
-fn preempts(board: &Board, last: u8, cpu: u8) -> bool
-    ensures { result ≡ preempts board.now last cpu }
+/// Whether a step of a processor preempts the one that was left, if one was.
+fn preempts(last: Option<u8>, cpu: u8) -> bool
+    ensures { result ≡ preempts last cpu }
 {
-    cpu != last && board.registers(last).is_some()
+    match last {
+        Some(last) => last != cpu,
+        None => false,
+    }
 }
 
-/// Which processor has done the last step after an event.
-pub(crate) fn stepper(last: u8, event: Event) -> u8
-    ensures { result ≡ stepper last event }
+/// Whether a processor is the one that a step of another one would preempt.
+pub(crate) fn is_last(last: Option<u8>, cpu: u8) -> bool
+    ensures { result ≡ is_last last cpu }
+{
+    match last {
+        Some(last) => last == cpu,
+        None => false,
+    }
+}
+
+/// Which processor a step of another one would preempt, after an event that has led to a board.
+pub(crate) fn stepper(board: &Board, last: Option<u8>, event: Event) -> Option<u8>
+    ensures { result ≡ stepper board.now last event }
 {
     match event {
-        Event::Step(cpu) => cpu,
+        Event::Step(cpu) => left_by(board, cpu),
         Event::Tick | Event::Raise(_) => last,
     }
 }
 
+/// A processor, if somebody executes there.
+fn left_by(board: &Board, cpu: u8) -> Option<u8>
+    ensures { result ≡ (if is_some (registers_of board.now cpu) then Some cpu else None) }
+{
+    if board.registers(cpu).is_some() {
+        Some(cpu)
+    } else {
+        None
+    }
+}
+
 /// Whether a report says that nothing was done.
-pub(crate) fn did_nothing(report: Report) -> bool
+pub fn did_nothing(report: Report) -> bool
     ensures { result ≡ did_nothing report }
 {
     match report {

@@ -6,21 +6,21 @@ ghost use Rattle.brd_explore.specs.declared.search.Search.{Search as SearchOf};
 ghost use Rattle.brd_explore.specs.declared.wanted.Wanted.{Wanted as WantedOf};
 ghost use Rattle.brd_explore.specs.Searching.{NoneGoes, spot_of};
 ghost use Rattle.brd_explore.specs.Knowing.{spot_of_kept, AreDone, AreOver, ArePending, IsKeptOf, Notes};
-ghost use Rattle.brd_explore.specs.Knowing.{is_enough, may_have_more};
+ghost use Rattle.brd_explore.specs.Knowing.{is_as_much, is_enough, is_more, may_have_more};
 
-use crate::asleep::{Asleep, some_are_strange};
+use crate::asleep::Asleep;
 use crate::bounds::Bounds;
 use crate::search::Search;
 use crate::wanted::Wanted;
 use brd_base::NoMemory;
-use brd_board::{Board, Event};
+use brd_board::Board;
 use std::alloc::Global;
 
 /// A place that a search is to know again.
 pub struct Kept {
     board: Board,
     left: Bounds,
-    last: u8,
+    last: Option<u8>,
     asleep: Option<Asleep>,
     /// How many places there were to go back to when the search came here.
     height: usize,
@@ -79,11 +79,11 @@ impl Kept {
     /// Whether what was searched from here answers for the place where a search is, which has this mark. Where the marks
     /// differ the boards do, or who has stepped last.
     fn is_enough_for(&self, search: &Search, mark: u64, more: bool) -> bool
-        ensures { (wanted : WantedOf) (among : ListOf EventOf) → (more ≡ true → may_have_more wanted among ≡ true) →
+        ensures { (wanted : WantedOf) (among : ListOf EventOf) → (more ≡ true → may_have_more wanted ≡ true) →
             NoneGoes wanted among (spot_of_kept self.now) → result ≡ true →
             NoneGoes wanted among (spot_of search.now) }
     {
-        if self.mark != mark || self.last != search.last {
+        if self.mark != mark || !are_same(self.last, search.last) {
             return false;
         }
         if !covers(self.asleep, search.asleep) {
@@ -126,7 +126,7 @@ impl Known {
     /// or if `more` is allowed differs only in that less is left. (Where nobody sleeps at that one, anybody may here.) If
     /// not, it is kept as a pending one, where there is room and memory.
     pub(crate) fn knows(&mut self, search: &Search, more: bool) -> bool
-        ensures is { (wanted : WantedOf) (among : ListOf EventOf) → (more ≡ true → may_have_more wanted among ≡ true) →
+        ensures is { (wanted : WantedOf) (among : ListOf EventOf) → (more ≡ true → may_have_more wanted ≡ true) →
             AreDone wanted among self.old → result ≡ true → NoneGoes wanted among (spot_of search.now) }
         ensures done { (wanted : WantedOf) (among : ListOf EventOf) → AreDone wanted among self.old →
             AreDone wanted among self.new }
@@ -145,7 +145,7 @@ impl Known {
 
     /// Whether a place from which every schedule was searched answers for the one where a search is, of this mark.
     fn has(&self, search: &Search, mark: u64, more: bool) -> bool
-        ensures { (wanted : WantedOf) (among : ListOf EventOf) → (more ≡ true → may_have_more wanted among ≡ true) →
+        ensures { (wanted : WantedOf) (among : ListOf EventOf) → (more ≡ true → may_have_more wanted ≡ true) →
             AreDone wanted among self.now → result ≡ true → NoneGoes wanted among (spot_of search.now) }
     {
         let Some(slot) = self.slot(mark) else {
@@ -245,10 +245,10 @@ impl Known {
 }
 
 /// Whether a place with more left may answer for one with less.
-pub(crate) fn may_have_more(wanted: &Wanted, among: &[Event]) -> bool
-    ensures { result ≡ may_have_more wanted.now among.now }
+pub(crate) fn may_have_more(wanted: &Wanted) -> bool
+    ensures { result ≡ may_have_more wanted.now }
 {
-    wanted.rounds == 0 && !some_are_strange(among)
+    wanted.rounds == 0
 }
 
 /// Whether a place where the one sleeps answers for a place where the other one does: it is the same one, or nobody.
@@ -261,18 +261,39 @@ fn covers(one: Option<Asleep>, other: Option<Asleep>) -> bool
     one == other
 }
 
+/// Whether a step of another one would preempt the same processor, or none.
+fn are_same(one: Option<u8>, other: Option<u8>) -> bool
+    ensures { result ≡ true → one ≡ other }
+{
+    one == other
+}
+
 /// Whether as much is left of one as of another, or more if it may be.
 #[tactic(auto, unfolding(crate::specs::Knowing::is_enough))]
 fn is_enough(more: bool, one: Bounds, other: Bounds) -> bool
     ensures { result ≡ is_enough more one other }
 {
-    let same = one.events == other.events;
-    one.ticks == other.ticks
+    one.owed == other.owed && (is_as_much(one, other) || more && is_more(one, other))
+}
+
+/// Whether as much is left of one as of another.
+fn is_as_much(one: Bounds, other: Bounds) -> bool
+    ensures { result ≡ is_as_much one other }
+{
+    one.events == other.events
+        && one.preemptions == other.preemptions
+        && one.ticks == other.ticks
         && one.raises == other.raises
-        && (same && one.preemptions == other.preemptions
-            || more
-                && other.preemptions <= one.preemptions
-                && (same || other.events <= one.events && one.ticks == 0 && one.raises == 0))
+}
+
+/// Whether no less is left of one than of another.
+fn is_more(one: Bounds, other: Bounds) -> bool
+    ensures { result ≡ is_more one other }
+{
+    other.events <= one.events
+        && other.preemptions <= one.preemptions
+        && other.ticks <= one.ticks
+        && other.raises <= one.raises
 }
 
 /// A number that places have in common whose boards are equal, and where the same processor has stepped last, and other
@@ -285,7 +306,7 @@ fn mark_of(search: &Search) -> u64 {
             mark = marked_by_registers(marked(mark, u64::from(context.pc())), context.registers());
         }
     }
-    mark = marked(mark, u64::from(search.last));
+    mark = marked(mark, u64::from(search.last.unwrap_or(0)));
     mark = marked(mark, board.console().len() as u64);
     mark = marked(mark, board.now());
     mark ^ (mark >> 32)

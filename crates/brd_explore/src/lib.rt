@@ -10,8 +10,8 @@ mod shard;
 mod shrinking;
 mod wanted;
 
-pub use bounds::Bounds;
-pub use search::{Found, Nobody, Watch, find};
+pub use bounds::{Bounds, did_nothing};
+pub use search::{Counts, Found, Nobody, Watch, find};
 pub use shard::{Shard, find_in_shard};
 pub use shrinking::{fails, shrink};
-pub use wanted::{Failure, Wanted};
+pub use wanted::{Failure, Wanted, is_at_rest};

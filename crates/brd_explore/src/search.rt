@@ -5,7 +5,6 @@ ghost use Rattle.std.specs.Prelude.{List as ListOf, IfOk, OnOk, IfSome, IfNone, 
 ghost use Rattle.brd_board.specs.declared.event.Event.{Event as EventOf};
 ghost use Rattle.brd_board.specs.Board.{happens};
 ghost use Rattle.brd_explore.specs.Schedules.{does, Place, is_left, next, event_at, IsWithin, IsAmong, start};
-ghost use Rattle.brd_explore.specs.Failures.{fails_now, fails_at_end, ended};
 ghost use Rattle.brd_explore.specs.Sleeping.{is_left_out};
 ghost use Rattle.brd_explore.specs.declared.search.Search.{Search as SearchOf};
 ghost use Rattle.brd_explore.specs.declared.wanted.Wanted.{Wanted as WantedOf};
@@ -34,10 +33,10 @@ ghost use Rattle.brd_explore.specs.Searching.{
   spot_of,
 };
 
-use crate::asleep::{Asleep, executes, happen, sleeps, some_are_strange};
-use crate::bounds::{Bounds, did_nothing, stepper};
+use crate::asleep::{Asleep, executes, happen, sleeps};
+use crate::bounds::{Bounds, did_nothing, is_last, stepper};
 use crate::known::{Known, may_have_more};
-use crate::wanted::Wanted;
+use crate::wanted::{Wanted, is_end};
 use brd_base::NoMemory;
 use brd_board::{Board, Event};
 use std::alloc::Global;
@@ -47,7 +46,7 @@ use std::mem::replace;
 pub struct Saved {
     board: Board,
     left: Bounds,
-    last: u8,
+    last: Option<u8>,
     /// Who sleeps there.
     asleep: Option<Asleep>,
     /// The index of the first event that is still to be tried there.
@@ -60,7 +59,7 @@ pub struct Saved {
 pub struct Search {
     pub(crate) board: Board,
     pub(crate) left: Bounds,
-    pub(crate) last: u8,
+    pub(crate) last: Option<u8>,
     /// Who sleeps here: whose next step is left out.
     pub(crate) asleep: Option<Asleep>,
     /// The index of the first event that is still to be tried here.
@@ -73,8 +72,8 @@ pub struct Search {
     pub(crate) saved: Vec<Saved>,
     /// Boards that are needed no more.
     pub(crate) spare: Vec<Board>,
-    /// How many schedules have come to their end, and weren't left at a place that was known.
-    pub(crate) tried: u64,
+    /// The schedules that were searched up to where nothing more may come.
+    pub(crate) counts: Counts,
 }
 
 /// What a turn of a search came to.
@@ -113,7 +112,7 @@ impl Drop for Search {
             path: _,
             saved: _,
             spare: _,
-            tried: _,
+            counts: _,
         } = self;
     }
 }
@@ -144,7 +143,7 @@ impl Search {
         ensures none { IfNone result (IsTooMuch among.now (place_of self.now) from (length among.now)) }
     {
         for at in from..among.len() {
-            if self.left.affords(&self.board, self.last, among[at]) {
+            if self.left.affords(self.last, among[at]) {
                 return Some(at);
             }
         }
@@ -192,15 +191,16 @@ impl Search {
         ensures saved { self.new.saved.items ≡ self.old.saved.items }
         ensures sized { IsSized self.new }
     {
-        let left = self.left.spent(&self.board, self.last, event);
+        let left = self.left.spent(self.last, event);
         let (report, asleep) = happen(&mut self.board, self.asleep, event);
         if did_nothing(report) {
             return Ok(false);
         }
         self.path.push(event)?;
         self.left = left;
+        self.counts = self.counts.with_left(left);
         self.asleep = asleep;
-        self.last = stepper(self.last, event);
+        self.last = stepper(&self.board, self.last, event);
         self.at = 0;
         self.fresh = true;
         Ok(true)
@@ -290,10 +290,10 @@ impl Search {
         if !self.try_event(among, at)? {
             return Ok(Turn::On);
         }
-        if wanted.fails_now(&self.board)? {
+        if wanted.fails_at(&self.board, self.left)? {
             return Ok(Turn::Found);
         }
-        if known.knows(self, may_have_more(wanted, among)) {
+        if known.knows(self, may_have_more(wanted)) {
             return Ok(self.leave(known));
         }
         Ok(Turn::On)
@@ -303,15 +303,14 @@ impl Search {
     #[tactic(auto, unfolding(crate::specs::Sleeping::is_left_out))]
     fn is_left_out(&self, among: &[Event], at: usize, wanted: &Wanted) -> bool
         requires { at < length among.now }
-        ensures { result ≡ is_left_out wanted.now among.now (spot_of self.now) (event_at among.now at) }
+        ensures { result ≡ is_left_out wanted.now (spot_of self.now) (event_at among.now at) }
     {
         match among[at] {
             Event::Step(cpu) => {
                 sleeps(self.asleep, cpu)
-                    && self.last != cpu
+                    && !is_last(self.last, cpu)
                     && executes(&self.board, cpu)
                     && wanted.rounds == 0
-                    && !some_are_strange(among)
             }
             Event::Tick | Event::Raise(_) => false,
         }
@@ -375,19 +374,18 @@ impl Search {
         let _ = self.spare.push(before);
     }
 
-    /// Whether this is an end that fails. The board goes on to its fair end.
-    pub(crate) fn ends_badly(&mut self, wanted: &Wanted) -> Result<bool, NoMemory>
+    /// Counts the schedule that has led here, where nothing more may come, unless something came here.
+    pub(crate) fn count(&mut self) -> Result<(), NoMemory>
         requires { IsSized self.old }
-        ensures is { IfOk result (λ fails. fails ≡ (self.old.fresh && fails_at_end wanted.now self.old.board)) }
-        ensures saved { self.new.saved.items ≡ self.old.saved.items }
-        ensures path { self.new.path.items ≡ self.old.path.items }
+        ensures rest { IsSame self.old self.new }
         ensures sized { IsSized self.new }
     {
         if !self.fresh {
-            return Ok(false);
+            return Ok(());
         }
-        self.tried = self.tried.saturating_add(1);
-        wanted.fails_at_end(&mut self.board)
+        let ended = is_end(&self.board, self.left)?;
+        self.counts = self.counts.with_one(ended, self.left);
+        Ok(())
     }
 
     /// Goes back, since nothing is left for any event here. Answers what that came to.
@@ -407,10 +405,8 @@ impl Search {
         ensures falls { IfOk result (HasLess among.now self.old self.new) }
         ensures sized { IsSized self.new }
     {
-        let _ = among.len();
-        if self.ends_badly(wanted)? {
-            return Ok(Turn::Found);
-        }
+        let _ = (among.len(), wanted.rounds);
+        self.count()?;
         Ok(self.leave(known))
     }
 
@@ -456,7 +452,7 @@ impl Search {
             match self.turn(among, wanted, known)? {
                 Turn::Found => return Ok(true),
                 Turn::Over => return Ok(false),
-                Turn::On => watch.tried(self.tried),
+                Turn::On => watch.tried(self.counts.tried),
             }
         }
     }
@@ -472,14 +468,14 @@ impl Search {
         Ok(Search {
             board,
             left: bounds,
-            last: 0,
+            last: None,
             asleep: None,
             at: 0,
             fresh: true,
             path: Vec::new(alloc),
             saved: Vec::new(alloc),
             spare: Vec::new(alloc),
-            tried: 0,
+            counts: Counts::new(bounds),
         })
     }
 
@@ -497,7 +493,7 @@ impl Search {
             path,
             saved: _,
             spare: _,
-            tried: _,
+            counts: _,
         } = self;
         path
     }
@@ -506,15 +502,66 @@ impl Search {
     pub(crate) fn into_found(self, found: bool) -> Found
         ensures { Finds self found (option_map (λ events. events.items) result.schedule) }
     {
-        let tried = self.tried;
+        let counts = self.counts;
         let schedule = if found { Some(self.into_path()) } else { None };
-        Found { schedule, tried }
+        Found { schedule, counts }
+    }
+}
+
+/// How many schedules were searched up to where nothing more may come. A schedule isn't counted on which a step is left
+/// out, since another one comes to the same, nor one that was left at a place from which every schedule was searched
+/// before.
+#[derive(Clone, Copy, Debug, PartialEq, Eq)]
+pub struct Counts {
+    /// All of them.
+    pub tried: u64,
+    /// Those of them that are at an end there.
+    pub ended: u64,
+    /// Those that are cut short: no event is left.
+    pub out_of_events: u64,
+    /// Those that are cut short though events are left: no tick is left for a wait that would end by one.
+    pub out_of_ticks: u64,
+    /// How many preemptions were left everywhere. If any were, the bound on them has left nothing out.
+    pub spare: u32,
+}
+
+impl Counts {
+    /// None, where a search begins for which so much is left.
+    pub(crate) fn new(left: Bounds) -> Counts {
+        Counts {
+            tried: 0,
+            ended: 0,
+            out_of_events: 0,
+            out_of_ticks: 0,
+            spare: left.preemptions,
+        }
+    }
+
+    /// These, after having come to a place for which so much is left.
+    fn with_left(self, left: Bounds) -> Counts {
+        let mut counts = self;
+        counts.spare = counts.spare.min(left.preemptions);
+        counts
+    }
+
+    /// These, and one more, which is at an end or isn't, and has so much left of the bounds.
+    fn with_one(self, ended: bool, left: Bounds) -> Counts {
+        let mut counts = self;
+        counts.tried = counts.tried.saturating_add(1);
+        if ended {
+            counts.ended = counts.ended.saturating_add(1);
+        } else if left.events == 0 {
+            counts.out_of_events = counts.out_of_events.saturating_add(1);
+        } else {
+            counts.out_of_ticks = counts.out_of_ticks.saturating_add(1);
+        }
+        counts
     }
 }
 
 /// What is told how many schedules a search has tried.
 pub trait Watch {
-    /// So many schedules have come to their end, as `Found` counts them.
+    /// So many schedules were searched up to where nothing more may come, as `Found` counts them.
     fn tried(&mut self, schedules: u64);
 }
 
@@ -531,9 +578,8 @@ impl Watch for Nobody {
 pub struct Found {
     /// A schedule within the bounds that fails. `None`: no schedule that was to be searched fails.
     pub schedule: Option<Vec<Event>>,
-    /// How many schedules have come to their end. A schedule isn't counted on which a step is left out, since another one
-    /// comes to the same, nor one that was left at a place from which every schedule was searched before.
-    pub tried: u64,
+    /// The schedules that were searched.
+    pub counts: Counts,
 }
 
 /// Searches the schedules of a board within bounds, of which each event is one of these, for one that fails. At most
@@ -551,10 +597,10 @@ pub fn find<W: Watch>(
         (λ found.
         Answers wanted.now among.now (start board.now bounds) (option_map (λ events. events.items) found.schedule)) }
 {
-    if wanted.fails_now(board)? {
+    if wanted.fails_at(board, bounds)? {
         return Ok(Found {
             schedule: Some(Vec::new(alloc)),
-            tried: 0,
+            counts: Counts::new(bounds),
         });
     }
     let mut search = Search::new(alloc, board, bounds)?;

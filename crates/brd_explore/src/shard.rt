@@ -5,12 +5,12 @@ ghost use Rattle.brd_explore.specs.Schedules.{event_at, start};
 ghost use Rattle.brd_explore.specs.Knowing.{AreDone, KnowsAlong};
 ghost use Rattle.brd_explore.specs.Searching.{IsSized, place_of};
 ghost use Rattle.brd_explore.specs.Shards.{AnswersInShard, may_come, ways};
-ghost use Rattle.brd_explore.specs.Sharing.{BeginsHere, EndsTrunk, GoesAlong, IsFirst, IsOnTrunk, SearchesBranch};
+ghost use Rattle.brd_explore.specs.Sharing.{BeginsHere, GoesAlong, IsFirst, IsOnTrunk, SearchesBranch};
 ghost use Rattle.brd_explore.specs.Sharing.{SearchesBranches, SearchesFrom, SearchesShard, SearchesWay};
 
 use crate::bounds::{Bounds, did_nothing};
 use crate::known::{Known, may_have_more};
-use crate::search::{Found, Search, Turn, Watch};
+use crate::search::{Counts, Found, Search, Turn, Watch};
 use crate::wanted::Wanted;
 use brd_base::NoMemory;
 use brd_board::{Board, Event};
@@ -43,10 +43,10 @@ pub fn find_in_shard<W: Watch>(
         AnswersInShard wanted.now shard among.now (start board.now bounds)
         (option_map (λ events. events.items) found.schedule)) }
 {
-    if wanted.fails_now(board)? {
+    if wanted.fails_at(board, bounds)? {
         return Ok(Found {
             schedule: Some(Vec::new(alloc)),
-            tried: 0,
+            counts: Counts::new(bounds),
         });
     }
     let mut trunk = Search::new(alloc, board, bounds)?;
@@ -100,30 +100,17 @@ impl Search {
         ensures known { IfOk result (λ turn. KnowsAlong wanted.now among.now known.new turn) }
     {
         let Some(first) = self.first_way(among)? else {
-            return Ok(if self.trunk_ends(among, wanted)? {
-                Turn::Found
-            } else {
-                Turn::Over
-            });
+            self.count()?;
+            return Ok(Turn::Over);
         };
         if self.search_branches(among, first, shard, number, wanted, known, watch)? {
             return Ok(Turn::Found);
         }
         self.take(among[first])?;
-        if wanted.fails_now(&self.board)? {
+        if wanted.fails_at(&self.board, self.left)? {
             return Ok(Turn::Found);
         }
         Ok(Turn::On)
-    }
-
-    /// Whether the end of the trunk, where no event may come, fails.
-    fn trunk_ends(&mut self, among: &[Event], wanted: &Wanted) -> Result<bool, NoMemory>
-        requires trunk { IsOnTrunk wanted.now self.old }
-        requires over { ways among.now (place_of self.old) (length among.now) ≡ 0 }
-        ensures { IfOk result (EndsTrunk wanted.now among.now self.old self.new) }
-    {
-        let _ = among.len();
-        self.ends_badly(wanted)
     }
 
     /// Searches the branches of a shard that leave the trunk here. Answers whether something is found.
@@ -208,7 +195,7 @@ impl Search {
         branch.take(among[at])?;
         branch.wake();
         let found = branch.fails(among, wanted, known, watch)?;
-        self.tried = branch.tried;
+        self.counts = branch.counts;
         if found {
             self.path = branch.into_path();
         }
@@ -229,11 +216,11 @@ impl Search {
         ensures is { IfOk result (SearchesFrom wanted.now among.now self.old self.new) }
         ensures known { IfOk result (λ found. found ≡ false → AreDone wanted.now among.now known.new) }
     {
-        if wanted.fails_now(&self.board)? {
+        if wanted.fails_at(&self.board, self.left)? {
             return Ok(true);
         }
         known.begin();
-        if known.knows(self, may_have_more(wanted, among)) {
+        if known.knows(self, may_have_more(wanted)) {
             return Ok(false);
         }
         self.run(among, wanted, known, watch)
@@ -270,7 +257,7 @@ impl Search {
             path,
             saved: Vec::new(alloc),
             spare: Vec::new(alloc),
-            tried: self.tried,
+            counts: self.counts,
         })
     }
 
@@ -291,7 +278,7 @@ impl Search {
     fn comes(&self, event: Event) -> Result<bool, NoMemory>
         ensures { IfOk result (λ comes. comes ≡ may_come (place_of self.now) event) }
     {
-        if !self.left.affords(&self.board, self.last, event) {
+        if !self.left.affords(self.last, event) {
             return Ok(false);
         }
         let mut copy = self.board.try_copy()?;

@@ -1,11 +1,17 @@
 //! What of a board is a failure, by now or at the end.
 
-ghost use Rattle.std.specs.Prelude.{◌≡◌, ◌⊎◌, not, option_map, IfOk};
-ghost use Rattle.std.specs.List.{list_any};
+ghost use Rattle.std.specs.Prelude.{◌≡◌, ◌⊎◌, true, false, not, option_map, IfOk, OnOk};
 ghost use Rattle.brd_board.specs.Board.{after};
 ghost use Rattle.brd_explore.specs.Failures.{
   nobody_goes,
-  is_judged,
+  is_at_rest,
+  is_end,
+  is_cut,
+  goes_fairly,
+  lacks,
+  fails_fairly,
+  fails_at,
+  last_of,
   is_stuck,
   some_below,
   waits,
@@ -19,14 +25,14 @@ ghost use Rattle.brd_explore.specs.Failures.{
   fails_at_last,
   ended,
   fails_now,
-  fails_at_end,
   first_so,
   shown_failure,
 };
 ghost use Rattle.brd_board.specs.Board.{task_of};
 ghost use Rattle.brd_explore.specs.Shrinking.{fails_after};
 
-use crate::bounds::did_nothing;
+use crate::asleep::executes;
+use crate::bounds::{Bounds, did_nothing};
 use brd_base::{List, NoMemory};
 use brd_board::{Board, Event, TaskId};
 use brd_word::word_of;
@@ -68,8 +74,7 @@ pub struct Wanted {
     pub failures: List<Failure>,
     /// The events of a round of the fair end.
     pub round: List<Event>,
-    /// How many rounds the fair end has: 0 where the schedule's last event is the end. That is judged by what it lacks
-    /// only where the board is at rest.
+    /// How many rounds the fair end has, to which a schedule goes on that is cut short. 0: of that nothing is said.
     pub rounds: u32,
 }
 
@@ -87,38 +92,57 @@ impl Wanted {
         Ok(false)
     }
 
-    /// Lets a schedule's last board go on to its fair end. Answers whether that shows a failure.
-    #[tactic(auto, unfolding(crate::specs::Failures::fails_at_end))]
-    pub fn fails_at_end(&self, board: &mut Board) -> Result<bool, NoMemory>
-        ensures fails { IfOk result (λ fails. fails ≡ fails_at_end self.now board.old) }
+    /// Whether a schedule fails that has led to a board, with so much left of the bounds.
+    #[tactic(auto, unfolding(crate::specs::Failures::fails_at))]
+    pub(crate) fn fails_at(&self, board: &Board, left: Bounds) -> Result<bool, NoMemory>
+        ensures { IfOk result (λ fails. fails ≡ fails_at self.now board.now left) }
+    {
+        if self.fails_now(board)? {
+            return Ok(true);
+        }
+        if self.lacks(board) && is_end(board, left)? {
+            return Ok(true);
+        }
+        if self.goes_fairly(board, left)? {
+            return self.fails_fairly(board);
+        }
+        Ok(false)
+    }
+
+    /// Whether a schedule goes on to a fair end.
+    #[tactic(auto, unfolding(crate::specs::Failures::goes_fairly))]
+    fn goes_fairly(&self, board: &Board, left: Bounds) -> Result<bool, NoMemory>
+        ensures { IfOk result (λ goes. goes ≡ goes_fairly self.now board.now left) }
+    {
+        if self.rounds == 0 || left.owed > 0 {
+            return Ok(false);
+        }
+        is_cut(board, left)
+    }
+
+    /// Whether the fair end of a board fails.
+    fn fails_fairly(&self, board: &Board) -> Result<bool, NoMemory>
+        ensures { IfOk result (λ fails. fails ≡ fails_fairly self.now board.now) }
+    {
+        let mut copy = board.try_copy()?;
+        self.ends_badly(&mut copy)
+    }
+
+    /// Lets a board go on to its fair end. Answers whether that fails.
+    #[tactic(auto, unfolding(crate::specs::Failures::fails_fairly))]
+    fn ends_badly(&self, board: &mut Board) -> Result<bool, NoMemory>
+        ensures fails { IfOk result (λ fails. fails ≡ fails_fairly self.now board.old) }
         ensures board { board.new ≡ ended self.now board.old }
     {
         self.play_fairly(board);
         if self.fails_now(board)? {
             return Ok(true);
         }
-        if self.fails_at_last(board) {
-            return self.is_judged(board);
-        }
-        Ok(false)
+        Ok(self.lacks(board))
     }
 
-    /// Whether an end is judged by what it lacks: there is a fair end, or the board is at rest.
-    #[tactic(auto, unfolding(crate::specs::Failures::is_judged))]
-    fn is_judged(&self, board: &Board) -> Result<bool, NoMemory>
-        ensures { IfOk result (λ judged. judged ≡ is_judged self.now board.now) }
-    {
-        if self.rounds > 0 || board.is_off() {
-            return Ok(true);
-        }
-        if some_are_due(board) {
-            return Ok(false);
-        }
-        nobody_goes(board)
-    }
-
-    /// The first failure that the last board of a list that fails shows. The board goes on to its fair end where it
-    /// shows none before.
+    /// The first failure that the last board of a list that fails shows. If it shows none, the board becomes the one by
+    /// which the end is judged: it goes on to the fair end, unless it is at rest.
     #[tactic(auto, unfolding(crate::specs::Failures::shown_failure))]
     pub fn shown(&self, board: &mut Board) -> Result<Option<&Failure>, NoMemory>
         ensures { IfOk result
@@ -128,7 +152,7 @@ impl Wanted {
         if now.is_some() {
             return Ok(now);
         }
-        self.play_fairly(board);
+        self.go_to_last(board)?;
         let now = self.shown_now(board)?;
         if now.is_some() {
             return Ok(now);
@@ -163,7 +187,18 @@ impl Wanted {
         None
     }
 
-    /// Whether a list's last board shows a failure, or the list's end does. The board goes on to its fair end.
+    /// Lets a list's last board become the one by which the list's end is judged.
+    #[tactic(auto, unfolding(crate::specs::Failures::last_of))]
+    fn go_to_last(&self, board: &mut Board) -> Result<(), NoMemory>
+        ensures { OnOk result (board.new ≡ last_of self.now board.old) }
+    {
+        if !is_at_rest(board)? {
+            self.play_fairly(board);
+        }
+        Ok(())
+    }
+
+    /// Whether a list's last board shows a failure, or the list's end does. The board may go on to its fair end.
     #[tactic(auto, unfolding(crate::specs::Shrinking::fails_after))]
     pub(crate) fn fails_after(&self, board: &mut Board) -> Result<bool, NoMemory>
         ensures fails { IfOk result (λ fails. fails ≡ fails_after self.now board.old) }
@@ -172,7 +207,13 @@ impl Wanted {
         if self.fails_now(board)? {
             return Ok(true);
         }
-        self.fails_at_end(board)
+        if is_at_rest(board)? {
+            return Ok(self.lacks(board));
+        }
+        if self.rounds == 0 {
+            return Ok(false);
+        }
+        self.ends_badly(board)
     }
 
     /// Lets a board go on to its fair end.
@@ -186,8 +227,8 @@ impl Wanted {
     }
 
     /// Whether a last board shows a failure of last boards.
-    fn fails_at_last(&self, board: &Board) -> bool
-        ensures { result ≡ list_any (fails_at_last board.now) self.now.failures }
+    fn lacks(&self, board: &Board) -> bool
+        ensures { result ≡ lacks self.now board.now }
     {
         for failure in self.failures.as_slice() {
             if failure.shows_at_last(board) {
@@ -297,12 +338,69 @@ fn has_due(board: &Board, id: TaskId) -> bool
     }
 }
 
+/// Whether a board is at rest: it is off, or nobody goes and no wait ends by a tick.
+#[tactic(auto, unfolding(crate::specs::Failures::is_at_rest))]
+pub fn is_at_rest(board: &Board) -> Result<bool, NoMemory>
+    ensures { IfOk result (λ rests. rests ≡ is_at_rest board.now) }
+{
+    if board.is_off() {
+        return Ok(true);
+    }
+    Ok(nobody_goes(board)? && !some_are_due(board))
+}
+
+/// Whether a schedule that has led to a board, with so much left of the bounds, has come to an end.
+#[tactic(auto, unfolding(crate::specs::Failures::is_end))]
+pub(crate) fn is_end(board: &Board, left: Bounds) -> Result<bool, NoMemory>
+    ensures { IfOk result (λ ends. ends ≡ is_end board.now left) }
+{
+    if board.is_off() {
+        return Ok(true);
+    }
+    if left.owed > 0 {
+        return Ok(false);
+    }
+    is_at_rest(board)
+}
+
+/// Whether such a schedule is cut short.
+#[tactic(auto, unfolding(crate::specs::Failures::is_cut))]
+fn is_cut(board: &Board, left: Bounds) -> Result<bool, NoMemory>
+    ensures { IfOk result (λ cut. cut ≡ is_cut board.now left) }
+{
+    if is_end(board, left)? {
+        return Ok(false);
+    }
+    if left.events == 0 {
+        return Ok(true);
+    }
+    if left.ticks > 0 {
+        return Ok(false);
+    }
+    Ok(nobody_goes(board)? && some_are_due(board))
+}
+
 /// Whether no step of a processor does anything.
 fn nobody_goes(board: &Board) -> Result<bool, NoMemory>
     ensures { IfOk result (λ none. none ≡ nobody_goes board.now) }
 {
+    if somebody_executes(board) {
+        return Ok(false);
+    }
     let mut copy = board.try_copy()?;
     Ok(!somebody_goes(&mut copy))
+}
+
+/// Whether somebody executes on some processor.
+fn somebody_executes(board: &Board) -> bool
+    ensures { result ≡ true → nobody_goes board.now ≡ false }
+{
+    for cpu in 0..9u8 {
+        if executes(board, cpu) {
+            return true;
+        }
+    }
+    false
 }
 
 /// Whether some step of a processor does something. It is done then.

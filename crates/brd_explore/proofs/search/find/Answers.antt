@@ -24,4 +24,4 @@ returns g c =
       saved = c.in_ok-search.ensures.begins.3;
       awake = c.in_ok-search.ensures.begins.4;
     })
-    (sym c.in_ok-fails_now.ensures ∙ c.if-branch.false) c.in_ok-found.ensures.out c.in_ok-found.ensures.on c.into_found.ensures
+    (sym c.in_ok-fails_at.ensures ∙ c.if-branch.false) c.in_ok-found.ensures.out c.in_ok-found.ensures.on c.into_found.ensures

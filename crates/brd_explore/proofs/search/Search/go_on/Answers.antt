@@ -34,13 +34,13 @@ returns-then-branch-clause-on c = λ from on.
     found-now c.args.wanted.now c.args.among.now from c.try_event.new.self
     (on-gone c.args.among.now from c.args.self.now c.try_event.new.self c.args.at c.requires.within.1 c.requires.left on
     (gone-of c.args.among.now c.args.self.now c.try_event.new.self c.args.at c.in_ok-try_event.field-0 c.if-not-branch.false c.in_ok-try_event.ensures.is))
-    (sym c.in_ok-fails_now.ensures ∙ c.if-branch.true)
+    (sym c.in_ok-fails_at.ensures ∙ c.if-branch.true)
 
 pub returns-then-knows-clause-out : goal.returns-then-knows-clause-out
 returns-then-knows-clause-out c =
     leaves-out-gone c.args.wanted.now c.args.among.now c.args.self.now c.try_event.new.self c.leave.new.self c.args.at c.leave.result c.requires.within.0 c.requires.within.1 c.requires.left c.requires.before
     (gone-of c.args.among.now c.args.self.now c.try_event.new.self c.args.at c.in_ok-try_event.field-0 c.if-not-branch.false c.in_ok-try_event.ensures.is)
-    (sym c.in_ok-fails_now.ensures ∙ c.if-branch.false)
+    (sym c.in_ok-fails_at.ensures ∙ c.if-branch.false)
     (leaves-out c.args.wanted.now c.args.among.now c.try_event.new.self c.leave.new.self c.leave.result (none-known c.args.wanted.now c.args.among.now c.try_event.new.self (c.knows.ensures.is c.args.wanted.now c.args.among.now (λ more. sym c.may_have_more.ensures ∙ more) c.requires.known.done c.if-knows.true)) c.leave.ensures.is)
 
 pub returns-then-knows-clause-on : goal.returns-then-knows-clause-on
@@ -52,8 +52,8 @@ returns-then-knows-clause-on c = λ from on.
 pub returns-then-knows-clause-known : goal.returns-then-knows-clause-known
 returns-then-knows-clause-known c =
     let gone = gone-of c.args.among.now c.args.self.now c.try_event.new.self c.args.at c.in_ok-try_event.field-0 c.if-not-branch.false c.in_ok-try_event.ensures.is in
-    let fine = sym c.in_ok-fails_now.ensures ∙ c.if-branch.false in
-    let knows = knows-more c.args.wanted.now c.args.among.now c.try_event.new.self c.args.known.now c.knows.new.self gone.at gone.fresh fine (c.knows.ensures.done c.args.wanted.now c.args.among.now)
+    let fine = sym c.in_ok-fails_at.ensures ∙ c.if-branch.false in
+    let knows = knows-more c.args.wanted.now c.args.among.now c.try_event.new.self c.args.known.now c.knows.new.self gone.at fine (c.knows.ensures.done c.args.wanted.now c.args.among.now)
     c.knows.ensures.pending
     (knows-gone c.args.wanted.now c.args.among.now c.args.self.now c.try_event.new.self c.args.known.now c.args.at c.requires.within.0 c.requires.within.1 c.requires.left c.requires.before gone fine
     c.requires.known) in
@@ -72,7 +72,7 @@ pub returns-clause-out : goal.returns-clause-out
 returns-clause-out c =
     leaves-gone c.args.wanted.now c.args.among.now 0 c.args.self.now c.try_event.new.self c.args.at (omega arith) c.requires.within.0 c.requires.within.1 c.requires.left c.requires.before
     (gone-of c.args.among.now c.args.self.now c.try_event.new.self c.args.at c.in_ok-try_event.field-0 c.if-not-branch.false c.in_ok-try_event.ensures.is)
-    (sym c.in_ok-fails_now.ensures ∙ c.if-branch.false)
+    (sym c.in_ok-fails_at.ensures ∙ c.if-branch.false)
 
 pub returns-clause-on : goal.returns-clause-on
 returns-clause-on c = λ from on.
@@ -82,8 +82,8 @@ returns-clause-on c = λ from on.
 pub returns-clause-known : goal.returns-clause-known
 returns-clause-known c =
     let gone = gone-of c.args.among.now c.args.self.now c.try_event.new.self c.args.at c.in_ok-try_event.field-0 c.if-not-branch.false c.in_ok-try_event.ensures.is in
-    let fine = sym c.in_ok-fails_now.ensures ∙ c.if-branch.false in
-    let knows = knows-more c.args.wanted.now c.args.among.now c.try_event.new.self c.args.known.now c.knows.new.self gone.at gone.fresh fine (c.knows.ensures.done c.args.wanted.now c.args.among.now)
+    let fine = sym c.in_ok-fails_at.ensures ∙ c.if-branch.false in
+    let knows = knows-more c.args.wanted.now c.args.among.now c.try_event.new.self c.args.known.now c.knows.new.self gone.at fine (c.knows.ensures.done c.args.wanted.now c.args.among.now)
     c.knows.ensures.pending
     (knows-gone c.args.wanted.now c.args.among.now c.args.self.now c.try_event.new.self c.args.known.now c.args.at c.requires.within.0 c.requires.within.1 c.requires.left c.requires.before gone fine
     c.requires.known) in

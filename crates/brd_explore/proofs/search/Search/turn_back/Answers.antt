@@ -1,40 +1,28 @@
-use Rattle.std.proofs.Common.{length, sym, ap, subst, ◌∙◌}
-use Rattle.brd_explore.specs.Failures.{fails_at_end}
+use Rattle.std.proofs.Common.{length, sym, ap, subst}
 use Rattle.brd_explore.specs.Knowing.{AreOver}
-use Rattle.brd_explore.proofs.SearchLemmas.{none-judged}
-use Rattle.brd_explore.proofs.PathLemmas.{found-end}
-use Rattle.brd_explore.proofs.FindLemmas.{both-true, not-both}
+use Rattle.brd_explore.proofs.SearchLemmas.{none-over}
 use Rattle.brd_explore.proofs.KnownLemmas.{knows-left, over-from, leaves-out, leaves-same, leads-left, less-left}
 use Rattle.brd_explore.proofs.search.Search.turn_back.Goals as goal
 
-pub returns-then-branch-clause-on : goal.returns-then-branch-clause-on
-returns-then-branch-clause-on c = λ from on.
-    let fails = both-true c.args.self.now.fresh (fails_at_end c.args.wanted.now c.args.self.now.board)
-    (sym c.in_ok-ends_badly.ensures.is ∙ c.if-branch.true) in
-    found-end c.args.wanted.now c.args.among.now from c.args.self.now c.ends_badly.new.self.path.items on c.requires.rest fails.0 fails.1
-    c.ends_badly.ensures.path
-
 pub returns-clause-out : goal.returns-clause-out
 returns-clause-out c = leaves-out c.args.wanted.now c.args.among.now c.args.self.now c.leave.new.self c.leave.result
-    (none-judged c.args.wanted.now c.args.among.now c.args.self.now c.requires.rest
-    (not-both c.args.self.now.fresh (fails_at_end c.args.wanted.now c.args.self.now.board) (sym c.in_ok-ends_badly.ensures.is ∙ c.if-branch.false)))
-    (leaves-same c.args.self.now c.ends_badly.new.self c.leave.new.self c.leave.result c.ends_badly.ensures.saved c.ends_badly.ensures.path c.leave.ensures.is)
+    (none-over c.args.wanted.now c.args.among.now c.args.self.now c.requires.rest)
+    (leaves-same c.args.self.now c.count.new.self c.leave.new.self c.leave.result c.count.ensures.rest.saved c.count.ensures.rest.path c.leave.ensures.is)
 
 pub returns-clause-on : goal.returns-clause-on
 returns-clause-on c = λ from on. leads-left c.args.wanted.now c.args.among.now from c.args.self.now c.leave.new.self c.leave.result
-    (leaves-same c.args.self.now c.ends_badly.new.self c.leave.new.self c.leave.result c.ends_badly.ensures.saved c.ends_badly.ensures.path c.leave.ensures.is) on
+    (leaves-same c.args.self.now c.count.new.self c.leave.new.self c.leave.result c.count.ensures.rest.saved c.count.ensures.rest.path c.leave.ensures.is) on
 
 pub returns-clause-known : goal.returns-clause-known
 returns-clause-known c =
-    let here = none-judged c.args.wanted.now c.args.among.now c.args.self.now c.requires.rest
-    (not-both c.args.self.now.fresh (fails_at_end c.args.wanted.now c.args.self.now.board) (sym c.in_ok-ends_badly.ensures.is ∙ c.if-branch.false)) in
+    let here = none-over c.args.wanted.now c.args.among.now c.args.self.now c.requires.rest in
     let over = over-from c.args.wanted.now c.args.among.now c.args.self.now c.args.known.now here c.requires.known.pending in
     knows-left c.args.wanted.now c.args.among.now c.args.self.now c.leave.new.self c.leave.new.known c.leave.result here
-    (leaves-same c.args.self.now c.ends_badly.new.self c.leave.new.self c.leave.result c.ends_badly.ensures.saved c.ends_badly.ensures.path c.leave.ensures.is)
+    (leaves-same c.args.self.now c.count.new.self c.leave.new.self c.leave.result c.count.ensures.rest.saved c.count.ensures.rest.path c.leave.ensures.is)
     (c.leave.ensures.done c.args.wanted.now c.args.among.now c.requires.known.done
-    (subst (λ height. AreOver c.args.wanted.now c.args.among.now height c.args.known.now) (sym (ap length c.ends_badly.ensures.saved)) over))
+    (subst (λ height. AreOver c.args.wanted.now c.args.among.now height c.args.known.now) (sym (ap length c.count.ensures.rest.saved)) over))
     (c.leave.ensures.pending c.args.wanted.now c.args.among.now c.args.self.now c.requires.known.pending)
 
 pub returns-clause-falls : goal.returns-clause-falls
 returns-clause-falls c = less-left c.args.among.now c.args.self.now c.leave.new.self c.leave.result
-    (leaves-same c.args.self.now c.ends_badly.new.self c.leave.new.self c.leave.result c.ends_badly.ensures.saved c.ends_badly.ensures.path c.leave.ensures.is)
+    (leaves-same c.args.self.now c.count.new.self c.leave.new.self c.leave.result c.count.ensures.rest.saved c.count.ensures.rest.path c.leave.ensures.is)
